@@ -1,0 +1,26 @@
+//! The lowest layer: texts, bytes and lists whose contracts see their contents alone, want of memory
+//! as an error, copies, and the outside as traits: a `Source` of bytes and a `Sink` for them, with
+//! implementations in memory. The layers above use these types in every signature.
+#![tactic(auto)]
+
+mod blob;
+mod duplicate;
+mod list;
+mod memory;
+mod memory_sink;
+mod memory_source;
+mod sink;
+mod source;
+mod test_output;
+mod text;
+
+pub use blob::Blob;
+pub use duplicate::Duplicate;
+pub use list::List;
+pub use memory::{Mem, OutOfMemory};
+pub use memory_sink::MemorySink;
+pub use memory_source::MemorySource;
+pub use sink::{Sink, write_all};
+pub use source::{Failed, Source};
+pub use test_output::{CaptureStrategy, ChildFdError};
+pub use text::Text;

@@ -1,0 +1,102 @@
+// A list that is made with no allocator and no memory; contracts see it as the list of its items.
+ghost use Rattle.std.specs.Prelude.{◌≡◌, ◌++◌, ◌∷◌, ◌==◌, [], length, IfOk, OnOk, OnErr, slice_get};
+ghost use Rattle.std.specs.Option.{option_copied};
+
+use crate::duplicate::copies;
+use crate::{Duplicate, Mem};
+use std::alloc::Global;
+use std::marker::Model;
+
+/// A list of items in order.
+#[derive(Drop)]
+pub struct List<T> {
+    vec: Option<Vec<T>>,
+}
+
+impl<T> Model for List<T> {
+    ghost use Rattle.std.specs.Prelude.{List as Items};
+    ghost use Rattle.run_capture.specs.Held.{items_held};
+
+    ghost Value = { Items T };
+
+    ghost view = { λ l. items_held l.vec };
+}
+
+impl<T> List<T> {
+    /// No items. Takes no memory.
+    pub fn new() -> List<T>
+        ensures { result ≡ [] }
+    {
+        List { vec: None }
+    }
+
+    /// Takes a `Vec`, and no memory.
+    pub fn from_vec(vec: Vec<T>) -> List<T>
+        ensures { result ≡ vec.items }
+    {
+        List { vec: Some(vec) }
+    }
+
+    /// Gives its items as a `Vec`, and takes no memory.
+    pub fn into_vec(self, alloc: Global) -> Vec<T>
+        ensures { result.items ≡ self }
+    {
+        match self.vec {
+            Some(vec) => vec,
+            None => Vec::new(alloc),
+        }
+    }
+
+    pub fn as_slice(&self) -> &[T]
+        ensures { result.now ≡ self.now }
+    {
+        match &self.vec {
+            Some(vec) => vec.as_slice(),
+            None => &[],
+        }
+    }
+
+    pub fn len(&self) -> usize
+        ensures { result ≡ length self.now }
+    {
+        self.as_slice().len()
+    }
+
+    pub fn is_empty(&self) -> bool
+        ensures { result ≡ (length self.now == 0) }
+    {
+        self.as_slice().is_empty()
+    }
+
+    pub fn get(&self, place: usize) -> Option<&T>
+        ensures { option_copied result ≡ slice_get self.now place }
+    {
+        self.as_slice().get(place)
+    }
+
+    /// Adds an item at the end. A refused item is dropped.
+    pub fn push(&mut self, alloc: Global, item: T) -> Mem<()>
+    where
+        T: Drop,
+        ensures ok { OnOk result (self.new ≡ self.old ++ item ∷ []) }
+        ensures err { OnErr result (self.new ≡ self.old) }
+    {
+        match &mut self.vec {
+            Some(vec) => {
+                vec.push(item)?;
+            }
+            None => {
+                let mut vec = Vec::new(alloc);
+                vec.push(item)?;
+                self.vec = Some(vec);
+            }
+        }
+        Ok(())
+    }
+}
+
+impl<T: Duplicate + Drop> Duplicate for List<T> {
+    fn copy(&self, alloc: Global) -> Mem<List<T>> {
+        Ok(List::from_vec(copies(alloc, self.as_slice())?))
+    }
+}
