@@ -29,7 +29,7 @@ pub use outcome::{FinalRunStats, RunOutcome, RunStep};
 pub use plan::{Plan, PlanTest, TestInstanceId, TestSlotAssignment};
 pub use reporter::{ReportFault, Reporter};
 pub use result::{
-    ChildExit, ExecuteStatus, ExecutionResult, FailureStatus, FlakyResult, LeakTimeoutResult,
+    ChildExit, create_execution_result, ExecuteStatus, ExecutionResult, FailureStatus, FlakyResult, LeakTimeoutResult,
     SlowTimeoutResult,
 };
 pub use settings::Settings;

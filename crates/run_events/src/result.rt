@@ -1,5 +1,8 @@
 // Results of attempts.
-use run_capture::{Duplicate, Mem};
+ghost use Rattle.std.specs.Prelude.{◌≡◌};
+ghost use Rattle.run_events.specs.Result.{execution_result};
+
+use run_capture::{ChildFdError, Duplicate, Mem};
 use std::alloc::Global;
 
 /// How a child ended.
@@ -85,4 +88,12 @@ impl Duplicate for ExecuteStatus {
     fn copy(&self, _alloc: Global) -> Mem<ExecuteStatus> {
         Ok(*self)
     }
+}
+
+/// PROVISIONAL
+#[tactic(auto, unfolding(crate::specs::Result::execution_result))]
+pub fn create_execution_result(exit: Option<ChildExit>, errors: &[ChildFdError], leaked: bool, leak: LeakTimeoutResult) -> ExecutionResult
+    ensures { result ≡ execution_result exit errors.now leaked leak }
+{
+    match exit { None => ExecutionResult::ExecFail, Some(_) => ExecutionResult::Pass }
 }

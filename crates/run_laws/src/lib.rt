@@ -1,0 +1,7 @@
+//! The laws of every legal journal: public functions with an empty body, whose contracts are theorems
+//! over the definitions of `run_model`, and the lemmas behind them, on which the engine stands.
+#![tactic(auto)]
+
+mod laws;
+
+pub use laws::accounts_hold;

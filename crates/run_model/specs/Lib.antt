@@ -1,0 +1,6 @@
+pub mod Unit
+pub mod Words
+pub mod Admission
+pub mod Turns
+pub mod Journal
+pub mod Accounts

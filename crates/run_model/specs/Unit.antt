@@ -1,0 +1,106 @@
+-- The unit table: what each turn does to a unit in each phase.
+use Rattle.std.specs.Prelude.{ℕ, ◌+◌, ◌-◌, List, [], ◌∷◌, ◌++◌, Bool, true, false, Option, Some, None, codes}
+use Rattle.std.specs.Prelude.{decimal}
+use Rattle.uuid.specs.Text.{hyphenated_text, lower}
+use Rattle.run_events.specs.Result.{execution_result}
+use Rattle.run_events.specs.declared.ask.StartAsk.{StartAsk}
+use Rattle.run_events.specs.declared.ask.Ask.{Ask}
+use Rattle.run_events.specs.declared.ask.Ask.TheVariants.{Start as AskStart}
+use Rattle.run_events.specs.declared.message.Message.{Message}
+use Rattle.run_events.specs.declared.message.Message.TheVariants.{Start, Finish}
+use Rattle.run_events.specs.declared.result.ExecuteStatus.{ExecuteStatus}
+use Rattle.run_events.specs.declared.result.ExecutionResult.{ExecutionResult}
+use Rattle.run_events.specs.declared.result.LeakTimeoutResult.TheVariants.{Pass}
+use Rattle.run_model.specs.declared.phase.Phase.{Phase}
+use Rattle.run_model.specs.declared.phase.Phase.TheVariants.{StartSent, Starting, Running, Deciding, Over}
+use Rattle.run_model.specs.declared.unit_turn.UnitTurn.{UnitTurn}
+use Rattle.run_model.specs.declared.unit_turn.UnitTurn.TheVariants.{Answered, Started, Exit, Decide}
+use Rattle.run_model.specs.declared.unit_view.UnitView.{UnitView}
+
+-- how many attempts a test has: no test has retries yet
+abbrev pub attempts : UnitView → ℕ
+attempts u = 1
+
+-- the variables that a test's child gets: who it is
+unfoldable pub identity_variables : UnitView → List (List ℕ × List ℕ)
+identity_variables u =
+    (codes "NEXTEST_RUN_ID", hyphenated_text lower u.run_id)
+    ∷ (codes "NEXTEST_RUN_MODE", codes "test")
+    ∷ (codes "NEXTEST_BINARY_ID", u.id.binary)
+    ∷ (codes "NEXTEST_TEST_NAME", u.id.name)
+    ∷ (codes "NEXTEST_ATTEMPT", decimal u.attempt)
+    ∷ (codes "NEXTEST_TOTAL_ATTEMPTS", decimal (attempts u))
+    ∷ []
+
+-- where it runs
+unfoldable pub place_variables : UnitView → List (List ℕ × List ℕ)
+place_variables u =
+    (codes "NEXTEST_STRESS_CURRENT", codes "none")
+    ∷ (codes "NEXTEST_STRESS_TOTAL", codes "none")
+    ∷ (codes "NEXTEST_TEST_GLOBAL_SLOT", decimal u.slot.global)
+    ∷ (codes "NEXTEST_TEST_GROUP", codes "@global")
+    ∷ (codes "NEXTEST_TEST_GROUP_SLOT", codes "none")
+    ∷ (codes "NEXTEST_TEST_THREADS", decimal u.threads)
+    ∷ (codes "NEXTEST_WORKSPACE_ROOT", codes "/")
+    ∷ []
+
+-- the versions of the runner: no plan gives them yet
+unfoldable pub version_variables : List (List ℕ × List ℕ)
+version_variables =
+    (codes "NEXTEST_VERSION", codes "0.0.0")
+    ∷ (codes "NEXTEST_REQUIRED_VERSION", codes "none")
+    ∷ (codes "NEXTEST_RECOMMENDED_VERSION", codes "none")
+    ∷ []
+
+-- all of them, in order
+unfoldable pub environment : UnitView → List (List ℕ × List ℕ)
+environment u = identity_variables u ++ (place_variables u ++ version_variables)
+
+-- the start of a test's child that is asked where its attempt is let go
+unfoldable pub start_ask : UnitView → Ask
+start_ask u = AskStart (record {
+  unit = u.unit; attempt = u.attempt; command = u.command; env = environment u; group = true; stdin = false
+})
+
+-- the status of the current attempt where it ends at this moment with this result
+abbrev pub status_at : ℕ → ExecutionResult → UnitView → ExecuteStatus
+status_at now result u = record {
+  attempt = u.attempt; attempts = attempts u; delay = 0; result = result; slow = false; start = u.start; time = now - u.start
+}
+
+-- a unit whose attempt ends at this moment with this result
+abbrev pub ended : ℕ → ExecutionResult → UnitView → UnitView
+ended now result u = record u { phase = Deciding; statuses = u.statuses ++ status_at now result u ∷ [] }
+
+-- what a row gives: the unit after it, the message that it sends and what it asks
+pub record Row : Type 0 where
+  pub next : UnitView
+  pub sent : Option Message
+  pub asked : Option Ask
+
+-- a row that sends and asks nothing
+abbrev pub quiet : UnitView → Row
+quiet u = record { next = u; sent = None; asked = None }
+
+-- the rows, at a moment of the run's clock; what isn't enabled leaves all as it is
+abbrev pub row_at : ℕ → Phase → UnitTurn → UnitView → Row
+row_at now StartSent (Answered true) u =
+    record { next = record u { phase = Starting; start = now }; sent = None; asked = Some (start_ask u) }
+row_at now StartSent (Answered false) u = quiet (record u { phase = Over })
+row_at now Starting (Started pid) u = quiet (record u { phase = Running })
+row_at now Running (Exit exit) u = quiet (ended now (execution_result (Some exit) [] false Pass) u)
+row_at now Deciding (Decide word) u =
+    record { next = record u { phase = Over }; sent = Some (Finish u.unit u.id u.statuses); asked = None }
+row_at _ _ _ u = quiet u
+
+-- the row of a unit's phase
+abbrev pub row : ℕ → UnitTurn → UnitView → Row
+row now turn u = row_at now u.phase turn u
+
+-- which turns a unit takes in which phase
+abbrev pub takes : Phase → UnitTurn → Bool
+takes StartSent (Answered _) = true
+takes Starting (Started _) = true
+takes Running (Exit _) = true
+takes Deciding (Decide _) = true
+takes _ _ = false

@@ -1,0 +1,176 @@
+-- Words over a history: what each turn did, the newest first.
+use Rattle.std.specs.Prelude.{ℕ, ◌+◌, List, [], ◌∷◌, ◌++◌, map, length, drop, Bool, true, false, ◌&&◌, ◌||◌, not, ◌==◌, nat_lt, if◌then◌else◌, Option, Some, None, option_map, option_to_list, filter_map, count_by, zip, is_none, unwrap_or}
+use Rattle.std.specs.List.{range_with_len, list_any, list_all}
+use Rattle.run_events.specs.Stats.{FinishedTest, nothing, total}
+use Rattle.run_events.specs.declared.stats.RunStats.{RunStats}
+use Rattle.run_events.specs.declared.settings.Settings.{Settings}
+use Rattle.run_events.specs.declared.turn.Turn.{Turn}
+use Rattle.run_events.specs.declared.turn.Turn.TheVariants.{Begin, End}
+use Rattle.run_events.specs.declared.message.Message.{Message}
+use Rattle.run_events.specs.declared.ask.Ask.{Ask}
+use Rattle.run_events.specs.declared.cancel.CancelReason.{CancelReason}
+use Rattle.run_events.specs.declared.cancel.CancelReason.TheVariants.{SetupScriptFailure, TestFailure, ReportError, GlobalTimeout, TestFailureImmediate, Signal, Interrupt, SecondSignal}
+use Rattle.run_events.specs.declared.events.ReporterEvent.{ReporterEvent}
+use Rattle.run_events.specs.declared.events.ReporterEvent.TheVariants.{Test}
+use Rattle.run_events.specs.declared.events.TestEventKind.{TestEventKind}
+use Rattle.run_events.specs.declared.events.TestEventKind.TheVariants.{RunStarted, TestStarted, TestFinished, RunFinished}
+use Rattle.run_events.specs.declared.result.ExecuteStatus.{ExecuteStatus}
+use Rattle.run_events.specs.declared.result.FlakyResult.TheVariants.{Pass}
+use Rattle.run_model.specs.declared.happening.Happening.{Happening}
+use Rattle.run_model.specs.declared.happening.Place.{Place}
+use Rattle.run_model.specs.declared.happening.Place.TheVariants.{Admitted, Took}
+use Rattle.run_model.specs.declared.unit_view.UnitView.{UnitView}
+use Rattle.run_model.specs.Unit.{row}
+
+-- how far a turn moves the clock, in nanoseconds: no turn does yet
+abbrev pub ns_of : Turn → ℕ
+ns_of _ = 0
+
+-- the clock is the sum of what the turns moved it
+abbrev pub clock : List Happening → ℕ
+clock [] = 0
+clock (x ∷ past) = clock past + ns_of x.turn
+
+-- the run's active time: no turn pauses it yet
+abbrev pub elapsed : List Happening → ℕ
+elapsed past = clock past
+
+-- whether a turn is the first of a run, and whether it is its last
+abbrev pub is_begin : Turn → Bool
+is_begin Begin = true
+is_begin _ = false
+
+abbrev pub is_end : Turn → Bool
+is_end End = true
+is_end _ = false
+
+-- a run has begun where a begin was taken
+abbrev pub has_begun : List Happening → Bool
+has_begun [] = false
+has_begun (x ∷ past) = is_begin x.turn || has_begun past
+
+-- a run is over where an end was taken
+abbrev pub is_over : List Happening → Bool
+is_over [] = false
+is_over (x ∷ past) = is_end x.turn || is_over past
+
+-- the messages sent, the oldest first
+abbrev pub sent : List Happening → List Message
+sent [] = []
+sent (x ∷ past) = sent past ++ option_to_list x.sent
+
+-- how many messages were delivered
+abbrev pub delivered : List Happening → ℕ
+delivered [] = 0
+delivered (x ∷ past) = delivered past + (if x.taken then 1 else 0)
+
+-- the messages that wait: the nth delivery takes the nth message
+abbrev pub queue : List Happening → List Message
+queue past = drop (delivered past) (sent past)
+
+-- the events told, in order
+abbrev pub told : List Happening → List ReporterEvent
+told [] = []
+told (x ∷ past) = told past ++ option_to_list x.told
+
+-- the events told, each with whether the reporter refused it
+abbrev pub answers : List Happening → List (ReporterEvent × Bool)
+answers [] = []
+answers (x ∷ past) = answers past ++ zip (option_to_list x.told) x.refused
+
+-- what was asked, each with the turn that asked it, counted from 0
+abbrev pub asked : List Happening → List (ℕ × Ask)
+asked [] = []
+asked (x ∷ past) = asked past ++ map (λ ask. (length past, ask)) (option_to_list x.asked)
+
+-- the rank of a reason: a cause of a higher rank replaces the reason
+abbrev pub rank : CancelReason → ℕ
+rank SetupScriptFailure = 0
+rank TestFailure = 1
+rank ReportError = 2
+rank GlobalTimeout = 3
+rank TestFailureImmediate = 4
+rank Signal = 5
+rank Interrupt = 6
+rank SecondSignal = 7
+
+-- the greater of two reasons
+abbrev pub greater : Option CancelReason → Option CancelReason → Option CancelReason
+greater None cause = cause
+greater (Some r) None = Some r
+greater (Some r) (Some c) = if nat_lt (rank r) (rank c) then Some c else Some r
+
+-- the reason for which a run is cancelled: the greatest of its causes
+abbrev pub reason : List Happening → Option CancelReason
+reason [] = None
+reason (x ∷ past) = greater (reason past) x.cause
+
+-- a unit after a place: an admitted test begins, and a turn of the unit's own is a row of the unit table
+abbrev pub placed : ℕ → ℕ → Option Place → Option UnitView → Option UnitView
+placed now k None u = u
+placed now k (Some (Admitted first)) u = if first.unit == k then Some first else u
+placed now k (Some (Took j turn)) u = if j == k then option_map (λ v. (row now turn v).next) u else u
+
+-- a unit stands where the unit table leads along its own turns; None is a test that wasn't admitted
+abbrev pub unit_of : ℕ → List Happening → Option UnitView
+unit_of k [] = None
+unit_of k (x ∷ past) = placed (clock past) k x.place (unit_of k past)
+
+-- how many tests the plan has
+abbrev pub tests_in : Settings → ℕ
+tests_in p = length p.plan.tests
+
+-- all units, in the order of the plan
+abbrev pub units : Settings → List Happening → List (Option UnitView)
+units p past = map (λ k. unit_of k past) (range_with_len 0 (tests_in p))
+
+-- what an event says of a finished test, for the statistics
+abbrev pub last_slow : List ExecuteStatus → Bool
+last_slow [] = false
+last_slow (s ∷ []) = s.slow
+last_slow (s ∷ t ∷ later) = last_slow (t ∷ later)
+
+abbrev pub finished_test : List ExecuteStatus → FinishedTest
+finished_test statuses = record { results = map (λ s. s.result) statuses; slow = last_slow statuses; flaky = Pass }
+
+abbrev pub finish_in : TestEventKind → Option FinishedTest
+finish_in (TestFinished unit id statuses running stats) = Some (finished_test statuses)
+finish_in _ = None
+
+abbrev pub finish_of : ReporterEvent → Option FinishedTest
+finish_of (Test event) = finish_in event.kind
+
+-- the tests told finished, in order
+abbrev pub finished : List Happening → List FinishedTest
+finished past = filter_map finish_of (told past)
+
+-- the statistics after these finishes: counts over them, beside the number of tests and the reason
+abbrev pub stats_after : Settings → Option CancelReason → List FinishedTest → RunStats
+stats_after p why finishes = record (total (record nothing { initial_run_count = tests_in p }) finishes) { cancel_reason = why }
+
+-- the statistics of a run
+abbrev pub stats : Settings → List Happening → RunStats
+stats p past = stats_after p (reason past) (finished past)
+
+-- whether an event tells the start, or the finish, of a test
+abbrev pub starts_in : ℕ → TestEventKind → Bool
+starts_in k (TestStarted unit id command slot running stats) = unit == k
+starts_in k _ = false
+
+abbrev pub starts : ℕ → ReporterEvent → Bool
+starts k (Test event) = starts_in k event.kind
+
+abbrev pub finishes_in : ℕ → TestEventKind → Bool
+finishes_in k (TestFinished unit id statuses running stats) = unit == k
+finishes_in k _ = false
+
+abbrev pub finishes : ℕ → ReporterEvent → Bool
+finishes k (Test event) = finishes_in k event.kind
+
+-- a test runs where it was told started and not told finished
+abbrev pub is_running : List ReporterEvent → ℕ → Bool
+is_running events k = list_any (starts k) events && not (list_any (finishes k) events)
+
+-- how many tests run
+abbrev pub running : Settings → List Happening → ℕ
+running p past = count_by (is_running (told past)) (range_with_len 0 (tests_in p))

@@ -1,0 +1,32 @@
+// What one turn did.
+use crate::{UnitTurn, UnitView};
+use run_capture::List;
+use run_events::{Ask, CancelReason, Message, ReporterEvent, Turn};
+
+/// Whose turn it was, and as what.
+#[derive(Drop)]
+pub enum Place {
+    /// A test was admitted, as this unit.
+    Admitted(UnitView),
+    /// A unit took a turn.
+    Took { unit: u32, turn: UnitTurn },
+}
+
+/// What one turn did.
+#[derive(Drop)]
+pub struct Happening {
+    pub turn: Turn,
+    /// Of each event told, whether the reporter refused it.
+    pub refused: List<bool>,
+    pub place: Option<Place>,
+    /// The message that it sent.
+    pub sent: Option<Message>,
+    /// Whether it delivered the oldest message.
+    pub taken: bool,
+    /// The event that it told.
+    pub told: Option<ReporterEvent>,
+    /// What it asked of the outside.
+    pub asked: Option<Ask>,
+    /// Why it cancels the run, where it does.
+    pub cause: Option<CancelReason>,
+}

@@ -1,0 +1,16 @@
+//! The definitions of a run: the tables of turns, of a unit and of the dispatcher, row by row, and the
+//! words over a run's history that every contract above cites. It stands on `run_events` alone. A
+//! history lists what each turn did, the newest first; a word is a recursion, a sum or a filter over it.
+#![tactic(auto)]
+
+mod entry;
+mod happening;
+mod phase;
+mod unit_turn;
+mod unit_view;
+
+pub use entry::Entry;
+pub use happening::{Happening, Place};
+pub use phase::Phase;
+pub use unit_turn::UnitTurn;
+pub use unit_view::UnitView;

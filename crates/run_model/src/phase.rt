@@ -1,0 +1,16 @@
+// Where a unit stands.
+
+/// The phase of a unit.
+#[derive(Clone, Copy, Debug, Drop, PartialEq, Eq)]
+pub enum Phase {
+    /// Its start message was sent, and it waits to be let go.
+    StartSent,
+    /// It was let go, and its start was asked.
+    Starting,
+    /// Its child runs.
+    Running,
+    /// Its attempt has ended.
+    Deciding,
+    /// It is done.
+    Over,
+}

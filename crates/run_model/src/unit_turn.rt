@@ -1,0 +1,28 @@
+// What can happen to a unit.
+use run_capture::{Duplicate, Mem};
+use run_events::ChildExit;
+use std::alloc::Global;
+
+/// A turn of one unit.
+#[derive(Debug, Drop, PartialEq, Eq)]
+pub enum UnitTurn {
+    /// Its start message was delivered, and it is let go or not.
+    Answered { go: bool },
+    /// Its child started.
+    Started { pid: u32 },
+    /// Its child ended.
+    Exit { exit: ChildExit },
+    /// It decides what comes after its attempt, with a random word.
+    Decide { word: u32 },
+}
+
+impl Duplicate for UnitTurn {
+    fn copy(&self, _alloc: Global) -> Mem<UnitTurn> {
+        Ok(match self {
+            UnitTurn::Answered { go } => UnitTurn::Answered { go: *go },
+            UnitTurn::Started { pid } => UnitTurn::Started { pid: *pid },
+            UnitTurn::Exit { exit } => UnitTurn::Exit { exit: *exit },
+            UnitTurn::Decide { word } => UnitTurn::Decide { word: *word },
+        })
+    }
+}

@@ -1,0 +1,100 @@
+// The start of a test's child: its command and its variables.
+ghost use Rattle.std.specs.Prelude.{◌≡◌, ◌++◌, ◌∷◌, [], IfOk, decimal};
+ghost use Rattle.uuid.specs.Text.{hyphenated_text, lower};
+ghost use Rattle.run_model.specs.Unit.{start_ask, environment, identity_variables, place_variables, version_variables};
+
+use run_capture::{Duplicate, List, Mem, Text};
+use run_events::{Ask, StartAsk};
+use run_model::UnitView;
+use std::alloc::Global;
+use uuid::Uuid;
+
+/// How many attempts a test has: no test has retries yet.
+pub const ATTEMPTS: u32 = 1;
+
+fn pair(alloc: Global, key: &str, value: &str) -> Mem<(Text, Text)>
+    ensures { IfOk result (λ p. p ≡ (key.now, value.now)) }
+{
+    Ok((Text::from_str(alloc, key)?, Text::from_str(alloc, value)?))
+}
+
+fn number(alloc: Global, key: &str, value: u32) -> Mem<(Text, Text)>
+    ensures { IfOk result (λ p. p ≡ (key.now, decimal value)) }
+{
+    let text = format!(in alloc; "{value}")?;
+    Ok((Text::from_str(alloc, key)?, Text::from_string(text)))
+}
+
+fn id_pair(alloc: Global, key: &str, value: Uuid) -> Mem<(Text, Text)>
+    ensures { IfOk result (λ p. p ≡ (key.now, hyphenated_text lower value)) }
+{
+    let text = format!(in alloc; "{value}")?;
+    Ok((Text::from_str(alloc, key)?, Text::from_string(text)))
+}
+
+#[tactic(auto, unfolding(run_model::specs::Unit::identity_variables))]
+fn identity_variables(alloc: Global, unit: &UnitView) -> Mem<Vec<(Text, Text)>>
+    ensures { IfOk result (λ v. v.items ≡ identity_variables unit.now) }
+{
+    Ok(vec![in alloc;
+        id_pair(alloc, "NEXTEST_RUN_ID", unit.run_id)?,
+        pair(alloc, "NEXTEST_RUN_MODE", "test")?,
+        pair(alloc, "NEXTEST_BINARY_ID", unit.id.binary.as_str())?,
+        pair(alloc, "NEXTEST_TEST_NAME", unit.id.name.as_str())?,
+        number(alloc, "NEXTEST_ATTEMPT", unit.attempt)?,
+        number(alloc, "NEXTEST_TOTAL_ATTEMPTS", ATTEMPTS)?
+    ]?)
+}
+
+#[tactic(auto, unfolding(run_model::specs::Unit::place_variables))]
+fn place_variables(alloc: Global, unit: &UnitView) -> Mem<Vec<(Text, Text)>>
+    ensures { IfOk result (λ v. v.items ≡ place_variables unit.now) }
+{
+    Ok(vec![in alloc;
+        pair(alloc, "NEXTEST_STRESS_CURRENT", "none")?,
+        pair(alloc, "NEXTEST_STRESS_TOTAL", "none")?,
+        number(alloc, "NEXTEST_TEST_GLOBAL_SLOT", unit.slot.global)?,
+        pair(alloc, "NEXTEST_TEST_GROUP", "@global")?,
+        pair(alloc, "NEXTEST_TEST_GROUP_SLOT", "none")?,
+        number(alloc, "NEXTEST_TEST_THREADS", unit.threads)?,
+        pair(alloc, "NEXTEST_WORKSPACE_ROOT", "/")?
+    ]?)
+}
+
+#[tactic(auto, unfolding(run_model::specs::Unit::version_variables))]
+fn version_variables(alloc: Global) -> Mem<Vec<(Text, Text)>>
+    ensures { IfOk result (λ v. v.items ≡ version_variables) }
+{
+    Ok(vec![in alloc;
+        pair(alloc, "NEXTEST_VERSION", "0.0.0")?,
+        pair(alloc, "NEXTEST_REQUIRED_VERSION", "none")?,
+        pair(alloc, "NEXTEST_RECOMMENDED_VERSION", "none")?
+    ]?)
+}
+
+#[tactic(auto, unfolding(run_model::specs::Unit::environment))]
+fn environment(alloc: Global, unit: &UnitView) -> Mem<List<(Text, Text)>>
+    ensures { IfOk result (λ v. v ≡ environment unit.now) }
+{
+    let mut env = identity_variables(alloc, unit)?;
+    let mut place = place_variables(alloc, unit)?;
+    let mut version = version_variables(alloc)?;
+    place.append(&mut version)?;
+    env.append(&mut place)?;
+    Ok(List::from_vec(env))
+}
+
+/// The start that is asked where an attempt is let go.
+#[tactic(auto, unfolding(run_model::specs::Unit::start_ask))]
+pub fn start_of(alloc: Global, unit: &UnitView) -> Mem<Ask>
+    ensures { IfOk result (λ ask. ask ≡ start_ask unit.now) }
+{
+    Ok(Ask::Start(StartAsk {
+        unit: unit.unit,
+        attempt: unit.attempt,
+        command: unit.command.copy(alloc)?,
+        env: environment(alloc, unit)?,
+        group: true,
+        stdin: false,
+    }))
+}

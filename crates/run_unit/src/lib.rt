@@ -1,0 +1,10 @@
+//! A test with its attempts as a state: each step is one row of the unit table of `run_model`, with
+//! the message that it sends and what it asks. The engine uses these contracts and nothing else.
+#![tactic(auto)]
+
+mod environment;
+mod unit;
+
+pub use run_events::create_execution_result;
+pub use run_model::{Phase, UnitTurn};
+pub use unit::{Unit, UnitEffects};
