@@ -1,5 +1,5 @@
 pub mod Tell
 pub mod Counts
-pub mod Stats
 pub mod Result
-pub mod Summary
+pub mod Stats
+pub mod Outcome

@@ -3,6 +3,7 @@
 //! events and the `Children` that it asks for starts. Every layer above speaks in these types.
 #![tactic(auto)]
 
+mod adds;
 mod ask;
 mod ask_list;
 mod cancel;
@@ -16,6 +17,8 @@ mod reporter;
 mod result;
 mod settings;
 mod stats;
+#[cfg(test)]
+mod tests;
 mod turn;
 
 pub use ask::{Ask, StartAsk};
@@ -29,8 +32,8 @@ pub use outcome::{FinalRunStats, RunOutcome, RunStep};
 pub use plan::{Plan, PlanTest, TestInstanceId, TestSlotAssignment};
 pub use reporter::{ReportFault, Reporter};
 pub use result::{
-    ChildExit, create_execution_result, ExecuteStatus, ExecutionResult, FailureStatus, FlakyResult, LeakTimeoutResult,
-    SlowTimeoutResult,
+    ChildExit, ExecuteStatus, ExecutionResult, FailureStatus, FlakyResult, LeakTimeoutResult,
+    SlowTimeoutResult, create_execution_result,
 };
 pub use settings::Settings;
 pub use stats::RunStats;

@@ -1,5 +1,5 @@
 -- What each row of the tables does to the account of a test.
-use Rattle.std.proofs.Common.{◌≡◌, ℕ, ◌+◌, ◌==◌, List, [], ◌∷◌, ◌++◌, Bool, true, false, Option, Some, None, option_to_list, refl, ap, sym, subst, ◌∙◌, arith, filter_map}
+use Rattle.std.proofs.Common.{◌≡◌, ℕ, ◌+◌, ◌==◌, ◌≤◌, List, [], ◌∷◌, ◌++◌, Bool, true, false, Option, Some, None, option_to_list, refl, ap, sym, subst, ◌∙◌, arith, filter_map}
 use Rattle.std.proofs.lemmas.List.Elements.{filter_map-append}
 use Rattle.std.proofs.lemmas.List.{append-nil}
 use Rattle.std.proofs.lemmas.Grind.{common_steps}
@@ -46,6 +46,10 @@ row_sends_own now ph turn u k q apart = grind (arith, common_steps, filter_map-a
 -- a row leaves a unit its place in the plan
 pub row_keeps_unit : (now : ℕ) (ph : Phase) (turn : UnitTurn) (u : UnitView) → (row_at now ph turn u).next.unit ≡ u.unit
 row_keeps_unit now ph turn u = grind arith
+
+-- an attempt is let go at the moment of its row, and no row moves that later
+pub row_starts : (now : ℕ) (ph : Phase) (turn : UnitTurn) (u : UnitView) → u.start ≤ now → (row_at now ph turn u).next.start ≤ now
+row_starts now ph turn u h = grind arith
 
 -- a unit's own turn keeps the account of each test
 pub of_row : (now j k : ℕ) (turn : UnitTurn) (u : UnitView) (v : Option UnitView) (t : List News) (q : List Message)

@@ -28,14 +28,14 @@ use Rattle.run_model.specs.declared.unit_turn.UnitTurn.TheVariants.{Answered, St
 use Rattle.run_model.specs.declared.unit_view.UnitView.{UnitView}
 use Rattle.run_model.specs.declared.phase.Phase.TheVariants.{StartSent}
 use Rattle.run_model.specs.Unit.{row, takes}
-use Rattle.run_model.specs.Words.{clock, elapsed, has_begun, is_over, reason, running, stats, stats_after, finished, finished_test, sent, delivered, queue, told, unit_of, units, placed, tests_in}
+use Rattle.run_model.specs.Words.{clock, ns_of, elapsed, has_begun, is_over, reason, running, stats, stats_after, finished, finished_test, sent, delivered, queue, told, unit_of, units, placed, tests_in}
 use Rattle.run_model.specs.Admission.{candidate, in_use, free_slot, first_view, newcomer}
 use Rattle.run_model.specs.Turns.{event_at, start_delivery, enabled, is_empty, takes_turn, turn_of_unit, unit_takes, run_takes, taken_by, admission, silent, delivery, happened, happening, run_turn}
 use Rattle.run_model.specs.Journal.{history, IsLegalBackward}
 use Rattle.run_model.specs.Accounts.{News, news_in, HasAccount, IsAccounted, account_of, pending_of}
 use Rattle.run_laws.specs.Holds.{Holds, IsNamed}
 use Rattle.run_laws.proofs.Queue.{queue-cons, lt-from_queue}
-use Rattle.run_laws.proofs.AccountLemmas.{is_answer, of_row, start_row, of_finish, row_keeps_unit}
+use Rattle.run_laws.proofs.AccountLemmas.{is_answer, of_row, start_row, of_finish, row_keeps_unit, row_starts}
 
 -- the account of a test after one more turn, from the parts of that turn
 pub accounted-cons : (k : ℕ) (x : Happening) (past : List Happening) → delivered (x ∷ past) ≤ length (sent past)
@@ -49,29 +49,33 @@ pub units-at : (p : Settings) (past : List Happening) (k : ℕ) → k < tests_in
 units-at p past k h = get_or-map-range_with_len (λ k. unit_of k past) 0 (tests_in p) k k None h (omega arith)
 
 -- a place keeps the name of each unit
-pub placed_named : (now n k : ℕ) (place : Option Place) (v : Option UnitView) → IsNamed n k v
-    → ((u : UnitView) → place ≡ Some (Admitted u) → u.unit < n)
-    → IsNamed n k (placed now k place v)
-placed_named now n k None v h known u e = h u e
-placed_named now n k (Some (Admitted first)) v h known u e = at_once (first.unit == k) refl
+pub placed_named : (now later n k : ℕ) (place : Option Place) (v : Option UnitView) → now ≤ later → IsNamed n now k v
+    → ((u : UnitView) → place ≡ Some (Admitted u) → (u.unit < n) × (u.start ≤ now))
+    → IsNamed n later k (placed now k place v)
+placed_named now later n k None v le h known u e = let at = h u e in (at.0, at.1, omega arith)
+placed_named now later n k (Some (Admitted first)) v le h known u e = at_once (first.unit == k) refl
   where
-  at_once : (b : Bool) → (first.unit == k) ≡ b → (u.unit ≡ k) × (k < n)
+  at_once : (b : Bool) → (first.unit == k) ≡ b → (u.unit ≡ k) × (k < n) × (u.start ≤ later)
   at_once true be =
       let same : first ≡ u = cc (sym (ap (λ b. if b then Some first else v) be) ∙ e) in
-      let below : first.unit < n = known first refl in
-      subst (λ (w : UnitView). (w.unit ≡ k) × (k < n)) same (grind arith)
-  at_once false be = h u (sym (ap (λ b. if b then Some first else v) be) ∙ e)
-placed_named now n k (Some (Took j turn)) v h known u e = by_unit (j == k) refl
+      let below : (first.unit < n) × (first.start ≤ now) = known first refl in
+      subst (λ (w : UnitView). (w.unit ≡ k) × (k < n) × (w.start ≤ later)) same (grind arith)
+  at_once false be = let at = h u (sym (ap (λ b. if b then Some first else v) be) ∙ e) in (at.0, at.1, omega arith)
+placed_named now later n k (Some (Took j turn)) v le h known u e = by_unit (j == k) refl
   where
-  by_view : (v : Option UnitView) → IsNamed n k v → option_map (λ w. (row now turn w).next) v ≡ Some u → (u.unit ≡ k) × (k < n)
+  by_view : (v : Option UnitView) → IsNamed n now k v → option_map (λ w. (row now turn w).next) v ≡ Some u
+      → (u.unit ≡ k) × (k < n) × (u.start ≤ later)
   by_view None h e = cc
   by_view (Some w) h e =
       let same : (row now turn w).next ≡ u = cc in
-      let named : (w.unit ≡ k) × (k < n) = h w refl in
-      (sym (ap (λ (u : UnitView). u.unit) same) ∙ row_keeps_unit now w.phase turn w ∙ named.0, named.1)
-  by_unit : (b : Bool) → (j == k) ≡ b → (u.unit ≡ k) × (k < n)
+      let named : (w.unit ≡ k) × (k < n) × (w.start ≤ now) = h w refl in
+      let early : (row now turn w).next.start ≤ now = row_starts now w.phase turn w named.2 in
+      subst (λ (v : UnitView). (v.unit ≡ k) × (k < n) × (v.start ≤ later)) same
+        (row_keeps_unit now w.phase turn w ∙ named.0, named.1, omega arith)
+  by_unit : (b : Bool) → (j == k) ≡ b → (u.unit ≡ k) × (k < n) × (u.start ≤ later)
   by_unit true be = by_view v h (sym (ap (λ b. if b then option_map (λ w. (row now turn w).next) v else v) be) ∙ e)
-  by_unit false be = h u (sym (ap (λ b. if b then option_map (λ w. (row now turn w).next) v else v) be) ∙ e)
+  by_unit false be =
+      let at = h u (sym (ap (λ b. if b then option_map (λ w. (row now turn w).next) v else v) be) ∙ e) in (at.0, at.1, omega arith)
 
 -- the unit that is admitted is the candidate of the plan
 pub newcomer_is : (p : Settings) (us : List (Option UnitView)) (u : UnitView) → newcomer p us ≡ Some u
@@ -112,13 +116,13 @@ candidate_waits p us k e = by_room (nat_lt (in_use us) p.threads) refl
 -- what holds after one more turn, from the parts of that turn
 pub holds-cons : (p : Settings) (past : List Happening) (x : Happening) → Holds p past
     → delivered (x ∷ past) ≤ length (sent past)
-    → ((u : UnitView) → x.place ≡ Some (Admitted u) → u.unit < tests_in p)
+    → ((u : UnitView) → x.place ≡ Some (Admitted u) → (u.unit < tests_in p) × (u.start ≤ clock past))
     → ((k : ℕ) → HasAccount (placed (clock past) k x.place (unit_of k past)) (account_of k (told past) ++ account_of k (option_to_list x.told))
         (pending_of k (drop (if x.taken then 1 else 0) (queue past) ++ option_to_list x.sent)))
     → Holds p (x ∷ past)
 holds-cons p past x h fits known accounts = record {
   fits = omega (arith, length-append (sent past) (option_to_list x.sent));
-  named = λ k. placed_named (clock past) (tests_in p) k x.place (unit_of k past) (h.named k) known;
+  named = λ k. placed_named (clock past) (clock past + ns_of x.turn) (tests_in p) k x.place (unit_of k past) (omega arith) (h.named k) known;
   accounts = λ k. accounted-cons k x past fits (accounts k)
 }
 

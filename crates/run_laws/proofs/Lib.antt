@@ -1,3 +1,5 @@
 pub mod Queue
 pub mod AccountLemmas
 pub mod Kept
+pub mod Running
+pub mod Facts

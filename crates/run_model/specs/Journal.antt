@@ -1,6 +1,6 @@
 -- A journal and its history, and which journals are legal.
 use Rattle.std.specs.Prelude.{ℕ, ◌≡◌, List, [], ◌∷◌, length, reverse, Bool, if◌then◌else◌, Option, Some, None, option_to_list, IsTrue}
-use Rattle.run_events.specs.Summary.{outcome_of, summary}
+use Rattle.run_events.specs.Outcome.{outcome_of, summary}
 use Rattle.run_events.specs.declared.settings.Settings.{Settings}
 use Rattle.run_events.specs.declared.outcome.RunOutcome.{RunOutcome}
 use Rattle.run_model.specs.declared.entry.Entry.{Entry}

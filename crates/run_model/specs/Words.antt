@@ -1,7 +1,7 @@
 -- Words over a history: what each turn did, the newest first.
 use Rattle.std.specs.Prelude.{ℕ, ◌+◌, List, [], ◌∷◌, ◌++◌, map, length, drop, Bool, true, false, ◌&&◌, ◌||◌, not, ◌==◌, nat_lt, if◌then◌else◌, Option, Some, None, option_map, option_to_list, filter_map, count_by, zip, is_none, unwrap_or}
 use Rattle.std.specs.List.{range_with_len, list_any, list_all}
-use Rattle.run_events.specs.Stats.{FinishedTest, nothing, total}
+use Rattle.run_events.specs.Stats.{FinishedTest, nothing, total, last_or}
 use Rattle.run_events.specs.declared.stats.RunStats.{RunStats}
 use Rattle.run_events.specs.declared.settings.Settings.{Settings}
 use Rattle.run_events.specs.declared.turn.Turn.{Turn}
@@ -124,12 +124,11 @@ tests_in p = length p.plan.tests
 abbrev pub units : Settings → List Happening → List (Option UnitView)
 units p past = map (λ k. unit_of k past) (range_with_len 0 (tests_in p))
 
--- what an event says of a finished test, for the statistics
+-- whether the last attempt was slow
 abbrev pub last_slow : List ExecuteStatus → Bool
-last_slow [] = false
-last_slow (s ∷ []) = s.slow
-last_slow (s ∷ t ∷ later) = last_slow (t ∷ later)
+last_slow statuses = last_or false (map (λ s. s.slow) statuses)
 
+-- a finished test, as the statistics count it; no test is flaky by its plan yet
 abbrev pub finished_test : List ExecuteStatus → FinishedTest
 finished_test statuses = record { results = map (λ s. s.result) statuses; slow = last_slow statuses; flaky = Pass }
 
@@ -144,9 +143,9 @@ finish_of (Test event) = finish_in event.kind
 abbrev pub finished : List Happening → List FinishedTest
 finished past = filter_map finish_of (told past)
 
--- the statistics after these finishes: counts over them, beside the number of tests and the reason
+-- the statistics after these finishes: a count of each kind over them, beside the number of tests and the reason
 abbrev pub stats_after : Settings → Option CancelReason → List FinishedTest → RunStats
-stats_after p why finishes = record (total (record nothing { initial_run_count = tests_in p }) finishes) { cancel_reason = why }
+stats_after p why finishes = total (record nothing { initial_run_count = tests_in p; cancel_reason = why }) finishes
 
 -- the statistics of a run
 abbrev pub stats : Settings → List Happening → RunStats

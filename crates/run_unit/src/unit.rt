@@ -2,6 +2,7 @@
 ghost use Rattle.std.specs.Prelude.{◌≡◌, ◌≤◌, ◌<◌, length, IfOk, OnOk, OnErr, IsTrue, Option, Some, option_map, option_to_list, slice_get, true};
 ghost use Rattle.run_model.specs.Unit.{row, takes, status_at};
 ghost use Rattle.run_model.specs.Admission.{first_view, is_last};
+ghost use Rattle.run_events.specs.declared.message.Message.TheVariants.{Start};
 
 use crate::environment::{ATTEMPTS, start_of};
 use run_capture::{Duplicate, List, Mem};
@@ -58,10 +59,29 @@ impl Unit {
         })
     }
 
+    /// The message that it sends when it is admitted.
+    pub fn start_message(&self, alloc: Global) -> Mem<Message>
+        ensures { IfOk result (λ m. m ≡ Start self.now.unit self.now.id self.now.command self.now.slot) }
+    {
+        Ok(Message::Start {
+            unit: self.view.unit,
+            test: self.view.id.copy(alloc)?,
+            command: self.view.command.copy(alloc)?,
+            slot: self.view.slot,
+        })
+    }
+
     pub fn phase(&self) -> Phase
         ensures { result ≡ self.now.phase }
     {
         self.view.phase
+    }
+
+    /// The slot that it holds until it is over.
+    pub fn slot(&self) -> TestSlotAssignment
+        ensures { result ≡ self.now.slot }
+    {
+        self.view.slot
     }
 
     /// Whether the unit takes a turn.

@@ -1,0 +1,3 @@
+pub mod Dispatcher
+pub mod State
+pub mod Advance

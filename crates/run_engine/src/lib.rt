@@ -1,0 +1,8 @@
+//! The engine: a run stands for its journal, and each step of it is one turn of the tables. It is built
+//! from a plan by `TestRunnerBuilder`, and carried out turn by turn by `Run` or at once by `TestRunner`.
+#![tactic(auto)]
+
+mod admission;
+mod dispatcher;
+mod state;
+mod turns;

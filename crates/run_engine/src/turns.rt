@@ -1,0 +1,158 @@
+// The turns of a run: each does to the state what its row of the tables says.
+ghost use Rattle.std.specs.Prelude.{◌≡◌, ◌<◌, ◌^◌, ◌++◌, length, IfOk, OnOk, true, option_to_list, slice_set, Some};
+ghost use Rattle.std.specs.VecDeque.{deque_len, deque_capacity};
+ghost use Rattle.run_model.specs.declared.entry.Entry.{Entry};
+ghost use Rattle.run_model.specs.Admission.{newcomer};
+ghost use Rattle.run_model.specs.Turns.{taken_by, admission, turn_of_unit};
+ghost use Rattle.run_engine.specs.State.{IsAfter};
+ghost use Rattle.run_engine.specs.Advance.{IsInner, unit_in, answer_to, delivery_of, turn_does, CanAnswer, CanTake, CanAdmit, CanDeliverOldest, CanAdvance};
+
+use crate::admission::{least_free_slot, next_test};
+use crate::dispatcher::Delivered;
+use crate::state::State;
+use run_capture::Mem;
+use run_events::{Ask, Message, ReporterEvent, Settings, TestSlotAssignment, Turn};
+use run_unit::{Unit, UnitEffects, UnitTurn};
+use std::alloc::Global;
+use std::collections::VecDeque;
+
+/// What a turn told and asked.
+#[derive(Drop)]
+pub struct Effects {
+    pub told: Option<ReporterEvent>,
+    pub asked: Option<Ask>,
+}
+
+// Puts a message at the end of the queue, which has room for it.
+fn send(queue: &mut VecDeque<Message>, sent: Option<Message>)
+    requires { deque_len queue.old < deque_capacity queue.old }
+    ensures { queue.new.items ≡ queue.old.items ++ option_to_list sent }
+{
+    if let Some(message) = sent {
+        queue.push_back_reserved(message);
+    }
+}
+
+/// A unit takes a turn of its own.
+pub fn take_turn(alloc: Global, state: &mut State, unit: u32, turn: UnitTurn) -> Mem<Option<Ask>>
+    requires { CanTake state.old unit turn }
+    ensures after { OnOk result ((e : Entry) → IsInner e
+        → IsAfter state.old (taken_by state.old.clock e unit turn (unit_in state.old unit)) state.new) }
+    ensures asked { IfOk result (λ asked. (e : Entry)
+        → asked ≡ (taken_by state.old.clock e unit turn (unit_in state.old unit)).asked) }
+{
+    state.queue.reserve(1)?;
+    let now = state.clock;
+    let place = &mut state.units[unit as usize];
+    match place {
+        Some(member) => {
+            let UnitEffects { sent, asked, over: _ } = member.step(alloc, turn, now)?;
+            send(&mut state.queue, sent);
+            Ok(asked)
+        }
+        None => unreachable!(),
+    }
+}
+
+// Puts a unit at its place.
+fn put(units: &mut Vec<Option<Unit>>, place: usize, unit: Unit)
+    requires { place < length units.old.items }
+    ensures { units.new.items ≡ slice_set units.old.items place (Some unit) }
+{
+    units[place] = Some(unit);
+}
+
+/// Admits the candidate.
+pub fn admit(alloc: Global, settings: &Settings, state: &mut State) -> Mem<()>
+    requires candidate { CanAdmit settings.now state.old }
+    requires few { length settings.now.plan.tests < 2 ^ 32 }
+    ensures after { OnOk result ((e : Entry) → IsInner e
+        → IsAfter state.old (admission e (newcomer settings.now state.old.units.items)) state.new) }
+{
+    let slot = least_free_slot(&state.units);
+    match next_test(settings, &state.units) {
+        Some(test) => {
+            let slot = TestSlotAssignment { global: slot as u32 };
+            let unit = Unit::test(alloc, settings, test as u32, slot)?;
+            let message = unit.start_message(alloc)?;
+            state.queue.push_back(message)?;
+            put(&mut state.units, test, unit);
+            Ok(())
+        }
+        None => unreachable!(),
+    }
+}
+
+// Gives the answer to the unit that waits for it.
+fn answer(alloc: Global, state: &mut State, go: Option<(u32, bool)>) -> Mem<Option<Ask>>
+    requires { CanAnswer state.old go }
+    ensures after { OnOk result ((e : Entry) → IsInner e → IsAfter state.old (answer_to state.old e go) state.new) }
+    ensures asked { IfOk result (λ asked. (e : Entry) → asked ≡ (answer_to state.old e go).asked) }
+{
+    match go {
+        Some((unit, go)) => take_turn(alloc, state, unit, UnitTurn::Answered { go }),
+        None => Ok(None),
+    }
+}
+
+/// Delivers the oldest message.
+pub fn deliver(alloc: Global, state: &mut State) -> Mem<Effects>
+    requires { CanDeliverOldest state.old state.old.queue.items }
+    ensures after { OnOk result ((e : Entry) → IsInner e
+        → IsAfter state.old (delivery_of state.old e state.old.queue.items) state.new) }
+    ensures told { IfOk result (λ effects. (e : Entry)
+        → effects.told ≡ (delivery_of state.old e state.old.queue.items).told) }
+    ensures asked { IfOk result (λ effects. (e : Entry)
+        → effects.asked ≡ (delivery_of state.old e state.old.queue.items).asked) }
+{
+    match state.queue.pop_front() {
+        Some(message) => {
+            let now = state.clock;
+            let Delivered { told, go } = state.dispatcher.deliver(alloc, message, now)?;
+            let asked = answer(alloc, state, go)?;
+            Ok(Effects { told, asked })
+        }
+        None => unreachable!(),
+    }
+}
+
+/// Takes a turn.
+pub fn advance(alloc: Global, settings: &Settings, state: &mut State, turn: &Turn) -> Mem<Effects>
+    requires can { CanAdvance settings.now state.old turn.now (turn_of_unit turn.now) }
+    requires few { length settings.now.plan.tests < 2 ^ 32 }
+    ensures after { OnOk result ((e : Entry) → e.turn ≡ turn.now → IsAfter state.old
+        (turn_does settings.now state.old e turn.now (turn_of_unit turn.now)) state.new) }
+    ensures told { IfOk result (λ effects. (e : Entry)
+        → effects.told ≡ (turn_does settings.now state.old e turn.now (turn_of_unit turn.now)).told) }
+    ensures asked { IfOk result (λ effects. (e : Entry)
+        → effects.asked ≡ (turn_does settings.now state.old e turn.now (turn_of_unit turn.now)).asked) }
+{
+    let now = state.clock;
+    match turn {
+        Turn::Begin => {
+            let told = state.dispatcher.begin(settings, now);
+            Ok(Effects { told: Some(told), asked: None })
+        }
+        Turn::Admit => {
+            admit(alloc, settings, state)?;
+            Ok(Effects { told: None, asked: None })
+        }
+        Turn::Deliver => deliver(alloc, state),
+        Turn::Started { unit, pid } => {
+            let asked = take_turn(alloc, state, *unit, UnitTurn::Started { pid: *pid })?;
+            Ok(Effects { told: None, asked })
+        }
+        Turn::Exit { unit, exit } => {
+            let asked = take_turn(alloc, state, *unit, UnitTurn::Exit { exit: *exit })?;
+            Ok(Effects { told: None, asked })
+        }
+        Turn::Decide { unit, word } => {
+            let asked = take_turn(alloc, state, *unit, UnitTurn::Decide { word: *word })?;
+            Ok(Effects { told: None, asked })
+        }
+        Turn::End => {
+            let told = state.dispatcher.end(now);
+            Ok(Effects { told: Some(told), asked: None })
+        }
+    }
+}
