@@ -3,3 +3,4 @@ pub mod AccountLemmas
 pub mod Kept
 pub mod Running
 pub mod Facts
+pub mod Told

@@ -1,0 +1,104 @@
+-- What a turn tells, and that no turn of the built part cancels the run.
+use Rattle.std.proofs.Common.{◌≡◌, ℕ, suc, ◌+◌, ◌-◌, ◌<◌, ◌≤◌, List, [], ◌∷◌, ◌++◌, length, Bool, true, false, not, Option, Some, None, is_none, option_to_list, filter_map, refl, ap, sym, ◌∙◌, arith, length-append}
+use Rattle.std.specs.Prelude.{⊤}
+use Rattle.std.specs.Cmp.{second_so}
+use Rattle.run_events.specs.declared.settings.Settings.{Settings}
+use Rattle.run_events.specs.declared.turn.Turn.{Turn}
+use Rattle.run_events.specs.declared.turn.Turn.TheVariants.{Begin, Admit, Deliver, Started, Exit, Decide, End}
+use Rattle.run_events.specs.declared.message.Message.{Message}
+use Rattle.run_events.specs.declared.message.Message.TheVariants.{Start, Finish}
+use Rattle.run_events.specs.declared.cancel.CancelReason.{CancelReason}
+use Rattle.run_events.specs.declared.events.ReporterEvent.{ReporterEvent}
+use Rattle.run_events.specs.declared.events.ReporterEvent.TheVariants.{Test}
+use Rattle.run_events.specs.declared.events.TestEventKind.{TestEventKind}
+use Rattle.run_events.specs.declared.events.TestEventKind.TheVariants.{RunStarted, TestStarted, TestFinished, RunFinished}
+use Rattle.run_model.specs.declared.entry.Entry.{Entry}
+use Rattle.run_model.specs.declared.happening.Happening.{Happening}
+use Rattle.run_model.specs.declared.unit_turn.UnitTurn.{UnitTurn}
+use Rattle.run_model.specs.declared.unit_turn.UnitTurn.TheVariants.{Answered, Started as UnitStarted, Exit as UnitExit, Decide as UnitDecide}
+use Rattle.run_model.specs.declared.unit_view.UnitView.{UnitView}
+use Rattle.run_model.specs.Words.{clock, told, queue, reason, greater, unit_of, units, tests_in, has_begun, is_over, finish_of, finished, running, stats}
+use Rattle.run_model.specs.Admission.{newcomer}
+use Rattle.run_model.specs.Turns.{event_at, enabled, takes_turn, turn_of_unit, is_empty, taken_by, admission, start_delivery, delivery, happened, happening}
+use Rattle.run_model.specs.Journal.{history, IsLegalBackward}
+use Rattle.run_model.specs.Accounts.{started, account_of}
+use Rattle.run_laws.specs.Holds.{Holds}
+use Rattle.run_laws.proofs.Facts.{Waits, Finishes, start_waits, finish_follows}
+
+-- a start is told of a test of which nothing was told, a finish of one that was told started
+abbrev pub ToldFitsIn : ℕ → List Happening → TestEventKind → Type 0
+ToldFitsIn n past (TestStarted i id command slot running stats) = (i < n) × (account_of i (told past) ≡ [])
+ToldFitsIn n past (TestFinished i id statuses running stats) = (i < n) × (account_of i (told past) ≡ started ∷ [])
+ToldFitsIn n past _ = ⊤
+
+abbrev pub ToldFits : ℕ → List Happening → Option ReporterEvent → Type 0
+ToldFits n past None = ⊤
+ToldFits n past (Some (Test event)) = ToldFitsIn n past event.kind
+
+-- what a turn tells fits, and it cancels nothing
+abbrev pub Tells : Settings → List Happening → Happening → Type 0
+Tells p past x = ToldFits (tests_in p) past x.told × (x.cause ≡ None)
+
+taken_tells : (p : Settings) (past : List Happening) (now : ℕ) (e : Entry) (k : ℕ) (turn : UnitTurn) (v : Option UnitView) → Tells p past (taken_by now e k turn v)
+taken_tells p past now e k turn None = (tt, refl)
+taken_tells p past now e k turn (Some u) = (tt, refl)
+
+admission_tells : (p : Settings) (past : List Happening) (e : Entry) (v : Option UnitView) → Tells p past (admission e v)
+admission_tells p past e None = (tt, refl)
+admission_tells p past e (Some u) = (tt, refl)
+
+start_tells : (p : Settings) (past : List Happening) (e : Entry) (i : ℕ) (go : Bool) (turn : UnitTurn) (v : Option UnitView) (event : ReporterEvent)
+    → ToldFits (tests_in p) past (Some event) → Tells p past (start_delivery go (taken_by (clock past) e i turn v) event)
+start_tells p past e i true turn None event h = (h, refl)
+start_tells p past e i true turn (Some u) event h = (h, refl)
+start_tells p past e i false turn None event h = (tt, refl)
+start_tells p past e i false turn (Some u) event h = (tt, refl)
+
+-- each enabled turn tells what fits
+pub happening_tells : (p : Settings) (past : List Happening) (e : Entry) → Holds p past → enabled p past e.turn ≡ true
+    → Tells p past (happening p past e)
+happening_tells p past e h en = by_turn e.turn (second_so (not (is_over past)) (takes_turn p past e.turn (turn_of_unit e.turn)) en)
+  where
+  by_queue : (q : List Message) → queue past ≡ q → Tells p past (delivery p past e q)
+  by_queue [] eq = (tt, refl)
+  by_queue (Start i id command slot ∷ rest) eq =
+      let waits = start_waits p past i id command slot rest h eq in
+      start_tells p past e i (is_none (reason past)) (Answered (is_none (reason past))) (unit_of i past)
+        (event_at past (TestStarted i id command slot (running p past + 1) (stats p past))) (waits.below, waits.untold)
+  by_queue (Finish i id statuses ∷ rest) eq =
+      let follows = finish_follows p past i id statuses rest h eq in ((follows.below, follows.told_started), refl)
+  by_turn : (turn : Turn) → takes_turn p past turn (turn_of_unit turn) ≡ true → Tells p past (happened p past e turn (turn_of_unit turn))
+  by_turn Begin en = (tt, refl)
+  by_turn Admit en = admission_tells p past e (newcomer p (units p past))
+  by_turn Deliver en = by_queue (queue past) refl
+  by_turn (Started unit pid) en = taken_tells p past (clock past) e unit (UnitStarted pid) (unit_of unit past)
+  by_turn (Exit unit exit) en = taken_tells p past (clock past) e unit (UnitExit exit) (unit_of unit past)
+  by_turn (Decide unit word) en = taken_tells p past (clock past) e unit (UnitDecide word) (unit_of unit past)
+  by_turn End en = (tt, refl)
+
+-- what is no cause leaves the reason
+pub greater-None : (r : Option CancelReason) → greater r None ≡ r
+greater-None None = refl
+greater-None (Some r) = refl
+
+-- at most one event is told by a turn
+one_at_most : {X : Type 0} (o : Option X) → length (option_to_list o) ≤ 1
+one_at_most None = omega arith
+one_at_most (Some x) = omega arith
+
+pub told_short : (past : List Happening) → length (told past) ≤ length past
+told_short [] = omega arith
+told_short (x ∷ past) = omega (arith, told_short past, length-append (told past) (option_to_list x.told), one_at_most x.told)
+
+-- a list is not longer for what a test of its items gives
+pub filter_map_short : {X Y : Type 0} (f : X → Option Y) (xs : List X) → length (filter_map f xs) ≤ length xs
+filter_map_short f [] = omega arith
+filter_map_short {X} {Y} f (x ∷ xs) = by_item (f x) refl (filter_map_short f xs)
+  where
+  by_item : (o : Option Y) → f x ≡ o → length (filter_map f xs) ≤ length xs → length (filter_map f (x ∷ xs)) ≤ suc (length xs)
+  by_item None e h = rw e (omega arith)
+  by_item (Some y) e h = rw e (omega arith)
+
+-- so at most one finish is told by a turn
+pub finished_short : (past : List Happening) → length (finished past) ≤ length past
+finished_short past = omega (arith, filter_map_short finish_of (told past), told_short past)
