@@ -1,2 +1,5 @@
 pub mod Tell
 pub mod Counts
+pub mod Result
+pub mod Stats
+pub mod Outcome

@@ -30,7 +30,7 @@ pub use plan::{Plan, PlanTest, TestInstanceId, TestSlotAssignment};
 pub use reporter::{ReportFault, Reporter};
 pub use result::{
     ChildExit, ExecuteStatus, ExecutionResult, FailureStatus, FlakyResult, LeakTimeoutResult,
-    SlowTimeoutResult,
+    SlowTimeoutResult, create_execution_result,
 };
 pub use settings::Settings;
 pub use stats::RunStats;

@@ -1,4 +1,7 @@
 // How a run ended.
+ghost use Rattle.std.specs.Prelude.{◌≡◌};
+ghost use Rattle.run_events.specs.Outcome.{outcome_of};
+
 use crate::CancelReason;
 
 /// The step of a run that failed or was cancelled.
@@ -29,4 +32,18 @@ pub enum RunOutcome {
     Success,
     Failed { step: RunStep },
     Cancelled { step: RunStep },
+}
+
+impl RunOutcome {
+    /// The outcome of a run with this summary.
+    pub fn from_final_stats(stats: FinalRunStats) -> RunOutcome
+        ensures { result ≡ outcome_of stats }
+    {
+        match stats {
+            FinalRunStats::Success => RunOutcome::Success,
+            FinalRunStats::NoTestsRun => RunOutcome::NoTestsRun,
+            FinalRunStats::Cancelled { step, .. } => RunOutcome::Cancelled { step },
+            FinalRunStats::Failed { step } => RunOutcome::Failed { step },
+        }
+    }
 }

@@ -1,5 +1,8 @@
 // Results of attempts.
-use run_capture::{Duplicate, Mem};
+ghost use Rattle.std.specs.Prelude.{◌≡◌};
+ghost use Rattle.run_events.specs.Result.{is_success, execution_result};
+
+use run_capture::{ChildFdError, Duplicate, Mem};
 use std::alloc::Global;
 
 /// How a child ended.
@@ -84,5 +87,53 @@ pub struct ExecuteStatus {
 impl Duplicate for ExecuteStatus {
     fn copy(&self, _alloc: Global) -> Mem<ExecuteStatus> {
         Ok(*self)
+    }
+}
+
+impl ExecutionResult {
+    /// Whether an attempt with this result passed.
+    pub fn is_success(self) -> bool
+        ensures { result ≡ is_success self }
+    {
+        matches!(
+            self,
+            ExecutionResult::Pass
+                | ExecutionResult::Leak {
+                    result: LeakTimeoutResult::Pass
+                }
+                | ExecutionResult::Timeout {
+                    result: SlowTimeoutResult::Pass
+                }
+        )
+    }
+}
+
+/// The result of an attempt whose child ended so, or could not be started, with the faults at its
+/// descriptors or of its wait, by whether it left a descriptor open and what that is to mean.
+pub fn create_execution_result(
+    exit: Option<ChildExit>,
+    errors: &[ChildFdError],
+    leaked: bool,
+    leak: LeakTimeoutResult,
+) -> ExecutionResult
+    ensures { result ≡ execution_result exit errors.now leaked leak }
+{
+    let Some(exit) = exit else {
+        return ExecutionResult::ExecFail;
+    };
+    if !errors.is_empty() {
+        return ExecutionResult::ExecFail;
+    }
+    match exit {
+        ChildExit::Code(0) if leaked => ExecutionResult::Leak { result: leak },
+        ChildExit::Code(0) => ExecutionResult::Pass,
+        ChildExit::Code(code) => ExecutionResult::Fail {
+            failure_status: FailureStatus::ExitCode(code),
+            leaked,
+        },
+        ChildExit::Signal(signal) => ExecutionResult::Fail {
+            failure_status: FailureStatus::Abort(signal),
+            leaked,
+        },
     }
 }
