@@ -50,7 +50,7 @@ nothing = record {
   cancel_reason = None;
 }
 
--- whether a test that passed in the end passed only after a retry, where that counts as a failure
+-- whether a test passed only after a retry, where that counts as a failure
 abbrev pub is_flaky_failure : FlakyResult → Bool → ExecutionResult → Bool
 is_flaky_failure flakies.Fail retried last = retried && is_success last
 is_flaky_failure flakies.Pass retried last = false
@@ -69,7 +69,8 @@ last_adds retried slow (Timeout timeouts.Pass) = record nothing
     { finished_count = 1; passed = 1; passed_timed_out = 1; flaky = one_if retried }
 last_adds retried slow (Leak leaks.Fail) = record (failed_adds slow) { leaky_failed = 1 }
 last_adds retried slow (Fail status leaked) = failed_adds slow
-last_adds retried slow (Timeout timeouts.Fail) = record nothing { finished_count = 1; failed_timed_out = 1 }
+last_adds retried slow (Timeout timeouts.Fail) = record nothing
+    { finished_count = 1; failed_timed_out = 1 }
 last_adds retried slow ExecFail = record nothing { finished_count = 1; exec_failed = 1 }
 
 -- what a test adds by its last result
@@ -79,17 +80,22 @@ test_adds flaky retried slow last =
 
 -- what a finished test adds: its last attempt decides
 abbrev pub adds_of : FinishedTest → RunStats
-adds_of test = test_adds test.flaky (nat_lt 1 (length test.results)) test.slow (last_or ExecFail test.results)
+adds_of test =
+    test_adds test.flaky (nat_lt 1 (length test.results)) test.slow (last_or ExecFail test.results)
+
+-- what each finished setup script adds
+abbrev pub script_finished : RunStats
+script_finished = record nothing { setup_scripts_finished_count = 1 }
 
 -- what a finished setup script adds, by its result
 abbrev pub script_adds : ExecutionResult → RunStats
-script_adds Pass = record nothing { setup_scripts_finished_count = 1; setup_scripts_passed = 1 }
-script_adds (Leak leaks.Pass) = record nothing { setup_scripts_finished_count = 1; setup_scripts_passed = 1 }
-script_adds (Timeout timeouts.Pass) = record nothing { setup_scripts_finished_count = 1; setup_scripts_passed = 1 }
-script_adds (Leak leaks.Fail) = record nothing { setup_scripts_finished_count = 1; setup_scripts_failed = 1 }
-script_adds (Fail status leaked) = record nothing { setup_scripts_finished_count = 1; setup_scripts_failed = 1 }
-script_adds (Timeout timeouts.Fail) = record nothing { setup_scripts_finished_count = 1; setup_scripts_timed_out = 1 }
-script_adds ExecFail = record nothing { setup_scripts_finished_count = 1; setup_scripts_exec_failed = 1 }
+script_adds Pass = record script_finished { setup_scripts_passed = 1 }
+script_adds (Leak leaks.Pass) = record script_finished { setup_scripts_passed = 1 }
+script_adds (Timeout timeouts.Pass) = record script_finished { setup_scripts_passed = 1 }
+script_adds (Leak leaks.Fail) = record script_finished { setup_scripts_failed = 1 }
+script_adds (Fail status leaked) = record script_finished { setup_scripts_failed = 1 }
+script_adds (Timeout timeouts.Fail) = record script_finished { setup_scripts_timed_out = 1 }
+script_adds ExecFail = record script_finished { setup_scripts_exec_failed = 1 }
 
 -- the sum of two statistics, field by field, with the cancel reason of the first
 abbrev pub plus : RunStats → RunStats → RunStats

@@ -3,6 +3,7 @@
 //! events and the `Children` that it asks for starts. Every layer above speaks in these types.
 #![tactic(auto)]
 
+mod adds;
 mod ask;
 mod ask_list;
 mod cancel;
@@ -16,6 +17,8 @@ mod reporter;
 mod result;
 mod settings;
 mod stats;
+#[cfg(test)]
+mod tests;
 mod turn;
 
 pub use ask::{Ask, StartAsk};

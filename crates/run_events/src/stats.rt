@@ -1,25 +1,24 @@
 // Counts over the finished tests and scripts of a run.
-ghost use Rattle.std.specs.Prelude.{◌≡◌, ◌<◌, ◌^◌, ℕ, length, None};
+ghost use Rattle.std.specs.Prelude.{◌≡◌, ◌<◌, ◌^◌, length, None};
 ghost use Rattle.run_events.specs.Stats.{
   AreBelow,
   FinishedTest,
-  last_or,
   adds_of,
-  failed_adds,
-  is_flaky_failure,
-  last_adds,
   nothing,
   plus,
   script_adds,
-  test_adds,
 };
-ghost use Rattle.run_events.specs.declared.result.ExecutionResult.TheVariants.{ExecFail};
-ghost use Rattle.run_events.specs.Outcome.{failed_count, has_failed_script, has_failures, is_above_failure, ended_at, summary};
+ghost use Rattle.run_events.specs.Outcome.{
+  failed_count,
+  has_failed_script,
+  has_failures,
+  is_above_failure,
+  ended_at,
+  summary,
+};
 
-use crate::{
-    CancelReason, ExecutionResult, FinalRunStats, FlakyResult, LeakTimeoutResult, RunStep,
-    SlowTimeoutResult,
-};
+use crate::adds::{last_result, script_adds, test_adds};
+use crate::{CancelReason, ExecutionResult, FinalRunStats, FlakyResult, RunStep};
 
 /// The statistics of a run.
 #[derive(Clone, Copy, Debug, Drop, PartialEq, Eq)]
@@ -78,7 +77,8 @@ impl RunStats {
 
     /// The statistics as a run starts, with so many setup scripts and tests to run.
     pub fn started(scripts: u64, tests: u64) -> RunStats
-        ensures { result ≡ record nothing { setup_scripts_initial_count = scripts; initial_run_count = tests } }
+        ensures { result ≡ record nothing
+            { setup_scripts_initial_count = scripts; initial_run_count = tests } }
     {
         RunStats {
             setup_scripts_initial_count: scripts,
@@ -87,7 +87,7 @@ impl RunStats {
         }
     }
 
-    /// Counts a finished test by the results of its attempts, of which the last decides, and was slow or not.
+    /// Counts a finished test by the results of its attempts. The last decides, and was slow or not.
     pub fn on_test_finished(
         &mut self,
         results: &[ExecutionResult],
@@ -96,7 +96,8 @@ impl RunStats {
     )
         requires below { AreBelow (2 ^ 32) self.old }
         requires attempted { 0 < length results.now }
-        ensures { self.new ≡ plus self.old (adds_of (record { results = results.now; slow = last_slow; flaky = flaky })) }
+        ensures { self.new ≡ plus self.old
+            (adds_of (record { results = results.now; slow = last_slow; flaky = flaky })) }
     {
         let retried = results.len() > 1;
         let last = last_result(results);
@@ -193,123 +194,6 @@ impl RunStats {
             skipped: self.skipped + more.skipped,
             cancel_reason: self.cancel_reason,
         }
-    }
-}
-
-// The result of the last attempt.
-fn last_result(results: &[ExecutionResult]) -> ExecutionResult
-    ensures { result ≡ last_or ExecFail results.now }
-{
-    match results.last() {
-        Some(last) => *last,
-        None => ExecutionResult::ExecFail,
-    }
-}
-
-// What a test adds by its last result.
-fn test_adds(flaky: FlakyResult, retried: bool, slow: bool, last: ExecutionResult) -> RunStats
-    ensures counts { result ≡ test_adds flaky retried slow last }
-    ensures small { AreBelow 2 result }
-{
-    if flaky == FlakyResult::Fail && retried && last.is_success() {
-        failed_adds(slow)
-    } else {
-        last_adds(retried, slow, last)
-    }
-}
-
-// What a failed test adds.
-fn failed_adds(slow: bool) -> RunStats
-    ensures { result ≡ failed_adds slow }
-{
-    RunStats {
-        finished_count: 1,
-        failed: 1,
-        failed_slow: u64::from(slow),
-        ..RunStats::nothing()
-    }
-}
-
-// What a test adds by its last result, where that is no flaky failure.
-fn last_adds(retried: bool, slow: bool, last: ExecutionResult) -> RunStats
-    ensures counts { result ≡ last_adds retried slow last }
-    ensures small { AreBelow 2 result }
-{
-    let finished = RunStats {
-        finished_count: 1,
-        ..RunStats::nothing()
-    };
-    let passed = RunStats {
-        passed: 1,
-        flaky: u64::from(retried),
-        ..finished
-    };
-    match last {
-        ExecutionResult::Pass => RunStats {
-            passed_slow: u64::from(slow),
-            ..passed
-        },
-        ExecutionResult::Leak {
-            result: LeakTimeoutResult::Pass,
-        } => RunStats {
-            passed_slow: u64::from(slow),
-            leaky: 1,
-            ..passed
-        },
-        ExecutionResult::Timeout {
-            result: SlowTimeoutResult::Pass,
-        } => RunStats {
-            passed_timed_out: 1,
-            ..passed
-        },
-        ExecutionResult::Leak {
-            result: LeakTimeoutResult::Fail,
-        } => RunStats {
-            leaky_failed: 1,
-            ..failed_adds(slow)
-        },
-        ExecutionResult::Fail { .. } => failed_adds(slow),
-        ExecutionResult::Timeout {
-            result: SlowTimeoutResult::Fail,
-        } => RunStats {
-            failed_timed_out: 1,
-            ..finished
-        },
-        ExecutionResult::ExecFail => RunStats {
-            exec_failed: 1,
-            ..finished
-        },
-    }
-}
-
-// What a finished setup script adds.
-fn script_adds(ended: ExecutionResult) -> RunStats
-    ensures counts { result ≡ script_adds ended }
-    ensures small { AreBelow 2 result }
-{
-    let finished = RunStats {
-        setup_scripts_finished_count: 1,
-        ..RunStats::nothing()
-    };
-    match ended {
-        ExecutionResult::Timeout {
-            result: SlowTimeoutResult::Fail,
-        } => RunStats {
-            setup_scripts_timed_out: 1,
-            ..finished
-        },
-        ExecutionResult::ExecFail => RunStats {
-            setup_scripts_exec_failed: 1,
-            ..finished
-        },
-        _ if ended.is_success() => RunStats {
-            setup_scripts_passed: 1,
-            ..finished
-        },
-        _ => RunStats {
-            setup_scripts_failed: 1,
-            ..finished
-        },
     }
 }
 
