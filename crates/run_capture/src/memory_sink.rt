@@ -1,5 +1,6 @@
 // A sink into memory, some of whose writes fail.
-ghost use Rattle.std.specs.Prelude.{◌≡◌, ◌≤◌, ◌<◌, length, take, IfOk, OnErr, List, []};
+ghost use Rattle.std.specs.Prelude.{◌≡◌, ◌≤◌, ◌<◌, length, take, IfOk, OnErr, List, [], Some};
+ghost use Rattle.run_capture.specs.InMemory.{WritesAs};
 ghost use Rattle.run_capture.specs.Bytes.{Takes};
 ghost use Rattle.run_capture.specs.Faults.{CountsFault};
 
@@ -62,7 +63,15 @@ impl Sink for MemorySink {
 
     ghost faults = { λ s. s.faults };
 
-    fn write(&mut self, piece: &[u8]) -> Result<usize, Failed> {
+    fn write(&mut self, piece: &[u8]) -> Result<usize, Failed>
+        ensures within { IfOk result (λ n. n ≤ length piece.now) }
+        ensures some { IfOk result (λ n. 0 < length piece.now → 0 < n) }
+        ensures taken { IfOk result
+            (λ n. Takes (Some self.old.taken) (Some self.new.taken) (take n piece.now)) }
+        ensures err { OnErr result (self.new.taken ≡ self.old.taken) }
+        ensures fault { CountsFault self.old.faults self.new.faults result }
+        ensures writes { WritesAs self.old piece.now result self.new }
+    {
         self.writes = self.writes.saturating_add(1);
         let full = self.room == 0 && !piece.is_empty();
         if full || self.fail.as_slice().contains(&self.writes) {

@@ -1,5 +1,6 @@
 // A source over bytes in memory, some of whose reads fail.
-ghost use Rattle.std.specs.Prelude.{◌≡◌, ◌≤◌, ◌<◌, length, take, IfOk, OnErr, List, [], min};
+ghost use Rattle.std.specs.Prelude.{◌≡◌, ◌≤◌, ◌<◌, length, take, IfOk, OnErr, List, [], min, Some};
+ghost use Rattle.run_capture.specs.InMemory.{ReadsAs};
 ghost use Rattle.run_capture.specs.Bytes.{Gives, AtEnd};
 ghost use Rattle.run_capture.specs.Faults.{CountsFault};
 
@@ -62,7 +63,15 @@ impl Source for MemorySource {
 
     ghost faults = { λ s. s.faults };
 
-    fn read(&mut self, buf: &mut [u8]) -> Result<usize, Failed> {
+    fn read(&mut self, buf: &mut [u8]) -> Result<usize, Failed>
+        ensures within { IfOk result (λ n. n ≤ length buf.new) }
+        ensures given { IfOk result
+            (λ n. Gives (Some self.old.left) (Some self.new.left) (take n buf.new)) }
+        ensures end { IfOk result (λ n. 0 < length buf.new → n ≡ 0 → AtEnd (Some self.new.left)) }
+        ensures err { OnErr result (self.new.left ≡ self.old.left) }
+        ensures fault { CountsFault self.old.faults self.new.faults result }
+        ensures reads { ReadsAs self.old (length buf.old) result self.new }
+    {
         self.reads = self.reads.saturating_add(1);
         if self.fail.as_slice().contains(&self.reads) {
             self.faults = self.faults.saturating_add(1);

@@ -106,7 +106,7 @@ pub last_or_read : {X : Type 0} (other : X) (xs : List X) (y : X)
 last_or_read other [] y read = cc
 last_or_read other (x ∷ xs) y read = last_or_at other x y xs (length (x ∷ xs) - 1) (omega arith) read
 
--- finished tests leave the cancel reason and the number of tests as they were
+-- finished tests leave the cancel reason as it was
 pub total-cancel_reason : (start : RunStats) (tests : List FinishedTest) → (total start tests).cancel_reason ≡ start.cancel_reason
 unfolding total_by
 total-cancel_reason start tests = refl

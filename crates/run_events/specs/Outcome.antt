@@ -16,7 +16,8 @@ failed_count s = min (s.failed + s.exec_failed + s.failed_timed_out) (2 ^ 64 - 1
 
 -- whether a setup script failed
 abbrev pub has_failed_script : RunStats → Bool
-has_failed_script s = nat_lt 0 (s.setup_scripts_failed + s.setup_scripts_exec_failed + s.setup_scripts_timed_out)
+has_failed_script s =
+    nat_lt 0 (s.setup_scripts_failed + s.setup_scripts_exec_failed + s.setup_scripts_timed_out)
 
 -- whether a test or a setup script failed
 abbrev pub has_failures : RunStats → Bool
@@ -37,7 +38,8 @@ ended_at step reason = if is_above_failure reason then finals.Cancelled reason s
 unfoldable pub summary : RunStats → FinalRunStats
 summary s =
     if has_failed_script s then ended_at steps.SetupScript s.cancel_reason
-    else if nat_lt s.setup_scripts_finished_count s.setup_scripts_initial_count then finals.Cancelled s.cancel_reason steps.SetupScript
+    else if nat_lt s.setup_scripts_finished_count s.setup_scripts_initial_count
+    then finals.Cancelled s.cancel_reason steps.SetupScript
     else if nat_lt 0 (failed_count s) then ended_at steps.Test s.cancel_reason
     else if nat_lt s.finished_count s.initial_run_count then finals.Cancelled s.cancel_reason steps.Test
     else if s.finished_count == 0 then finals.NoTestsRun

@@ -27,8 +27,9 @@ exit_result (exits.Code (pos zero)) false leak = Pass
 exit_result (exits.Code code) leaked leak = Fail (ExitCode code) leaked
 exit_result (exits.Signal signal) leaked leak = Fail (Abort signal) leaked
 
--- the result of an attempt: without an end, or with a fault at its descriptors or its wait, it failed to run
-abbrev pub execution_result : Option ChildExit → List ChildFdError → Bool → LeakTimeoutResult → ExecutionResult
+-- the result of an attempt: with no end, or a fault at its descriptors or its wait, it failed to run
+abbrev pub execution_result : Option ChildExit → List ChildFdError → Bool → LeakTimeoutResult
+    → ExecutionResult
 execution_result None errors leaked leak = ExecFail
 execution_result (Some exit) (error ∷ errors) leaked leak = ExecFail
 execution_result (Some exit) [] leaked leak = exit_result exit leaked leak

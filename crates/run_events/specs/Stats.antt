@@ -9,7 +9,7 @@ use Rattle.run_events.specs.declared.result.FlakyResult.{FlakyResult}
 use Rattle.run_events.specs.declared.result.FlakyResult.TheVariants as flakies
 use Rattle.run_events.specs.Result.{is_success}
 
--- a test that has finished: the results of its attempts, whether the last was slow, and its flaky setting
+-- a finished test: the results of its attempts, whether the last was slow, and its flaky setting
 pub record FinishedTest : Type 0 where
   pub results : List ExecutionResult
   pub slow : Bool
@@ -59,7 +59,7 @@ is_flaky_failure flakies.Pass retried last = false
 abbrev pub failed_adds : Bool → RunStats
 failed_adds slow = record nothing { finished_count = 1; failed = 1; failed_slow = one_if slow }
 
--- what a test adds by its last result, where no flaky failure, and by whether it was retried and slow
+-- what a test that is no flaky failure adds, by whether it was retried and slow, and its last result
 abbrev pub last_adds : Bool → Bool → ExecutionResult → RunStats
 last_adds retried slow Pass = record nothing
     { finished_count = 1; passed = 1; passed_slow = one_if slow; flaky = one_if retried }

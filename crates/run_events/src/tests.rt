@@ -7,7 +7,6 @@ use crate::{
 };
 use run_capture::{CaptureStrategy, Duplicate, List, Mem, Text};
 use std::alloc::Global;
-use std::test::Fail;
 use uuid::Uuid;
 
 fn test_id(alloc: Global) -> Mem<TestInstanceId> {
@@ -69,73 +68,41 @@ fn finished(alloc: Global) -> Mem<ReporterEvent> {
     }))
 }
 
-#[test]
-fn copies_the_plan(rt: HostRuntime) -> Result<(), Fail> {
-    let alloc = rt.alloc();
+fn settings(alloc: Global) -> Mem<Settings> {
     let mut tests = List::new();
     let test = PlanTest {
         id: test_id(alloc)?,
         command: words(alloc)?,
     };
-    tests.push(alloc, test.copy(alloc)?)?;
-    let settings = Settings {
+    tests.push(alloc, test)?;
+    Ok(Settings {
         plan: Plan {
             run_id: Uuid::nil(),
             tests,
         },
         capture: CaptureStrategy::None,
         threads: 2,
-    };
-    let copy = settings.copy(alloc)?;
-    assert_eq!(rt; copy.threads, 2);
-    assert_eq!(rt; copy.plan.tests.len(), 1);
-    for copied in copy.plan.tests.as_slice() {
-        assert!(rt; copied.id == test.id);
-        assert_eq!(rt; copied.command.len(), 1);
-    }
-    let turn = Turn::Exit {
-        unit: 3,
-        exit: ChildExit::Code(0),
-    };
-    assert!(rt; turn.copy(alloc)? == turn);
-    Ok(())
+    })
 }
 
-#[test]
-fn copies_messages(rt: HostRuntime) -> Result<(), Fail> {
-    let alloc = rt.alloc();
-    let start = Message::Start {
+fn start(alloc: Global) -> Mem<Message> {
+    Ok(Message::Start {
         unit: 1,
         test: test_id(alloc)?,
         command: words(alloc)?,
         slot: TestSlotAssignment { global: 4 },
-    };
-    let copied = match start.copy(alloc)? {
-        Message::Start { slot, .. } => slot.global,
-        Message::Finish { .. } => 0,
-    };
-    assert_eq!(rt; copied, 4);
-    let finish = Message::Finish {
+    })
+}
+
+fn finish(alloc: Global) -> Mem<Message> {
+    Ok(Message::Finish {
         unit: 1,
         test: test_id(alloc)?,
         statuses: passed_once(alloc)?,
-    };
-    let copied = match finish.copy(alloc)? {
-        Message::Start { .. } => 0,
-        Message::Finish { statuses, .. } => statuses.len(),
-    };
-    assert_eq!(rt; copied, 1);
-    Ok(())
+    })
 }
 
-#[test]
-fn keeps_events_and_asks(rt: HostRuntime) -> Result<(), Fail> {
-    let alloc = rt.alloc();
-    let mut log = EventLog::new();
-    assert!(rt; log.report(alloc, &started(alloc)?).is_ok());
-    assert!(rt; log.report(alloc, &finished(alloc)?).is_ok());
-    assert_eq!(rt; log.events().len(), 2);
-    let mut asks = AskList::new();
+fn variables(alloc: Global) -> Mem<List<(Text, Text)>> {
     let mut env = List::new();
     env.push(
         alloc,
@@ -144,21 +111,84 @@ fn keeps_events_and_asks(rt: HostRuntime) -> Result<(), Fail> {
             Text::from_str(alloc, "1")?,
         ),
     )?;
-    let ask = Ask::Start(StartAsk {
+    Ok(env)
+}
+
+fn start_ask(alloc: Global) -> Mem<Ask> {
+    Ok(Ask::Start(StartAsk {
         unit: 2,
         attempt: 1,
         command: words(alloc)?,
-        env,
+        env: variables(alloc)?,
         group: true,
         stdin: false,
-    });
-    asks.ask(alloc, 9, &ask)?;
-    for (turn, Ask::Start(asked)) in asks.asks() {
-        assert_eq!(rt; *turn, 9);
-        assert_eq!(rt; asked.env.len(), 1);
+    }))
+}
+
+// How many tests a copy of the settings has.
+fn copied_tests(alloc: Global) -> Mem<usize> {
+    let settings = settings(alloc)?;
+    Ok(settings.copy(alloc)?.plan.tests.len())
+}
+
+// Which slot the copy of a start has.
+fn copied_slot(alloc: Global) -> Mem<Option<u32>> {
+    let start = start(alloc)?;
+    match start.copy(alloc)? {
+        Message::Start { slot, .. } => Ok(Some(slot.global)),
+        Message::Finish { .. } => Ok(None),
     }
-    assert_eq!(rt; asks.asks().len(), 1);
-    Ok(())
+}
+
+// How many attempts the copy of a finish has.
+fn copied_attempts(alloc: Global) -> Mem<Option<usize>> {
+    let finish = finish(alloc)?;
+    match finish.copy(alloc)? {
+        Message::Start { .. } => Ok(None),
+        Message::Finish { statuses, .. } => Ok(Some(statuses.len())),
+    }
+}
+
+// How many events a log keeps of two that it is told.
+fn kept_events(alloc: Global) -> Mem<usize> {
+    let mut log = EventLog::new();
+    let event = started(alloc)?;
+    let told = log.report(alloc, &event).is_ok();
+    let event = finished(alloc)?;
+    let told = log.report(alloc, &event).is_ok() && told;
+    Ok(if told { log.events().len() } else { 0 })
+}
+
+// The turn with which a list of asks keeps one ask.
+fn kept_turn(alloc: Global) -> Mem<Option<u64>> {
+    let mut asks = AskList::new();
+    let ask = start_ask(alloc)?;
+    asks.ask(alloc, 9, &ask)?;
+    Ok(match asks.asks() {
+        [(turn, Ask::Start(_))] => Some(*turn),
+        _ => None,
+    })
+}
+
+#[test]
+fn copies_and_keeps(rt: HostRuntime) {
+    let alloc = rt.alloc();
+    assert_eq!(rt; copied_tests(alloc), Ok(1));
+    assert_eq!(rt; copied_slot(alloc), Ok(Some(4)));
+    assert_eq!(rt; copied_attempts(alloc), Ok(Some(1)));
+    assert_eq!(rt; kept_events(alloc), Ok(2));
+    assert_eq!(rt; kept_turn(alloc), Ok(Some(9)));
+    let turn = Turn::Exit {
+        unit: 3,
+        exit: ChildExit::Code(0),
+    };
+    assert_eq!(rt;
+        turn.copy(alloc),
+        Ok(Turn::Exit {
+            unit: 3,
+            exit: ChildExit::Code(0)
+        })
+    );
 }
 
 #[test]
