@@ -1,3 +1,4 @@
 pub mod SlotLemmas
 pub mod AdmitLemmas
 pub mod Fields
+pub mod Same
