@@ -1,5 +1,5 @@
 -- One more event told after others.
-use Rattle.std.proofs.Common.{refl, sym, ap, ◌∙◌, ◌≡◌, ℕ, List, [], ◌∷◌, ◌++◌, append_assoc, Option}
+use Rattle.std.proofs.Common.{refl, sym, ap, ◌∙◌, ℕ, List, [], ◌∷◌, ◌++◌, append_assoc, Option}
 use Rattle.std.proofs.lemmas.List.{append-nil}
 use Rattle.run_capture.proofs.BytesLemmas.{takes_both}
 use Rattle.run_capture.specs.Bytes.{Takes}
@@ -11,9 +11,13 @@ lines_more : {E : Type 0} (xs : List (ReporterEvent × Option E)) (event : Repor
     → AreLines xs bytes → IsLine event error line → AreLines (xs ++ (event, error) ∷ []) (bytes ++ line)
 lines_more [] event error bytes line none last =
     (line, [], last, refl, ap (λ b. b ++ line) none ∙ sym (append-nil line))
-lines_more (x ∷ xs) event error bytes line some last =
-    (some.0, some.1 ++ line, some.2, lines_more xs event error some.1 line some.3 last,
-        ap (λ b. b ++ line) some.4 ∙ append_assoc some.0 some.1 line)
+lines_more (x ∷ xs) event error bytes line some last = (
+  some.0,
+  some.1 ++ line,
+  some.2,
+  lines_more xs event error some.1 line some.3 last,
+  ap (λ b. b ++ line) some.4 ∙ append_assoc some.0 some.1 line,
+)
 
 -- what was told, and one more event whose line the sink took
 pub took_more : {E : Type 0} (before between now : Option (List ℕ)) (xs : List (ReporterEvent × Option E))

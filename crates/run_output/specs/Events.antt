@@ -34,7 +34,8 @@ run_started_fields run_id tests =
     ∷ []
 
 -- a test started
-unfoldable pub test_started_fields : TestInstanceId → List (List ℕ) → TestSlotAssignment → ℕ → RunStats → List (List ℕ × Option Data)
+unfoldable pub test_started_fields : TestInstanceId → List (List ℕ) → TestSlotAssignment → ℕ → RunStats
+    → List (List ℕ × Option Data)
 test_started_fields test command slot running stats =
     (codes "event", Some (string (codes "test-started")))
     ∷ (codes "command", Some (texts command))
@@ -45,7 +46,8 @@ test_started_fields test command slot running stats =
     ∷ []
 
 -- a test finished
-unfoldable pub test_finished_fields : TestInstanceId → List ExecuteStatus → ℕ → RunStats → List (List ℕ × Option Data)
+unfoldable pub test_finished_fields : TestInstanceId → List ExecuteStatus → ℕ → RunStats
+    → List (List ℕ × Option Data)
 test_finished_fields test statuses running stats =
     (codes "event", Some (string (codes "test-finished")))
     ∷ (codes "running", Some (count running))
@@ -64,8 +66,10 @@ run_finished_fields stats =
 -- the fields of each kind; the unit is not printed
 abbrev pub kind_fields : TestEventKind → List (List ℕ × Option Data)
 kind_fields (RunStarted run_id tests) = run_started_fields run_id tests
-kind_fields (TestStarted unit test command slot running stats) = test_started_fields test command slot running stats
-kind_fields (TestFinished unit test statuses running stats) = test_finished_fields test statuses running stats
+kind_fields (TestStarted unit test command slot running stats) =
+    test_started_fields test command slot running stats
+kind_fields (TestFinished unit test statuses running stats) =
+    test_finished_fields test statuses running stats
 kind_fields (RunFinished stats) = run_finished_fields stats
 
 -- the fields of a test's event

@@ -1,4 +1,5 @@
 pub mod Fields
+pub mod Seen
 pub mod Stats
 pub mod Results
 pub mod Events

@@ -21,8 +21,10 @@ unfoldable pub result_text : ExecutionResult → List ℕ
 result_text Pass = codes "pass"
 result_text (Leak leak.Pass) = codes "leak-pass"
 result_text (Leak leak.Fail) = codes "leak-fail"
-result_text (Fail (ExitCode code) leaked) = codes "fail code " ++ (signed_decimal code ++ leaked_text leaked)
-result_text (Fail (Abort signal) leaked) = codes "fail signal " ++ (signed_decimal signal ++ leaked_text leaked)
+result_text (Fail (ExitCode code) leaked) =
+    codes "fail code " ++ (signed_decimal code ++ leaked_text leaked)
+result_text (Fail (Abort signal) leaked) =
+    codes "fail signal " ++ (signed_decimal signal ++ leaked_text leaked)
 result_text ExecFail = codes "exec-fail"
 result_text (Timeout slow.Pass) = codes "timeout-pass"
 result_text (Timeout slow.Fail) = codes "timeout-fail"

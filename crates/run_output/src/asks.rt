@@ -1,6 +1,7 @@
 // The lines of asks.
 ghost use Rattle.std.specs.Prelude.{◌≡◌, map, option_map, IfOk};
 ghost use Rattle.serde_json.specs.View.{view};
+ghost use Rattle.run_output.specs.Seen.{seen};
 ghost use Rattle.run_output.specs.Asks.{env_data, start_fields, ask_text};
 
 use crate::fields::{Fields, object_line, pair_value, texts_value};
@@ -21,17 +22,21 @@ fn env_value(alloc: Global, env: &[(Text, Text)]) -> Mem<Value>
 
 #[tactic(auto, unfolding(crate::specs::Asks::start_fields))]
 fn start_parts(alloc: Global, turn: u64, start: &StartAsk) -> Mem<Fields>
-    ensures { IfOk result (λ v. map (λ p. (p.0.now, option_map view p.1)) v.items ≡ start_fields turn start.now) }
+    ensures { IfOk result (λ v. seen v.items ≡ start_fields turn start.now) }
 {
     Ok(vec![in alloc;
         ("ask", Some(Value::try_from_str(alloc, "start")?)),
         ("attempt", Some(Value::from(start.attempt))),
-        ("command", Some(texts_value(alloc, start.command.as_slice())?)),
+        (
+            "command",
+            Some(texts_value(alloc, start.command.as_slice())?)
+        ),
         ("env", Some(env_value(alloc, start.env.as_slice())?)),
         ("group", Some(Value::from(start.group))),
         ("stdin", Some(Value::from(start.stdin))),
         ("turn", Some(Value::from(turn))),
-        ("unit", Some(Value::from(start.unit)))]?)
+        ("unit", Some(Value::from(start.unit))),
+    ]?)
 }
 
 /// The line of an ask under the turn that asked it, without its line feed.

@@ -1,6 +1,7 @@
 // The lines of faults, and their exit statuses.
 ghost use Rattle.std.specs.Prelude.{◌≡◌, map, option_map, IfOk};
 ghost use Rattle.serde_json.specs.View.{view};
+ghost use Rattle.run_output.specs.Seen.{seen};
 ghost use Rattle.run_output.specs.Faults.{fault_word, fault_status, line_at_fault, turn_at_fault, fault_fields, fault_text};
 
 use crate::Fault;
@@ -63,13 +64,17 @@ fn turn_field(fault: Fault) -> Option<Value>
 
 #[tactic(auto, unfolding(crate::specs::Faults::fault_fields))]
 fn fault_parts(alloc: Global, fault: Fault) -> Mem<Fields>
-    ensures { IfOk result (λ v. map (λ p. (p.0.now, option_map view p.1)) v.items ≡ fault_fields fault) }
+    ensures { IfOk result (λ v. seen v.items ≡ fault_fields fault) }
 {
     Ok(vec![in alloc;
-        ("fault", Some(Value::try_from_str(alloc, fault_name(fault))?)),
+        (
+            "fault",
+            Some(Value::try_from_str(alloc, fault_name(fault))?)
+        ),
         ("line", line_field(fault)),
         ("status", Some(Value::from(fault.status()))),
-        ("turn", turn_field(fault))]?)
+        ("turn", turn_field(fault)),
+    ]?)
 }
 
 /// The line of a fault, without its line feed.

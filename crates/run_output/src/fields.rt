@@ -3,6 +3,7 @@ ghost use Rattle.std.specs.Prelude.{◌≡◌, [], ◌∷◌, map, option_map, f
 ghost use Rattle.serde_json.specs.Data.{string};
 ghost use Rattle.serde_json.specs.View.{view};
 ghost use Rattle.serde_json.specs.Written.{has_float};
+ghost use Rattle.run_output.specs.Seen.{seen};
 ghost use Rattle.run_output.specs.Fields.{object_of, object_text, line_of, texts, nonzero};
 
 use run_capture::{Mem, Text};
@@ -14,8 +15,7 @@ pub(crate) type Fields = Vec<(&'static str, Option<Value>)>;
 
 /// The object of some fields.
 pub(crate) fn object_value(alloc: Global, fields: Fields) -> Mem<Value>
-    ensures { IfOk result
-        (λ v. view v ≡ object_of (map (λ p. (p.0.now, option_map view p.1)) fields.entry.items)) }
+    ensures { IfOk result (λ v. view v ≡ object_of (seen fields.entry.items)) }
 {
     let mut members = Map::new(alloc);
     for (key, field) in fields {
@@ -28,9 +28,8 @@ pub(crate) fn object_value(alloc: Global, fields: Fields) -> Mem<Value>
 
 /// The line of an object with no float.
 pub(crate) fn object_line(alloc: Global, fields: Fields) -> Mem<Text>
-    ensures { IfOk result
-        (λ t. has_float (object_of (map (λ p. (p.0.now, option_map view p.1)) fields.entry.items)) ≡ false
-        → t ≡ object_text (map (λ p. (p.0.now, option_map view p.1)) fields.entry.items)) }
+    ensures { IfOk result (λ t. has_float (object_of (seen fields.entry.items)) ≡ false
+        → t ≡ object_text (seen fields.entry.items)) }
 {
     let value = object_value(alloc, fields)?;
     Ok(Text::from_string(value.to_string(alloc)?))

@@ -10,7 +10,8 @@ use run_events::{ReportFault, Reporter, ReporterEvent};
 use std::alloc::Global;
 use std::marker::{Brand, PhantomData};
 
-/// Where a sink stood when its reporter was made: for clauses alone. A call at `Brand` picks it.
+/// Where a sink stood when its reporter was made: for clauses alone. Code that is generic in it makes
+/// the reporter, and is called at `Brand`, where the call's proof picks both.
 pub trait Origin {
     /// The bytes that the sink had taken, where it tells them.
     ghost taken_before: { Option (List ℕ) };
@@ -27,7 +28,8 @@ impl Origin for Brand {
     ghost faults_before = { 0 };
 }
 
-/// Writes each event that it is told to its sink, as a line. It counts the events that it refused.
+/// Writes each event that it is told to its sink, as a line. Where the sink fails it refuses the event,
+/// of whose line a front part may have gone out, and counts it.
 pub struct LineReporter<K: Sink, O: Origin> {
     sink: K,
     refusals: u64,
@@ -56,9 +58,14 @@ impl<K: Sink, O: Origin> LineReporter<K, O> {
     pub fn into_sink(self) -> K
         ensures told { (answers : _) → ⟦<LineReporter<K, O> as Reporter>⟧.told self answers
             → TookLines O.taken_before (K.taken result) answers }
-        ensures faults { CountsSince O.faults_before (K.faults result) (⟦<LineReporter<K, O> as Reporter>⟧.faults self) }
+        ensures faults { CountsSince O.faults_before (K.faults result)
+            (⟦<LineReporter<K, O> as Reporter>⟧.faults self) }
     {
-        let LineReporter { sink, refusals: _, origin: _ } = self;
+        let LineReporter {
+            sink,
+            refusals: _,
+            origin: _,
+        } = self;
         sink
     }
 }
@@ -72,11 +79,7 @@ impl<K: Sink, O: Origin> Reporter for LineReporter<K, O> {
 
     ghost faults = { λ r. r.refusals };
 
-    fn report(
-        &mut self,
-        alloc: Global,
-        event: &ReporterEvent,
-    ) -> Result<(), ReportFault<Failed>> {
+    fn report(&mut self, alloc: Global, event: &ReporterEvent) -> Result<(), ReportFault<Failed>> {
         let Ok(line) = whole_line(alloc, event) else {
             return Err(ReportFault::OutOfMemory);
         };

@@ -1,6 +1,7 @@
 // The lines of outcomes.
 ghost use Rattle.std.specs.Prelude.{◌≡◌, map, option_map, IfOk};
 ghost use Rattle.serde_json.specs.View.{view};
+ghost use Rattle.run_output.specs.Seen.{seen};
 ghost use Rattle.run_output.specs.Outcomes.{step_word, outcome_fields, outcome_text};
 
 use crate::fields::{Fields, object_line};
@@ -21,19 +22,23 @@ fn step_name(step: RunStep) -> &'static str
 
 #[tactic(auto, unfolding(crate::specs::Outcomes::outcome_fields))]
 fn outcome_parts(alloc: Global, outcome: RunOutcome) -> Mem<Fields>
-    ensures { IfOk result (λ v. map (λ p. (p.0.now, option_map view p.1)) v.items ≡ outcome_fields outcome) }
+    ensures { IfOk result (λ v. seen v.items ≡ outcome_fields outcome) }
 {
     Ok(match outcome {
         RunOutcome::Success => vec![in alloc;
-            ("outcome", Some(Value::try_from_str(alloc, "success")?))]?,
+            ("outcome", Some(Value::try_from_str(alloc, "success")?)),
+        ]?,
         RunOutcome::NoTestsRun => vec![in alloc;
-            ("outcome", Some(Value::try_from_str(alloc, "no-tests-run")?))]?,
+            ("outcome", Some(Value::try_from_str(alloc, "no-tests-run")?)),
+        ]?,
         RunOutcome::Failed { step } => vec![in alloc;
             ("outcome", Some(Value::try_from_str(alloc, "failed")?)),
-            ("step", Some(Value::try_from_str(alloc, step_name(step))?))]?,
+            ("step", Some(Value::try_from_str(alloc, step_name(step))?)),
+        ]?,
         RunOutcome::Cancelled { step } => vec![in alloc;
             ("outcome", Some(Value::try_from_str(alloc, "cancelled")?)),
-            ("step", Some(Value::try_from_str(alloc, step_name(step))?))]?,
+            ("step", Some(Value::try_from_str(alloc, step_name(step))?)),
+        ]?,
     })
 }
 

@@ -1,6 +1,7 @@
 // The attempts of a test as objects.
 ghost use Rattle.std.specs.Prelude.{◌≡◌, map, option_map, string_bytes, IfOk};
 ghost use Rattle.serde_json.specs.View.{view};
+ghost use Rattle.run_output.specs.Seen.{seen};
 ghost use Rattle.run_output.specs.Fields.{object_of};
 ghost use Rattle.run_output.specs.Results.{leaked_text, result_text, status_fields, statuses_data};
 
@@ -24,34 +25,52 @@ fn result_string(alloc: Global, outcome: ExecutionResult) -> Mem<String>
 {
     match outcome {
         ExecutionResult::Pass => Ok(String::from_str(alloc, "pass")?),
-        ExecutionResult::Leak { result: LeakTimeoutResult::Pass } => Ok(String::from_str(alloc, "leak-pass")?),
-        ExecutionResult::Leak { result: LeakTimeoutResult::Fail } => Ok(String::from_str(alloc, "leak-fail")?),
-        ExecutionResult::Fail { failure_status: FailureStatus::ExitCode(code), leaked } => {
+        ExecutionResult::Leak {
+            result: LeakTimeoutResult::Pass,
+        } => Ok(String::from_str(alloc, "leak-pass")?),
+        ExecutionResult::Leak {
+            result: LeakTimeoutResult::Fail,
+        } => Ok(String::from_str(alloc, "leak-fail")?),
+        ExecutionResult::Fail {
+            failure_status: FailureStatus::ExitCode(code),
+            leaked,
+        } => {
             let end = leaked_word(leaked);
             Ok(format!(in alloc; "fail code {code}{end}")?)
         }
-        ExecutionResult::Fail { failure_status: FailureStatus::Abort(signal), leaked } => {
+        ExecutionResult::Fail {
+            failure_status: FailureStatus::Abort(signal),
+            leaked,
+        } => {
             let end = leaked_word(leaked);
             Ok(format!(in alloc; "fail signal {signal}{end}")?)
         }
         ExecutionResult::ExecFail => Ok(String::from_str(alloc, "exec-fail")?),
-        ExecutionResult::Timeout { result: SlowTimeoutResult::Pass } => Ok(String::from_str(alloc, "timeout-pass")?),
-        ExecutionResult::Timeout { result: SlowTimeoutResult::Fail } => Ok(String::from_str(alloc, "timeout-fail")?),
+        ExecutionResult::Timeout {
+            result: SlowTimeoutResult::Pass,
+        } => Ok(String::from_str(alloc, "timeout-pass")?),
+        ExecutionResult::Timeout {
+            result: SlowTimeoutResult::Fail,
+        } => Ok(String::from_str(alloc, "timeout-fail")?),
     }
 }
 
 #[tactic(auto, unfolding(crate::specs::Results::status_fields))]
 fn status_parts(alloc: Global, status: &ExecuteStatus) -> Mem<Fields>
-    ensures { IfOk result (λ v. map (λ p. (p.0.now, option_map view p.1)) v.items ≡ status_fields status.now) }
+    ensures { IfOk result (λ v. seen v.items ≡ status_fields status.now) }
 {
     Ok(vec![in alloc;
         ("attempt", Some(Value::from(status.attempt))),
         ("attempts", Some(Value::from(status.attempts))),
         ("delay", Some(Value::from(status.delay))),
-        ("result", Some(Value::from(result_string(alloc, status.result)?))),
+        (
+            "result",
+            Some(Value::from(result_string(alloc, status.result)?))
+        ),
         ("slow", Some(Value::from(status.slow))),
         ("start", Some(Value::from(status.start))),
-        ("time", Some(Value::from(status.time)))]?)
+        ("time", Some(Value::from(status.time))),
+    ]?)
 }
 
 fn status_value(alloc: Global, status: &ExecuteStatus) -> Mem<Value>

@@ -2,6 +2,7 @@
 ghost use Rattle.std.specs.Prelude.{◌≡◌, map, option_map, IfOk};
 ghost use Rattle.serde_json.specs.Data.{string};
 ghost use Rattle.serde_json.specs.View.{view};
+ghost use Rattle.run_output.specs.Seen.{seen};
 ghost use Rattle.run_output.specs.Stats.{reason_word, script_fields, test_fields, stats_data};
 
 use crate::fields::{Fields, nonzero_field, object_value};
@@ -39,23 +40,42 @@ fn reason_field(alloc: Global, why: Option<CancelReason>) -> Mem<Option<Value>>
 // The counts of the run and of its setup scripts.
 #[tactic(auto, unfolding(crate::specs::Stats::script_fields))]
 fn script_counts(alloc: Global, stats: &RunStats) -> Mem<Fields>
-    ensures { IfOk result (λ v. map (λ p. (p.0.now, option_map view p.1)) v.items ≡ script_fields stats.now) }
+    ensures { IfOk result (λ v. seen v.items ≡ script_fields stats.now) }
 {
     Ok(vec![in alloc;
         ("initial_run_count", nonzero_field(stats.initial_run_count)),
         ("finished_count", nonzero_field(stats.finished_count)),
-        ("setup_scripts_initial_count", nonzero_field(stats.setup_scripts_initial_count)),
-        ("setup_scripts_finished_count", nonzero_field(stats.setup_scripts_finished_count)),
-        ("setup_scripts_passed", nonzero_field(stats.setup_scripts_passed)),
-        ("setup_scripts_failed", nonzero_field(stats.setup_scripts_failed)),
-        ("setup_scripts_exec_failed", nonzero_field(stats.setup_scripts_exec_failed)),
-        ("setup_scripts_timed_out", nonzero_field(stats.setup_scripts_timed_out))]?)
+        (
+            "setup_scripts_initial_count",
+            nonzero_field(stats.setup_scripts_initial_count)
+        ),
+        (
+            "setup_scripts_finished_count",
+            nonzero_field(stats.setup_scripts_finished_count)
+        ),
+        (
+            "setup_scripts_passed",
+            nonzero_field(stats.setup_scripts_passed)
+        ),
+        (
+            "setup_scripts_failed",
+            nonzero_field(stats.setup_scripts_failed)
+        ),
+        (
+            "setup_scripts_exec_failed",
+            nonzero_field(stats.setup_scripts_exec_failed)
+        ),
+        (
+            "setup_scripts_timed_out",
+            nonzero_field(stats.setup_scripts_timed_out)
+        ),
+    ]?)
 }
 
 // The counts of its tests, and why it is cancelled.
 #[tactic(auto, unfolding(crate::specs::Stats::test_fields))]
 fn test_counts(alloc: Global, stats: &RunStats) -> Mem<Fields>
-    ensures { IfOk result (λ v. map (λ p. (p.0.now, option_map view p.1)) v.items ≡ test_fields stats.now) }
+    ensures { IfOk result (λ v. seen v.items ≡ test_fields stats.now) }
 {
     Ok(vec![in alloc;
         ("passed", nonzero_field(stats.passed)),
@@ -69,7 +89,8 @@ fn test_counts(alloc: Global, stats: &RunStats) -> Mem<Fields>
         ("leaky_failed", nonzero_field(stats.leaky_failed)),
         ("exec_failed", nonzero_field(stats.exec_failed)),
         ("skipped", nonzero_field(stats.skipped)),
-        ("cancel_reason", reason_field(alloc, stats.cancel_reason)?)]?)
+        ("cancel_reason", reason_field(alloc, stats.cancel_reason)?),
+    ]?)
 }
 
 /// The statistics, each count left out where it is 0.

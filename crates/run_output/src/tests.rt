@@ -134,7 +134,11 @@ fn test_started(alloc: Global) -> Mem<ReporterEvent> {
     }))
 }
 
-fn test_finished(alloc: Global, first: ExecutionResult, more: Option<ExecutionResult>) -> Mem<ReporterEvent> {
+fn test_finished(
+    alloc: Global,
+    first: ExecutionResult,
+    more: Option<ExecutionResult>,
+) -> Mem<ReporterEvent> {
     let mut statuses = List::new();
     statuses.push(alloc, status(first))?;
     if let Some(second) = more {
@@ -159,7 +163,10 @@ fn run_finished() -> ReporterEvent {
 
 fn start(alloc: Global) -> Mem<Ask> {
     let mut env = List::new();
-    env.push(alloc, (Text::from_str(alloc, "A")?, Text::from_str(alloc, "b")?))?;
+    env.push(
+        alloc,
+        (Text::from_str(alloc, "A")?, Text::from_str(alloc, "b")?),
+    )?;
     Ok(Ask::Start(StartAsk {
         unit: 0,
         attempt: 1,
@@ -211,7 +218,12 @@ fn lines(rt: HostRuntime) -> Result<(), Fail> {
             r#"{"outcome":"success"}"#,
         ),
         (
-            outcome_line(alloc, RunOutcome::Failed { step: RunStep::Test })?,
+            outcome_line(
+                alloc,
+                RunOutcome::Failed {
+                    step: RunStep::Test,
+                },
+            )?,
             r#"{"outcome":"failed","step":"test"}"#,
         ),
         (
