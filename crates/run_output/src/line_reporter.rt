@@ -79,7 +79,13 @@ impl<K: Sink, O: Origin> Reporter for LineReporter<K, O> {
 
     ghost faults = { λ r. r.refusals };
 
-    fn report(&mut self, alloc: Global, event: &ReporterEvent) -> Result<(), ReportFault<Failed>> {
+    fn report(&mut self, alloc: Global, event: &ReporterEvent) -> Result<(), ReportFault<Failed>>
+        ensures told { Adds (λ r answers. TookLines O.taken_before (K.taken r.sink) answers)
+            self.old self.new (answered event.now result) }
+        ensures fault { CountsRefusal self.old.refusals self.new.refusals result }
+        // It refuses an event only where the sink failed.
+        ensures cause { CountsRefusal (K.faults self.old.sink) (K.faults self.new.sink) result }
+    {
         let Ok(line) = whole_line(alloc, event) else {
             return Err(ReportFault::OutOfMemory);
         };
