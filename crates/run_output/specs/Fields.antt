@@ -1,0 +1,40 @@
+-- A line of output: an object of optional fields, as text with no space and with its keys in byte order.
+use Rattle.std.specs.Prelude.{ℕ, zero, suc, List, [], ◌∷◌, ◌++◌, Option, Some, None, map}
+use Rattle.serde_json.specs.Data.{Data, unsigned, number, string, array, object, Members, no_members, put}
+use Rattle.serde_json.specs.View.{items_of}
+use Rattle.serde_json.specs.Written.{compact_text}
+
+-- a member is added where there is a value
+abbrev pub put_some : List ℕ → Option Data → Members → Members
+put_some key None members = members
+put_some key (Some value) members = put key value members
+
+-- each field in order
+abbrev pub put_all : List (List ℕ × Option Data) → Members → Members
+put_all [] members = members
+put_all (field ∷ fields) members = put_all fields (put_some field.0 field.1 members)
+
+-- the object of the fields that have a value
+abbrev pub object_of : List (List ℕ × Option Data) → Data
+object_of fields = object (put_all fields no_members)
+
+-- its text
+abbrev pub object_text : List (List ℕ × Option Data) → List ℕ
+object_text fields = compact_text (object_of fields)
+
+-- a number
+abbrev pub count : ℕ → Data
+count n = number (unsigned n)
+
+-- a number that is left out where it is 0
+abbrev pub nonzero : ℕ → Option Data
+nonzero zero = None
+nonzero (suc n) = Some (number (unsigned (suc n)))
+
+-- an array of texts
+abbrev pub texts : List (List ℕ) → Data
+texts list = array (items_of (map string list))
+
+-- a line, with the line feed that ends it
+abbrev pub line_of : List ℕ → List ℕ
+line_of text = text ++ 10 ∷ []

@@ -1,0 +1,10 @@
+pub mod Fields
+pub mod Seen
+pub mod Stats
+pub mod Results
+pub mod Events
+pub mod Asks
+pub mod Outcomes
+pub mod Faults
+pub mod Told
+pub mod Refusals
