@@ -37,7 +37,7 @@ fn read_turns(alloc: Global, bytes: &[u8]) -> Result<List<Turn>, InputError>
     let mut turns = List::new();
     let mut rest = bytes;
     let mut number = 2;
-    while !rest.is_empty() {
+    'lines: while !rest.is_empty() {
         let (line, after) = split_line(rest);
         let turn = match read_turn_line(alloc, line) {
             Ok(turn) => turn,

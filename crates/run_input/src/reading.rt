@@ -23,7 +23,7 @@ pub fn read_all<S: Source>(alloc: Global, source: &mut S) -> Result<Blob, ReadAl
 {
     let mut bytes = Blob::new(alloc);
     let mut chunk = [0u8; 8192];
-    while bytes.len() <= INPUT_LIMIT {
+    'chunks: while bytes.len() <= INPUT_LIMIT {
         let count = source.read(&mut chunk)?;
         if count == 0 {
             return Ok(bytes);
