@@ -5,5 +5,6 @@ pub mod PlanLine
 pub mod ReadAll
 pub mod Reads
 pub mod Refused
+pub mod StdStreams
 pub mod TurnLine
 pub mod ValueOf
