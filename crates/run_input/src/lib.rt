@@ -24,3 +24,6 @@ pub use reading::{INPUT_LIMIT, read_all};
 pub use std_sink::StdSink;
 pub use std_source::StdSource;
 pub use turn_line::read_turn_line;
+
+#[cfg(test)]
+mod tests;
