@@ -3,7 +3,7 @@ use Rattle.std.proofs.Common.{◌≡◌, ℕ, ◌+◌, ◌≤◌, ◌<◌, List,
 use Rattle.std.proofs.lemmas.Option.{none-some, same_Some}
 use Rattle.run_events.specs.declared.turn.Turn.{Turn}
 use Rattle.run_input.specs.Lines.{lines_of}
-use Rattle.run_input.specs.Input.{turn_line_of, turns_of, IsFirstBadTurn}
+use Rattle.run_input.specs.Input.{turn_line_of, turns_of, IsFirstBadTurn, HasNoBadLine}
 
 -- the turn and the turns after it
 first_and_rest : (first : Option Turn) (rest : Option (List Turn)) (turns : List Turn)
@@ -66,3 +66,23 @@ read_bad bytes rest after line turns number so_far first outside = record {
   outside = outside;
   counted = so_far.counted;
 }
+
+-- no turn after one that is none
+none_after : (first : Option Turn) → option_and_then (λ turn. option_and_then (λ others. Some (turn ∷ others)) None) first ≡ None
+none_after None = refl
+none_after (Some turn) = refl
+
+-- lines with a bad one among them say no turns
+turns_of-bad : (before : List (List ℕ)) (bad : List ℕ) (after : List (List ℕ))
+    → turn_line_of bad ≡ None → turns_of (before ++ bad ∷ after) ≡ None
+turns_of-bad [] bad after outside = rw outside refl
+turns_of-bad (line ∷ before) bad after outside =
+    let rest = turns_of-bad before bad after outside in rw rest (none_after (turn_line_of line))
+
+-- an input that says something has no first bad line
+pub has_no_bad_line : HasNoBadLine
+has_no_bad_line [] capture plan turns number says first = says
+has_no_bad_line (line ∷ others) capture plan turns number says first =
+    let bad : IsFirstBadTurn others number = rw says.0 at first in
+    let none = ap turns_of bad.split ∙ turns_of-bad bad.before bad.bad bad.after bad.outside in
+    none-some turns (sym none ∙ says.1)

@@ -23,7 +23,7 @@ pub lines_of-range : (n : ℕ) (bytes : List ℕ) → ((k : ℕ) → k < n → g
     → lines_of bytes ≡ take n bytes ∷ lines_of (take (length bytes - (n + 1)) (drop (n + 1) bytes))
 lines_of-range n bytes before within found =
     let rest : drop (suc n) bytes ≡ take (length bytes - (n + 1)) (drop (n + 1) bytes) =
-        rw (add-one n) (sym (take-drop_all (suc n) bytes)) in
+    rw (add-one n) (sym (take-drop_all (suc n) bytes)) in
     lines_of-line n bytes before within found ∙ ap (λ bytes'. take n bytes ∷ lines_of bytes') rest
 
 -- bytes without an LF are one line

@@ -5,7 +5,6 @@ use Rattle.serde_json.specs.Find.{as_str, as_number, as_u64, as_i64, as_array, a
 use lib.Pointwise.{pointwise}
 
 infixl 10 ◌>>=◌
-
 -- the next step reads on from a value, and a refusal stays one
 abbrev pub ◌>>=◌ : {A B : Type 0} → Option A → (A → Option B) → Option B
 o >>= f = option_and_then f o

@@ -45,3 +45,8 @@ abbrev pub IsFirstBad : List (List ℕ) → ℕ → Type 0
 IsFirstBad [] number = number ≡ 1
 IsFirstBad (first ∷ others) number =
     MatchOption (plan_line_of first) (number ≡ 1) (λ _. IsFirstBadTurn others number)
+
+-- an input that says something has no first bad line
+abbrev pub HasNoBadLine : Type 0
+HasNoBadLine = (lines : List (List ℕ)) (capture : CaptureStrategy) (plan : Plan) (turns : List Turn) (number : ℕ)
+    → IsInput lines capture plan turns → ¬ IsFirstBad lines number

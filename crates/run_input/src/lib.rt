@@ -8,6 +8,7 @@ mod errors;
 mod fields;
 mod floats;
 mod input;
+mod laws;
 mod lines;
 mod objects;
 mod plan_line;
@@ -19,6 +20,7 @@ mod value;
 
 pub use errors::{InputError, LineError, ReadAllError};
 pub use input::{Input, read_input};
+pub use laws::an_input_has_no_bad_line;
 pub use plan_line::read_plan_line;
 pub use reading::{INPUT_LIMIT, read_all};
 pub use std_sink::StdSink;

@@ -1,12 +1,11 @@
 // Which keys an object has.
 ghost use Rattle.std.specs.Prelude.{◌≡◌, map};
-ghost use Rattle.serde_json.specs.View.{view};
+ghost use Rattle.serde_json.specs.View.{view, members_view};
 ghost use Rattle.run_input.specs.Fields.{is_one_of, is_object_of, has_only};
-ghost use Rattle.serde_json.specs.View.{members_view};
 
 use serde_json::{Map, Value};
 
-/// Whether a text is one of these names.
+// Whether a text is one of these names.
 fn is_named(key: &str, names: &[&str]) -> bool
     ensures { result ≡ is_one_of key.now (map (λ n. n.now) names.now) }
 {

@@ -7,7 +7,8 @@ use run_capture::{Blob, CaptureStrategy, List, MemorySource, Sink, Source};
 use run_events::{ChildExit, Turn};
 use std::test::Fail;
 
-const PLAN: &str = r#"{"capture":"none","run_id":"00112233-4455-6677-8899-aabbccddeeff","tests":[{"binary":"b","name":"n","command":["/bin/true","-x"]}]}"#;
+const PLAN: &str =
+    r#"{"capture":"none","run_id":"00112233-4455-6677-8899-aabbccddeeff","tests":[{"binary":"b","name":"n","command":["/bin/true","-x"]}]}"#;
 
 #[test]
 fn turn_lines(rt: HostRuntime) {
@@ -43,7 +44,11 @@ fn turn_lines(rt: HostRuntime) {
         (r#"{"turn":"end"}"#, Turn::End),
     ];
     for (line, turn) in lines {
-        assert_eq!(rt; read_turn_line(rt.alloc(), line.as_bytes()), Ok(turn), "at {line}");
+        assert_eq!(rt;
+            read_turn_line(rt.alloc(), line.as_bytes()),
+            Ok(turn),
+            "at {line}"
+        );
     }
 }
 
@@ -72,9 +77,16 @@ fn bad_turn_lines(rt: HostRuntime) {
         r#"{"turn":"decide","unit":0,"word":1e2}"#,
     ];
     for line in lines {
-        assert_eq!(rt; read_turn_line(rt.alloc(), line.as_bytes()), Err(LineError::NotInTable), "at {line}");
+        assert_eq!(rt;
+            read_turn_line(rt.alloc(), line.as_bytes()),
+            Err(LineError::NotInTable),
+            "at {line}"
+        );
     }
-    assert_eq!(rt; read_turn_line(rt.alloc(), b"\xff"), Err(LineError::NotInTable));
+    assert_eq!(rt;
+        read_turn_line(rt.alloc(), b"\xff"),
+        Err(LineError::NotInTable)
+    );
 }
 
 #[test]
@@ -109,7 +121,10 @@ fn bad_plan_lines(rt: HostRuntime) {
         r#"{"capture":"none","run_id":"00112233-4455-6677-8899-aabbccddeeff","tests":[{"binary":"b","name":"n","command":[]},{"binary":"b","name":"m","command":[]}]}"#,
     ];
     for line in lines {
-        let bad = matches!(read_plan_line(rt.alloc(), line.as_bytes()), Err(LineError::NotInTable));
+        let bad = matches!(
+            read_plan_line(rt.alloc(), line.as_bytes()),
+            Err(LineError::NotInTable)
+        );
         assert!(rt; bad, "at {line}");
     }
 }
@@ -122,7 +137,10 @@ fn inputs(rt: HostRuntime) -> Result<(), Fail> {
         ("\n{\"turn\":\"begin\"}", Ok(1)),
         ("\n{\"turn\":\"begin\"}\r\n{\"turn\":\"end\"}\n", Ok(2)),
         ("\n\n{\"turn\":\"end\"}", Err(InputError::Line { line: 2 })),
-        ("\n{\"turn\":\"begin\"}\n{}\n[]\n", Err(InputError::Line { line: 3 })),
+        (
+            "\n{\"turn\":\"begin\"}\n{}\n[]\n",
+            Err(InputError::Line { line: 3 }),
+        ),
         (" 1\n{}", Err(InputError::Line { line: 1 })),
     ];
     for (end, want) in ends {
@@ -133,7 +151,10 @@ fn inputs(rt: HostRuntime) -> Result<(), Fail> {
         };
         assert_eq!(rt; found, want, "at {end}");
     }
-    let none = matches!(read_input(rt.alloc(), b""), Err(InputError::Line { line: 1 }));
+    let none = matches!(
+        read_input(rt.alloc(), b""),
+        Err(InputError::Line { line: 1 })
+    );
     assert!(rt; none);
     Ok(())
 }
@@ -142,7 +163,10 @@ fn inputs(rt: HostRuntime) -> Result<(), Fail> {
 fn whole_sources(rt: HostRuntime) -> Result<(), Fail> {
     let bytes = Blob::from_slice(rt.alloc(), b"0123456789")?;
     let mut source = MemorySource::new(bytes, 3, List::new());
-    assert_eq!(rt; read_all(rt.alloc(), &mut source)?.as_slice(), b"0123456789".as_slice());
+    assert_eq!(rt;
+        read_all(rt.alloc(), &mut source)?.as_slice(),
+        b"0123456789".as_slice()
+    );
 
     let bytes = Blob::from_slice(rt.alloc(), b"0123456789")?;
     let mut fail = List::new();
@@ -156,7 +180,10 @@ fn whole_sources(rt: HostRuntime) -> Result<(), Fail> {
 #[test]
 fn streams_of_std(rt: HostRuntime) -> Result<(), Fail> {
     let mut source = StdSource::new(&b"0123456789"[..]);
-    assert_eq!(rt; read_all(rt.alloc(), &mut source)?.as_slice(), b"0123456789".as_slice());
+    assert_eq!(rt;
+        read_all(rt.alloc(), &mut source)?.as_slice(),
+        b"0123456789".as_slice()
+    );
     let mut chunk = [0u8; 4];
     assert_eq!(rt; source.read(&mut chunk), Ok(0));
 

@@ -1,6 +1,5 @@
 // A line as a JSON value.
-ghost use Rattle.std.specs.Prelude.{◌≡◌};
-ghost use Rattle.std.specs.Prelude.{Some, None, Err, IfOk};
+ghost use Rattle.std.specs.Prelude.{◌≡◌, Some, None, Err, IfOk};
 ghost use Rattle.serde_json.specs.View.{view};
 ghost use Rattle.run_input.specs.ValueOf.{value_of};
 
