@@ -1,0 +1,4 @@
+mod InputLemmas
+mod LineLemmas
+mod SourceLemmas
+mod ValueLemmas

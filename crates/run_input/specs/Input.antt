@@ -1,0 +1,52 @@
+-- What the lines of an input say.
+use Rattle.std.specs.Prelude.{ℕ, ◌≡◌, ◌+◌, List, [], ◌∷◌, ◌++◌, length, Option, Some, None, option_and_then, IsSome, MatchOption}
+use Rattle.run_capture.specs.declared.test_output.CaptureStrategy.{CaptureStrategy}
+use Rattle.run_events.specs.declared.plan.Plan.{Plan}
+use Rattle.run_events.specs.declared.turn.Turn.{Turn}
+use Rattle.run_input.specs.Fields.{◌>>=◌}
+use Rattle.run_input.specs.ValueOf.{value_of}
+use Rattle.run_input.specs.PlanLine.{plan_of}
+use Rattle.run_input.specs.TurnLine.{turn_of}
+
+-- what a line says as a plan line
+abbrev pub plan_line_of : List ℕ → Option (CaptureStrategy × Plan)
+plan_line_of line = option_and_then plan_of (value_of line)
+
+-- what a line says as a turn line
+abbrev pub turn_line_of : List ℕ → Option Turn
+turn_line_of line = option_and_then turn_of (value_of line)
+
+-- what lines say as turn lines, where each is one
+abbrev pub turns_of : List (List ℕ) → Option (List Turn)
+turns_of [] = Some []
+turns_of (line ∷ lines) = do
+  turn ← turn_line_of line
+  turns ← turns_of lines
+  Some (turn ∷ turns)
+
+-- the first line says the plan, and the others say the turns
+abbrev pub IsInput : List (List ℕ) → CaptureStrategy → Plan → List Turn → Type 0
+IsInput [] capture plan turns = ⊥
+IsInput (first ∷ others) capture plan turns = (plan_line_of first ≡ Some (capture, plan)) × (turns_of others ≡ Some turns)
+
+-- of the lines after the first, the one with this number is no turn line, and each before it is one
+pub record IsFirstBadTurn (others : List (List ℕ)) (number : ℕ) : Type 0 where
+  pub before : List (List ℕ)
+  pub bad : List ℕ
+  pub after : List (List ℕ)
+  pub split : others ≡ before ++ bad ∷ after
+  pub good : IsSome (turns_of before)
+  pub outside : turn_line_of bad ≡ None
+  pub counted : number ≡ length before + 2
+
+-- the line of this number, from 1, is not in its table, and each before it is: an input with no line
+-- has the bad line 1
+abbrev pub IsFirstBad : List (List ℕ) → ℕ → Type 0
+IsFirstBad [] number = number ≡ 1
+IsFirstBad (first ∷ others) number =
+    MatchOption (plan_line_of first) (number ≡ 1) (λ _. IsFirstBadTurn others number)
+
+-- an input that says something has no first bad line
+abbrev pub HasNoBadLine : Type 0
+HasNoBadLine = (lines : List (List ℕ)) (capture : CaptureStrategy) (plan : Plan) (turns : List Turn) (number : ℕ)
+    → IsInput lines capture plan turns → ¬ IsFirstBad lines number

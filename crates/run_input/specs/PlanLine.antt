@@ -1,0 +1,52 @@
+-- What a plan line says.
+use Rattle.std.specs.Prelude.{ℕ, ◌==◌, List, [], ◌∷◌, length, Option, Some, None, option_and_then, if◌then◌else◌, nat_eq, codes}
+use Rattle.serde_json.specs.Data.{Data, Items, no_items, item}
+use Rattle.serde_json.specs.Find.{get, as_str, as_array}
+use Rattle.uuid.specs.Text.{parsed}
+use Rattle.run_capture.specs.declared.test_output.CaptureStrategy.{CaptureStrategy}
+use Rattle.run_capture.specs.declared.test_output.CaptureStrategy.TheVariants as capture
+use Rattle.run_events.specs.declared.plan.Plan.{Plan}
+use Rattle.run_events.specs.declared.plan.PlanTest.{PlanTest}
+use Rattle.run_input.specs.Fields.{◌>>=◌, when, is_object_of, texts_of}
+use lib.Pointwise.{pointwise}
+
+-- the way of capture that a text names
+abbrev pub capture_of : Data → Option CaptureStrategy
+capture_of d = do
+  name ← as_str d
+  if pointwise nat_eq name (codes "none") then Some capture.None else None
+
+-- the UUID that a text writes
+abbrev pub run_id_of : Data → Option (List ℕ)
+run_id_of d = option_and_then parsed (as_str d)
+
+-- a test, with its name and its command
+unfoldable pub test_of : Data → Option PlanTest
+test_of d = do
+  _ ← when (is_object_of (codes "binary" ∷ codes "command" ∷ codes "name" ∷ []) d)
+  binary ← option_and_then as_str (get (codes "binary") d)
+  name ← option_and_then as_str (get (codes "name") d)
+  command ← option_and_then texts_of (get (codes "command") d)
+  Some (record { id = record { binary = binary; name = name }; command = command })
+
+-- the tests of items, each of which is one
+abbrev pub tests_from : Items → Option (List PlanTest)
+tests_from no_items = Some []
+tests_from (item d ds) = do
+  test ← test_of d
+  tests ← tests_from ds
+  Some (test ∷ tests)
+
+-- a list of tests
+abbrev pub tests_of : Data → Option (List PlanTest)
+tests_of d = option_and_then tests_from (as_array d)
+
+-- a plan of exactly one test, with its way of capture
+unfoldable pub plan_of : Data → Option (CaptureStrategy × Plan)
+plan_of d = do
+  _ ← when (is_object_of (codes "capture" ∷ codes "run_id" ∷ codes "tests" ∷ []) d)
+  capture ← option_and_then capture_of (get (codes "capture") d)
+  run_id ← option_and_then run_id_of (get (codes "run_id") d)
+  tests ← option_and_then tests_of (get (codes "tests") d)
+  _ ← when (length tests == 1)
+  Some (capture, record { run_id = run_id; tests = tests })

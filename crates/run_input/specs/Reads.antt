@@ -1,0 +1,14 @@
+-- What a reader that takes memory answers.
+use Rattle.std.specs.Prelude.{◌≡◌, ⊤, Option, Some, None, Result, Ok, Err}
+use Rattle.run_input.specs.declared.errors.LineError.{LineError}
+use Rattle.run_input.specs.declared.errors.LineError.TheVariants as errors
+
+-- a line is refused only where it has no value, or for want of memory
+abbrev pub Refuses : {X : Type 0} → LineError → Option X → Type 0
+Refuses errors.NotInTable o = o ≡ None
+Refuses errors.OutOfMemory o = ⊤
+
+-- a reader gives the value that there is, and refuses where there is none
+abbrev pub Reads : {X : Type 0} → Result X LineError → Option X → Type 0
+Reads (Ok x) o = o ≡ Some x
+Reads (Err e) o = Refuses e o

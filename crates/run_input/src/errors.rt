@@ -1,0 +1,106 @@
+// What can be wrong with an input.
+use run_capture::{Failed, OutOfMemory};
+use std::alloc::{AllocError, AllocFailed};
+use thiserror::Error;
+
+/// Why a line has no value.
+#[derive(Clone, Copy, Debug, Drop, PartialEq, Eq, Error)]
+pub enum LineError {
+    /// The line is not in its table.
+    #[error("the line is not in its table")]
+    NotInTable,
+    /// Memory was refused.
+    #[error("out of memory")]
+    OutOfMemory,
+}
+
+impl From<OutOfMemory> for LineError {
+    ghost use Rattle.std.specs.Prelude.{◌≡◌};
+    ghost use Rattle.run_input.specs.declared.errors.LineError.TheVariants as errors;
+
+    ghost from_gives = { λ _ e. e ≡ errors.OutOfMemory };
+
+    fn from(_: OutOfMemory) -> Self {
+        LineError::OutOfMemory
+    }
+}
+
+impl From<AllocError> for LineError {
+    ghost use Rattle.std.specs.Prelude.{◌≡◌};
+    ghost use Rattle.run_input.specs.declared.errors.LineError.TheVariants as errors;
+
+    ghost from_gives = { λ _ e. e ≡ errors.OutOfMemory };
+
+    fn from(_: AllocError) -> Self {
+        LineError::OutOfMemory
+    }
+}
+
+impl<T: Drop> From<AllocFailed<T>> for LineError {
+    ghost use Rattle.std.specs.Prelude.{◌≡◌};
+    ghost use Rattle.run_input.specs.declared.errors.LineError.TheVariants as errors;
+
+    ghost from_gives = { λ _ e. e ≡ errors.OutOfMemory };
+
+    fn from(_: AllocFailed<T>) -> Self {
+        LineError::OutOfMemory
+    }
+}
+
+/// Why an input has no meaning.
+#[derive(Clone, Copy, Debug, Drop, PartialEq, Eq, Error)]
+pub enum InputError {
+    /// The first line that is not in its table, counted from 1. An input with no line has the bad line 1.
+    #[error("line {line} is not in its table")]
+    Line { line: u64 },
+    /// Memory was refused.
+    #[error("out of memory")]
+    OutOfMemory,
+}
+
+impl From<OutOfMemory> for InputError {
+    ghost use Rattle.std.specs.Prelude.{◌≡◌};
+    ghost use Rattle.run_input.specs.declared.errors.InputError.TheVariants as errors;
+
+    ghost from_gives = { λ _ e. e ≡ errors.OutOfMemory };
+
+    fn from(_: OutOfMemory) -> Self {
+        InputError::OutOfMemory
+    }
+}
+
+/// Why a source was not read to its end.
+#[derive(Clone, Copy, Debug, Drop, PartialEq, Eq, Error)]
+pub enum ReadAllError {
+    /// The source failed.
+    #[error("reading the input failed")]
+    Failed,
+    /// The source gave more bytes than an input may have.
+    #[error("the input is longer than 16777216 bytes")]
+    TooLong,
+    /// Memory was refused.
+    #[error("out of memory")]
+    OutOfMemory,
+}
+
+impl From<Failed> for ReadAllError {
+    ghost use Rattle.std.specs.Prelude.{◌≡◌};
+    ghost use Rattle.run_input.specs.declared.errors.ReadAllError.TheVariants as errors;
+
+    ghost from_gives = { λ _ e. e ≡ errors.Failed };
+
+    fn from(_: Failed) -> Self {
+        ReadAllError::Failed
+    }
+}
+
+impl From<OutOfMemory> for ReadAllError {
+    ghost use Rattle.std.specs.Prelude.{◌≡◌};
+    ghost use Rattle.run_input.specs.declared.errors.ReadAllError.TheVariants as errors;
+
+    ghost from_gives = { λ _ e. e ≡ errors.OutOfMemory };
+
+    fn from(_: OutOfMemory) -> Self {
+        ReadAllError::OutOfMemory
+    }
+}

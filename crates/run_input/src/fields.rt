@@ -1,0 +1,72 @@
+// The fields of an object. Each reader is given what stands at a key, and refuses a missing one.
+ghost use Rattle.std.specs.Prelude.{◌≡◌, List, ℕ, option_map, option_and_then};
+ghost use Rattle.serde_json.specs.Find.{as_str};
+ghost use Rattle.serde_json.specs.View.{view, items_view};
+ghost use Rattle.run_input.specs.Fields.{u32_of, i32_of, texts_of, texts_from};
+ghost use Rattle.run_input.specs.Reads.{Reads};
+
+use crate::LineError;
+use run_capture::{List, Text};
+use serde_json::Value;
+use std::alloc::Global;
+
+/// A whole number from 0 to 4294967295.
+pub fn u32_at(value: Option<&Value>) -> Option<u32>
+    ensures { result ≡ option_and_then u32_of (option_map (λ v. view v.now) value.entry) }
+{
+    u32::try_from(value?.as_u64()?).ok()
+}
+
+/// A whole number from -2147483648 to 2147483647.
+pub fn i32_from(value: &Value) -> Option<i32>
+    ensures { result ≡ i32_of (view value.now) }
+{
+    let number = value.as_i64()?;
+    if -2147483648 <= number && number <= 2147483647 {
+        Some(number as i32)
+    } else {
+        None
+    }
+}
+
+/// A text, lent.
+pub fn str_at(value: Option<&Value>) -> Option<&str>
+    ensures { option_map (λ s. s.now) result
+        ≡ option_and_then as_str (option_map (λ v. view v.now) value.entry) }
+{
+    match value {
+        Some(value) => value.as_str(),
+        None => None,
+    }
+}
+
+/// A text, copied.
+pub fn text_at(alloc: Global, value: Option<&Value>) -> Result<Text, LineError>
+    ensures { Reads result (option_and_then as_str (option_map (λ v. view v.now) value.entry)) }
+{
+    match str_at(value) {
+        Some(text) => Ok(Text::from_str(alloc, text)?),
+        None => Err(LineError::NotInTable),
+    }
+}
+
+// The texts of a list, copied.
+fn texts_in(alloc: Global, items: &[Value]) -> Result<List<Text>, LineError>
+    ensures { Reads result (texts_from (items_view items.now)) }
+{
+    let mut texts = List::new();
+    for item in items {
+        texts.push(alloc, text_at(alloc, Some(item))?)?;
+    }
+    Ok(texts)
+}
+
+/// A list of texts, copied.
+pub fn texts_at(alloc: Global, value: Option<&Value>) -> Result<List<Text>, LineError>
+    ensures { Reads result (option_and_then texts_of (option_map (λ v. view v.now) value.entry)) }
+{
+    match value.and_then(Value::as_array) {
+        Some(items) => texts_in(alloc, items.as_slice()),
+        None => Err(LineError::NotInTable),
+    }
+}

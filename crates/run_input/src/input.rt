@@ -1,0 +1,74 @@
+// A whole input: a plan line, and a turn line for each turn.
+ghost use Rattle.std.specs.Prelude.{◌≡◌, Some, IfOk, IfErr};
+ghost use Rattle.run_input.specs.Lines.{lines_of};
+ghost use Rattle.run_input.specs.Input.{turns_of, IsInput, IsFirstBadTurn};
+ghost use Rattle.run_input.specs.Refused.{error_at, IsRefusedInput, IsRefusedTurns};
+
+use crate::lines::split_line;
+use crate::{InputError, LineError, read_plan_line, read_turn_line};
+use run_capture::{CaptureStrategy, List};
+use run_events::{Plan, Turn};
+use std::alloc::Global;
+
+/// What an input says.
+#[derive(Drop)]
+pub struct Input {
+    pub capture: CaptureStrategy,
+    pub plan: Plan,
+    /// The turns, in the order of their lines.
+    pub turns: List<Turn>,
+}
+
+// A line's error with the line's number.
+fn at_line(number: u64, error: LineError) -> InputError
+    ensures { result ≡ error_at number error }
+{
+    match error {
+        LineError::NotInTable => InputError::Line { line: number },
+        LineError::OutOfMemory => InputError::OutOfMemory,
+    }
+}
+
+// Reads the lines after the first, whose numbers start at 2.
+fn read_turns(alloc: Global, bytes: &[u8]) -> Result<List<Turn>, InputError>
+    ensures ok { IfOk result (λ turns. turns_of (lines_of bytes.now) ≡ Some turns) }
+    ensures refused { IfErr result (IsRefusedTurns (lines_of bytes.now)) }
+{
+    let mut turns = List::new();
+    let mut rest = bytes;
+    let mut number = 2;
+    'lines: while !rest.is_empty() {
+        let (line, after) = split_line(rest);
+        let turn = match read_turn_line(alloc, line) {
+            Ok(turn) => turn,
+            Err(e) => return Err(at_line(number, e)),
+        };
+        turns.push(alloc, turn)?;
+        rest = after;
+        number += 1;
+    }
+    Ok(turns)
+}
+
+/// Reads an input: its first line is the plan line, each later one a turn line.
+///
+/// A line ends at its LF, and the last one needs none.
+pub fn read_input(alloc: Global, bytes: &[u8]) -> Result<Input, InputError>
+    ensures ok { IfOk result (λ i. IsInput (lines_of bytes.now) i.capture i.plan i.turns) }
+    ensures refused { IfErr result (IsRefusedInput (lines_of bytes.now)) }
+{
+    if bytes.is_empty() {
+        return Err(InputError::Line { line: 1 });
+    }
+    let (line, after) = split_line(bytes);
+    let (capture, plan) = match read_plan_line(alloc, line) {
+        Ok(first) => first,
+        Err(e) => return Err(at_line(1, e)),
+    };
+    let turns = read_turns(alloc, after)?;
+    Ok(Input {
+        capture,
+        plan,
+        turns,
+    })
+}
