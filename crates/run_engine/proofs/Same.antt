@@ -43,7 +43,7 @@ unit_in-is p past s k h st = ap (λ us. get_or us k None) st.units ∙ by_place 
   by_place true e = units-at p past k (grind arith)
   by_place false e =
       let le : tests_in p ≤ k = grind arith in
-      get_or_past (units p past) k None (omega arith) ∙ never (unit_of k past) refl le
+      get_or_past (units p past) k None (omega (arith, whole)) ∙ never (unit_of k past) refl le
 
 -- the answer to a start, told where it is let go
 start_same : (now : ℕ) (e : Entry) (k : ℕ) (go : Bool) (w : Option UnitView) (event : ReporterEvent)
