@@ -1,3 +1,6 @@
 pub mod Dispatcher
 pub mod State
 pub mod Advance
+pub mod World
+pub mod Enabled
+pub mod Standing

@@ -3,6 +3,17 @@
 #![tactic(auto)]
 
 mod admission;
+// mod builder;
 mod dispatcher;
+mod enabled;
+mod errors;
+mod run;
+// mod runner;
 mod state;
+mod tell;
 mod turns;
+
+// pub use builder::TestRunnerBuilder;
+pub use errors::{StepError, TestRunnerBuildError, TestRunnerExecuteErrors};
+pub use run::Run;
+// pub use runner::TestRunner;

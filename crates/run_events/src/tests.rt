@@ -192,6 +192,7 @@ fn copies_and_keeps(rt: HostRuntime) {
 }
 
 #[test]
+#[tactic(auto, unfolding(crate::specs::Stats::plus, crate::specs::Stats::adds_of))]
 fn counts_and_sums_up(rt: HostRuntime) {
     let mut stats = RunStats::started(1, 2);
     assert!(rt; !stats.has_failures());

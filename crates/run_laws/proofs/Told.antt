@@ -17,12 +17,13 @@ use Rattle.run_model.specs.declared.happening.Happening.{Happening}
 use Rattle.run_model.specs.declared.unit_turn.UnitTurn.{UnitTurn}
 use Rattle.run_model.specs.declared.unit_turn.UnitTurn.TheVariants.{Answered, Started as UnitStarted, Exit as UnitExit, Decide as UnitDecide}
 use Rattle.run_model.specs.declared.unit_view.UnitView.{UnitView}
-use Rattle.run_model.specs.Words.{clock, told, queue, reason, greater, unit_of, units, tests_in, has_begun, is_over, finish_of, finished, running, stats}
+use Rattle.run_model.specs.Words.{clock, sent, delivered, told, queue, reason, greater, unit_of, units, tests_in, has_begun, is_over, finish_of, finished, running, stats}
 use Rattle.run_model.specs.Admission.{newcomer}
 use Rattle.run_model.specs.Turns.{event_at, enabled, takes_turn, turn_of_unit, is_empty, taken_by, admission, start_delivery, delivery, happened, happening}
 use Rattle.run_model.specs.Journal.{history, IsLegalBackward}
 use Rattle.run_model.specs.Accounts.{started, account_of}
 use Rattle.run_laws.specs.Holds.{Holds}
+use Rattle.run_laws.proofs.Queue.{lt-from_queue}
 use Rattle.run_laws.proofs.Facts.{Waits, Finishes, start_waits, finish_follows}
 
 -- a start is told of a test of which nothing was told, a finish of one that was told started
@@ -35,24 +36,27 @@ abbrev pub ToldFits : ℕ → List Happening → Option ReporterEvent → Type 0
 ToldFits n past None = ⊤
 ToldFits n past (Some (Test event)) = ToldFitsIn n past event.kind
 
--- what a turn tells fits, and it cancels nothing
+-- what a turn tells fits, it cancels nothing, and it delivers a message only where one waits
 abbrev pub Tells : Settings → List Happening → Happening → Type 0
-Tells p past x = ToldFits (tests_in p) past x.told × (x.cause ≡ None)
+Tells p past x = ToldFits (tests_in p) past x.told × (x.cause ≡ None) × (delivered (x ∷ past) ≤ length (sent past))
 
-taken_tells : (p : Settings) (past : List Happening) (now : ℕ) (e : Entry) (k : ℕ) (turn : UnitTurn) (v : Option UnitView) → Tells p past (taken_by now e k turn v)
-taken_tells p past now e k turn None = (tt, refl)
-taken_tells p past now e k turn (Some u) = (tt, refl)
+taken_tells : (p : Settings) (past : List Happening) (now : ℕ) (e : Entry) (k : ℕ) (turn : UnitTurn) (v : Option UnitView)
+    → delivered past ≤ length (sent past) → Tells p past (taken_by now e k turn v)
+taken_tells p past now e k turn None fits = (tt, refl, omega arith)
+taken_tells p past now e k turn (Some u) fits = (tt, refl, omega arith)
 
-admission_tells : (p : Settings) (past : List Happening) (e : Entry) (v : Option UnitView) → Tells p past (admission e v)
-admission_tells p past e None = (tt, refl)
-admission_tells p past e (Some u) = (tt, refl)
+admission_tells : (p : Settings) (past : List Happening) (e : Entry) (v : Option UnitView)
+    → delivered past ≤ length (sent past) → Tells p past (admission e v)
+admission_tells p past e None fits = (tt, refl, omega arith)
+admission_tells p past e (Some u) fits = (tt, refl, omega arith)
 
 start_tells : (p : Settings) (past : List Happening) (e : Entry) (i : ℕ) (go : Bool) (turn : UnitTurn) (v : Option UnitView) (event : ReporterEvent)
-    → ToldFits (tests_in p) past (Some event) → Tells p past (start_delivery go (taken_by (clock past) e i turn v) event)
-start_tells p past e i true turn None event h = (h, refl)
-start_tells p past e i true turn (Some u) event h = (h, refl)
-start_tells p past e i false turn None event h = (tt, refl)
-start_tells p past e i false turn (Some u) event h = (tt, refl)
+    → ToldFits (tests_in p) past (Some event) → delivered past + 1 ≤ length (sent past)
+    → Tells p past (start_delivery go (taken_by (clock past) e i turn v) event)
+start_tells p past e i true turn None event h room = (h, refl, room)
+start_tells p past e i true turn (Some u) event h room = (h, refl, room)
+start_tells p past e i false turn None event h room = (tt, refl, room)
+start_tells p past e i false turn (Some u) event h room = (tt, refl, room)
 
 -- each enabled turn tells what fits
 pub happening_tells : (p : Settings) (past : List Happening) (e : Entry) → Holds p past → enabled p past e.turn ≡ true
@@ -60,21 +64,23 @@ pub happening_tells : (p : Settings) (past : List Happening) (e : Entry) → Hol
 happening_tells p past e h en = by_turn e.turn (second_so (not (is_over past)) (takes_turn p past e.turn (turn_of_unit e.turn)) en)
   where
   by_queue : (q : List Message) → queue past ≡ q → Tells p past (delivery p past e q)
-  by_queue [] eq = (tt, refl)
+  by_queue [] eq = (tt, refl, omega (arith, h.fits))
   by_queue (Start i id command slot ∷ rest) eq =
       let waits = start_waits p past i id command slot rest h eq in
       start_tells p past e i (is_none (reason past)) (Answered (is_none (reason past))) (unit_of i past)
         (event_at past (TestStarted i id command slot (running p past + 1) (stats p past))) (waits.below, waits.untold)
+        (lt-from_queue (delivered past) (sent past) rest _ eq)
   by_queue (Finish i id statuses ∷ rest) eq =
-      let follows = finish_follows p past i id statuses rest h eq in ((follows.below, follows.told_started), refl)
+      let follows = finish_follows p past i id statuses rest h eq in
+      ((follows.below, follows.told_started), refl, lt-from_queue (delivered past) (sent past) rest _ eq)
   by_turn : (turn : Turn) → takes_turn p past turn (turn_of_unit turn) ≡ true → Tells p past (happened p past e turn (turn_of_unit turn))
-  by_turn Begin en = (tt, refl)
-  by_turn Admit en = admission_tells p past e (newcomer p (units p past))
+  by_turn Begin en = (tt, refl, omega (arith, h.fits))
+  by_turn Admit en = admission_tells p past e (newcomer p (units p past)) h.fits
   by_turn Deliver en = by_queue (queue past) refl
-  by_turn (Started unit pid) en = taken_tells p past (clock past) e unit (UnitStarted pid) (unit_of unit past)
-  by_turn (Exit unit exit) en = taken_tells p past (clock past) e unit (UnitExit exit) (unit_of unit past)
-  by_turn (Decide unit word) en = taken_tells p past (clock past) e unit (UnitDecide word) (unit_of unit past)
-  by_turn End en = (tt, refl)
+  by_turn (Started unit pid) en = taken_tells p past (clock past) e unit (UnitStarted pid) (unit_of unit past) h.fits
+  by_turn (Exit unit exit) en = taken_tells p past (clock past) e unit (UnitExit exit) (unit_of unit past) h.fits
+  by_turn (Decide unit word) en = taken_tells p past (clock past) e unit (UnitDecide word) (unit_of unit past) h.fits
+  by_turn End en = (tt, refl, omega (arith, h.fits))
 
 -- what is no cause leaves the reason
 pub greater-None : (r : Option CancelReason) → greater r None ≡ r

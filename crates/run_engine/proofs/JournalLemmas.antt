@@ -1,0 +1,31 @@
+-- Histories of journals that grow at their ends.
+use Rattle.std.proofs.Common.{◌≡◌, ℕ, suc, ◌+◌, List, [], ◌∷◌, ◌++◌, length, reverse, true, Option, option_to_list, refl, ap, sym, subst, ◌∙◌, arith}
+use Rattle.std.proofs.lemmas.List.{reverse-append, length-reverse}
+use Rattle.run_events.specs.declared.settings.Settings.{Settings}
+use Rattle.run_model.specs.declared.entry.Entry.{Entry}
+use Rattle.run_model.specs.declared.happening.Happening.{Happening}
+use Rattle.run_model.specs.Turns.{enabled, happening}
+use Rattle.run_model.specs.Journal.{history, IsLegalBackward, past_of, IsLegal}
+
+-- the newest entry stands first
+pub reverse-push : {X : Type 0} (xs : List X) (x : X) → reverse (xs ++ x ∷ []) ≡ x ∷ reverse xs
+reverse-push xs x = reverse-append xs (x ∷ [])
+
+-- one more entry is one more happening
+pub past_of-push : (p : Settings) (journal : List Entry) (e : Entry) → past_of p (journal ++ e ∷ []) ≡ happening p (past_of p journal) e ∷ past_of p journal
+past_of-push p journal e = ap (history p) (reverse-push journal e)
+
+-- a legal journal with one more legal entry is legal
+pub legal-push : (p : Settings) (journal : List Entry) (e : Entry) → IsLegal p journal
+    → enabled p (past_of p journal) e.turn ≡ true
+    → length e.refused ≡ length (option_to_list (happening p (past_of p journal) e).told)
+    → IsLegal p (journal ++ e ∷ [])
+legal-push p journal e legal en answered = subst (IsLegalBackward p) (sym (reverse-push journal e)) (en, answered, legal)
+
+-- a history is as long as its journal
+history-length : (p : Settings) (backward : List Entry) → length (history p backward) ≡ length backward
+history-length p [] = refl
+history-length p (e ∷ before) = ap suc (history-length p before)
+
+pub past_of-length : (p : Settings) (journal : List Entry) → length (past_of p journal) ≡ length journal
+past_of-length p journal = history-length p (reverse journal) ∙ length-reverse journal

@@ -1,0 +1,66 @@
+-- A run as its callers see it, and what a step of it does to the world.
+use Rattle.std.specs.Prelude.{ℕ, ◌≡◌, ◌+◌, ◌≤◌, List, [], ◌∷◌, ◌++◌, length, map, Bool, true, false, Option, Some, None, option_to_list, is_some, zip, IsTrue}
+use Rattle.run_capture.specs.Faults.{Rose}
+use Rattle.run_events.specs.Tell.{Adds}
+use Rattle.run_events.specs.declared.settings.Settings.{Settings}
+use Rattle.run_events.specs.declared.turn.Turn.{Turn}
+use Rattle.run_events.specs.declared.ask.Ask.{Ask}
+use Rattle.run_events.specs.declared.events.ReporterEvent.{ReporterEvent}
+use Rattle.run_model.specs.declared.entry.Entry.{Entry}
+use Rattle.run_model.specs.declared.happening.Happening.{Happening}
+use Rattle.run_model.specs.Turns.{enabled, happening}
+use Rattle.run_model.specs.Journal.{past_of}
+
+-- a run: its settings with their plan, its journal, and whether want of memory broke it
+pub record World : Type 0 where
+  pub settings : Settings
+  pub journal : List Entry
+  pub broken : Bool
+
+-- the history of a run
+abbrev pub history_of : World → List Happening
+history_of w = past_of w.settings w.journal
+
+-- an event that was told, and whether it was refused
+abbrev pub flagged : {X E : Type 0} → X × Option E → X × Bool
+flagged x = (x.0, is_some x.1)
+
+-- the first error among events that were told
+abbrev pub first_error : {X E : Type 0} → List (X × Option E) → Option E
+first_error [] = None
+first_error (x ∷ xs) = first_of_two x.1 (first_error xs)
+  where
+  first_of_two : {E : Type 0} → Option E → Option E → Option E
+  first_of_two None later = later
+  first_of_two (Some e) later = Some e
+
+-- a reporter that had told a list has told these events after it, refused as marked, with this first error
+abbrev pub TellsEvents : {R E : Type 0} → (R → List (ReporterEvent × Option E) → Type 0) → R → R → List (ReporterEvent × Bool) → Option E → Type 0
+TellsEvents {R} {E} told before after events refusal =
+    (xs : List (ReporterEvent × Option E)) → told before xs
+    → (ys : List (ReporterEvent × Option E)) × told after (xs ++ ys) × (map flagged ys ≡ events) × (first_error ys ≡ refusal)
+
+-- a reporter's count of faults rose where it refused an event, and else stayed
+abbrev pub CountsErrors : {E : Type 0} → ℕ → ℕ → Option E → Type 0
+CountsErrors before now None = now ≡ before
+CountsErrors before now (Some e) = (before ≤ now) × Rose before now
+
+-- a turn with its answers, as an entry
+abbrev pub entry_of : Turn → List Bool → Entry
+entry_of turn refused = record { turn = turn; refused = refused }
+
+-- what a turn with these answers does after a run's history
+abbrev pub next_of : World → Turn → List Bool → Happening
+next_of w turn refused = happening w.settings (history_of w) (entry_of turn refused)
+
+-- a run takes a turn: it was enabled, the journal grows by it and the reporter's answers, and the reporter and the
+-- children are told and asked what the tables say
+pub record TakesTurn {R E C : Type 0} (tells : R → List (ReporterEvent × Option E) → Type 0) (asks : C → List (ℕ × Ask) → Type 0)
+    (old : World) (turn : Turn) (report : R) (children : C) (new : World) (report_after : R) (children_after : C) (refusal : Option E)
+    : Type 0 where
+  pub is_enabled : IsTrue (enabled old.settings (history_of old) turn)
+  pub refused : List Bool
+  pub answered : length refused ≡ length (option_to_list (next_of old turn refused).told)
+  pub grown : new ≡ record old { journal = old.journal ++ entry_of turn refused ∷ [] }
+  pub told : TellsEvents tells report report_after (zip (option_to_list (next_of old turn refused).told) refused) refusal
+  pub asked : Adds asks children children_after (map (λ ask. (length old.journal, ask)) (option_to_list (next_of old turn refused).asked))

@@ -1,0 +1,52 @@
+// Why the engine answers no outcome.
+use run_capture::OutOfMemory;
+use thiserror::Error;
+
+/// Why a run takes no turn.
+#[derive(Debug, Drop, PartialEq, Eq, Error)]
+pub enum StepError {
+    /// The turn isn't enabled. The run is unchanged.
+    #[error("the turn is not enabled")]
+    NotEnabled,
+    /// The journal has 4,294,967,295 entries. The run is unchanged.
+    #[error("the journal is full")]
+    Full,
+    /// Memory was wanting. The run is broken from then on: every later step answers this.
+    #[error("out of memory")]
+    OutOfMemory,
+}
+
+/// Why a plan is refused.
+#[derive(Debug, Drop, PartialEq, Eq, Error)]
+pub enum TestRunnerBuildError {
+    #[error("out of memory")]
+    OutOfMemory,
+}
+
+/// Why the turns of a run give no outcome.
+#[derive(Debug, Drop, PartialEq, Eq, Error)]
+pub enum TestRunnerExecuteErrors<E> {
+    /// The run is over, and the reporter refused an event: its first error.
+    #[error("an event was refused")]
+    Report(E),
+    /// The turn at this place, from 0, is the first that isn't enabled.
+    #[error("turn {turn} is not enabled")]
+    NotEnabled { turn: u64 },
+    /// Each turn is enabled, and the run isn't over after the last.
+    #[error("the run is not over")]
+    Unfinished,
+    /// Memory was wanting.
+    #[error("out of memory")]
+    OutOfMemory,
+}
+
+impl From<OutOfMemory> for StepError {
+    ghost use Rattle.std.specs.Prelude.{◌≡◌};
+    ghost use Rattle.run_engine.specs.declared.errors.StepError.TheVariants as answers;
+
+    ghost from_gives = { λ _ e. e ≡ answers.OutOfMemory };
+
+    fn from(_: OutOfMemory) -> Self {
+        StepError::OutOfMemory
+    }
+}
