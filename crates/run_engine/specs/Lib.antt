@@ -4,3 +4,4 @@ pub mod Advance
 pub mod World
 pub mod Enabled
 pub mod Standing
+pub mod Refused

@@ -1,8 +1,8 @@
 -- A run's fields stand for its journal.
-use Rattle.std.specs.Prelude.{ℕ, ◌≡◌, ◌<◌, ◌^◌, List, length, false, Bool}
+use Rattle.std.specs.Prelude.{ℕ, ◌≡◌, ◌<◌, ◌^◌, List, length, true, false, Bool}
 use Rattle.run_events.specs.declared.settings.Settings.{Settings}
 use Rattle.run_model.specs.declared.entry.Entry.{Entry}
-use Rattle.run_model.specs.Words.{tests_in}
+use Rattle.run_model.specs.Words.{tests_in, is_over}
 use Rattle.run_model.specs.Journal.{past_of, IsLegal}
 use Rattle.run_engine.specs.State.{Stands}
 use Rattle.run_engine.specs.World.{World}
@@ -14,10 +14,11 @@ pub record IsRunnable (p : Settings) (journal : List Entry) : Type 0 where
   pub short : length journal < 2 ^ 32
   pub legal : IsLegal p journal
 
--- a run that want of memory didn't break has a state that stands for its journal
+-- a run that want of memory didn't break has a state that stands for its journal, and one that it broke isn't over
 pub record IsStanding (p : Settings) (journal : List Entry) (s : State) (broken : Bool) : Type 0 where
   pub runnable : IsRunnable p journal
   pub stands : broken ≡ false → Stands p (past_of p journal) s
+  pub unfinished : broken ≡ true → is_over (past_of p journal) ≡ false
 
 -- a run that isn't broken
 abbrev pub sound : Settings → List Entry → World

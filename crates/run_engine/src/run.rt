@@ -6,6 +6,7 @@ ghost use Rattle.run_model.specs.Words.{is_over};
 ghost use Rattle.run_engine.specs.State.{Stands};
 ghost use Rattle.run_engine.specs.World.{TakesTurn, CountsErrors, history_of};
 ghost use Rattle.run_engine.specs.Standing.{IsRunnable, sound};
+ghost use Rattle.run_engine.specs.Refused.{IsRefused, IfNotMemory};
 
 use crate::enabled::is_enabled;
 use crate::errors::StepError;
@@ -70,4 +71,125 @@ fn carry_out<C: Children, R: Reporter>(
     let Told { refused, refusal } = tell(alloc, report, told)?;
     journal.push_reserved(Entry { turn, refused });
     Ok(refusal)
+}
+
+impl Run {
+    // A run that has taken no turn.
+    pub(crate) fn begin(alloc: Global, settings: Settings, state: State) -> Self
+        requires few { length settings.plan.tests < 2 ^ 32 }
+        requires stands { Stands settings [] state }
+        ensures { result ≡ sound settings [] }
+    {
+        Run {
+            settings,
+            journal: Vec::new(alloc),
+            state,
+            broken: false,
+        }
+    }
+
+    // Takes a turn as `step` does, and answers the error of the reporter, where it refused the turn's event.
+    pub(crate) fn take<C: Children, R: Reporter>(
+        &mut self,
+        alloc: Global,
+        turn: Turn,
+        children: &mut C,
+        report: &mut R,
+    ) -> Result<Option<R::Error>, StepError>
+        ensures takes { IfOk result (λ refusal.
+            TakesTurn R.told C.asked self.old turn report.old children.old self.new report.new children.new refusal) }
+        ensures faults { IfOk result (λ refusal. CountsErrors (R.faults report.old) (R.faults report.new) refusal) }
+        ensures room { OnOk result (length self.old.journal < 4294967295) }
+        ensures sound { OnOk result (self.old.broken ≡ false) }
+        ensures refused { IfErr result (IsRefused self.old turn) }
+        ensures unchanged { IfErr result (λ e. IfNotMemory e (self.new ≡ self.old)) }
+        ensures reporter { IfErr result (λ e. IfNotMemory e (report.new ≡ report.old)) }
+        ensures children { IfErr result (λ e. IfNotMemory e (children.new ≡ children.old)) }
+        ensures broken { IsErrOf result StepError.OutOfMemory → self.new ≡ record self.old { broken = true } }
+        ensures over { IsErrOf result StepError.OutOfMemory → is_over (history_of self.old) ≡ false }
+    {
+        if self.broken {
+            return Err(StepError::OutOfMemory);
+        }
+        if self.journal.len() >= MOST_TURNS {
+            return Err(StepError::Full);
+        }
+        if !is_enabled(&self.settings, &self.state, &turn) {
+            return Err(StepError::NotEnabled);
+        }
+        let settings = &self.settings;
+        match carry_out(alloc, settings, &mut self.state, &mut self.journal, turn, children, report) {
+            Ok(refusal) => Ok(refusal),
+            Err(_) => {
+                self.broken = true;
+                Err(StepError::OutOfMemory)
+            }
+        }
+    }
+
+    /// Takes a turn, and answers its place in the journal, counted from 0. The turn is enabled after the journal,
+    /// which grows by it and the reporter's answers; its event is told and its ask asked as the tables say. A run
+    /// that want of memory broke answers that ever after.
+    pub fn step<C: Children, R: Reporter>(
+        &mut self,
+        alloc: Global,
+        turn: Turn,
+        children: &mut C,
+        report: &mut R,
+    ) -> Result<u64, StepError>
+        ensures place { IfOk result (λ place. place ≡ length self.old.journal) }
+        ensures takes { OnOk result ((refusal : Option R.Error)
+            × TakesTurn R.told C.asked self.old turn report.old children.old self.new report.new children.new refusal
+            × CountsErrors (R.faults report.old) (R.faults report.new) refusal) }
+
+        ensures refused { IfErr result (IsRefused self.old turn) }
+        ensures not_full { OnOk result (length self.old.journal < 4294967295) }
+        ensures unchanged { IfErr result (λ e. IfNotMemory e (self.new ≡ self.old)) }
+        ensures reporter { IfErr result (λ e. IfNotMemory e (report.new ≡ report.old)) }
+        ensures children { IfErr result (λ e. IfNotMemory e (children.new ≡ children.old)) }
+
+        ensures broken { IsErrOf result StepError.OutOfMemory → self.new ≡ record self.old { broken = true } }
+        ensures stays_broken { OnOk result (self.old.broken ≡ false) }
+        ensures over { IsErrOf result StepError.OutOfMemory → is_over (history_of self.old) ≡ false }
+    {
+        let place = self.journal.len() as u64;
+        match self.take(alloc, turn, children, report) {
+            Ok(_) => Ok(place),
+            Err(error) => Err(error),
+        }
+    }
+
+    /// Whether the run is over.
+    pub fn is_over(&self) -> bool
+        ensures over { result ≡ is_over (history_of self.now) }
+        ensures runnable { IsRunnable self.now.settings self.now.journal }
+    {
+        !self.broken && self.state.dispatcher.over
+    }
+
+    /// The outcome of a run that is over, and none of one that isn't.
+    pub fn outcome(&self) -> Option<RunOutcome>
+        ensures outcome { result ≡ outcome self.now.settings (history_of self.now) }
+        ensures runnable { IsRunnable self.now.settings self.now.journal }
+    {
+        if self.broken || !self.state.dispatcher.over {
+            return None;
+        }
+        Some(RunOutcome::from_final_stats(self.state.dispatcher.stats.summarize_final()))
+    }
+
+    /// The turns that it has taken, in order, each with the reporter's answers.
+    pub fn journal(&self) -> &[Entry]
+        ensures journal { result.now ≡ self.now.journal }
+        ensures runnable { IsRunnable self.now.settings self.now.journal }
+    {
+        self.journal.as_slice()
+    }
+
+    /// The settings that it goes by.
+    pub fn settings(&self) -> &Settings
+        ensures { result.now ≡ self.now.settings }
+    {
+        &self.settings
+    }
 }
