@@ -6,3 +6,5 @@ pub mod Ready
 pub mod EnabledLemmas
 pub mod JournalLemmas
 pub mod CarryLemmas
+pub mod StartLemmas
+pub mod TakesLemmas

@@ -5,3 +5,5 @@ pub mod World
 pub mod Enabled
 pub mod Standing
 pub mod Refused
+pub mod Execution
+pub mod Builder

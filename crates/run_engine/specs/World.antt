@@ -25,14 +25,15 @@ history_of w = past_of w.settings w.journal
 abbrev pub flagged : {X E : Type 0} → X × Option E → X × Bool
 flagged x = (x.0, is_some x.1)
 
+-- the first of two errors
+abbrev pub earlier : {E : Type 0} → Option E → Option E → Option E
+earlier None later = later
+earlier (Some e) later = Some e
+
 -- the first error among events that were told
 abbrev pub first_error : {X E : Type 0} → List (X × Option E) → Option E
 first_error [] = None
-first_error (x ∷ xs) = first_of_two x.1 (first_error xs)
-  where
-  first_of_two : {E : Type 0} → Option E → Option E → Option E
-  first_of_two None later = later
-  first_of_two (Some e) later = Some e
+first_error (x ∷ xs) = earlier x.1 (first_error xs)
 
 -- a reporter that had told a list has told these events after it, refused as marked, with this first error
 abbrev pub TellsEvents : {R E : Type 0} → (R → List (ReporterEvent × Option E) → Type 0) → R → R → List (ReporterEvent × Bool) → Option E → Type 0

@@ -3,17 +3,18 @@
 #![tactic(auto)]
 
 mod admission;
-// mod builder;
+mod builder;
 mod dispatcher;
 mod enabled;
 mod errors;
 mod run;
-// mod runner;
+mod runner;
+mod start;
 mod state;
 mod tell;
 mod turns;
 
-// pub use builder::TestRunnerBuilder;
+pub use builder::TestRunnerBuilder;
 pub use errors::{StepError, TestRunnerBuildError, TestRunnerExecuteErrors};
 pub use run::Run;
-// pub use runner::TestRunner;
+pub use runner::TestRunner;

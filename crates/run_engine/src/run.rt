@@ -100,7 +100,7 @@ impl Run {
             TakesTurn R.told C.asked self.old turn report.old children.old self.new report.new children.new refusal) }
         ensures faults { IfOk result (λ refusal. CountsErrors (R.faults report.old) (R.faults report.new) refusal) }
         ensures room { OnOk result (length self.old.journal < 4294967295) }
-        ensures sound { OnOk result (self.old.broken ≡ false) }
+        ensures stays_broken { self.old.broken ≡ true → IsErrOf result StepError.OutOfMemory }
         ensures refused { IfErr result (IsRefused self.old turn) }
         ensures unchanged { IfErr result (λ e. IfNotMemory e (self.new ≡ self.old)) }
         ensures reporter { IfErr result (λ e. IfNotMemory e (report.new ≡ report.old)) }
@@ -149,7 +149,7 @@ impl Run {
         ensures children { IfErr result (λ e. IfNotMemory e (children.new ≡ children.old)) }
 
         ensures broken { IsErrOf result StepError.OutOfMemory → self.new ≡ record self.old { broken = true } }
-        ensures stays_broken { OnOk result (self.old.broken ≡ false) }
+        ensures stays_broken { self.old.broken ≡ true → IsErrOf result StepError.OutOfMemory }
         ensures over { IsErrOf result StepError.OutOfMemory → is_over (history_of self.old) ≡ false }
     {
         let place = self.journal.len() as u64;

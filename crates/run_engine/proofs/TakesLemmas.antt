@@ -1,0 +1,139 @@
+-- Turns taken one after another.
+use Rattle.std.proofs.Common.{◌≡◌, ℕ, ◌+◌, ◌-◌, ◌^◌, ◌<◌, ◌≤◌, min, List, [], ◌∷◌, ◌++◌, length, map, zip, take, get_or, Bool, true, false, Option, Some, None, option_to_list, refl, ap, sym, subst, ◌∙◌, arith, append_assoc, length-append}
+use Rattle.std.proofs.lemmas.List.{append-nil, map-append, take_more}
+use Rattle.run_capture.specs.Faults.{Rose}
+use Rattle.run_events.specs.Tell.{Adds}
+use Rattle.run_events.specs.declared.settings.Settings.{Settings}
+use Rattle.run_events.specs.declared.turn.Turn.{Turn}
+use Rattle.run_events.specs.declared.turn.Turn.TheVariants.{Begin, Admit, Deliver, Started, Exit, Decide, End}
+use Rattle.run_events.specs.declared.message.Message.{Message}
+use Rattle.run_events.specs.declared.message.Message.TheVariants.{Start, Finish}
+use Rattle.run_events.specs.declared.ask.Ask.{Ask}
+use Rattle.run_events.specs.declared.events.ReporterEvent.{ReporterEvent}
+use Rattle.run_model.specs.declared.entry.Entry.{Entry}
+use Rattle.run_model.specs.declared.happening.Happening.{Happening}
+use Rattle.run_model.specs.declared.unit_turn.UnitTurn.{UnitTurn}
+use Rattle.run_model.specs.declared.unit_view.UnitView.{UnitView}
+use Rattle.run_model.specs.Words.{answers, asked, clock, queue, reason, unit_of, units, tests_in}
+use Rattle.run_model.specs.Admission.{newcomer}
+use Rattle.run_model.specs.Turns.{turn_of_unit, taken_by, admission, start_delivery, delivery, happened, happening}
+use Rattle.run_model.specs.Journal.{past_of}
+use Rattle.run_engine.specs.World.{World, flagged, earlier, first_error, TellsEvents, CountsErrors, TakesTurn, entry_of}
+use Rattle.run_engine.specs.Standing.{IsRunnable, sound}
+use Rattle.run_engine.specs.Execution.{Takes, turns_of}
+use Rattle.run_engine.proofs.JournalLemmas.{past_of-push, past_of-length, legal-push}
+
+-- what a turn does keeps its entry's answers
+taken_refused : (now : ℕ) (e : Entry) (k : ℕ) (turn : UnitTurn) (v : Option UnitView) → (taken_by now e k turn v).refused ≡ e.refused
+taken_refused now e k turn None = refl
+taken_refused now e k turn (Some u) = refl
+
+admission_refused : (e : Entry) (v : Option UnitView) → (admission e v).refused ≡ e.refused
+admission_refused e None = refl
+admission_refused e (Some u) = refl
+
+start_refused : (go : Bool) (x : Happening) (event : ReporterEvent) → (start_delivery go x event).refused ≡ x.refused
+start_refused true x event = refl
+start_refused false x event = refl
+
+delivery_refused : (p : Settings) (past : List Happening) (e : Entry) (q : List Message) → (delivery p past e q).refused ≡ e.refused
+delivery_refused p past e [] = refl
+delivery_refused p past e (Start k id command slot ∷ rest) = start_refused _ _ _ ∙ taken_refused (clock past) e k _ (unit_of k past)
+delivery_refused p past e (Finish k id statuses ∷ rest) = refl
+
+happened_refused : (p : Settings) (past : List Happening) (e : Entry) (turn : Turn) → (happened p past e turn (turn_of_unit turn)).refused ≡ e.refused
+happened_refused p past e Begin = refl
+happened_refused p past e Admit = admission_refused e (newcomer p (units p past))
+happened_refused p past e Deliver = delivery_refused p past e (queue past)
+happened_refused p past e (Started unit pid) = taken_refused (clock past) e unit _ (unit_of unit past)
+happened_refused p past e (Exit unit exit) = taken_refused (clock past) e unit _ (unit_of unit past)
+happened_refused p past e (Decide unit word) = taken_refused (clock past) e unit _ (unit_of unit past)
+happened_refused p past e End = refl
+
+-- the events of a journal with one more entry
+pub answers-push : (p : Settings) (journal : List Entry) (e : Entry)
+    → answers (past_of p (journal ++ e ∷ [])) ≡ answers (past_of p journal) ++ zip (option_to_list (happening p (past_of p journal) e).told) e.refused
+answers-push p journal e =
+    ap answers (past_of-push p journal e)
+    ∙ ap (λ refused. answers (past_of p journal) ++ zip (option_to_list (happening p (past_of p journal) e).told) refused)
+        (happened_refused p (past_of p journal) e e.turn)
+
+-- the asks of a journal with one more entry
+pub asked-push : (p : Settings) (journal : List Entry) (e : Entry)
+    → asked (past_of p (journal ++ e ∷ [])) ≡ asked (past_of p journal) ++ map (λ ask. (length journal, ask)) (option_to_list (happening p (past_of p journal) e).asked)
+asked-push p journal e =
+    ap asked (past_of-push p journal e)
+    ∙ ap (λ n. asked (past_of p journal) ++ map (λ ask. (n, ask)) (option_to_list (happening p (past_of p journal) e).asked)) (past_of-length p journal)
+
+-- the first error of two lists
+earlier-assoc : {E : Type 0} (a b c : Option E) → earlier (earlier a b) c ≡ earlier a (earlier b c)
+earlier-assoc None b c = refl
+earlier-assoc (Some e) b c = refl
+
+first_error-append : {X E : Type 0} (xs ys : List (X × Option E)) → first_error (xs ++ ys) ≡ earlier (first_error xs) (first_error ys)
+first_error-append [] ys = refl
+first_error-append (x ∷ xs) ys = ap (earlier x.1) (first_error-append xs ys) ∙ sym (earlier-assoc x.1 (first_error xs) (first_error ys))
+
+-- what was told, and then more
+tells_both : {R E : Type 0} (tells : R → List (ReporterEvent × Option E) → Type 0) (a b c : R) (es fs : List (ReporterEvent × Bool)) (first later : Option E)
+    → TellsEvents tells a b es first → TellsEvents tells b c fs later → TellsEvents tells a c (es ++ fs) (earlier first later)
+tells_both tells a b c es fs first later f g xs t =
+    let one = f xs t in
+    let two = g (xs ++ one.0) one.1 in
+    (one.0 ++ two.0,
+     subst (tells c) (append_assoc xs one.0 two.0) two.1,
+     map-append flagged one.0 two.0 ∙ ap (λ us. us ++ map flagged two.0) one.2 ∙ ap (λ vs. es ++ vs) two.2,
+     first_error-append one.0 two.0 ∙ ap (λ o. earlier o (first_error two.0)) one.3 ∙ ap (earlier first) two.3)
+
+-- what was asked, and then more
+adds_both : {S X : Type 0} (holds : S → List X → Type 0) (a b c : S) (xs ys : List X) → Adds holds a b xs → Adds holds b c ys → Adds holds a c (xs ++ ys)
+adds_both holds a b c xs ys f g zs t = subst (holds c) (append_assoc zs xs ys) (g (zs ++ xs) (f zs t))
+
+-- a count that rose or stayed, and then rose or stayed
+counts_both : {E : Type 0} (a b c : ℕ) (first later : Option E) → CountsErrors a b first → CountsErrors b c later → CountsErrors a c (earlier first later)
+counts_both a b c None later f g = subst (λ n. CountsErrors n c later) f g
+counts_both a b c (Some e) None f g = (omega arith, omega arith)
+counts_both a b c (Some e) (Some d) f g = (omega arith, omega arith)
+
+-- no turn taken
+pub takes-nil : {R E C : Type 0} (tells : R → List (ReporterEvent × Option E) → Type 0) (asks : C → List (ℕ × Ask) → Type 0)
+    (p : Settings) (report : R) (children : C) (faults : ℕ) → tests_in p < 2 ^ 32
+    → Takes {R = R} {E = E} {C = C} tells asks p [] report report children children faults faults None
+takes-nil tells asks p report children faults few = record {
+  runnable = record { few = few; short = omega arith; legal = tt };
+  told = λ xs t. ([], subst (tells report) (sym (append-nil xs)) t, refl, refl);
+  asked = λ xs t. subst (asks children) (sym (append-nil xs)) t;
+  counted = refl
+}
+
+-- one more turn taken
+pub takes-more : {R E C : Type 0} (tells : R → List (ReporterEvent × Option E) → Type 0) (asks : C → List (ℕ × Ask) → Type 0)
+    (p : Settings) (journal : List Entry) (a b c : R) (d e f : C) (m n o : ℕ) (first later : Option E) (turn : Turn) (new : World)
+    → Takes tells asks p journal a b d e m n first
+    → TakesTurn tells asks (sound p journal) turn b e new c f later
+    → CountsErrors n o later
+    → length journal + 1 < 2 ^ 32
+    → Takes tells asks p new.journal a c d f m o (earlier first later)
+takes-more tells asks p journal a b c d e f m n o first later turn new so_far step counted room =
+    subst (λ (w : World). Takes tells asks p w.journal a c d f m o (earlier first later)) (sym step.grown) (record {
+        runnable = record {
+            few = so_far.runnable.few;
+            short = omega (arith, length-append journal (entry_of turn step.refused ∷ []));
+            legal = legal-push p journal (entry_of turn step.refused) so_far.runnable.legal step.is_enabled step.answered
+        };
+        told = subst (λ es. TellsEvents tells a c es (earlier first later)) (sym (answers-push p journal (entry_of turn step.refused)))
+            (tells_both tells a b c (answers (past_of p journal)) _ first later so_far.told step.told);
+        asked = subst (λ es. Adds asks d f es) (sym (asked-push p journal (entry_of turn step.refused)))
+            (adds_both asks d e f (asked (past_of p journal)) _ so_far.asked step.asked);
+        counted = counts_both m n o first later so_far.counted counted
+    })
+
+-- the turns of a journal with one more entry
+pub turns-push : (journal : List Entry) (turns : List Turn) (place : ℕ) (turn : Turn) (refused : List Bool) → place < length turns
+    → turns_of journal ≡ take place turns → turn ≡ get_or turns place Begin
+    → turns_of (journal ++ entry_of turn refused ∷ []) ≡ take (place + 1) turns
+turns-push journal turns place turn refused inside so_far is =
+    map-append (λ (e : Entry). e.turn) journal (entry_of turn refused ∷ [])
+    ∙ ap (λ ts. ts ++ turn ∷ []) so_far
+    ∙ ap (λ t. take place turns ++ t ∷ []) is
+    ∙ sym (take_more turns place Begin inside)

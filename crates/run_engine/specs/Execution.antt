@@ -1,0 +1,77 @@
+-- What carrying out a list of turns does, and what each answer says of it.
+use Rattle.std.specs.Prelude.{ℕ, ◌≡◌, List, [], ◌∷◌, length, map, take, slice_get, Bool, true, false, Option, Some, None, Result, Ok, Err, ⊤}
+use Rattle.run_events.specs.Tell.{Adds}
+use Rattle.run_events.specs.declared.settings.Settings.{Settings}
+use Rattle.run_events.specs.declared.turn.Turn.{Turn}
+use Rattle.run_events.specs.declared.ask.Ask.{Ask}
+use Rattle.run_events.specs.declared.events.ReporterEvent.{ReporterEvent}
+use Rattle.run_events.specs.declared.outcome.RunOutcome.{RunOutcome}
+use Rattle.run_model.specs.declared.entry.Entry.{Entry}
+use Rattle.run_model.specs.Words.{answers, asked, is_over}
+use Rattle.run_model.specs.Turns.{enabled}
+use Rattle.run_model.specs.Journal.{past_of, outcome}
+use Rattle.run_engine.specs.World.{World, TellsEvents, CountsErrors}
+use Rattle.run_engine.specs.Standing.{IsRunnable}
+use Rattle.run_engine.specs.declared.runner.Stop.{Stop}
+use Rattle.run_engine.specs.declared.runner.Stop.TheVariants as stops
+use Rattle.run_engine.specs.declared.errors.TestRunnerExecuteErrors.{TestRunnerExecuteErrors}
+use Rattle.run_engine.specs.declared.errors.TestRunnerExecuteErrors.TheVariants.{Report, NotEnabled, Unfinished, OutOfMemory}
+
+-- the turns of a journal
+abbrev pub turns_of : List Entry → List Turn
+turns_of journal = map (λ e. e.turn) journal
+
+-- a run of this plan has taken the turns of a journal: the reporter has told its events and the children were asked
+-- its asks, in order, and nothing else; the refusal is the reporter's first error
+pub record Takes {R E C : Type 0} (tells : R → List (ReporterEvent × Option E) → Type 0) (asks : C → List (ℕ × Ask) → Type 0)
+    (p : Settings) (journal : List Entry) (report report_after : R) (children children_after : C) (faults faults_after : ℕ) (refusal : Option E)
+    : Type 0 where
+  pub runnable : IsRunnable p journal
+  pub told : TellsEvents tells report report_after (answers (past_of p journal)) refusal
+  pub asked : Adds asks children children_after (asked (past_of p journal))
+  pub counted : CountsErrors faults faults_after refusal
+
+-- what each answer says of the turns given, the journal of the call and the reporter's first error
+abbrev pub IsAnswerOf : {E : Type 0} → Settings → List Turn → List Entry → Option E → Result RunOutcome (TestRunnerExecuteErrors E) → Type 0
+IsAnswerOf p turns journal refusal (Ok o) =
+    (turns_of journal ≡ turns) × (outcome p (past_of p journal) ≡ Some o) × (refusal ≡ None)
+IsAnswerOf p turns journal refusal (Err (Report e)) =
+    (turns_of journal ≡ turns) × (is_over (past_of p journal) ≡ true) × (refusal ≡ Some e)
+IsAnswerOf p turns journal refusal (Err (NotEnabled i)) =
+    (turns_of journal ≡ take i turns) × ((turn : Turn) × (slice_get turns i ≡ Some turn) × (enabled p (past_of p journal) turn ≡ false))
+IsAnswerOf p turns journal refusal (Err Unfinished) =
+    (turns_of journal ≡ turns) × (is_over (past_of p journal) ≡ false)
+IsAnswerOf p turns journal refusal (Err OutOfMemory) = ⊤
+
+-- a fact that holds unless memory was wanting
+abbrev pub UnlessMemory : {E : Type 0} → Result RunOutcome (TestRunnerExecuteErrors E) → Type 0 → Type 0
+UnlessMemory (Ok o) fact = fact
+UnlessMemory (Err (Report e)) fact = fact
+UnlessMemory (Err (NotEnabled i)) fact = fact
+UnlessMemory (Err Unfinished) fact = fact
+UnlessMemory (Err OutOfMemory) fact = ⊤
+
+-- the journal of a call that carries out turns, and what its answer says of it
+pub record Executes {R E C : Type 0} (tells : R → List (ReporterEvent × Option E) → Type 0) (asks : C → List (ℕ × Ask) → Type 0)
+    (p : Settings) (turns : List Turn) (report report_after : R) (children children_after : C) (faults faults_after : ℕ)
+    (answer : Result RunOutcome (TestRunnerExecuteErrors E)) : Type 0 where
+  pub journal : List Entry
+  pub refusal : Option E
+  pub takes : Takes tells asks p journal report report_after children children_after faults faults_after refusal
+  pub says : IsAnswerOf p turns journal refusal answer
+
+-- a list of turns stops where the turn at that place isn't enabled after the turns before it
+abbrev pub StopsAt : {R E C : Type 0} → (R → List (ReporterEvent × Option E) → Type 0) → (C → List (ℕ × Ask) → Type 0)
+    → Settings → List Turn → List Entry → R → R → C → C → ℕ → ℕ → Stop → Type 0
+StopsAt {R} {E} tells asks p turns journal report report_after children children_after faults faults_after (stops.NotEnabled i) =
+    ((refusal : Option E) × Takes tells asks p journal report report_after children children_after faults faults_after refusal)
+    × (turns_of journal ≡ take i turns)
+    × ((turn : Turn) × (slice_get turns i ≡ Some turn) × (enabled p (past_of p journal) turn ≡ false))
+StopsAt tells asks p turns journal report report_after children children_after faults faults_after stops.OutOfMemory = ⊤
+
+-- what is answered at the end of all turns, by the run's outcome and the reporter's first error
+abbrev pub IsFinal : {E : Type 0} → Option RunOutcome → Option E → Result RunOutcome (TestRunnerExecuteErrors E) → Type 0
+IsFinal ended refusal (Ok o) = (ended ≡ Some o) × (refusal ≡ None)
+IsFinal ended refusal (Err (Report e)) = ((o : RunOutcome) × (ended ≡ Some o)) × (refusal ≡ Some e)
+IsFinal ended refusal (Err Unfinished) = ended ≡ None
+IsFinal ended refusal (Err _) = ⊥

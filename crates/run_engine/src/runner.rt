@@ -1,0 +1,183 @@
+// A runner carries out the turns of a run.
+ghost use Rattle.std.specs.Prelude.{◌≡◌, ◌<◌, ◌^◌, ◌∷◌, [], length, map, take, slice_get, IfOk, IfErr, OnOk, Option, Some, None, List, true, false};
+ghost use Rattle.run_events.specs.Tell.{Adds};
+ghost use Rattle.run_model.specs.declared.entry.Entry.{Entry};
+ghost use Rattle.run_model.specs.Turns.{enabled};
+ghost use Rattle.run_engine.specs.World.{earlier, history_of};
+ghost use Rattle.run_engine.specs.Standing.{sound};
+ghost use Rattle.run_engine.specs.Execution.{Takes, Executes, UnlessMemory, turns_of, StopsAt, IsFinal};
+ghost use Rattle.run_model.specs.Journal.{outcome};
+ghost use Rattle.run_model.specs.Words.{is_over};
+
+use crate::errors::{StepError, TestRunnerExecuteErrors};
+use crate::run::Run;
+use crate::start::new_state;
+use run_capture::{Duplicate, Mem};
+use run_events::{Children, EventLog, Reporter, RunOutcome, Settings, Turn};
+use std::alloc::Global;
+use std::convert::Infallible;
+use std::marker::Model;
+use uuid::Uuid;
+
+/// Carries out runs of a plan.
+#[derive(Drop)]
+pub struct TestRunner {
+    settings: Settings,
+}
+
+impl Model for TestRunner {
+    ghost use Rattle.std.specs.Prelude.{◌<◌, ◌^◌, length};
+    ghost use Rattle.run_events.specs.declared.settings.Settings.{Settings};
+
+    ghost Value = { Settings };
+
+    ghost view = { λ r. r.settings };
+
+    ghost invariant = { λ r. length r.settings.plan.tests < 2 ^ 32 };
+}
+
+/// Why a list of turns stops before its end.
+#[derive(Drop)]
+pub enum Stop {
+    /// The turn at this place isn't enabled.
+    NotEnabled { turn: u64 },
+    OutOfMemory,
+}
+
+// The first of two errors.
+fn first_of<E: Drop>(first: Option<E>, later: Option<E>) -> Option<E>
+    ensures { result ≡ earlier first later }
+{
+    match first {
+        Some(error) => Some(error),
+        None => later,
+    }
+}
+
+// A copy of a turn.
+fn copy_of(alloc: Global, turn: &Turn) -> Result<Turn, Stop>
+    ensures ok { IfOk result (λ t. t ≡ turn.now) }
+    ensures err { IfErr result (λ stop. stop ≡ Stop.OutOfMemory) }
+{
+    turn.copy(alloc).map_err(|_| Stop::OutOfMemory)
+}
+
+// Takes all turns, and answers the reporter's first error.
+fn take_all<C: Children, R: Reporter>(
+    alloc: Global,
+    run: &mut Run,
+    turns: &[Turn],
+    children: &mut C,
+    report: &mut R,
+) -> Result<Option<R::Error>, Stop>
+    requires fresh { run.old ≡ sound run.old.settings [] }
+    requires tests { length run.old.settings.plan.tests < 2 ^ 32 }
+    requires few { length turns.now < 2 ^ 32 }
+    ensures ok { IfOk result (λ refusal. Takes R.told C.asked run.old.settings run.new.journal report.old report.new
+        children.old children.new (R.faults report.old) (R.faults report.new) refusal) }
+    ensures all { OnOk result (turns_of run.new.journal ≡ turns.now) }
+    ensures run { OnOk result (run.new ≡ sound run.old.settings run.new.journal) }
+    ensures stopped { IfErr result (StopsAt R.told C.asked run.old.settings turns.now run.new.journal report.old report.new
+        children.old children.new (R.faults report.old) (R.faults report.new)) }
+{
+    let mut first = None;
+    for (place, turn) in turns.iter().enumerate() {
+        let turn = copy_of(alloc, turn)?;
+        match run.take(alloc, turn, children, report) {
+            Ok(refusal) => first = first_of(first, refusal),
+            Err(StepError::NotEnabled) => return Err(Stop::NotEnabled { turn: place as u64 }),
+            Err(StepError::Full) => unreachable!(),
+            Err(StepError::OutOfMemory) => return Err(Stop::OutOfMemory),
+        }
+    }
+    Ok(first)
+}
+
+// What a run that has taken all turns answers.
+fn answer<E: Drop>(run: &Run, refusal: Option<E>) -> Result<RunOutcome, TestRunnerExecuteErrors<E>>
+    ensures ended { IsFinal (outcome run.now.settings (history_of run.now)) refusal result }
+    ensures unfinished { outcome run.now.settings (history_of run.now) ≡ None → is_over (history_of run.now) ≡ false }
+{
+    match (run.outcome(), refusal) {
+        (None, _) => Err(TestRunnerExecuteErrors::Unfinished),
+        (Some(outcome), None) => Ok(outcome),
+        (Some(_), Some(error)) => Err(TestRunnerExecuteErrors::Report(error)),
+    }
+}
+
+impl TestRunner {
+    // A runner with these settings.
+    pub(crate) fn new(settings: Settings) -> Self
+        requires { length settings.plan.tests < 2 ^ 32 }
+        ensures { result ≡ settings }
+    {
+        TestRunner { settings }
+    }
+
+    /// The id of the run.
+    pub fn run_id(&self) -> Uuid
+        ensures { result ≡ self.now.plan.run_id }
+    {
+        self.settings.plan.run_id
+    }
+
+    /// How many tests may run at a time.
+    pub fn test_threads(&self) -> u32
+        ensures { result ≡ self.now.threads }
+    {
+        self.settings.threads
+    }
+
+    /// The effective settings, with the plan.
+    pub fn settings(&self) -> &Settings
+        ensures { result.now ≡ self.now }
+    {
+        &self.settings
+    }
+
+    /// A run that has taken no turn.
+    pub fn into_run(self, alloc: Global) -> Mem<Run>
+        ensures { IfOk result (λ run. run ≡ sound self []) }
+    {
+        let state = new_state(alloc, &self.settings)?;
+        Ok(Run::begin(alloc, self.settings, state))
+    }
+
+    /// Carries out the turns of a run, fewer than 2^32. The reporter is told each event, also after it refused one, and
+    /// what was told and asked stands after any error. The answer is the outcome of a run that is over; else the first
+    /// turn that isn't enabled, or that the run isn't over, or the reporter's first error in a run that is over.
+    pub fn try_execute<C: Children, R: Reporter>(
+        self,
+        alloc: Global,
+        turns: &[Turn],
+        children: &mut C,
+        report: &mut R,
+    ) -> Result<RunOutcome, TestRunnerExecuteErrors<R::Error>>
+        requires { length turns.now < 2 ^ 32 }
+        ensures { UnlessMemory result (Executes R.told C.asked self turns.now report.old report.new children.old children.new
+            (R.faults report.old) (R.faults report.new) result) }
+    {
+        let Ok(mut run) = self.into_run(alloc) else {
+            return Err(TestRunnerExecuteErrors::OutOfMemory);
+        };
+        match take_all(alloc, &mut run, turns, children, report) {
+            Ok(refusal) => answer(&run, refusal),
+            Err(Stop::NotEnabled { turn }) => Err(TestRunnerExecuteErrors::NotEnabled { turn }),
+            Err(Stop::OutOfMemory) => Err(TestRunnerExecuteErrors::OutOfMemory),
+        }
+    }
+
+    /// Carries out the turns of a run, as `try_execute` does, with a log that refuses no event.
+    pub fn execute<C: Children>(
+        self,
+        alloc: Global,
+        turns: &[Turn],
+        children: &mut C,
+        log: &mut EventLog,
+    ) -> Result<RunOutcome, TestRunnerExecuteErrors<Infallible>>
+        requires { length turns.now < 2 ^ 32 }
+        ensures { UnlessMemory result (Executes ⟦<EventLog as Reporter>⟧.told C.asked self turns.now log.old log.new children.old children.new 0 0 result) }
+    {
+        self.try_execute(alloc, turns, children, log)
+    }
+}
