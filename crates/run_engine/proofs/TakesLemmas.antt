@@ -41,7 +41,7 @@ delivery_refused p past e [] = refl
 delivery_refused p past e (Start k id command slot ∷ rest) = start_refused _ _ _ ∙ taken_refused (clock past) e k _ (unit_of k past)
 delivery_refused p past e (Finish k id statuses ∷ rest) = refl
 
-happened_refused : (p : Settings) (past : List Happening) (e : Entry) (turn : Turn) → (happened p past e turn (turn_of_unit turn)).refused ≡ e.refused
+pub happened_refused : (p : Settings) (past : List Happening) (e : Entry) (turn : Turn) → (happened p past e turn (turn_of_unit turn)).refused ≡ e.refused
 happened_refused p past e Begin = refl
 happened_refused p past e Admit = admission_refused e (newcomer p (units p past))
 happened_refused p past e Deliver = delivery_refused p past e (queue past)

@@ -1,0 +1,101 @@
+-- The lines that a reporter wrote are those of the events that the journal told.
+use Rattle.std.proofs.Common.{◌≡◌, ℕ, suc, List, [], ◌∷◌, ◌++◌, length, map, zip, Bool, Option, Some, None, option_to_list, reverse, Result, Ok, Err, IsSome, ◌<◌, refl, ap, sym, subst, ◌∙◌, arith}
+use Rattle.std.proofs.lemmas.List.{map-append}
+use Rattle.run_capture.specs.Bytes.{Takes}
+use Rattle.run_events.specs.declared.settings.Settings.{Settings}
+use Rattle.run_events.specs.declared.events.ReporterEvent.{ReporterEvent}
+use Rattle.run_model.specs.declared.entry.Entry.{Entry}
+use Rattle.run_model.specs.declared.happening.Happening.{Happening}
+use Rattle.run_model.specs.Words.{told, asked, answers}
+use Rattle.run_model.specs.Turns.{happening}
+use Rattle.run_model.specs.Journal.{history, past_of, IsLegalBackward}
+use Rattle.run_engine.specs.World.{flagged, earlier, first_error, CountsErrors}
+use Rattle.run_engine.proofs.TakesLemmas.{happened_refused}
+use Rattle.run_output.specs.Fields.{line_of}
+use Rattle.run_output.specs.Events.{event_text}
+use Rattle.run_output.specs.Told.{IsLine, AreLines, TookLines}
+use Rattle.run_cli.specs.Text.{event_lines}
+use Rattle.run_cli.specs.Executed.{IsExecuted}
+use Rattle.run_capture.specs.declared.source.Failed.{Failed}
+use Rattle.run_events.specs.declared.turn.Turn.{Turn}
+use Rattle.run_events.specs.declared.ask.Ask.{Ask}
+use Rattle.run_events.specs.declared.outcome.RunOutcome.{RunOutcome}
+use Rattle.run_engine.specs.Standing.{IsRunnable}
+use Rattle.run_engine.specs.Execution.{IsAnswerOf, UnlessMemory}
+use Rattle.run_engine.specs.declared.errors.TestRunnerExecuteErrors.{TestRunnerExecuteErrors}
+use Rattle.run_engine.specs.declared.errors.TestRunnerExecuteErrors.TheVariants.{Report, NotEnabled, Unfinished, OutOfMemory}
+use Rattle.run_output.specs.Refusals.{CountsSince}
+
+-- an event beside its one answer is the event
+zip_first : {X : Type 0} (o : Option X) (bs : List Bool) → length bs ≡ length (option_to_list o) → map (λ x. x.0) (zip (option_to_list o) bs) ≡ option_to_list o
+zip_first None bs e = refl
+zip_first (Some x) [] e = cc
+zip_first (Some x) (b ∷ bs) e = refl
+
+-- the answers of a legal journal are to the events that it told
+pub answers-told : (p : Settings) (backward : List Entry) → IsLegalBackward p backward
+    → map (λ x. x.0) (answers (history p backward)) ≡ told (history p backward)
+answers-told p [] legal = refl
+answers-told p (e ∷ before) legal =
+    let x : Happening = happening p (history p before) e in
+    map-append (λ x. x.0) (answers (history p before)) (zip (option_to_list x.told) x.refused)
+    ∙ ap (λ es. es ++ map (λ x. x.0) (zip (option_to_list x.told) x.refused)) (answers-told p before legal.2)
+    ∙ ap (λ es. told (history p before) ++ es)
+        (ap (λ refused. map (λ x. x.0) (zip (option_to_list x.told) refused)) (happened_refused p (history p before) e e.turn)
+            ∙ zip_first x.told e.refused legal.1)
+
+-- a line of an event that wasn't refused, and then those of the others
+one_whole : {E : Type 0} (event : ReporterEvent) (error later : Option E) (bytes line rest others : List ℕ)
+    → earlier error later ≡ None → IsLine event error line → (later ≡ None → rest ≡ others) → bytes ≡ line ++ rest
+    → bytes ≡ line_of (event_text event) ++ others
+one_whole event None later bytes line rest others none is same e =
+    e ∙ ap (λ l. l ++ rest) is ∙ ap (λ r. line_of (event_text event) ++ r) (same none)
+one_whole event (Some d) later bytes line rest others none is same e = cc
+
+-- where no event was refused, the lines are whole
+lines_whole : {E : Type 0} (ys : List (ReporterEvent × Option E)) (bytes : List ℕ) → first_error ys ≡ None → AreLines ys bytes
+    → bytes ≡ event_lines (map (λ y. y.0) ys)
+lines_whole [] bytes none lines = lines
+lines_whole (y ∷ ys) bytes none lines = one_whole y.0 y.1 (first_error ys) bytes lines.0 lines.1 (event_lines (map (λ y. y.0) ys)) none lines.2
+    (λ none. lines_whole ys lines.1 none lines.3) lines.4
+
+-- the marks of events leave the events
+flags_first : {X E : Type 0} (ys : List (X × Option E)) → map (λ x. x.0) (map flagged ys) ≡ map (λ y. y.0) ys
+flags_first [] = refl
+flags_first (y ∷ ys) = ap (λ zs. y.0 ∷ zs) (flags_first ys)
+
+-- a run whose events the sink took, from what the reporter told and counted
+pub executed_from : (p : Settings) (turns : List Turn) (before now : Option (List ℕ)) (faults faults_after refusals : ℕ) (asks : List (ℕ × Ask))
+    (answer : Result RunOutcome (TestRunnerExecuteErrors Failed)) (journal : List Entry) (refusal : Option Failed) (ys : List (ReporterEvent × Option Failed))
+    → IsRunnable p journal → IsAnswerOf p turns journal refusal answer → asks ≡ asked (past_of p journal)
+    → TookLines before now ys → map flagged ys ≡ answers (past_of p journal) → first_error ys ≡ refusal
+    → CountsErrors 0 refusals refusal → CountsSince faults faults_after refusals
+    → IsExecuted p turns before now faults faults_after asks answer
+executed_from p turns before now faults faults_after refusals asks answer journal refusal ys runnable says asked_is took flags first counted since = record {
+  journal = journal;
+  refusal = refusal;
+  runnable = runnable;
+  says = says;
+  asked = asked_is;
+  told = λ none. subst (Takes before now)
+      (lines_whole ys took.0 (first ∙ none) took.1
+          ∙ ap event_lines (sym (flags_first ys) ∙ ap (map (λ x. x.0)) flags ∙ answers-told p (reverse journal) runnable.legal))
+      took.2;
+  quiet = λ none. since.0 (quiet_count refusal none counted);
+  risen = λ some. since.1 (risen_count refusal some counted)
+}
+  where
+  quiet_count : (o : Option Failed) → o ≡ None → CountsErrors 0 refusals o → refusals ≡ 0
+  quiet_count None e h = h
+  quiet_count (Some d) e h = cc
+  risen_count : (o : Option Failed) → IsSome o → CountsErrors 0 refusals o → 0 < refusals
+  risen_count None s h = cc
+  risen_count (Some d) s h = omega arith
+
+-- a fact that follows from another follows unless memory was wanting
+pub unless_weaker : {E : Type 0} (r : Result RunOutcome (TestRunnerExecuteErrors E)) (P Q : Type 0) → (P → Q) → UnlessMemory r P → UnlessMemory r Q
+unless_weaker (Ok o) P Q f h = f h
+unless_weaker (Err (Report e)) P Q f h = f h
+unless_weaker (Err (NotEnabled i)) P Q f h = f h
+unless_weaker (Err Unfinished) P Q f h = f h
+unless_weaker (Err OutOfMemory) P Q f h = h

@@ -1,0 +1,22 @@
+use Rattle.std.proofs.Common.{ap, subst, ◌∙◌, arith, ◌≡◌, take, ◌++◌}
+use Rattle.run_capture.specs.Bytes.{Takes}
+use Rattle.run_capture.proofs.BytesLemmas.{takes_both}
+use Rattle.run_output.specs.Fields.{line_of}
+use Rattle.run_output.specs.Asks.{ask_text}
+use Rattle.run_cli.specs.Text.{ask_lines}
+use Rattle.run_cli.proofs.TextLemmas.{ask_lines-take}
+use Rattle.run_cli.proofs.write.write_asks.Goals as goal
+
+pub loop-ask-preserved : goal.loop-ask-preserved
+loop-ask-preserved g c =
+    let ask = c.ask-item.result in
+    let i = c.loop-ask.ask-index in
+    let line : Takes (g.K.Sink.taken c.loop-ask.sink) (g.K.Sink.taken c.write_line.new.sink) (line_of (ask_text ask.0 ask.1)) =
+        subst (λ text. Takes (g.K.Sink.taken c.loop-ask.sink) (g.K.Sink.taken c.write_line.new.sink) (line_of text))
+            c.in_ok-line.ensures c.in_ok-write_line.ensures.ok in
+    record {
+        taken = subst (Takes (g.K.Sink.taken c.args.sink.now) (g.K.Sink.taken c.write_line.new.sink))
+            (ask_lines-take c.args.asks.now i ask (omega arith) c.ask-item.is)
+            (takes_both _ _ _ (ask_lines (take i c.args.asks.now)) (line_of (ask_text ask.0 ask.1)) c.loop-ask.invariant.taken line);
+        faults = c.in_ok-write_line.ensures.counted ∙ c.loop-ask.invariant.faults
+    }

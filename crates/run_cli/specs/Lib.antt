@@ -1,0 +1,4 @@
+pub mod Text
+pub mod Given
+pub mod Write
+pub mod Executed

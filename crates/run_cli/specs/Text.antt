@@ -1,0 +1,49 @@
+-- The text of a run: the lines of what it told and asked, and its last line.
+use Rattle.std.specs.Prelude.{ℕ, List, [], ◌∷◌, ◌++◌, Result, Ok, Err}
+use Rattle.run_events.specs.declared.ask.Ask.{Ask}
+use Rattle.run_events.specs.declared.events.ReporterEvent.{ReporterEvent}
+use Rattle.run_events.specs.declared.outcome.RunStep.{RunStep}
+use Rattle.run_events.specs.declared.outcome.RunStep.TheVariants as steps
+use Rattle.run_events.specs.declared.outcome.RunOutcome.{RunOutcome}
+use Rattle.run_events.specs.declared.outcome.RunOutcome.TheVariants as outcomes
+use Rattle.run_model.specs.declared.happening.Happening.{Happening}
+use Rattle.run_model.specs.Words.{told, asked}
+use Rattle.run_output.specs.declared.fault.Fault.{Fault}
+use Rattle.run_output.specs.Fields.{line_of}
+use Rattle.run_output.specs.Events.{event_text}
+use Rattle.run_output.specs.Asks.{ask_text}
+use Rattle.run_output.specs.Outcomes.{outcome_text}
+use Rattle.run_output.specs.Faults.{fault_text, fault_status}
+
+-- the lines of events, in order
+abbrev pub event_lines : List ReporterEvent → List ℕ
+event_lines [] = []
+event_lines (event ∷ events) = line_of (event_text event) ++ event_lines events
+
+-- the lines of asks, in order
+abbrev pub ask_lines : List (ℕ × Ask) → List ℕ
+ask_lines [] = []
+ask_lines (ask ∷ asks) = line_of (ask_text ask.0 ask.1) ++ ask_lines asks
+
+-- the last line: the outcome, or the fault
+abbrev pub last_text : Result RunOutcome Fault → List ℕ
+last_text (Ok outcome) = outcome_text outcome
+last_text (Err fault) = fault_text fault
+
+-- the lines of a history: what it told, then what it asked, then the last line
+abbrev pub history_text : List Happening → Result RunOutcome Fault → List ℕ
+history_text past ending = event_lines (told past) ++ (ask_lines (asked past) ++ line_of (last_text ending))
+
+-- the status of an outcome
+abbrev pub outcome_status : RunOutcome → ℕ
+outcome_status outcomes.Success = 0
+outcome_status outcomes.NoTestsRun = 4
+outcome_status (outcomes.Failed steps.Test) = 100
+outcome_status (outcomes.Failed steps.SetupScript) = 105
+outcome_status (outcomes.Cancelled steps.Test) = 100
+outcome_status (outcomes.Cancelled steps.SetupScript) = 105
+
+-- the status that the program ends with
+abbrev pub status_of : Result RunOutcome Fault → ℕ
+status_of (Ok outcome) = outcome_status outcome
+status_of (Err fault) = fault_status fault

@@ -1,0 +1,14 @@
+//! The program as a library: its top call `run` reads the words and the input, carries out the turns, and
+//! writes the lines and answers the status. Its contract says what each status means, from the bytes that come
+//! in to the bytes that go out. The readers and writers of single lines are handed on from below.
+#![tactic(auto)]
+
+// mod ended;
+mod execution;
+mod given;
+// mod top;
+mod write;
+
+pub use run_input::{InputError, LineError, StdSink, StdSource, read_plan_line, read_turn_line};
+pub use run_output::{Fault, LineReporter, ask_line, event_line, fault_line, outcome_line};
+// pub use top::{Ran, run};
