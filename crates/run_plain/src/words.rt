@@ -1,6 +1,7 @@
 // Words over a history, whose newest happening stands first.
 ghost use Rattle.std.specs.Prelude.{◌≡◌, ◌≤◌, length, IfOk};
 ghost use Rattle.run_model.specs.Words.{
+  answers,
   asked,
   clock,
   delivered,
@@ -107,6 +108,22 @@ pub fn told(alloc: Global, past: &[Happening]) -> Mem<Vec<ReporterEvent>>
             let mut events = told(alloc, before)?;
             if let Some(event) = &x.told {
                 events.push(event.copy(alloc)?)?;
+            }
+            Ok(events)
+        }
+    }
+}
+
+/// The events told, in order, each with whether the reporter refused it.
+pub fn answers(alloc: Global, past: &[Happening]) -> Mem<Vec<(ReporterEvent, bool)>>
+    ensures { IfOk result (λ v. v.items ≡ answers past.now) }
+{
+    match past {
+        [] => Ok(Vec::new(alloc)),
+        [x, before @ ..] => {
+            let mut events = answers(alloc, before)?;
+            if let (Some(event), [refused, ..]) = (&x.told, x.refused.as_slice()) {
+                events.push((event.copy(alloc)?, *refused))?;
             }
             Ok(events)
         }

@@ -1,0 +1,10 @@
+use Rattle.std.proofs.Common.{◌≡◌, ◌∙◌, ap, sym, ◌++◌, ◌∷◌, [], arith}
+use Rattle.std.proofs.lemmas.List.FromFn.{map-range_with_len_more}
+use Rattle.std.proofs.lemmas.Grind.{common_steps}
+use Rattle.run_model.specs.Words.{unit_of}
+use Rattle.run_plain.proofs.places.units.Goals as goal
+
+pub loop-k-preserved : goal.loop-k-preserved
+loop-k-preserved c =
+    let more = map-range_with_len_more (λ k. unit_of k c.args.past.now) 0 c.loop-k.k c.loop-k.k (omega arith) in
+    grind (arith, common_steps, more)
