@@ -1,26 +1,11 @@
 // What a turn does: the rows of the tables, as happenings.
-ghost use Rattle.std.specs.Prelude.{◌≡◌, ◌+◌, ◌<◌, ◌^◌, ◌++◌, ◌∷◌, [], length, IfOk, is_none};
-ghost use Rattle.run_model.specs.Admission.{newcomer};
-ghost use Rattle.run_model.specs.Turns.{
-  admission,
-  delivery,
-  event_at,
-  silent,
-  start_delivery,
-  taken_by,
-};
-ghost use Rattle.run_model.specs.Words.{finished, finished_test, reason, running, stats, stats_after, unit_of};
+ghost use Rattle.std.specs.Prelude.{◌≡◌, IfOk};
 ghost use Rattle.run_events.specs.declared.message.Message.TheVariants.{Start};
-ghost use Rattle.run_events.specs.declared.events.TestEventKind.TheVariants.{TestStarted, TestFinished};
+ghost use Rattle.run_model.specs.Turns.{admission, event_at, silent, taken_by};
 
-use crate::{
-    clock, elapsed, plus_finished, queue, reason, row, running, stats, unit_of,
-};
-use run_capture::{Duplicate, List, Mem, Text};
-use run_events::{
-    ExecuteStatus, Message, ReporterEvent, RunStats, Settings, TestEvent, TestEventKind,
-    TestInstanceId, TestSlotAssignment,
-};
+use crate::{clock, elapsed, row};
+use run_capture::{Duplicate, Mem};
+use run_events::{Message, ReporterEvent, TestEvent, TestEventKind};
 use run_model::{Entry, Happening, Place, UnitTurn, UnitView};
 use std::alloc::Global;
 

@@ -3,16 +3,23 @@
 #![tactic(auto)]
 
 mod admission;
-mod statistics;
-mod unit;
+mod deliveries;
 mod happenings;
+mod journal;
 mod places;
+mod statistics;
+#[cfg(test)]
+mod tests;
+mod turns;
+mod unit;
 mod words;
 
 pub use admission::{candidate, free_slot, in_use, is_done, newcomer};
-pub use statistics::{plus_finished, reason, running, stats, stats_after};
-pub use unit::{UnitRow, row, takes};
+pub use journal::{happening, history, outcome};
 pub use places::{unit_of, units};
+pub use statistics::{plus_finished, reason, running, stats, stats_after};
+pub use turns::{enabled, turn_of_unit};
+pub use unit::{UnitRow, row, takes};
 pub use words::{
     answers, asked, clock, delivered, elapsed, has_begun, is_over, queue, sent, told,
 };

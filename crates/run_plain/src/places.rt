@@ -1,5 +1,5 @@
 // Where the units stand after a history.
-ghost use Rattle.std.specs.Prelude.{◌≡◌, IfOk};
+ghost use Rattle.std.specs.Prelude.{◌≡◌, length, IfOk};
 ghost use Rattle.run_model.specs.Words.{placed, unit_of, units};
 
 use crate::{clock, row};
@@ -59,7 +59,8 @@ pub fn units(
     settings: &Settings,
     past: &[Happening],
 ) -> Mem<Vec<Option<UnitView>>>
-    ensures { IfOk result (λ v. v.items ≡ units settings.now past.now) }
+    ensures units { IfOk result (λ v. v.items ≡ units settings.now past.now) }
+    ensures tests { IfOk result (λ v. length v.items ≡ length settings.now.plan.tests) }
 {
     let mut units = Vec::new(alloc);
     for k in 0..settings.plan.tests.len() {
