@@ -1,10 +1,10 @@
 -- Statistics counted event by event, and counts over a range.
-use Rattle.std.proofs.Common.{◌≡◌, ℕ, suc, zero, ◌+◌, ◌<◌, ◌≤◌, ◌^◌, List, [], ◌∷◌, ◌++◌, length, take, Bool, add-zero, cond, count_by, filter_map, Option, Some, None, refl, ap, sym, ◌∙◌, arith}
+use Rattle.std.proofs.Common.{◌≡◌, ℕ, suc, zero, ◌+◌, ◌<◌, ◌^◌, List, [], ◌∷◌, ◌++◌, length, Bool, add-zero, cond, count_by, filter_map, Option, Some, None, refl, ap, ◌∙◌, arith}
 use Rattle.std.specs.List.{range_with_len}
 use Rattle.std.proofs.lemmas.List.{append-nil}
 use Rattle.std.proofs.lemmas.List.Elements.{filter_map-append}
 use Rattle.std.proofs.lemmas.List.Sums.{sum_by_push}
-use Rattle.run_events.specs.Stats.{total_by, total, FinishedTest, AreBelow, nothing, plus, adds_of}
+use Rattle.run_events.specs.Stats.{total_by, total, FinishedTest, AreBelow, nothing}
 use Rattle.run_events.proofs.StatsLemmas.{total_push, total_below}
 use Rattle.run_events.specs.declared.settings.Settings.{Settings}
 use Rattle.run_events.specs.declared.stats.RunStats.{RunStats}
@@ -12,7 +12,7 @@ use Rattle.run_events.specs.declared.cancel.CancelReason.{CancelReason}
 use Rattle.run_events.specs.declared.events.ReporterEvent.{ReporterEvent}
 use Rattle.run_model.specs.Words.{finish_of, stats_after, tests_in}
 use Rattle.run_laws.proofs.Told.{filter_map_short}
-use Rattle.run_plain.specs.Counted.{counted}
+use Rattle.run_plain.specs.Parts.{counted}
 
 -- the next of a range
 range_more : (a n j : ℕ) → a + n ≡ j → range_with_len a (suc n) ≡ range_with_len a n ++ j ∷ []
@@ -47,5 +47,5 @@ pub stats_below : (p : Settings) (why : Option CancelReason) (events : List Repo
     → tests_in p + length events < 2 ^ 32 → AreBelow (2 ^ 32) (stats_after p why (filter_map finish_of events))
 stats_below p why events few =
     total_below (2 ^ 32) (tests_in p + 1) (record nothing { initial_run_count = tests_in p; cancel_reason = why })
-      (filter_map finish_of events) (search (arith))
-      (omega (arith, filter_map_short finish_of events))
+    (filter_map finish_of events) (search (arith))
+    (omega (arith, filter_map_short finish_of events))

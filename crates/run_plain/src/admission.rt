@@ -138,9 +138,7 @@ pub fn newcomer(
     let slot = free_slot(units);
     match candidate(settings, units) {
         Some(k) => match settings.plan.tests.get(k) {
-            Some(test) => {
-                Ok(Some(first_view(alloc, settings, k as u32, slot as u32, test)?))
-            }
+            Some(test) => { Ok(Some(first_view(alloc, settings, k as u32, slot as u32, test)?)) }
             None => Ok(None),
         },
         None => Ok(None),

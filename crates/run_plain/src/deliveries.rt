@@ -2,10 +2,11 @@
 ghost use Rattle.std.specs.Prelude.{◌≡◌, ◌+◌, ◌<◌, ◌^◌, ◌∷◌, [], length, is_none, IfOk};
 ghost use Rattle.run_model.specs.Turns.{delivery, start_delivery};
 ghost use Rattle.run_model.specs.Words.{reason};
-ghost use Rattle.run_plain.specs.Counted.{finish_event, start_delivered, start_event, stats_with};
+ghost use Rattle.run_plain.specs.Parts.{finish_event, start_delivered, start_event, stats_with};
 
 use crate::happenings::{event_at, silent, taken_by};
-use crate::{clock, plus_finished, reason, running, stats, unit_of};
+use crate::statistics::plus_finished;
+use crate::{clock, reason, running, stats, unit_of};
 use run_capture::{Duplicate, List, Mem, Text};
 use run_events::{
     ExecuteStatus, Message, ReporterEvent, RunStats, Settings, TestEventKind, TestInstanceId,
@@ -27,7 +28,7 @@ fn start_delivery(go: bool, happening: Happening, event: ReporterEvent) -> Happe
 }
 
 // The event that a test started.
-#[tactic(auto, unfolding(crate::specs::Counted::start_event))]
+#[tactic(auto, unfolding(crate::specs::Parts::start_event))]
 fn start_event(
     alloc: Global,
     settings: &Settings,
@@ -44,7 +45,14 @@ fn start_event(
     let stats = stats(alloc, settings, past)?;
     let test = test.copy(alloc)?;
     let command = command.copy(alloc)?;
-    let kind = TestEventKind::TestStarted { unit, test, command, slot, running, stats };
+    let kind = TestEventKind::TestStarted {
+        unit,
+        test,
+        command,
+        slot,
+        running,
+        stats,
+    };
     Ok(event_at(past, kind))
 }
 
@@ -88,7 +96,7 @@ fn stats_with(
 }
 
 // The event that a test finished.
-#[tactic(auto, unfolding(crate::specs::Counted::finish_event))]
+#[tactic(auto, unfolding(crate::specs::Parts::finish_event))]
 fn finish_event(
     alloc: Global,
     settings: &Settings,
@@ -104,12 +112,18 @@ fn finish_event(
     let stats = stats_with(alloc, settings, past, statuses.as_slice())?;
     let test = test.copy(alloc)?;
     let statuses = statuses.copy(alloc)?;
-    let kind = TestEventKind::TestFinished { unit, test, statuses, running, stats };
+    let kind = TestEventKind::TestFinished {
+        unit,
+        test,
+        statuses,
+        running,
+        stats,
+    };
     Ok(event_at(past, kind))
 }
 
 // The delivery of a message.
-#[tactic(auto, unfolding(crate::specs::Counted::start_event, crate::specs::Counted::finish_event))]
+#[tactic(auto, unfolding(crate::specs::Parts::start_event, crate::specs::Parts::finish_event))]
 fn delivery_of(
     alloc: Global,
     settings: &Settings,
@@ -121,11 +135,20 @@ fn delivery_of(
     ensures { IfOk result (λ x. x ≡ delivery settings.now past.now entry.now (message.now ∷ [])) }
 {
     match message {
-        Message::Start { unit, test, command, slot } => {
+        Message::Start {
+            unit,
+            test,
+            command,
+            slot,
+        } => {
             let event = start_event(alloc, settings, past, *unit, test, command, *slot)?;
             deliver_start(alloc, past, entry, *unit, event)
         }
-        Message::Finish { unit, test, statuses } => {
+        Message::Finish {
+            unit,
+            test,
+            statuses,
+        } => {
             let mut happening = silent(alloc, entry)?;
             let event = finish_event(alloc, settings, past, *unit, test, statuses)?;
             happening.taken = true;

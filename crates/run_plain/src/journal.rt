@@ -13,12 +13,7 @@ use run_model::{Entry, Happening};
 use std::alloc::Global;
 
 // What a turn of the run's own does.
-fn run_turn(
-    alloc: Global,
-    settings: &Settings,
-    past: &[Happening],
-    entry: &Entry,
-) -> Mem<Happening>
+fn run_turn(alloc: Global, settings: &Settings, past: &[Happening], entry: &Entry) -> Mem<Happening>
     requires { length settings.now.plan.tests + length past.now + 1 < 2 ^ 32 }
     ensures { IfOk result (λ x. x ≡ run_turn settings.now past.now entry.now entry.now.turn) }
 {
@@ -82,11 +77,7 @@ pub fn history(alloc: Global, settings: &Settings, journal: &[Entry]) -> Mem<Vec
 }
 
 /// The outcome of a run that is over.
-pub fn outcome(
-    alloc: Global,
-    settings: &Settings,
-    past: &[Happening],
-) -> Mem<Option<RunOutcome>>
+pub fn outcome(alloc: Global, settings: &Settings, past: &[Happening]) -> Mem<Option<RunOutcome>>
     requires { length settings.now.plan.tests + length past.now < 2 ^ 32 }
     ensures { IfOk result (λ o. o ≡ outcome settings.now past.now) }
 {

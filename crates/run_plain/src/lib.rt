@@ -17,9 +17,7 @@ mod words;
 pub use admission::{candidate, free_slot, in_use, is_done, newcomer};
 pub use journal::{happening, history, outcome};
 pub use places::{unit_of, units};
-pub use statistics::{plus_finished, reason, running, stats, stats_after};
-pub use turns::{enabled, turn_of_unit};
+pub use statistics::{reason, running, stats};
+pub use turns::enabled;
 pub use unit::{UnitRow, row, takes};
-pub use words::{
-    answers, asked, clock, delivered, elapsed, has_begun, is_over, queue, sent, told,
-};
+pub use words::{answers, asked, clock, delivered, elapsed, has_begun, is_over, queue, sent, told};

@@ -54,11 +54,7 @@ pub fn unit_of(alloc: Global, k: usize, past: &[Happening]) -> Mem<Option<UnitVi
 }
 
 /// All units, in the order of the plan.
-pub fn units(
-    alloc: Global,
-    settings: &Settings,
-    past: &[Happening],
-) -> Mem<Vec<Option<UnitView>>>
+pub fn units(alloc: Global, settings: &Settings, past: &[Happening]) -> Mem<Vec<Option<UnitView>>>
     ensures units { IfOk result (λ v. v.items ≡ units settings.now past.now) }
     ensures tests { IfOk result (λ v. length v.items ≡ length settings.now.plan.tests) }
 {

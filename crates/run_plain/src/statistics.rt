@@ -16,7 +16,7 @@ ghost use Rattle.run_model.specs.Words.{
   stats,
   stats_after,
 };
-ghost use Rattle.run_plain.specs.Counted.{counted};
+ghost use Rattle.run_plain.specs.Parts.{counted};
 
 use crate::told;
 use run_capture::Mem;
@@ -97,12 +97,8 @@ fn plus_no_attempt(stats: RunStats) -> RunStats
     stats
 }
 
-/// The statistics after one more test that finished, after these attempts.
-pub fn plus_finished(
-    alloc: Global,
-    stats: RunStats,
-    statuses: &[ExecuteStatus],
-) -> Mem<RunStats>
+// The statistics after one more test that finished, after these attempts.
+pub fn plus_finished(alloc: Global, stats: RunStats, statuses: &[ExecuteStatus]) -> Mem<RunStats>
     requires { AreBelow (2 ^ 32) stats }
     ensures { IfOk result (λ s. s ≡ plus stats (adds_of (finished_test statuses.now))) }
 {
@@ -140,7 +136,7 @@ fn stats_at_first(settings: &Settings, why: Option<CancelReason>) -> RunStats
     stats
 }
 
-/// The statistics after these events, of a run that is cancelled for this reason.
+// The statistics after these events, of a run that is cancelled for this reason.
 pub fn stats_after(
     alloc: Global,
     settings: &Settings,

@@ -3,9 +3,7 @@ ghost use Rattle.std.specs.Prelude.{◌≡◌, length, IfOk};
 
 use crate::{answers, asked, enabled, history, outcome, told};
 use run_capture::{CaptureStrategy, List, Mem, Text};
-use run_events::{
-    ChildExit, Plan, PlanTest, RunOutcome, Settings, TestInstanceId, Turn,
-};
+use run_events::{ChildExit, Plan, PlanTest, RunOutcome, Settings, TestInstanceId, Turn};
 use run_model::Entry;
 use std::alloc::Global;
 use uuid::Uuid;
@@ -28,7 +26,10 @@ fn settings(alloc: Global) -> Mem<Settings>
     let mut tests = List::new();
     tests.push(alloc, planned(alloc)?)?;
     Ok(Settings {
-        plan: Plan { run_id: Uuid::nil(), tests },
+        plan: Plan {
+            run_id: Uuid::nil(),
+            tests,
+        },
         capture: CaptureStrategy::None,
         threads: 2,
     })
@@ -36,7 +37,10 @@ fn settings(alloc: Global) -> Mem<Settings>
 
 // A turn that tells no event.
 fn quiet(turn: Turn) -> Entry {
-    Entry { turn, refused: List::new() }
+    Entry {
+        turn,
+        refused: List::new(),
+    }
 }
 
 // A turn that tells an event, which the reporter takes.
@@ -54,10 +58,13 @@ fn journal(alloc: Global) -> Mem<Vec<Entry>>
         quiet(Turn::Admit),
         telling(alloc, Turn::Deliver)?,
         quiet(Turn::Started { unit: 0, pid: 100 }),
-        quiet(Turn::Exit { unit: 0, exit: ChildExit::Code(0) }),
+        quiet(Turn::Exit {
+            unit: 0,
+            exit: ChildExit::Code(0)
+        }),
         quiet(Turn::Decide { unit: 0, word: 0 }),
         telling(alloc, Turn::Deliver)?,
-        telling(alloc, Turn::End)?
+        telling(alloc, Turn::End)?,
     ]?)
 }
 

@@ -17,7 +17,7 @@ use run_events::{Settings, Turn};
 use run_model::{Happening, UnitTurn, UnitView};
 use std::alloc::Global;
 
-/// A turn that names a unit, as the unit and what it is to it.
+// A turn that names a unit, as the unit and what it is to it.
 pub fn turn_of_unit(turn: &Turn) -> Option<(u32, UnitTurn)>
     ensures { result ≡ turn_of_unit turn.now }
 {
@@ -55,12 +55,7 @@ fn is_complete(alloc: Global, settings: &Settings, past: &[Happening]) -> Mem<bo
 }
 
 // Which turns of the run's own are enabled where it isn't over.
-fn run_takes(
-    alloc: Global,
-    settings: &Settings,
-    past: &[Happening],
-    turn: &Turn,
-) -> Mem<bool>
+fn run_takes(alloc: Global, settings: &Settings, past: &[Happening], turn: &Turn) -> Mem<bool>
     requires { length settings.now.plan.tests < 2 ^ 32 }
     ensures { IfOk result (λ b. b ≡ run_takes settings.now past.now turn.now) }
 {
@@ -82,12 +77,7 @@ fn run_takes(
 }
 
 // Whether a turn is enabled where the run isn't over.
-fn takes_turn(
-    alloc: Global,
-    settings: &Settings,
-    past: &[Happening],
-    turn: &Turn,
-) -> Mem<bool>
+fn takes_turn(alloc: Global, settings: &Settings, past: &[Happening], turn: &Turn) -> Mem<bool>
     requires { length settings.now.plan.tests < 2 ^ 32 }
     ensures { IfOk result (λ b. b ≡ takes_turn settings.now past.now turn.now (turn_of_unit turn.now)) }
 {
@@ -101,12 +91,7 @@ fn takes_turn(
 }
 
 /// Whether a turn is enabled after a history: none is once the run is over.
-pub fn enabled(
-    alloc: Global,
-    settings: &Settings,
-    past: &[Happening],
-    turn: &Turn,
-) -> Mem<bool>
+pub fn enabled(alloc: Global, settings: &Settings, past: &[Happening], turn: &Turn) -> Mem<bool>
     requires { length settings.now.plan.tests < 2 ^ 32 }
     ensures { IfOk result (λ b. b ≡ enabled settings.now past.now turn.now) }
 {

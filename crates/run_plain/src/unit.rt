@@ -45,7 +45,11 @@ fn quiet(next: UnitView) -> UnitRow
     ensures sent { result.sent ≡ None }
     ensures asked { result.asked ≡ None }
 {
-    UnitRow { next, sent: None, asked: None }
+    UnitRow {
+        next,
+        sent: None,
+        asked: None,
+    }
 }
 
 // The status of the current attempt, where it ends at this moment.
@@ -85,7 +89,11 @@ fn let_go(alloc: Global, now: u64, unit: UnitView) -> Mem<UnitRow>
     let mut next = unit;
     next.phase = Phase::Starting;
     next.start = now;
-    Ok(UnitRow { next, sent: None, asked: Some(ask) })
+    Ok(UnitRow {
+        next,
+        sent: None,
+        asked: Some(ask),
+    })
 }
 
 // The row of a unit that is done after its attempts.
@@ -101,7 +109,11 @@ fn decided(alloc: Global, unit: UnitView) -> Mem<UnitRow>
     };
     let mut next = unit;
     next.phase = Phase::Over;
-    Ok(UnitRow { next, sent: Some(message), asked: None })
+    Ok(UnitRow {
+        next,
+        sent: Some(message),
+        asked: None,
+    })
 }
 
 /// The row of a unit at a turn, at a moment of the run's clock in nanoseconds.

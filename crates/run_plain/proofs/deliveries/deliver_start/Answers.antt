@@ -12,7 +12,7 @@ returns c =
     let go = c.is_uncancelled-go.result in
     c.start_delivery.ensures
     ∙ ap (λ x. start_delivery go x c.args.event)
-      (c.in_ok-happening.ensures
-        ∙ ap (λ now. taken_by now e k (Answered go) c.in_ok-view.view) c.clock.ensures
-        ∙ ap (taken_by (clock past) e k (Answered go)) c.in_ok-view.ensures)
+    (c.in_ok-happening.ensures
+    ∙ ap (λ now. taken_by now e k (Answered go) c.in_ok-view.view) c.clock.ensures
+    ∙ ap (taken_by (clock past) e k (Answered go)) c.in_ok-view.ensures)
     ∙ ap (λ b. start_delivery b (taken_by (clock past) e k (Answered b) (unit_of k past)) c.args.event) c.is_uncancelled-go.ensures

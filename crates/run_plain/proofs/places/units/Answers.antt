@@ -12,5 +12,5 @@ loop-k-preserved c =
 pub returns-clause-tests : goal.returns-clause-tests
 returns-clause-tests c =
     let same : length c.loop-k.units.items ≡ c.loop-k.k =
-        ap length c.loop-k.invariant ∙ length-map-range_with_len (λ k. unit_of k c.args.past.now) 0 c.loop-k.k in
+    ap length c.loop-k.invariant ∙ length-map-range_with_len (λ k. unit_of k c.args.past.now) 0 c.loop-k.k in
     omega arith

@@ -1,5 +1,4 @@
-use Rattle.std.proofs.Common.{arith, count_by}
-use Rattle.std.specs.List.{range_with_len}
+use Rattle.std.proofs.Common.{arith}
 use Rattle.std.proofs.lemmas.Grind.{common_steps}
 use Rattle.run_model.specs.Words.{is_running}
 use Rattle.run_plain.proofs.StatisticsLemmas.{count_more}

@@ -1,4 +1,4 @@
--- The statistics as they are counted event by event, and the events of a delivery.
+-- Parts of the tables, each of which one function computes.
 use Rattle.std.specs.Prelude.{ℕ, ◌+◌, ◌-◌, List, [], ◌∷◌, ◌++◌, Option, Some, None, is_none}
 use Rattle.run_events.specs.Stats.{FinishedTest, plus, adds_of}
 use Rattle.run_events.specs.declared.events.ReporterEvent.{ReporterEvent}
