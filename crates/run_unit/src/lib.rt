@@ -5,6 +5,7 @@
 mod environment;
 mod unit;
 
+pub use environment::start_of;
 pub use run_events::create_execution_result;
 pub use run_model::{Phase, UnitTurn};
 pub use unit::{Unit, UnitEffects};

@@ -1,0 +1,176 @@
+// The delivery of the oldest message.
+ghost use Rattle.std.specs.Prelude.{◌≡◌, ◌+◌, ◌<◌, ◌^◌, ◌∷◌, [], length, is_none, IfOk};
+ghost use Rattle.run_model.specs.Turns.{delivery, start_delivery};
+ghost use Rattle.run_model.specs.Words.{reason};
+ghost use Rattle.run_plain.specs.Parts.{finish_event, start_delivered, start_event, stats_with};
+
+use crate::happenings::{event_at, silent, taken_by};
+use crate::statistics::plus_finished;
+use crate::{clock, reason, running, stats, unit_of};
+use run_capture::{Duplicate, List, Mem, Text};
+use run_events::{
+    ExecuteStatus, Message, ReporterEvent, RunStats, Settings, TestEventKind, TestInstanceId,
+    TestSlotAssignment,
+};
+use run_model::{Entry, Happening, UnitTurn};
+use std::alloc::Global;
+
+// A start, let go and told where nothing cancels the run.
+fn start_delivery(go: bool, happening: Happening, event: ReporterEvent) -> Happening
+    ensures { result ≡ start_delivery go happening event }
+{
+    let mut happening = happening;
+    happening.taken = true;
+    if go {
+        happening.told = Some(event);
+    }
+    happening
+}
+
+// The event that a test started.
+#[tactic(auto, unfolding(crate::specs::Parts::start_event))]
+fn start_event(
+    alloc: Global,
+    settings: &Settings,
+    past: &[Happening],
+    unit: u32,
+    test: &TestInstanceId,
+    command: &List<Text>,
+    slot: TestSlotAssignment,
+) -> Mem<ReporterEvent>
+    requires { length settings.now.plan.tests + length past.now + 1 < 2 ^ 32 }
+    ensures { IfOk result (λ e. e ≡ start_event settings.now past.now unit test.now command.now slot) }
+{
+    let running = running(alloc, settings, past)? as u32 + 1;
+    let stats = stats(alloc, settings, past)?;
+    let test = test.copy(alloc)?;
+    let command = command.copy(alloc)?;
+    let kind = TestEventKind::TestStarted {
+        unit,
+        test,
+        command,
+        slot,
+        running,
+        stats,
+    };
+    Ok(event_at(past, kind))
+}
+
+// Whether nothing cancels the run.
+fn is_uncancelled(past: &[Happening]) -> bool
+    ensures { result ≡ is_none (reason past.now) }
+{
+    reason(past).is_none()
+}
+
+// A start, delivered, where its event would be this.
+fn deliver_start(
+    alloc: Global,
+    past: &[Happening],
+    entry: &Entry,
+    unit: u32,
+    event: ReporterEvent,
+) -> Mem<Happening>
+    ensures { IfOk result (λ x. x ≡ start_delivered past.now entry.now unit event) }
+{
+    let go = is_uncancelled(past);
+    let view = unit_of(alloc, unit as usize, past)?;
+    let turn = UnitTurn::Answered { go };
+    let happening = taken_by(alloc, clock(past), entry, unit, turn, view)?;
+    Ok(start_delivery(go, happening, event))
+}
+
+// The statistics after one more test that finished, after these attempts.
+fn stats_with(
+    alloc: Global,
+    settings: &Settings,
+    past: &[Happening],
+    statuses: &[ExecuteStatus],
+) -> Mem<RunStats>
+    requires { length settings.now.plan.tests + length past.now < 2 ^ 32 }
+    ensures { IfOk result (λ s. s ≡ stats_with settings.now past.now statuses.now) }
+{
+    let stats = stats(alloc, settings, past)?;
+    let counted = plus_finished(alloc, stats, statuses)?;
+    Ok(counted)
+}
+
+// The event that a test finished.
+#[tactic(auto, unfolding(crate::specs::Parts::finish_event))]
+fn finish_event(
+    alloc: Global,
+    settings: &Settings,
+    past: &[Happening],
+    unit: u32,
+    test: &TestInstanceId,
+    statuses: &List<ExecuteStatus>,
+) -> Mem<ReporterEvent>
+    requires { length settings.now.plan.tests + length past.now + 1 < 2 ^ 32 }
+    ensures { IfOk result (λ e. e ≡ finish_event settings.now past.now unit test.now statuses.now) }
+{
+    let running = (running(alloc, settings, past)? as u32).saturating_sub(1);
+    let stats = stats_with(alloc, settings, past, statuses.as_slice())?;
+    let test = test.copy(alloc)?;
+    let statuses = statuses.copy(alloc)?;
+    let kind = TestEventKind::TestFinished {
+        unit,
+        test,
+        statuses,
+        running,
+        stats,
+    };
+    Ok(event_at(past, kind))
+}
+
+// The delivery of a message.
+#[tactic(auto, unfolding(crate::specs::Parts::start_event, crate::specs::Parts::finish_event))]
+fn delivery_of(
+    alloc: Global,
+    settings: &Settings,
+    past: &[Happening],
+    entry: &Entry,
+    message: &Message,
+) -> Mem<Happening>
+    requires { length settings.now.plan.tests + length past.now + 1 < 2 ^ 32 }
+    ensures { IfOk result (λ x. x ≡ delivery settings.now past.now entry.now (message.now ∷ [])) }
+{
+    match message {
+        Message::Start {
+            unit,
+            test,
+            command,
+            slot,
+        } => {
+            let event = start_event(alloc, settings, past, *unit, test, command, *slot)?;
+            deliver_start(alloc, past, entry, *unit, event)
+        }
+        Message::Finish {
+            unit,
+            test,
+            statuses,
+        } => {
+            let mut happening = silent(alloc, entry)?;
+            let event = finish_event(alloc, settings, past, *unit, test, statuses)?;
+            happening.taken = true;
+            happening.told = Some(event);
+            Ok(happening)
+        }
+    }
+}
+
+// The delivery of the oldest message.
+pub fn delivery(
+    alloc: Global,
+    settings: &Settings,
+    past: &[Happening],
+    entry: &Entry,
+    messages: &[Message],
+) -> Mem<Happening>
+    requires { length settings.now.plan.tests + length past.now + 1 < 2 ^ 32 }
+    ensures { IfOk result (λ x. x ≡ delivery settings.now past.now entry.now messages.now) }
+{
+    match messages {
+        [] => silent(alloc, entry),
+        [message, ..] => delivery_of(alloc, settings, past, entry, message),
+    }
+}

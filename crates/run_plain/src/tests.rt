@@ -1,0 +1,95 @@
+// A whole run of one test that passes, as it is folded from its journal.
+ghost use Rattle.std.specs.Prelude.{◌≡◌, length, IfOk};
+
+use crate::{answers, asked, enabled, history, outcome, told};
+use run_capture::{CaptureStrategy, List, Mem, Text};
+use run_events::{ChildExit, Plan, PlanTest, RunOutcome, Settings, TestInstanceId, Turn};
+use run_model::Entry;
+use std::alloc::Global;
+use uuid::Uuid;
+
+fn planned(alloc: Global) -> Mem<PlanTest> {
+    let mut command = List::new();
+    command.push(alloc, Text::from_str(alloc, "true")?)?;
+    Ok(PlanTest {
+        id: TestInstanceId {
+            binary: Text::from_str(alloc, "b")?,
+            name: Text::from_str(alloc, "t")?,
+        },
+        command,
+    })
+}
+
+fn settings(alloc: Global) -> Mem<Settings>
+    ensures { IfOk result (λ s. length s.plan.tests ≡ 1) }
+{
+    let mut tests = List::new();
+    tests.push(alloc, planned(alloc)?)?;
+    Ok(Settings {
+        plan: Plan {
+            run_id: Uuid::nil(),
+            tests,
+        },
+        capture: CaptureStrategy::None,
+        threads: 2,
+    })
+}
+
+// A turn that tells no event.
+fn quiet(turn: Turn) -> Entry {
+    Entry {
+        turn,
+        refused: List::new(),
+    }
+}
+
+// A turn that tells an event, which the reporter takes.
+fn telling(alloc: Global, turn: Turn) -> Mem<Entry> {
+    let mut refused = List::new();
+    refused.push(alloc, false)?;
+    Ok(Entry { turn, refused })
+}
+
+fn journal(alloc: Global) -> Mem<Vec<Entry>>
+    ensures { IfOk result (λ v. length v.items ≡ 8) }
+{
+    Ok(vec![in alloc;
+        telling(alloc, Turn::Begin)?,
+        quiet(Turn::Admit),
+        telling(alloc, Turn::Deliver)?,
+        quiet(Turn::Started { unit: 0, pid: 100 }),
+        quiet(Turn::Exit {
+            unit: 0,
+            exit: ChildExit::Code(0)
+        }),
+        quiet(Turn::Decide { unit: 0, word: 0 }),
+        telling(alloc, Turn::Deliver)?,
+        telling(alloc, Turn::End)?,
+    ]?)
+}
+
+// How many events are told and answered, and how many asks are made.
+fn counts(alloc: Global) -> Mem<(usize, usize, usize)> {
+    let settings = settings(alloc)?;
+    let journal = journal(alloc)?;
+    let past = history(alloc, &settings, &journal)?;
+    let told = told(alloc, &past)?.len();
+    let answers = answers(alloc, &past)?.len();
+    Ok((told, answers, asked(alloc, &past)?.len()))
+}
+
+// How the run ended, and whether it takes one more turn.
+fn ending(alloc: Global) -> Mem<(Option<RunOutcome>, bool)> {
+    let settings = settings(alloc)?;
+    let journal = journal(alloc)?;
+    let past = history(alloc, &settings, &journal)?;
+    let ended = outcome(alloc, &settings, &past)?;
+    Ok((ended, enabled(alloc, &settings, &past, &Turn::Deliver)?))
+}
+
+#[test]
+fn folds_a_run(rt: HostRuntime) {
+    let alloc = rt.alloc();
+    assert_eq!(rt; counts(alloc), Ok((4, 4, 1)));
+    assert_eq!(rt; ending(alloc), Ok((Some(RunOutcome::Success), false)));
+}
