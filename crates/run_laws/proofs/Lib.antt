@@ -4,3 +4,4 @@ pub mod Kept
 pub mod Running
 pub mod Facts
 pub mod Told
+pub mod Finish

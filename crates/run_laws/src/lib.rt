@@ -4,4 +4,4 @@
 
 mod laws;
 
-pub use laws::accounts_hold;
+pub use laws::{accounts_hold, each_test_finishes};

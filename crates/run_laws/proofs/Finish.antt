@@ -1,0 +1,230 @@
+-- Every test of a run that is over has finished once.
+use Rattle.std.proofs.Common.{◌≡◌, ◌≢◌, ℕ, zero, suc, ◌+◌, ◌<◌, ◌≤◌, ◌==◌, ◌&&◌, ◌||◌, List, [], ◌∷◌, ◌++◌, length, get_or, map, Bool, true, false, not, if◌then◌else◌, Option, Some, None, is_none, option_map, option_to_list, filter_map, refl, ap, sym, subst, ◌∙◌, arith}
+use Rattle.std.specs.Prelude.{⊤}
+use Rattle.std.specs.List.{list_all}
+use Rattle.std.specs.Cmp.{first_so, second_so}
+use Rattle.std.proofs.lemmas.List.{append-nil}
+use Rattle.std.proofs.lemmas.List.Elements.{filter_map-append}
+use Rattle.std.proofs.lemmas.List.FromFn.{length-map-range_with_len}
+use Rattle.std.proofs.lemmas.Grind.{common_steps}
+use Rattle.run_events.specs.declared.settings.Settings.{Settings}
+use Rattle.run_events.specs.declared.turn.Turn.{Turn}
+use Rattle.run_events.specs.declared.turn.Turn.TheVariants.{Begin, Admit, Deliver, Started, Exit, Decide, End}
+use Rattle.run_events.specs.declared.message.Message.{Message}
+use Rattle.run_events.specs.declared.message.Message.TheVariants.{Start, Finish}
+use Rattle.run_events.specs.declared.events.ReporterEvent.{ReporterEvent}
+use Rattle.run_events.specs.declared.cancel.CancelReason.{CancelReason}
+use Rattle.run_events.specs.declared.result.ExecuteStatus.{ExecuteStatus}
+use Rattle.run_model.specs.declared.entry.Entry.{Entry}
+use Rattle.run_model.specs.declared.happening.Happening.{Happening}
+use Rattle.run_model.specs.declared.happening.Place.{Place}
+use Rattle.run_model.specs.declared.happening.Place.TheVariants.{Admitted, Took}
+use Rattle.run_model.specs.declared.phase.Phase.{Phase}
+use Rattle.run_model.specs.declared.phase.Phase.TheVariants.{StartSent, Starting, Running, Deciding, Over}
+use Rattle.run_model.specs.declared.unit_turn.UnitTurn.{UnitTurn}
+use Rattle.run_model.specs.declared.unit_turn.UnitTurn.TheVariants.{Answered, Started as UnitStarted, Exit as UnitExit, Decide as UnitDecide}
+use Rattle.run_model.specs.declared.unit_view.UnitView.{UnitView}
+use Rattle.run_model.specs.Unit.{row, row_at, takes}
+use Rattle.run_model.specs.Words.{clock, told, queue, reason, greater, placed, unit_of, units, tests_in, is_end, is_over, has_begun, running, stats}
+use Rattle.run_model.specs.Admission.{is_done, is_last, newcomer, first_view, free_slot}
+use Rattle.run_model.specs.Turns.{event_at, enabled, takes_turn, run_takes, turn_of_unit, unit_takes, is_complete, is_empty, silent, taken_by, admission, start_delivery, delivery, happened, happening, run_turn}
+use Rattle.run_model.specs.Journal.{history, IsLegalBackward}
+use Rattle.run_model.specs.Accounts.{News, news_of, started, finished, HasAccount, HasAccountIn, account_of, pending_of}
+use Rattle.run_laws.specs.Fates.{IsFinishedOnce}
+use Rattle.run_laws.specs.Holds.{Holds}
+use Rattle.run_laws.proofs.Kept.{holds, newcomer_is, units-at}
+use Rattle.run_laws.proofs.Told.{happening_tells}
+
+-- no turn of a legal journal cancels the run
+pub no_reason : (p : Settings) (backward : List Entry) → IsLegalBackward p backward → reason (history p backward) ≡ None
+no_reason p [] legal = refl
+no_reason p (e ∷ before) legal =
+    let tells = happening_tells p (history p before) e (holds p before legal.2) legal.0 in
+    ap (λ r. greater r (happening p (history p before) e).cause) (no_reason p before legal.2) ∙ tells.1
+
+-- a unit that is over has made an attempt
+abbrev pub IsAttemptedIn : Phase → List ExecuteStatus → Type 0
+IsAttemptedIn Over [] = ⊥
+IsAttemptedIn _ _ = ⊤
+
+abbrev pub IsAttempted : Option UnitView → Type 0
+IsAttempted None = ⊤
+IsAttempted (Some u) = IsAttemptedIn u.phase u.statuses
+
+-- a row of a unit that has its account keeps that, unless it is a refused start
+pub row_attempted : (now : ℕ) (ph : Phase) (turn : UnitTurn) (u : UnitView) (ss : List ExecuteStatus) (t q : List News)
+    → u.statuses ≡ ss → u.phase ≡ ph → turn ≢ Answered false → HasAccountIn ph ss t q → IsAttemptedIn ph ss
+    → IsAttemptedIn (row_at now ph turn u).next.phase (row_at now ph turn u).next.statuses
+row_attempted now ph turn u ss t q e f go h a = grind (arith, common_steps)
+
+-- an admitted unit begins, and no start is refused
+abbrev pub PlaceFits : Option Place → Type 0
+PlaceFits None = ⊤
+PlaceFits (Some (Admitted first)) = first.phase ≡ StartSent
+PlaceFits (Some (Took j turn)) = turn ≢ Answered false
+
+placed_attempted : (now k : ℕ) (place : Option Place) (v : Option UnitView) (t q : List News) → IsAttempted v → HasAccount v t q → PlaceFits place
+    → IsAttempted (placed now k place v)
+placed_attempted now k None v t q a h fits = a
+placed_attempted now k (Some (Admitted first)) v t q a h fits = begins (first.unit == k)
+  where
+  begins : (b : Bool) → IsAttempted (if b then Some first else v)
+  begins true = rw fits tt
+  begins false = a
+placed_attempted now k (Some (Took j turn)) None t q a h fits = none (j == k)
+  where
+  none : (b : Bool) → IsAttempted (if b then option_map (λ w. (row now turn w).next) None else None)
+  none true = tt
+  none false = tt
+placed_attempted now k (Some (Took j turn)) (Some u) t q a h fits = moves (j == k)
+  where
+  moves : (b : Bool) → IsAttempted (if b then Some (row now turn u).next else Some u)
+  moves true = row_attempted now u.phase turn u u.statuses t q refl refl fits h a
+  moves false = a
+
+taken_fits : (now : ℕ) (e : Entry) (k : ℕ) (turn : UnitTurn) (v : Option UnitView) → turn ≢ Answered false → PlaceFits (taken_by now e k turn v).place
+taken_fits now e k turn None h = tt
+taken_fits now e k turn (Some u) h = h
+
+start_fits : (go : Bool) (x : Happening) (event : ReporterEvent) → PlaceFits x.place → PlaceFits (start_delivery go x event).place
+start_fits true x event h = h
+start_fits false x event h = h
+
+admission_fits : (p : Settings) (us : List (Option UnitView)) (e : Entry) (v : Option UnitView) → newcomer p us ≡ v → PlaceFits (admission e v).place
+admission_fits p us e None is = tt
+admission_fits p us e (Some u) is = let found = newcomer_is p us u is in ap (λ (u : UnitView). u.phase) found.4
+
+place_fits : (p : Settings) (past : List Happening) (e : Entry) (turn : Turn) → reason past ≡ None
+    → PlaceFits (happened p past e turn (turn_of_unit turn)).place
+place_fits p past e turn none = by_turn turn
+  where
+  goes : Answered (is_none (reason past)) ≢ Answered false
+  goes h = let same : Answered true ≡ Answered false = sym (ap (λ r. Answered (is_none r)) none) ∙ h in cc
+  by_queue : (q : List Message) → PlaceFits (delivery p past e q).place
+  by_queue [] = tt
+  by_queue (Start k id command slot ∷ rest) =
+      start_fits _ _ _ (taken_fits (clock past) e k (Answered (is_none (reason past))) (unit_of k past) goes)
+  by_queue (Finish k id statuses ∷ rest) = tt
+  by_turn : (turn : Turn) → PlaceFits (happened p past e turn (turn_of_unit turn)).place
+  by_turn Begin = tt
+  by_turn Admit = admission_fits p (units p past) e (newcomer p (units p past)) refl
+  by_turn Deliver = by_queue (queue past)
+  by_turn (Started unit pid) = taken_fits (clock past) e unit (UnitStarted pid) (unit_of unit past) (λ h. cc)
+  by_turn (Exit unit exit) = taken_fits (clock past) e unit (UnitExit exit) (unit_of unit past) (λ h. cc)
+  by_turn (Decide unit word) = taken_fits (clock past) e unit (UnitDecide word) (unit_of unit past) (λ h. cc)
+  by_turn End = tt
+
+-- after every legal journal each unit that is over has made an attempt
+attempted : (p : Settings) (backward : List Entry) → IsLegalBackward p backward → (k : ℕ) → IsAttempted (unit_of k (history p backward))
+attempted p [] legal k = tt
+attempted p (e ∷ before) legal k =
+    let past : List Happening = history p before in
+    placed_attempted (clock past) k (happening p past e).place (unit_of k past) _ _
+        (attempted p before legal.2 k) ((holds p before legal.2).accounts k) (place_fits p past e e.turn (no_reason p before legal.2))
+
+-- a unit that is over, of which nothing waits to be told, has finished once
+finished_once : (v : Option UnitView) (t : List News) → is_done v ≡ true → IsAttempted v → HasAccount v t []
+    → (u : UnitView) × (v ≡ Some u) × (first : ExecuteStatus) × (later : List ExecuteStatus) × (u.statuses ≡ first ∷ later)
+        × (t ≡ started ∷ finished u.statuses ∷ [])
+finished_once None t d a h = cc
+finished_once (Some u) t d a h = by_attempts u.phase u.statuses refl refl d a h
+  where
+  by_attempts : (ph : Phase) (ss : List ExecuteStatus) → u.phase ≡ ph → u.statuses ≡ ss → is_last ph ≡ true → IsAttemptedIn ph ss → HasAccountIn ph ss t []
+      → (w : UnitView) × (Some u ≡ Some w) × (first : ExecuteStatus) × (later : List ExecuteStatus) × (w.statuses ≡ first ∷ later)
+          × (t ≡ started ∷ finished w.statuses ∷ [])
+  by_attempts Over [] ep es l a h = absurd a
+  by_attempts Over (s ∷ ss) ep es l a h = (u, refl, s, ss, es, rw es (grind (arith, common_steps)))
+  by_attempts StartSent ss ep es l a h = cc
+  by_attempts Starting ss ep es l a h = cc
+  by_attempts Running ss ep es l a h = cc
+  by_attempts Deciding ss ep es l a h = cc
+
+-- each item of a list on which a test holds throughout passes
+all_at : {X : Type 0} (f : X → Bool) (xs : List X) (k : ℕ) (d : X) → list_all f xs ≡ true → k < length xs → f (get_or xs k d) ≡ true
+all_at f [] k d h l = absurd (omega arith)
+all_at f (x ∷ xs) zero d h l = first_so (f x) (list_all f xs) h
+all_at f (x ∷ xs) (suc k) d h l = all_at f xs k d (second_so (f x) (list_all f xs) h) (omega arith)
+
+-- a happening has its entry's turn
+taken_turn : (now : ℕ) (e : Entry) (k : ℕ) (turn : UnitTurn) (v : Option UnitView) → (taken_by now e k turn v).turn ≡ e.turn
+taken_turn now e k turn None = refl
+taken_turn now e k turn (Some u) = refl
+
+admission_turn : (e : Entry) (v : Option UnitView) → (admission e v).turn ≡ e.turn
+admission_turn e None = refl
+admission_turn e (Some u) = refl
+
+start_turn : (go : Bool) (x : Happening) (event : ReporterEvent) → (start_delivery go x event).turn ≡ x.turn
+start_turn true x event = refl
+start_turn false x event = refl
+
+delivery_turn : (p : Settings) (past : List Happening) (e : Entry) (q : List Message) → (delivery p past e q).turn ≡ e.turn
+delivery_turn p past e [] = refl
+delivery_turn p past e (Start k id command slot ∷ rest) = start_turn _ _ _ ∙ taken_turn (clock past) e k _ (unit_of k past)
+delivery_turn p past e (Finish k id statuses ∷ rest) = refl
+
+happened_turn : (p : Settings) (past : List Happening) (e : Entry) (turn : Turn) → (happened p past e turn (turn_of_unit turn)).turn ≡ e.turn
+happened_turn p past e Begin = refl
+happened_turn p past e Admit = admission_turn e (newcomer p (units p past))
+happened_turn p past e Deliver = delivery_turn p past e (queue past)
+happened_turn p past e (Started unit pid) = taken_turn (clock past) e unit _ (unit_of unit past)
+happened_turn p past e (Exit unit exit) = taken_turn (clock past) e unit _ (unit_of unit past)
+happened_turn p past e (Decide unit word) = taken_turn (clock past) e unit _ (unit_of unit past)
+happened_turn p past e End = refl
+
+end_is : (turn : Turn) → is_end turn ≡ true → turn ≡ End
+end_is Begin h = cc
+end_is Admit h = cc
+end_is Deliver h = cc
+end_is (Started unit pid) h = cc
+end_is (Exit unit exit) h = cc
+end_is (Decide unit word) h = cc
+end_is End h = refl
+
+-- one of two tests holds, and it isn't the second
+first_holds : (a b : Bool) → (a || b) ≡ true → b ≡ false → a ≡ true
+first_holds true b h n = refl
+first_holds false b h n = cc
+
+empty_is : (q : List Message) → is_empty q ≡ true → q ≡ []
+empty_is [] h = refl
+empty_is (m ∷ ms) h = cc
+
+-- the end of a complete run leaves each test finished once
+end_finishes : (p : Settings) (past : List Happening) (e : Entry) (k : ℕ) → Holds p past → IsAttempted (unit_of k past) → k < tests_in p
+    → is_complete p past ≡ true → IsFinishedOnce k (happened p past e End None ∷ past)
+end_finishes p past e k h a below complete =
+    let whole : length (units p past) ≡ tests_in p = length-map-range_with_len (λ k. unit_of k past) 0 (tests_in p) in
+    let all : list_all is_done (units p past) ≡ true = first_so (list_all is_done (units p past)) (is_empty (queue past)) complete in
+    let empty : queue past ≡ [] = empty_is (queue past) (second_so (list_all is_done (units p past)) (is_empty (queue past)) complete) in
+    let done : is_done (unit_of k past) ≡ true =
+        sym (ap is_done (units-at p past k below)) ∙ all_at is_done (units p past) k None all (omega arith) in
+    let once = finished_once (unit_of k past) (account_of k (told past)) done a (rw empty at (h.accounts k)) in
+    record {
+        unit = once.0;
+        is = once.1;
+        first = once.2;
+        later = once.3;
+        attempts = once.4;
+        account = filter_map-append (news_of k) (told past) _ ∙ append-nil (account_of k (told past)) ∙ once.5
+    }
+
+-- where the last turn ended the run, each test finished once
+pub finishes : (p : Settings) (backward : List Entry) → IsLegalBackward p backward → is_over (history p backward) ≡ true
+    → (k : ℕ) → k < tests_in p → IsFinishedOnce k (history p backward)
+finishes p [] legal over k below = cc
+finishes p (e ∷ before) legal over k below =
+    let past : List Happening = history p before in
+    let not_yet : is_over past ≡ false = not_true (is_over past) (first_so (not (is_over past)) (takes_turn p past e.turn (turn_of_unit e.turn)) legal.0) in
+    let ends : is_end (happening p past e).turn ≡ true = first_holds (is_end (happening p past e).turn) (is_over past) over not_yet in
+    let end : e.turn ≡ End = end_is e.turn (sym (ap is_end (happened_turn p past e e.turn)) ∙ ends) in
+    let takes_end : takes_turn p past End None ≡ true =
+        sym (ap (λ turn. takes_turn p past turn (turn_of_unit turn)) end)
+        ∙ second_so (not (is_over past)) (takes_turn p past e.turn (turn_of_unit e.turn)) legal.0 in
+    subst (λ turn. IsFinishedOnce k (happened p past e turn (turn_of_unit turn) ∷ past)) (sym end)
+        (end_finishes p past e k (holds p before legal.2) (attempted p before legal.2 k) below
+            (second_so (has_begun past) (is_complete p past) takes_end))
+  where
+  not_true : (b : Bool) → not b ≡ true → b ≡ false
+  not_true true h = cc
+  not_true false h = refl
