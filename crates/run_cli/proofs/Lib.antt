@@ -1,2 +1,5 @@
 pub mod TextLemmas
 pub mod ToldLines
+pub mod EndLemmas
+pub mod GivenLemmas
+pub mod StatusLemmas

@@ -85,4 +85,4 @@ IsEnding words left left_after taken taken_after faults faults_after (Err TooLon
 IsEnding words left left_after taken taken_after faults faults_after (Err (Line number)) =
     IsReplay words × HasBadLine left left_after number
     × Writes taken taken_after faults faults_after (line_of (fault_text (Line number)))
-IsEnding words left left_after taken taken_after faults faults_after (Err Memory) = IsReplay words
+IsEnding words left left_after taken taken_after faults faults_after (Err Memory) = ⊤

@@ -45,3 +45,11 @@ abbrev pub CountsRead : {T : Type 0} → ℕ → ℕ → Result T Fault → Type
 CountsRead before now (Err Read) = (before ≤ now) × Rose before now
 CountsRead before now (Err _) = now ≡ before
 CountsRead before now (Ok _) = now ≡ before
+
+-- at the end of the program the source's count of faults rose exactly where the answer is that reading failed; where
+-- memory was wanting it may have risen
+abbrev pub CountsReadAtEnd : {T : Type 0} → ℕ → ℕ → Result T Fault → Type 0
+CountsReadAtEnd before now (Ok _) = now ≡ before
+CountsReadAtEnd before now (Err Read) = Rose before now
+CountsReadAtEnd before now (Err Memory) = before ≤ now
+CountsReadAtEnd before now (Err _) = now ≡ before

@@ -2,3 +2,6 @@ pub mod Text
 pub mod Given
 pub mod Write
 pub mod Executed
+pub mod Ending
+pub mod Finish
+pub mod Status

@@ -3,12 +3,12 @@
 //! in to the bytes that go out. The readers and writers of single lines are handed on from below.
 #![tactic(auto)]
 
-// mod ended;
+mod ended;
 mod execution;
 mod given;
-// mod top;
+mod top;
 mod write;
 
 pub use run_input::{InputError, LineError, StdSink, StdSource, read_plan_line, read_turn_line};
 pub use run_output::{Fault, LineReporter, ask_line, event_line, fault_line, outcome_line};
-// pub use top::{Ran, run};
+pub use top::{Ran, run};

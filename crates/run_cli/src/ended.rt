@@ -1,0 +1,88 @@
+// How the program ends: with an outcome or a fault, and its last lines.
+ghost use Rattle.std.specs.Prelude.{◌≡◌, ◌<◌, ◌^◌, ℕ, List, Option, length, Err, Ok};
+ghost use Rattle.run_events.specs.declared.settings.Settings.{Settings};
+ghost use Rattle.run_events.specs.declared.turn.Turn.{Turn};
+ghost use Rattle.run_engine.specs.Execution.{UnlessMemory};
+ghost use Rattle.run_cli.specs.Executed.{IsExecuted};
+ghost use Rattle.run_cli.specs.Finish.{fault_of_error, EndsAtFault, EndsAtOutcome, IsReplayEnding};
+
+use crate::execution::{Executed, execute};
+use crate::write::{WriteError, write_fault, write_outcome};
+use run_capture::{Failed, Sink};
+use run_engine::{TestRunner, TestRunnerExecuteErrors};
+use run_events::{Ask, RunOutcome, Turn};
+use run_output::Fault;
+use std::alloc::Global;
+
+/// How the program ended, and its sink.
+pub struct Ended<K> {
+    pub ending: Result<RunOutcome, Fault>,
+    pub sink: K,
+}
+
+/// Writes asks and a fault. A write that fails leaves the fault as it is.
+pub fn end_at_fault<K: Sink>(alloc: Global, sink: K, asks: &[(u64, Ask)], fault: Fault) -> Ended<K>
+    ensures { EndsAtFault (K.taken sink) (K.taken result.sink) (K.faults sink) (K.faults result.sink) asks.now fault result.ending }
+{
+    let mut sink = sink;
+    let ending = match write_fault(alloc, &mut sink, asks, fault) {
+        Ok(()) => Err(fault),
+        Err(WriteError::Failed) => Err(fault),
+        Err(WriteError::OutOfMemory) => Err(Fault::Memory),
+    };
+    Ended { ending, sink }
+}
+
+/// Writes asks and an outcome. A write that fails makes the outcome a fault.
+fn end_at_outcome<K: Sink>(alloc: Global, sink: K, asks: &[(u64, Ask)], outcome: RunOutcome) -> Ended<K>
+    ensures { EndsAtOutcome (K.taken sink) (K.taken result.sink) (K.faults sink) (K.faults result.sink) asks.now outcome result.ending }
+{
+    let mut sink = sink;
+    let ending = match write_outcome(alloc, &mut sink, asks, outcome) {
+        Ok(()) => Ok(outcome),
+        Err(WriteError::Failed) => Err(Fault::Report),
+        Err(WriteError::OutOfMemory) => Err(Fault::Memory),
+    };
+    Ended { ending, sink }
+}
+
+// The fault that an error of the engine is.
+fn fault_of(error: TestRunnerExecuteErrors<Failed>) -> Fault
+    ensures { result ≡ fault_of_error error }
+{
+    match error {
+        TestRunnerExecuteErrors::Report(_) => Fault::Report,
+        TestRunnerExecuteErrors::NotEnabled { turn } => Fault::NotEnabled { turn },
+        TestRunnerExecuteErrors::Unfinished => Fault::Unfinished,
+        TestRunnerExecuteErrors::OutOfMemory => Fault::Memory,
+    }
+}
+
+// Writes what is left to write of a run by its answer.
+fn finish<K: Sink>(
+    alloc: Global,
+    sink: K,
+    asks: &[(u64, Ask)],
+    answer: Result<RunOutcome, TestRunnerExecuteErrors<Failed>>,
+) -> Ended<K>
+    ensures { (p : Settings) (turns : List Turn) (taken : Option (List ℕ)) (faults : ℕ)
+        → UnlessMemory answer (IsExecuted p turns taken (K.taken sink) faults (K.faults sink) asks.now answer)
+        → IsReplayEnding p turns taken (K.taken result.sink) faults (K.faults result.sink) result.ending }
+{
+    match answer {
+        Ok(outcome) => end_at_outcome(alloc, sink, asks, outcome),
+        Err(error) => {
+            let fault = fault_of(error);
+            end_at_fault(alloc, sink, asks, fault)
+        }
+    }
+}
+
+/// Carries out the turns of a run, and writes all its lines.
+pub fn replay<K: Sink>(alloc: Global, runner: TestRunner, turns: &[Turn], sink: K) -> Ended<K>
+    requires { length turns.now < 2 ^ 32 }
+    ensures { IsReplayEnding runner turns.now (K.taken sink) (K.taken result.sink) (K.faults sink) (K.faults result.sink) result.ending }
+{
+    let Executed { sink, asks, answer } = execute(alloc, runner, turns, sink);
+    finish(alloc, sink, asks.asks(), answer)
+}
