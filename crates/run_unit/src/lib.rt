@@ -3,6 +3,8 @@
 #![tactic(auto)]
 
 mod environment;
+#[cfg(test)]
+mod tests;
 mod unit;
 
 pub use run_events::create_execution_result;
