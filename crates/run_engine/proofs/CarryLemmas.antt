@@ -1,5 +1,5 @@
 -- What one turn of a run does to its state and its journal.
-use Rattle.std.proofs.Common.{◌≡◌, ℕ, ◌+◌, ◌<◌, ◌^◌, List, [], ◌∷◌, ◌++◌, length, reverse, Bool, true, false, Option, option_to_list, map, zip, refl, ap, sym, subst, ◌∙◌, arith, length-append}
+use Rattle.std.proofs.Common.{◌≡◌, ℕ, ◌+◌, ◌<◌, ◌^◌, List, [], ◌∷◌, ◌++◌, length, reverse, Bool, true, Option, option_to_list, map, zip, ap, sym, subst, ◌∙◌, arith, length-append}
 use Rattle.run_events.specs.declared.settings.Settings.{Settings}
 use Rattle.run_events.specs.Tell.{Adds}
 use Rattle.run_events.specs.declared.ask.Ask.{Ask}
@@ -7,9 +7,8 @@ use Rattle.run_events.specs.declared.events.ReporterEvent.{ReporterEvent}
 use Rattle.run_events.specs.declared.turn.Turn.{Turn}
 use Rattle.run_model.specs.declared.entry.Entry.{Entry}
 use Rattle.run_model.specs.declared.happening.Happening.{Happening}
-use Rattle.run_model.specs.Words.{tests_in}
 use Rattle.run_model.specs.Turns.{enabled, turn_of_unit, happening}
-use Rattle.run_model.specs.Journal.{past_of, IsLegal}
+use Rattle.run_model.specs.Journal.{past_of}
 use Rattle.run_laws.specs.Holds.{Holds}
 use Rattle.run_laws.proofs.Kept.{holds}
 use Rattle.run_laws.proofs.Told.{happening_tells}
@@ -21,7 +20,7 @@ use Rattle.run_engine.specs.World.{entry_of, TellsEvents, TakesTurn}
 use Rattle.run_engine.specs.declared.state.State.{State}
 use Rattle.run_engine.proofs.Fields.{stands-after}
 use Rattle.run_engine.proofs.Same.{does-is}
-use Rattle.run_engine.proofs.Ready.{ready, units-length}
+use Rattle.run_engine.proofs.Ready.{ready}
 use Rattle.run_engine.proofs.EnabledLemmas.{enabled-is}
 use Rattle.run_engine.proofs.JournalLemmas.{past_of-push, legal-push, past_of-length}
 
@@ -34,7 +33,7 @@ pub can_advance : (p : Settings) (journal : List Entry) (s : State) (turn : Turn
     → enabled p (past_of p journal) turn ≡ true → CanAdvance p s turn (turn_of_unit turn)
 can_advance p journal s turn r st en =
     ready p (past_of p journal) s turn (holds_of p journal r) st r.few
-        (let same = past_of-length p journal in let short = r.short in omega arith) en
+    (let same = past_of-length p journal in let short = r.short in omega arith) en
 
 -- what the state says of a turn is what its history says
 pub enabled_at : (p : Settings) (journal : List Entry) (s : State) (turn : Turn) → IsRunnable p journal → Stands p (past_of p journal) s
@@ -54,9 +53,9 @@ pub stands_next : (p : Settings) (journal : List Entry) (old new : State) (turn 
 stands_next p journal old new turn refused r st en after =
     let tells = happening_tells p (past_of p journal) (entry_of turn refused) (holds_of p journal r) en in
     subst (λ past. Stands p past new) (sym (past_of-push p journal (entry_of turn refused)))
-        (stands-after p (past_of p journal) old new (happening p (past_of p journal) (entry_of turn refused)) st
-            (subst (λ x. IsAfter old x new) (does p journal old turn refused r st) after)
-            tells.2 tells.0 tells.1)
+    (stands-after p (past_of p journal) old new (happening p (past_of p journal) (entry_of turn refused)) st
+    (subst (λ x. IsAfter old x new) (does p journal old turn refused r st) after)
+    tells.2 tells.0 tells.1)
 
 -- and the longer journal is legal
 pub runnable_next : (p : Settings) (journal : List Entry) (turn : Turn) (refused : List Bool) → IsRunnable p journal
@@ -66,7 +65,7 @@ pub runnable_next : (p : Settings) (journal : List Entry) (turn : Turn) (refused
 runnable_next p journal turn refused r room en answered = record {
   few = r.few;
   short = omega (arith, length-append journal (entry_of turn refused ∷ []));
-  legal = legal-push p journal (entry_of turn refused) r.legal en answered
+  legal = legal-push p journal (entry_of turn refused) r.legal en answered;
 }
 
 -- a turn is taken as the tables say, from what its parts did
@@ -84,14 +83,14 @@ pub takes_from : {R E C : Type 0} (tells : R → List (ReporterEvent × Option E
 takes_from tells asks p journal after s turn report report_after children children_after refused told asked refusal r st en told_is asked_is answered tell ask grown =
     let same = does p journal s turn refused r st in
     let told_as : told ≡ (happening p (past_of p journal) (entry_of turn refused)).told =
-        told_is (entry_of turn refused) ∙ ap (λ (x : Happening). x.told) same in
+    told_is (entry_of turn refused) ∙ ap (λ (x : Happening). x.told) same in
     let asked_as : asked ≡ (happening p (past_of p journal) (entry_of turn refused)).asked =
-        asked_is (entry_of turn refused) ∙ ap (λ (x : Happening). x.asked) same in
+    asked_is (entry_of turn refused) ∙ ap (λ (x : Happening). x.asked) same in
     record {
-        is_enabled = en;
-        refused = refused;
-        answered = answered ∙ ap (λ o. length (option_to_list o)) told_as;
-        grown = ap (sound p) grown;
-        told = subst (λ o. TellsEvents tells report report_after (zip (option_to_list o) refused) refusal) told_as tell;
-        asked = subst (λ o. Adds asks children children_after (map (λ ask. (length journal, ask)) (option_to_list o))) asked_as ask
+      is_enabled = en;
+      refused = refused;
+      answered = answered ∙ ap (λ o. length (option_to_list o)) told_as;
+      grown = ap (sound p) grown;
+      told = subst (λ o. TellsEvents tells report report_after (zip (option_to_list o) refused) refusal) told_as tell;
+      asked = subst (λ o. Adds asks children children_after (map (λ ask. (length journal, ask)) (option_to_list o))) asked_as ask;
     }

@@ -1,12 +1,12 @@
 -- What a state takes is what its history enables.
-use Rattle.std.proofs.Common.{◌≡◌, ℕ, List, Bool, ◌&&◌, not, Option, Some, None, is_some, refl, ap, sym, ◌∙◌}
+use Rattle.std.proofs.Common.{◌≡◌, ℕ, List, ◌&&◌, not, Option, Some, None, is_some, refl, ap, ◌∙◌}
 use Rattle.std.specs.List.{list_all}
 use Rattle.run_events.specs.declared.settings.Settings.{Settings}
 use Rattle.run_events.specs.declared.turn.Turn.{Turn}
 use Rattle.run_events.specs.declared.turn.Turn.TheVariants.{Begin, Admit, Deliver, Started, Exit, Decide, End}
 use Rattle.run_model.specs.declared.happening.Happening.{Happening}
 use Rattle.run_model.specs.declared.unit_turn.UnitTurn.{UnitTurn}
-use Rattle.run_model.specs.Words.{has_begun, is_over, units, queue}
+use Rattle.run_model.specs.Words.{has_begun, is_over, units}
 use Rattle.run_model.specs.Admission.{is_done, newcomer}
 use Rattle.run_model.specs.Turns.{enabled, takes_turn, run_takes, turn_of_unit, unit_takes, is_empty}
 use Rattle.run_laws.specs.Holds.{Holds}

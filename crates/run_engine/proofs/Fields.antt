@@ -1,12 +1,10 @@
 -- A state that stands for a history stands for the longer one after a turn: field by field.
-use Rattle.std.proofs.Common.{◌≡◌, ◌≢◌, ℕ, ◌+◌, ◌-◌, ◌<◌, ◌≤◌, ◌==◌, ◌||◌, List, [], ◌∷◌, ◌++◌, length, drop, get_or, set, Bool, true, false, if◌then◌else◌, Option, Some, None, option_map, option_to_list, filter_map, map, refl, ap, sym, subst, ◌∙◌, arith, get_or-set_other}
-use Rattle.std.specs.List.{range_with_len}
+use Rattle.std.proofs.Common.{◌≡◌, ◌≢◌, ℕ, ◌+◌, ◌<◌, ◌≤◌, ◌==◌, ◌||◌, List, [], ◌∷◌, ◌++◌, length, drop, get_or, set, Bool, true, false, if◌then◌else◌, Option, Some, None, option_map, option_to_list, filter_map, refl, ap, sym, ◌∙◌, arith, get_or-set_other}
 use Rattle.std.proofs.Math.ListN.{length-set}
 use Rattle.std.proofs.lemmas.List.{append-nil}
 use Rattle.std.proofs.lemmas.List.Elements.{filter_map-append}
 use Rattle.std.proofs.lemmas.List.FromFn.{fill_by_all, length-map-range_with_len}
-use Rattle.std.proofs.lemmas.Grind.{get_or-set_at, common_steps}
-use Rattle.run_events.specs.Stats.{FinishedTest, plus, adds_of}
+use Rattle.std.proofs.lemmas.Grind.{get_or-set_at}
 use Rattle.run_events.proofs.StatsLemmas.{total_push}
 use Rattle.run_events.specs.declared.settings.Settings.{Settings}
 use Rattle.run_events.specs.declared.cancel.CancelReason.{CancelReason}
@@ -14,14 +12,12 @@ use Rattle.run_events.specs.declared.events.ReporterEvent.{ReporterEvent}
 use Rattle.run_events.specs.declared.events.ReporterEvent.TheVariants.{Test}
 use Rattle.run_events.specs.declared.events.TestEventKind.{TestEventKind}
 use Rattle.run_events.specs.declared.events.TestEventKind.TheVariants.{RunStarted, TestStarted, TestFinished, RunFinished}
-use Rattle.run_model.specs.declared.entry.Entry.{Entry}
 use Rattle.run_model.specs.declared.happening.Happening.{Happening}
 use Rattle.run_model.specs.declared.happening.Place.{Place}
 use Rattle.run_model.specs.declared.happening.Place.TheVariants.{Admitted, Took}
 use Rattle.run_model.specs.declared.unit_view.UnitView.{UnitView}
 use Rattle.run_model.specs.Unit.{row}
-use Rattle.run_model.specs.Words.{clock, ns_of, is_begin, is_end, greater, told, sent, delivered, queue, reason, placed, unit_of, units, tests_in, finish_of, finished, finished_test, stats_after, stats, running}
-use Rattle.run_laws.specs.Holds.{Holds}
+use Rattle.run_model.specs.Words.{clock, ns_of, is_begin, is_end, greater, told, sent, delivered, reason, placed, unit_of, units, tests_in, finish_of, finished, finished_test, stats_after, stats, running}
 use Rattle.run_laws.proofs.Queue.{queue-cons}
 use Rattle.run_laws.proofs.Kept.{units-at}
 use Rattle.run_laws.proofs.Running.{running_in_told, running-started, running-finished, running-kept}
@@ -35,20 +31,20 @@ at_place : (now : ℕ) (place : Option Place) (us : List (Option UnitView)) (k :
 at_place now None us k h = refl
 at_place now (Some (Admitted first)) us k h = by_place (first.unit == k) refl
   where
-  by_place : (b : Bool) → (first.unit == k) ≡ b
-      → get_or (set us first.unit (Some first)) k None ≡ (if first.unit == k then Some first else get_or us k None)
-  by_place true e = let here : k ≡ first.unit = grind arith in rw e (get_or-set_at us first.unit k (Some first) None here (omega arith))
-  by_place false e = let apart : k ≢ first.unit = grind arith in rw e (get_or-set_other us first.unit k (Some first) None apart)
+    by_place : (b : Bool) → (first.unit == k) ≡ b
+        → get_or (set us first.unit (Some first)) k None ≡ (if first.unit == k then Some first else get_or us k None)
+    by_place true e = let here : k ≡ first.unit = grind arith in rw e (get_or-set_at us first.unit k (Some first) None here (omega arith))
+    by_place false e = let apart : k ≢ first.unit = grind arith in rw e (get_or-set_other us first.unit k (Some first) None apart)
 at_place now (Some (Took j turn)) us k h = by_place (j == k) refl
   where
-  by_place : (b : Bool) → (j == k) ≡ b
-      → get_or (set us j (option_map (λ v. (row now turn v).next) (get_or us j None))) k None
+    by_place : (b : Bool) → (j == k) ≡ b
+        → get_or (set us j (option_map (λ v. (row now turn v).next) (get_or us j None))) k None
         ≡ (if j == k then option_map (λ v. (row now turn v).next) (get_or us k None) else get_or us k None)
-  by_place true e =
-      let here : k ≡ j = grind arith in
-      rw e (get_or-set_at us j k (option_map (λ v. (row now turn v).next) (get_or us j None)) None here (omega arith)
+    by_place true e =
+        let here : k ≡ j = grind arith in
+        rw e (get_or-set_at us j k (option_map (λ v. (row now turn v).next) (get_or us j None)) None here (omega arith)
         ∙ ap (λ j. option_map (λ v. (row now turn v).next) (get_or us j None)) (sym here))
-  by_place false e = let apart : k ≢ j = grind arith in rw e (get_or-set_other us j k _ None apart)
+    by_place false e = let apart : k ≢ j = grind arith in rw e (get_or-set_other us j k _ None apart)
 
 length_placed : (now : ℕ) (place : Option Place) (us : List (Option UnitView)) → length (placed_in now place us) ≡ length us
 length_placed now None us = refl
@@ -61,20 +57,20 @@ pub units-cons : (p : Settings) (x : Happening) (past : List Happening)
 units-cons p x past =
     let whole : length (units p past) ≡ tests_in p = length-map-range_with_len (λ k. unit_of k past) 0 (tests_in p) in
     fill_by_all (λ k. unit_of k (x ∷ past)) (placed_in (clock past) x.place (units p past)) (tests_in p) None
-      (length_placed (clock past) x.place (units p past) ∙ whole)
-      (λ k h. at_place (clock past) x.place (units p past) k (omega arith)
-        ∙ ap (placed (clock past) k x.place) (units-at p past k h))
+    (length_placed (clock past) x.place (units p past) ∙ whole)
+    (λ k h. at_place (clock past) x.place (units p past) k (omega arith)
+    ∙ ap (placed (clock past) k x.place) (units-at p past k h))
 
 -- how many tests run after one more event
 running_one : (n clock elapsed : ℕ) (kind : TestEventKind) (past : List Happening) → ToldFitsIn n past kind
     → running_in_told n (told past ++ Test (record { clock = clock; elapsed = elapsed; kind = kind }) ∷ [])
-      ≡ running_in kind (running_in_told n (told past))
+    ≡ running_in kind (running_in_told n (told past))
 running_one n clock elapsed (RunStarted id tests) past fits = running-kept n (told past) _ (λ k. refl) (λ k. refl)
 running_one n clock elapsed (TestStarted i id command slot running stats) past fits =
     running-started n i (told past) _ fits.0 fits.1 (λ k. refl) (λ k. refl)
 running_one n clock elapsed (TestFinished i id statuses running stats) past fits =
     let less = running-finished n i (told past) (Test (record { clock = clock; elapsed = elapsed; kind = TestFinished i id statuses running stats }))
-      fits.0 fits.1 (λ k. refl) (λ k. refl) in omega arith
+    fits.0 fits.1 (λ k. refl) (λ k. refl) in omega arith
 running_one n clock elapsed (RunFinished stats) past fits = running-kept n (told past) _ (λ k. refl) (λ k. refl)
 
 pub running-cons : (n : ℕ) (o : Option ReporterEvent) (past : List Happening) → ToldFits n past o
@@ -85,7 +81,7 @@ running-cons n (Some (Test event)) past fits = running_one n event.clock event.e
 -- the statistics after one more event
 counted_one : (p : Settings) (why : Option CancelReason) (clock elapsed : ℕ) (kind : TestEventKind) (events : List ReporterEvent)
     → stats_after p why (filter_map finish_of events ++ filter_map finish_of (Test (record { clock = clock; elapsed = elapsed; kind = kind }) ∷ []))
-      ≡ counted_in kind (stats_after p why (filter_map finish_of events))
+    ≡ counted_in kind (stats_after p why (filter_map finish_of events))
 counted_one p why clock elapsed (RunStarted id tests) events = ap (stats_after p why) (append-nil _)
 counted_one p why clock elapsed (TestStarted i id command slot running stats) events = ap (stats_after p why) (append-nil _)
 counted_one p why clock elapsed (TestFinished i id statuses running stats) events = total_push _ (filter_map finish_of events) (finished_test statuses)
@@ -104,12 +100,12 @@ pub stands-after : (p : Settings) (past : List Happening) (old new : State) (x :
     → Stands p (x ∷ past) new
 stands-after p past old new x s after fits tells no_cause = record {
   units = after.units ∙ ap (λ now. placed_in now x.place old.units.items) s.clock
-    ∙ ap (placed_in (clock past) x.place) s.units ∙ units-cons p x past;
+      ∙ ap (placed_in (clock past) x.place) s.units ∙ units-cons p x past;
   queue = after.queue ∙ ap (λ q. drop (if x.taken then 1 else 0) q ++ option_to_list x.sent) s.queue ∙ sym (queue-cons x past fits);
   begun = after.begun ∙ ap (λ b. is_begin x.turn || b) s.begun;
   over = after.over ∙ ap (λ b. is_end x.turn || b) s.over;
   running = after.running ∙ ap (running_after x.told) s.running ∙ sym (running-cons (tests_in p) x.told past tells);
   stats = after.stats ∙ ap (counted_after x.told) s.stats ∙ sym (counted-cons p (reason past) x.told (told past))
-    ∙ ap (λ why. stats_after p why (finished (x ∷ past))) (sym (ap (greater (reason past)) no_cause ∙ greater-None (reason past)));
-  clock = after.clock ∙ ap (λ n. n + ns_of x.turn) s.clock
+      ∙ ap (λ why. stats_after p why (finished (x ∷ past))) (sym (ap (greater (reason past)) no_cause ∙ greater-None (reason past)));
+  clock = after.clock ∙ ap (λ n. n + ns_of x.turn) s.clock;
 }

@@ -1,9 +1,8 @@
 -- Histories of journals that grow at their ends.
-use Rattle.std.proofs.Common.{◌≡◌, ℕ, suc, ◌+◌, List, [], ◌∷◌, ◌++◌, length, reverse, true, Option, option_to_list, refl, ap, sym, subst, ◌∙◌, arith}
+use Rattle.std.proofs.Common.{◌≡◌, suc, List, [], ◌∷◌, ◌++◌, length, reverse, true, option_to_list, refl, ap, sym, subst, ◌∙◌}
 use Rattle.std.proofs.lemmas.List.{reverse-append, length-reverse}
 use Rattle.run_events.specs.declared.settings.Settings.{Settings}
 use Rattle.run_model.specs.declared.entry.Entry.{Entry}
-use Rattle.run_model.specs.declared.happening.Happening.{Happening}
 use Rattle.run_model.specs.Turns.{enabled, happening}
 use Rattle.run_model.specs.Journal.{history, IsLegalBackward, past_of, IsLegal}
 

@@ -1,11 +1,10 @@
 -- An enabled turn can be taken: what the tables allow is what the parts need.
-use Rattle.std.proofs.Common.{◌≡◌, ℕ, ◌+◌, ◌-◌, ◌*◌, ◌^◌, ◌<◌, ◌≤◌, List, [], ◌∷◌, ◌++◌, length, Bool, true, false, not, Option, Some, None, is_none, is_some, count_by, sum_by, refl, ap, sym, subst, ◌∙◌, arith, rules}
-use Rattle.std.specs.Prelude.{⊤}
+use Rattle.std.proofs.Common.{◌≡◌, ℕ, ◌^◌, ◌<◌, ◌≤◌, List, [], ◌∷◌, ◌++◌, length, true, not, Option, Some, None, is_none, is_some, sum_by, refl, ap, sym, subst, ◌∙◌, arith, rules}
 use Rattle.std.specs.List.{range_with_len}
 use Rattle.std.specs.Cmp.{second_so}
 use Rattle.std.proofs.lemmas.List.FromFn.{length-map-range_with_len, length-range_with_len}
 use Rattle.std.proofs.lemmas.List.Sums.{count_by-le-length, sum_by-cons}
-use Rattle.run_events.specs.Stats.{FinishedTest, AreBelow, nothing, adds_of, total, total_by}
+use Rattle.run_events.specs.Stats.{FinishedTest, AreBelow, adds_of, total_by}
 use Rattle.run_events.proofs.StatsLemmas.{sum_below, adds_of_small}
 use Rattle.run_events.specs.declared.settings.Settings.{Settings}
 use Rattle.run_events.specs.declared.cancel.CancelReason.{CancelReason}
@@ -13,25 +12,22 @@ use Rattle.run_events.specs.declared.turn.Turn.{Turn}
 use Rattle.run_events.specs.declared.turn.Turn.TheVariants.{Begin, Admit, Deliver, Started, Exit, Decide, End}
 use Rattle.run_events.specs.declared.message.Message.{Message}
 use Rattle.run_events.specs.declared.message.Message.TheVariants.{Start, Finish}
-use Rattle.run_events.specs.declared.events.ReporterEvent.TheVariants.{Test}
 use Rattle.run_events.specs.declared.events.TestEventKind.TheVariants.{TestStarted, TestFinished}
 use Rattle.run_model.specs.declared.happening.Happening.{Happening}
-use Rattle.run_model.specs.declared.phase.Phase.{Phase}
-use Rattle.run_model.specs.declared.phase.Phase.TheVariants.{StartSent}
 use Rattle.run_model.specs.declared.unit_turn.UnitTurn.{UnitTurn}
 use Rattle.run_model.specs.declared.unit_turn.UnitTurn.TheVariants.{Answered}
 use Rattle.run_model.specs.declared.unit_view.UnitView.{UnitView}
 use Rattle.run_model.specs.Unit.{takes}
-use Rattle.run_model.specs.Words.{clock, told, queue, reason, unit_of, units, tests_in, has_begun, is_over, finished, stats_after, stats, running}
+use Rattle.run_model.specs.Words.{clock, told, queue, reason, unit_of, units, tests_in, has_begun, is_over, finished, stats_after, stats}
 use Rattle.run_model.specs.Admission.{newcomer}
-use Rattle.run_model.specs.Turns.{enabled, takes_turn, run_takes, turn_of_unit, unit_takes, is_empty}
+use Rattle.run_model.specs.Turns.{enabled, takes_turn, turn_of_unit, unit_takes, is_empty}
 use Rattle.run_laws.specs.Holds.{Holds}
-use Rattle.run_laws.proofs.Facts.{Waits, Finishes, start_waits, finish_follows}
+use Rattle.run_laws.proofs.Facts.{start_waits, finish_follows}
 use Rattle.run_laws.proofs.Running.{running_in_told, running-started, running-finished}
 use Rattle.run_laws.proofs.Told.{finished_short}
 use Rattle.run_engine.specs.State.{Stands}
-use Rattle.run_engine.specs.Dispatcher.{event, CanDeliver, go_of}
-use Rattle.run_engine.specs.Advance.{unit_in, CanTake, CanAdmit, CanAnswer, CanDeliverOldest, CanRun, CanAdvance}
+use Rattle.run_engine.specs.Dispatcher.{event}
+use Rattle.run_engine.specs.Advance.{CanTake, CanDeliverOldest, CanAdvance}
 use Rattle.run_engine.specs.declared.state.State.{State}
 use Rattle.run_engine.proofs.Same.{unit_in-is}
 
@@ -47,20 +43,20 @@ take_ready p past s k turn u h st e t =
     let below : k < tests_in p = named.1 in
     let early : u.start ≤ clock past = named.2 in
     record {
-        unit = u;
-        is = unit_in-is p past s k h st ∙ e;
-        below = omega (arith, units-length p past s st);
-        takes = t;
-        early = omega (arith, st.clock)
+      unit = u;
+      is = unit_in-is p past s k h st ∙ e;
+      below = omega (arith, units-length p past s st);
+      takes = t;
+      early = omega (arith, st.clock);
     }
 
 unit_ready : (p : Settings) (past : List Happening) (s : State) (k : ℕ) (turn : UnitTurn) → Holds p past → Stands p past s
     → unit_takes (unit_of k past) turn ≡ true → CanTake s k turn
 unit_ready p past s k turn h st en = by_view (unit_of k past) refl
   where
-  by_view : (v : Option UnitView) → unit_of k past ≡ v → CanTake s k turn
-  by_view None e = let never : unit_takes None turn ≡ true = rw e at en in cc
-  by_view (Some u) e = take_ready p past s k turn u h st e (rw e at en)
+    by_view : (v : Option UnitView) → unit_of k past ≡ v → CanTake s k turn
+    by_view None e = let never : unit_takes None turn ≡ true = rw e at en in cc
+    by_view (Some u) e = take_ready p past s k turn u h st e (rw e at en)
 
 -- no test adds to the number of tests
 adds_none : (f : FinishedTest) → (adds_of f).initial_run_count ≡ 0
@@ -94,7 +90,7 @@ stats_below p why limit fs few short = record {
   leaky = sum_below (λ f. (adds_of f).leaky) (λ f. (adds_of_small f).leaky) 0 1 limit fs (omega arith) (omega arith);
   leaky_failed = sum_below (λ f. (adds_of f).leaky_failed) (λ f. (adds_of_small f).leaky_failed) 0 1 limit fs (omega arith) (omega arith);
   exec_failed = sum_below (λ f. (adds_of f).exec_failed) (λ f. (adds_of_small f).exec_failed) 0 1 limit fs (omega arith) (omega arith);
-  skipped = sum_below (λ f. (adds_of f).skipped) (λ f. (adds_of_small f).skipped) 0 1 limit fs (omega arith) (omega arith)
+  skipped = sum_below (λ f. (adds_of f).skipped) (λ f. (adds_of_small f).skipped) 0 1 limit fs (omega arith) (omega arith);
 }
 
 -- the oldest message can be delivered
@@ -105,10 +101,11 @@ oldest_ready p past s (Start i id command slot ∷ rest) h st few short eq en =
     let waits = start_waits p past i id command slot rest h eq in
     let more = running-started (tests_in p) i (told past) (event 0 (TestStarted i id command slot 0 (stats p past))) waits.below waits.untold (λ k. refl) (λ k. refl) in
     let most : running_in_told (tests_in p) (told past ++ event 0 (TestStarted i id command slot 0 (stats p past)) ∷ []) ≤ length (range_with_len 0 (tests_in p)) =
-        count_by-le-length _ (range_with_len 0 (tests_in p)) in
-    (omega (arith, st.running, length-range_with_len 0 (tests_in p)),
-     take_ready p past s i (Answered (is_none s.dispatcher.stats.cancel_reason)) waits.unit h st waits.is
-        (ap (λ ph. takes ph (Answered (is_none s.dispatcher.stats.cancel_reason))) waits.phase))
+    count_by-le-length _ (range_with_len 0 (tests_in p)) in (
+      omega (arith, st.running, length-range_with_len 0 (tests_in p)),
+      take_ready p past s i (Answered (is_none s.dispatcher.stats.cancel_reason)) waits.unit h st waits.is
+          (ap (λ ph. takes ph (Answered (is_none s.dispatcher.stats.cancel_reason))) waits.phase),
+    )
 oldest_ready p past s (Finish i id statuses ∷ rest) h st few short eq en =
     let follows = finish_follows p past i id statuses rest h eq in
     let less = running-finished (tests_in p) i (told past) (event 0 (TestFinished i id statuses 0 (stats p past))) follows.below follows.told_started (λ k. refl) (λ k. refl) in
@@ -120,15 +117,15 @@ pub ready : (p : Settings) (past : List Happening) (s : State) (turn : Turn) →
     → tests_in p < 2 ^ 32 → length past < 2 ^ 32 → enabled p past turn ≡ true → CanAdvance p s turn (turn_of_unit turn)
 ready p past s turn h st few short en = by_turn turn (second_so (not (is_over past)) (takes_turn p past turn (turn_of_unit turn)) en)
   where
-  by_turn : (turn : Turn) → takes_turn p past turn (turn_of_unit turn) ≡ true → CanAdvance p s turn (turn_of_unit turn)
-  by_turn Begin en = tt
-  by_turn Admit en = record {
-    candidate = ap (λ us. is_some (newcomer p us)) st.units ∙ second_so (has_begun past) (is_some (newcomer p (units p past))) en;
-    whole = units-length p past s st
-  }
-  by_turn Deliver en = subst (CanDeliverOldest s) (sym st.queue)
-    (oldest_ready p past s (queue past) h st few short refl (second_so (has_begun past) (not (is_empty (queue past))) en))
-  by_turn (Started unit pid) en = unit_ready p past s unit _ h st en
-  by_turn (Exit unit exit) en = unit_ready p past s unit _ h st en
-  by_turn (Decide unit word) en = unit_ready p past s unit _ h st en
-  by_turn End en = tt
+    by_turn : (turn : Turn) → takes_turn p past turn (turn_of_unit turn) ≡ true → CanAdvance p s turn (turn_of_unit turn)
+    by_turn Begin en = tt
+    by_turn Admit en = record {
+      candidate = ap (λ us. is_some (newcomer p us)) st.units ∙ second_so (has_begun past) (is_some (newcomer p (units p past))) en;
+      whole = units-length p past s st;
+    }
+    by_turn Deliver en = subst (CanDeliverOldest s) (sym st.queue)
+        (oldest_ready p past s (queue past) h st few short refl (second_so (has_begun past) (not (is_empty (queue past))) en))
+    by_turn (Started unit pid) en = unit_ready p past s unit _ h st en
+    by_turn (Exit unit exit) en = unit_ready p past s unit _ h st en
+    by_turn (Decide unit word) en = unit_ready p past s unit _ h st en
+    by_turn End en = tt

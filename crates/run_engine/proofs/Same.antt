@@ -1,5 +1,5 @@
 -- What a turn does to a state that stands for a history is what the tables say of that history.
-use Rattle.std.proofs.Common.{◌≡◌, ℕ, ◌+◌, ◌-◌, ◌<◌, ◌≤◌, List, [], ◌∷◌, ◌++◌, length, get_or, Bool, true, false, if◌then◌else◌, Option, Some, None, is_none, refl, ap, sym, ◌∙◌, arith, nat_lt}
+use Rattle.std.proofs.Common.{◌≡◌, ℕ, ◌+◌, ◌-◌, ◌<◌, ◌≤◌, List, [], ◌∷◌, length, get_or, Bool, true, false, if◌then◌else◌, Option, Some, None, is_none, refl, ap, sym, ◌∙◌, arith, nat_lt}
 use Rattle.std.proofs.lemmas.List.FromFn.{length-map-range_with_len}
 use Rattle.std.proofs.lemmas.List.{get_or_past}
 use Rattle.run_events.specs.Stats.{plus, adds_of}
@@ -12,7 +12,6 @@ use Rattle.run_events.specs.declared.turn.Turn.{Turn}
 use Rattle.run_events.specs.declared.turn.Turn.TheVariants.{Begin, Admit, Deliver, Started, Exit, Decide, End}
 use Rattle.run_events.specs.declared.message.Message.{Message}
 use Rattle.run_events.specs.declared.message.Message.TheVariants.{Start, Finish}
-use Rattle.run_events.specs.declared.result.ExecuteStatus.{ExecuteStatus}
 use Rattle.run_events.specs.declared.events.ReporterEvent.{ReporterEvent}
 use Rattle.run_events.specs.declared.events.TestEventKind.TheVariants.{RunStarted, TestStarted, TestFinished, RunFinished}
 use Rattle.run_model.specs.declared.entry.Entry.{Entry}
@@ -20,35 +19,37 @@ use Rattle.run_model.specs.declared.happening.Happening.{Happening}
 use Rattle.run_model.specs.declared.unit_turn.UnitTurn.{UnitTurn}
 use Rattle.run_model.specs.declared.unit_turn.UnitTurn.TheVariants.{Answered}
 use Rattle.run_model.specs.declared.unit_view.UnitView.{UnitView}
-use Rattle.run_model.specs.Words.{clock, queue, reason, unit_of, units, tests_in, finished, finished_test, stats, stats_after, running}
+use Rattle.run_model.specs.Words.{clock, queue, reason, unit_of, units, tests_in, finished, finished_test, stats, running}
 use Rattle.run_model.specs.Admission.{newcomer}
 use Rattle.run_model.specs.Turns.{silent, taken_by, admission, start_delivery, delivery, run_turn, happened}
 use Rattle.run_laws.specs.Holds.{Holds}
 use Rattle.run_laws.proofs.Kept.{units-at}
 use Rattle.run_engine.specs.State.{Stands}
-use Rattle.run_engine.specs.Dispatcher.{event, told_of, go_of}
-use Rattle.run_engine.specs.Advance.{unit_in, answer_to, delivery_of, run_turn_of, turn_does}
+use Rattle.run_engine.specs.Dispatcher.{event}
+use Rattle.run_engine.specs.Advance.{unit_in, delivery_of, run_turn_of, turn_does}
 use Rattle.run_engine.specs.declared.state.State.{State}
 
 -- the unit in a state is that of the history
 pub unit_in-is : (p : Settings) (past : List Happening) (s : State) (k : ℕ) → Holds p past → Stands p past s → unit_in s k ≡ unit_of k past
 unit_in-is p past s k h st = ap (λ us. get_or us k None) st.units ∙ by_place (nat_lt k (tests_in p)) refl
   where
-  whole : length (units p past) ≡ tests_in p
-  whole = length-map-range_with_len (λ k. unit_of k past) 0 (tests_in p)
-  never : (v : Option UnitView) → unit_of k past ≡ v → tests_in p ≤ k → None ≡ v
-  never None e le = refl
-  never (Some u) e le = absurd (let named = h.named k u e in let below : k < tests_in p = named.1 in omega arith)
-  by_place : (b : Bool) → nat_lt k (tests_in p) ≡ b → get_or (units p past) k None ≡ unit_of k past
-  by_place true e = units-at p past k (grind arith)
-  by_place false e =
-      let le : tests_in p ≤ k = grind arith in
-      get_or_past (units p past) k None (omega (arith, whole)) ∙ never (unit_of k past) refl le
+    whole : length (units p past) ≡ tests_in p
+    whole = length-map-range_with_len (λ k. unit_of k past) 0 (tests_in p)
+
+    never : (v : Option UnitView) → unit_of k past ≡ v → tests_in p ≤ k → None ≡ v
+    never None e le = refl
+    never (Some u) e le = absurd (let named = h.named k u e in let below : k < tests_in p = named.1 in omega arith)
+
+    by_place : (b : Bool) → nat_lt k (tests_in p) ≡ b → get_or (units p past) k None ≡ unit_of k past
+    by_place true e = units-at p past k (grind arith)
+    by_place false e =
+        let le : tests_in p ≤ k = grind arith in
+        get_or_past (units p past) k None (omega (arith, whole)) ∙ never (unit_of k past) refl le
 
 -- the answer to a start, told where it is let go
 start_same : (now : ℕ) (e : Entry) (k : ℕ) (go : Bool) (w : Option UnitView) (event : ReporterEvent)
     → (let x : Happening = taken_by now e k (Answered go) w in record x { taken = true; told = if go then Some event else None })
-      ≡ start_delivery go (taken_by now e k (Answered go) w) event
+    ≡ start_delivery go (taken_by now e k (Answered go) w) event
 start_same now e k true None event = refl
 start_same now e k true (Some u) event = refl
 start_same now e k false None event = refl
@@ -78,10 +79,10 @@ delivery-is p past s e (Finish k id statuses ∷ rest) h st =
     ap (λ now. told (event now (TestFinished k id statuses (s.dispatcher.running - 1) (plus s.dispatcher.stats (adds_of (finished_test statuses)))))) st.clock
     ∙ ap (λ n. told (event (clock past) (TestFinished k id statuses (n - 1) (plus s.dispatcher.stats (adds_of (finished_test statuses)))))) st.running
     ∙ ap (λ t. told (event (clock past) (TestFinished k id statuses (running p past - 1) t)))
-        (ap (λ t. plus t (adds_of (finished_test statuses))) st.stats ∙ sym (total_push _ (finished past) (finished_test statuses)))
+    (ap (λ t. plus t (adds_of (finished_test statuses))) st.stats ∙ sym (total_push _ (finished past) (finished_test statuses)))
   where
-  told : ReporterEvent → Happening
-  told event = record (silent e) { taken = true; told = Some event }
+    told : ReporterEvent → Happening
+    told event = record (silent e) { taken = true; told = Some event }
 
 -- a turn of the run's own
 run_turn-is : (p : Settings) (past : List Happening) (s : State) (e : Entry) (turn : Turn) → Holds p past → Stands p past s

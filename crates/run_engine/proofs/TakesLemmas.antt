@@ -1,7 +1,6 @@
 -- Turns taken one after another.
-use Rattle.std.proofs.Common.{◌≡◌, ℕ, ◌+◌, ◌-◌, ◌^◌, ◌<◌, ◌≤◌, min, List, [], ◌∷◌, ◌++◌, length, map, zip, take, get_or, Bool, true, false, Option, Some, None, option_to_list, refl, ap, sym, subst, ◌∙◌, arith, append_assoc, length-append}
+use Rattle.std.proofs.Common.{◌≡◌, ℕ, ◌+◌, ◌^◌, ◌<◌, List, [], ◌∷◌, ◌++◌, length, map, zip, take, get_or, Bool, true, false, Option, Some, None, option_to_list, refl, ap, sym, subst, ◌∙◌, arith, append_assoc, length-append}
 use Rattle.std.proofs.lemmas.List.{append-nil, map-append, take_more}
-use Rattle.run_capture.specs.Faults.{Rose}
 use Rattle.run_events.specs.Tell.{Adds}
 use Rattle.run_events.specs.declared.settings.Settings.{Settings}
 use Rattle.run_events.specs.declared.turn.Turn.{Turn}
@@ -14,12 +13,12 @@ use Rattle.run_model.specs.declared.entry.Entry.{Entry}
 use Rattle.run_model.specs.declared.happening.Happening.{Happening}
 use Rattle.run_model.specs.declared.unit_turn.UnitTurn.{UnitTurn}
 use Rattle.run_model.specs.declared.unit_view.UnitView.{UnitView}
-use Rattle.run_model.specs.Words.{answers, asked, clock, queue, reason, unit_of, units, tests_in}
+use Rattle.run_model.specs.Words.{answers, asked, clock, queue, unit_of, units, tests_in}
 use Rattle.run_model.specs.Admission.{newcomer}
 use Rattle.run_model.specs.Turns.{turn_of_unit, taken_by, admission, start_delivery, delivery, happened, happening}
 use Rattle.run_model.specs.Journal.{past_of}
 use Rattle.run_engine.specs.World.{World, flagged, earlier, first_error, TellsEvents, CountsErrors, TakesTurn, entry_of}
-use Rattle.run_engine.specs.Standing.{IsRunnable, sound}
+use Rattle.run_engine.specs.Standing.{sound}
 use Rattle.run_engine.specs.Execution.{Takes, turns_of}
 use Rattle.run_engine.proofs.JournalLemmas.{past_of-push, past_of-length, legal-push}
 
@@ -56,7 +55,7 @@ pub answers-push : (p : Settings) (journal : List Entry) (e : Entry)
 answers-push p journal e =
     ap answers (past_of-push p journal e)
     ∙ ap (λ refused. answers (past_of p journal) ++ zip (option_to_list (happening p (past_of p journal) e).told) refused)
-        (happened_refused p (past_of p journal) e e.turn)
+    (happened_refused p (past_of p journal) e e.turn)
 
 -- the asks of a journal with one more entry
 pub asked-push : (p : Settings) (journal : List Entry) (e : Entry)
@@ -79,11 +78,12 @@ tells_both : {R E : Type 0} (tells : R → List (ReporterEvent × Option E) → 
     → TellsEvents tells a b es first → TellsEvents tells b c fs later → TellsEvents tells a c (es ++ fs) (earlier first later)
 tells_both tells a b c es fs first later f g xs t =
     let one = f xs t in
-    let two = g (xs ++ one.0) one.1 in
-    (one.0 ++ two.0,
-     subst (tells c) (append_assoc xs one.0 two.0) two.1,
-     map-append flagged one.0 two.0 ∙ ap (λ us. us ++ map flagged two.0) one.2 ∙ ap (λ vs. es ++ vs) two.2,
-     first_error-append one.0 two.0 ∙ ap (λ o. earlier o (first_error two.0)) one.3 ∙ ap (earlier first) two.3)
+    let two = g (xs ++ one.0) one.1 in (
+      one.0 ++ two.0,
+      subst (tells c) (append_assoc xs one.0 two.0) two.1,
+      map-append flagged one.0 two.0 ∙ ap (λ us. us ++ map flagged two.0) one.2 ∙ ap (λ vs. es ++ vs) two.2,
+      first_error-append one.0 two.0 ∙ ap (λ o. earlier o (first_error two.0)) one.3 ∙ ap (earlier first) two.3,
+    )
 
 -- what was asked, and then more
 adds_both : {S X : Type 0} (holds : S → List X → Type 0) (a b c : S) (xs ys : List X) → Adds holds a b xs → Adds holds b c ys → Adds holds a c (xs ++ ys)
@@ -103,7 +103,7 @@ takes-nil tells asks p report children faults few = record {
   runnable = record { few = few; short = omega arith; legal = tt };
   told = λ xs t. ([], subst (tells report) (sym (append-nil xs)) t, refl, refl);
   asked = λ xs t. subst (asks children) (sym (append-nil xs)) t;
-  counted = refl
+  counted = refl;
 }
 
 -- one more turn taken
@@ -116,16 +116,16 @@ pub takes-more : {R E C : Type 0} (tells : R → List (ReporterEvent × Option E
     → Takes tells asks p new.journal a c d f m o (earlier first later)
 takes-more tells asks p journal a b c d e f m n o first later turn new so_far step counted room =
     subst (λ (w : World). Takes tells asks p w.journal a c d f m o (earlier first later)) (sym step.grown) (record {
-        runnable = record {
-            few = so_far.runnable.few;
-            short = omega (arith, length-append journal (entry_of turn step.refused ∷ []));
-            legal = legal-push p journal (entry_of turn step.refused) so_far.runnable.legal step.is_enabled step.answered
-        };
-        told = subst (λ es. TellsEvents tells a c es (earlier first later)) (sym (answers-push p journal (entry_of turn step.refused)))
-            (tells_both tells a b c (answers (past_of p journal)) _ first later so_far.told step.told);
-        asked = subst (λ es. Adds asks d f es) (sym (asked-push p journal (entry_of turn step.refused)))
-            (adds_both asks d e f (asked (past_of p journal)) _ so_far.asked step.asked);
-        counted = counts_both m n o first later so_far.counted counted
+      runnable = record {
+        few = so_far.runnable.few;
+        short = omega (arith, length-append journal (entry_of turn step.refused ∷ []));
+        legal = legal-push p journal (entry_of turn step.refused) so_far.runnable.legal step.is_enabled step.answered;
+      };
+      told = subst (λ es. TellsEvents tells a c es (earlier first later)) (sym (answers-push p journal (entry_of turn step.refused)))
+          (tells_both tells a b c (answers (past_of p journal)) _ first later so_far.told step.told);
+      asked = subst (λ es. Adds asks d f es) (sym (asked-push p journal (entry_of turn step.refused)))
+          (adds_both asks d e f (asked (past_of p journal)) _ so_far.asked step.asked);
+      counted = counts_both m n o first later so_far.counted counted;
     })
 
 -- the turns of a journal with one more entry

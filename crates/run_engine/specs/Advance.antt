@@ -1,10 +1,9 @@
 -- What a turn does to a run's state, in the state's own terms, and when it can be taken.
-use Rattle.std.specs.Prelude.{ℕ, ◌≡◌, ◌+◌, ◌<◌, ◌≤◌, ◌^◌, List, [], ◌∷◌, length, Bool, true, false, Option, Some, None, is_some, is_none, slice_index_or, ⊤}
+use Rattle.std.specs.Prelude.{ℕ, ◌≡◌, ◌<◌, ◌≤◌, List, [], ◌∷◌, length, Bool, true, false, Option, Some, None, is_some, slice_index_or, ⊤}
 use Rattle.run_events.specs.declared.settings.Settings.{Settings}
 use Rattle.run_events.specs.declared.turn.Turn.{Turn}
-use Rattle.run_events.specs.declared.turn.Turn.TheVariants.{Begin, Admit, Deliver, Started, Exit, Decide, End}
+use Rattle.run_events.specs.declared.turn.Turn.TheVariants.{Begin, Admit, Deliver, End}
 use Rattle.run_events.specs.declared.message.Message.{Message}
-use Rattle.run_events.specs.declared.events.ReporterEvent.{ReporterEvent}
 use Rattle.run_events.specs.declared.events.TestEventKind.TheVariants.{RunStarted, RunFinished}
 use Rattle.run_model.specs.declared.entry.Entry.{Entry}
 use Rattle.run_model.specs.declared.happening.Happening.{Happening}
@@ -14,7 +13,7 @@ use Rattle.run_model.specs.declared.unit_view.UnitView.{UnitView}
 use Rattle.run_model.specs.Unit.{takes}
 use Rattle.run_model.specs.Words.{is_begin, is_end, tests_in}
 use Rattle.run_model.specs.Admission.{newcomer}
-use Rattle.run_model.specs.Turns.{turn_of_unit, silent, taken_by, admission}
+use Rattle.run_model.specs.Turns.{silent, taken_by, admission}
 use Rattle.run_engine.specs.Dispatcher.{event, told_of, go_of, CanDeliver}
 use Rattle.run_engine.specs.declared.state.State.{State}
 

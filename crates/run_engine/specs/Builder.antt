@@ -1,5 +1,4 @@
 -- The settings of a runner.
-use Rattle.std.specs.Prelude.{ℕ}
 use Rattle.run_capture.specs.declared.test_output.CaptureStrategy.{CaptureStrategy}
 use Rattle.run_events.specs.declared.plan.Plan.{Plan}
 use Rattle.run_events.specs.declared.settings.Settings.{Settings}

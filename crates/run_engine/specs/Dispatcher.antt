@@ -1,5 +1,5 @@
 -- The dispatcher's rows, over its own fields.
-use Rattle.std.specs.Prelude.{ℕ, ◌≡◌, ◌+◌, ◌-◌, ◌<◌, ◌^◌, List, [], ◌∷◌, length, map, Bool, true, false, if◌then◌else◌, Option, Some, None, is_none}
+use Rattle.std.specs.Prelude.{ℕ, ◌+◌, ◌-◌, ◌<◌, ◌^◌, List, length, Bool, false, if◌then◌else◌, Option, Some, None, is_none}
 use Rattle.run_events.specs.Stats.{AreBelow, nothing, adds_of, plus}
 use Rattle.run_events.specs.declared.message.Message.{Message}
 use Rattle.run_events.specs.declared.message.Message.TheVariants.{Start, Finish}

@@ -1,9 +1,9 @@
 -- Which turns are enabled, in a state's own terms.
-use Rattle.std.specs.Prelude.{ℕ, List, Bool, true, false, ◌&&◌, not, Option, Some, None, is_some}
+use Rattle.std.specs.Prelude.{ℕ, Bool, false, ◌&&◌, not, Option, Some, None, is_some}
 use Rattle.std.specs.List.{list_all}
 use Rattle.run_events.specs.declared.settings.Settings.{Settings}
 use Rattle.run_events.specs.declared.turn.Turn.{Turn}
-use Rattle.run_events.specs.declared.turn.Turn.TheVariants.{Begin, Admit, Deliver, Started, Exit, Decide, End}
+use Rattle.run_events.specs.declared.turn.Turn.TheVariants.{Begin, Admit, Deliver, End}
 use Rattle.run_model.specs.declared.unit_turn.UnitTurn.{UnitTurn}
 use Rattle.run_model.specs.Admission.{is_done, newcomer}
 use Rattle.run_model.specs.Turns.{turn_of_unit, unit_takes, is_empty}

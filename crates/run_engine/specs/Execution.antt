@@ -1,5 +1,5 @@
 -- What carrying out a list of turns does, and what each answer says of it.
-use Rattle.std.specs.Prelude.{ℕ, ◌≡◌, List, [], ◌∷◌, length, map, take, slice_get, Bool, true, false, Option, Some, None, Result, Ok, Err, ⊤}
+use Rattle.std.specs.Prelude.{ℕ, ◌≡◌, List, map, take, slice_get, true, false, Option, Some, None, Result, Ok, Err, ⊤}
 use Rattle.run_events.specs.Tell.{Adds}
 use Rattle.run_events.specs.declared.settings.Settings.{Settings}
 use Rattle.run_events.specs.declared.turn.Turn.{Turn}
@@ -10,7 +10,7 @@ use Rattle.run_model.specs.declared.entry.Entry.{Entry}
 use Rattle.run_model.specs.Words.{answers, asked, is_over}
 use Rattle.run_model.specs.Turns.{enabled}
 use Rattle.run_model.specs.Journal.{past_of, outcome}
-use Rattle.run_engine.specs.World.{World, TellsEvents, CountsErrors}
+use Rattle.run_engine.specs.World.{TellsEvents, CountsErrors}
 use Rattle.run_engine.specs.Standing.{IsRunnable}
 use Rattle.run_engine.specs.declared.runner.Stop.{Stop}
 use Rattle.run_engine.specs.declared.runner.Stop.TheVariants as stops

@@ -1,5 +1,5 @@
 -- Why a run takes no turn.
-use Rattle.std.specs.Prelude.{ℕ, ◌≡◌, List, length, Bool, true, false, ⊤}
+use Rattle.std.specs.Prelude.{◌≡◌, length, false, ⊤}
 use Rattle.run_events.specs.declared.turn.Turn.{Turn}
 use Rattle.run_model.specs.Turns.{enabled}
 use Rattle.run_engine.specs.World.{World, history_of}

@@ -6,7 +6,10 @@ ghost use Rattle.run_events.specs.declared.events.TestEventKind.TheVariants.{Run
 ghost use Rattle.run_engine.specs.Dispatcher.{unbegun, finishing, event, told_of, go_of, dispatched, CanDeliver};
 
 use run_capture::{List, Mem};
-use run_events::{ExecuteStatus, ExecutionResult, FlakyResult, Message, ReporterEvent, RunStats, Settings, TestEvent, TestEventKind};
+use run_events::{
+    ExecuteStatus, ExecutionResult, FlakyResult, Message, ReporterEvent, RunStats, Settings,
+    TestEvent, TestEventKind,
+};
 use std::alloc::Global;
 
 /// Where the run stands, how many tests run, and the statistics. Clauses see its fields.
@@ -30,7 +33,11 @@ pub struct Delivered {
 fn event_at(now: u64, kind: TestEventKind) -> ReporterEvent
     ensures { result ≡ event now kind }
 {
-    ReporterEvent::Test(TestEvent { clock: now, elapsed: now, kind })
+    ReporterEvent::Test(TestEvent {
+        clock: now,
+        elapsed: now,
+        kind,
+    })
 }
 
 fn results_of(alloc: Global, statuses: &[ExecuteStatus]) -> Mem<Vec<ExecutionResult>>
@@ -54,7 +61,12 @@ impl Dispatcher {
     pub fn new(tests: u64) -> Self
         ensures { result ≡ unbegun tests }
     {
-        Dispatcher { begun: false, over: false, running: 0, stats: RunStats::started(0, tests) }
+        Dispatcher {
+            begun: false,
+            over: false,
+            running: 0,
+            stats: RunStats::started(0, tests),
+        }
     }
 
     /// Begins the run.
@@ -81,10 +93,18 @@ impl Dispatcher {
         ensures after { OnOk result (self.new ≡ dispatched self.old message) }
     {
         match message {
-            Message::Start { unit, test, command, slot } => {
+            Message::Start {
+                unit,
+                test,
+                command,
+                slot,
+            } => {
                 let go = self.stats.cancel_reason.is_none();
                 if !go {
-                    return Ok(Delivered { told: None, go: Some((unit, false)) });
+                    return Ok(Delivered {
+                        told: None,
+                        go: Some((unit, false)),
+                    });
                 }
                 self.running += 1;
                 let kind = TestEventKind::TestStarted {
@@ -95,9 +115,16 @@ impl Dispatcher {
                     running: self.running,
                     stats: self.stats,
                 };
-                Ok(Delivered { told: Some(event_at(now, kind)), go: Some((unit, true)) })
+                Ok(Delivered {
+                    told: Some(event_at(now, kind)),
+                    go: Some((unit, true)),
+                })
             }
-            Message::Finish { unit, test, statuses } => {
+            Message::Finish {
+                unit,
+                test,
+                statuses,
+            } => {
                 self.count(alloc, &statuses)?;
                 let kind = TestEventKind::TestFinished {
                     unit,
@@ -106,7 +133,10 @@ impl Dispatcher {
                     running: self.running,
                     stats: self.stats,
                 };
-                Ok(Delivered { told: Some(event_at(now, kind)), go: None })
+                Ok(Delivered {
+                    told: Some(event_at(now, kind)),
+                    go: None,
+                })
             }
         }
     }
@@ -119,7 +149,11 @@ impl Dispatcher {
         ensures { OnOk result (self.new ≡ finishing self.old statuses.now) }
     {
         let results = results_of(alloc, statuses.as_slice())?;
-        self.stats.on_test_finished(&results, is_last_slow(statuses.as_slice()), FlakyResult::Pass);
+        self.stats.on_test_finished(
+            &results,
+            is_last_slow(statuses.as_slice()),
+            FlakyResult::Pass,
+        );
         self.running -= 1;
         Ok(())
     }

@@ -47,9 +47,17 @@ pub fn is_enabled(settings: &Settings, state: &State, turn: &Turn) -> bool
         Turn::Begin => !state.dispatcher.begun,
         Turn::Admit => state.dispatcher.begun && can_admit(settings, state),
         Turn::Deliver => state.dispatcher.begun && !is_queue_empty(state),
-        Turn::Started { unit, pid } => unit_takes_turn(state, *unit, &UnitTurn::Started { pid: *pid }),
+        Turn::Started { unit, pid } => unit_takes_turn(
+            state,
+            *unit,
+            &UnitTurn::Started { pid: *pid },
+        ),
         Turn::Exit { unit, exit } => unit_takes_turn(state, *unit, &UnitTurn::Exit { exit: *exit }),
-        Turn::Decide { unit, word } => unit_takes_turn(state, *unit, &UnitTurn::Decide { word: *word }),
+        Turn::Decide { unit, word } => unit_takes_turn(
+            state,
+            *unit,
+            &UnitTurn::Decide { word: *word },
+        ),
         Turn::End => state.dispatcher.begun && all_done(&state.units) && is_queue_empty(state),
     }
 }

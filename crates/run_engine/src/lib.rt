@@ -12,6 +12,8 @@ mod runner;
 mod start;
 mod state;
 mod tell;
+#[cfg(test)]
+mod tests;
 mod turns;
 
 pub use builder::TestRunnerBuilder;

@@ -118,7 +118,15 @@ impl Run {
             return Err(StepError::NotEnabled);
         }
         let settings = &self.settings;
-        match carry_out(alloc, settings, &mut self.state, &mut self.journal, turn, children, report) {
+        match carry_out(
+            alloc,
+            settings,
+            &mut self.state,
+            &mut self.journal,
+            turn,
+            children,
+            report,
+        ) {
             Ok(refusal) => Ok(refusal),
             Err(_) => {
                 self.broken = true;

@@ -14,23 +14,36 @@ pub struct Told<E> {
 }
 
 /// Tells the event of a turn, if there is one.
-pub fn tell<R: Reporter>(alloc: Global, report: &mut R, event: Option<ReporterEvent>) -> Mem<Told<R::Error>>
+pub fn tell<R: Reporter>(
+    alloc: Global,
+    report: &mut R,
+    event: Option<ReporterEvent>,
+) -> Mem<Told<R::Error>>
     ensures answered { IfOk result (λ t. length t.refused ≡ length (option_to_list event)) }
     ensures told { IfOk result (λ t. TellsEvents R.told report.old report.new (zip (option_to_list event) t.refused) t.refusal) }
     ensures faults { IfOk result (λ t. CountsErrors (R.faults report.old) (R.faults report.new) t.refusal) }
 {
     let Some(event) = event else {
-        return Ok(Told { refused: List::new(), refusal: None });
+        return Ok(Told {
+            refused: List::new(),
+            refusal: None,
+        });
     };
     let mut refused = List::new();
     match report.report(alloc, &event) {
         Ok(()) => {
             refused.push(alloc, false)?;
-            Ok(Told { refused, refusal: None })
+            Ok(Told {
+                refused,
+                refusal: None,
+            })
         }
         Err(ReportFault::Refused(error)) => {
             refused.push(alloc, true)?;
-            Ok(Told { refused, refusal: Some(error) })
+            Ok(Told {
+                refused,
+                refusal: Some(error),
+            })
         }
         Err(ReportFault::OutOfMemory) => Err(OutOfMemory),
     }

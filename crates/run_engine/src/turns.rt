@@ -46,7 +46,11 @@ pub fn take_turn(alloc: Global, state: &mut State, unit: u32, turn: UnitTurn) ->
     let place = &mut state.units[unit as usize];
     match place {
         Some(member) => {
-            let UnitEffects { sent, asked, over: _ } = member.step(alloc, turn, now)?;
+            let UnitEffects {
+                sent,
+                asked,
+                over: _,
+            } = member.step(alloc, turn, now)?;
             send(&mut state.queue, sent);
             Ok(asked)
         }
@@ -72,7 +76,9 @@ pub fn admit(alloc: Global, settings: &Settings, state: &mut State) -> Mem<()>
     let slot = least_free_slot(&state.units);
     match next_test(settings, &state.units) {
         Some(test) => {
-            let slot = TestSlotAssignment { global: slot as u32 };
+            let slot = TestSlotAssignment {
+                global: slot as u32,
+            };
             let unit = Unit::test(alloc, settings, test as u32, slot)?;
             let message = unit.start_message(alloc)?;
             state.queue.push_back(message)?;
@@ -131,11 +137,17 @@ pub fn advance(alloc: Global, settings: &Settings, state: &mut State, turn: &Tur
     match turn {
         Turn::Begin => {
             let told = state.dispatcher.begin(settings, now);
-            Ok(Effects { told: Some(told), asked: None })
+            Ok(Effects {
+                told: Some(told),
+                asked: None,
+            })
         }
         Turn::Admit => {
             admit(alloc, settings, state)?;
-            Ok(Effects { told: None, asked: None })
+            Ok(Effects {
+                told: None,
+                asked: None,
+            })
         }
         Turn::Deliver => deliver(alloc, state),
         Turn::Started { unit, pid } => {
@@ -152,7 +164,10 @@ pub fn advance(alloc: Global, settings: &Settings, state: &mut State, turn: &Tur
         }
         Turn::End => {
             let told = state.dispatcher.end(now);
-            Ok(Effects { told: Some(told), asked: None })
+            Ok(Effects {
+                told: Some(told),
+                asked: None,
+            })
         }
     }
 }

@@ -42,7 +42,7 @@ fn identity_variables(alloc: Global, unit: &UnitView) -> Mem<Vec<(Text, Text)>>
         pair(alloc, "NEXTEST_BINARY_ID", unit.id.binary.as_str())?,
         pair(alloc, "NEXTEST_TEST_NAME", unit.id.name.as_str())?,
         number(alloc, "NEXTEST_ATTEMPT", unit.attempt)?,
-        number(alloc, "NEXTEST_TOTAL_ATTEMPTS", ATTEMPTS)?
+        number(alloc, "NEXTEST_TOTAL_ATTEMPTS", ATTEMPTS)?,
     ]?)
 }
 
@@ -57,7 +57,7 @@ fn place_variables(alloc: Global, unit: &UnitView) -> Mem<Vec<(Text, Text)>>
         pair(alloc, "NEXTEST_TEST_GROUP", "@global")?,
         pair(alloc, "NEXTEST_TEST_GROUP_SLOT", "none")?,
         number(alloc, "NEXTEST_TEST_THREADS", unit.threads)?,
-        pair(alloc, "NEXTEST_WORKSPACE_ROOT", "/")?
+        pair(alloc, "NEXTEST_WORKSPACE_ROOT", "/")?,
     ]?)
 }
 
@@ -68,7 +68,7 @@ fn version_variables(alloc: Global) -> Mem<Vec<(Text, Text)>>
     Ok(vec![in alloc;
         pair(alloc, "NEXTEST_VERSION", "0.0.0")?,
         pair(alloc, "NEXTEST_REQUIRED_VERSION", "none")?,
-        pair(alloc, "NEXTEST_RECOMMENDED_VERSION", "none")?
+        pair(alloc, "NEXTEST_RECOMMENDED_VERSION", "none")?,
     ]?)
 }
 

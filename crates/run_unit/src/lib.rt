@@ -3,6 +3,8 @@
 #![tactic(auto)]
 
 mod environment;
+#[cfg(test)]
+mod tests;
 mod unit;
 
 pub use environment::start_of;

@@ -6,7 +6,10 @@ ghost use Rattle.run_events.specs.declared.message.Message.TheVariants.{Start};
 
 use crate::environment::{ATTEMPTS, start_of};
 use run_capture::{Duplicate, List, Mem};
-use run_events::{Ask, ExecuteStatus, ExecutionResult, LeakTimeoutResult, Message, Settings, TestSlotAssignment, create_execution_result};
+use run_events::{
+    Ask, ExecuteStatus, ExecutionResult, LeakTimeoutResult, Message, Settings, TestSlotAssignment,
+    create_execution_result,
+};
 use run_model::{Phase, UnitTurn, UnitView};
 use std::alloc::Global;
 use std::marker::Model;
@@ -38,7 +41,12 @@ pub struct UnitEffects {
 
 impl Unit {
     /// A test of the plan that is admitted in this slot.
-    pub fn test(alloc: Global, settings: &Settings, test: u32, slot: TestSlotAssignment) -> Mem<Unit>
+    pub fn test(
+        alloc: Global,
+        settings: &Settings,
+        test: u32,
+        slot: TestSlotAssignment,
+    ) -> Mem<Unit>
         requires { test < length settings.now.plan.tests }
         ensures { IfOk result (λ u. option_map (first_view settings.now test slot.global) (slice_get settings.now.plan.tests test) ≡ Some u) }
     {
@@ -112,22 +120,43 @@ impl Unit {
                 let ask = start_of(alloc, &self.view)?;
                 self.view.phase = Phase::Starting;
                 self.view.start = now;
-                Ok(UnitEffects { sent: None, asked: Some(ask), over: false })
+                Ok(UnitEffects {
+                    sent: None,
+                    asked: Some(ask),
+                    over: false,
+                })
             }
             UnitTurn::Answered { go: false } => {
                 self.view.phase = Phase::Over;
-                Ok(UnitEffects { sent: None, asked: None, over: true })
+                Ok(UnitEffects {
+                    sent: None,
+                    asked: None,
+                    over: true,
+                })
             }
             UnitTurn::Started { .. } => {
                 self.view.phase = Phase::Running;
-                Ok(UnitEffects { sent: None, asked: None, over: false })
+                Ok(UnitEffects {
+                    sent: None,
+                    asked: None,
+                    over: false,
+                })
             }
             UnitTurn::Exit { exit } => {
-                let result = create_execution_result(Some(exit), &[], false, LeakTimeoutResult::Pass);
+                let result = create_execution_result(
+                    Some(exit),
+                    &[],
+                    false,
+                    LeakTimeoutResult::Pass,
+                );
                 let status = status_at(&self.view, result, now);
                 self.view.statuses.push(alloc, status)?;
                 self.view.phase = Phase::Deciding;
-                Ok(UnitEffects { sent: None, asked: None, over: false })
+                Ok(UnitEffects {
+                    sent: None,
+                    asked: None,
+                    over: false,
+                })
             }
             UnitTurn::Decide { .. } => {
                 let message = Message::Finish {
@@ -136,7 +165,11 @@ impl Unit {
                     statuses: self.view.statuses.copy(alloc)?,
                 };
                 self.view.phase = Phase::Over;
-                Ok(UnitEffects { sent: Some(message), asked: None, over: true })
+                Ok(UnitEffects {
+                    sent: Some(message),
+                    asked: None,
+                    over: true,
+                })
             }
         }
     }

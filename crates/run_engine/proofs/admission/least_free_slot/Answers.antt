@@ -1,4 +1,4 @@
-use Rattle.std.proofs.Common.{◌≡◌, false, true, arith, below_more, sym, ◌∙◌}
+use Rattle.std.proofs.Common.{◌≡◌, true, arith, below_more}
 use Rattle.std.specs.List.{list_any}
 use Rattle.run_model.specs.Admission.{holds_slot}
 use Rattle.run_engine.proofs.SlotLemmas.{free_slot_is}

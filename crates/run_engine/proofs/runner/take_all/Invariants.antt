@@ -8,5 +8,5 @@ invariant-loop-place g l = record {
   takes : Takes g.R.Reporter.told g.C.Children.asked l.initial.run.settings l.run.journal l.initial.report l.report
       l.initial.children l.children (g.R.Reporter.faults l.initial.report) (g.R.Reporter.faults l.report) l.first;
   all : turns_of l.run.journal ≡ take l.place l.turns;
-  run : l.run ≡ sound l.initial.run.settings l.run.journal
+  run : l.run ≡ sound l.initial.run.settings l.run.journal;
 }

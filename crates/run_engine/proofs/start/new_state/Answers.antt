@@ -1,4 +1,4 @@
-use Rattle.std.proofs.Common.{arith, ap, sym, ◌∙◌}
+use Rattle.std.proofs.Common.{arith}
 use Rattle.run_engine.proofs.StartLemmas.{total-nil, running-nil, units-nil}
 use Rattle.run_engine.proofs.start.new_state.Goals as goal
 
@@ -10,5 +10,5 @@ returns c = record {
   over = grind arith;
   running = grind (arith, running-nil c.args.settings.now);
   stats = grind (arith, total-nil);
-  clock = grind arith
+  clock = grind arith;
 }

@@ -14,19 +14,19 @@ returns c =
     let k = c.in-Some.test in
     let u = c.in_ok-unit-in-Some.unit in
     let made : option_map (first_view p k (free_slot us)) (slice_get p.plan.tests k) ≡ Some u =
-        sym (ap (λ slot. option_map (first_view p k slot) (slice_get p.plan.tests k)) (c.least_free_slot-slot.ensures.slot ∙ ap free_slot c.deref.ensures.value))
-        ∙ c.in_ok-unit-in-Some.ensures in
+    sym (ap (λ slot. option_map (first_view p k slot) (slice_get p.plan.tests k)) (c.least_free_slot-slot.ensures.slot ∙ ap free_slot c.deref.ensures.value))
+    ∙ c.in_ok-unit-in-Some.ensures in
     let joined : newcomer p us ≡ Some u = newcomer_from p us k u (sym (c.in-Some.ensures ∙ ap (candidate p) c.deref-2.ensures.value)) made in
     let at : u.unit ≡ k = first_unit p k (free_slot us) (slice_get p.plan.tests k) u made in
     let new : State = record { units = c.put.new.units; queue = c.push_back.new.self; dispatcher = c.args.state.now.dispatcher; clock = c.args.state.now.clock } in
     record {
-        after = λ e inner. subst (λ o. IsAfter c.args.state.now (admission e o) new) (sym joined) (record {
-            units = c.put.ensures ∙ ap (λ place. set us place (Some u)) (sym at);
-            queue = c.in_ok-push_back-in-Some.ensures.items ∙ grind (arith, common_steps, c.in_ok-message-in-Some.ensures);
-            begun = grind arith;
-            over = grind arith;
-            running = grind arith;
-            stats = grind arith;
-            clock = grind arith
-        })
+      after = λ e inner. subst (λ o. IsAfter c.args.state.now (admission e o) new) (sym joined) (record {
+        units = c.put.ensures ∙ ap (λ place. set us place (Some u)) (sym at);
+        queue = c.in_ok-push_back-in-Some.ensures.items ∙ grind (arith, common_steps, c.in_ok-message-in-Some.ensures);
+        begun = grind arith;
+        over = grind arith;
+        running = grind arith;
+        stats = grind arith;
+        clock = grind arith;
+      });
     }
