@@ -3,9 +3,8 @@
 #![tactic(auto)]
 
 use run_cli::{Ran, StdSink, StdSource, run};
-use std::env;
-use std::io;
 use std::process::ExitCode;
+use std::{env, io};
 
 const USAGE: &str = "usage: nextest_run replay < INPUT, or nextest_run --help or --version";
 

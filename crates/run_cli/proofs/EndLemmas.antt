@@ -43,7 +43,7 @@ whole_text : (p : Settings) (turns : List Turn) (t0 t1 t2 : Option (List ℕ)) (
     → Takes t0 t2 (event_lines (told (past_of p x.journal)) ++ (ask_lines (asked (past_of p x.journal)) ++ line_of last))
 whole_text p turns t0 t1 t2 f0 f1 asks answer last x none rest =
     takes_both t0 t1 t2 (event_lines (told (past_of p x.journal))) (ask_lines (asked (past_of p x.journal)) ++ line_of last) (x.told none)
-        (subst (λ told_asks. Takes t1 t2 (ask_lines told_asks ++ line_of last)) x.asked rest)
+    (subst (λ told_asks. Takes t1 t2 (ask_lines told_asks ++ line_of last)) x.asked rest)
 
 -- the lines of a run that ends at a fault, where the sink's count didn't rise
 fault_writes : (p : Settings) (turns : List Turn) (t0 t1 t2 : Option (List ℕ)) (f0 f1 f2 : ℕ) (asks : List (ℕ × Ask)) (answer : Result RunOutcome (TestRunnerExecuteErrors Failed)) (last : List ℕ)
@@ -51,19 +51,23 @@ fault_writes : (p : Settings) (turns : List Turn) (t0 t1 t2 : Option (List ℕ))
     → Writes t0 t2 f0 f2 (event_lines (told (past_of p x.journal)) ++ (ask_lines (asked (past_of p x.journal)) ++ line_of last))
 fault_writes p turns t0 t1 t2 f0 f1 f2 asks answer last x le writes calm = by_refusal x.refusal refl
   where
-  by_refusal : (o : Option Failed) → x.refusal ≡ o
-      → Takes t0 t2 (event_lines (told (past_of p x.journal)) ++ (ask_lines (asked (past_of p x.journal)) ++ line_of last))
-  by_refusal None e = whole_text p turns t0 t1 t2 f0 f1 asks answer last x e (writes (λ rose. calm (subst (λ n. Rose n f2) (x.quiet e) rose)))
-  by_refusal (Some d) e = absurd (calm (rose_then f0 f1 f2 (x.risen (some_is x.refusal d e)) le))
+    by_refusal : (o : Option Failed) → x.refusal ≡ o
+        → Takes t0 t2 (event_lines (told (past_of p x.journal)) ++ (ask_lines (asked (past_of p x.journal)) ++ line_of last))
+    by_refusal None e = whole_text p turns t0 t1 t2 f0 f1 asks answer last x e (writes (λ rose. calm (subst (λ n. Rose n f2) (x.quiet e) rose)))
+    by_refusal (Some d) e = absurd (calm (rose_then f0 f1 f2 (x.risen (some_is x.refusal d e)) le))
 
 -- after an outcome
 pub outcome_ends : (p : Settings) (turns : List Turn) (t0 t1 t2 : Option (List ℕ)) (f0 f1 f2 : ℕ) (asks : List (ℕ × Ask)) (o : RunOutcome) (ending : Result RunOutcome Fault)
     → IsExecuted p turns t0 t1 f0 f1 asks (Ok o) → EndsAtOutcome t1 t2 f1 f2 asks o ending → IsReplayEnding p turns t0 t2 f0 f2 ending
-outcome_ends p turns t0 t1 t2 f0 f1 f2 asks o (Ok e) x h =
-    (x.journal, x.runnable.legal, x.says.0, x.says.1 ∙ ap Some (sym h.0),
-     whole_text p turns t0 t1 t2 f0 f1 asks (Ok o) (outcome_text e) x x.says.2 (subst (λ u. Takes t1 t2 (ask_lines asks ++ line_of (outcome_text u))) refl
-        (subst (λ u. Takes t1 t2 (ask_lines asks ++ line_of (outcome_text u))) (sym h.0) h.1)),
-     h.2 ∙ x.quiet x.says.2)
+outcome_ends p turns t0 t1 t2 f0 f1 f2 asks o (Ok e) x h = (
+  x.journal,
+  x.runnable.legal,
+  x.says.0,
+  x.says.1 ∙ ap Some (sym h.0),
+  whole_text p turns t0 t1 t2 f0 f1 asks (Ok o) (outcome_text e) x x.says.2 (subst (λ u. Takes t1 t2 (ask_lines asks ++ line_of (outcome_text u))) refl
+      (subst (λ u. Takes t1 t2 (ask_lines asks ++ line_of (outcome_text u))) (sym h.0) h.1)),
+  h.2 ∙ x.quiet x.says.2,
+)
 outcome_ends p turns t0 t1 t2 f0 f1 f2 asks o (Err Report) x h =
     (x.journal, x.runnable.legal, x.says.0, (o, x.says.1), subst (λ n. Rose n f2) (x.quiet x.says.2) h)
 outcome_ends p turns t0 t1 t2 f0 f1 f2 asks o (Err Memory) x h = tt
@@ -87,22 +91,27 @@ pub report_ends : (p : Settings) (turns : List Turn) (t0 t1 t2 : Option (List �
     → IsExecuted p turns t0 t1 f0 f1 asks (Err (engine.Report d)) → EndsAtFault t1 t2 f1 f2 asks Report ending → IsReplayEnding p turns t0 t2 f0 f2 ending
 report_ends p turns t0 t1 t2 f0 f1 f2 asks d ending x h =
     fault_ends p turns t0 t1 t2 f0 f1 f2 asks Report ending
-        (λ le writes. (x.journal, x.runnable.legal, x.says.0, over_outcome p (past_of p x.journal) x.says.1,
-            rose_then f0 f1 f2 (x.risen (some_is x.refusal d x.says.2)) le)) h
+    (λ le writes. (
+      x.journal,
+      x.runnable.legal,
+      x.says.0,
+      over_outcome p (past_of p x.journal) x.says.1,
+      rose_then f0 f1 f2 (x.risen (some_is x.refusal d x.says.2)) le,
+    )) h
 
 pub refused_ends : (p : Settings) (turns : List Turn) (t0 t1 t2 : Option (List ℕ)) (f0 f1 f2 : ℕ) (asks : List (ℕ × Ask)) (place : ℕ) (ending : Result RunOutcome Fault)
     → IsExecuted p turns t0 t1 f0 f1 asks (Err (engine.NotEnabled place)) → EndsAtFault t1 t2 f1 f2 asks (NotEnabled place) ending
     → IsReplayEnding p turns t0 t2 f0 f2 ending
 refused_ends p turns t0 t1 t2 f0 f1 f2 asks place ending x h =
     fault_ends p turns t0 t1 t2 f0 f1 f2 asks (NotEnabled place) ending
-        (λ le writes. (x.journal, x.runnable.legal, x.says.0, x.says.1, fault_writes p turns t0 t1 t2 f0 f1 f2 asks (Err (engine.NotEnabled place)) (fault_text (NotEnabled place)) x le writes)) h
+    (λ le writes. (x.journal, x.runnable.legal, x.says.0, x.says.1, fault_writes p turns t0 t1 t2 f0 f1 f2 asks (Err (engine.NotEnabled place)) (fault_text (NotEnabled place)) x le writes)) h
 
 pub unfinished_ends : (p : Settings) (turns : List Turn) (t0 t1 t2 : Option (List ℕ)) (f0 f1 f2 : ℕ) (asks : List (ℕ × Ask)) (ending : Result RunOutcome Fault)
     → IsExecuted p turns t0 t1 f0 f1 asks (Err engine.Unfinished) → EndsAtFault t1 t2 f1 f2 asks Unfinished ending
     → IsReplayEnding p turns t0 t2 f0 f2 ending
 unfinished_ends p turns t0 t1 t2 f0 f1 f2 asks ending x h =
     fault_ends p turns t0 t1 t2 f0 f1 f2 asks Unfinished ending
-        (λ le writes. (x.journal, x.runnable.legal, x.says.0, x.says.1, fault_writes p turns t0 t1 t2 f0 f1 f2 asks (Err engine.Unfinished) (fault_text Unfinished) x le writes)) h
+    (λ le writes. (x.journal, x.runnable.legal, x.says.0, x.says.1, fault_writes p turns t0 t1 t2 f0 f1 f2 asks (Err engine.Unfinished) (fault_text Unfinished) x le writes)) h
 
 pub memory_ends : (p : Settings) (turns : List Turn) (t0 t1 t2 : Option (List ℕ)) (f0 f1 f2 : ℕ) (asks : List (ℕ × Ask)) (ending : Result RunOutcome Fault)
     → EndsAtFault t1 t2 f1 f2 asks Memory ending → IsReplayEnding p turns t0 t2 f0 f2 ending

@@ -39,10 +39,10 @@ lines_length : (bytes : List ℕ) → length (lines_of bytes) ≤ length bytes
 lines_length [] = omega arith
 lines_length (byte ∷ bytes) = by_end (byte == 10) (lines_length bytes)
   where
-  by_end : (b : Bool) → length (lines_of bytes) ≤ length bytes
-      → length (if b then [] ∷ lines_of bytes else at_front byte (lines_of bytes)) ≤ length (byte ∷ bytes)
-  by_end true h = omega arith
-  by_end false h = omega (arith, front_length byte (lines_of bytes) (length bytes) h)
+    by_end : (b : Bool) → length (lines_of bytes) ≤ length bytes
+        → length (if b then [] ∷ lines_of bytes else at_front byte (lines_of bytes)) ≤ length (byte ∷ bytes)
+    by_end true h = omega arith
+    by_end false h = omega (arith, front_length byte (lines_of bytes) (length bytes) h)
 
 -- what a chain of readings gives came from each of them
 then_some : {A B : Type 0} (o : Option A) (f : A → Option B) (y : B) → option_and_then f o ≡ Some y → (x : A) × (o ≡ Some x) × (f x ≡ Some y)
@@ -87,7 +87,7 @@ one_test d capture plan e =
     let run_ids : Option (List ℕ) = option_and_then run_id_of (get (codes "run_id") d) in
     let captures : Option CaptureStrategy = option_and_then capture_of (get (codes "capture") d) in
     let a = then_some (when (is_object_of (codes "capture" ∷ codes "run_id" ∷ codes "tests" ∷ []) d))
-        (λ _. option_and_then (λ c. option_and_then (λ r. option_and_then (last_step c r) tests) run_ids) captures) (capture, plan) e in
+    (λ _. option_and_then (λ c. option_and_then (λ r. option_and_then (last_step c r) tests) run_ids) captures) (capture, plan) e in
     let b = then_some captures (λ c. option_and_then (λ r. option_and_then (last_step c r) tests) run_ids) (capture, plan) a.2 in
     let c = then_some run_ids (λ r. option_and_then (last_step b.0 r) tests) (capture, plan) b.2 in
     let f = then_some tests (last_step b.0 c.0) (capture, plan) c.2 in
@@ -98,23 +98,23 @@ pub given_few : (left left_after : Option (List ℕ)) (capture : CaptureStrategy
     → (length plan.tests < 2 ^ 32) × (length turns < 2 ^ 32)
 given_few left left_after capture plan turns g = by_lines (lines_of g.bytes) refl g.says
   where
-  by_lines : (lines : List (List ℕ)) → lines_of g.bytes ≡ lines → IsInput lines capture plan turns → (length plan.tests < 2 ^ 32) × (length turns < 2 ^ 32)
-  by_lines [] e i = absurd i
-  by_lines (first ∷ others) e i =
-      let read = then_some (value_of first) plan_of (capture, plan) i.0 in
-      let one : length plan.tests ≡ 1 = one_test read.0 capture plan read.2 in
-      let many : length turns ≡ length others = turns_length others turns i.1 in
-      let same : length (lines_of g.bytes) ≡ length (first ∷ others) = ap length e in
-      (omega arith, omega (arith, lines_length g.bytes, g.within))
+    by_lines : (lines : List (List ℕ)) → lines_of g.bytes ≡ lines → IsInput lines capture plan turns → (length plan.tests < 2 ^ 32) × (length turns < 2 ^ 32)
+    by_lines [] e i = absurd i
+    by_lines (first ∷ others) e i =
+        let read = then_some (value_of first) plan_of (capture, plan) i.0 in
+        let one : length plan.tests ≡ 1 = one_test read.0 capture plan read.2 in
+        let many : length turns ≡ length others = turns_length others turns i.1 in
+        let same : length (lines_of g.bytes) ≡ length (first ∷ others) = ap length e in
+        (omega arith, omega (arith, lines_length g.bytes, g.within))
 
 -- a run with an outcome is over
 pub over_is : (p : Settings) (past : List Happening) (o : RunOutcome) → outcome p past ≡ Some o → is_over past ≡ true
 over_is p past o e = by_end (is_over past) refl
   where
-  by_end : (b : Bool) → is_over past ≡ b → is_over past ≡ true
-  by_end true h = h
-  by_end false h =
-      let none : None ≡ Some o = sym (ap (λ b. if b then Some (outcome_of (summary (stats p past))) else None) h) ∙ e in cc
+    by_end : (b : Bool) → is_over past ≡ b → is_over past ≡ true
+    by_end true h = h
+    by_end false h =
+        let none : None ≡ Some o = sym (ap (λ b. if b then Some (outcome_of (summary (stats p past))) else None) h) ∙ e in cc
 
 -- a run that took every turn and has an outcome is whole
 whole : (words : List (List ℕ)) (left left_after : Option (List ℕ)) (r : Replays words left left_after) (o : RunOutcome)
@@ -124,7 +124,7 @@ whole words left left_after r o all e = record {
   all = all;
   over = e;
   accounts = λ k below. finishes (settings_of r.capture r.plan) (reverse r.journal) r.legal
-      (over_is (settings_of r.capture r.plan) (past_of (settings_of r.capture r.plan) r.journal) o e) k below
+      (over_is (settings_of r.capture r.plan) (past_of (settings_of r.capture r.plan) r.journal) o e) k below;
 }
 
 -- how a program ends whose input was good
@@ -137,12 +137,16 @@ given_says words left left_after t0 t1 f0 f1 capture plan turns (Ok o) replay gi
 given_says words left left_after t0 t1 f0 f1 capture plan turns (Err Report) replay given h =
     let r : Replays words left left_after = record { replay = replay; capture = capture; plan = plan; turns = turns; given = given; journal = h.0; legal = h.1 } in
     (r, h.3.0, whole words left left_after r h.3.0 h.2 h.3.1, h.4)
-given_says words left left_after t0 t1 f0 f1 capture plan turns (Err (NotEnabled place)) replay given h =
-    (record { replay = replay; capture = capture; plan = plan; turns = turns; given = given; journal = h.0; legal = h.1 },
-     record { before = h.2; turn = h.3.0; at = h.3.1; refused = h.3.2 }, h.4)
-given_says words left left_after t0 t1 f0 f1 capture plan turns (Err Unfinished) replay given h =
-    (record { replay = replay; capture = capture; plan = plan; turns = turns; given = given; journal = h.0; legal = h.1 },
-     record { all = h.2; goes_on = h.3 }, h.4)
+given_says words left left_after t0 t1 f0 f1 capture plan turns (Err (NotEnabled place)) replay given h = (
+  record { replay = replay; capture = capture; plan = plan; turns = turns; given = given; journal = h.0; legal = h.1 },
+  record { before = h.2; turn = h.3.0; at = h.3.1; refused = h.3.2 },
+  h.4,
+)
+given_says words left left_after t0 t1 f0 f1 capture plan turns (Err Unfinished) replay given h = (
+  record { replay = replay; capture = capture; plan = plan; turns = turns; given = given; journal = h.0; legal = h.1 },
+  record { all = h.2; goes_on = h.3 },
+  h.4,
+)
 given_says words left left_after t0 t1 f0 f1 capture plan turns (Err Memory) replay given h = tt
 given_says words left left_after t0 t1 f0 f1 capture plan turns (Err Words) replay given h = absurd h
 given_says words left left_after t0 t1 f0 f1 capture plan turns (Err (Line n)) replay given h = absurd h

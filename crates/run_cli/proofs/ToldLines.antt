@@ -41,8 +41,8 @@ answers-told p (e ∷ before) legal =
     map-append (λ x. x.0) (answers (history p before)) (zip (option_to_list x.told) x.refused)
     ∙ ap (λ es. es ++ map (λ x. x.0) (zip (option_to_list x.told) x.refused)) (answers-told p before legal.2)
     ∙ ap (λ es. told (history p before) ++ es)
-        (ap (λ refused. map (λ x. x.0) (zip (option_to_list x.told) refused)) (happened_refused p (history p before) e e.turn)
-            ∙ zip_first x.told e.refused legal.1)
+    (ap (λ refused. map (λ x. x.0) (zip (option_to_list x.told) refused)) (happened_refused p (history p before) e e.turn)
+    ∙ zip_first x.told e.refused legal.1)
 
 -- a line of an event that wasn't refused, and then those of the others
 one_whole : {E : Type 0} (event : ReporterEvent) (error later : Option E) (bytes line rest others : List ℕ)
@@ -79,18 +79,19 @@ executed_from p turns before now faults faults_after refusals asks answer journa
   asked = asked_is;
   told = λ none. subst (Takes before now)
       (lines_whole ys took.0 (first ∙ none) took.1
-          ∙ ap event_lines (sym (flags_first ys) ∙ ap (map (λ x. x.0)) flags ∙ answers-told p (reverse journal) runnable.legal))
+      ∙ ap event_lines (sym (flags_first ys) ∙ ap (map (λ x. x.0)) flags ∙ answers-told p (reverse journal) runnable.legal))
       took.2;
   quiet = λ none. since.0 (quiet_count refusal none counted);
-  risen = λ some. since.1 (risen_count refusal some counted)
+  risen = λ some. since.1 (risen_count refusal some counted);
 }
   where
-  quiet_count : (o : Option Failed) → o ≡ None → CountsErrors 0 refusals o → refusals ≡ 0
-  quiet_count None e h = h
-  quiet_count (Some d) e h = cc
-  risen_count : (o : Option Failed) → IsSome o → CountsErrors 0 refusals o → 0 < refusals
-  risen_count None s h = cc
-  risen_count (Some d) s h = omega arith
+    quiet_count : (o : Option Failed) → o ≡ None → CountsErrors 0 refusals o → refusals ≡ 0
+    quiet_count None e h = h
+    quiet_count (Some d) e h = cc
+
+    risen_count : (o : Option Failed) → IsSome o → CountsErrors 0 refusals o → 0 < refusals
+    risen_count None s h = cc
+    risen_count (Some d) s h = omega arith
 
 -- a fact that follows from another follows unless memory was wanting
 pub unless_weaker : {E : Type 0} (r : Result RunOutcome (TestRunnerExecuteErrors E)) (P Q : Type 0) → (P → Q) → UnlessMemory r P → UnlessMemory r Q

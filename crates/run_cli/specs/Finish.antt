@@ -27,7 +27,7 @@ EndsAtFault taken taken_after faults faults_after asks fault (Ok o) = ⊥
 EndsAtFault taken taken_after faults faults_after asks fault (Err e) =
     (e ≡ Memory)
     ⊎ ((e ≡ fault) × (faults ≤ faults_after)
-        × Writes taken taken_after faults faults_after (ask_lines asks ++ line_of (fault_text fault)))
+    × Writes taken taken_after faults faults_after (ask_lines asks ++ line_of (fault_text fault)))
 
 -- the lines of asks and of an outcome were written, or the sink failed, or memory was wanting
 abbrev pub EndsAtOutcome : Option (List ℕ) → Option (List ℕ) → ℕ → ℕ → List (ℕ × Ask) → RunOutcome → Result RunOutcome Fault → Type 0

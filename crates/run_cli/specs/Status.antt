@@ -33,19 +33,19 @@ pub record Headline (words : List (List ℕ)) (left left_after taken taken_after
 abbrev pub SaysBadLine : List (List ℕ) → Option (List ℕ) → Option (List ℕ) → Option (List ℕ) → Option (List ℕ) → ℕ → ℕ → Type 0
 SaysBadLine words left left_after taken taken_after faults faults_after =
     IsReplay words × ((number : ℕ) × HasBadLine left left_after number
-        × Writes taken taken_after faults faults_after (line_of (fault_text (Line number))))
+    × Writes taken taken_after faults faults_after (line_of (fault_text (Line number))))
 
 -- the turns up to a first one that isn't enabled were taken, and the lines are theirs and a fault line that names its place
 abbrev pub SaysNotEnabled : List (List ℕ) → Option (List ℕ) → Option (List ℕ) → Option (List ℕ) → Option (List ℕ) → ℕ → ℕ → Type 0
 SaysNotEnabled words left left_after taken taken_after faults faults_after =
     (place : ℕ) × (r : Replays words left left_after) × StopsBefore r place
-        × Writes taken taken_after faults faults_after (history_text (history_in r) (Err (NotEnabled place)))
+    × Writes taken taken_after faults faults_after (history_text (history_in r) (Err (NotEnabled place)))
 
 -- all turns were taken, the run isn't over, and the lines are theirs and the fault line
 abbrev pub SaysUnfinished : List (List ℕ) → Option (List ℕ) → Option (List ℕ) → Option (List ℕ) → Option (List ℕ) → ℕ → ℕ → Type 0
 SaysUnfinished words left left_after taken taken_after faults faults_after =
     (r : Replays words left left_after) × IsUnfinished r
-        × Writes taken taken_after faults faults_after (history_text (history_in r) (Err Unfinished))
+    × Writes taken taken_after faults faults_after (history_text (history_in r) (Err Unfinished))
 
 -- all is as for an outcome's status, but for the sink, whose count of faults rose
 abbrev pub SaysReport : List (List ℕ) → Option (List ℕ) → Option (List ℕ) → ℕ → ℕ → Type 0

@@ -34,7 +34,12 @@ pub fn end_at_fault<K: Sink>(alloc: Global, sink: K, asks: &[(u64, Ask)], fault:
 }
 
 /// Writes asks and an outcome. A write that fails makes the outcome a fault.
-fn end_at_outcome<K: Sink>(alloc: Global, sink: K, asks: &[(u64, Ask)], outcome: RunOutcome) -> Ended<K>
+fn end_at_outcome<K: Sink>(
+    alloc: Global,
+    sink: K,
+    asks: &[(u64, Ask)],
+    outcome: RunOutcome,
+) -> Ended<K>
     ensures { EndsAtOutcome (K.taken sink) (K.taken result.sink) (K.faults sink) (K.faults result.sink) asks.now outcome result.ending }
 {
     let mut sink = sink;

@@ -18,7 +18,12 @@ pub struct Executed<K> {
 }
 
 // Carries out the turns, with the sink's state at the beginning as the type's.
-fn execute_at<K: Sink, O: Origin>(alloc: Global, runner: TestRunner, turns: &[Turn], sink: K) -> Executed<K>
+fn execute_at<K: Sink, O: Origin>(
+    alloc: Global,
+    runner: TestRunner,
+    turns: &[Turn],
+    sink: K,
+) -> Executed<K>
     requires taken { O.taken_before ≡ K.taken sink }
     requires faults { O.faults_before ≡ K.faults sink }
     requires few { length turns.now < 2 ^ 32 }

@@ -18,7 +18,11 @@ fn is_replay(words: &[String]) -> bool
 }
 
 /// The input that the source gives, or why there is none. The source is read only where the words are good.
-pub fn read_given<S: Source>(alloc: Global, words: &[String], source: &mut S) -> Result<Input, Fault>
+pub fn read_given<S: Source>(
+    alloc: Global,
+    words: &[String],
+    source: &mut S,
+) -> Result<Input, Fault>
     ensures replay { IfOk result (λ _. IsReplay (map (λ w. string_bytes w) words.now)) }
     ensures given { IfOk result (λ i. IsGiven (S.left source.old) (S.left source.new) i.capture i.plan i.turns) }
     ensures refused { IfErr result (IsGivenFault (map (λ w. string_bytes w) words.now) (S.left source.old) (S.left source.new)) }

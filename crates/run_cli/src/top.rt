@@ -29,8 +29,18 @@ fn status_of_outcome(outcome: RunOutcome) -> u8
     match outcome {
         RunOutcome::Success => 0,
         RunOutcome::NoTestsRun => 4,
-        RunOutcome::Failed { step: RunStep::Test } | RunOutcome::Cancelled { step: RunStep::Test } => 100,
-        RunOutcome::Failed { step: RunStep::SetupScript } | RunOutcome::Cancelled { step: RunStep::SetupScript } => 105,
+        RunOutcome::Failed {
+            step: RunStep::Test,
+        }
+        | RunOutcome::Cancelled {
+            step: RunStep::Test,
+        } => 100,
+        RunOutcome::Failed {
+            step: RunStep::SetupScript,
+        }
+        | RunOutcome::Cancelled {
+            step: RunStep::SetupScript,
+        } => 105,
     }
 }
 
@@ -50,7 +60,11 @@ fn replay_input<K: Sink>(alloc: Global, input: Input, sink: K) -> Ended<K>
     ensures { IsReplayEnding (settings_of input.capture input.plan) input.turns (K.taken sink) (K.taken result.sink)
         (K.faults sink) (K.faults result.sink) result.ending }
 {
-    let Input { capture, plan, turns } = input;
+    let Input {
+        capture,
+        plan,
+        turns,
+    } = input;
     let mut builder = TestRunnerBuilder::default();
     builder.set_capture_strategy(capture);
     match builder.build(alloc, plan) {
@@ -60,7 +74,12 @@ fn replay_input<K: Sink>(alloc: Global, input: Input, sink: K) -> Ended<K>
 }
 
 // Does all that the program does, and answers how it ended.
-fn run_to_end<S: Source, K: Sink>(alloc: Global, words: &[String], source: &mut S, sink: K) -> Ended<K>
+fn run_to_end<S: Source, K: Sink>(
+    alloc: Global,
+    words: &[String],
+    source: &mut S,
+    sink: K,
+) -> Ended<K>
     ensures says { IsEnding (map (λ w. string_bytes w) words.now) (S.left source.old) (S.left source.new)
         (K.taken sink) (K.taken result.sink) (K.faults sink) (K.faults result.sink) result.ending }
     ensures counted { CountsReadAtEnd (S.faults source.old) (S.faults source.new) result.ending }

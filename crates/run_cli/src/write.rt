@@ -66,7 +66,12 @@ fn write_asks<K: Sink>(alloc: Global, sink: &mut K, asks: &[(u64, Ask)]) -> Resu
 }
 
 // Writes the lines of asks, and then a last line.
-fn write_rest<K: Sink>(alloc: Global, sink: &mut K, asks: &[(u64, Ask)], last: Text) -> Result<(), WriteError>
+fn write_rest<K: Sink>(
+    alloc: Global,
+    sink: &mut K,
+    asks: &[(u64, Ask)],
+    last: Text,
+) -> Result<(), WriteError>
     ensures ok { OnOk result (Takes (K.taken sink.old) (K.taken sink.new) (ask_lines asks.now ++ line_of last)) }
     ensures counted { CountsWrite (K.faults sink.old) (K.faults sink.new) result }
 {
@@ -75,7 +80,12 @@ fn write_rest<K: Sink>(alloc: Global, sink: &mut K, asks: &[(u64, Ask)], last: T
 }
 
 /// Writes the lines of asks and that of an outcome.
-pub fn write_outcome<K: Sink>(alloc: Global, sink: &mut K, asks: &[(u64, Ask)], outcome: RunOutcome) -> Result<(), WriteError>
+pub fn write_outcome<K: Sink>(
+    alloc: Global,
+    sink: &mut K,
+    asks: &[(u64, Ask)],
+    outcome: RunOutcome,
+) -> Result<(), WriteError>
     ensures ok { OnOk result (Takes (K.taken sink.old) (K.taken sink.new) (ask_lines asks.now ++ line_of (outcome_text outcome))) }
     ensures counted { CountsWrite (K.faults sink.old) (K.faults sink.new) result }
 {
@@ -84,7 +94,12 @@ pub fn write_outcome<K: Sink>(alloc: Global, sink: &mut K, asks: &[(u64, Ask)], 
 }
 
 /// Writes the lines of asks and that of a fault.
-pub fn write_fault<K: Sink>(alloc: Global, sink: &mut K, asks: &[(u64, Ask)], fault: Fault) -> Result<(), WriteError>
+pub fn write_fault<K: Sink>(
+    alloc: Global,
+    sink: &mut K,
+    asks: &[(u64, Ask)],
+    fault: Fault,
+) -> Result<(), WriteError>
     ensures ok { OnOk result (Takes (K.taken sink.old) (K.taken sink.new) (ask_lines asks.now ++ line_of (fault_text fault))) }
     ensures counted { CountsWrite (K.faults sink.old) (K.faults sink.new) result }
 {

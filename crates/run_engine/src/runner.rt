@@ -143,9 +143,10 @@ impl TestRunner {
         Ok(Run::begin(alloc, self.settings, state))
     }
 
-    /// Carries out the turns of a run, fewer than 2^32. The reporter is told each event, also after it refused one, and
-    /// what was told and asked stands after any error. The answer is the outcome of a run that is over; else the first
-    /// turn that isn't enabled, or that the run isn't over, or the reporter's first error in a run that is over.
+    /// Carries out the turns of a run, fewer than 2^32. The reporter is told each event, also after it refused one. The
+    /// answer is the outcome of a run that is over; else the first turn that isn't enabled, or that the run isn't over, or
+    /// the reporter's first error in a run that is over. What was told and asked by then stands after each of these; after
+    /// want of memory nothing is said of it.
     pub fn try_execute<C: Children, R: Reporter>(
         self,
         alloc: Global,

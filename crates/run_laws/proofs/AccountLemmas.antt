@@ -34,7 +34,7 @@ pub row_accounted : (now : ℕ) (ph : Phase) (turn : UnitTurn) (u : UnitView) (s
     → u.statuses ≡ ss → takes ph turn ≡ true → is_answer turn ≡ false
     → HasAccountIn ph ss t (pending_of u.unit q)
     → HasAccountIn (row_at now ph turn u).next.phase (row_at now ph turn u).next.statuses t
-        (pending_of u.unit (q ++ option_to_list (row_at now ph turn u).sent))
+    (pending_of u.unit (q ++ option_to_list (row_at now ph turn u).sent))
 row_accounted now ph turn u ss t q e en other h = grind (arith, common_steps, filter_map-append)
 
 -- a row sends only messages of its own unit
@@ -58,17 +58,17 @@ pub of_row : (now j k : ℕ) (turn : UnitTurn) (u : UnitView) (v : Option UnitVi
     → HasAccount (placed now k (Some (Took j turn)) v) t (pending_of k (q ++ option_to_list (row now turn u).sent))
 of_row now j k turn u v t q en other named same h = by_unit (j == k) refl
   where
-  by_unit : (b : Bool) → (j == k) ≡ b
-      → HasAccount (placed now k (Some (Took j turn)) v) t (pending_of k (q ++ option_to_list (row now turn u).sent))
-  by_unit true e =
-      let own : u.unit ≡ k = grind arith in
-      let was : HasAccountIn u.phase u.statuses t (pending_of u.unit q) =
-          subst (λ m. HasAccountIn u.phase u.statuses t (pending_of m q)) (sym own) (rw (same e) at h) in
-      rw (e, same e) (subst (λ m. HasAccount (Some (row now turn u).next) t (pending_of m (q ++ option_to_list (row now turn u).sent))) own
+    by_unit : (b : Bool) → (j == k) ≡ b
+        → HasAccount (placed now k (Some (Took j turn)) v) t (pending_of k (q ++ option_to_list (row now turn u).sent))
+    by_unit true e =
+        let own : u.unit ≡ k = grind arith in
+        let was : HasAccountIn u.phase u.statuses t (pending_of u.unit q) =
+        subst (λ m. HasAccountIn u.phase u.statuses t (pending_of m q)) (sym own) (rw (same e) at h) in
+        rw (e, same e) (subst (λ m. HasAccount (Some (row now turn u).next) t (pending_of m (q ++ option_to_list (row now turn u).sent))) own
         (row_accounted now u.phase turn u u.statuses t q refl en other was))
-  by_unit false e =
-      let apart : (u.unit == k) ≡ false = grind arith in
-      rw (e, row_sends_own now u.phase turn u k q apart) h
+    by_unit false e =
+        let apart : (u.unit == k) ≡ false = grind arith in
+        rw (e, row_sends_own now u.phase turn u k q apart) h
 
 -- the delivery of a start message of unit i, w, keeps the account of test k, v, let go or not
 pub start_row : (now i k : ℕ) (go : Bool) (v w : Option UnitView) (t : List News) (rest : List Message) (e : Entry)
@@ -76,8 +76,8 @@ pub start_row : (now i k : ℕ) (go : Bool) (v w : Option UnitView) (t : List Ne
     → ((i == k) ≡ true → v ≡ w)
     → HasAccount v t (pending_of k (Start i id command slot ∷ rest))
     → let x : Happening = start_delivery go (taken_by now e i (Answered go) w)
-        (Test (record { clock = clock; elapsed = elapsed; kind = TestStarted i id command slot running stats })) in
-      HasAccount (placed now k x.place v) (t ++ account_of k (option_to_list x.told)) (pending_of k (rest ++ option_to_list x.sent))
+    (Test (record { clock = clock; elapsed = elapsed; kind = TestStarted i id command slot running stats })) in
+    HasAccount (placed now k x.place v) (t ++ account_of k (option_to_list x.told)) (pending_of k (rest ++ option_to_list x.sent))
 start_row now i k true v None t rest e clock elapsed id command slot running stats same h = grind (arith, common_steps, append-nil)
 start_row now i k false v None t rest e clock elapsed id command slot running stats same h = grind (arith, common_steps, append-nil)
 start_row now i k true v (Some u) t rest e clock elapsed id command slot running stats same h = grind (arith, common_steps, append-nil)
@@ -88,5 +88,5 @@ pub of_finish : (i k : ℕ) (v : Option UnitView) (t : List News) (rest : List M
     (clock elapsed : ℕ) (id : TestInstanceId) (statuses : List ExecuteStatus) (running : ℕ) (stats : RunStats)
     → HasAccount v t (pending_of k (Finish i id statuses ∷ rest))
     → HasAccount v (t ++ account_of k (Test (record { clock = clock; elapsed = elapsed; kind = TestFinished i id statuses running stats }) ∷ []))
-        (pending_of k rest)
+    (pending_of k rest)
 of_finish i k v t rest clock elapsed id statuses running stats h = grind (arith, common_steps, append-nil)

@@ -68,19 +68,19 @@ placed_attempted : (now k : ℕ) (place : Option Place) (v : Option UnitView) (t
 placed_attempted now k None v t q a h fits = a
 placed_attempted now k (Some (Admitted first)) v t q a h fits = begins (first.unit == k)
   where
-  begins : (b : Bool) → IsAttempted (if b then Some first else v)
-  begins true = rw fits tt
-  begins false = a
+    begins : (b : Bool) → IsAttempted (if b then Some first else v)
+    begins true = rw fits tt
+    begins false = a
 placed_attempted now k (Some (Took j turn)) None t q a h fits = none (j == k)
   where
-  none : (b : Bool) → IsAttempted (if b then option_map (λ w. (row now turn w).next) None else None)
-  none true = tt
-  none false = tt
+    none : (b : Bool) → IsAttempted (if b then option_map (λ w. (row now turn w).next) None else None)
+    none true = tt
+    none false = tt
 placed_attempted now k (Some (Took j turn)) (Some u) t q a h fits = moves (j == k)
   where
-  moves : (b : Bool) → IsAttempted (if b then Some (row now turn u).next else Some u)
-  moves true = row_attempted now u.phase turn u u.statuses t q refl refl fits h a
-  moves false = a
+    moves : (b : Bool) → IsAttempted (if b then Some (row now turn u).next else Some u)
+    moves true = row_attempted now u.phase turn u u.statuses t q refl refl fits h a
+    moves false = a
 
 taken_fits : (now : ℕ) (e : Entry) (k : ℕ) (turn : UnitTurn) (v : Option UnitView) → turn ≢ Answered false → PlaceFits (taken_by now e k turn v).place
 taken_fits now e k turn None h = tt
@@ -98,21 +98,23 @@ place_fits : (p : Settings) (past : List Happening) (e : Entry) (turn : Turn) �
     → PlaceFits (happened p past e turn (turn_of_unit turn)).place
 place_fits p past e turn none = by_turn turn
   where
-  goes : Answered (is_none (reason past)) ≢ Answered false
-  goes h = let same : Answered true ≡ Answered false = sym (ap (λ r. Answered (is_none r)) none) ∙ h in cc
-  by_queue : (q : List Message) → PlaceFits (delivery p past e q).place
-  by_queue [] = tt
-  by_queue (Start k id command slot ∷ rest) =
-      start_fits _ _ _ (taken_fits (clock past) e k (Answered (is_none (reason past))) (unit_of k past) goes)
-  by_queue (Finish k id statuses ∷ rest) = tt
-  by_turn : (turn : Turn) → PlaceFits (happened p past e turn (turn_of_unit turn)).place
-  by_turn Begin = tt
-  by_turn Admit = admission_fits p (units p past) e (newcomer p (units p past)) refl
-  by_turn Deliver = by_queue (queue past)
-  by_turn (Started unit pid) = taken_fits (clock past) e unit (UnitStarted pid) (unit_of unit past) (λ h. cc)
-  by_turn (Exit unit exit) = taken_fits (clock past) e unit (UnitExit exit) (unit_of unit past) (λ h. cc)
-  by_turn (Decide unit word) = taken_fits (clock past) e unit (UnitDecide word) (unit_of unit past) (λ h. cc)
-  by_turn End = tt
+    goes : Answered (is_none (reason past)) ≢ Answered false
+    goes h = let same : Answered true ≡ Answered false = sym (ap (λ r. Answered (is_none r)) none) ∙ h in cc
+
+    by_queue : (q : List Message) → PlaceFits (delivery p past e q).place
+    by_queue [] = tt
+    by_queue (Start k id command slot ∷ rest) =
+        start_fits _ _ _ (taken_fits (clock past) e k (Answered (is_none (reason past))) (unit_of k past) goes)
+    by_queue (Finish k id statuses ∷ rest) = tt
+
+    by_turn : (turn : Turn) → PlaceFits (happened p past e turn (turn_of_unit turn)).place
+    by_turn Begin = tt
+    by_turn Admit = admission_fits p (units p past) e (newcomer p (units p past)) refl
+    by_turn Deliver = by_queue (queue past)
+    by_turn (Started unit pid) = taken_fits (clock past) e unit (UnitStarted pid) (unit_of unit past) (λ h. cc)
+    by_turn (Exit unit exit) = taken_fits (clock past) e unit (UnitExit exit) (unit_of unit past) (λ h. cc)
+    by_turn (Decide unit word) = taken_fits (clock past) e unit (UnitDecide word) (unit_of unit past) (λ h. cc)
+    by_turn End = tt
 
 -- after every legal journal each unit that is over has made an attempt
 attempted : (p : Settings) (backward : List Entry) → IsLegalBackward p backward → (k : ℕ) → IsAttempted (unit_of k (history p backward))
@@ -120,24 +122,24 @@ attempted p [] legal k = tt
 attempted p (e ∷ before) legal k =
     let past : List Happening = history p before in
     placed_attempted (clock past) k (happening p past e).place (unit_of k past) _ _
-        (attempted p before legal.2 k) ((holds p before legal.2).accounts k) (place_fits p past e e.turn (no_reason p before legal.2))
+    (attempted p before legal.2 k) ((holds p before legal.2).accounts k) (place_fits p past e e.turn (no_reason p before legal.2))
 
 -- a unit that is over, of which nothing waits to be told, has finished once
 finished_once : (v : Option UnitView) (t : List News) → is_done v ≡ true → IsAttempted v → HasAccount v t []
     → (u : UnitView) × (v ≡ Some u) × (first : ExecuteStatus) × (later : List ExecuteStatus) × (u.statuses ≡ first ∷ later)
-        × (t ≡ started ∷ finished u.statuses ∷ [])
+    × (t ≡ started ∷ finished u.statuses ∷ [])
 finished_once None t d a h = cc
 finished_once (Some u) t d a h = by_attempts u.phase u.statuses refl refl d a h
   where
-  by_attempts : (ph : Phase) (ss : List ExecuteStatus) → u.phase ≡ ph → u.statuses ≡ ss → is_last ph ≡ true → IsAttemptedIn ph ss → HasAccountIn ph ss t []
-      → (w : UnitView) × (Some u ≡ Some w) × (first : ExecuteStatus) × (later : List ExecuteStatus) × (w.statuses ≡ first ∷ later)
-          × (t ≡ started ∷ finished w.statuses ∷ [])
-  by_attempts Over [] ep es l a h = absurd a
-  by_attempts Over (s ∷ ss) ep es l a h = (u, refl, s, ss, es, rw es (grind (arith, common_steps)))
-  by_attempts StartSent ss ep es l a h = cc
-  by_attempts Starting ss ep es l a h = cc
-  by_attempts Running ss ep es l a h = cc
-  by_attempts Deciding ss ep es l a h = cc
+    by_attempts : (ph : Phase) (ss : List ExecuteStatus) → u.phase ≡ ph → u.statuses ≡ ss → is_last ph ≡ true → IsAttemptedIn ph ss → HasAccountIn ph ss t []
+        → (w : UnitView) × (Some u ≡ Some w) × (first : ExecuteStatus) × (later : List ExecuteStatus) × (w.statuses ≡ first ∷ later)
+        × (t ≡ started ∷ finished w.statuses ∷ [])
+    by_attempts Over [] ep es l a h = absurd a
+    by_attempts Over (s ∷ ss) ep es l a h = (u, refl, s, ss, es, rw es (grind (arith, common_steps)))
+    by_attempts StartSent ss ep es l a h = cc
+    by_attempts Starting ss ep es l a h = cc
+    by_attempts Running ss ep es l a h = cc
+    by_attempts Deciding ss ep es l a h = cc
 
 -- each item of a list on which a test holds throughout passes
 all_at : {X : Type 0} (f : X → Bool) (xs : List X) (k : ℕ) (d : X) → list_all f xs ≡ true → k < length xs → f (get_or xs k d) ≡ true
@@ -198,15 +200,15 @@ end_finishes p past e k h a below complete =
     let all : list_all is_done (units p past) ≡ true = first_so (list_all is_done (units p past)) (is_empty (queue past)) complete in
     let empty : queue past ≡ [] = empty_is (queue past) (second_so (list_all is_done (units p past)) (is_empty (queue past)) complete) in
     let done : is_done (unit_of k past) ≡ true =
-        sym (ap is_done (units-at p past k below)) ∙ all_at is_done (units p past) k None all (omega arith) in
+    sym (ap is_done (units-at p past k below)) ∙ all_at is_done (units p past) k None all (omega arith) in
     let once = finished_once (unit_of k past) (account_of k (told past)) done a (rw empty at (h.accounts k)) in
     record {
-        unit = once.0;
-        is = once.1;
-        first = once.2;
-        later = once.3;
-        attempts = once.4;
-        account = filter_map-append (news_of k) (told past) _ ∙ append-nil (account_of k (told past)) ∙ once.5
+      unit = once.0;
+      is = once.1;
+      first = once.2;
+      later = once.3;
+      attempts = once.4;
+      account = filter_map-append (news_of k) (told past) _ ∙ append-nil (account_of k (told past)) ∙ once.5;
     }
 
 -- where the last turn ended the run, each test finished once
@@ -219,12 +221,12 @@ finishes p (e ∷ before) legal over k below =
     let ends : is_end (happening p past e).turn ≡ true = first_holds (is_end (happening p past e).turn) (is_over past) over not_yet in
     let end : e.turn ≡ End = end_is e.turn (sym (ap is_end (happened_turn p past e e.turn)) ∙ ends) in
     let takes_end : takes_turn p past End None ≡ true =
-        sym (ap (λ turn. takes_turn p past turn (turn_of_unit turn)) end)
-        ∙ second_so (not (is_over past)) (takes_turn p past e.turn (turn_of_unit e.turn)) legal.0 in
+    sym (ap (λ turn. takes_turn p past turn (turn_of_unit turn)) end)
+    ∙ second_so (not (is_over past)) (takes_turn p past e.turn (turn_of_unit e.turn)) legal.0 in
     subst (λ turn. IsFinishedOnce k (happened p past e turn (turn_of_unit turn) ∷ past)) (sym end)
-        (end_finishes p past e k (holds p before legal.2) (attempted p before legal.2 k) below
-            (second_so (has_begun past) (is_complete p past) takes_end))
+    (end_finishes p past e k (holds p before legal.2) (attempted p before legal.2 k) below
+    (second_so (has_begun past) (is_complete p past) takes_end))
   where
-  not_true : (b : Bool) → not b ≡ true → b ≡ false
-  not_true true h = cc
-  not_true false h = refl
+    not_true : (b : Bool) → not b ≡ true → b ≡ false
+    not_true true h = cc
+    not_true false h = refl

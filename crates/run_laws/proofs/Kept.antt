@@ -40,7 +40,7 @@ use Rattle.run_laws.proofs.AccountLemmas.{is_answer, of_row, start_row, of_finis
 -- the account of a test after one more turn, from the parts of that turn
 pub accounted-cons : (k : ℕ) (x : Happening) (past : List Happening) → delivered (x ∷ past) ≤ length (sent past)
     → HasAccount (placed (clock past) k x.place (unit_of k past)) (account_of k (told past) ++ account_of k (option_to_list x.told))
-        (pending_of k (drop (if x.taken then 1 else 0) (queue past) ++ option_to_list x.sent))
+    (pending_of k (drop (if x.taken then 1 else 0) (queue past) ++ option_to_list x.sent))
     → IsAccounted k (x ∷ past)
 accounted-cons k x past fits h = rw (filter_map-append, queue-cons x past fits) h
 
@@ -55,46 +55,48 @@ pub placed_named : (now later n k : ℕ) (place : Option Place) (v : Option Unit
 placed_named now later n k None v le h known u e = let at = h u e in (at.0, at.1, omega arith)
 placed_named now later n k (Some (Admitted first)) v le h known u e = at_once (first.unit == k) refl
   where
-  at_once : (b : Bool) → (first.unit == k) ≡ b → (u.unit ≡ k) × (k < n) × (u.start ≤ later)
-  at_once true be =
-      let same : first ≡ u = cc (sym (ap (λ b. if b then Some first else v) be) ∙ e) in
-      let below : (first.unit < n) × (first.start ≤ now) = known first refl in
-      subst (λ (w : UnitView). (w.unit ≡ k) × (k < n) × (w.start ≤ later)) same (grind arith)
-  at_once false be = let at = h u (sym (ap (λ b. if b then Some first else v) be) ∙ e) in (at.0, at.1, omega arith)
+    at_once : (b : Bool) → (first.unit == k) ≡ b → (u.unit ≡ k) × (k < n) × (u.start ≤ later)
+    at_once true be =
+        let same : first ≡ u = cc (sym (ap (λ b. if b then Some first else v) be) ∙ e) in
+        let below : (first.unit < n) × (first.start ≤ now) = known first refl in
+        subst (λ (w : UnitView). (w.unit ≡ k) × (k < n) × (w.start ≤ later)) same (grind arith)
+    at_once false be = let at = h u (sym (ap (λ b. if b then Some first else v) be) ∙ e) in (at.0, at.1, omega arith)
 placed_named now later n k (Some (Took j turn)) v le h known u e = by_unit (j == k) refl
   where
-  by_view : (v : Option UnitView) → IsNamed n now k v → option_map (λ w. (row now turn w).next) v ≡ Some u
-      → (u.unit ≡ k) × (k < n) × (u.start ≤ later)
-  by_view None h e = cc
-  by_view (Some w) h e =
-      let same : (row now turn w).next ≡ u = cc in
-      let named : (w.unit ≡ k) × (k < n) × (w.start ≤ now) = h w refl in
-      let early : (row now turn w).next.start ≤ now = row_starts now w.phase turn w named.2 in
-      subst (λ (v : UnitView). (v.unit ≡ k) × (k < n) × (v.start ≤ later)) same
+    by_view : (v : Option UnitView) → IsNamed n now k v → option_map (λ w. (row now turn w).next) v ≡ Some u
+        → (u.unit ≡ k) × (k < n) × (u.start ≤ later)
+    by_view None h e = cc
+    by_view (Some w) h e =
+        let same : (row now turn w).next ≡ u = cc in
+        let named : (w.unit ≡ k) × (k < n) × (w.start ≤ now) = h w refl in
+        let early : (row now turn w).next.start ≤ now = row_starts now w.phase turn w named.2 in
+        subst (λ (v : UnitView). (v.unit ≡ k) × (k < n) × (v.start ≤ later)) same
         (row_keeps_unit now w.phase turn w ∙ named.0, named.1, omega arith)
-  by_unit : (b : Bool) → (j == k) ≡ b → (u.unit ≡ k) × (k < n) × (u.start ≤ later)
-  by_unit true be = by_view v h (sym (ap (λ b. if b then option_map (λ w. (row now turn w).next) v else v) be) ∙ e)
-  by_unit false be =
-      let at = h u (sym (ap (λ b. if b then option_map (λ w. (row now turn w).next) v else v) be) ∙ e) in (at.0, at.1, omega arith)
+
+    by_unit : (b : Bool) → (j == k) ≡ b → (u.unit ≡ k) × (k < n) × (u.start ≤ later)
+    by_unit true be = by_view v h (sym (ap (λ b. if b then option_map (λ w. (row now turn w).next) v else v) be) ∙ e)
+    by_unit false be =
+        let at = h u (sym (ap (λ b. if b then option_map (λ w. (row now turn w).next) v else v) be) ∙ e) in (at.0, at.1, omega arith)
 
 -- the unit that is admitted is the candidate of the plan
 pub newcomer_is : (p : Settings) (us : List (Option UnitView)) (u : UnitView) → newcomer p us ≡ Some u
     → (k : ℕ) × (test : PlanTest) × (candidate p us ≡ Some k) × (slice_get p.plan.tests k ≡ Some test) × (u ≡ first_view p k (free_slot us) test)
 newcomer_is p us u e = by_candidate (candidate p us) refl
   where
-  by_test : (k : ℕ) → candidate p us ≡ Some k → (o : Option PlanTest) → slice_get p.plan.tests k ≡ o
-      → option_map (first_view p k (free_slot us)) o ≡ Some u
-      → (k : ℕ) × (test : PlanTest) × (candidate p us ≡ Some k) × (slice_get p.plan.tests k ≡ Some test) × (u ≡ first_view p k (free_slot us) test)
-  by_test k ck None ek e = cc
-  by_test k ck (Some test) ek e = (k, test, ck, ek, cc)
-  by_candidate : (o : Option ℕ) → candidate p us ≡ o
-      → (k : ℕ) × (test : PlanTest) × (candidate p us ≡ Some k) × (slice_get p.plan.tests k ≡ Some test) × (u ≡ first_view p k (free_slot us) test)
-  by_candidate None ek =
-      let chosen : option_and_then (λ k. option_map (first_view p k (free_slot us)) (slice_get p.plan.tests k)) None ≡ Some u =
-          sym (ap (option_and_then (λ k. option_map (first_view p k (free_slot us)) (slice_get p.plan.tests k))) ek) ∙ e in
-      cc
-  by_candidate (Some k) ek =
-      by_test k ek (slice_get p.plan.tests k) refl
+    by_test : (k : ℕ) → candidate p us ≡ Some k → (o : Option PlanTest) → slice_get p.plan.tests k ≡ o
+        → option_map (first_view p k (free_slot us)) o ≡ Some u
+        → (k : ℕ) × (test : PlanTest) × (candidate p us ≡ Some k) × (slice_get p.plan.tests k ≡ Some test) × (u ≡ first_view p k (free_slot us) test)
+    by_test k ck None ek e = cc
+    by_test k ck (Some test) ek e = (k, test, ck, ek, cc)
+
+    by_candidate : (o : Option ℕ) → candidate p us ≡ o
+        → (k : ℕ) × (test : PlanTest) × (candidate p us ≡ Some k) × (slice_get p.plan.tests k ≡ Some test) × (u ≡ first_view p k (free_slot us) test)
+    by_candidate None ek =
+        let chosen : option_and_then (λ k. option_map (first_view p k (free_slot us)) (slice_get p.plan.tests k)) None ≡ Some u =
+        sym (ap (option_and_then (λ k. option_map (first_view p k (free_slot us)) (slice_get p.plan.tests k))) ek) ∙ e in
+        cc
+    by_candidate (Some k) ek =
+        by_test k ek (slice_get p.plan.tests k) refl
         (sym (ap (option_and_then (λ k. option_map (first_view p k (free_slot us)) (slice_get p.plan.tests k))) ek) ∙ e)
 
 -- a candidate is a test that wasn't admitted
@@ -102,28 +104,29 @@ pub candidate_waits : (p : Settings) (us : List (Option UnitView)) (k : ℕ) →
     → (k < length us) × (get_or us k None ≡ None)
 candidate_waits p us k e = by_room (nat_lt (in_use us) p.threads) refl
   where
-  is_none_None : (v : Option UnitView) → is_none v ≡ true → v ≡ None
-  is_none_None None e = refl
-  is_none_None (Some u) e = cc
-  by_room : (b : Bool) → nat_lt (in_use us) p.threads ≡ b → (k < length us) × (get_or us k None ≡ None)
-  by_room true be =
-      let found : position is_none us ≡ Some k = sym (ap (λ b. if b then position is_none us else None) be) ∙ e in
-      let at = position-Some is_none us k None found in
-      (at.0, is_none_None _ at.1)
-  by_room false be =
-      let none : None ≡ Some k = sym (ap (λ b. if b then position is_none us else None) be) ∙ e in cc
+    is_none_None : (v : Option UnitView) → is_none v ≡ true → v ≡ None
+    is_none_None None e = refl
+    is_none_None (Some u) e = cc
+
+    by_room : (b : Bool) → nat_lt (in_use us) p.threads ≡ b → (k < length us) × (get_or us k None ≡ None)
+    by_room true be =
+        let found : position is_none us ≡ Some k = sym (ap (λ b. if b then position is_none us else None) be) ∙ e in
+        let at = position-Some is_none us k None found in
+        (at.0, is_none_None _ at.1)
+    by_room false be =
+        let none : None ≡ Some k = sym (ap (λ b. if b then position is_none us else None) be) ∙ e in cc
 
 -- what holds after one more turn, from the parts of that turn
 pub holds-cons : (p : Settings) (past : List Happening) (x : Happening) → Holds p past
     → delivered (x ∷ past) ≤ length (sent past)
     → ((u : UnitView) → x.place ≡ Some (Admitted u) → (u.unit < tests_in p) × (u.start ≤ clock past))
     → ((k : ℕ) → HasAccount (placed (clock past) k x.place (unit_of k past)) (account_of k (told past) ++ account_of k (option_to_list x.told))
-        (pending_of k (drop (if x.taken then 1 else 0) (queue past) ++ option_to_list x.sent)))
+    (pending_of k (drop (if x.taken then 1 else 0) (queue past) ++ option_to_list x.sent)))
     → Holds p (x ∷ past)
 holds-cons p past x h fits known accounts = record {
   fits = omega (arith, length-append (sent past) (option_to_list x.sent));
   named = λ k. placed_named (clock past) (clock past + ns_of x.turn) (tests_in p) k x.place (unit_of k past) (omega arith) (h.named k) known;
-  accounts = λ k. accounted-cons k x past fits (accounts k)
+  accounts = λ k. accounted-cons k x past fits (accounts k);
 }
 
 -- a unit's own turn keeps what holds
@@ -132,15 +135,15 @@ pub kept-unit : (p : Settings) (past : List Happening) (e : Entry) (j : ℕ) (tu
     → Holds p (taken_by (clock past) e j turn (unit_of j past) ∷ past)
 kept-unit p past e j turn h en other = by_view (unit_of j past) refl
   where
-  by_view : (v : Option UnitView) → unit_of j past ≡ v → Holds p (taken_by (clock past) e j turn v ∷ past)
-  by_view None ev = let never : unit_takes None turn ≡ true = rw ev at en in cc
-  by_view (Some u) ev =
-      let takes_it : takes u.phase turn ≡ true = rw ev at en in
-      let same : (k : ℕ) → (j == k) ≡ true → unit_of k past ≡ Some u =
-          λ k jk. let jk' : k ≡ j = grind arith in ap (λ k. unit_of k past) jk' ∙ ev in
-      holds-cons p past (taken_by (clock past) e j turn (Some u)) h (omega (arith, h.fits)) (λ w ew. cc)
+    by_view : (v : Option UnitView) → unit_of j past ≡ v → Holds p (taken_by (clock past) e j turn v ∷ past)
+    by_view None ev = let never : unit_takes None turn ≡ true = rw ev at en in cc
+    by_view (Some u) ev =
+        let takes_it : takes u.phase turn ≡ true = rw ev at en in
+        let same : (k : ℕ) → (j == k) ≡ true → unit_of k past ≡ Some u =
+        λ k jk. let jk' : k ≡ j = grind arith in ap (λ k. unit_of k past) jk' ∙ ev in
+        holds-cons p past (taken_by (clock past) e j turn (Some u)) h (omega (arith, h.fits)) (λ w ew. cc)
         (λ k. rw append-nil (of_row (clock past) j k turn u (unit_of k past) (account_of k (told past)) (queue past)
-          takes_it other (h.named j u ev).0 (same k) (h.accounts k)))
+        takes_it other (h.named j u ev).0 (same k) (h.accounts k)))
 
 -- an admission keeps what holds
 pub kept-admit : (p : Settings) (past : List Happening) (e : Entry) → Holds p past
@@ -148,25 +151,26 @@ pub kept-admit : (p : Settings) (past : List Happening) (e : Entry) → Holds p 
     → Holds p (admission e (newcomer p (units p past)) ∷ past)
 kept-admit p past e h en = by_newcomer (newcomer p (units p past)) refl
   where
-  -- the first account of a test
-  begins : (k : ℕ) (u : UnitView) (v : Option UnitView) (t : List News) (q : List Message)
-      → u.phase ≡ StartSent → u.statuses ≡ [] → ((u.unit == k) ≡ true → v ≡ None) → HasAccount v t (pending_of k q)
-      → HasAccount (if u.unit == k then Some u else v) (t ++ []) (pending_of k (q ++ Start u.unit u.id u.command u.slot ∷ []))
-  begins k u v t q ph st fresh h = grind (arith, common_steps, append-nil, filter_map-append)
-  by_newcomer : (o : Option UnitView) → newcomer p (units p past) ≡ o → Holds p (admission e o ∷ past)
-  by_newcomer None eo = let never : is_some {T = UnitView} None ≡ true = rw eo at en in cc
-  by_newcomer (Some u) eo =
-      let found = newcomer_is p (units p past) u eo in
-      let waits = candidate_waits p (units p past) found.0 found.2 in
-      let below : found.0 < tests_in p = slice_get_within p.plan.tests found.0 found.1 found.3 in
-      let is : u ≡ first_view p found.0 (free_slot (units p past)) found.1 = found.4 in
-      let at : u.unit ≡ found.0 = ap (λ (u : UnitView). u.unit) is in
-      let fresh : (k : ℕ) → (u.unit == k) ≡ true → unit_of k past ≡ None =
-          λ k uk. let here : k ≡ found.0 = grind arith in
-          ap (λ k. unit_of k past) here ∙ sym (units-at p past found.0 below) ∙ waits.1 in
-      holds-cons p past (admission e (Some u)) h (omega (arith, h.fits)) (λ w ew. let same : w ≡ u = cc in grind arith)
+    -- the first account of a test
+    begins : (k : ℕ) (u : UnitView) (v : Option UnitView) (t : List News) (q : List Message)
+        → u.phase ≡ StartSent → u.statuses ≡ [] → ((u.unit == k) ≡ true → v ≡ None) → HasAccount v t (pending_of k q)
+        → HasAccount (if u.unit == k then Some u else v) (t ++ []) (pending_of k (q ++ Start u.unit u.id u.command u.slot ∷ []))
+    begins k u v t q ph st fresh h = grind (arith, common_steps, append-nil, filter_map-append)
+
+    by_newcomer : (o : Option UnitView) → newcomer p (units p past) ≡ o → Holds p (admission e o ∷ past)
+    by_newcomer None eo = let never : is_some {T = UnitView} None ≡ true = rw eo at en in cc
+    by_newcomer (Some u) eo =
+        let found = newcomer_is p (units p past) u eo in
+        let waits = candidate_waits p (units p past) found.0 found.2 in
+        let below : found.0 < tests_in p = slice_get_within p.plan.tests found.0 found.1 found.3 in
+        let is : u ≡ first_view p found.0 (free_slot (units p past)) found.1 = found.4 in
+        let at : u.unit ≡ found.0 = ap (λ (u : UnitView). u.unit) is in
+        let fresh : (k : ℕ) → (u.unit == k) ≡ true → unit_of k past ≡ None =
+        λ k uk. let here : k ≡ found.0 = grind arith in
+        ap (λ k. unit_of k past) here ∙ sym (units-at p past found.0 below) ∙ waits.1 in
+        holds-cons p past (admission e (Some u)) h (omega (arith, h.fits)) (λ w ew. let same : w ≡ u = cc in grind arith)
         (λ k. begins k u (unit_of k past) (account_of k (told past)) (queue past)
-          (ap (λ (u : UnitView). u.phase) is) (ap (λ (u : UnitView). u.statuses) is) (fresh k) (h.accounts k))
+        (ap (λ (u : UnitView). u.phase) is) (ap (λ (u : UnitView). u.statuses) is) (fresh k) (h.accounts k))
 
 -- a turn that only tells what is no news keeps what holds
 pub kept-told : (p : Settings) (past : List Happening) (e : Entry) (kind : TestEventKind) → Holds p past
@@ -174,56 +178,58 @@ pub kept-told : (p : Settings) (past : List Happening) (e : Entry) (kind : TestE
     → Holds p (record (silent e) { told = Some (event_at past kind) } ∷ past)
 kept-told p past e kind h no_news =
     holds-cons p past (record (silent e) { told = Some (event_at past kind) }) h (omega (arith, h.fits)) (λ w ew. cc)
-        (λ k. rw (no_news k) (simp append-nil (h.accounts k)))
+    (λ k. rw (no_news k) (simp append-nil (h.accounts k)))
 
 -- a delivery keeps what holds
 pub kept-deliver : (p : Settings) (past : List Happening) (e : Entry) → Holds p past → not (is_empty (queue past)) ≡ true
     → Holds p (delivery p past e (queue past) ∷ past)
 kept-deliver p past e h en = by_queue (queue past) refl
   where
-  same : (i k : ℕ) (w : Option UnitView) → unit_of i past ≡ w → (i == k) ≡ true → unit_of k past ≡ w
-  same i k w ew ik = let here : k ≡ i = grind arith in ap (λ k. unit_of k past) here ∙ ew
-  start : (i : ℕ) (id : TestInstanceId) (command : List (List ℕ)) (slot : TestSlotAssignment) (rest : List Message)
-      → queue past ≡ Start i id command slot ∷ rest → (running : ℕ) (stats : RunStats) (go : Bool) (w : Option UnitView) → unit_of i past ≡ w
-      → Holds p (start_delivery go (taken_by (clock past) e i (Answered go) w) (event_at past (TestStarted i id command slot running stats)) ∷ past)
-  start i id command slot rest eq running stats true None ew =
-      holds-cons p past _ h (lt-from_queue (delivered past) (sent past) rest _ eq) (λ v ev. cc)
+    same : (i k : ℕ) (w : Option UnitView) → unit_of i past ≡ w → (i == k) ≡ true → unit_of k past ≡ w
+    same i k w ew ik = let here : k ≡ i = grind arith in ap (λ k. unit_of k past) here ∙ ew
+
+    start : (i : ℕ) (id : TestInstanceId) (command : List (List ℕ)) (slot : TestSlotAssignment) (rest : List Message)
+        → queue past ≡ Start i id command slot ∷ rest → (running : ℕ) (stats : RunStats) (go : Bool) (w : Option UnitView) → unit_of i past ≡ w
+        → Holds p (start_delivery go (taken_by (clock past) e i (Answered go) w) (event_at past (TestStarted i id command slot running stats)) ∷ past)
+    start i id command slot rest eq running stats true None ew =
+        holds-cons p past _ h (lt-from_queue (delivered past) (sent past) rest _ eq) (λ v ev. cc)
         (λ k. rw eq (start_row (clock past) i k true (unit_of k past) None (account_of k (told past)) rest e
-          (clock past) (elapsed past) id command slot running stats (same i k None ew) (rw eq at (h.accounts k))))
-  start i id command slot rest eq running stats true (Some u) ew =
-      holds-cons p past _ h (lt-from_queue (delivered past) (sent past) rest _ eq) (λ v ev. cc)
+        (clock past) (elapsed past) id command slot running stats (same i k None ew) (rw eq at (h.accounts k))))
+    start i id command slot rest eq running stats true (Some u) ew =
+        holds-cons p past _ h (lt-from_queue (delivered past) (sent past) rest _ eq) (λ v ev. cc)
         (λ k. rw eq (start_row (clock past) i k true (unit_of k past) (Some u) (account_of k (told past)) rest e
-          (clock past) (elapsed past) id command slot running stats (same i k (Some u) ew) (rw eq at (h.accounts k))))
-  start i id command slot rest eq running stats false None ew =
-      holds-cons p past _ h (lt-from_queue (delivered past) (sent past) rest _ eq) (λ v ev. cc)
+        (clock past) (elapsed past) id command slot running stats (same i k (Some u) ew) (rw eq at (h.accounts k))))
+    start i id command slot rest eq running stats false None ew =
+        holds-cons p past _ h (lt-from_queue (delivered past) (sent past) rest _ eq) (λ v ev. cc)
         (λ k. rw eq (start_row (clock past) i k false (unit_of k past) None (account_of k (told past)) rest e
-          (clock past) (elapsed past) id command slot running stats (same i k None ew) (rw eq at (h.accounts k))))
-  start i id command slot rest eq running stats false (Some u) ew =
-      holds-cons p past _ h (lt-from_queue (delivered past) (sent past) rest _ eq) (λ v ev. cc)
+        (clock past) (elapsed past) id command slot running stats (same i k None ew) (rw eq at (h.accounts k))))
+    start i id command slot rest eq running stats false (Some u) ew =
+        holds-cons p past _ h (lt-from_queue (delivered past) (sent past) rest _ eq) (λ v ev. cc)
         (λ k. rw eq (start_row (clock past) i k false (unit_of k past) (Some u) (account_of k (told past)) rest e
-          (clock past) (elapsed past) id command slot running stats (same i k (Some u) ew) (rw eq at (h.accounts k))))
-  by_queue : (q : List Message) → queue past ≡ q → Holds p (delivery p past e q ∷ past)
-  by_queue [] eq = let never : not (is_empty []) ≡ true = rw eq at en in cc
-  by_queue (Start i id command slot ∷ rest) eq =
-      start i id command slot rest eq (running p past + 1) (stats p past) (is_none (reason past)) (unit_of i past) refl
-  by_queue (Finish i id statuses ∷ rest) eq =
-      holds-cons p past _ h (lt-from_queue (delivered past) (sent past) rest _ eq) (λ u eu. cc)
+        (clock past) (elapsed past) id command slot running stats (same i k (Some u) ew) (rw eq at (h.accounts k))))
+
+    by_queue : (q : List Message) → queue past ≡ q → Holds p (delivery p past e q ∷ past)
+    by_queue [] eq = let never : not (is_empty []) ≡ true = rw eq at en in cc
+    by_queue (Start i id command slot ∷ rest) eq =
+        start i id command slot rest eq (running p past + 1) (stats p past) (is_none (reason past)) (unit_of i past) refl
+    by_queue (Finish i id statuses ∷ rest) eq =
+        holds-cons p past _ h (lt-from_queue (delivered past) (sent past) rest _ eq) (λ u eu. cc)
         (λ k. rw (eq, append-nil) (of_finish i k (unit_of k past) (account_of k (told past)) rest (clock past) (elapsed past) id statuses
-          (running p past - 1) (stats_after p (reason past) (finished past ++ finished_test statuses ∷ [])) (rw eq at (h.accounts k))))
+        (running p past - 1) (stats_after p (reason past) (finished past ++ finished_test statuses ∷ [])) (rw eq at (h.accounts k))))
 
 -- each enabled turn keeps what holds
 pub kept : (p : Settings) (past : List Happening) (e : Entry) → Holds p past → enabled p past e.turn ≡ true
     → Holds p (happening p past e ∷ past)
 kept p past e h en = by_turn e.turn (second_so (not (is_over past)) (takes_turn p past e.turn (turn_of_unit e.turn)) en)
   where
-  by_turn : (turn : Turn) → takes_turn p past turn (turn_of_unit turn) ≡ true → Holds p (happened p past e turn (turn_of_unit turn) ∷ past)
-  by_turn Begin en = kept-told p past e _ h (λ k. refl)
-  by_turn Admit en = kept-admit p past e h (second_so (has_begun past) (is_some (newcomer p (units p past))) en)
-  by_turn Deliver en = kept-deliver p past e h (second_so (has_begun past) (not (is_empty (queue past))) en)
-  by_turn (Started unit pid) en = kept-unit p past e unit (UnitStarted pid) h en refl
-  by_turn (Exit unit exit) en = kept-unit p past e unit (UnitExit exit) h en refl
-  by_turn (Decide unit word) en = kept-unit p past e unit (UnitDecide word) h en refl
-  by_turn End en = kept-told p past e _ h (λ k. refl)
+    by_turn : (turn : Turn) → takes_turn p past turn (turn_of_unit turn) ≡ true → Holds p (happened p past e turn (turn_of_unit turn) ∷ past)
+    by_turn Begin en = kept-told p past e _ h (λ k. refl)
+    by_turn Admit en = kept-admit p past e h (second_so (has_begun past) (is_some (newcomer p (units p past))) en)
+    by_turn Deliver en = kept-deliver p past e h (second_so (has_begun past) (not (is_empty (queue past))) en)
+    by_turn (Started unit pid) en = kept-unit p past e unit (UnitStarted pid) h en refl
+    by_turn (Exit unit exit) en = kept-unit p past e unit (UnitExit exit) h en refl
+    by_turn (Decide unit word) en = kept-unit p past e unit (UnitDecide word) h en refl
+    by_turn End en = kept-told p past e _ h (λ k. refl)
 
 -- what holds of the empty history
 pub holds-nil : (p : Settings) → Holds p []

@@ -34,27 +34,27 @@ count-more f g zero a i low high was is same = absurd (omega arith)
 count-more f g (suc n) a i low high was is same =
     by_place (a == i) refl (λ apart. count-more f g n (a + 1) i (omega arith) (omega arith) was is same)
   where
-  by_place : (b : Bool) → (a == i) ≡ b → (a ≢ i → count_by g (range_with_len (a + 1) n) ≡ count_by f (range_with_len (a + 1) n) + 1)
-      → count_by g (range_with_len a (suc n)) ≡ count_by f (range_with_len a (suc n)) + 1
-  by_place true e later =
-      let here : a ≡ i = grind arith in
-      let ga : g a ≡ true = ap g here ∙ is in
-      let fa : f a ≡ false = ap f here ∙ was in
-      let rest : count_by g (range_with_len (a + 1) n) ≡ count_by f (range_with_len (a + 1) n) =
-          count-same f g n (a + 1) (λ k h. same k (omega arith)) in
-      let left : count_by g (range_with_len a (suc n)) ≡ 1 + count_by g (range_with_len (a + 1) n) =
-          count-cons g a n ∙ ap (λ b. cond b 1 0 + count_by g (range_with_len (a + 1) n)) ga in
-      let right : count_by f (range_with_len a (suc n)) ≡ 0 + count_by f (range_with_len (a + 1) n) =
-          count-cons f a n ∙ ap (λ b. cond b 1 0 + count_by f (range_with_len (a + 1) n)) fa in
-      omega arith
-  by_place false e later =
-      let apart : a ≢ i = grind arith in
-      let rest : count_by g (range_with_len (a + 1) n) ≡ count_by f (range_with_len (a + 1) n) + 1 =
-          later apart in
-      let left : count_by g (range_with_len a (suc n)) ≡ cond (f a) 1 0 + count_by g (range_with_len (a + 1) n) =
-          count-cons g a n ∙ ap (λ b. cond b 1 0 + count_by g (range_with_len (a + 1) n)) (same a apart) in
-      let right : count_by f (range_with_len a (suc n)) ≡ cond (f a) 1 0 + count_by f (range_with_len (a + 1) n) = count-cons f a n in
-      omega arith
+    by_place : (b : Bool) → (a == i) ≡ b → (a ≢ i → count_by g (range_with_len (a + 1) n) ≡ count_by f (range_with_len (a + 1) n) + 1)
+        → count_by g (range_with_len a (suc n)) ≡ count_by f (range_with_len a (suc n)) + 1
+    by_place true e later =
+        let here : a ≡ i = grind arith in
+        let ga : g a ≡ true = ap g here ∙ is in
+        let fa : f a ≡ false = ap f here ∙ was in
+        let rest : count_by g (range_with_len (a + 1) n) ≡ count_by f (range_with_len (a + 1) n) =
+        count-same f g n (a + 1) (λ k h. same k (omega arith)) in
+        let left : count_by g (range_with_len a (suc n)) ≡ 1 + count_by g (range_with_len (a + 1) n) =
+        count-cons g a n ∙ ap (λ b. cond b 1 0 + count_by g (range_with_len (a + 1) n)) ga in
+        let right : count_by f (range_with_len a (suc n)) ≡ 0 + count_by f (range_with_len (a + 1) n) =
+        count-cons f a n ∙ ap (λ b. cond b 1 0 + count_by f (range_with_len (a + 1) n)) fa in
+        omega arith
+    by_place false e later =
+        let apart : a ≢ i = grind arith in
+        let rest : count_by g (range_with_len (a + 1) n) ≡ count_by f (range_with_len (a + 1) n) + 1 =
+        later apart in
+        let left : count_by g (range_with_len a (suc n)) ≡ cond (f a) 1 0 + count_by g (range_with_len (a + 1) n) =
+        count-cons g a n ∙ ap (λ b. cond b 1 0 + count_by g (range_with_len (a + 1) n)) (same a apart) in
+        let right : count_by f (range_with_len a (suc n)) ≡ cond (f a) 1 0 + count_by f (range_with_len (a + 1) n) = count-cons f a n in
+        omega arith
 
 -- whether news tell a start, or a finish
 abbrev pub is_start : News → Bool
@@ -99,20 +99,25 @@ pub running-started : (n i : ℕ) (es : List ReporterEvent) (e : ReporterEvent) 
     → running_in_told n (es ++ e ∷ []) ≡ running_in_told n es + 1
 running-started n i es e below none s f =
     count-more (is_running es) (is_running (es ++ e ∷ [])) n 0 i (omega arith) (omega arith) was is
-      (λ k apart. running-other k es e (s k ∙ apart_from k apart) (f k))
+    (λ k apart. running-other k es e (s k ∙ apart_from k apart) (f k))
   where
-  apart_from : (k : ℕ) → k ≢ i → (i == k) ≡ false
-  apart_from k apart = grind arith
-  no_start : list_any (starts i) es ≡ false
-  no_start = starts-account i es ∙ ap (list_any is_start) none
-  no_finish : list_any (finishes i) es ≡ false
-  no_finish = finishes-account i es ∙ ap (list_any is_finish) none
-  was : is_running es i ≡ false
-  was = rw no_start refl
-  here : (i == i) ≡ true
-  here = grind arith
-  is : is_running (es ++ e ∷ []) i ≡ true
-  is = simp (list_any-append, no_start, no_finish, s, f, here) refl
+    apart_from : (k : ℕ) → k ≢ i → (i == k) ≡ false
+    apart_from k apart = grind arith
+
+    no_start : list_any (starts i) es ≡ false
+    no_start = starts-account i es ∙ ap (list_any is_start) none
+
+    no_finish : list_any (finishes i) es ≡ false
+    no_finish = finishes-account i es ∙ ap (list_any is_finish) none
+
+    was : is_running es i ≡ false
+    was = rw no_start refl
+
+    here : (i == i) ≡ true
+    here = grind arith
+
+    is : is_running (es ++ e ∷ []) i ≡ true
+    is = simp (list_any-append, no_start, no_finish, s, f, here) refl
 
 -- a told finish is of one test less
 pub running-finished : (n i : ℕ) (es : List ReporterEvent) (e : ReporterEvent) → i < n → account_of i es ≡ started ∷ []
@@ -120,20 +125,25 @@ pub running-finished : (n i : ℕ) (es : List ReporterEvent) (e : ReporterEvent)
     → running_in_told n es ≡ running_in_told n (es ++ e ∷ []) + 1
 running-finished n i es e below one f s =
     count-more (is_running (es ++ e ∷ [])) (is_running es) n 0 i (omega arith) (omega arith) is was
-      (λ k apart. sym (running-other k es e (s k) (f k ∙ apart_from k apart)))
+    (λ k apart. sym (running-other k es e (s k) (f k ∙ apart_from k apart)))
   where
-  apart_from : (k : ℕ) → k ≢ i → (i == k) ≡ false
-  apart_from k apart = grind arith
-  a_start : list_any (starts i) es ≡ true
-  a_start = starts-account i es ∙ ap (list_any is_start) one
-  no_finish : list_any (finishes i) es ≡ false
-  no_finish = finishes-account i es ∙ ap (list_any is_finish) one
-  was : is_running es i ≡ true
-  was = simp (a_start, no_finish) refl
-  here : (i == i) ≡ true
-  here = grind arith
-  is : is_running (es ++ e ∷ []) i ≡ false
-  is = simp (list_any-append, a_start, no_finish, s, f, here) refl
+    apart_from : (k : ℕ) → k ≢ i → (i == k) ≡ false
+    apart_from k apart = grind arith
+
+    a_start : list_any (starts i) es ≡ true
+    a_start = starts-account i es ∙ ap (list_any is_start) one
+
+    no_finish : list_any (finishes i) es ≡ false
+    no_finish = finishes-account i es ∙ ap (list_any is_finish) one
+
+    was : is_running es i ≡ true
+    was = simp (a_start, no_finish) refl
+
+    here : (i == i) ≡ true
+    here = grind arith
+
+    is : is_running (es ++ e ∷ []) i ≡ false
+    is = simp (list_any-append, a_start, no_finish, s, f, here) refl
 
 -- any other event leaves the number as it was
 pub running-kept : (n : ℕ) (es : List ReporterEvent) (e : ReporterEvent)

@@ -63,24 +63,25 @@ pub happening_tells : (p : Settings) (past : List Happening) (e : Entry) → Hol
     → Tells p past (happening p past e)
 happening_tells p past e h en = by_turn e.turn (second_so (not (is_over past)) (takes_turn p past e.turn (turn_of_unit e.turn)) en)
   where
-  by_queue : (q : List Message) → queue past ≡ q → Tells p past (delivery p past e q)
-  by_queue [] eq = (tt, refl, omega (arith, h.fits))
-  by_queue (Start i id command slot ∷ rest) eq =
-      let waits = start_waits p past i id command slot rest h eq in
-      start_tells p past e i (is_none (reason past)) (Answered (is_none (reason past))) (unit_of i past)
+    by_queue : (q : List Message) → queue past ≡ q → Tells p past (delivery p past e q)
+    by_queue [] eq = (tt, refl, omega (arith, h.fits))
+    by_queue (Start i id command slot ∷ rest) eq =
+        let waits = start_waits p past i id command slot rest h eq in
+        start_tells p past e i (is_none (reason past)) (Answered (is_none (reason past))) (unit_of i past)
         (event_at past (TestStarted i id command slot (running p past + 1) (stats p past))) (waits.below, waits.untold)
         (lt-from_queue (delivered past) (sent past) rest _ eq)
-  by_queue (Finish i id statuses ∷ rest) eq =
-      let follows = finish_follows p past i id statuses rest h eq in
-      ((follows.below, follows.told_started), refl, lt-from_queue (delivered past) (sent past) rest _ eq)
-  by_turn : (turn : Turn) → takes_turn p past turn (turn_of_unit turn) ≡ true → Tells p past (happened p past e turn (turn_of_unit turn))
-  by_turn Begin en = (tt, refl, omega (arith, h.fits))
-  by_turn Admit en = admission_tells p past e (newcomer p (units p past)) h.fits
-  by_turn Deliver en = by_queue (queue past) refl
-  by_turn (Started unit pid) en = taken_tells p past (clock past) e unit (UnitStarted pid) (unit_of unit past) h.fits
-  by_turn (Exit unit exit) en = taken_tells p past (clock past) e unit (UnitExit exit) (unit_of unit past) h.fits
-  by_turn (Decide unit word) en = taken_tells p past (clock past) e unit (UnitDecide word) (unit_of unit past) h.fits
-  by_turn End en = (tt, refl, omega (arith, h.fits))
+    by_queue (Finish i id statuses ∷ rest) eq =
+        let follows = finish_follows p past i id statuses rest h eq in
+        ((follows.below, follows.told_started), refl, lt-from_queue (delivered past) (sent past) rest _ eq)
+
+    by_turn : (turn : Turn) → takes_turn p past turn (turn_of_unit turn) ≡ true → Tells p past (happened p past e turn (turn_of_unit turn))
+    by_turn Begin en = (tt, refl, omega (arith, h.fits))
+    by_turn Admit en = admission_tells p past e (newcomer p (units p past)) h.fits
+    by_turn Deliver en = by_queue (queue past) refl
+    by_turn (Started unit pid) en = taken_tells p past (clock past) e unit (UnitStarted pid) (unit_of unit past) h.fits
+    by_turn (Exit unit exit) en = taken_tells p past (clock past) e unit (UnitExit exit) (unit_of unit past) h.fits
+    by_turn (Decide unit word) en = taken_tells p past (clock past) e unit (UnitDecide word) (unit_of unit past) h.fits
+    by_turn End en = (tt, refl, omega (arith, h.fits))
 
 -- what is no cause leaves the reason
 pub greater-None : (r : Option CancelReason) → greater r None ≡ r
@@ -101,9 +102,9 @@ pub filter_map_short : {X Y : Type 0} (f : X → Option Y) (xs : List X) → len
 filter_map_short f [] = omega arith
 filter_map_short {X} {Y} f (x ∷ xs) = by_item (f x) refl (filter_map_short f xs)
   where
-  by_item : (o : Option Y) → f x ≡ o → length (filter_map f xs) ≤ length xs → length (filter_map f (x ∷ xs)) ≤ suc (length xs)
-  by_item None e h = rw e (omega arith)
-  by_item (Some y) e h = rw e (omega arith)
+    by_item : (o : Option Y) → f x ≡ o → length (filter_map f xs) ≤ length xs → length (filter_map f (x ∷ xs)) ≤ suc (length xs)
+    by_item None e h = rw e (omega arith)
+    by_item (Some y) e h = rw e (omega arith)
 
 -- so at most one finish is told by a turn
 pub finished_short : (past : List Happening) → length (finished past) ≤ length past

@@ -42,8 +42,16 @@ candidate p us = if nat_lt (in_use us) p.threads then position is_none us else N
 -- a test as a unit, as it begins in this slot
 abbrev pub first_view : Settings → ℕ → ℕ → PlanTest → UnitView
 first_view p k slot test = record {
-  unit = k; id = test.id; command = test.command; slot = record { global = slot }; run_id = p.plan.run_id; threads = p.threads;
-  phase = StartSent; attempt = 1; start = 0; statuses = []
+  unit = k;
+  id = test.id;
+  command = test.command;
+  slot = record { global = slot };
+  run_id = p.plan.run_id;
+  threads = p.threads;
+  phase = StartSent;
+  attempt = 1;
+  start = 0;
+  statuses = [];
 }
 
 -- the unit that the next admission makes, where a test is admitted

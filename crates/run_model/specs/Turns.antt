@@ -32,10 +32,6 @@ abbrev pub unit_takes : Option UnitView → UnitTurn → Bool
 unit_takes None turn = false
 unit_takes (Some u) turn = takes u.phase turn
 
--- the run goes on: it has begun and is not over
-abbrev pub is_on : List Happening → Bool
-is_on past = has_begun past && not (is_over past)
-
 -- no message waits
 abbrev pub is_empty : List Message → Bool
 is_empty [] = true
@@ -69,7 +65,14 @@ event_at past kind = Test (record { clock = clock past; elapsed = elapsed past; 
 -- a turn that does nothing
 abbrev pub silent : Entry → Happening
 silent e = record {
-  turn = e.turn; refused = e.refused; place = None; sent = None; taken = false; told = None; asked = None; cause = None
+  turn = e.turn;
+  refused = e.refused;
+  place = None;
+  sent = None;
+  taken = false;
+  told = None;
+  asked = None;
+  cause = None;
 }
 
 -- a unit's turn is a row of the unit table
@@ -94,12 +97,12 @@ abbrev pub delivery : Settings → List Happening → Entry → List Message →
 delivery p past e [] = silent e
 delivery p past e (Start k id command slot ∷ _) =
     start_delivery (is_none (reason past))
-        (taken_by (clock past) e k (Answered (is_none (reason past))) (unit_of k past))
-        (event_at past (TestStarted k id command slot (running p past + 1) (stats p past)))
+    (taken_by (clock past) e k (Answered (is_none (reason past))) (unit_of k past))
+    (event_at past (TestStarted k id command slot (running p past + 1) (stats p past)))
 delivery p past e (Finish k id statuses ∷ _) = record (silent e) {
   taken = true;
   told = Some (event_at past (TestFinished k id statuses (running p past - 1)
-    (stats_after p (reason past) (finished past ++ finished_test statuses ∷ []))))
+      (stats_after p (reason past) (finished past ++ finished_test statuses ∷ []))));
 }
 
 -- what a turn of the run's own does

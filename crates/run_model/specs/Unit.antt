@@ -59,13 +59,24 @@ environment u = identity_variables u ++ (place_variables u ++ version_variables)
 -- the start of a test's child that is asked where its attempt is let go
 unfoldable pub start_ask : UnitView → Ask
 start_ask u = AskStart (record {
-  unit = u.unit; attempt = u.attempt; command = u.command; env = environment u; group = true; stdin = false
+  unit = u.unit;
+  attempt = u.attempt;
+  command = u.command;
+  env = environment u;
+  group = true;
+  stdin = false;
 })
 
 -- the status of the current attempt where it ends at this moment with this result
 abbrev pub status_at : ℕ → ExecutionResult → UnitView → ExecuteStatus
 status_at now result u = record {
-  attempt = u.attempt; attempts = attempts u; delay = 0; result = result; slow = false; start = u.start; time = now - u.start
+  attempt = u.attempt;
+  attempts = attempts u;
+  delay = 0;
+  result = result;
+  slow = false;
+  start = u.start;
+  time = now - u.start;
 }
 
 -- a unit whose attempt ends at this moment with this result

@@ -17,6 +17,6 @@ pub enum Fault {
     Read,
     /// Memory was wanting.
     Memory,
-    /// A line of input is too long.
+    /// The input is longer than 16,777,216 bytes.
     TooLong,
 }
