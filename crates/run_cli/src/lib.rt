@@ -12,3 +12,6 @@ mod write;
 pub use run_input::{InputError, LineError, StdSink, StdSource, read_plan_line, read_turn_line};
 pub use run_output::{Fault, LineReporter, ask_line, event_line, fault_line, outcome_line};
 pub use top::{Ran, run};
+
+#[cfg(test)]
+mod tests;

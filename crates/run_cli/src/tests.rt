@@ -1,0 +1,125 @@
+// Whole inputs by the top call, into memory.
+use crate::{Ran, run};
+use run_capture::{Blob, List, Mem, MemorySink, MemorySource};
+use std::alloc::Global;
+
+const PLAN: &str =
+    r#"{"capture":"none","run_id":"00000000-0000-4000-8000-000000000001","tests":[{"binary":"b","command":["true"],"name":"t"}]}"#;
+
+const STARTED: &str = r#"{"turn":"begin"}
+{"turn":"admit"}
+{"turn":"deliver"}
+{"pid":100,"turn":"started","unit":0}"#;
+
+const DECIDED: &str = r#"{"turn":"decide","unit":0,"word":0}
+{"turn":"deliver"}
+{"turn":"end"}"#;
+
+const PASSED: &str = r#"{"code":0,"turn":"exit","unit":0}"#;
+const FAILED: &str = r#"{"code":1,"turn":"exit","unit":0}"#;
+
+// What the program is given: words, an input, and the numbers of the read and the write that fail, 0 for none.
+#[derive(Drop)]
+struct Row<'a> {
+    words: &'a [&'a str],
+    input: &'a [&'a str],
+    failing_read: u64,
+    failing_write: u64,
+}
+
+// An input without failures.
+fn given<'a>(words: &'a [&'a str], input: &'a [&'a str]) -> Row<'a> {
+    Row {
+        words,
+        input,
+        failing_read: 0,
+        failing_write: 0,
+    }
+}
+
+fn words_of(alloc: Global, words: &[&str]) -> Mem<Vec<String>> {
+    let mut all = Vec::new(alloc);
+    for word in words {
+        all.push(String::from_str(alloc, word)?)?;
+    }
+    Ok(all)
+}
+
+fn input_of(alloc: Global, lines: &[&str]) -> Mem<Blob> {
+    let mut input = Blob::new(alloc);
+    for line in lines {
+        input.extend_from_slice(alloc, line.as_bytes())?;
+        input.extend_from_slice(alloc, b"\n")?;
+    }
+    Ok(input)
+}
+
+fn numbers(alloc: Global, number: u64) -> Mem<List<u64>> {
+    let mut numbers = List::new();
+    numbers.push(alloc, number)?;
+    Ok(numbers)
+}
+
+// The status, how many lines were written, and whether the last is this one.
+fn ran(alloc: Global, row: &Row, last: &str) -> Mem<(u8, usize, bool)> {
+    let words = words_of(alloc, row.words)?;
+    let input = input_of(alloc, row.input)?;
+    let mut source = MemorySource::new(input, 1000, numbers(alloc, row.failing_read)?);
+    let sink = MemorySink::new(alloc, 10000, 1000, numbers(alloc, row.failing_write)?)?;
+    let Ran { status, sink } = run(alloc, words.as_slice(), &mut source, sink);
+    let written = sink.bytes();
+    let lines = written.iter().filter(|byte| **byte == b'\n').count();
+    Ok((status, lines, written.ends_with(last.as_bytes())))
+}
+
+#[test]
+fn whole_runs(rt: HostRuntime) {
+    let alloc = rt.alloc();
+    let passed = given(&["replay"], &[PLAN, STARTED, PASSED, DECIDED]);
+    let last = "{\"outcome\":\"success\"}\n";
+    assert_eq!(rt; ran(alloc, &passed, last), Ok((0, 6, true)));
+
+    let failed = given(&["replay"], &[PLAN, STARTED, FAILED, DECIDED]);
+    let last = "{\"outcome\":\"failed\",\"step\":\"test\"}\n";
+    assert_eq!(rt; ran(alloc, &failed, last), Ok((100, 6, true)));
+}
+
+#[test]
+fn refused_words(rt: HostRuntime) {
+    let alloc = rt.alloc();
+    let last = "{\"fault\":\"words\",\"status\":2}\n";
+    let rows: [&[&str]; 3] = [&[], &["play"], &["replay", "x"]];
+    for words in rows {
+        assert_eq!(rt; ran(alloc, &given(words, &[PLAN]), last), Ok((2, 1, true)));
+    }
+}
+
+#[test]
+fn refused_inputs(rt: HostRuntime) {
+    let alloc = rt.alloc();
+    let bad = given(&["replay"], &[PLAN, "{\"turn\":\"jump\"}"]);
+    let last = "{\"fault\":\"line\",\"line\":2,\"status\":3}\n";
+    assert_eq!(rt; ran(alloc, &bad, last), Ok((3, 1, true)));
+
+    let early = given(&["replay"], &[PLAN, STARTED, DECIDED]);
+    let last = "{\"fault\":\"not-enabled\",\"status\":6,\"turn\":4}\n";
+    assert_eq!(rt; ran(alloc, &early, last), Ok((6, 4, true)));
+
+    let unfinished = given(&["replay"], &[PLAN]);
+    let last = "{\"fault\":\"unfinished\",\"status\":8}\n";
+    assert_eq!(rt; ran(alloc, &unfinished, last), Ok((8, 1, true)));
+}
+
+#[test]
+fn failing_streams(rt: HostRuntime) {
+    let alloc = rt.alloc();
+    let mut failing = given(&["replay"], &[PLAN, STARTED, PASSED, DECIDED]);
+    failing.failing_read = 1;
+    let last = "{\"fault\":\"read\",\"status\":10}\n";
+    assert_eq!(rt; ran(alloc, &failing, last), Ok((10, 1, true)));
+
+    failing.failing_read = 0;
+    failing.failing_write = 1;
+    let last = "{\"fault\":\"report\",\"status\":9}\n";
+    assert_eq!(rt; ran(alloc, &failing, last), Ok((9, 5, true)));
+}

@@ -1,0 +1,65 @@
+// The walk over every list of turns.
+use crate::plan::table;
+use crate::views::{defined, executed, stepped};
+use run_capture::{Duplicate, Mem};
+use run_events::Turn;
+use std::alloc::Global;
+
+// Whether the last of these turns is enabled, and none where the engine and the definitions differ.
+fn compared(alloc: Global, turns: &[Turn]) -> Mem<Option<bool>> {
+    let engine = stepped(alloc, turns)?;
+    let definitions = defined(alloc, turns)?;
+    let outcome = if definitions.enabled {
+        definitions.outcome
+    } else {
+        None
+    };
+    let same = engine.is_as(&definitions) && executed(alloc, turns)? == outcome;
+    Ok(same.then_some(definitions.enabled))
+}
+
+fn with_turn(alloc: Global, turns: &[Turn], turn: &Turn) -> Mem<Vec<Turn>> {
+    let mut longer = Vec::new(alloc);
+    for turn in turns {
+        longer.push(turn.copy(alloc)?)?;
+    }
+    longer.push(turn.copy(alloc)?)?;
+    Ok(longer)
+}
+
+// The lists that are one turn longer and enabled, and whether all were alike.
+fn longer(alloc: Global, lists: &[Vec<Turn>]) -> Mem<(Vec<Vec<Turn>>, bool)> {
+    let mut longer = Vec::new(alloc);
+    let mut alike = true;
+    for list in lists {
+        for turn in &table() {
+            let turns = with_turn(alloc, list, turn)?;
+            match compared(alloc, &turns)? {
+                Some(true) => longer.push(turns)?,
+                Some(false) => {}
+                None => alike = false,
+            }
+        }
+    }
+    Ok((longer, alike))
+}
+
+// Of each length up to 9, how many lists of turns are enabled, and whether the engine and the definitions were alike
+// at every list. A list whose turns but the last are enabled stands for all that go on after it.
+fn walk(alloc: Global) -> Mem<([usize; 9], bool)> {
+    let mut counts = [0; 9];
+    let mut alike = true;
+    let mut lists = vec![in alloc; Vec::new(alloc)]?;
+    for count in &mut counts {
+        let (next, same) = longer(alloc, &lists)?;
+        *count = next.len();
+        alike = alike && same;
+        lists = next;
+    }
+    Ok((counts, alike))
+}
+
+#[test]
+fn every_list_of_turns(rt: HostRuntime) {
+    assert_eq!(rt; walk(rt.alloc()), Ok(([1, 1, 1, 1, 3, 6, 6, 6, 0], true)));
+}
