@@ -1,5 +1,6 @@
 -- What a plan line says.
-use Rattle.std.specs.Prelude.{ℕ, ◌==◌, List, [], ◌∷◌, length, Option, Some, None, option_and_then, if◌then◌else◌, nat_eq, codes}
+use Rattle.std.specs.Prelude.{ℕ, ◌==◌, ◌&&◌, not, List, [], ◌∷◌, length, Option, Some, None, option_and_then, if◌then◌else◌, nat_eq, codes}
+use Rattle.std.specs.List.{starts_with}
 use Rattle.serde_json.specs.Data.{Data, Items, no_items, item}
 use Rattle.serde_json.specs.Find.{get, as_str, as_array}
 use Rattle.uuid.specs.Text.{parsed}
@@ -16,9 +17,13 @@ capture_of d = do
   name ← as_str d
   if pointwise nat_eq name (codes "none") then Some capture.None else None
 
--- the UUID that a text writes
+-- the UUID that a text writes; the prefix of the urn form, the one of 45 bytes, is in lower case
+abbrev pub uuid_of : List ℕ → Option (List ℕ)
+uuid_of text = if (length text == 45) && not (starts_with nat_eq text (codes "urn:uuid:")) then None else parsed text
+
+-- the UUID of a run
 abbrev pub run_id_of : Data → Option (List ℕ)
-run_id_of d = option_and_then parsed (as_str d)
+run_id_of d = option_and_then uuid_of (as_str d)
 
 -- a test, with its name and its command
 unfoldable pub test_of : Data → Option PlanTest

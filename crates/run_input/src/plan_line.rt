@@ -2,10 +2,10 @@
 ghost use Rattle.std.specs.Prelude.{◌≡◌, option_map, option_and_then};
 ghost use Rattle.serde_json.specs.Find.{as_str};
 ghost use Rattle.serde_json.specs.View.{view, items_view};
-ghost use Rattle.uuid.specs.Text.{parsed};
 ghost use Rattle.run_input.specs.Reads.{Reads};
 ghost use Rattle.run_input.specs.ValueOf.{value_of};
-ghost use Rattle.run_input.specs.PlanLine.{capture_of, run_id_of, test_of, tests_of, tests_from, plan_of};
+ghost use Rattle.uuid.specs.Text.{parsed};
+ghost use Rattle.run_input.specs.PlanLine.{uuid_of, capture_of, run_id_of, test_of, tests_of, tests_from, plan_of};
 
 use crate::LineError;
 use crate::fields::{str_at, text_at, texts_at};
@@ -55,13 +55,24 @@ fn capture_at(value: Option<&Value>) -> Option<CaptureStrategy>
     }
 }
 
-// The UUID that a text writes.
-fn parse_run_id(text: &str) -> Option<Uuid>
+// The UUID that a text writes in any form that `Uuid` reads.
+fn parse_uuid(text: &str) -> Option<Uuid>
     ensures { result ≡ parsed text.now }
 {
     match Uuid::parse_str(text) {
         Ok(run_id) => Some(run_id),
         Err(_) => None,
+    }
+}
+
+// The UUID that a text writes. `Uuid` reads the prefix of the urn form in either case, and a plan line in lower case alone.
+fn parse_run_id(text: &str) -> Option<Uuid>
+    ensures { result ≡ uuid_of text.now }
+{
+    if text.len() == 45 && !text.as_bytes().starts_with("urn:uuid:".as_bytes()) {
+        None
+    } else {
+        parse_uuid(text)
     }
 }
 

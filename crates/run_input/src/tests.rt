@@ -115,6 +115,7 @@ fn bad_plan_lines(rt: HostRuntime) {
         r#"{"capture":"none","run_id":"00112233-4455-6677-8899-aabbccddeef","tests":[{"binary":"b","name":"n","command":[]}]}"#,
         r#"{"capture":"all","run_id":"00112233-4455-6677-8899-aabbccddeeff","tests":[{"binary":"b","name":"n","command":[]}]}"#,
         r#"{"capture":"none","run_id":"00112233-4455-6677-8899-aabbccddeeff","tests":[{"binary":"b","name":"n","command":[]}],"x":0}"#,
+        r#"{"capture":"none","run_id":"URN:UUID:00112233-4455-6677-8899-aabbccddeeff","tests":[{"binary":"b","name":"n","command":[]}]}"#,
         r#"{"capture":"none","run_id":"00112233-4455-6677-8899-aabbccddeeff","tests":[{"binary":"b","name":"n"}]}"#,
         r#"{"capture":"none","run_id":"00112233-4455-6677-8899-aabbccddeeff","tests":[{"binary":"b","name":"n","command":[1]}]}"#,
         r#"{"capture":"none","run_id":"00112233-4455-6677-8899-aabbccddeeff","tests":[{"binary":"b","name":"n","command":[],"x":0}]}"#,
