@@ -16,6 +16,7 @@ const DECIDED: &str = r#"{"turn":"decide","unit":0,"word":0}
 {"turn":"end"}"#;
 
 const PASSED: &str = r#"{"code":0,"turn":"exit","unit":0}"#;
+
 const FAILED: &str = r#"{"code":1,"turn":"exit","unit":0}"#;
 
 // What the program is given: words, an input, and the numbers of the read and the write that fail, 0 for none.
