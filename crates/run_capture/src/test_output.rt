@@ -1,5 +1,8 @@
 // How a run captures the output of its tests, and what can go wrong at a child's descriptors.
-use crate::{Duplicate, Mem, Text};
+ghost use Rattle.std.specs.Prelude.{◌≡◌};
+ghost use Rattle.run_capture.specs.Output.{uncaptured};
+
+use crate::{Blob, Duplicate, Mem, Text};
 use std::alloc::Global;
 
 /// How the output of tests is captured.
@@ -29,6 +32,54 @@ impl Duplicate for ChildFdError {
             ChildFdError::ReadStderr(text) => Ok(ChildFdError::ReadStderr(text.copy(alloc)?)),
             ChildFdError::ReadCombined(text) => Ok(ChildFdError::ReadCombined(text.copy(alloc)?)),
             ChildFdError::Wait(text) => Ok(ChildFdError::Wait(text.copy(alloc)?)),
+        }
+    }
+}
+
+/// What a child wrote to its two streams, each where it was captured.
+#[derive(Drop)]
+pub struct ChildSplitOutput {
+    pub stdout: Option<Blob>,
+    pub stderr: Option<Blob>,
+}
+
+impl Duplicate for ChildSplitOutput {
+    fn copy(&self, alloc: Global) -> Mem<ChildSplitOutput> {
+        Ok(ChildSplitOutput {
+            stdout: self.stdout.copy(alloc)?,
+            stderr: self.stderr.copy(alloc)?,
+        })
+    }
+}
+
+/// What a child wrote.
+#[derive(Drop)]
+pub enum ChildOutput {
+    /// Each stream by itself.
+    Split(ChildSplitOutput),
+    /// Both streams in one.
+    Combined { output: Blob },
+}
+
+impl ChildOutput {
+    /// The output of a child of which no stream is captured. Takes no memory.
+    pub fn uncaptured() -> ChildOutput
+        ensures { result ≡ uncaptured }
+    {
+        ChildOutput::Split(ChildSplitOutput {
+            stdout: None,
+            stderr: None,
+        })
+    }
+}
+
+impl Duplicate for ChildOutput {
+    fn copy(&self, alloc: Global) -> Mem<ChildOutput> {
+        match self {
+            ChildOutput::Split(split) => Ok(ChildOutput::Split(split.copy(alloc)?)),
+            ChildOutput::Combined { output } => Ok(ChildOutput::Combined {
+                output: output.copy(alloc)?,
+            }),
         }
     }
 }

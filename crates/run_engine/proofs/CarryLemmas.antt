@@ -71,26 +71,26 @@ runnable_next p journal turn refused r room en answered = record {
 -- a turn is taken as the tables say, from what its parts did
 pub takes_from : {R E C : Type 0} (tells : R → List (ReporterEvent × Option E) → Type 0) (asks : C → List (ℕ × Ask) → Type 0)
     (p : Settings) (journal after : List Entry) (s : State) (turn : Turn) (report report_after : R) (children children_after : C)
-    (refused : List Bool) (told : Option ReporterEvent) (asked : Option Ask) (refusal : Option E)
+    (refused : List Bool) (told : List ReporterEvent) (asked : Option Ask) (refusal : Option E)
     → IsRunnable p journal → Stands p (past_of p journal) s → enabled p (past_of p journal) turn ≡ true
-    → ((e : Entry) → told ≡ (turn_does p s e turn (turn_of_unit turn)).told)
+    → ((e : Entry) → told ≡ option_to_list (turn_does p s e turn (turn_of_unit turn)).told)
     → ((e : Entry) → asked ≡ (turn_does p s e turn (turn_of_unit turn)).asked)
-    → length refused ≡ length (option_to_list told)
-    → TellsEvents tells report report_after (zip (option_to_list told) refused) refusal
+    → length refused ≡ length told
+    → TellsEvents tells report report_after (zip told refused) refusal
     → Adds asks children children_after (map (λ ask. (length journal, ask)) (option_to_list asked))
     → after ≡ journal ++ entry_of turn refused ∷ []
     → TakesTurn tells asks (sound p journal) turn report children (sound p after) report_after children_after refusal
 takes_from tells asks p journal after s turn report report_after children children_after refused told asked refusal r st en told_is asked_is answered tell ask grown =
     let same = does p journal s turn refused r st in
-    let told_as : told ≡ (happening p (past_of p journal) (entry_of turn refused)).told =
-    told_is (entry_of turn refused) ∙ ap (λ (x : Happening). x.told) same in
+    let told_as : told ≡ option_to_list (happening p (past_of p journal) (entry_of turn refused)).told =
+    told_is (entry_of turn refused) ∙ ap (λ (x : Happening). option_to_list x.told) same in
     let asked_as : asked ≡ (happening p (past_of p journal) (entry_of turn refused)).asked =
     asked_is (entry_of turn refused) ∙ ap (λ (x : Happening). x.asked) same in
     record {
       is_enabled = en;
       refused = refused;
-      answered = answered ∙ ap (λ o. length (option_to_list o)) told_as;
+      answered = answered ∙ ap length told_as;
       grown = ap (sound p) grown;
-      told = subst (λ o. TellsEvents tells report report_after (zip (option_to_list o) refused) refusal) told_as tell;
+      told = subst (λ es. TellsEvents tells report report_after (zip es refused) refusal) told_as tell;
       asked = subst (λ o. Adds asks children children_after (map (λ ask. (length journal, ask)) (option_to_list o))) asked_as ask;
     }

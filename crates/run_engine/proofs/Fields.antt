@@ -1,23 +1,25 @@
 -- A state that stands for a history stands for the longer one after a turn: field by field.
-use Rattle.std.proofs.Common.{◌≡◌, ◌≢◌, ℕ, ◌+◌, ◌<◌, ◌≤◌, ◌==◌, ◌||◌, List, [], ◌∷◌, ◌++◌, length, drop, get_or, set, Bool, true, false, if◌then◌else◌, Option, Some, None, option_map, option_to_list, filter_map, refl, ap, sym, ◌∙◌, arith, get_or-set_other}
+use Rattle.std.proofs.Common.{◌≡◌, ◌≢◌, ℕ, add-zero, ◌+◌, ◌<◌, ◌≤◌, ◌==◌, ◌||◌, List, [], ◌∷◌, ◌++◌, length, drop, get_or, set, Bool, true, false, if◌then◌else◌, Option, Some, None, option_map, option_to_list, filter_map, count_by, sum_by, cond, refl, ap, sym, ◌∙◌, arith, get_or-set_other}
 use Rattle.std.proofs.Math.ListN.{length-set}
 use Rattle.std.proofs.lemmas.List.{append-nil}
 use Rattle.std.proofs.lemmas.List.Elements.{filter_map-append}
 use Rattle.std.proofs.lemmas.List.FromFn.{fill_by_all, length-map-range_with_len}
 use Rattle.std.proofs.lemmas.Grind.{get_or-set_at}
+use Rattle.std.proofs.lemmas.List.Sums.{sum_by-append}
+use Rattle.run_events.specs.Stats.{FinishedTest, adds_of, plus, total_by}
 use Rattle.run_events.proofs.StatsLemmas.{total_push}
 use Rattle.run_events.specs.declared.settings.Settings.{Settings}
 use Rattle.run_events.specs.declared.cancel.CancelReason.{CancelReason}
 use Rattle.run_events.specs.declared.events.ReporterEvent.{ReporterEvent}
 use Rattle.run_events.specs.declared.events.ReporterEvent.TheVariants.{Test}
 use Rattle.run_events.specs.declared.events.TestEventKind.{TestEventKind}
-use Rattle.run_events.specs.declared.events.TestEventKind.TheVariants.{RunStarted, TestStarted, TestFinished, RunFinished}
+use Rattle.run_events.specs.declared.events.TestEventKind.TheVariants.{RunStarted, TestStarted, TestAttemptFailedWillRetry, TestRetryStarted, TestFinished, TestSkipped, RunFinished}
 use Rattle.run_model.specs.declared.happening.Happening.{Happening}
 use Rattle.run_model.specs.declared.happening.Place.{Place}
 use Rattle.run_model.specs.declared.happening.Place.TheVariants.{Admitted, Took}
 use Rattle.run_model.specs.declared.unit_view.UnitView.{UnitView}
 use Rattle.run_model.specs.Unit.{row}
-use Rattle.run_model.specs.Words.{clock, ns_of, is_begin, is_end, greater, told, sent, delivered, reason, placed, unit_of, units, tests_in, finish_of, finished, finished_test, stats_after, stats, running}
+use Rattle.run_model.specs.Words.{clock, ns_of, is_begin, is_end, greater, told, sent, delivered, reason, placed, unit_of, units, tests_in, finish_of, finished, finished_test, skips, skipped, stats_after, stats, running}
 use Rattle.run_laws.proofs.Queue.{queue-cons}
 use Rattle.run_laws.proofs.Kept.{units-at}
 use Rattle.run_laws.proofs.Running.{running_in_told, running-started, running-finished, running-kept}
@@ -71,6 +73,9 @@ running_one n clock elapsed (TestStarted i id command slot running stats) past f
 running_one n clock elapsed (TestFinished i id statuses running stats) past fits =
     let less = running-finished n i (told past) (Test (record { clock = clock; elapsed = elapsed; kind = TestFinished i id statuses running stats }))
     fits.0 fits.1 (λ k. refl) (λ k. refl) in omega arith
+running_one n clock elapsed (TestAttemptFailedWillRetry i id status delay running) past fits = running-kept n (told past) _ (λ k. refl) (λ k. refl)
+running_one n clock elapsed (TestRetryStarted i id command slot attempt attempts running) past fits = running-kept n (told past) _ (λ k. refl) (λ k. refl)
+running_one n clock elapsed (TestSkipped i id reason) past fits = running-kept n (told past) _ (λ k. refl) (λ k. refl)
 running_one n clock elapsed (RunFinished stats) past fits = running-kept n (told past) _ (λ k. refl) (λ k. refl)
 
 pub running-cons : (n : ℕ) (o : Option ReporterEvent) (past : List Happening) → ToldFits n past o
@@ -78,20 +83,46 @@ pub running-cons : (n : ℕ) (o : Option ReporterEvent) (past : List Happening) 
 running-cons n None past fits = ap (running_in_told n) (append-nil (told past))
 running-cons n (Some (Test event)) past fits = running_one n event.clock event.elapsed event.kind past fits
 
--- the statistics after one more event
-counted_one : (p : Settings) (why : Option CancelReason) (clock elapsed : ℕ) (kind : TestEventKind) (events : List ReporterEvent)
-    → stats_after p why (filter_map finish_of events ++ filter_map finish_of (Test (record { clock = clock; elapsed = elapsed; kind = kind }) ∷ []))
-    ≡ counted_in kind (stats_after p why (filter_map finish_of events))
-counted_one p why clock elapsed (RunStarted id tests) events = ap (stats_after p why) (append-nil _)
-counted_one p why clock elapsed (TestStarted i id command slot running stats) events = ap (stats_after p why) (append-nil _)
-counted_one p why clock elapsed (TestFinished i id statuses running stats) events = total_push _ (filter_map finish_of events) (finished_test statuses)
-counted_one p why clock elapsed (RunFinished stats) events = ap (stats_after p why) (append-nil _)
+-- one skip more is counted
+one_skip_more : (p : Settings) (why : Option CancelReason) (n : ℕ) (fs : List FinishedTest)
+    → stats_after p why (n + 1) fs ≡ record (stats_after p why n fs) { skipped = (stats_after p why n fs).skipped + 1 }
+unfolding total_by
+one_skip_more p why n fs =
+    ap (λ m. record (stats_after p why n fs) { skipped = m })
+    (let more : n + 1 + sum_by (λ f. (adds_of f).skipped) fs ≡ n + sum_by (λ f. (adds_of f).skipped) fs + 1 = omega arith in more)
 
+-- an event that tells neither a skip nor a finish leaves the statistics
+none_more : (p : Settings) (why : Option CancelReason) (n : ℕ) (fs : List FinishedTest) → stats_after p why (n + 0) (fs ++ []) ≡ stats_after p why n fs
+none_more p why n fs = ap (λ m. stats_after p why m (fs ++ [])) (add-zero n) ∙ ap (stats_after p why n) (append-nil fs)
+
+-- one finish more adds what it adds
+one_finish_more : (p : Settings) (why : Option CancelReason) (n : ℕ) (fs : List FinishedTest) (f : FinishedTest)
+    → stats_after p why (n + 0) (fs ++ f ∷ []) ≡ plus (stats_after p why n fs) (adds_of f)
+one_finish_more p why n fs f = ap (λ m. stats_after p why m (fs ++ f ∷ [])) (add-zero n) ∙ total_push _ fs f
+
+-- the statistics after one more event
+finished_one : (p : Settings) (why : Option CancelReason) (n : ℕ) (clock elapsed : ℕ) (kind : TestEventKind) (fs : List FinishedTest)
+    → stats_after p why (n + count_by skips (Test (record { clock = clock; elapsed = elapsed; kind = kind }) ∷ []))
+    (fs ++ filter_map finish_of (Test (record { clock = clock; elapsed = elapsed; kind = kind }) ∷ []))
+    ≡ counted_in kind (stats_after p why n fs)
+finished_one p why n clock elapsed (RunStarted id tests) fs = none_more p why n fs
+finished_one p why n clock elapsed (TestStarted i id command slot running stats) fs = none_more p why n fs
+finished_one p why n clock elapsed (TestAttemptFailedWillRetry i id status delay running) fs = none_more p why n fs
+finished_one p why n clock elapsed (TestRetryStarted i id command slot attempt attempts running) fs = none_more p why n fs
+finished_one p why n clock elapsed (TestFinished i id statuses running stats) fs = one_finish_more p why n fs (finished_test statuses)
+finished_one p why n clock elapsed (TestSkipped i id reason) fs =
+    ap (stats_after p why (n + 1)) (append-nil fs) ∙ one_skip_more p why n fs
+finished_one p why n clock elapsed (RunFinished stats) fs = none_more p why n fs
+
+-- the statistics after one more event
 pub counted-cons : (p : Settings) (why : Option CancelReason) (o : Option ReporterEvent) (events : List ReporterEvent)
-    → stats_after p why (filter_map finish_of (events ++ option_to_list o)) ≡ counted_after o (stats_after p why (filter_map finish_of events))
-counted-cons p why None events = ap (λ es. stats_after p why (filter_map finish_of es)) (append-nil events)
+    → stats_after p why (count_by skips (events ++ option_to_list o)) (filter_map finish_of (events ++ option_to_list o))
+    ≡ counted_after o (stats_after p why (count_by skips events) (filter_map finish_of events))
+counted-cons p why None events = ap (λ es. stats_after p why (count_by skips es) (filter_map finish_of es)) (append-nil events)
 counted-cons p why (Some (Test event)) events =
-    ap (stats_after p why) (filter_map-append finish_of events _) ∙ counted_one p why event.clock event.elapsed event.kind events
+    ap (λ n. stats_after p why n (filter_map finish_of (events ++ Test event ∷ []))) (sum_by-append (λ x. cond (skips x) 1 0) events (Test event ∷ []))
+    ∙ ap (stats_after p why (count_by skips events + count_by skips (Test event ∷ []))) (filter_map-append finish_of events _)
+    ∙ finished_one p why (count_by skips events) event.clock event.elapsed event.kind (filter_map finish_of events)
 
 -- the state after a turn stands for the longer history
 pub stands-after : (p : Settings) (past : List Happening) (old new : State) (x : Happening)
@@ -102,10 +133,12 @@ stands-after p past old new x s after fits tells no_cause = record {
   units = after.units ∙ ap (λ now. placed_in now x.place old.units.items) s.clock
       ∙ ap (placed_in (clock past) x.place) s.units ∙ units-cons p x past;
   queue = after.queue ∙ ap (λ q. drop (if x.taken then 1 else 0) q ++ option_to_list x.sent) s.queue ∙ sym (queue-cons x past fits);
+  run_id = after.run_id ∙ s.run_id;
+  tests = after.tests ∙ s.tests;
   begun = after.begun ∙ ap (λ b. is_begin x.turn || b) s.begun;
   over = after.over ∙ ap (λ b. is_end x.turn || b) s.over;
   running = after.running ∙ ap (running_after x.told) s.running ∙ sym (running-cons (tests_in p) x.told past tells);
   stats = after.stats ∙ ap (counted_after x.told) s.stats ∙ sym (counted-cons p (reason past) x.told (told past))
-      ∙ ap (λ why. stats_after p why (finished (x ∷ past))) (sym (ap (greater (reason past)) no_cause ∙ greater-None (reason past)));
+      ∙ ap (λ why. stats_after p why (skipped (x ∷ past)) (finished (x ∷ past))) (sym (ap (greater (reason past)) no_cause ∙ greater-None (reason past)));
   clock = after.clock ∙ ap (λ n. n + ns_of x.turn) s.clock;
 }

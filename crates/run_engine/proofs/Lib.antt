@@ -1,5 +1,3 @@
-pub mod SlotLemmas
-pub mod AdmitLemmas
 pub mod Fields
 pub mod Same
 pub mod Ready
@@ -8,3 +6,5 @@ pub mod JournalLemmas
 pub mod CarryLemmas
 pub mod StartLemmas
 pub mod TakesLemmas
+pub mod TellLemmas
+pub mod DeliveryLemmas

@@ -9,11 +9,11 @@ use Rattle.run_events.specs.declared.stats.RunStats.{RunStats}
 use Rattle.run_events.specs.declared.plan.TestInstanceId.{TestInstanceId}
 use Rattle.run_events.specs.declared.plan.TestSlotAssignment.{TestSlotAssignment}
 use Rattle.run_events.specs.declared.turn.Turn.{Turn}
-use Rattle.run_events.specs.declared.turn.Turn.TheVariants.{Begin, Admit, Deliver, Started, Exit, Decide, End}
+use Rattle.run_events.specs.declared.turn.Turn.TheVariants.{Begin, Admit, Deliver, Started, StartFailed, Exit, WaitFailed, Decide, End}
 use Rattle.run_events.specs.declared.message.Message.{Message}
-use Rattle.run_events.specs.declared.message.Message.TheVariants.{Start, Finish}
+use Rattle.run_events.specs.declared.message.Message.TheVariants.{Start, Skip, Finish}
 use Rattle.run_events.specs.declared.events.ReporterEvent.{ReporterEvent}
-use Rattle.run_events.specs.declared.events.TestEventKind.TheVariants.{RunStarted, TestStarted, TestFinished, RunFinished}
+use Rattle.run_events.specs.declared.events.TestEventKind.TheVariants.{RunStarted, TestStarted, TestAttemptFailedWillRetry, TestRetryStarted, TestFinished, TestSkipped, RunFinished}
 use Rattle.run_model.specs.declared.entry.Entry.{Entry}
 use Rattle.run_model.specs.declared.happening.Happening.{Happening}
 use Rattle.run_model.specs.declared.unit_turn.UnitTurn.{UnitTurn}
@@ -25,7 +25,7 @@ use Rattle.run_model.specs.Turns.{silent, taken_by, admission, start_delivery, d
 use Rattle.run_laws.specs.Holds.{Holds}
 use Rattle.run_laws.proofs.Kept.{units-at}
 use Rattle.run_engine.specs.State.{Stands}
-use Rattle.run_engine.specs.Dispatcher.{event}
+use Rattle.run_dispatch.specs.Dispatch.{event}
 use Rattle.run_engine.specs.Advance.{unit_in, delivery_of, run_turn_of, turn_does}
 use Rattle.run_engine.specs.declared.state.State.{State}
 
@@ -75,6 +75,8 @@ delivery-is p past s e (Start k id command slot ∷ rest) h st =
     ∙ ap (λ n. start_from e k id command slot (clock past) (is_none (reason past)) (unit_of k past) n s.dispatcher.stats) st.running
     ∙ ap (λ t. start_from e k id command slot (clock past) (is_none (reason past)) (unit_of k past) (running p past) t) st.stats
     ∙ start_same (clock past) e k (is_none (reason past)) (unit_of k past) _
+delivery-is p past s e (Skip k id why ∷ rest) h st =
+    ap (λ now. record (silent e) { taken = true; told = Some (event now (TestSkipped k id why)) }) st.clock
 delivery-is p past s e (Finish k id statuses ∷ rest) h st =
     ap (λ now. told (event now (TestFinished k id statuses (s.dispatcher.running - 1) (plus s.dispatcher.stats (adds_of (finished_test statuses)))))) st.clock
     ∙ ap (λ n. told (event (clock past) (TestFinished k id statuses (n - 1) (plus s.dispatcher.stats (adds_of (finished_test statuses)))))) st.running
@@ -87,11 +89,16 @@ delivery-is p past s e (Finish k id statuses ∷ rest) h st =
 -- a turn of the run's own
 run_turn-is : (p : Settings) (past : List Happening) (s : State) (e : Entry) (turn : Turn) → Holds p past → Stands p past s
     → run_turn_of p s e turn ≡ run_turn p past e turn
-run_turn-is p past s e Begin h st = ap (λ now. record (silent e) { told = Some (event now (RunStarted p.plan.run_id (tests_in p))) }) st.clock
+run_turn-is p past s e Begin h st =
+    ap (λ now. record (silent e) { told = Some (event now (RunStarted s.dispatcher.run_id s.dispatcher.tests)) }) st.clock
+    ∙ ap (λ id. record (silent e) { told = Some (event (clock past) (RunStarted id s.dispatcher.tests)) }) st.run_id
+    ∙ ap (λ n. record (silent e) { told = Some (event (clock past) (RunStarted p.plan.run_id n)) }) st.tests
 run_turn-is p past s e Admit h st = ap (λ us. admission e (newcomer p us)) st.units
 run_turn-is p past s e Deliver h st = ap (delivery_of s e) st.queue ∙ delivery-is p past s e (queue past) h st
 run_turn-is p past s e (Started unit pid) h st = refl
+run_turn-is p past s e (StartFailed unit error) h st = refl
 run_turn-is p past s e (Exit unit exit) h st = refl
+run_turn-is p past s e (WaitFailed unit error) h st = refl
 run_turn-is p past s e (Decide unit word) h st = refl
 run_turn-is p past s e End h st =
     ap (λ now. record (silent e) { told = Some (event now (RunFinished s.dispatcher.stats)) }) st.clock

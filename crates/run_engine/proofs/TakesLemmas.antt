@@ -4,9 +4,9 @@ use Rattle.std.proofs.lemmas.List.{append-nil, map-append, take_more}
 use Rattle.run_events.specs.Tell.{Adds}
 use Rattle.run_events.specs.declared.settings.Settings.{Settings}
 use Rattle.run_events.specs.declared.turn.Turn.{Turn}
-use Rattle.run_events.specs.declared.turn.Turn.TheVariants.{Begin, Admit, Deliver, Started, Exit, Decide, End}
+use Rattle.run_events.specs.declared.turn.Turn.TheVariants.{Begin, Admit, Deliver, Started, StartFailed, Exit, WaitFailed, Decide, End}
 use Rattle.run_events.specs.declared.message.Message.{Message}
-use Rattle.run_events.specs.declared.message.Message.TheVariants.{Start, Finish}
+use Rattle.run_events.specs.declared.message.Message.TheVariants.{Start, Skip, Finish}
 use Rattle.run_events.specs.declared.ask.Ask.{Ask}
 use Rattle.run_events.specs.declared.events.ReporterEvent.{ReporterEvent}
 use Rattle.run_model.specs.declared.entry.Entry.{Entry}
@@ -14,7 +14,7 @@ use Rattle.run_model.specs.declared.happening.Happening.{Happening}
 use Rattle.run_model.specs.declared.unit_turn.UnitTurn.{UnitTurn}
 use Rattle.run_model.specs.declared.unit_view.UnitView.{UnitView}
 use Rattle.run_model.specs.Words.{answers, asked, clock, queue, unit_of, units, tests_in}
-use Rattle.run_model.specs.Admission.{newcomer}
+use Rattle.run_model.specs.Admission.{Newcomer, newcomer}
 use Rattle.run_model.specs.Turns.{turn_of_unit, taken_by, admission, start_delivery, delivery, happened, happening}
 use Rattle.run_model.specs.Journal.{past_of}
 use Rattle.run_engine.specs.World.{World, flagged, earlier, first_error, TellsEvents, CountsErrors, TakesTurn, entry_of}
@@ -27,9 +27,9 @@ taken_refused : (now : ℕ) (e : Entry) (k : ℕ) (turn : UnitTurn) (v : Option 
 taken_refused now e k turn None = refl
 taken_refused now e k turn (Some u) = refl
 
-admission_refused : (e : Entry) (v : Option UnitView) → (admission e v).refused ≡ e.refused
+admission_refused : (e : Entry) (v : Option Newcomer) → (admission e v).refused ≡ e.refused
 admission_refused e None = refl
-admission_refused e (Some u) = refl
+admission_refused e (Some new) = refl
 
 start_refused : (go : Bool) (x : Happening) (event : ReporterEvent) → (start_delivery go x event).refused ≡ x.refused
 start_refused true x event = refl
@@ -38,6 +38,7 @@ start_refused false x event = refl
 delivery_refused : (p : Settings) (past : List Happening) (e : Entry) (q : List Message) → (delivery p past e q).refused ≡ e.refused
 delivery_refused p past e [] = refl
 delivery_refused p past e (Start k id command slot ∷ rest) = start_refused _ _ _ ∙ taken_refused (clock past) e k _ (unit_of k past)
+delivery_refused p past e (Skip k id why ∷ rest) = refl
 delivery_refused p past e (Finish k id statuses ∷ rest) = refl
 
 pub happened_refused : (p : Settings) (past : List Happening) (e : Entry) (turn : Turn) → (happened p past e turn (turn_of_unit turn)).refused ≡ e.refused
@@ -45,6 +46,8 @@ happened_refused p past e Begin = refl
 happened_refused p past e Admit = admission_refused e (newcomer p (units p past))
 happened_refused p past e Deliver = delivery_refused p past e (queue past)
 happened_refused p past e (Started unit pid) = taken_refused (clock past) e unit _ (unit_of unit past)
+happened_refused p past e (StartFailed unit error) = taken_refused (clock past) e unit _ (unit_of unit past)
+happened_refused p past e (WaitFailed unit error) = taken_refused (clock past) e unit _ (unit_of unit past)
 happened_refused p past e (Exit unit exit) = taken_refused (clock past) e unit _ (unit_of unit past)
 happened_refused p past e (Decide unit word) = taken_refused (clock past) e unit _ (unit_of unit past)
 happened_refused p past e End = refl
@@ -74,7 +77,7 @@ first_error-append [] ys = refl
 first_error-append (x ∷ xs) ys = ap (earlier x.1) (first_error-append xs ys) ∙ sym (earlier-assoc x.1 (first_error xs) (first_error ys))
 
 -- what was told, and then more
-tells_both : {R E : Type 0} (tells : R → List (ReporterEvent × Option E) → Type 0) (a b c : R) (es fs : List (ReporterEvent × Bool)) (first later : Option E)
+pub tells_both : {R E : Type 0} (tells : R → List (ReporterEvent × Option E) → Type 0) (a b c : R) (es fs : List (ReporterEvent × Bool)) (first later : Option E)
     → TellsEvents tells a b es first → TellsEvents tells b c fs later → TellsEvents tells a c (es ++ fs) (earlier first later)
 tells_both tells a b c es fs first later f g xs t =
     let one = f xs t in
@@ -90,7 +93,7 @@ adds_both : {S X : Type 0} (holds : S → List X → Type 0) (a b c : S) (xs ys 
 adds_both holds a b c xs ys f g zs t = subst (holds c) (append_assoc zs xs ys) (g (zs ++ xs) (f zs t))
 
 -- a count that rose or stayed, and then rose or stayed
-counts_both : {E : Type 0} (a b c : ℕ) (first later : Option E) → CountsErrors a b first → CountsErrors b c later → CountsErrors a c (earlier first later)
+pub counts_both : {E : Type 0} (a b c : ℕ) (first later : Option E) → CountsErrors a b first → CountsErrors b c later → CountsErrors a c (earlier first later)
 counts_both a b c None later f g = subst (λ n. CountsErrors n c later) f g
 counts_both a b c (Some e) None f g = (omega arith, omega arith)
 counts_both a b c (Some e) (Some d) f g = (omega arith, omega arith)
@@ -129,11 +132,11 @@ takes-more tells asks p journal a b c d e f m n o first later turn new so_far st
     })
 
 -- the turns of a journal with one more entry
-pub turns-push : (journal : List Entry) (turns : List Turn) (place : ℕ) (turn : Turn) (refused : List Bool) → place < length turns
-    → turns_of journal ≡ take place turns → turn ≡ get_or turns place Begin
+pub turns-push : (journal : List Entry) (turns : List Turn) (place : ℕ) (turn d : Turn) (refused : List Bool) → place < length turns
+    → turns_of journal ≡ take place turns → turn ≡ get_or turns place d
     → turns_of (journal ++ entry_of turn refused ∷ []) ≡ take (place + 1) turns
-turns-push journal turns place turn refused inside so_far is =
+turns-push journal turns place turn d refused inside so_far is =
     map-append (λ (e : Entry). e.turn) journal (entry_of turn refused ∷ [])
     ∙ ap (λ ts. ts ++ turn ∷ []) so_far
     ∙ ap (λ t. take place turns ++ t ∷ []) is
-    ∙ sym (take_more turns place Begin inside)
+    ∙ sym (take_more turns place d inside)

@@ -1,4 +1,3 @@
-pub mod Dispatcher
 pub mod State
 pub mod Advance
 pub mod World

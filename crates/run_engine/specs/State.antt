@@ -6,19 +6,21 @@ use Rattle.run_events.specs.declared.stats.RunStats.{RunStats}
 use Rattle.run_events.specs.declared.events.ReporterEvent.{ReporterEvent}
 use Rattle.run_events.specs.declared.events.ReporterEvent.TheVariants.{Test}
 use Rattle.run_events.specs.declared.events.TestEventKind.{TestEventKind}
-use Rattle.run_events.specs.declared.events.TestEventKind.TheVariants.{TestStarted, TestFinished}
+use Rattle.run_events.specs.declared.events.TestEventKind.TheVariants.{TestStarted, TestFinished, TestSkipped}
 use Rattle.run_model.specs.declared.happening.Happening.{Happening}
 use Rattle.run_model.specs.declared.happening.Place.{Place}
 use Rattle.run_model.specs.declared.happening.Place.TheVariants.{Admitted, Took}
 use Rattle.run_model.specs.declared.unit_view.UnitView.{UnitView}
 use Rattle.run_model.specs.Unit.{row}
-use Rattle.run_model.specs.Words.{clock, ns_of, is_begin, is_end, has_begun, is_over, queue, units, finished_test, stats, running}
+use Rattle.run_model.specs.Words.{clock, ns_of, is_begin, is_end, has_begun, is_over, queue, units, tests_in, finished_test, stats, running}
 use Rattle.run_engine.specs.declared.state.State.{State}
 
 -- the state stands for a history: each of its fields is a word over it
 pub record Stands (p : Settings) (past : List Happening) (s : State) : Type 0 where
   pub units : s.units.items ≡ units p past
   pub queue : s.queue.items ≡ queue past
+  pub run_id : s.dispatcher.run_id ≡ p.plan.run_id
+  pub tests : s.dispatcher.tests ≡ tests_in p
   pub begun : s.dispatcher.begun ≡ has_begun past
   pub over : s.dispatcher.over ≡ is_over past
   pub running : s.dispatcher.running ≡ running p past
@@ -44,6 +46,7 @@ running_after (Some (Test event)) n = running_in event.kind n
 -- the statistics after an event was told
 abbrev pub counted_in : TestEventKind → RunStats → RunStats
 counted_in (TestFinished unit id statuses running stats) s = plus s (adds_of (finished_test statuses))
+counted_in (TestSkipped unit id reason) s = record s { skipped = s.skipped + 1 }
 counted_in _ s = s
 
 abbrev pub counted_after : Option ReporterEvent → RunStats → RunStats
@@ -54,6 +57,8 @@ counted_after (Some (Test event)) s = counted_in event.kind s
 pub record IsAfter (old : State) (x : Happening) (new : State) : Type 0 where
   pub units : new.units.items ≡ placed_in old.clock x.place old.units.items
   pub queue : new.queue.items ≡ drop (if x.taken then 1 else 0) old.queue.items ++ option_to_list x.sent
+  pub run_id : new.dispatcher.run_id ≡ old.dispatcher.run_id
+  pub tests : new.dispatcher.tests ≡ old.dispatcher.tests
   pub begun : new.dispatcher.begun ≡ (is_begin x.turn || old.dispatcher.begun)
   pub over : new.dispatcher.over ≡ (is_end x.turn || old.dispatcher.over)
   pub running : new.dispatcher.running ≡ running_after x.told old.dispatcher.running

@@ -1,11 +1,14 @@
 // The admission rule, by plain scans over all units.
-ghost use Rattle.std.specs.Prelude.{◌≡◌, ◌+◌, ◌<◌, ◌≤◌, ◌^◌, length, not, IfSome, Option, Some, option_map, is_none, position};
+ghost use Rattle.std.specs.Prelude.{◌≡◌, ◌<◌, ◌≤◌, ◌^◌, length, IfOk, Some, option_map, is_some, slice_get, nat_lt, true};
 ghost use Rattle.std.specs.List.{list_all, list_any};
-ghost use Rattle.run_model.specs.Admission.{is_done, is_in_use, in_use, holds_slot, free_slot, candidate, is_last};
+ghost use Rattle.run_events.specs.declared.message.Message.TheVariants.{Start, Skip};
+ghost use Rattle.run_model.specs.Admission.{is_done, is_in_use, in_use, holds_slot, free_slot, candidate, newcomer, first_view, skipped_view};
 
-use run_events::Settings;
+use run_capture::{Mem, Text};
+use run_events::{Message, Settings, TestSlotAssignment};
 use run_model::Phase;
 use run_unit::Unit;
+use std::alloc::Global;
 
 fn unit_is_done(unit: &Option<Unit>) -> bool
     ensures { result ≡ is_done unit.now }
@@ -59,8 +62,8 @@ fn is_slot_held(slot: usize, units: &[Option<Unit>]) -> bool
     units.iter().any(|unit| unit_holds_slot(slot, unit))
 }
 
-/// The slot of the next test: the least number from 0 that no test in use holds.
-pub fn least_free_slot(units: &[Option<Unit>]) -> usize
+// The slot of the next test: the least number from 0 that no test in use holds.
+fn least_free_slot(units: &[Option<Unit>]) -> usize
     ensures slot { result ≡ free_slot units.now }
     ensures within { result ≤ length units.now }
 {
@@ -72,19 +75,88 @@ pub fn least_free_slot(units: &[Option<Unit>]) -> usize
     units.len()
 }
 
-fn first_waiting(units: &[Option<Unit>]) -> Option<usize>
-    ensures { result ≡ position is_none units.now }
+/// The candidate: the first test that wasn't admitted.
+pub fn first_waiting(units: &[Option<Unit>]) -> Option<usize>
+    ensures { result ≡ candidate units.now }
 {
     units.iter().position(|unit| unit.is_none())
 }
 
-/// The candidate: the first test that wasn't admitted, where one more test may be in use.
-pub fn next_test(settings: &Settings, units: &[Option<Unit>]) -> Option<usize>
-    ensures { result ≡ candidate settings.now units.now }
+// Whether one more test may be in use.
+fn has_room(settings: &Settings, units: &[Option<Unit>]) -> bool
+    ensures { result ≡ nat_lt (in_use units.now) settings.now.threads }
 {
-    if count_in_use(units) < settings.threads as usize {
-        first_waiting(units)
-    } else {
-        None
+    count_in_use(units) < settings.threads as usize
+}
+
+/// Whether the candidate can be admitted: it is skipped, or one more test may be in use.
+pub fn can_admit(settings: &Settings, units: &[Option<Unit>]) -> bool
+    ensures { result ≡ is_some (newcomer settings.now units.now) }
+{
+    let Some(test) = first_waiting(units) else {
+        return false;
+    };
+    match settings.plan.tests.as_slice().get(test) {
+        Some(planned) => planned.skip.is_some() || has_room(settings, units),
+        None => false,
+    }
+}
+
+/// What an admission makes: a unit, and the message that it sends.
+#[derive(Drop)]
+pub struct Admitted {
+    pub unit: Unit,
+    pub sent: Message,
+}
+
+// A test that doesn't match, as it is skipped for this reason.
+fn skip_test(alloc: Global, settings: &Settings, test: u32, reason: &Text) -> Mem<Admitted>
+    requires { test < length settings.now.plan.tests }
+    ensures unit { IfOk result (λ a. option_map (skipped_view settings.now test) (slice_get settings.now.plan.tests test) ≡ Some a.unit) }
+    ensures sent { IfOk result (λ a. a.sent ≡ Skip test a.unit.id reason.now) }
+{
+    let unit = Unit::skipped(alloc, settings, test)?;
+    let sent = unit.skip_message(alloc, reason)?;
+    Ok(Admitted { unit, sent })
+}
+
+// A test that matches, as it starts in the least free slot.
+fn start_test(
+    alloc: Global,
+    settings: &Settings,
+    units: &[Option<Unit>],
+    test: u32,
+) -> Mem<Admitted>
+    requires inside { test < length settings.now.plan.tests }
+    requires few { length units.now < 2 ^ 32 }
+    ensures unit { IfOk result (λ a. option_map (first_view settings.now test (free_slot units.now)) (slice_get settings.now.plan.tests test) ≡ Some a.unit) }
+    ensures sent { IfOk result (λ a. a.sent ≡ Start test a.unit.id a.unit.command a.unit.slot) }
+{
+    let slot = TestSlotAssignment {
+        global: least_free_slot(units) as u32,
+    };
+    let unit = Unit::test(alloc, settings, test, slot)?;
+    let sent = unit.start_message(alloc)?;
+    Ok(Admitted { unit, sent })
+}
+
+/// What the next admission makes of the candidate at this place.
+pub fn admit_test(
+    alloc: Global,
+    settings: &Settings,
+    units: &[Option<Unit>],
+    test: usize,
+) -> Mem<Admitted>
+    requires candidate { candidate units.now ≡ Some test }
+    requires admitted { is_some (newcomer settings.now units.now) ≡ true }
+    requires inside { test < length settings.now.plan.tests }
+    requires few { length units.now < 2 ^ 32 }
+    requires small { length settings.now.plan.tests < 2 ^ 32 }
+    ensures made { IfOk result (λ a. newcomer settings.now units.now ≡ Some (record { unit = a.unit; sent = a.sent })) }
+    ensures place { IfOk result (λ a. a.unit.unit ≡ test) }
+{
+    match &settings.plan.tests.as_slice()[test].skip {
+        Some(reason) => skip_test(alloc, settings, test as u32, reason),
+        None => start_test(alloc, settings, units, test as u32),
     }
 }

@@ -1,11 +1,12 @@
 // How a runner is made of a plan.
-ghost use Rattle.std.specs.Prelude.{◌≡◌, ◌<◌, ◌^◌, length, IfOk, IsOk};
-ghost use Rattle.run_engine.specs.Builder.{settings_of};
+ghost use Rattle.std.specs.Prelude.{◌≡◌, ◌<◌, ◌^◌, length, IfSome, IsErrOf};
+ghost use Rattle.run_engine.specs.Builder.{IsBuilt, same_id, is_repeat, first_repeat};
+ghost use Rattle.std.specs.List.{list_any};
 
 use crate::errors::TestRunnerBuildError;
 use crate::runner::TestRunner;
 use run_capture::CaptureStrategy;
-use run_events::{Plan, Settings};
+use run_events::{Plan, PlanTest, Settings, TestInstanceId};
 use std::alloc::Global;
 use std::marker::Model;
 
@@ -46,17 +47,55 @@ impl TestRunnerBuilder {
         self
     }
 
-    /// The runner of a plan. No plan is refused yet, and no memory is taken.
+    /// The runner of a plan of fewer than 2^32 tests. A plan is refused exactly where two of its tests have one id, with
+    /// the place of the first test that repeats one. No memory is taken yet.
     pub fn build(self, alloc: Global, plan: Plan) -> Result<TestRunner, TestRunnerBuildError>
         requires { length plan.tests < 2 ^ 32 }
-        ensures accepted { IsOk result }
-        ensures settings { IfOk result (λ runner. runner ≡ settings_of self plan) }
+        ensures built { IsBuilt self plan result }
+        ensures memory { IsErrOf result TestRunnerBuildError.OutOfMemory → ⊥ }
     {
         let _alloc = alloc;
+        if let Some(test) = first_repeat(plan.tests.as_slice()) {
+            return Err(TestRunnerBuildError::DuplicateTest { test: test as u32 });
+        }
         Ok(TestRunner::new(Settings {
             plan,
             capture: self.capture,
             threads: 1,
         }))
     }
+}
+
+fn has_id(id: &TestInstanceId, test: &PlanTest) -> bool
+    ensures { result ≡ same_id test.now.id id.now }
+{
+    test.id == *id
+}
+
+// Whether one of these tests has an id.
+fn is_taken(id: &TestInstanceId, tests: &[PlanTest]) -> bool
+    ensures { result ≡ list_any (λ t. same_id t.id id.now) tests.now }
+{
+    tests.iter().any(|test| has_id(id, test))
+}
+
+// Whether the test at this place has the id of an earlier one.
+fn is_repeat(tests: &[PlanTest], place: usize) -> bool
+    requires { place < length tests.now }
+    ensures { result ≡ is_repeat tests.now place }
+{
+    is_taken(&tests[place].id, &tests[..place])
+}
+
+// The first test that has the id of an earlier one.
+fn first_repeat(tests: &[PlanTest]) -> Option<usize>
+    ensures first { result ≡ first_repeat tests.now }
+    ensures inside { IfSome result (λ place. place < length tests.now) }
+{
+    for place in 0..tests.len() {
+        if is_repeat(tests, place) {
+            return Some(place);
+        }
+    }
+    None
 }

@@ -19,6 +19,9 @@ pub enum StepError {
 /// Why a plan is refused.
 #[derive(Debug, Drop, PartialEq, Eq, Error)]
 pub enum TestRunnerBuildError {
+    /// The test at this place is the first that has the id of an earlier one.
+    #[error("test {test} has the id of an earlier test")]
+    DuplicateTest { test: u32 },
     #[error("out of memory")]
     OutOfMemory,
 }

@@ -4,7 +4,6 @@
 
 mod admission;
 mod builder;
-mod dispatcher;
 mod enabled;
 mod errors;
 mod run;

@@ -66,9 +66,9 @@ fn carry_out<C: Children, R: Reporter>(
 {
     let place = journal.len() as u64;
     journal.reserve(1)?;
-    let Effects { told, asked } = advance(alloc, settings, state, &turn)?;
+    let Effects { events, asked } = advance(alloc, settings, state, &turn)?;
     ask(alloc, children, place, asked)?;
-    let Told { refused, refusal } = tell(alloc, report, told)?;
+    let Told { refused, refusal } = tell(alloc, report, events.as_slice())?;
     journal.push_reserved(Entry { turn, refused });
     Ok(refusal)
 }
@@ -172,7 +172,7 @@ impl Run {
         ensures over { result ≡ is_over (history_of self.now) }
         ensures runnable { IsRunnable self.now.settings self.now.journal }
     {
-        !self.broken && self.state.dispatcher.over
+        !self.broken && self.state.dispatcher.is_over()
     }
 
     /// The outcome of a run that is over, and none of one that isn't.
@@ -180,10 +180,10 @@ impl Run {
         ensures outcome { result ≡ outcome self.now.settings (history_of self.now) }
         ensures runnable { IsRunnable self.now.settings self.now.journal }
     {
-        if self.broken || !self.state.dispatcher.over {
+        if self.broken || !self.state.dispatcher.is_over() {
             return None;
         }
-        Some(RunOutcome::from_final_stats(self.state.dispatcher.stats.summarize_final()))
+        Some(RunOutcome::from_final_stats(self.state.dispatcher.stats().summarize_final()))
     }
 
     /// The turns that it has taken, in order, each with the reporter's answers.

@@ -3,7 +3,7 @@ ghost use Rattle.std.specs.Prelude.{◌≡◌, ◌<◌, ◌^◌, ◌∷◌, [], 
 ghost use Rattle.run_events.specs.Tell.{Adds};
 ghost use Rattle.run_model.specs.declared.entry.Entry.{Entry};
 ghost use Rattle.run_model.specs.Turns.{enabled};
-ghost use Rattle.run_engine.specs.World.{earlier, history_of};
+ghost use Rattle.run_engine.specs.World.{history_of};
 ghost use Rattle.run_engine.specs.Standing.{sound};
 ghost use Rattle.run_engine.specs.Execution.{Takes, Executes, UnlessMemory, turns_of, StopsAt, IsFinal};
 ghost use Rattle.run_model.specs.Journal.{outcome};
@@ -12,6 +12,7 @@ ghost use Rattle.run_model.specs.Words.{is_over};
 use crate::errors::{StepError, TestRunnerExecuteErrors};
 use crate::run::Run;
 use crate::start::new_state;
+use crate::tell::first_of;
 use run_capture::{Duplicate, Mem};
 use run_events::{Children, EventLog, Reporter, RunOutcome, Settings, Turn};
 use std::alloc::Global;
@@ -42,16 +43,6 @@ pub enum Stop {
     /// The turn at this place isn't enabled.
     NotEnabled { turn: u64 },
     OutOfMemory,
-}
-
-// The first of two errors.
-fn first_of<E: Drop>(first: Option<E>, later: Option<E>) -> Option<E>
-    ensures { result ≡ earlier first later }
-{
-    match first {
-        Some(error) => Some(error),
-        None => later,
-    }
 }
 
 // A copy of a turn.

@@ -1,10 +1,10 @@
 // The state of a run that has taken no turn.
-ghost use Rattle.std.specs.Prelude.{◌≡◌, ℕ, length, [], IfOk, None, slice_index_or};
+ghost use Rattle.std.specs.Prelude.{◌≡◌, ◌<◌, ◌^◌, ℕ, length, [], IfOk, None, slice_index_or};
 ghost use Rattle.run_engine.specs.State.{Stands};
 
-use crate::dispatcher::Dispatcher;
 use crate::state::State;
 use run_capture::Mem;
+use run_dispatch::Dispatcher;
 use run_events::Settings;
 use run_unit::Unit;
 use std::alloc::Global;
@@ -24,13 +24,14 @@ fn unadmitted(alloc: Global, tests: usize) -> Mem<Vec<Option<Unit>>>
 
 /// The state of a run that has taken no turn.
 pub fn new_state(alloc: Global, settings: &Settings) -> Mem<State>
+    requires { length settings.now.plan.tests < 2 ^ 32 }
     ensures { IfOk result (λ s. Stands settings.now [] s) }
 {
     let tests = settings.plan.tests.len();
     Ok(State {
         units: unadmitted(alloc, tests)?,
         queue: VecDeque::new(alloc),
-        dispatcher: Dispatcher::new(tests as u64),
+        dispatcher: Dispatcher::new(alloc, settings)?,
         clock: 0,
     })
 }

@@ -1,5 +1,5 @@
 // What a run keeps of its history.
-use crate::dispatcher::Dispatcher;
+use run_dispatch::Dispatcher;
 use run_events::Message;
 use run_unit::Unit;
 use std::collections::VecDeque;

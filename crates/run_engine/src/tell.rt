@@ -1,52 +1,63 @@
 // How what a turn told and asked goes out.
-ghost use Rattle.std.specs.Prelude.{◌≡◌, ◌++◌, ◌∷◌, [], length, map, zip, IfOk, OnOk, option_to_list};
+ghost use Rattle.std.specs.Prelude.{◌≡◌, ◌++◌, ◌∷◌, [], length, map, zip, is_some, IfOk, OnOk, option_to_list};
 ghost use Rattle.run_events.specs.Tell.{Adds};
-ghost use Rattle.run_engine.specs.World.{TellsEvents, CountsErrors};
+ghost use Rattle.run_engine.specs.World.{TellsEvents, CountsErrors, earlier};
 
 use run_capture::{List, Mem, OutOfMemory};
 use run_events::{Ask, Children, ReportFault, Reporter, ReporterEvent};
 use std::alloc::Global;
 
-/// The reporter's answers to the events of a turn, and the error with which it refused one.
+/// The reporter's answers to the events of a turn, and the first error with which it refused one.
 pub struct Told<E> {
     pub refused: List<bool>,
     pub refusal: Option<E>,
 }
 
-/// Tells the event of a turn, if there is one.
+// Tells one event, and answers the error with which the reporter refused it, if it did.
+fn tell_one<R: Reporter>(
+    alloc: Global,
+    report: &mut R,
+    event: &ReporterEvent,
+) -> Mem<Option<R::Error>>
+    ensures told { IfOk result (λ refusal.
+        TellsEvents R.told report.old report.new ((event.now, is_some refusal) ∷ []) refusal) }
+    ensures faults { IfOk result (λ refusal. CountsErrors (R.faults report.old) (R.faults report.new) refusal) }
+{
+    match report.report(alloc, event) {
+        Ok(()) => Ok(None),
+        Err(ReportFault::Refused(error)) => Ok(Some(error)),
+        Err(ReportFault::OutOfMemory) => Err(OutOfMemory),
+    }
+}
+
+/// The first of two errors.
+pub fn first_of<E: Drop>(first: Option<E>, later: Option<E>) -> Option<E>
+    ensures { result ≡ earlier first later }
+{
+    match first {
+        Some(error) => Some(error),
+        None => later,
+    }
+}
+
+/// Tells the events of a turn, in order, also after the reporter refused one.
 pub fn tell<R: Reporter>(
     alloc: Global,
     report: &mut R,
-    event: Option<ReporterEvent>,
+    events: &[ReporterEvent],
 ) -> Mem<Told<R::Error>>
-    ensures answered { IfOk result (λ t. length t.refused ≡ length (option_to_list event)) }
-    ensures told { IfOk result (λ t. TellsEvents R.told report.old report.new (zip (option_to_list event) t.refused) t.refusal) }
+    ensures answered { IfOk result (λ t. length t.refused ≡ length events.now) }
+    ensures told { IfOk result (λ t. TellsEvents R.told report.old report.new (zip events.now t.refused) t.refusal) }
     ensures faults { IfOk result (λ t. CountsErrors (R.faults report.old) (R.faults report.new) t.refusal) }
 {
-    let Some(event) = event else {
-        return Ok(Told {
-            refused: List::new(),
-            refusal: None,
-        });
-    };
     let mut refused = List::new();
-    match report.report(alloc, &event) {
-        Ok(()) => {
-            refused.push(alloc, false)?;
-            Ok(Told {
-                refused,
-                refusal: None,
-            })
-        }
-        Err(ReportFault::Refused(error)) => {
-            refused.push(alloc, true)?;
-            Ok(Told {
-                refused,
-                refusal: Some(error),
-            })
-        }
-        Err(ReportFault::OutOfMemory) => Err(OutOfMemory),
+    let mut refusal = None;
+    for event in events {
+        let error = tell_one(alloc, report, event)?;
+        refused.push(alloc, error.is_some())?;
+        refusal = first_of(refusal, error);
     }
+    Ok(Told { refused, refusal })
 }
 
 /// Asks what a turn asks, if it does.

@@ -1,7 +1,9 @@
 // One run, by `execute` and turn by turn, with ample memory; the rest is proved.
 ghost use Rattle.std.specs.Prelude.{◌≡◌, length, IfOk};
 
-use crate::{StepError, TestRunner, TestRunnerBuilder, TestRunnerExecuteErrors};
+use crate::{
+    StepError, TestRunner, TestRunnerBuildError, TestRunnerBuilder, TestRunnerExecuteErrors,
+};
 use run_capture::{Duplicate, List, Mem, OutOfMemory, Text};
 use run_events::{
     Ask, AskList, ChildExit, EventLog, Plan, PlanTest, RunOutcome, TestInstanceId, Turn,
@@ -15,31 +17,86 @@ fn words(alloc: Global) -> Mem<List<Text>> {
     Ok(command)
 }
 
+fn test(alloc: Global, name: &str, skip: Option<Text>) -> Mem<PlanTest> {
+    let id = TestInstanceId {
+        binary: Text::from_str(alloc, "b")?,
+        name: Text::from_str(alloc, name)?,
+    };
+    Ok(PlanTest {
+        id,
+        command: words(alloc)?,
+        skip,
+    })
+}
+
+fn plan_of(tests: List<PlanTest>) -> Plan
+    ensures { length result.tests ≡ length tests }
+{
+    Plan {
+        run_id: Uuid::nil(),
+        tests,
+    }
+}
+
+// A plan of one test.
 fn plan(alloc: Global) -> Mem<Plan>
     ensures { IfOk result (λ p. length p.tests ≡ 1) }
 {
-    let id = TestInstanceId {
-        binary: Text::from_str(alloc, "b")?,
-        name: Text::from_str(alloc, "t")?,
-    };
     let mut tests = List::new();
-    tests.push(
-        alloc,
-        PlanTest {
-            id,
-            command: words(alloc)?,
-        },
-    )?;
-    Ok(Plan {
-        run_id: Uuid::nil(),
-        tests,
-    })
+    tests.push(alloc, test(alloc, "t", None)?)?;
+    Ok(plan_of(tests))
+}
+
+// A plan of two tests, of these names, the second of which is skipped.
+fn plan_of_two(alloc: Global, first: &str, second: &str) -> Mem<Plan>
+    ensures { IfOk result (λ p. length p.tests ≡ 2) }
+{
+    let mut tests = List::new();
+    tests.push(alloc, test(alloc, first, None)?)?;
+    let reason = Text::from_str(alloc, "gone")?;
+    tests.push(alloc, test(alloc, second, Some(reason))?)?;
+    Ok(plan_of(tests))
 }
 
 fn runner(alloc: Global) -> Mem<TestRunner> {
     TestRunnerBuilder::default()
         .build(alloc, plan(alloc)?)
         .map_err(|_| OutOfMemory)
+}
+
+// Why a plan of two tests of one name is refused.
+fn refused_plan(alloc: Global) -> Mem<Option<TestRunnerBuildError>> {
+    let plan = plan_of_two(alloc, "t", "t")?;
+    Ok(TestRunnerBuilder::default().build(alloc, plan).err())
+}
+
+// Whether a run of two tests, the second of which is skipped, succeeds, and how many events it tells.
+fn skipped(alloc: Global) -> Mem<(bool, usize)> {
+    let plan = plan_of_two(alloc, "t", "u")?;
+    let Ok(runner) = TestRunnerBuilder::default().build(alloc, plan) else {
+        return Err(OutOfMemory);
+    };
+    let turns = [
+        Turn::Begin,
+        Turn::Admit,
+        Turn::Deliver,
+        Turn::Started { unit: 0, pid: 100 },
+        Turn::Exit {
+            unit: 0,
+            exit: ChildExit::Code(0),
+        },
+        Turn::Decide { unit: 0, word: 0 },
+        Turn::Admit,
+        Turn::Deliver,
+        Turn::Deliver,
+        Turn::End,
+    ];
+    let mut log = EventLog::new();
+    let outcome = runner.execute(alloc, &turns, &mut AskList::new(), &mut log);
+    Ok((
+        matches!(outcome, Ok(RunOutcome::Success)),
+        log.events().len(),
+    ))
 }
 
 fn turns() -> [Turn; 8] {
@@ -99,6 +156,11 @@ fn stepped(alloc: Global) -> Mem<(Option<StepError>, usize, bool)> {
 fn executes_one_test(rt: HostRuntime) {
     let alloc = rt.alloc();
     assert_eq!(rt; executed(alloc), Ok((true, 4, Some(2))));
+    assert_eq!(rt;
+        refused_plan(alloc),
+        Ok(Some(TestRunnerBuildError::DuplicateTest { test: 1 }))
+    );
+    assert_eq!(rt; skipped(alloc), Ok((true, 5)));
     assert_eq!(rt; is_unfinished(alloc), Ok(true));
     assert_eq!(rt; stepped(alloc), Ok((Some(StepError::NotEnabled), 8, true)));
 }

@@ -1,26 +1,37 @@
 // The turns of a run: each does to the state what its row of the tables says.
-ghost use Rattle.std.specs.Prelude.{◌≡◌, ◌<◌, ◌^◌, ◌++◌, length, IfOk, OnOk, true, option_to_list, slice_set, Some};
+ghost use Rattle.std.specs.Prelude.{◌≡◌, ◌<◌, ◌^◌, ◌++◌, [], length, IfOk, OnOk, true, option_to_list, slice_set, Some};
 ghost use Rattle.std.specs.VecDeque.{deque_len, deque_capacity};
 ghost use Rattle.run_model.specs.declared.entry.Entry.{Entry};
 ghost use Rattle.run_model.specs.Admission.{newcomer};
 ghost use Rattle.run_model.specs.Turns.{taken_by, admission, turn_of_unit};
 ghost use Rattle.run_engine.specs.State.{IsAfter};
-ghost use Rattle.run_engine.specs.Advance.{IsInner, unit_in, answer_to, delivery_of, turn_does, CanAnswer, CanTake, CanAdmit, CanDeliverOldest, CanAdvance};
+ghost use Rattle.run_engine.specs.Advance.{IsInner, unit_in, starting, answer_to, delivery_of, turn_does, CanAnswer, CanTake, CanAdmit, CanDeliverOldest, CanAdvance};
 
-use crate::admission::{least_free_slot, next_test};
-use crate::dispatcher::Delivered;
+use crate::admission::{Admitted, admit_test, first_waiting};
 use crate::state::State;
-use run_capture::Mem;
-use run_events::{Ask, Message, ReporterEvent, Settings, TestSlotAssignment, Turn};
-use run_unit::{Unit, UnitEffects, UnitTurn};
+use run_capture::{Duplicate, List, Mem};
+use run_dispatch::DispatchEffects;
+use run_events::{Ask, Message, ReporterEvent, Settings, Turn};
+use run_model::UnitTurn;
+use run_unit::{Unit, UnitEffects};
 use std::alloc::Global;
 use std::collections::VecDeque;
 
-/// What a turn told and asked.
+/// What a turn tells and asks.
 #[derive(Drop)]
 pub struct Effects {
-    pub told: Option<ReporterEvent>,
+    pub events: List<ReporterEvent>,
     pub asked: Option<Ask>,
+}
+
+// A turn of a unit's own tells nothing itself.
+fn asking(asked: Option<Ask>) -> Effects
+    ensures { result ≡ record { events = []; asked = asked } }
+{
+    Effects {
+        events: List::new(),
+        asked,
+    }
 }
 
 // Puts a message at the end of the queue, which has room for it.
@@ -73,15 +84,10 @@ pub fn admit(alloc: Global, settings: &Settings, state: &mut State) -> Mem<()>
     ensures after { OnOk result ((e : Entry) → IsInner e
         → IsAfter state.old (admission e (newcomer settings.now state.old.units.items)) state.new) }
 {
-    let slot = least_free_slot(&state.units);
-    match next_test(settings, &state.units) {
+    match first_waiting(&state.units) {
         Some(test) => {
-            let slot = TestSlotAssignment {
-                global: slot as u32,
-            };
-            let unit = Unit::test(alloc, settings, test as u32, slot)?;
-            let message = unit.start_message(alloc)?;
-            state.queue.push_back(message)?;
+            let Admitted { unit, sent } = admit_test(alloc, settings, &state.units, test)?;
+            state.queue.push_back(sent)?;
             put(&mut state.units, test, unit);
             Ok(())
         }
@@ -89,15 +95,25 @@ pub fn admit(alloc: Global, settings: &Settings, state: &mut State) -> Mem<()>
     }
 }
 
-// Gives the answer to the unit that waits for it.
-fn answer(alloc: Global, state: &mut State, go: Option<(u32, bool)>) -> Mem<Option<Ask>>
-    requires { CanAnswer state.old go }
-    ensures after { OnOk result ((e : Entry) → IsInner e → IsAfter state.old (answer_to state.old e go) state.new) }
-    ensures asked { IfOk result (λ asked. (e : Entry) → asked ≡ (answer_to state.old e go).asked) }
+// The unit whose start a message is.
+fn starting(message: &Message) -> Option<u32>
+    ensures { result ≡ starting message.now }
 {
-    match go {
-        Some((unit, go)) => take_turn(alloc, state, unit, UnitTurn::Answered { go }),
-        None => Ok(None),
+    match message {
+        Message::Start { unit, .. } => Some(*unit),
+        _ => None,
+    }
+}
+
+// Gives the answer to the unit that waits for it.
+fn answer(alloc: Global, state: &mut State, unit: Option<u32>, go: Option<bool>) -> Mem<Option<Ask>>
+    requires { CanAnswer state.old unit go }
+    ensures after { OnOk result ((e : Entry) → IsInner e → IsAfter state.old (answer_to state.old e unit go) state.new) }
+    ensures asked { IfOk result (λ asked. (e : Entry) → asked ≡ (answer_to state.old e unit go).asked) }
+{
+    match (unit, go) {
+        (Some(unit), Some(go)) => take_turn(alloc, state, unit, UnitTurn::Answered { go }),
+        _ => Ok(None),
     }
 }
 
@@ -107,16 +123,17 @@ pub fn deliver(alloc: Global, state: &mut State) -> Mem<Effects>
     ensures after { OnOk result ((e : Entry) → IsInner e
         → IsAfter state.old (delivery_of state.old e state.old.queue.items) state.new) }
     ensures told { IfOk result (λ effects. (e : Entry)
-        → effects.told ≡ (delivery_of state.old e state.old.queue.items).told) }
+        → effects.events ≡ option_to_list (delivery_of state.old e state.old.queue.items).told) }
     ensures asked { IfOk result (λ effects. (e : Entry)
         → effects.asked ≡ (delivery_of state.old e state.old.queue.items).asked) }
 {
     match state.queue.pop_front() {
         Some(message) => {
+            let unit = starting(&message);
             let now = state.clock;
-            let Delivered { told, go } = state.dispatcher.deliver(alloc, message, now)?;
-            let asked = answer(alloc, state, go)?;
-            Ok(Effects { told, asked })
+            let DispatchEffects { events, go } = state.dispatcher.deliver(alloc, message, now)?;
+            let asked = answer(alloc, state, unit, go)?;
+            Ok(Effects { events, asked })
         }
         None => unreachable!(),
     }
@@ -129,43 +146,50 @@ pub fn advance(alloc: Global, settings: &Settings, state: &mut State, turn: &Tur
     ensures after { OnOk result ((e : Entry) → e.turn ≡ turn.now → IsAfter state.old
         (turn_does settings.now state.old e turn.now (turn_of_unit turn.now)) state.new) }
     ensures told { IfOk result (λ effects. (e : Entry)
-        → effects.told ≡ (turn_does settings.now state.old e turn.now (turn_of_unit turn.now)).told) }
+        → effects.events ≡ option_to_list (turn_does settings.now state.old e turn.now (turn_of_unit turn.now)).told) }
     ensures asked { IfOk result (λ effects. (e : Entry)
         → effects.asked ≡ (turn_does settings.now state.old e turn.now (turn_of_unit turn.now)).asked) }
 {
     let now = state.clock;
     match turn {
         Turn::Begin => {
-            let told = state.dispatcher.begin(settings, now);
+            let DispatchEffects { events, .. } = state.dispatcher.begin(alloc, now)?;
             Ok(Effects {
-                told: Some(told),
+                events,
                 asked: None,
             })
         }
         Turn::Admit => {
             admit(alloc, settings, state)?;
-            Ok(Effects {
-                told: None,
-                asked: None,
-            })
+            Ok(asking(None))
         }
         Turn::Deliver => deliver(alloc, state),
         Turn::Started { unit, pid } => {
             let asked = take_turn(alloc, state, *unit, UnitTurn::Started { pid: *pid })?;
-            Ok(Effects { told: None, asked })
+            Ok(asking(asked))
+        }
+        Turn::StartFailed { unit, error } => {
+            let error = error.copy(alloc)?;
+            let asked = take_turn(alloc, state, *unit, UnitTurn::StartFailed { error })?;
+            Ok(asking(asked))
         }
         Turn::Exit { unit, exit } => {
             let asked = take_turn(alloc, state, *unit, UnitTurn::Exit { exit: *exit })?;
-            Ok(Effects { told: None, asked })
+            Ok(asking(asked))
+        }
+        Turn::WaitFailed { unit, error } => {
+            let error = error.copy(alloc)?;
+            let asked = take_turn(alloc, state, *unit, UnitTurn::WaitFailed { error })?;
+            Ok(asking(asked))
         }
         Turn::Decide { unit, word } => {
             let asked = take_turn(alloc, state, *unit, UnitTurn::Decide { word: *word })?;
-            Ok(Effects { told: None, asked })
+            Ok(asking(asked))
         }
         Turn::End => {
-            let told = state.dispatcher.end(now);
+            let DispatchEffects { events, .. } = state.dispatcher.end(alloc, now)?;
             Ok(Effects {
-                told: Some(told),
+                events,
                 asked: None,
             })
         }

@@ -22,6 +22,24 @@ pub enum TestEventKind {
         running: u32,
         stats: RunStats,
     },
+    /// An attempt of a test failed, and the next one comes after this delay.
+    TestAttemptFailedWillRetry {
+        unit: u32,
+        test: TestInstanceId,
+        status: ExecuteStatus,
+        delay_next: u64,
+        running: u32,
+    },
+    /// A further attempt of a test started.
+    TestRetryStarted {
+        unit: u32,
+        test: TestInstanceId,
+        command: List<Text>,
+        slot: TestSlotAssignment,
+        attempt: u32,
+        attempts: u32,
+        running: u32,
+    },
     /// A test finished, after these attempts.
     TestFinished {
         unit: u32,
@@ -29,6 +47,12 @@ pub enum TestEventKind {
         statuses: List<ExecuteStatus>,
         running: u32,
         stats: RunStats,
+    },
+    /// A test doesn't match, and was skipped for this reason.
+    TestSkipped {
+        unit: u32,
+        test: TestInstanceId,
+        reason: Text,
     },
     /// The run finished.
     RunFinished {
@@ -60,6 +84,40 @@ impl Duplicate for TestEventKind {
                     stats: *stats,
                 })
             }
+            TestEventKind::TestAttemptFailedWillRetry {
+                unit,
+                test,
+                status,
+                delay_next,
+                running,
+            } => {
+                Ok(TestEventKind::TestAttemptFailedWillRetry {
+                    unit: *unit,
+                    test: test.copy(alloc)?,
+                    status: status.copy(alloc)?,
+                    delay_next: *delay_next,
+                    running: *running,
+                })
+            }
+            TestEventKind::TestRetryStarted {
+                unit,
+                test,
+                command,
+                slot,
+                attempt,
+                attempts,
+                running,
+            } => {
+                Ok(TestEventKind::TestRetryStarted {
+                    unit: *unit,
+                    test: test.copy(alloc)?,
+                    command: command.copy(alloc)?,
+                    slot: *slot,
+                    attempt: *attempt,
+                    attempts: *attempts,
+                    running: *running,
+                })
+            }
             TestEventKind::TestFinished {
                 unit,
                 test,
@@ -75,6 +133,11 @@ impl Duplicate for TestEventKind {
                     stats: *stats,
                 })
             }
+            TestEventKind::TestSkipped { unit, test, reason } => Ok(TestEventKind::TestSkipped {
+                unit: *unit,
+                test: test.copy(alloc)?,
+                reason: reason.copy(alloc)?,
+            }),
             TestEventKind::RunFinished { stats } => Ok(TestEventKind::RunFinished {
                 stats: *stats,
             }),

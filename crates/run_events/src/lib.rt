@@ -32,8 +32,8 @@ pub use outcome::{FinalRunStats, RunOutcome, RunStep};
 pub use plan::{Plan, PlanTest, TestInstanceId, TestSlotAssignment};
 pub use reporter::{ReportFault, Reporter};
 pub use result::{
-    ChildExit, ExecuteStatus, ExecutionResult, FailureStatus, FlakyResult, LeakTimeoutResult,
-    SlowTimeoutResult, create_execution_result,
+    ChildExecutionOutput, ChildExit, ExecuteStatus, ExecutionResult, FailureStatus, FlakyResult,
+    LeakTimeoutResult, SlowTimeoutResult, create_execution_result,
 };
 pub use settings::Settings;
 pub use stats::RunStats;

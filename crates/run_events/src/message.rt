@@ -13,6 +13,12 @@ pub enum Message {
         command: List<Text>,
         slot: TestSlotAssignment,
     },
+    /// The test doesn't match, and is skipped for this reason.
+    Skip {
+        unit: u32,
+        test: TestInstanceId,
+        reason: Text,
+    },
     /// The test is done, after these attempts.
     Finish {
         unit: u32,
@@ -34,6 +40,11 @@ impl Duplicate for Message {
                 test: test.copy(alloc)?,
                 command: command.copy(alloc)?,
                 slot: *slot,
+            }),
+            Message::Skip { unit, test, reason } => Ok(Message::Skip {
+                unit: *unit,
+                test: test.copy(alloc)?,
+                reason: reason.copy(alloc)?,
             }),
             Message::Finish {
                 unit,

@@ -31,6 +31,8 @@ pub struct PlanTest {
     pub id: TestInstanceId,
     /// The program and its arguments.
     pub command: List<Text>,
+    /// Where the test doesn't match, the reason for which it is skipped.
+    pub skip: Option<Text>,
 }
 
 impl Duplicate for PlanTest {
@@ -38,6 +40,7 @@ impl Duplicate for PlanTest {
         Ok(PlanTest {
             id: self.id.copy(alloc)?,
             command: self.command.copy(alloc)?,
+            skip: self.skip.copy(alloc)?,
         })
     }
 }

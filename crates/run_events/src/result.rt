@@ -2,7 +2,7 @@
 ghost use Rattle.std.specs.Prelude.{◌≡◌};
 ghost use Rattle.run_events.specs.Result.{is_success, execution_result};
 
-use run_capture::{ChildFdError, Duplicate, Mem};
+use run_capture::{ChildFdError, ChildOutput, Duplicate, List, Mem, Text};
 use std::alloc::Global;
 
 /// How a child ended.
@@ -66,8 +66,34 @@ pub enum ExecutionResult {
     },
 }
 
+/// What came of the child of an attempt.
+#[derive(Drop)]
+pub enum ChildExecutionOutput {
+    /// It was started: what it wrote, and the faults at its descriptors and of its wait, in order.
+    Output {
+        output: ChildOutput,
+        errors: List<ChildFdError>,
+    },
+    /// It could not be started, with the text of the error.
+    StartError(Text),
+}
+
+impl Duplicate for ChildExecutionOutput {
+    fn copy(&self, alloc: Global) -> Mem<ChildExecutionOutput> {
+        match self {
+            ChildExecutionOutput::Output { output, errors } => Ok(ChildExecutionOutput::Output {
+                output: output.copy(alloc)?,
+                errors: errors.copy(alloc)?,
+            }),
+            ChildExecutionOutput::StartError(error) => {
+                Ok(ChildExecutionOutput::StartError(error.copy(alloc)?))
+            }
+        }
+    }
+}
+
 /// One attempt of a test: moments and times in nanoseconds of the run's clock.
-#[derive(Clone, Copy, Debug, Drop, PartialEq, Eq)]
+#[derive(Drop)]
 pub struct ExecuteStatus {
     /// Which attempt, from 1.
     pub attempt: u32,
@@ -76,6 +102,8 @@ pub struct ExecuteStatus {
     /// The delay before this attempt.
     pub delay: u64,
     pub result: ExecutionResult,
+    /// What came of its child.
+    pub output: ChildExecutionOutput,
     /// Whether it was reported slow.
     pub slow: bool,
     /// When it was let go.
@@ -85,8 +113,17 @@ pub struct ExecuteStatus {
 }
 
 impl Duplicate for ExecuteStatus {
-    fn copy(&self, _alloc: Global) -> Mem<ExecuteStatus> {
-        Ok(*self)
+    fn copy(&self, alloc: Global) -> Mem<ExecuteStatus> {
+        Ok(ExecuteStatus {
+            attempt: self.attempt,
+            attempts: self.attempts,
+            delay: self.delay,
+            result: self.result,
+            output: self.output.copy(alloc)?,
+            slow: self.slow,
+            start: self.start,
+            time: self.time,
+        })
     }
 }
 

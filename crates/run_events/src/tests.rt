@@ -1,9 +1,9 @@
 // Each call that takes memory once, with ample memory; the rest is proved.
 use crate::{
-    Ask, AskList, ChildExit, Children, EventLog, ExecuteStatus, ExecutionResult, FinalRunStats,
-    FlakyResult, LeakTimeoutResult, Message, Plan, PlanTest, Reporter, ReporterEvent, RunOutcome,
-    RunStats, RunStep, Settings, StartAsk, TestEvent, TestEventKind, TestInstanceId,
-    TestSlotAssignment, Turn, create_execution_result,
+    Ask, AskList, ChildExecutionOutput, ChildExit, Children, EventLog, ExecuteStatus,
+    ExecutionResult, FinalRunStats, FlakyResult, LeakTimeoutResult, Message, Plan, PlanTest,
+    Reporter, ReporterEvent, RunOutcome, RunStats, RunStep, Settings, StartAsk, TestEvent,
+    TestEventKind, TestInstanceId, TestSlotAssignment, Turn, create_execution_result,
 };
 use run_capture::{CaptureStrategy, Duplicate, List, Mem, Text};
 use std::alloc::Global;
@@ -29,6 +29,7 @@ fn passed_once(alloc: Global) -> Mem<List<ExecuteStatus>> {
         attempts: 1,
         delay: 0,
         result: ExecutionResult::Pass,
+        output: ChildExecutionOutput::StartError(Text::from_str(alloc, "none")?),
         slow: false,
         start: 5,
         time: 7,
@@ -73,6 +74,7 @@ fn settings(alloc: Global) -> Mem<Settings> {
     let test = PlanTest {
         id: test_id(alloc)?,
         command: words(alloc)?,
+        skip: Some(Text::from_str(alloc, "other platform")?),
     };
     tests.push(alloc, test)?;
     Ok(Settings {
@@ -136,7 +138,7 @@ fn copied_slot(alloc: Global) -> Mem<Option<u32>> {
     let start = start(alloc)?;
     match start.copy(alloc)? {
         Message::Start { slot, .. } => Ok(Some(slot.global)),
-        Message::Finish { .. } => Ok(None),
+        _ => Ok(None),
     }
 }
 
@@ -144,8 +146,8 @@ fn copied_slot(alloc: Global) -> Mem<Option<u32>> {
 fn copied_attempts(alloc: Global) -> Mem<Option<usize>> {
     let finish = finish(alloc)?;
     match finish.copy(alloc)? {
-        Message::Start { .. } => Ok(None),
         Message::Finish { statuses, .. } => Ok(Some(statuses.len())),
+        _ => Ok(None),
     }
 }
 

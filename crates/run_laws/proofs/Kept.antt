@@ -1,5 +1,5 @@
 -- Each enabled turn keeps what holds of a history.
-use Rattle.std.proofs.Common.{◌≡◌, ℕ, ◌+◌, ◌-◌, ◌<◌, ◌≤◌, ◌==◌, List, [], ◌∷◌, ◌++◌, length, drop, get_or, Bool, true, false, if◌then◌else◌, Option, Some, None, option_to_list, option_map, option_and_then, is_none, is_some, not, position, slice_get, refl, ap, sym, subst, ◌∙◌, arith, length-append, filter_map, nat_lt, map}
+use Rattle.std.proofs.Common.{◌≡◌, ◌⊎◌, inl, inr, ℕ, ◌+◌, ◌-◌, ◌<◌, ◌≤◌, ◌==◌, List, [], ◌∷◌, ◌++◌, length, drop, get_or, Bool, true, false, if◌then◌else◌, Option, Some, None, option_to_list, option_map, option_and_then, is_none, is_some, not, position, slice_get, refl, ap, sym, subst, ◌∙◌, arith, length-append, filter_map, nat_lt, map}
 use Rattle.std.specs.List.{range_with_len}
 use Rattle.std.specs.Cmp.{second_so}
 use Rattle.std.proofs.lemmas.List.Elements.{filter_map-append}
@@ -16,33 +16,33 @@ use Rattle.run_events.specs.declared.stats.RunStats.{RunStats}
 use Rattle.run_events.specs.declared.events.TestEventKind.{TestEventKind}
 use Rattle.run_events.specs.declared.events.TestEventKind.TheVariants.{TestStarted}
 use Rattle.run_events.specs.declared.turn.Turn.{Turn}
-use Rattle.run_events.specs.declared.turn.Turn.TheVariants.{Begin, Admit, Deliver, Started, Exit, Decide, End}
+use Rattle.run_events.specs.declared.turn.Turn.TheVariants.{Begin, Admit, Deliver, Started, StartFailed, Exit, WaitFailed, Decide, End}
 use Rattle.run_events.specs.declared.message.Message.{Message}
-use Rattle.run_events.specs.declared.message.Message.TheVariants.{Start, Finish}
+use Rattle.run_events.specs.declared.message.Message.TheVariants.{Start, Skip, Finish}
 use Rattle.run_model.specs.declared.entry.Entry.{Entry}
 use Rattle.run_model.specs.declared.happening.Happening.{Happening}
 use Rattle.run_model.specs.declared.happening.Place.{Place}
 use Rattle.run_model.specs.declared.happening.Place.TheVariants.{Admitted, Took}
 use Rattle.run_model.specs.declared.unit_turn.UnitTurn.{UnitTurn}
-use Rattle.run_model.specs.declared.unit_turn.UnitTurn.TheVariants.{Answered, Started as UnitStarted, Exit as UnitExit, Decide as UnitDecide}
+use Rattle.run_model.specs.declared.unit_turn.UnitTurn.TheVariants.{Answered, Started as UnitStarted, StartFailed as UnitStartFailed, Exit as UnitExit, WaitFailed as UnitWaitFailed, Decide as UnitDecide}
 use Rattle.run_model.specs.declared.unit_view.UnitView.{UnitView}
 use Rattle.run_model.specs.declared.phase.Phase.TheVariants.{StartSent}
 use Rattle.run_model.specs.Unit.{row, takes}
-use Rattle.run_model.specs.Words.{clock, ns_of, elapsed, has_begun, is_over, reason, running, stats, stats_after, finished, finished_test, sent, delivered, queue, told, unit_of, units, placed, tests_in}
-use Rattle.run_model.specs.Admission.{candidate, in_use, free_slot, first_view, newcomer}
+use Rattle.run_model.specs.Words.{clock, ns_of, elapsed, has_begun, is_over, reason, running, stats, stats_after, finished, finished_test, skipped, sent, delivered, queue, told, unit_of, units, placed, tests_in}
+use Rattle.run_model.specs.Admission.{candidate, in_use, free_slot, first_view, skipped_view, Newcomer, newcomer_of, newcomer_at, newcomer}
 use Rattle.run_model.specs.Turns.{event_at, start_delivery, enabled, is_empty, takes_turn, turn_of_unit, unit_takes, run_takes, taken_by, admission, silent, delivery, happened, happening, run_turn}
 use Rattle.run_model.specs.Journal.{history, IsLegalBackward}
-use Rattle.run_model.specs.Accounts.{News, news_in, HasAccount, IsAccounted, account_of, pending_of}
+use Rattle.run_model.specs.Accounts.{News, news_in, HasAccount, IsAccounted, is_skip, is_mismatched, account_of, pending_of}
 use Rattle.run_laws.specs.Holds.{Holds, IsNamed}
 use Rattle.run_laws.proofs.Queue.{queue-cons, lt-from_queue}
-use Rattle.run_laws.proofs.AccountLemmas.{is_answer, of_row, start_row, of_finish, row_keeps_unit, row_starts}
+use Rattle.run_laws.proofs.AccountLemmas.{is_answer, of_row, start_row, of_finish, of_skip, begins_skipped, begins_started, row_keeps_unit, row_starts}
 
 -- the account of a test after one more turn, from the parts of that turn
-pub accounted-cons : (k : ℕ) (x : Happening) (past : List Happening) → delivered (x ∷ past) ≤ length (sent past)
-    → HasAccount (placed (clock past) k x.place (unit_of k past)) (account_of k (told past) ++ account_of k (option_to_list x.told))
+pub accounted-cons : (p : Settings) (k : ℕ) (x : Happening) (past : List Happening) → delivered (x ∷ past) ≤ length (sent past)
+    → HasAccount (is_mismatched p k) (placed (clock past) k x.place (unit_of k past)) (account_of k (told past) ++ account_of k (option_to_list x.told))
     (pending_of k (drop (if x.taken then 1 else 0) (queue past) ++ option_to_list x.sent))
-    → IsAccounted k (x ∷ past)
-accounted-cons k x past fits h = rw (filter_map-append, queue-cons x past fits) h
+    → IsAccounted p k (x ∷ past)
+accounted-cons p k x past fits h = rw (filter_map-append, queue-cons x past fits) h
 
 -- the units of a plan, one by one
 pub units-at : (p : Settings) (past : List Happening) (k : ℕ) → k < tests_in p → get_or (units p past) k None ≡ unit_of k past
@@ -78,55 +78,83 @@ placed_named now later n k (Some (Took j turn)) v le h known u e = by_unit (j ==
     by_unit false be =
         let at = h u (sym (ap (λ b. if b then option_map (λ w. (row now turn w).next) v else v) be) ∙ e) in (at.0, at.1, omega arith)
 
--- the unit that is admitted is the candidate of the plan
-pub newcomer_is : (p : Settings) (us : List (Option UnitView)) (u : UnitView) → newcomer p us ≡ Some u
-    → (k : ℕ) × (test : PlanTest) × (candidate p us ≡ Some k) × (slice_get p.plan.tests k ≡ Some test) × (u ≡ first_view p k (free_slot us) test)
-newcomer_is p us u e = by_candidate (candidate p us) refl
-  where
-    by_test : (k : ℕ) → candidate p us ≡ Some k → (o : Option PlanTest) → slice_get p.plan.tests k ≡ o
-        → option_map (first_view p k (free_slot us)) o ≡ Some u
-        → (k : ℕ) × (test : PlanTest) × (candidate p us ≡ Some k) × (slice_get p.plan.tests k ≡ Some test) × (u ≡ first_view p k (free_slot us) test)
-    by_test k ck None ek e = cc
-    by_test k ck (Some test) ek e = (k, test, ck, ek, cc)
+-- who is admitted: the candidate of the plan, as a unit that is over where it is skipped, and that waits else
+pub record Newcomes (p : Settings) (us : List (Option UnitView)) (new : Newcomer) : Type 0 where
+  pub place : ℕ
+  pub test : PlanTest
+  pub candidate : candidate us ≡ Some place
+  pub planned : slice_get p.plan.tests place ≡ Some test
+  pub kind : ((reason : List ℕ) × (test.skip ≡ Some reason) × (new ≡ record { unit = skipped_view p place test; sent = Skip place test.id reason }))
+      ⊎ ((test.skip ≡ None) × (nat_lt (in_use us) p.threads ≡ true)
+      × (new ≡ record { unit = first_view p place (free_slot us) test; sent = Start place test.id test.command (record { global = free_slot us }) }))
 
-    by_candidate : (o : Option ℕ) → candidate p us ≡ o
-        → (k : ℕ) × (test : PlanTest) × (candidate p us ≡ Some k) × (slice_get p.plan.tests k ≡ Some test) × (u ≡ first_view p k (free_slot us) test)
+newcomer_cases : (p : Settings) (slot : ℕ) (fits : Bool) (k : ℕ) (test : PlanTest) (skip : Option (List ℕ)) (new : Newcomer)
+    → newcomer_of p slot fits k test skip ≡ Some new
+    → ((reason : List ℕ) × (skip ≡ Some reason) × (new ≡ record { unit = skipped_view p k test; sent = Skip k test.id reason }))
+    ⊎ ((skip ≡ None) × (fits ≡ true)
+    × (new ≡ record { unit = first_view p k slot test; sent = Start k test.id test.command (record { global = slot }) }))
+newcomer_cases p slot fits k test (Some reason) new e = inl (reason, refl, cc)
+newcomer_cases p slot true k test None new e = inr (refl, refl, cc)
+newcomer_cases p slot false k test None new e = cc
+
+pub newcomer_is : (p : Settings) (us : List (Option UnitView)) (new : Newcomer) → newcomer p us ≡ Some new → Newcomes p us new
+newcomer_is p us new e = by_candidate (candidate us) refl
+  where
+    by_test : (k : ℕ) → candidate us ≡ Some k → (o : Option PlanTest) → slice_get p.plan.tests k ≡ o
+        → newcomer_at p us k o ≡ Some new → Newcomes p us new
+    by_test k ck None ek e = cc
+    by_test k ck (Some test) ek e = record {
+      place = k;
+      test = test;
+      candidate = ck;
+      planned = ek;
+      kind = newcomer_cases p (free_slot us) (nat_lt (in_use us) p.threads) k test test.skip new e;
+    }
+
+    by_candidate : (o : Option ℕ) → candidate us ≡ o → Newcomes p us new
     by_candidate None ek =
-        let chosen : option_and_then (λ k. option_map (first_view p k (free_slot us)) (slice_get p.plan.tests k)) None ≡ Some u =
-        sym (ap (option_and_then (λ k. option_map (first_view p k (free_slot us)) (slice_get p.plan.tests k))) ek) ∙ e in
+        let chosen : option_and_then (λ k. newcomer_at p us k (slice_get p.plan.tests k)) None ≡ Some new =
+        sym (ap (option_and_then (λ k. newcomer_at p us k (slice_get p.plan.tests k))) ek) ∙ e in
         cc
     by_candidate (Some k) ek =
         by_test k ek (slice_get p.plan.tests k) refl
-        (sym (ap (option_and_then (λ k. option_map (first_view p k (free_slot us)) (slice_get p.plan.tests k))) ek) ∙ e)
+        (sym (ap (option_and_then (λ k. newcomer_at p us k (slice_get p.plan.tests k))) ek) ∙ e)
+
+-- it is known by its place, and has not begun
+pub newcomer_unit : (p : Settings) (us : List (Option UnitView)) (new : Newcomer) (n : Newcomes p us new)
+    → (new.unit.unit ≡ n.place) × (new.unit.start ≡ 0) × (new.unit.statuses ≡ [])
+newcomer_unit p us new n = by_case n.kind
+  where
+    by_case : ((reason : List ℕ) × (n.test.skip ≡ Some reason) × (new ≡ record { unit = skipped_view p n.place n.test; sent = Skip n.place n.test.id reason }))
+        ⊎ ((n.test.skip ≡ None) × (nat_lt (in_use us) p.threads ≡ true)
+        × (new ≡ record { unit = first_view p n.place (free_slot us) n.test; sent = Start n.place n.test.id n.test.command (record { global = free_slot us }) }))
+        → (new.unit.unit ≡ n.place) × (new.unit.start ≡ 0) × (new.unit.statuses ≡ [])
+    by_case (inl skip) =
+        let unit : new.unit ≡ skipped_view p n.place n.test = ap (λ (new : Newcomer). new.unit) skip.2 in
+        (ap (λ (u : UnitView). u.unit) unit, ap (λ (u : UnitView). u.start) unit, ap (λ (u : UnitView). u.statuses) unit)
+    by_case (inr run) =
+        let unit : new.unit ≡ first_view p n.place (free_slot us) n.test = ap (λ (new : Newcomer). new.unit) run.2 in
+        (ap (λ (u : UnitView). u.unit) unit, ap (λ (u : UnitView). u.start) unit, ap (λ (u : UnitView). u.statuses) unit)
 
 -- a candidate is a test that wasn't admitted
-pub candidate_waits : (p : Settings) (us : List (Option UnitView)) (k : ℕ) → candidate p us ≡ Some k
-    → (k < length us) × (get_or us k None ≡ None)
-candidate_waits p us k e = by_room (nat_lt (in_use us) p.threads) refl
+pub candidate_waits : (us : List (Option UnitView)) (k : ℕ) → candidate us ≡ Some k → (k < length us) × (get_or us k None ≡ None)
+candidate_waits us k e = let at = position-Some is_none us k None e in (at.0, is_none_None _ at.1)
   where
     is_none_None : (v : Option UnitView) → is_none v ≡ true → v ≡ None
     is_none_None None e = refl
     is_none_None (Some u) e = cc
 
-    by_room : (b : Bool) → nat_lt (in_use us) p.threads ≡ b → (k < length us) × (get_or us k None ≡ None)
-    by_room true be =
-        let found : position is_none us ≡ Some k = sym (ap (λ b. if b then position is_none us else None) be) ∙ e in
-        let at = position-Some is_none us k None found in
-        (at.0, is_none_None _ at.1)
-    by_room false be =
-        let none : None ≡ Some k = sym (ap (λ b. if b then position is_none us else None) be) ∙ e in cc
-
 -- what holds after one more turn, from the parts of that turn
 pub holds-cons : (p : Settings) (past : List Happening) (x : Happening) → Holds p past
     → delivered (x ∷ past) ≤ length (sent past)
     → ((u : UnitView) → x.place ≡ Some (Admitted u) → (u.unit < tests_in p) × (u.start ≤ clock past))
-    → ((k : ℕ) → HasAccount (placed (clock past) k x.place (unit_of k past)) (account_of k (told past) ++ account_of k (option_to_list x.told))
+    → ((k : ℕ) → HasAccount (is_mismatched p k) (placed (clock past) k x.place (unit_of k past)) (account_of k (told past) ++ account_of k (option_to_list x.told))
     (pending_of k (drop (if x.taken then 1 else 0) (queue past) ++ option_to_list x.sent)))
     → Holds p (x ∷ past)
 holds-cons p past x h fits known accounts = record {
   fits = omega (arith, length-append (sent past) (option_to_list x.sent));
   named = λ k. placed_named (clock past) (clock past + ns_of x.turn) (tests_in p) k x.place (unit_of k past) (omega arith) (h.named k) known;
-  accounts = λ k. accounted-cons k x past fits (accounts k);
+  accounts = λ k. accounted-cons p k x past fits (accounts k);
 }
 
 -- a unit's own turn keeps what holds
@@ -142,7 +170,7 @@ kept-unit p past e j turn h en other = by_view (unit_of j past) refl
         let same : (k : ℕ) → (j == k) ≡ true → unit_of k past ≡ Some u =
         λ k jk. let jk' : k ≡ j = grind arith in ap (λ k. unit_of k past) jk' ∙ ev in
         holds-cons p past (taken_by (clock past) e j turn (Some u)) h (omega (arith, h.fits)) (λ w ew. cc)
-        (λ k. rw append-nil (of_row (clock past) j k turn u (unit_of k past) (account_of k (told past)) (queue past)
+        (λ k. rw append-nil (of_row (is_mismatched p k) (clock past) j k turn u (unit_of k past) (account_of k (told past)) (queue past)
         takes_it other (h.named j u ev).0 (same k) (h.accounts k)))
 
 -- an admission keeps what holds
@@ -151,26 +179,46 @@ pub kept-admit : (p : Settings) (past : List Happening) (e : Entry) → Holds p 
     → Holds p (admission e (newcomer p (units p past)) ∷ past)
 kept-admit p past e h en = by_newcomer (newcomer p (units p past)) refl
   where
-    -- the first account of a test
-    begins : (k : ℕ) (u : UnitView) (v : Option UnitView) (t : List News) (q : List Message)
-        → u.phase ≡ StartSent → u.statuses ≡ [] → ((u.unit == k) ≡ true → v ≡ None) → HasAccount v t (pending_of k q)
-        → HasAccount (if u.unit == k then Some u else v) (t ++ []) (pending_of k (q ++ Start u.unit u.id u.command u.slot ∷ []))
-    begins k u v t q ph st fresh h = grind (arith, common_steps, append-nil, filter_map-append)
-
-    by_newcomer : (o : Option UnitView) → newcomer p (units p past) ≡ o → Holds p (admission e o ∷ past)
-    by_newcomer None eo = let never : is_some {T = UnitView} None ≡ true = rw eo at en in cc
-    by_newcomer (Some u) eo =
-        let found = newcomer_is p (units p past) u eo in
-        let waits = candidate_waits p (units p past) found.0 found.2 in
-        let below : found.0 < tests_in p = slice_get_within p.plan.tests found.0 found.1 found.3 in
-        let is : u ≡ first_view p found.0 (free_slot (units p past)) found.1 = found.4 in
-        let at : u.unit ≡ found.0 = ap (λ (u : UnitView). u.unit) is in
-        let fresh : (k : ℕ) → (u.unit == k) ≡ true → unit_of k past ≡ None =
-        λ k uk. let here : k ≡ found.0 = grind arith in
-        ap (λ k. unit_of k past) here ∙ sym (units-at p past found.0 below) ∙ waits.1 in
-        holds-cons p past (admission e (Some u)) h (omega (arith, h.fits)) (λ w ew. let same : w ≡ u = cc in grind arith)
-        (λ k. begins k u (unit_of k past) (account_of k (told past)) (queue past)
-        (ap (λ (u : UnitView). u.phase) is) (ap (λ (u : UnitView). u.statuses) is) (fresh k) (h.accounts k))
+    by_newcomer : (o : Option Newcomer) → newcomer p (units p past) ≡ o → Holds p (admission e o ∷ past)
+    by_newcomer None eo = let never : is_some {T = Newcomer} None ≡ true = rw eo at en in cc
+    by_newcomer (Some new) eo =
+        let found = newcomer_is p (units p past) new eo in
+        let known = newcomer_unit p (units p past) new found in
+        let waits = candidate_waits (units p past) found.place found.candidate in
+        let below : found.place < tests_in p = slice_get_within p.plan.tests found.place found.test found.planned in
+        let at : new.unit.unit ≡ found.place = known.0 in
+        let starts : new.unit.start ≡ 0 = known.1 in
+        let fresh : (k : ℕ) → (new.unit.unit == k) ≡ true → unit_of k past ≡ None =
+        λ k uk. let here : k ≡ found.place = grind arith in
+        ap (λ k. unit_of k past) here ∙ sym (units-at p past found.place below) ∙ waits.1 in
+        let planned : (k : ℕ) → (new.unit.unit == k) ≡ true → is_mismatched p k ≡ is_some found.test.skip =
+        λ k uk. let here : k ≡ found.place = grind arith in
+        ap (is_mismatched p) here ∙ ap is_skip found.planned in
+        holds-cons p past (admission e (Some new)) h (omega (arith, h.fits)) (λ w ew. let same : w ≡ new.unit = cc in grind arith)
+        (λ k. by_case k new found.place found.test (units p past) at (fresh k) (planned k) found.kind)
+      where
+        by_case : (k : ℕ) (new : Newcomer) (place : ℕ) (test : PlanTest) (us : List (Option UnitView)) → new.unit.unit ≡ place
+            → ((new.unit.unit == k) ≡ true → unit_of k past ≡ None)
+            → ((new.unit.unit == k) ≡ true → is_mismatched p k ≡ is_some test.skip)
+            → ((reason : List ℕ) × (test.skip ≡ Some reason) × (new ≡ record { unit = skipped_view p place test; sent = Skip place test.id reason }))
+            ⊎ ((test.skip ≡ None) × (nat_lt (in_use us) p.threads ≡ true)
+            × (new ≡ record { unit = first_view p place (free_slot us) test; sent = Start place test.id test.command (record { global = free_slot us }) }))
+            → HasAccount (is_mismatched p k) (if new.unit.unit == k then Some new.unit else unit_of k past) (account_of k (told past) ++ [])
+            (pending_of k (queue past ++ new.sent ∷ []))
+        by_case k new place test us at fresh planned (inl skip) =
+            let unit : new.unit ≡ skipped_view p place test = ap (λ (new : Newcomer). new.unit) skip.2 in
+            let sent : new.sent ≡ Skip new.unit.unit test.id skip.0 =
+            ap (λ (new : Newcomer). new.sent) skip.2 ∙ ap (λ k. Skip k test.id skip.0) (sym at) in
+            rw sent (begins_skipped (is_mismatched p k) k new.unit (unit_of k past) (account_of k (told past)) (queue past) test.id skip.0
+            (ap (λ (u : UnitView). u.phase) unit) (ap (λ (u : UnitView). u.statuses) unit)
+            (λ uk. planned uk ∙ ap is_some skip.1) fresh (h.accounts k))
+        by_case k new place test us at fresh planned (inr run) =
+            let unit : new.unit ≡ first_view p place (free_slot us) test = ap (λ (new : Newcomer). new.unit) run.2 in
+            let sent : new.sent ≡ Start new.unit.unit test.id test.command (record { global = free_slot us }) =
+            ap (λ (new : Newcomer). new.sent) run.2 ∙ ap (λ k. Start k test.id test.command (record { global = free_slot us })) (sym at) in
+            rw sent (begins_started (is_mismatched p k) k new.unit (unit_of k past) (account_of k (told past)) (queue past) test.id test.command (record { global = free_slot us })
+            (ap (λ (u : UnitView). u.phase) unit) (ap (λ (u : UnitView). u.statuses) unit)
+            (λ uk. planned uk ∙ ap is_some run.0) fresh (h.accounts k))
 
 -- a turn that only tells what is no news keeps what holds
 pub kept-told : (p : Settings) (past : List Happening) (e : Entry) (kind : TestEventKind) → Holds p past
@@ -193,29 +241,33 @@ kept-deliver p past e h en = by_queue (queue past) refl
         → Holds p (start_delivery go (taken_by (clock past) e i (Answered go) w) (event_at past (TestStarted i id command slot running stats)) ∷ past)
     start i id command slot rest eq running stats true None ew =
         holds-cons p past _ h (lt-from_queue (delivered past) (sent past) rest _ eq) (λ v ev. cc)
-        (λ k. rw eq (start_row (clock past) i k true (unit_of k past) None (account_of k (told past)) rest e
+        (λ k. rw eq (start_row (is_mismatched p k) (clock past) i k true (unit_of k past) None (account_of k (told past)) rest e
         (clock past) (elapsed past) id command slot running stats (same i k None ew) (rw eq at (h.accounts k))))
     start i id command slot rest eq running stats true (Some u) ew =
         holds-cons p past _ h (lt-from_queue (delivered past) (sent past) rest _ eq) (λ v ev. cc)
-        (λ k. rw eq (start_row (clock past) i k true (unit_of k past) (Some u) (account_of k (told past)) rest e
+        (λ k. rw eq (start_row (is_mismatched p k) (clock past) i k true (unit_of k past) (Some u) (account_of k (told past)) rest e
         (clock past) (elapsed past) id command slot running stats (same i k (Some u) ew) (rw eq at (h.accounts k))))
     start i id command slot rest eq running stats false None ew =
         holds-cons p past _ h (lt-from_queue (delivered past) (sent past) rest _ eq) (λ v ev. cc)
-        (λ k. rw eq (start_row (clock past) i k false (unit_of k past) None (account_of k (told past)) rest e
+        (λ k. rw eq (start_row (is_mismatched p k) (clock past) i k false (unit_of k past) None (account_of k (told past)) rest e
         (clock past) (elapsed past) id command slot running stats (same i k None ew) (rw eq at (h.accounts k))))
     start i id command slot rest eq running stats false (Some u) ew =
         holds-cons p past _ h (lt-from_queue (delivered past) (sent past) rest _ eq) (λ v ev. cc)
-        (λ k. rw eq (start_row (clock past) i k false (unit_of k past) (Some u) (account_of k (told past)) rest e
+        (λ k. rw eq (start_row (is_mismatched p k) (clock past) i k false (unit_of k past) (Some u) (account_of k (told past)) rest e
         (clock past) (elapsed past) id command slot running stats (same i k (Some u) ew) (rw eq at (h.accounts k))))
 
     by_queue : (q : List Message) → queue past ≡ q → Holds p (delivery p past e q ∷ past)
     by_queue [] eq = let never : not (is_empty []) ≡ true = rw eq at en in cc
     by_queue (Start i id command slot ∷ rest) eq =
         start i id command slot rest eq (running p past + 1) (stats p past) (is_none (reason past)) (unit_of i past) refl
+    by_queue (Skip i id why ∷ rest) eq =
+        holds-cons p past _ h (lt-from_queue (delivered past) (sent past) rest _ eq) (λ u eu. cc)
+        (λ k. rw (eq, append-nil) (of_skip (is_mismatched p k) i k (unit_of k past) (account_of k (told past)) rest (clock past) (elapsed past) id why
+        (rw eq at (h.accounts k))))
     by_queue (Finish i id statuses ∷ rest) eq =
         holds-cons p past _ h (lt-from_queue (delivered past) (sent past) rest _ eq) (λ u eu. cc)
-        (λ k. rw (eq, append-nil) (of_finish i k (unit_of k past) (account_of k (told past)) rest (clock past) (elapsed past) id statuses
-        (running p past - 1) (stats_after p (reason past) (finished past ++ finished_test statuses ∷ [])) (rw eq at (h.accounts k))))
+        (λ k. rw (eq, append-nil) (of_finish (is_mismatched p k) i k (unit_of k past) (account_of k (told past)) rest (clock past) (elapsed past) id statuses
+        (running p past - 1) (stats_after p (reason past) (skipped past) (finished past ++ finished_test statuses ∷ [])) (rw eq at (h.accounts k))))
 
 -- each enabled turn keeps what holds
 pub kept : (p : Settings) (past : List Happening) (e : Entry) → Holds p past → enabled p past e.turn ≡ true
@@ -227,7 +279,9 @@ kept p past e h en = by_turn e.turn (second_so (not (is_over past)) (takes_turn 
     by_turn Admit en = kept-admit p past e h (second_so (has_begun past) (is_some (newcomer p (units p past))) en)
     by_turn Deliver en = kept-deliver p past e h (second_so (has_begun past) (not (is_empty (queue past))) en)
     by_turn (Started unit pid) en = kept-unit p past e unit (UnitStarted pid) h en refl
+    by_turn (StartFailed unit error) en = kept-unit p past e unit (UnitStartFailed error) h en refl
     by_turn (Exit unit exit) en = kept-unit p past e unit (UnitExit exit) h en refl
+    by_turn (WaitFailed unit error) en = kept-unit p past e unit (UnitWaitFailed error) h en refl
     by_turn (Decide unit word) en = kept-unit p past e unit (UnitDecide word) h en refl
     by_turn End en = kept-told p past e _ h (λ k. refl)
 

@@ -4,4 +4,6 @@ pub mod Kept
 pub mod Running
 pub mod Facts
 pub mod Told
-pub mod Finish
+pub mod FateLemmas
+pub mod Prefix
+pub mod Scan

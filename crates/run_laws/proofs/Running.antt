@@ -8,7 +8,7 @@ use Rattle.run_events.specs.declared.result.ExecuteStatus.{ExecuteStatus}
 use Rattle.run_events.specs.declared.events.ReporterEvent.{ReporterEvent}
 use Rattle.run_events.specs.declared.events.ReporterEvent.TheVariants.{Test}
 use Rattle.run_events.specs.declared.events.TestEventKind.{TestEventKind}
-use Rattle.run_events.specs.declared.events.TestEventKind.TheVariants.{RunStarted, TestStarted, TestFinished, RunFinished}
+use Rattle.run_events.specs.declared.events.TestEventKind.TheVariants.{RunStarted, TestStarted, TestAttemptFailedWillRetry, TestRetryStarted, TestFinished, TestSkipped, RunFinished}
 use Rattle.run_model.specs.Words.{starts, finishes, is_running}
 use Rattle.run_model.specs.Accounts.{News, started, finished, news_of, account_of}
 
@@ -59,11 +59,11 @@ count-more f g (suc n) a i low high was is same =
 -- whether news tell a start, or a finish
 abbrev pub is_start : News → Bool
 is_start started = true
-is_start (finished statuses) = false
+is_start _ = false
 
 abbrev pub is_finish : News → Bool
-is_finish started = false
 is_finish (finished statuses) = true
+is_finish _ = false
 
 -- what is told of a test says whether it was told started, and whether it was told finished
 starts-one : (k : ℕ) (e : ReporterEvent) (es : List ReporterEvent)

@@ -1,24 +1,26 @@
 -- What a turn tells, and that no turn of the built part cancels the run.
-use Rattle.std.proofs.Common.{◌≡◌, ℕ, suc, ◌+◌, ◌-◌, ◌<◌, ◌≤◌, List, [], ◌∷◌, ◌++◌, length, Bool, true, false, not, Option, Some, None, is_none, option_to_list, filter_map, refl, ap, sym, ◌∙◌, arith, length-append}
+use Rattle.std.proofs.Common.{◌≡◌, ℕ, suc, ◌+◌, ◌-◌, ◌<◌, ◌≤◌, List, [], ◌∷◌, ◌++◌, length, Bool, true, false, not, Option, Some, None, is_none, option_to_list, filter_map, count_by, cond, refl, ap, sym, ◌∙◌, arith, length-append}
 use Rattle.std.specs.Prelude.{⊤}
 use Rattle.std.specs.Cmp.{second_so}
+use Rattle.std.proofs.lemmas.List.Sums.{sum_by-cons}
+use Rattle.run_events.specs.Stats.{FinishedTest}
 use Rattle.run_events.specs.declared.settings.Settings.{Settings}
 use Rattle.run_events.specs.declared.turn.Turn.{Turn}
-use Rattle.run_events.specs.declared.turn.Turn.TheVariants.{Begin, Admit, Deliver, Started, Exit, Decide, End}
+use Rattle.run_events.specs.declared.turn.Turn.TheVariants.{Begin, Admit, Deliver, Started, StartFailed, Exit, WaitFailed, Decide, End}
 use Rattle.run_events.specs.declared.message.Message.{Message}
-use Rattle.run_events.specs.declared.message.Message.TheVariants.{Start, Finish}
+use Rattle.run_events.specs.declared.message.Message.TheVariants.{Start, Skip, Finish}
 use Rattle.run_events.specs.declared.cancel.CancelReason.{CancelReason}
 use Rattle.run_events.specs.declared.events.ReporterEvent.{ReporterEvent}
 use Rattle.run_events.specs.declared.events.ReporterEvent.TheVariants.{Test}
 use Rattle.run_events.specs.declared.events.TestEventKind.{TestEventKind}
-use Rattle.run_events.specs.declared.events.TestEventKind.TheVariants.{RunStarted, TestStarted, TestFinished, RunFinished}
+use Rattle.run_events.specs.declared.events.TestEventKind.TheVariants.{RunStarted, TestStarted, TestAttemptFailedWillRetry, TestRetryStarted, TestFinished, TestSkipped, RunFinished}
 use Rattle.run_model.specs.declared.entry.Entry.{Entry}
 use Rattle.run_model.specs.declared.happening.Happening.{Happening}
 use Rattle.run_model.specs.declared.unit_turn.UnitTurn.{UnitTurn}
-use Rattle.run_model.specs.declared.unit_turn.UnitTurn.TheVariants.{Answered, Started as UnitStarted, Exit as UnitExit, Decide as UnitDecide}
+use Rattle.run_model.specs.declared.unit_turn.UnitTurn.TheVariants.{Answered, Started as UnitStarted, StartFailed as UnitStartFailed, Exit as UnitExit, WaitFailed as UnitWaitFailed, Decide as UnitDecide}
 use Rattle.run_model.specs.declared.unit_view.UnitView.{UnitView}
-use Rattle.run_model.specs.Words.{clock, sent, delivered, told, queue, reason, greater, unit_of, units, tests_in, has_begun, is_over, finish_of, finished, running, stats}
-use Rattle.run_model.specs.Admission.{newcomer}
+use Rattle.run_model.specs.Words.{clock, sent, delivered, told, queue, reason, greater, unit_of, units, tests_in, has_begun, is_over, finish_in, finish_of, finished, skips_in, skips, skipped, running, stats}
+use Rattle.run_model.specs.Admission.{Newcomer, newcomer}
 use Rattle.run_model.specs.Turns.{event_at, enabled, takes_turn, turn_of_unit, is_empty, taken_by, admission, start_delivery, delivery, happened, happening}
 use Rattle.run_model.specs.Journal.{history, IsLegalBackward}
 use Rattle.run_model.specs.Accounts.{started, account_of}
@@ -45,10 +47,10 @@ taken_tells : (p : Settings) (past : List Happening) (now : ℕ) (e : Entry) (k 
 taken_tells p past now e k turn None fits = (tt, refl, omega arith)
 taken_tells p past now e k turn (Some u) fits = (tt, refl, omega arith)
 
-admission_tells : (p : Settings) (past : List Happening) (e : Entry) (v : Option UnitView)
+admission_tells : (p : Settings) (past : List Happening) (e : Entry) (v : Option Newcomer)
     → delivered past ≤ length (sent past) → Tells p past (admission e v)
 admission_tells p past e None fits = (tt, refl, omega arith)
-admission_tells p past e (Some u) fits = (tt, refl, omega arith)
+admission_tells p past e (Some new) fits = (tt, refl, omega arith)
 
 start_tells : (p : Settings) (past : List Happening) (e : Entry) (i : ℕ) (go : Bool) (turn : UnitTurn) (v : Option UnitView) (event : ReporterEvent)
     → ToldFits (tests_in p) past (Some event) → delivered past + 1 ≤ length (sent past)
@@ -70,6 +72,7 @@ happening_tells p past e h en = by_turn e.turn (second_so (not (is_over past)) (
         start_tells p past e i (is_none (reason past)) (Answered (is_none (reason past))) (unit_of i past)
         (event_at past (TestStarted i id command slot (running p past + 1) (stats p past))) (waits.below, waits.untold)
         (lt-from_queue (delivered past) (sent past) rest _ eq)
+    by_queue (Skip i id why ∷ rest) eq = (tt, refl, lt-from_queue (delivered past) (sent past) rest _ eq)
     by_queue (Finish i id statuses ∷ rest) eq =
         let follows = finish_follows p past i id statuses rest h eq in
         ((follows.below, follows.told_started), refl, lt-from_queue (delivered past) (sent past) rest _ eq)
@@ -79,7 +82,9 @@ happening_tells p past e h en = by_turn e.turn (second_so (not (is_over past)) (
     by_turn Admit en = admission_tells p past e (newcomer p (units p past)) h.fits
     by_turn Deliver en = by_queue (queue past) refl
     by_turn (Started unit pid) en = taken_tells p past (clock past) e unit (UnitStarted pid) (unit_of unit past) h.fits
+    by_turn (StartFailed unit error) en = taken_tells p past (clock past) e unit (UnitStartFailed error) (unit_of unit past) h.fits
     by_turn (Exit unit exit) en = taken_tells p past (clock past) e unit (UnitExit exit) (unit_of unit past) h.fits
+    by_turn (WaitFailed unit error) en = taken_tells p past (clock past) e unit (UnitWaitFailed error) (unit_of unit past) h.fits
     by_turn (Decide unit word) en = taken_tells p past (clock past) e unit (UnitDecide word) (unit_of unit past) h.fits
     by_turn End en = (tt, refl, omega (arith, h.fits))
 
@@ -97,15 +102,34 @@ pub told_short : (past : List Happening) → length (told past) ≤ length past
 told_short [] = omega arith
 told_short (x ∷ past) = omega (arith, told_short past, length-append (told past) (option_to_list x.told), one_at_most x.told)
 
--- a list is not longer for what a test of its items gives
-pub filter_map_short : {X Y : Type 0} (f : X → Option Y) (xs : List X) → length (filter_map f xs) ≤ length xs
-filter_map_short f [] = omega arith
-filter_map_short {X} {Y} f (x ∷ xs) = by_item (f x) refl (filter_map_short f xs)
+-- an event tells a skip, or a finish, or neither
+counted_one : (e : ReporterEvent) (n m : ℕ) (es : List ReporterEvent) (fs : List FinishedTest) → n + length fs ≤ m
+    → cond (skips e) 1 0 + n + length (option_to_list (finish_of e) ++ fs) ≤ suc m
+counted_one (Test event) n m es fs h = by_kind event.kind
   where
-    by_item : (o : Option Y) → f x ≡ o → length (filter_map f xs) ≤ length xs → length (filter_map f (x ∷ xs)) ≤ suc (length xs)
-    by_item None e h = rw e (omega arith)
-    by_item (Some y) e h = rw e (omega arith)
+    by_kind : (kind : TestEventKind) → cond (skips_in kind) 1 0 + n + length (option_to_list (finish_in kind) ++ fs) ≤ suc m
+    by_kind (TestSkipped i id why) = omega arith
+    by_kind (TestFinished i id statuses running stats) = omega arith
+    by_kind (RunStarted id tests) = omega arith
+    by_kind (TestStarted i id command slot running stats) = omega arith
+    by_kind (TestAttemptFailedWillRetry i id status delay running) = omega arith
+    by_kind (TestRetryStarted i id command slot attempt attempts running) = omega arith
+    by_kind (RunFinished stats) = omega arith
 
--- so at most one finish is told by a turn
-pub finished_short : (past : List Happening) → length (finished past) ≤ length past
-finished_short past = omega (arith, filter_map_short finish_of (told past), told_short past)
+filter_map-cons : (e : ReporterEvent) (es : List ReporterEvent) (o : Option FinishedTest) → finish_of e ≡ o
+    → filter_map finish_of (e ∷ es) ≡ option_to_list o ++ filter_map finish_of es
+filter_map-cons e es None is = rw is refl
+filter_map-cons e es (Some f) is = rw is refl
+
+counted_in_list : (es : List ReporterEvent) → count_by skips es + length (filter_map finish_of es) ≤ length es
+counted_in_list [] = omega arith
+counted_in_list (e ∷ es) =
+    let one = counted_one e (count_by skips es) (length es) es (filter_map finish_of es) (counted_in_list es) in
+    let skip : count_by skips (e ∷ es) ≡ cond (skips e) 1 0 + count_by skips es = sum_by-cons (λ x. cond (skips x) 1 0) e es in
+    let finish : length (filter_map finish_of (e ∷ es)) ≡ length (option_to_list (finish_of e) ++ filter_map finish_of es) =
+    ap length (filter_map-cons e es (finish_of e) refl) in
+    omega arith
+
+-- so at most one skip or finish is told by a turn
+pub counted_short : (past : List Happening) → skipped past + length (finished past) ≤ length past
+counted_short past = omega (arith, counted_in_list (told past), told_short past)

@@ -14,4 +14,4 @@ IsNamed n now k v = (u : UnitView) → v ≡ Some u → (u.unit ≡ k) × (k < n
 pub record Holds (p : Settings) (past : List Happening) : Type 0 where
   pub fits : delivered past ≤ length (sent past)
   pub named : (k : ℕ) → IsNamed (tests_in p) (clock past) k (unit_of k past)
-  pub accounts : (k : ℕ) → IsAccounted k past
+  pub accounts : (k : ℕ) → IsAccounted p k past

@@ -1,17 +1,26 @@
 -- The laws of every legal journal.
-use Rattle.std.specs.Prelude.{ℕ, ◌≡◌, ◌<◌, List, true}
+use Rattle.std.specs.Prelude.{ℕ, ◌≡◌, ◌<◌, List, ◌++◌, true}
 use Rattle.run_events.specs.declared.settings.Settings.{Settings}
 use Rattle.run_model.specs.declared.entry.Entry.{Entry}
 use Rattle.run_model.specs.Journal.{IsLegal, past_of}
-use Rattle.run_model.specs.Words.{is_over, tests_in}
+use Rattle.run_model.specs.Words.{is_over, tests_in, told}
 use Rattle.run_model.specs.Accounts.{IsAccounted}
-use Rattle.run_laws.specs.Fates.{IsFinishedOnce}
+use Rattle.run_model.specs.Fates.{HasFate}
 
 -- after every legal journal each test has its account
 abbrev pub AccountsHold : Type 0
-AccountsHold = (p : Settings) (journal : List Entry) → IsLegal p journal → (k : ℕ) → IsAccounted k (past_of p journal)
+AccountsHold = (p : Settings) (journal : List Entry) → IsLegal p journal → (k : ℕ) → IsAccounted p k (past_of p journal)
 
--- in every legal journal whose run is over each test finished once
-abbrev pub EachFinishes : Type 0
-EachFinishes = (p : Settings) (journal : List Entry) → IsLegal p journal → is_over (past_of p journal) ≡ true
-    → (k : ℕ) → k < tests_in p → IsFinishedOnce k (past_of p journal)
+-- in every legal journal whose run is over each test has its fate
+abbrev pub EachHasFate : Type 0
+EachHasFate = (p : Settings) (journal : List Entry) → IsLegal p journal → is_over (past_of p journal) ≡ true
+    → (k : ℕ) → k < tests_in p → HasFate p (past_of p journal) k
+
+-- a list and what follows it
+abbrev pub Extends : {X : Type 0} → List X → List X → Type 0
+Extends {X} xs ys = (more : List X) × (ys ≡ xs ++ more)
+
+-- the events of a legal journal are the first of those of every legal journal that extends it
+abbrev pub EventsExtend : Type 0
+EventsExtend = (p : Settings) (journal more : List Entry) → IsLegal p (journal ++ more)
+    → Extends (told (past_of p journal)) (told (past_of p (journal ++ more)))

@@ -1,3 +1,2 @@
-pub mod Fates
 pub mod Holds
 pub mod Laws

@@ -1,13 +1,19 @@
 // Theorems over every legal journal.
-ghost use Rattle.run_laws.specs.Laws.{AccountsHold, EachFinishes};
+ghost use Rattle.run_laws.specs.Laws.{AccountsHold, EachHasFate, EventsExtend};
 
 /// What is told of each test, and what waits to be told, is its account, after every legal journal.
 pub fn accounts_hold()
     ensures { AccountsHold }
 {}
 
-/// In every legal journal whose run is over each test was told started once and finished once, with the results of
-/// its own turns.
-pub fn each_test_finishes()
-    ensures { EachFinishes }
+/// In every legal journal whose run is over each test has its fate: one that doesn't match was told skipped once and
+/// nothing else; any other was told started and finished once, with the results of its own turns, or, exactly where a
+/// cause came before the delivery of its start or of a retry, was never started or was left there.
+pub fn each_test_has_its_fate()
+    ensures { EachHasFate }
+{}
+
+/// The events of a legal journal are the first events of every legal journal that extends it.
+pub fn events_extend()
+    ensures { EventsExtend }
 {}

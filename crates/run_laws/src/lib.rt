@@ -4,4 +4,4 @@
 
 mod laws;
 
-pub use laws::{accounts_hold, each_test_finishes};
+pub use laws::{accounts_hold, each_test_has_its_fate, events_extend};

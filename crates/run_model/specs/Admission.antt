@@ -1,8 +1,10 @@
 -- The admission rule: which test is next, whether it fits, and the slot that it gets.
-use Rattle.std.specs.Prelude.{ℕ, ◌+◌, List, [], Bool, true, false, not, ◌==◌, nat_lt, if◌then◌else◌, Option, Some, None, option_map, option_and_then, length, count_by, is_none, slice_get, position}
+use Rattle.std.specs.Prelude.{ℕ, ◌+◌, List, [], Bool, true, false, not, ◌==◌, nat_lt, if◌then◌else◌, Option, Some, None, option_and_then, length, count_by, is_none, slice_get, position}
 use Rattle.std.specs.List.{range_with_len, list_any, position_or_len}
 use Rattle.run_events.specs.declared.settings.Settings.{Settings}
 use Rattle.run_events.specs.declared.plan.PlanTest.{PlanTest}
+use Rattle.run_events.specs.declared.message.Message.{Message}
+use Rattle.run_events.specs.declared.message.Message.TheVariants.{Start, Skip}
 use Rattle.run_model.specs.declared.phase.Phase.{Phase}
 use Rattle.run_model.specs.declared.phase.Phase.TheVariants.{StartSent, Over}
 use Rattle.run_model.specs.declared.unit_view.UnitView.{UnitView}
@@ -35,9 +37,9 @@ holds_slot n (Some u) = if is_last u.phase then false else u.slot.global == n
 abbrev pub free_slot : List (Option UnitView) → ℕ
 free_slot us = position_or_len (λ n. not (list_any (holds_slot n) us)) (range_with_len 0 (length us))
 
--- the candidate: the first test of the plan that wasn't admitted, where one more test may be in use
-abbrev pub candidate : Settings → List (Option UnitView) → Option ℕ
-candidate p us = if nat_lt (in_use us) p.threads then position is_none us else None
+-- whether a planned test matches, and so is to run
+abbrev pub is_matched : PlanTest → Bool
+is_matched test = is_none test.skip
 
 -- a test as a unit, as it begins in this slot
 abbrev pub first_view : Settings → ℕ → ℕ → PlanTest → UnitView
@@ -54,7 +56,32 @@ first_view p k slot test = record {
   statuses = [];
 }
 
--- the unit that the next admission makes, where a test is admitted
-abbrev pub newcomer : Settings → List (Option UnitView) → Option UnitView
-newcomer p us =
-    option_and_then (λ k. option_map (first_view p k (free_slot us)) (slice_get p.plan.tests k)) (candidate p us)
+-- a skipped test as a unit: over from its admission, so it holds no slot, whatever its number
+abbrev pub skipped_view : Settings → ℕ → PlanTest → UnitView
+skipped_view p k test = record (first_view p k 0 test) { phase = Over }
+
+-- what an admission makes: a unit, and the message that it sends
+pub record Newcomer : Type 0 where
+  pub unit : UnitView
+  pub sent : Message
+
+-- a test is skipped where it doesn't match; else it starts, where one more test may be in use
+abbrev pub newcomer_of : Settings → ℕ → Bool → ℕ → PlanTest → Option (List ℕ) → Option Newcomer
+newcomer_of p slot fits k test (Some reason) =
+    Some (record { unit = skipped_view p k test; sent = Skip k test.id reason })
+newcomer_of p slot true k test None =
+    Some (record { unit = first_view p k slot test; sent = Start k test.id test.command (record { global = slot }) })
+newcomer_of p slot false k test None = None
+
+-- the candidate: the first test of the plan that wasn't admitted. It blocks all later ones
+abbrev pub candidate : List (Option UnitView) → Option ℕ
+candidate us = position is_none us
+
+-- what the next admission makes of the candidate at this place
+abbrev pub newcomer_at : Settings → List (Option UnitView) → ℕ → Option PlanTest → Option Newcomer
+newcomer_at p us k None = None
+newcomer_at p us k (Some test) = newcomer_of p (free_slot us) (nat_lt (in_use us) p.threads) k test test.skip
+
+-- what the next admission makes, where a test can be admitted
+abbrev pub newcomer : Settings → List (Option UnitView) → Option Newcomer
+newcomer p us = option_and_then (λ k. newcomer_at p us k (slice_get p.plan.tests k)) (candidate us)

@@ -4,3 +4,4 @@ pub mod Admission
 pub mod Turns
 pub mod Journal
 pub mod Accounts
+pub mod Fates

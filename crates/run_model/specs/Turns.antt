@@ -3,27 +3,29 @@ use Rattle.std.specs.Prelude.{ℕ, ◌+◌, ◌-◌, List, [], ◌∷◌, ◌++�
 use Rattle.std.specs.List.{list_all}
 use Rattle.run_events.specs.declared.settings.Settings.{Settings}
 use Rattle.run_events.specs.declared.turn.Turn.{Turn}
-use Rattle.run_events.specs.declared.turn.Turn.TheVariants.{Begin, Admit, Deliver, Started, Exit, Decide, End}
+use Rattle.run_events.specs.declared.turn.Turn.TheVariants.{Begin, Admit, Deliver, Started, StartFailed, Exit, WaitFailed, Decide, End}
 use Rattle.run_events.specs.declared.message.Message.{Message}
-use Rattle.run_events.specs.declared.message.Message.TheVariants.{Start, Finish}
+use Rattle.run_events.specs.declared.message.Message.TheVariants.{Start, Skip, Finish}
 use Rattle.run_events.specs.declared.events.ReporterEvent.{ReporterEvent}
 use Rattle.run_events.specs.declared.events.ReporterEvent.TheVariants.{Test}
 use Rattle.run_events.specs.declared.events.TestEventKind.{TestEventKind}
-use Rattle.run_events.specs.declared.events.TestEventKind.TheVariants.{RunStarted, TestStarted, TestFinished, RunFinished}
+use Rattle.run_events.specs.declared.events.TestEventKind.TheVariants.{RunStarted, TestStarted, TestFinished, TestSkipped, RunFinished}
 use Rattle.run_model.specs.declared.entry.Entry.{Entry}
 use Rattle.run_model.specs.declared.happening.Happening.{Happening}
 use Rattle.run_model.specs.declared.happening.Place.TheVariants.{Admitted, Took}
 use Rattle.run_model.specs.declared.unit_turn.UnitTurn.{UnitTurn}
-use Rattle.run_model.specs.declared.unit_turn.UnitTurn.TheVariants.{Answered, Started as UnitStarted, Exit as UnitExit, Decide as UnitDecide}
+use Rattle.run_model.specs.declared.unit_turn.UnitTurn.TheVariants.{Answered, Started as UnitStarted, StartFailed as UnitStartFailed, Exit as UnitExit, WaitFailed as UnitWaitFailed, Decide as UnitDecide}
 use Rattle.run_model.specs.declared.unit_view.UnitView.{UnitView}
 use Rattle.run_model.specs.Unit.{row, takes}
-use Rattle.run_model.specs.Admission.{is_done, newcomer}
-use Rattle.run_model.specs.Words.{clock, elapsed, has_begun, is_over, queue, reason, unit_of, units, tests_in, finished, finished_test, stats, stats_after, running}
+use Rattle.run_model.specs.Admission.{is_done, Newcomer, newcomer}
+use Rattle.run_model.specs.Words.{clock, elapsed, has_begun, is_over, queue, reason, unit_of, units, tests_in, finished, finished_test, skipped, stats, stats_after, running}
 
 -- the turns that name a unit, and what they are to it
 abbrev pub turn_of_unit : Turn → Option (ℕ × UnitTurn)
 turn_of_unit (Started unit pid) = Some (unit, UnitStarted pid)
+turn_of_unit (StartFailed unit error) = Some (unit, UnitStartFailed error)
 turn_of_unit (Exit unit exit) = Some (unit, UnitExit exit)
+turn_of_unit (WaitFailed unit error) = Some (unit, UnitWaitFailed error)
 turn_of_unit (Decide unit word) = Some (unit, UnitDecide word)
 turn_of_unit _ = None
 
@@ -81,11 +83,10 @@ taken_by now e k turn None = silent e
 taken_by now e k turn (Some u) =
     record (silent e) { place = Some (Took k turn); sent = (row now turn u).sent; asked = (row now turn u).asked }
 
--- an admission sends the start message of the unit that it makes
-abbrev pub admission : Entry → Option UnitView → Happening
+-- an admission makes a unit and sends its message
+abbrev pub admission : Entry → Option Newcomer → Happening
 admission e None = silent e
-admission e (Some u) =
-    record (silent e) { place = Some (Admitted u); sent = Some (Start u.unit u.id u.command u.slot) }
+admission e (Some new) = record (silent e) { place = Some (Admitted new.unit); sent = Some new.sent }
 
 -- a start is let go, and told, where nothing cancels the run
 abbrev pub start_delivery : Bool → Happening → ReporterEvent → Happening
@@ -99,10 +100,12 @@ delivery p past e (Start k id command slot ∷ _) =
     start_delivery (is_none (reason past))
     (taken_by (clock past) e k (Answered (is_none (reason past))) (unit_of k past))
     (event_at past (TestStarted k id command slot (running p past + 1) (stats p past)))
+delivery p past e (Skip k id reason ∷ _) =
+    record (silent e) { taken = true; told = Some (event_at past (TestSkipped k id reason)) }
 delivery p past e (Finish k id statuses ∷ _) = record (silent e) {
   taken = true;
   told = Some (event_at past (TestFinished k id statuses (running p past - 1)
-      (stats_after p (reason past) (finished past ++ finished_test statuses ∷ []))));
+      (stats_after p (reason past) (skipped past) (finished past ++ finished_test statuses ∷ []))));
 }
 
 -- what a turn of the run's own does

@@ -8,13 +8,20 @@ use Rattle.run_events.specs.declared.ask.Ask.{Ask}
 use Rattle.run_events.specs.declared.ask.Ask.TheVariants.{Start as AskStart}
 use Rattle.run_events.specs.declared.message.Message.{Message}
 use Rattle.run_events.specs.declared.message.Message.TheVariants.{Start, Finish}
+use Rattle.run_capture.specs.Output.{uncaptured}
+use Rattle.run_capture.specs.declared.test_output.ChildFdError.{ChildFdError}
+use Rattle.run_capture.specs.declared.test_output.ChildFdError.TheVariants.{Wait}
 use Rattle.run_events.specs.declared.result.ExecuteStatus.{ExecuteStatus}
+use Rattle.run_events.specs.declared.result.ChildExecutionOutput.{ChildExecutionOutput}
+use Rattle.run_events.specs.declared.result.ChildExecutionOutput.TheVariants.{Output, StartError}
+use Rattle.run_events.specs.declared.result.ChildExit.{ChildExit}
 use Rattle.run_events.specs.declared.result.ExecutionResult.{ExecutionResult}
+use Rattle.run_events.specs.declared.result.ExecutionResult.TheVariants.{ExecFail}
 use Rattle.run_events.specs.declared.result.LeakTimeoutResult.TheVariants.{Pass}
 use Rattle.run_model.specs.declared.phase.Phase.{Phase}
 use Rattle.run_model.specs.declared.phase.Phase.TheVariants.{StartSent, Starting, Running, Deciding, Over}
 use Rattle.run_model.specs.declared.unit_turn.UnitTurn.{UnitTurn}
-use Rattle.run_model.specs.declared.unit_turn.UnitTurn.TheVariants.{Answered, Started, Exit, Decide}
+use Rattle.run_model.specs.declared.unit_turn.UnitTurn.TheVariants.{Answered, Started, StartFailed, Exit, WaitFailed, Decide}
 use Rattle.run_model.specs.declared.unit_view.UnitView.{UnitView}
 
 -- how many attempts a test has: no test has retries yet
@@ -68,20 +75,26 @@ start_ask u = AskStart (record {
 })
 
 -- the status of the current attempt where it ends at this moment with this result
-abbrev pub status_at : ℕ → ExecutionResult → UnitView → ExecuteStatus
-status_at now result u = record {
+abbrev pub status_at : ℕ → ExecutionResult → ChildExecutionOutput → UnitView → ExecuteStatus
+status_at now result output u = record {
   attempt = u.attempt;
   attempts = attempts u;
   delay = 0;
   result = result;
+  output = output;
   slow = false;
   start = u.start;
   time = now - u.start;
 }
 
 -- a unit whose attempt ends at this moment with this result
-abbrev pub ended : ℕ → ExecutionResult → UnitView → UnitView
-ended now result u = record u { phase = Deciding; statuses = u.statuses ++ status_at now result u ∷ [] }
+abbrev pub ended : ℕ → ExecutionResult → ChildExecutionOutput → UnitView → UnitView
+ended now result output u =
+    record u { phase = Deciding; statuses = u.statuses ++ status_at now result output u ∷ [] }
+
+-- a unit whose child ended so, none where the wait for it failed, with these faults: no output is captured yet
+abbrev pub exited : ℕ → Option ChildExit → List ChildFdError → UnitView → UnitView
+exited now exit errors u = ended now (execution_result exit errors false Pass) (Output uncaptured errors) u
 
 -- what a row gives: the unit after it, the message that it sends and what it asks
 pub record Row : Type 0 where
@@ -99,7 +112,9 @@ row_at now StartSent (Answered true) u =
     record { next = record u { phase = Starting; start = now }; sent = None; asked = Some (start_ask u) }
 row_at now StartSent (Answered false) u = quiet (record u { phase = Over })
 row_at now Starting (Started pid) u = quiet (record u { phase = Running })
-row_at now Running (Exit exit) u = quiet (ended now (execution_result (Some exit) [] false Pass) u)
+row_at now Starting (StartFailed error) u = quiet (ended now ExecFail (StartError error) u)
+row_at now Running (Exit exit) u = quiet (exited now (Some exit) [] u)
+row_at now Running (WaitFailed error) u = quiet (exited now None (Wait error ∷ []) u)
 row_at now Deciding (Decide word) u =
     record { next = record u { phase = Over }; sent = Some (Finish u.unit u.id u.statuses); asked = None }
 row_at _ _ _ u = quiet u
@@ -112,6 +127,8 @@ row now turn u = row_at now u.phase turn u
 abbrev pub takes : Phase → UnitTurn → Bool
 takes StartSent (Answered _) = true
 takes Starting (Started _) = true
+takes Starting (StartFailed _) = true
 takes Running (Exit _) = true
+takes Running (WaitFailed _) = true
 takes Deciding (Decide _) = true
 takes _ _ = false

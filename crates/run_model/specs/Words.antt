@@ -13,7 +13,7 @@ use Rattle.run_events.specs.declared.cancel.CancelReason.TheVariants.{SetupScrip
 use Rattle.run_events.specs.declared.events.ReporterEvent.{ReporterEvent}
 use Rattle.run_events.specs.declared.events.ReporterEvent.TheVariants.{Test}
 use Rattle.run_events.specs.declared.events.TestEventKind.{TestEventKind}
-use Rattle.run_events.specs.declared.events.TestEventKind.TheVariants.{RunStarted, TestStarted, TestFinished, RunFinished}
+use Rattle.run_events.specs.declared.events.TestEventKind.TheVariants.{TestStarted, TestFinished, TestSkipped}
 use Rattle.run_events.specs.declared.result.ExecuteStatus.{ExecuteStatus}
 use Rattle.run_events.specs.declared.result.FlakyResult.TheVariants.{Pass}
 use Rattle.run_model.specs.declared.happening.Happening.{Happening}
@@ -21,6 +21,7 @@ use Rattle.run_model.specs.declared.happening.Place.{Place}
 use Rattle.run_model.specs.declared.happening.Place.TheVariants.{Admitted, Took}
 use Rattle.run_model.specs.declared.unit_view.UnitView.{UnitView}
 use Rattle.run_model.specs.Unit.{row}
+use Rattle.run_model.specs.Admission.{is_matched}
 
 -- how far a turn moves the clock, in nanoseconds: no turn does yet
 abbrev pub ns_of : Turn → ℕ
@@ -120,6 +121,10 @@ unit_of k (x ∷ past) = placed (clock past) k x.place (unit_of k past)
 abbrev pub tests_in : Settings → ℕ
 tests_in p = length p.plan.tests
 
+-- how many of them match, and so are to run
+abbrev pub matched_in : Settings → ℕ
+matched_in p = count_by is_matched p.plan.tests
+
 -- all units, in the order of the plan
 abbrev pub units : Settings → List Happening → List (Option UnitView)
 units p past = map (λ k. unit_of k past) (range_with_len 0 (tests_in p))
@@ -143,13 +148,27 @@ finish_of (Test event) = finish_in event.kind
 abbrev pub finished : List Happening → List FinishedTest
 finished past = filter_map finish_of (told past)
 
--- the statistics after these finishes: a count of each kind over them, beside the number of tests and the reason
-abbrev pub stats_after : Settings → Option CancelReason → List FinishedTest → RunStats
-stats_after p why finishes = total (record nothing { initial_run_count = tests_in p; cancel_reason = why }) finishes
+-- whether an event tells a skipped test
+abbrev pub skips_in : TestEventKind → Bool
+skips_in (TestSkipped unit id reason) = true
+skips_in _ = false
+
+abbrev pub skips : ReporterEvent → Bool
+skips (Test event) = skips_in event.kind
+
+-- how many tests were told skipped
+abbrev pub skipped : List Happening → ℕ
+skipped past = count_by skips (told past)
+
+-- the statistics after so many skips and these finishes: a count of each kind over them, beside the number of
+-- tests to run and the reason
+abbrev pub stats_after : Settings → Option CancelReason → ℕ → List FinishedTest → RunStats
+stats_after p why skips finishes =
+    total (record nothing { initial_run_count = matched_in p; skipped = skips; cancel_reason = why }) finishes
 
 -- the statistics of a run
 abbrev pub stats : Settings → List Happening → RunStats
-stats p past = stats_after p (reason past) (finished past)
+stats p past = stats_after p (reason past) (skipped past) (finished past)
 
 -- whether an event tells the start, or the finish, of a test
 abbrev pub starts_in : ℕ → TestEventKind → Bool

@@ -1,3 +1,2 @@
-pub mod SlotLemmas
 pub mod StatisticsLemmas
 pub mod JournalLemmas

@@ -2,12 +2,13 @@
 ghost use Rattle.std.specs.Prelude.{◌≡◌, length, IfOk};
 ghost use Rattle.run_model.specs.declared.phase.Phase.TheVariants as phases;
 
-use crate::{Unit, UnitTurn};
+use crate::{Unit, UnitEffects};
 use run_capture::{CaptureStrategy, List, Mem, Text};
 use run_events::{
-    ChildExit, ExecuteStatus, ExecutionResult, Message, Plan, PlanTest, Settings, TestInstanceId,
-    TestSlotAssignment,
+    ChildExecutionOutput, ChildExit, ExecutionResult, Message, Plan, PlanTest, Settings,
+    TestInstanceId, TestSlotAssignment,
 };
+use run_model::{Phase, UnitTurn};
 use std::alloc::Global;
 use uuid::Uuid;
 
@@ -30,6 +31,7 @@ fn settings(alloc: Global) -> Mem<Settings>
         PlanTest {
             id,
             command: words(alloc)?,
+            skip: None,
         },
     )?;
     Ok(Settings {
@@ -71,27 +73,70 @@ fn last_message(alloc: Global) -> Mem<Option<Message>> {
     Ok(unit.step(alloc, UnitTurn::Decide { word: 0 }, 12)?.sent)
 }
 
-// Its unit and its only status.
-fn only_status(alloc: Global) -> Mem<Option<(u32, ExecuteStatus)>> {
+// Its unit, and the times and the result of its only status.
+fn only_status(alloc: Global) -> Mem<Option<(u32, u64, u64, ExecutionResult)>> {
     match last_message(alloc)? {
         Some(Message::Finish { unit, statuses, .. }) => match statuses.as_slice() {
-            [status] => Ok(Some((unit, *status))),
+            [status] => Ok(Some((unit, status.start, status.time, status.result))),
             _ => Ok(None),
         },
         _ => Ok(None),
     }
 }
 
+// How a message says that its test was tried once: the result, whether its child was started, and its errors.
+fn tried_once(message: Option<Message>) -> Option<(ExecutionResult, bool, usize)> {
+    let Some(Message::Finish { statuses, .. }) = message else {
+        return None;
+    };
+    match statuses.as_slice() {
+        [status] => match &status.output {
+            ChildExecutionOutput::Output { errors, .. } => {
+                Some((status.result, true, errors.len()))
+            }
+            ChildExecutionOutput::StartError(_) => Some((status.result, false, 0)),
+        },
+        _ => None,
+    }
+}
+
+// A test whose child could not be started, at 8.
+fn refused_start(alloc: Global) -> Mem<Option<(ExecutionResult, bool, usize)>> {
+    let mut unit = let_go(alloc)?;
+    let error = Text::from_str(alloc, "no such file")?;
+    unit.step(alloc, UnitTurn::StartFailed { error }, 8)?;
+    let UnitEffects { sent, .. } = unit.step(alloc, UnitTurn::Decide { word: 0 }, 8)?;
+    Ok(tried_once(sent))
+}
+
+// A test the wait for whose child failed, at 12.
+fn failed_wait(alloc: Global) -> Mem<Option<(ExecutionResult, bool, usize)>> {
+    let mut unit = started(alloc)?;
+    let error = Text::from_str(alloc, "no child")?;
+    unit.step(alloc, UnitTurn::WaitFailed { error }, 12)?;
+    let UnitEffects { sent, .. } = unit.step(alloc, UnitTurn::Decide { word: 0 }, 12)?;
+    Ok(tried_once(sent))
+}
+
+// The phase of a skipped test.
+fn skipped(alloc: Global) -> Mem<Phase> {
+    Ok(Unit::skipped(alloc, &settings(alloc)?, 0)?.phase())
+}
+
 #[test]
 fn walks_through_its_phases(rt: HostRuntime) {
-    let status = ExecuteStatus {
-        attempt: 1,
-        attempts: 1,
-        delay: 0,
-        result: ExecutionResult::Pass,
-        slow: false,
-        start: 5,
-        time: 7,
-    };
-    assert_eq!(rt; only_status(rt.alloc()), Ok(Some((0, status))));
+    let alloc = rt.alloc();
+    assert_eq!(rt;
+        only_status(alloc),
+        Ok(Some((0, 5, 7, ExecutionResult::Pass)))
+    );
+    assert_eq!(rt;
+        refused_start(alloc),
+        Ok(Some((ExecutionResult::ExecFail, false, 0)))
+    );
+    assert_eq!(rt;
+        failed_wait(alloc),
+        Ok(Some((ExecutionResult::ExecFail, true, 1)))
+    );
+    assert_eq!(rt; skipped(alloc), Ok(Phase::Over));
 }

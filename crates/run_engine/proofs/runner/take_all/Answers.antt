@@ -27,6 +27,7 @@ loop-place-preserved g c =
           (g.R.Reporter.faults c.loop-place.report) (g.R.Reporter.faults c.take.new.report) c.loop-place.first c.in-Ok.refusal
           c.in_ok-turn.turn c.take.new.self inv.takes step c.in-Ok.ensures.faults more);
       all = ap (λ (w : World). turns_of w.journal) step.grown
-          ∙ turns-push journal c.args.turns.now c.loop-place.place c.in_ok-turn.turn step.refused (omega arith) inv.all c.in_ok-turn.ensures.ok;
+          ∙ turns-push journal c.args.turns.now c.loop-place.place c.in_ok-turn.turn c.index-turns-place.result step.refused (omega arith) inv.all
+          (c.in_ok-turn.ensures.ok ∙ c.index-turns-place.is);
       run = runs;
     }

@@ -6,6 +6,8 @@ pub returns : goal.returns
 returns c = record {
   units = units-nil c.args.settings.now c.in_ok-unadmitted.field-0.items (grind arith) c.in_ok-unadmitted.ensures.none;
   queue = grind arith;
+  run_id = grind arith;
+  tests = grind arith;
   begun = grind arith;
   over = grind arith;
   running = grind (arith, running-nil c.args.settings.now);

@@ -23,3 +23,11 @@ returns-in_ok-asked-in-Exit-clause-after c = λ e et.
 pub returns-in_ok-asked-in-Decide-clause-after : goal.returns-in_ok-asked-in-Decide-clause-after
 returns-in_ok-asked-in-Decide-clause-after c = λ e et.
     rw c.in-Decide.is (c.in_ok-asked-in-Decide.ensures.after e (ap is_begin (et ∙ c.in-Decide.is), ap is_end (et ∙ c.in-Decide.is)))
+
+pub returns-in_ok-asked-in-StartFailed-clause-after : goal.returns-in_ok-asked-in-StartFailed-clause-after
+returns-in_ok-asked-in-StartFailed-clause-after c = λ e et.
+    rw c.in-StartFailed.is (rw (c.in_ok-error-in-StartFailed.ensures) at (c.in_ok-asked-in-StartFailed.ensures.after e (ap is_begin (et ∙ c.in-StartFailed.is), ap is_end (et ∙ c.in-StartFailed.is))))
+
+pub returns-in_ok-asked-in-WaitFailed-clause-after : goal.returns-in_ok-asked-in-WaitFailed-clause-after
+returns-in_ok-asked-in-WaitFailed-clause-after c = λ e et.
+    rw c.in-WaitFailed.is (rw (c.in_ok-error-in-WaitFailed.ensures) at (c.in_ok-asked-in-WaitFailed.ensures.after e (ap is_begin (et ∙ c.in-WaitFailed.is), ap is_end (et ∙ c.in-WaitFailed.is))))

@@ -1,0 +1,28 @@
+use Rattle.std.proofs.Common.{◌≡◌, ◌+◌, ◌∷◌, ◌++◌, [], take, zip, length, sym, subst, arith, ap, ◌∙◌, length-append, is_some}
+use Rattle.run_engine.specs.World.{TellsEvents, CountsErrors, earlier}
+use Rattle.run_engine.proofs.TakesLemmas.{tells_both, counts_both}
+use Rattle.run_engine.proofs.TellLemmas.{zip-more}
+use Rattle.run_engine.proofs.tell.tell.Goals as goal
+
+pub loop-event-preserved : goal.loop-event-preserved
+loop-event-preserved g c =
+    let inv = c.loop-event.invariant in
+    let i = c.loop-event.event-index in
+    let events = c.args.events.now in
+    let error = c.in_ok-error.error in
+    let pushed : c.push.new.self ≡ c.loop-event.refused ++ is_some error ∷ [] =
+    c.in_ok-push.ensures.ok ∙ ap (λ b. c.loop-event.refused ++ b ∷ []) c.is_some.ensures in
+    let pairs = zip-more events c.loop-event.refused i c.event-item.result (is_some error) c.loop-event-test.true inv.answered c.event-item.is in
+    record {
+      answered = ap length pushed ∙ omega (arith, length-append c.loop-event.refused (is_some error ∷ []));
+      told = subst (TellsEvents g.R.Reporter.told c.args.report.now c.tell_one.new.report (zip (take (i + 1) events) c.push.new.self))
+          (sym c.first_of-refusal.ensures)
+          (subst (λ bs. TellsEvents g.R.Reporter.told c.args.report.now c.tell_one.new.report (zip (take (i + 1) events) bs) (earlier c.loop-event.refusal error))
+          (sym pushed)
+          (subst (λ ps. TellsEvents g.R.Reporter.told c.args.report.now c.tell_one.new.report ps (earlier c.loop-event.refusal error))
+          (sym pairs)
+          (tells_both g.R.Reporter.told c.args.report.now c.loop-event.report c.tell_one.new.report (zip (take i events) c.loop-event.refused) _
+          c.loop-event.refusal error inv.told c.in_ok-error.ensures.told)));
+      faults = subst (CountsErrors (g.R.Reporter.faults c.args.report.now) (g.R.Reporter.faults c.tell_one.new.report)) (sym c.first_of-refusal.ensures)
+          (counts_both _ _ _ c.loop-event.refusal error inv.faults c.in_ok-error.ensures.faults);
+    }

@@ -1,0 +1,84 @@
+-- What becomes of a test in a run that is over, and what is told of it then.
+use Rattle.std.specs.Prelude.{ℕ, ◌+◌, ◌-◌, ◌≡◌, ◌⊎◌, ◌≤◌, ◌<◌, ◌==◌, nat_lt, ◌&&◌, ◌||◌, not, List, [], ◌∷◌, ◌++◌, length, Bool, true, false, if◌then◌else◌, Option, Some, None, is_some}
+use Rattle.std.specs.List.{list_all}
+use Rattle.run_events.specs.Result.{is_success}
+use Rattle.run_events.specs.declared.result.ExecuteStatus.{ExecuteStatus}
+use Rattle.run_events.specs.declared.settings.Settings.{Settings}
+use Rattle.run_model.specs.declared.happening.Happening.{Happening}
+use Rattle.run_model.specs.declared.happening.Place.{Place}
+use Rattle.run_model.specs.declared.happening.Place.TheVariants.{Took}
+use Rattle.run_model.specs.declared.unit_turn.UnitTurn.TheVariants.{Answered}
+use Rattle.run_model.specs.declared.unit_view.UnitView.{UnitView}
+use Rattle.run_model.specs.Words.{reason, unit_of, told}
+use Rattle.run_model.specs.Accounts.{News, started, failed, retried, finished, skipped, account_of, is_mismatched}
+
+-- whether a turn delivered the start of test k, or its retry
+abbrev pub lets_go : ℕ → Option Place → Bool
+lets_go k (Some (Took j (Answered go))) = j == k
+lets_go k _ = false
+
+-- how many times that was: its start, and then its retries
+abbrev pub deliveries : ℕ → List Happening → ℕ
+deliveries k [] = 0
+deliveries k (x ∷ past) = deliveries k past + (if lets_go k x.place then 1 else 0)
+
+-- test k was never started: a cause stands before the delivery of its start
+abbrev pub never_started : ℕ → List Happening → Bool
+never_started k [] = false
+never_started k (x ∷ past) =
+    (lets_go k x.place && (deliveries k past == 0) && is_some (reason past)) || never_started k past
+
+-- test k was left between two attempts: a cause stands before the delivery of a retry
+abbrev pub was_left : ℕ → List Happening → Bool
+was_left k [] = false
+was_left k (x ∷ past) =
+    (lets_go k x.place && nat_lt 0 (deliveries k past) && is_some (reason past)) || was_left k past
+
+-- the attempts of test k that have ended, as its own turns made them
+abbrev pub statuses_in : Option UnitView → List ExecuteStatus
+statuses_in None = []
+statuses_in (Some u) = u.statuses
+
+abbrev pub statuses_of : ℕ → List Happening → List ExecuteStatus
+statuses_of k past = statuses_in (unit_of k past)
+
+-- what is told of attempts each of which a further one follows, but the last
+abbrev pub retries : List ExecuteStatus → List News
+retries [] = []
+retries (s ∷ []) = []
+retries (s ∷ t ∷ ss) = failed s ∷ retried ∷ retries (t ∷ ss)
+
+-- what is told of attempts the last of which failed too, and none followed
+abbrev pub failures : List ExecuteStatus → List News
+failures [] = []
+failures (s ∷ []) = failed s ∷ []
+failures (s ∷ t ∷ ss) = failed s ∷ retried ∷ failures (t ∷ ss)
+
+-- all that is told of a test: of one that doesn't match, that was never started, that was left, and of any other
+abbrev pub account : Bool → Bool → Bool → List ExecuteStatus → List News
+account true never left ss = skipped ∷ []
+account false true left ss = []
+account false false true ss = started ∷ failures ss
+account false false false ss = started ∷ (retries ss ++ finished ss ∷ [])
+
+-- how many retries a test has: no plan gives any yet
+abbrev pub retries_of : Settings → ℕ → ℕ
+retries_of p k = 0
+
+-- with so many retries: each attempt but the last failed, and the last passed or no retry was left
+abbrev pub MeetsAttemptLaw : ℕ → List ExecuteStatus → Type 0
+MeetsAttemptLaw n [] = ⊥
+MeetsAttemptLaw n (s ∷ []) = (is_success s.result ≡ true) ⊎ (n ≡ 0)
+MeetsAttemptLaw n (s ∷ t ∷ ss) = (is_success s.result ≡ false) × (0 < n) × MeetsAttemptLaw (n - 1) (t ∷ ss)
+
+-- each attempt failed, and a retry was left
+abbrev pub HasRetryLeft : ℕ → List ExecuteStatus → Type 0
+HasRetryLeft n ss = (list_all (λ s. not (is_success s.result)) ss ≡ true) × (length ss ≤ n) × (0 < length ss)
+
+-- test k has its fate: what was told of it is its account, and its attempts meet their law
+pub record HasFate (p : Settings) (past : List Happening) (k : ℕ) : Type 0 where
+  pub account : account_of k (told past)
+      ≡ account (is_mismatched p k) (never_started k past) (was_left k past) (statuses_of k past)
+  pub finished : is_mismatched p k ≡ false → never_started k past ≡ false → was_left k past ≡ false
+      → MeetsAttemptLaw (retries_of p k) (statuses_of k past)
+  pub left : is_mismatched p k ≡ false → was_left k past ≡ true → HasRetryLeft (retries_of p k) (statuses_of k past)
