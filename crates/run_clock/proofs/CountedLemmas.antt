@@ -1,8 +1,8 @@
 -- The laws of counted time.
-use Rattle.std.proofs.Common.{ℕ, ◌≡◌, ◌+◌, ◌-◌, ◌≤◌, true, false, List, [], ◌∷◌, arith, refl, sym, ap, ◌∙◌}
+use Rattle.std.proofs.Common.{ℕ, ◌≡◌, ◌+◌, ◌-◌, ◌≤◌, true, false, List, [], ◌∷◌, arith, sym, ap, ◌∙◌}
 use Rattle.std.specs.Prelude.{if◌then◌else◌}
 use Rattle.run_clock.specs.Counted.{Mark, is_paused, IsInOrder, counted_time, paused_time}
-use Rattle.run_clock.specs.Laws.{TimeAddsUp, PassingTimeCounts, SameMomentCountsNothing, IdleMarkCountsNothing}
+use Rattle.run_clock.specs.Laws.{TimeAddsUp, PassingTimeCounts, SameMomentCountsNothing, IdleMarkCountsNothing, IdleMarkNeedsNoCall}
 
 -- no history in order ends before its start
 pub begun : (start : ℕ) (past : List Mark) (now : ℕ) → IsInOrder start past now → start ≤ now
@@ -58,4 +58,30 @@ same_moment_counts_nothing = record {
       let later : counted_time start past now ≡ counted_time start past moment + 0
       = rw some at (counted_time-later start past moment now order.1 order.0) in
       omega arith;
+}
+
+-- a history in order is in order at a later moment
+pub later_order : (start : ℕ) (past : List Mark) (now later : ℕ) → IsInOrder start past now → now ≤ later → IsInOrder start past later
+later_order start [] now later order le = omega arith
+later_order start (mark ∷ past) now later order le =
+    let here : mark.moment ≤ now = order.0 in
+    (omega arith, order.1)
+
+-- a mark that changes nothing of the pause needs no call
+pub idle_mark_needs_no_call : IdleMarkNeedsNoCall
+idle_mark_needs_no_call = record {
+  stopwatch = λ start mark past watch same times. record {
+    start_is = times.start_is;
+    paused_is = times.paused_is ∙ sym same;
+    active_is = λ now order.
+        times.active_is now (later_order start past mark.moment now order.1 order.0)
+        ∙ sym (idle_mark_counts_nothing start mark past now same order);
+  };
+  sleep = λ mark timer sleep same keeps. record {
+    duration_is = keeps.duration_is;
+    paused_is = keeps.paused_is ∙ sym same;
+    remaining_is = λ now order.
+        keeps.remaining_is now (later_order timer.set timer.past mark.moment now order.1 order.0)
+        ∙ ap (λ counted. timer.duration - counted) (sym (idle_mark_counts_nothing timer.set mark timer.past now same order));
+  };
 }

@@ -1,5 +1,5 @@
 -- Counted time: the time of a history that lies in no pause. A history is a start and a list of marks, the newest first.
-use Rattle.std.specs.Prelude.{ℕ, ◌+◌, ◌-◌, ◌≤◌, Bool, true, false, ◌&&◌, not, nat_le, if◌then◌else◌, List, [], ◌∷◌}
+use Rattle.std.specs.Prelude.{ℕ, ◌+◌, ◌-◌, ◌≤◌, Bool, true, false, ◌&&◌, not, nat_le, if◌then◌else◌, List, [], ◌∷◌, map}
 
 -- what an entry of a history does to a timer; most turns of a run do something else
 pub data Act : Type 0 where
@@ -11,6 +11,10 @@ pub data Act : Type 0 where
 pub record Mark : Type 0 where
   pub moment : ℕ
   pub act : Act
+
+-- an act at a moment
+abbrev pub mark_of : Act → ℕ → Mark
+mark_of act moment = record { moment = moment; act = act }
 
 -- whether a pause is open after an act, from whether one was open before it
 abbrev pub is_paused_after : Act → Bool → Bool
@@ -53,7 +57,7 @@ is_due timer now = not (is_paused timer.past) && nat_le timer.duration (counted_
 
 -- a timer with one more mark
 abbrev pub marked : Act → ℕ → Timer → Timer
-marked act now timer = record timer { past = record { moment = now; act = act } ∷ timer.past }
+marked act now timer = record timer { past = mark_of act now ∷ timer.past }
 
 -- a timer that is set again: no mark from before is one of its marks, and a pause that is open is taken as
 -- opened after it was set, at the same moment
@@ -61,5 +65,9 @@ abbrev pub set_again : Timer → ℕ → ℕ → Timer
 set_again timer now duration = record {
   set = now;
   duration = duration;
-  past = if is_paused timer.past then record { moment = now; act = pause } ∷ [] else [];
+  past = if is_paused timer.past then mark_of pause now ∷ [] else [];
 }
+
+-- the marks of calls, the newest first: each with its moment, and whether it is a pause or a resume
+abbrev pub marks_of : List (ℕ × Bool) → List Mark
+marks_of calls = map (λ call. mark_of (if call.1 then pause else resume) call.0) calls

@@ -1,6 +1,8 @@
 -- The laws of counted time.
 use Rattle.std.specs.Prelude.{ℕ, ◌≡◌, ◌+◌, ◌-◌, true, false, if◌then◌else◌, List, ◌∷◌}
-use Rattle.run_clock.specs.Counted.{Mark, pause, resume, is_paused, IsInOrder, counted_time, paused_time}
+use Rattle.run_clock.specs.Counted.{Mark, pause, resume, mark_of, is_paused, IsInOrder, counted_time, paused_time, Timer}
+use Rattle.run_clock.specs.Stopwatch.{Watch, Times}
+use Rattle.run_clock.specs.Sleep.{Sleep, Keeps}
 
 -- counted and paused time add up to the time since the start
 abbrev pub TimeAddsUp : Type 0
@@ -16,12 +18,12 @@ PassingTimeCounts = (start : ℕ) (past : List Mark) (now passed : ℕ) → IsIn
 -- is counted
 pub record SameMomentCountsNothing : Type 0 where
   pub running : (start : ℕ) (past : List Mark) (moment now : ℕ) → is_paused past ≡ false
-      → IsInOrder start (record { moment = moment; act = pause } ∷ past) now
-      → counted_time start (record { moment = moment; act = resume } ∷ record { moment = moment; act = pause } ∷ past) now
+      → IsInOrder start (mark_of pause moment ∷ past) now
+      → counted_time start (mark_of resume moment ∷ mark_of pause moment ∷ past) now
       ≡ counted_time start past now
   pub paused : (start : ℕ) (past : List Mark) (moment now : ℕ) → is_paused past ≡ true
-      → IsInOrder start (record { moment = moment; act = resume } ∷ past) now
-      → counted_time start (record { moment = moment; act = pause } ∷ record { moment = moment; act = resume } ∷ past) now
+      → IsInOrder start (mark_of resume moment ∷ past) now
+      → counted_time start (mark_of pause moment ∷ mark_of resume moment ∷ past) now
       ≡ counted_time start past now
 
 -- a mark that leaves a pause open where one was and none where none was (a pause in a pause, a resume of a running
@@ -30,3 +32,11 @@ abbrev pub IdleMarkCountsNothing : Type 0
 IdleMarkCountsNothing = (start : ℕ) (mark : Mark) (past : List Mark) (now : ℕ)
     → is_paused (mark ∷ past) ≡ is_paused past → IsInOrder start (mark ∷ past) now
     → counted_time start (mark ∷ past) now ≡ counted_time start past now
+
+-- a stopwatch and a sleep need not be told of such a mark: they time a history, and keep a timer, with it and without it
+pub record IdleMarkNeedsNoCall : Type 0 where
+  pub stopwatch : (start : ℕ) (mark : Mark) (past : List Mark) (watch : Watch)
+      → is_paused (mark ∷ past) ≡ is_paused past → Times start past watch → Times start (mark ∷ past) watch
+  pub sleep : (mark : Mark) (timer : Timer) (sleep : Sleep)
+      → is_paused (mark ∷ timer.past) ≡ is_paused timer.past → Keeps timer sleep
+      → Keeps (record timer { past = mark ∷ timer.past }) sleep

@@ -43,9 +43,9 @@ fires_at (Running deadline) now = nat_le deadline now
 fires_at (Paused remaining) now = false
 
 -- the deadline is past the greatest u64
-abbrev pub NeverFires : SleepState → Type 0
-NeverFires (Running deadline) = 2 ^ 64 ≤ deadline
-NeverFires (Paused remaining) = ⊥
+abbrev pub IsOutOfReach : SleepState → Type 0
+IsOutOfReach (Running deadline) = 2 ^ 64 ≤ deadline
+IsOutOfReach (Paused remaining) = ⊥
 
 -- ready exactly where the test holds
 abbrev pub ready_where : Bool → Poll (Unit {0})
@@ -63,11 +63,14 @@ pub record Keeps (timer : Timer) (sleep : Sleep) : Type 0 where
 abbrev pub ForTimer : Sleep → (Timer → Type 0) → Type 0
 ForTimer sleep P = (timer : Timer) → Keeps timer sleep → P timer
 
--- after a call at now it keeps the timer that it kept before, with one more mark
-abbrev pub AddsToTimer : Act → Sleep → Sleep → ℕ → Type 0
-AddsToTimer act old new now =
-    ForTimer old (λ timer. IsInOrder timer.set timer.past now → Keeps (marked act now timer) new)
+-- a fact for each timer that a sleep keeps, none of whose marks came after now
+abbrev pub ForTimerBy : Sleep → ℕ → (Timer → Type 0) → Type 0
+ForTimerBy sleep now P = ForTimer sleep (λ timer. IsInOrder timer.set timer.past now → P timer)
 
--- after a call at now it keeps the timer that it kept before, set again
+-- after a call at now it keeps each timer that it kept before, with one more mark
+abbrev pub AddsToTimer : Act → Sleep → Sleep → ℕ → Type 0
+AddsToTimer act old new now = ForTimerBy old now (λ timer. Keeps (marked act now timer) new)
+
+-- after a call at now it keeps each timer that it kept before, set again
 abbrev pub SetsAgain : ℕ → Sleep → Sleep → ℕ → Type 0
 SetsAgain duration old new now = ForTimer old (λ timer. Keeps (set_again timer now duration) new)

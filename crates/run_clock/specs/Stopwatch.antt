@@ -1,6 +1,6 @@
 -- What contracts see of a stopwatch, and the history that it times.
 use Rattle.std.specs.Prelude.{ℕ, ◌≡◌, ◌-◌, List, ◌∷◌, Option, is_some, unwrap_or}
-use Rattle.run_clock.specs.Counted.{Act, Mark, is_paused, IsInOrder, counted_time}
+use Rattle.run_clock.specs.Counted.{Act, Mark, mark_of, is_paused, IsInOrder, counted_time}
 
 -- a stopwatch: the latest moment that it was given, its start, the time of its closed pauses, and where a pause
 -- is open, the moment at which that one opened
@@ -25,7 +25,10 @@ pub record Times (start : ℕ) (past : List Mark) (watch : Watch) : Type 0 where
 abbrev pub ForHistory : Watch → (ℕ → List Mark → Type 0) → Type 0
 ForHistory watch P = (start : ℕ) (past : List Mark) → Times start past watch → P start past
 
--- after a call at now it times the history that it timed before, with one more mark
+-- a fact for each history that a stopwatch times, none of whose marks came after now
+abbrev pub ForHistoryBy : Watch → ℕ → (ℕ → List Mark → Type 0) → Type 0
+ForHistoryBy watch now P = ForHistory watch (λ start past. IsInOrder start past now → P start past)
+
+-- after a call at now it times each history that it timed before, with one more mark
 abbrev pub AddsToHistory : Act → Watch → Watch → ℕ → Type 0
-AddsToHistory act old new now = ForHistory old (λ start past.
-    IsInOrder start past now → Times start (record { moment = now; act = act } ∷ past) new)
+AddsToHistory act old new now = ForHistoryBy old now (λ start past. Times start (mark_of act now ∷ past) new)

@@ -1,5 +1,5 @@
 // Laws of counted time.
-ghost use Rattle.run_clock.specs.Laws.{TimeAddsUp, PassingTimeCounts, SameMomentCountsNothing, IdleMarkCountsNothing};
+ghost use Rattle.run_clock.specs.Laws.{TimeAddsUp, PassingTimeCounts, SameMomentCountsNothing, IdleMarkCountsNothing, IdleMarkNeedsNoCall};
 
 /// Counted and paused time add up to the time since the start, an open pause counted as paused.
 pub fn time_adds_up()
@@ -19,4 +19,9 @@ pub fn same_moment_counts_nothing()
 /// A pause in a pause, a resume of a running timer and any other act change nothing that is counted.
 pub fn idle_marks_count_nothing()
     ensures { IdleMarkCountsNothing }
+{}
+
+/// A stopwatch and a sleep need not be told of a mark that changes nothing that is counted.
+pub fn idle_marks_need_no_call()
+    ensures { IdleMarkNeedsNoCall }
 {}

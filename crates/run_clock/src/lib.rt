@@ -12,7 +12,8 @@ mod stopwatch;
 mod tests;
 
 pub use laws::{
-    idle_marks_count_nothing, passing_time_counts, same_moment_counts_nothing, time_adds_up,
+    idle_marks_count_nothing, idle_marks_need_no_call, passing_time_counts,
+    same_moment_counts_nothing, time_adds_up,
 };
 pub use pausable_sleep::PausableSleep;
 pub use poll::Poll;

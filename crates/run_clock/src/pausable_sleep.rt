@@ -1,14 +1,15 @@
 // A sleep that can be paused.
 ghost use Rattle.std.specs.Prelude.{◌≡◌, ◌+◌, ◌≤◌, []};
 ghost use Rattle.run_clock.specs.declared.sleep_state.SleepState.TheVariants.{Running};
-ghost use Rattle.run_clock.specs.Counted.{pause, resume, is_paused, is_due, IsInOrder};
-ghost use Rattle.run_clock.specs.Sleep.{is_stopped, paused_at, resumed_at, reset_at, fires_at, NeverFires, ready_where, Keeps, ForTimer, AddsToTimer, SetsAgain};
+ghost use Rattle.run_clock.specs.Counted.{pause, resume, is_paused, is_due};
+ghost use Rattle.run_clock.specs.Sleep.{is_stopped, paused_at, resumed_at, reset_at, fires_at, IsOutOfReach, ready_where, Keeps, ForTimer, ForTimerBy, AddsToTimer, SetsAgain};
 
 use crate::poll::Poll;
 use crate::sleep_state::SleepState;
 use std::marker::Model;
 
-/// A sleep of a duration, which can be paused and set again.
+/// A sleep of a duration, which can be paused and set again. Moments and times are whole nanoseconds. A call is given no
+/// earlier moment than the latest that the sleep was given when it was made or changed.
 #[derive(Debug, Drop)]
 pub struct PausableSleep {
     latest: u64,
@@ -30,15 +31,17 @@ impl Model for PausableSleep {
 impl PausableSleep {
     /// Starts a sleep, running, whose deadline is its duration after now. A deadline past the greatest `u64` never fires.
     pub fn new(now: u64, duration: u64) -> Self
-        ensures started { result ≡ record { latest = now; last_duration = duration; state = Running (now + duration) } }
+        ensures started { result ≡ record {
+          latest = now;
+          last_duration = duration;
+          state = Running (now + duration);
+        } }
         ensures timer { Keeps (record { set = now; duration = duration; past = [] }) result }
     {
         PausableSleep {
             latest: now,
             last_duration: duration,
-            state: SleepState::Running {
-                deadline: u128::from(now) + u128::from(duration),
-            },
+            state: SleepState::until(now, duration),
         }
     }
 
@@ -63,9 +66,7 @@ impl PausableSleep {
         ensures timer { AddsToTimer resume self.old self.new now }
     {
         if let SleepState::Paused { remaining } = self.state {
-            self.state = SleepState::Running {
-                deadline: u128::from(now) + u128::from(remaining),
-            };
+            self.state = SleepState::until(now, remaining);
         }
         self.latest = now;
     }
@@ -82,9 +83,7 @@ impl PausableSleep {
         ensures timer { SetsAgain duration self.old self.new now }
     {
         self.state = match self.state {
-            SleepState::Running { .. } => SleepState::Running {
-                deadline: u128::from(now) + u128::from(duration),
-            },
+            SleepState::Running { .. } => SleepState::until(now, duration),
             SleepState::Paused { .. } => SleepState::Paused {
                 remaining: duration,
             },
@@ -117,8 +116,8 @@ impl PausableSleep {
     pub fn poll_at(&self, now: u64) -> Poll<()>
         requires { self.now.latest ≤ now }
         ensures fires { result ≡ ready_where (fires_at self.now.state now) }
-        ensures never { NeverFires self.now.state → result ≡ Poll.Pending }
-        ensures due { ForTimer self.now (λ timer. IsInOrder timer.set timer.past now → result ≡ ready_where (is_due timer now)) }
+        ensures never { IsOutOfReach self.now.state → result ≡ Poll.Pending }
+        ensures due { ForTimerBy self.now now (λ timer. result ≡ ready_where (is_due timer now)) }
     {
         let fires = match self.state {
             SleepState::Running { deadline } => deadline <= u128::from(now),

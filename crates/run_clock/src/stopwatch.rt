@@ -1,11 +1,12 @@
 // A stopwatch that can be paused.
 ghost use Rattle.std.specs.Prelude.{◌≡◌, ◌+◌, ◌-◌, ◌≤◌, [], is_some, IsSome, IsNone, IfSome, Option, Some, None};
-ghost use Rattle.run_clock.specs.Counted.{pause, resume, is_paused, IsInOrder, counted_time, paused_time};
-ghost use Rattle.run_clock.specs.Stopwatch.{active_by, Times, ForHistory, AddsToHistory};
+ghost use Rattle.run_clock.specs.Counted.{pause, resume, is_paused, counted_time, paused_time};
+ghost use Rattle.run_clock.specs.Stopwatch.{active_by, Times, ForHistory, ForHistoryBy, AddsToHistory};
 
 use std::marker::Model;
 
-/// A stopwatch, from its start on.
+/// A stopwatch, from its start on. Moments and times are whole nanoseconds. A call is given no earlier moment than the
+/// latest that the stopwatch was given when it was started, paused or resumed.
 #[derive(Clone, Debug, Drop)]
 pub struct StopwatchStart {
     latest: u64,
@@ -53,7 +54,8 @@ impl StopwatchStart {
     /// Opens a pause. Where one is open it does nothing.
     pub fn pause(&mut self, now: u64)
         requires { self.old.latest ≤ now }
-        ensures opens { IsNone self.old.opened → self.new ≡ record self.old { latest = now; opened = Some now } }
+        ensures opens { IsNone self.old.opened →
+            self.new ≡ record self.old { latest = now; opened = Some now } }
         ensures idle { IsSome self.old.opened → self.new ≡ record self.old { latest = now } }
         ensures history { AddsToHistory pause self.old self.new now }
     {
@@ -93,8 +95,10 @@ impl StopwatchStart {
         ensures start { result.start ≡ self.now.start }
         ensures active { result.active ≡ active_by self.now now }
         ensures whole { result.active + result.paused ≡ now - result.start }
-        ensures counted { ForHistory self.now (λ start past. IsInOrder start past now → result.active ≡ counted_time start past now) }
-        ensures paused { ForHistory self.now (λ start past. IsInOrder start past now → result.paused ≡ paused_time start past now) }
+        ensures counted { ForHistoryBy self.now now (λ start past.
+            result.active ≡ counted_time start past now) }
+        ensures paused { ForHistoryBy self.now now (λ start past.
+            result.paused ≡ paused_time start past now) }
     {
         let active = self.opened.unwrap_or(now) - self.start - self.paused;
         StopwatchSnapshot {
