@@ -1,4 +1,4 @@
--- Counted time: the time of a history that lies in no pause. A history is a start and a list of marks, the newest first.
+-- Counted time: the time of a history that lies in no pause. A history is a start and a list of marks, newest first.
 use Rattle.std.specs.Prelude.{ℕ, ◌+◌, ◌-◌, ◌≤◌, Bool, true, false, ◌&&◌, not, nat_le, if◌then◌else◌, List, [], ◌∷◌, map}
 
 -- what an entry of a history does to a timer; most turns of a run do something else

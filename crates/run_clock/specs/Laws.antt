@@ -33,7 +33,8 @@ IdleMarkCountsNothing = (start : ℕ) (mark : Mark) (past : List Mark) (now : �
     → is_paused (mark ∷ past) ≡ is_paused past → IsInOrder start (mark ∷ past) now
     → counted_time start (mark ∷ past) now ≡ counted_time start past now
 
--- a stopwatch and a sleep need not be told of such a mark: they time a history, and keep a timer, with it and without it
+-- a stopwatch and a sleep need not be told of such a mark: one that times a history, or keeps a timer, without it does
+-- so with it
 pub record IdleMarkNeedsNoCall : Type 0 where
   pub stopwatch : (start : ℕ) (mark : Mark) (past : List Mark) (watch : Watch)
       → is_paused (mark ∷ past) ≡ is_paused past → Times start past watch → Times start (mark ∷ past) watch

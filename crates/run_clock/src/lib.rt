@@ -1,6 +1,6 @@
-//! Time: a stopwatch and a sleep that can be paused, over whole nanoseconds in `u64`, and the definitions of counted time
-//! (`specs/Counted.antt`), which the layers above cite. No clock is read: each call is given the moment `now`. It stands
-//! on no other crate, and no call takes memory.
+//! Time: a stopwatch and a sleep that can be paused, over whole nanoseconds in `u64`, and the definitions of counted
+//! time (`specs/Counted.antt`), which the layers above cite. No clock is read: each call is given the moment `now`. It
+//! stands on no other crate, and no call takes memory.
 #![tactic(auto)]
 
 mod laws;

@@ -8,8 +8,8 @@ use crate::poll::Poll;
 use crate::sleep_state::SleepState;
 use std::marker::Model;
 
-/// A sleep of a duration, which can be paused and set again. Moments and times are whole nanoseconds. A call is given no
-/// earlier moment than the latest that the sleep was given when it was made or changed.
+/// A sleep of a duration, which can be paused and set again. Moments and times are whole nanoseconds. A call is given
+/// no earlier moment than the latest that the sleep was given when it was made or changed.
 #[derive(Debug, Drop)]
 pub struct PausableSleep {
     latest: u64,
@@ -29,7 +29,7 @@ impl Model for PausableSleep {
 }
 
 impl PausableSleep {
-    /// Starts a sleep, running, whose deadline is its duration after now. A deadline past the greatest `u64` never fires.
+    /// Starts a sleep, running, whose deadline is now plus its duration. One past the greatest `u64` never fires.
     pub fn new(now: u64, duration: u64) -> Self
         ensures started { result ≡ record {
           latest = now;
@@ -48,7 +48,10 @@ impl PausableSleep {
     /// Pauses the sleep, which keeps the remaining time, 0 past the deadline. A paused sleep stays as it is.
     pub fn pause(&mut self, now: u64)
         requires { self.old.latest ≤ now }
-        ensures paused { self.new ≡ record self.old { latest = now; state = paused_at self.old.state now } }
+        ensures paused { self.new ≡ record self.old {
+          latest = now;
+          state = paused_at self.old.state now;
+        } }
         ensures timer { AddsToTimer pause self.old self.new now }
     {
         if let SleepState::Running { deadline } = self.state {
@@ -62,7 +65,10 @@ impl PausableSleep {
     /// Runs the sleep again, with the deadline at now plus the remaining time. A running sleep stays as it is.
     pub fn resume(&mut self, now: u64)
         requires { self.old.latest ≤ now }
-        ensures resumed { self.new ≡ record self.old { latest = now; state = resumed_at self.old.state now } }
+        ensures resumed { self.new ≡ record self.old {
+          latest = now;
+          state = resumed_at self.old.state now;
+        } }
         ensures timer { AddsToTimer resume self.old self.new now }
     {
         if let SleepState::Paused { remaining } = self.state {

@@ -23,7 +23,8 @@ impl Model for StopwatchStart {
 
     ghost view = { λ s. record { latest = s.latest; start = s.start; paused = s.paused; opened = s.opened } };
 
-    ghost invariant = { λ s. (s.start + s.paused ≤ unwrap_or s.opened s.latest) × (unwrap_or s.opened s.latest ≤ s.latest) };
+    ghost invariant = { λ s. (s.start + s.paused ≤ unwrap_or s.opened s.latest)
+        × (unwrap_or s.opened s.latest ≤ s.latest) };
 }
 
 /// What a stopwatch shows at a moment.
@@ -69,7 +70,11 @@ impl StopwatchStart {
     pub fn resume(&mut self, now: u64)
         requires { self.old.latest ≤ now }
         ensures closes { IfSome self.old.opened (λ opened.
-            self.new ≡ record self.old { latest = now; paused = self.old.paused + (now - opened); opened = None }) }
+            self.new ≡ record self.old {
+              latest = now;
+              paused = self.old.paused + (now - opened);
+              opened = None;
+            }) }
         ensures idle { IsNone self.old.opened → self.new ≡ record self.old { latest = now } }
         ensures history { AddsToHistory resume self.old self.new now }
     {

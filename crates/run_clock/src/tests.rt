@@ -60,7 +60,8 @@ fn sleep_after(set: u64, duration: u64, calls: &[(u64, bool)], now: u64) -> Paus
 // It is ready exactly where its timer is due.
 fn polled_after(set: u64, duration: u64, calls: &[(u64, bool)], now: u64) -> Poll<()>
     requires { IsInOrder set (marks_of calls.now) now }
-    ensures { result ≡ ready_where (is_due (record { set = set; duration = duration; past = marks_of calls.now }) now) }
+    ensures { result ≡ ready_where
+        (is_due (record { set = set; duration = duration; past = marks_of calls.now }) now) }
 {
     sleep_after(set, duration, calls, now).poll_at(now)
 }
