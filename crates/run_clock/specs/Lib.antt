@@ -1,0 +1,4 @@
+pub mod Counted
+pub mod Stopwatch
+pub mod Sleep
+pub mod Laws
