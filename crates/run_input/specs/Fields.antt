@@ -27,6 +27,11 @@ has_only names (member key d ms) = is_one_of key names && has_only names ms
 abbrev pub is_object_of : List (List ℕ) → Data → Bool
 is_object_of names d = unwrap_or (option_map (has_only names) (as_object d)) false
 
+-- a value that may be missing, and is read where it is there
+abbrev pub optional : {A : Type 0} → (Data → Option A) → Option Data → Option (Option A)
+optional f None = Some None
+optional f (Some d) = option_map Some (f d)
+
 -- a number of 32 bits, without a sign
 abbrev pub u32_of : Data → Option ℕ
 u32_of d = option_and_then (λ n. if nat_lt n (2 ^ 32) then Some n else None) (option_and_then as_u64 (as_number d))

@@ -8,7 +8,7 @@ use Rattle.run_capture.specs.declared.test_output.CaptureStrategy.{CaptureStrate
 use Rattle.run_capture.specs.declared.test_output.CaptureStrategy.TheVariants as capture
 use Rattle.run_events.specs.declared.plan.Plan.{Plan}
 use Rattle.run_events.specs.declared.plan.PlanTest.{PlanTest}
-use Rattle.run_input.specs.Fields.{◌>>=◌, when, is_object_of, texts_of}
+use Rattle.run_input.specs.Fields.{◌>>=◌, when, is_object_of, optional, texts_of}
 use lib.Pointwise.{pointwise}
 
 -- the way of capture that a text names
@@ -25,14 +25,15 @@ uuid_of text = if (length text == 45) && not (starts_with nat_eq text (codes "ur
 abbrev pub run_id_of : Data → Option (List ℕ)
 run_id_of d = option_and_then uuid_of (as_str d)
 
--- a test, with its name and its command
+-- a test, with its name and its command, and the reason for which it is skipped where it doesn't match
 unfoldable pub test_of : Data → Option PlanTest
 test_of d = do
-  _ ← when (is_object_of (codes "binary" ∷ codes "command" ∷ codes "name" ∷ []) d)
+  _ ← when (is_object_of (codes "binary" ∷ codes "command" ∷ codes "name" ∷ codes "skip" ∷ []) d)
   binary ← option_and_then as_str (get (codes "binary") d)
   name ← option_and_then as_str (get (codes "name") d)
   command ← option_and_then texts_of (get (codes "command") d)
-  Some (record { id = record { binary = binary; name = name }; command = command })
+  skip ← optional as_str (get (codes "skip") d)
+  Some (record { id = record { binary = binary; name = name }; command = command; skip = skip })
 
 -- the tests of items, each of which is one
 abbrev pub tests_from : Items → Option (List PlanTest)
@@ -46,12 +47,11 @@ tests_from (item d ds) = do
 abbrev pub tests_of : Data → Option (List PlanTest)
 tests_of d = option_and_then tests_from (as_array d)
 
--- a plan of exactly one test, with its way of capture
+-- a plan of any number of tests, with its way of capture
 unfoldable pub plan_of : Data → Option (CaptureStrategy × Plan)
 plan_of d = do
   _ ← when (is_object_of (codes "capture" ∷ codes "run_id" ∷ codes "tests" ∷ []) d)
   capture ← option_and_then capture_of (get (codes "capture") d)
   run_id ← option_and_then run_id_of (get (codes "run_id") d)
   tests ← option_and_then tests_of (get (codes "tests") d)
-  _ ← when (length tests == 1)
   Some (capture, record { run_id = run_id; tests = tests })

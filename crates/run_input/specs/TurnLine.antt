@@ -5,7 +5,7 @@ use Rattle.serde_json.specs.Find.{get, as_str}
 use Rattle.run_events.specs.declared.result.ChildExit.{ChildExit}
 use Rattle.run_events.specs.declared.result.ChildExit.TheVariants.{Code, Signal}
 use Rattle.run_events.specs.declared.turn.Turn.{Turn}
-use Rattle.run_events.specs.declared.turn.Turn.TheVariants.{Begin, Admit, Deliver, Started, Exit, Decide, End}
+use Rattle.run_events.specs.declared.turn.Turn.TheVariants.{Begin, Admit, Deliver, Started, StartFailed, Exit, WaitFailed, Decide, End}
 use Rattle.run_input.specs.Fields.{◌>>=◌, when, is_object_of, u32_of, i32_of}
 use lib.Pointwise.{pointwise}
 
@@ -22,6 +22,22 @@ started_of d = do
   unit ← option_and_then u32_of (get (codes "unit") d)
   pid ← option_and_then u32_of (get (codes "pid") d)
   Some (Started unit pid)
+
+-- a unit, and the text of the error that came up there
+unfoldable pub failed_of : Data → Option (ℕ × List ℕ)
+failed_of d = do
+  _ ← when (is_object_of (codes "text" ∷ codes "turn" ∷ codes "unit" ∷ []) d)
+  unit ← option_and_then u32_of (get (codes "unit") d)
+  error ← option_and_then as_str (get (codes "text") d)
+  Some (unit, error)
+
+-- a child that could not be started
+abbrev pub start_failed_of : Data → Option Turn
+start_failed_of d = option_map (λ failed. StartFailed failed.0 failed.1) (failed_of d)
+
+-- a child for which the wait failed
+abbrev pub wait_failed_of : Data → Option Turn
+wait_failed_of d = option_map (λ failed. WaitFailed failed.0 failed.1) (failed_of d)
 
 -- how a child ended, from what stands at its code and at its signal: exactly one of them is there
 abbrev pub child_exit_of : Option Data → Option Data → Option ChildExit
@@ -52,7 +68,9 @@ turn_by name d =
     else if pointwise nat_eq name (codes "admit") then bare_of Admit d
     else if pointwise nat_eq name (codes "deliver") then bare_of Deliver d
     else if pointwise nat_eq name (codes "started") then started_of d
+    else if pointwise nat_eq name (codes "start-failed") then start_failed_of d
     else if pointwise nat_eq name (codes "exit") then exit_of d
+    else if pointwise nat_eq name (codes "wait-failed") then wait_failed_of d
     else if pointwise nat_eq name (codes "decide") then decide_of d
     else if pointwise nat_eq name (codes "end") then bare_of End d
     else None

@@ -1,8 +1,9 @@
-// The fields of an object. Each reader is given what stands at a key, and refuses a missing one.
+// The fields of an object. Each reader is given what stands at a key, and refuses a missing one unless
+// its name says that the key is optional.
 ghost use Rattle.std.specs.Prelude.{◌≡◌, List, ℕ, option_map, option_and_then};
 ghost use Rattle.serde_json.specs.Find.{as_str};
 ghost use Rattle.serde_json.specs.View.{view, items_view};
-ghost use Rattle.run_input.specs.Fields.{u32_of, i32_of, texts_of, texts_from};
+ghost use Rattle.run_input.specs.Fields.{optional, u32_of, i32_of, texts_of, texts_from};
 ghost use Rattle.run_input.specs.Reads.{Reads};
 
 use crate::LineError;
@@ -47,6 +48,16 @@ pub fn text_at(alloc: Global, value: Option<&Value>) -> Result<Text, LineError>
     match str_at(value) {
         Some(text) => Ok(Text::from_str(alloc, text)?),
         None => Err(LineError::NotInTable),
+    }
+}
+
+/// A text that may be missing, copied.
+pub fn optional_text_at(alloc: Global, value: Option<&Value>) -> Result<Option<Text>, LineError>
+    ensures { Reads result (optional as_str (option_map (λ v. view v.now) value.entry)) }
+{
+    match value {
+        Some(_) => Ok(Some(text_at(alloc, value)?)),
+        None => Ok(None),
     }
 }
 

@@ -8,7 +8,7 @@ ghost use Rattle.uuid.specs.Text.{parsed};
 ghost use Rattle.run_input.specs.PlanLine.{uuid_of, capture_of, run_id_of, test_of, tests_of, tests_from, plan_of};
 
 use crate::LineError;
-use crate::fields::{str_at, text_at, texts_at};
+use crate::fields::{optional_text_at, str_at, text_at, texts_at};
 use crate::objects::has_keys_of;
 use crate::value::read_value;
 use run_capture::{CaptureStrategy, List};
@@ -19,7 +19,9 @@ use uuid::Uuid;
 
 /// Reads a plan line: its way of capture and its plan.
 ///
-/// Its keys are `capture` (the text `none`), `run_id` (a UUID) and `tests` (one test), all required.
+/// Its keys are `capture` (the text `none`), `run_id` (a UUID) and `tests` (a list of tests, which may
+/// be empty), all required. A test has `binary`, `command` and `name`, and may have `skip`: a text, the
+/// reason for which it is skipped.
 pub fn read_plan_line(alloc: Global, line: &[u8]) -> Result<(CaptureStrategy, Plan), LineError>
     ensures { Reads result (option_and_then plan_of (value_of line.now)) }
 {
@@ -39,9 +41,6 @@ fn plan_from(alloc: Global, value: &Value) -> Result<(CaptureStrategy, Plan), Li
     let capture = capture_at(value.get("capture")).ok_or(LineError::NotInTable)?;
     let run_id = run_id_at(value.get("run_id")).ok_or(LineError::NotInTable)?;
     let tests = tests_at(alloc, value.get("tests"))?;
-    if tests.len() != 1 {
-        return Err(LineError::NotInTable);
-    }
     Ok((capture, Plan { run_id, tests }))
 }
 
@@ -86,15 +85,17 @@ fn run_id_at(value: Option<&Value>) -> Option<Uuid>
 fn test_from(alloc: Global, value: &Value) -> Result<PlanTest, LineError>
     ensures { Reads result (test_of (view value.now)) }
 {
-    if !has_keys_of(value, &["binary", "command", "name"]) {
+    if !has_keys_of(value, &["binary", "command", "name", "skip"]) {
         return Err(LineError::NotInTable);
     }
     let binary = text_at(alloc, value.get("binary"))?;
     let name = text_at(alloc, value.get("name"))?;
     let command = texts_at(alloc, value.get("command"))?;
+    let skip = optional_text_at(alloc, value.get("skip"))?;
     Ok(PlanTest {
         id: TestInstanceId { binary, name },
         command,
+        skip,
     })
 }
 

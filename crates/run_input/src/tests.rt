@@ -3,7 +3,7 @@ use crate::{
     InputError, LineError, ReadAllError, StdSink, StdSource, read_all, read_input, read_plan_line,
     read_turn_line,
 };
-use run_capture::{Blob, CaptureStrategy, List, MemorySource, Sink, Source};
+use run_capture::{Blob, CaptureStrategy, List, MemorySource, Sink, Source, Text};
 use run_events::{ChildExit, Turn};
 use std::test::Fail;
 
@@ -11,7 +11,7 @@ const PLAN: &str =
     r#"{"capture":"none","run_id":"00112233-4455-6677-8899-aabbccddeeff","tests":[{"binary":"b","name":"n","command":["/bin/true","-x"]}]}"#;
 
 #[test]
-fn turn_lines(rt: HostRuntime) {
+fn turn_lines(rt: HostRuntime) -> Result<(), Fail> {
     let lines = [
         (r#"{"turn":"begin"}"#, Turn::Begin),
         (r#" { "turn" : "admit" } "#, Turn::Admit),
@@ -21,6 +21,20 @@ fn turn_lines(rt: HostRuntime) {
             Turn::Started {
                 unit: 0,
                 pid: 4294967295,
+            },
+        ),
+        (
+            r#"{"turn":"start-failed","unit":0,"text":"x"}"#,
+            Turn::StartFailed {
+                unit: 0,
+                error: Text::from_str(rt.alloc(), "x")?,
+            },
+        ),
+        (
+            r#"{"text":"\u00e9\n","turn":"wait-failed","unit":4294967295}"#,
+            Turn::WaitFailed {
+                unit: 4294967295,
+                error: Text::from_str(rt.alloc(), "é\n")?,
             },
         ),
         (
@@ -50,6 +64,7 @@ fn turn_lines(rt: HostRuntime) {
             "at {line}"
         );
     }
+    Ok(())
 }
 
 #[test]
@@ -70,6 +85,12 @@ fn bad_turn_lines(rt: HostRuntime) {
         r#"{"turn":"started","unit":0,"pid":-1}"#,
         r#"{"turn":"started","unit":-0,"pid":1}"#,
         r#"{"turn":"started","unit":"0","pid":1}"#,
+        r#"{"turn":"start-failed","unit":0}"#,
+        r#"{"turn":"start-failed","text":"x"}"#,
+        r#"{"turn":"start-failed","unit":0,"text":1}"#,
+        r#"{"turn":"start-failed","unit":0,"text":"x","pid":1}"#,
+        r#"{"turn":"wait-failed","unit":0,"text":null}"#,
+        r#"{"turn":"wait-failed","unit":0,"text":"x","code":1}"#,
         r#"{"turn":"exit","unit":0}"#,
         r#"{"turn":"exit","unit":0,"code":1,"signal":9}"#,
         r#"{"turn":"exit","unit":0,"code":2147483648}"#,
@@ -101,8 +122,29 @@ fn plan_lines(rt: HostRuntime) -> Result<(), Fail> {
         for (text, want) in test.command.as_slice().iter().zip(["/bin/true", "-x"]) {
             assert_eq!(rt; text.as_str(), want);
         }
+        assert!(rt; matches!(test.skip, None));
     }
     assert_eq!(rt; plan.tests.len(), 1);
+    Ok(())
+}
+
+#[test]
+fn plans_of_many_tests(rt: HostRuntime) -> Result<(), Fail> {
+    let none = r#"{"capture":"none","run_id":"00112233-4455-6677-8899-aabbccddeeff","tests":[]}"#;
+    let (_, plan) = read_plan_line(rt.alloc(), none.as_bytes())?;
+    assert!(rt; plan.tests.is_empty());
+    let three =
+        r#"{"capture":"none","run_id":"00112233-4455-6677-8899-aabbccddeeff","tests":[{"binary":"b","name":"t","command":[]},{"binary":"b","name":"u","command":["c"],"skip":"gone"},{"binary":"b","name":"t","command":[],"skip":""}]}"#;
+    let (_, plan) = read_plan_line(rt.alloc(), three.as_bytes())?;
+    assert_eq!(rt; plan.tests.len(), 3);
+    let wanted = [("t", None), ("u", Some("gone")), ("t", Some(""))];
+    for (test, (name, skip)) in plan.tests.as_slice().iter().zip(wanted) {
+        assert_eq!(rt; test.id.name.as_str(), name);
+        match &test.skip {
+            Some(reason) => assert_eq!(rt; Some(reason.as_str()), skip),
+            None => assert_eq!(rt; None, skip),
+        }
+    }
     Ok(())
 }
 
@@ -111,7 +153,7 @@ fn bad_plan_lines(rt: HostRuntime) {
     let lines = [
         "",
         r#"{"capture":"none","run_id":"00112233-4455-6677-8899-aabbccddeeff"}"#,
-        r#"{"capture":"none","run_id":"00112233-4455-6677-8899-aabbccddeeff","tests":[]}"#,
+        r#"{"capture":"none","run_id":"00112233-4455-6677-8899-aabbccddeeff","tests":{}}"#,
         r#"{"capture":"none","run_id":"00112233-4455-6677-8899-aabbccddeef","tests":[{"binary":"b","name":"n","command":[]}]}"#,
         r#"{"capture":"all","run_id":"00112233-4455-6677-8899-aabbccddeeff","tests":[{"binary":"b","name":"n","command":[]}]}"#,
         r#"{"capture":"none","run_id":"00112233-4455-6677-8899-aabbccddeeff","tests":[{"binary":"b","name":"n","command":[]}],"x":0}"#,
@@ -119,7 +161,10 @@ fn bad_plan_lines(rt: HostRuntime) {
         r#"{"capture":"none","run_id":"00112233-4455-6677-8899-aabbccddeeff","tests":[{"binary":"b","name":"n"}]}"#,
         r#"{"capture":"none","run_id":"00112233-4455-6677-8899-aabbccddeeff","tests":[{"binary":"b","name":"n","command":[1]}]}"#,
         r#"{"capture":"none","run_id":"00112233-4455-6677-8899-aabbccddeeff","tests":[{"binary":"b","name":"n","command":[],"x":0}]}"#,
-        r#"{"capture":"none","run_id":"00112233-4455-6677-8899-aabbccddeeff","tests":[{"binary":"b","name":"n","command":[]},{"binary":"b","name":"m","command":[]}]}"#,
+        r#"{"capture":"none","run_id":"00112233-4455-6677-8899-aabbccddeeff","tests":[{"binary":"b","name":"n","command":[]},{"binary":"b"}]}"#,
+        r#"{"capture":"none","run_id":"00112233-4455-6677-8899-aabbccddeeff","tests":[{"binary":"b","name":"n","command":[],"skip":null}]}"#,
+        r#"{"capture":"none","run_id":"00112233-4455-6677-8899-aabbccddeeff","tests":[{"binary":"b","name":"n","command":[],"skip":1}]}"#,
+        r#"{"capture":"none","run_id":"00112233-4455-6677-8899-aabbccddeeff","tests":[{"binary":"b","name":"n","command":[],"skip":["gone"]}]}"#,
     ];
     for line in lines {
         let bad = matches!(

@@ -4,12 +4,13 @@ ghost use Rattle.serde_json.specs.Find.{get};
 ghost use Rattle.serde_json.specs.View.{view};
 ghost use Rattle.run_input.specs.Reads.{Reads};
 ghost use Rattle.run_input.specs.ValueOf.{value_of};
-ghost use Rattle.run_input.specs.TurnLine.{bare_of, started_of, exit_of, child_exit_of, decide_of, turn_of};
+ghost use Rattle.run_input.specs.TurnLine.{bare_of, started_of, failed_of, exit_of, child_exit_of, decide_of, turn_of};
 
 use crate::LineError;
-use crate::fields::{i32_from, str_at, u32_at};
+use crate::fields::{i32_from, str_at, text_at, u32_at};
 use crate::objects::has_keys_of;
 use crate::value::read_value;
+use run_capture::Text;
 use run_events::{ChildExit, Turn};
 use serde_json::Value;
 use std::alloc::Global;
@@ -17,30 +18,41 @@ use std::alloc::Global;
 /// Reads a turn line.
 ///
 /// The key `turn` names the turn: `begin`, `admit`, `deliver` and `end` have no other key, `started`
-/// has `unit` and `pid`, `exit` has `unit` and either `code` or `signal`, `decide` has `unit` and `word`.
+/// has `unit` and `pid`, `start-failed` and `wait-failed` have `unit` and `text` (the text of the error),
+/// `exit` has `unit` and either `code` or `signal`, `decide` has `unit` and `word`.
 pub fn read_turn_line(alloc: Global, line: &[u8]) -> Result<Turn, LineError>
     ensures { Reads result (option_and_then turn_of (value_of line.now)) }
 {
     match read_value(alloc, line) {
-        Ok(value) => turn_from(&value).ok_or(LineError::NotInTable),
+        Ok(value) => turn_from(alloc, &value),
         Err(e) => Err(e),
     }
 }
 
 #[tactic(auto, unfolding(crate::specs::TurnLine::turn_of))]
-fn turn_from(value: &Value) -> Option<Turn>
-    ensures { result ≡ turn_of (view value.now) }
+fn turn_from(alloc: Global, value: &Value) -> Result<Turn, LineError>
+    ensures { Reads result (turn_of (view value.now)) }
 {
-    match str_at(value.get("turn"))? {
+    let name = str_at(value.get("turn")).ok_or(LineError::NotInTable)?;
+    let turn = match name {
         "begin" => bare(value, Turn::Begin),
         "admit" => bare(value, Turn::Admit),
         "deliver" => bare(value, Turn::Deliver),
         "started" => started(value),
+        "start-failed" => {
+            let (unit, error) = failed(alloc, value)?;
+            Some(Turn::StartFailed { unit, error })
+        }
         "exit" => exit(value),
+        "wait-failed" => {
+            let (unit, error) = failed(alloc, value)?;
+            Some(Turn::WaitFailed { unit, error })
+        }
         "decide" => decide(value),
         "end" => bare(value, Turn::End),
         _ => None,
-    }
+    };
+    turn.ok_or(LineError::NotInTable)
 }
 
 // A turn that has its name alone.
@@ -64,6 +76,19 @@ fn started(value: &Value) -> Option<Turn>
     let unit = u32_at(value.get("unit"))?;
     let pid = u32_at(value.get("pid"))?;
     Some(Turn::Started { unit, pid })
+}
+
+// A unit, and the text of the error that came up there.
+#[tactic(auto, unfolding(crate::specs::TurnLine::failed_of))]
+fn failed(alloc: Global, value: &Value) -> Result<(u32, Text), LineError>
+    ensures { Reads result (failed_of (view value.now)) }
+{
+    if !has_keys_of(value, &["text", "turn", "unit"]) {
+        return Err(LineError::NotInTable);
+    }
+    let unit = u32_at(value.get("unit")).ok_or(LineError::NotInTable)?;
+    let error = text_at(alloc, value.get("text"))?;
+    Ok((unit, error))
 }
 
 #[tactic(auto, unfolding(crate::specs::TurnLine::exit_of))]

@@ -6,14 +6,14 @@ use Rattle.run_events.specs.declared.events.ReporterEvent.{ReporterEvent}
 use Rattle.run_events.specs.declared.events.ReporterEvent.TheVariants.{Test}
 use Rattle.run_events.specs.declared.events.TestEvent.{TestEvent}
 use Rattle.run_events.specs.declared.events.TestEventKind.{TestEventKind}
-use Rattle.run_events.specs.declared.events.TestEventKind.TheVariants.{RunStarted, TestStarted, TestFinished, RunFinished}
+use Rattle.run_events.specs.declared.events.TestEventKind.TheVariants.{RunStarted, TestStarted, TestAttemptFailedWillRetry, TestRetryStarted, TestFinished, TestSkipped, RunFinished}
 use Rattle.run_events.specs.declared.plan.TestInstanceId.{TestInstanceId}
 use Rattle.run_events.specs.declared.plan.TestSlotAssignment.{TestSlotAssignment}
 use Rattle.run_events.specs.declared.result.ExecuteStatus.{ExecuteStatus}
 use Rattle.run_events.specs.declared.stats.RunStats.{RunStats}
 use Rattle.run_output.specs.Fields.{count, texts, object_of, object_text}
 use Rattle.run_output.specs.Stats.{stats_data}
-use Rattle.run_output.specs.Results.{statuses_data}
+use Rattle.run_output.specs.Results.{status_data, statuses_data}
 
 -- a test by its binary and its name
 abbrev pub test_data : TestInstanceId → Data
@@ -45,6 +45,29 @@ test_started_fields test command slot running stats =
     ∷ (codes "test", Some (test_data test))
     ∷ []
 
+-- an attempt of a test failed, and the next one comes after a delay
+unfoldable pub attempt_failed_fields : TestInstanceId → ExecuteStatus → ℕ → ℕ → List (List ℕ × Option Data)
+attempt_failed_fields test status delay_next running =
+    (codes "event", Some (string (codes "test-attempt-failed")))
+    ∷ (codes "delay_next", Some (count delay_next))
+    ∷ (codes "running", Some (count running))
+    ∷ (codes "status", Some (status_data status))
+    ∷ (codes "test", Some (test_data test))
+    ∷ []
+
+-- a further attempt of a test started
+unfoldable pub retry_started_fields : TestInstanceId → List (List ℕ) → TestSlotAssignment → ℕ → ℕ → ℕ
+    → List (List ℕ × Option Data)
+retry_started_fields test command slot attempt attempts running =
+    (codes "event", Some (string (codes "test-retry-started")))
+    ∷ (codes "attempt", Some (count attempt))
+    ∷ (codes "attempts", Some (count attempts))
+    ∷ (codes "command", Some (texts command))
+    ∷ (codes "running", Some (count running))
+    ∷ (codes "slot", Some (object_of (slot_fields slot)))
+    ∷ (codes "test", Some (test_data test))
+    ∷ []
+
 -- a test finished
 unfoldable pub test_finished_fields : TestInstanceId → List ExecuteStatus → ℕ → RunStats
     → List (List ℕ × Option Data)
@@ -53,6 +76,14 @@ test_finished_fields test statuses running stats =
     ∷ (codes "running", Some (count running))
     ∷ (codes "stats", Some (stats_data stats))
     ∷ (codes "statuses", Some (statuses_data statuses))
+    ∷ (codes "test", Some (test_data test))
+    ∷ []
+
+-- a test was skipped
+unfoldable pub skipped_fields : TestInstanceId → List ℕ → List (List ℕ × Option Data)
+skipped_fields test reason =
+    (codes "event", Some (string (codes "test-skipped")))
+    ∷ (codes "reason", Some (string reason))
     ∷ (codes "test", Some (test_data test))
     ∷ []
 
@@ -68,8 +99,13 @@ abbrev pub kind_fields : TestEventKind → List (List ℕ × Option Data)
 kind_fields (RunStarted run_id tests) = run_started_fields run_id tests
 kind_fields (TestStarted unit test command slot running stats) =
     test_started_fields test command slot running stats
+kind_fields (TestAttemptFailedWillRetry unit test status delay_next running) =
+    attempt_failed_fields test status delay_next running
+kind_fields (TestRetryStarted unit test command slot attempt attempts running) =
+    retry_started_fields test command slot attempt attempts running
 kind_fields (TestFinished unit test statuses running stats) =
     test_finished_fields test statuses running stats
+kind_fields (TestSkipped unit test reason) = skipped_fields test reason
 kind_fields (RunFinished stats) = run_finished_fields stats
 
 -- the fields of a test's event

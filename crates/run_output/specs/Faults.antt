@@ -1,14 +1,17 @@
 -- The line of a fault that ends the program, and the status that it ends with.
-use Rattle.std.specs.Prelude.{ℕ, List, [], ◌∷◌, Option, Some, None, codes}
+use Rattle.std.specs.Prelude.{ℕ, List, [], ◌∷◌, ◌++◌, Option, Some, codes}
 use Rattle.serde_json.specs.Data.{Data, string}
 use Rattle.run_output.specs.declared.fault.Fault.{Fault}
-use Rattle.run_output.specs.declared.fault.Fault.TheVariants.{Words, Line, NotEnabled, Unfinished, Report, Read, Memory, TooLong}
+use Rattle.run_output.specs.declared.fault.Fault.TheVariants.{Words, Line, Plan, NotEnabled, Unfinished, Report, Read, Memory, TooLong}
+use Rattle.run_output.specs.declared.fault.PlanFault.{PlanFault}
+use Rattle.run_output.specs.declared.fault.PlanFault.TheVariants.{DuplicateTest}
 use Rattle.run_output.specs.Fields.{count, object_text}
 
 -- a fault by its word
 unfoldable pub fault_word : Fault → List ℕ
 fault_word Words = codes "words"
 fault_word (Line line) = codes "line"
+fault_word (Plan plan) = codes "plan"
 fault_word (NotEnabled turn) = codes "not-enabled"
 fault_word Unfinished = codes "unfinished"
 fault_word Report = codes "report"
@@ -20,6 +23,7 @@ fault_word TooLong = codes "too-long"
 abbrev pub fault_status : Fault → ℕ
 fault_status Words = 2
 fault_status (Line line) = 3
+fault_status (Plan plan) = 5
 fault_status (NotEnabled turn) = 6
 fault_status Unfinished = 8
 fault_status Report = 9
@@ -27,36 +31,30 @@ fault_status Read = 10
 fault_status Memory = 11
 fault_status TooLong = 12
 
--- the line of input that is at fault
-abbrev pub line_at_fault : Fault → Option Data
-line_at_fault Words = None
-line_at_fault (Line line) = Some (count line)
-line_at_fault (NotEnabled turn) = None
-line_at_fault Unfinished = None
-line_at_fault Report = None
-line_at_fault Read = None
-line_at_fault Memory = None
-line_at_fault TooLong = None
+-- the kind of a plan's fault, and the place in the plan that is at fault
+unfoldable pub plan_fields : PlanFault → List (List ℕ × Option Data)
+plan_fields (DuplicateTest test) =
+    (codes "kind", Some (string (codes "duplicate-test"))) ∷ (codes "test", Some (count test)) ∷ []
 
--- the turn that is at fault
-abbrev pub turn_at_fault : Fault → Option Data
-turn_at_fault Words = None
-turn_at_fault (Line line) = None
-turn_at_fault (NotEnabled turn) = Some (count turn)
-turn_at_fault Unfinished = None
-turn_at_fault Report = None
-turn_at_fault Read = None
-turn_at_fault Memory = None
-turn_at_fault TooLong = None
+-- where a fault is: the line of input, the place in the plan, or the turn
+unfoldable pub place_fields : Fault → List (List ℕ × Option Data)
+place_fields Words = []
+place_fields (Line line) = (codes "line", Some (count line)) ∷ []
+place_fields (Plan plan) = plan_fields plan
+place_fields (NotEnabled turn) = (codes "turn", Some (count turn)) ∷ []
+place_fields Unfinished = []
+place_fields Report = []
+place_fields Read = []
+place_fields Memory = []
+place_fields TooLong = []
 
 -- the fields of a fault
 unfoldable pub fault_fields : Fault → List (List ℕ × Option Data)
 fault_fields fault =
-    (codes "fault", Some (string (fault_word fault)))
-    ∷ (codes "line", line_at_fault fault)
+    ((codes "fault", Some (string (fault_word fault)))
     ∷ (codes "status", Some (count (fault_status fault)))
-    ∷ (codes "turn", turn_at_fault fault)
-    ∷ []
+    ∷ [])
+    ++ place_fields fault
 
 -- its line
 abbrev pub fault_text : Fault → List ℕ

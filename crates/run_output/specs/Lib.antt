@@ -1,6 +1,7 @@
 pub mod Fields
 pub mod Seen
 pub mod Stats
+pub mod Output
 pub mod Results
 pub mod Events
 pub mod Asks

@@ -10,6 +10,7 @@ use Rattle.run_events.specs.declared.result.FailureStatus.TheVariants.{ExitCode,
 use Rattle.run_events.specs.declared.result.LeakTimeoutResult.TheVariants as leak
 use Rattle.run_events.specs.declared.result.SlowTimeoutResult.TheVariants as slow
 use Rattle.run_output.specs.Fields.{count, object_of}
+use Rattle.run_output.specs.Output.{output_fields}
 
 -- what stands after a failure that left a descriptor open
 abbrev pub leaked_text : Bool → List ℕ
@@ -29,9 +30,9 @@ result_text ExecFail = codes "exec-fail"
 result_text (Timeout slow.Pass) = codes "timeout-pass"
 result_text (Timeout slow.Fail) = codes "timeout-fail"
 
--- an attempt
-unfoldable pub status_fields : ExecuteStatus → List (List ℕ × Option Data)
-status_fields status =
+-- an attempt by itself
+unfoldable pub attempt_fields : ExecuteStatus → List (List ℕ × Option Data)
+attempt_fields status =
     (codes "attempt", Some (count status.attempt))
     ∷ (codes "attempts", Some (count status.attempts))
     ∷ (codes "delay", Some (count status.delay))
@@ -41,6 +42,10 @@ status_fields status =
     ∷ (codes "time", Some (count status.time))
     ∷ []
 
+-- an attempt, with what came of its child
+abbrev pub status_data : ExecuteStatus → Data
+status_data status = object_of (attempt_fields status ++ output_fields status.output)
+
 -- the attempts, in order
 abbrev pub statuses_data : List ExecuteStatus → Data
-statuses_data statuses = array (items_of (map (λ status. object_of (status_fields status)) statuses))
+statuses_data statuses = array (items_of (map status_data statuses))

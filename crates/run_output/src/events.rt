@@ -4,10 +4,12 @@ ghost use Rattle.uuid.specs.Text.{hyphenated_text, lower};
 ghost use Rattle.serde_json.specs.View.{view};
 ghost use Rattle.run_output.specs.Seen.{seen};
 ghost use Rattle.run_output.specs.Fields.{object_of, line_of};
-ghost use Rattle.run_output.specs.Events.{slot_fields, run_started_fields, test_started_fields, test_finished_fields, run_finished_fields, kind_fields, event_fields, event_text};
+ghost use Rattle.run_output.specs.Events.{slot_fields, run_started_fields, test_started_fields, attempt_failed_fields, retry_started_fields, test_finished_fields, skipped_fields, run_finished_fields, kind_fields, event_fields, event_text};
 
-use crate::fields::{Fields, object_line, object_value, pair_value, texts_value, with_line_feed};
-use crate::results::statuses_value;
+use crate::fields::{
+    Fields, object_line, object_value, pair_value, text_value, texts_value, with_line_feed,
+};
+use crate::results::{status_value, statuses_value};
 use crate::stats::stats_value;
 use run_capture::{Mem, Text};
 use run_events::{
@@ -72,6 +74,56 @@ fn test_started_parts(
     ]?)
 }
 
+#[tactic(auto, unfolding(crate::specs::Events::attempt_failed_fields))]
+fn attempt_failed_parts(
+    alloc: Global,
+    test: &TestInstanceId,
+    status: &ExecuteStatus,
+    delay_next: u64,
+    running: u32,
+) -> Mem<Fields>
+    ensures { IfOk result
+        (λ v. seen v.items ≡ attempt_failed_fields test.now status.now delay_next running) }
+{
+    Ok(vec![in alloc;
+        (
+            "event",
+            Some(Value::try_from_str(alloc, "test-attempt-failed")?)
+        ),
+        ("delay_next", Some(Value::from(delay_next))),
+        ("running", Some(Value::from(running))),
+        ("status", Some(status_value(alloc, status)?)),
+        ("test", Some(pair_value(alloc, &test.binary, &test.name)?)),
+    ]?)
+}
+
+#[tactic(auto, unfolding(crate::specs::Events::retry_started_fields))]
+fn retry_started_parts(
+    alloc: Global,
+    test: &TestInstanceId,
+    command: &[Text],
+    slot: TestSlotAssignment,
+    attempt: u32,
+    attempts: u32,
+    running: u32,
+) -> Mem<Fields>
+    ensures { IfOk result (λ v. seen v.items
+        ≡ retry_started_fields test.now command.now slot attempt attempts running) }
+{
+    Ok(vec![in alloc;
+        (
+            "event",
+            Some(Value::try_from_str(alloc, "test-retry-started")?)
+        ),
+        ("attempt", Some(Value::from(attempt))),
+        ("attempts", Some(Value::from(attempts))),
+        ("command", Some(texts_value(alloc, command)?)),
+        ("running", Some(Value::from(running))),
+        ("slot", Some(slot_value(alloc, slot)?)),
+        ("test", Some(pair_value(alloc, &test.binary, &test.name)?)),
+    ]?)
+}
+
 #[tactic(auto, unfolding(crate::specs::Events::test_finished_fields))]
 fn test_finished_parts(
     alloc: Global,
@@ -88,6 +140,17 @@ fn test_finished_parts(
         ("running", Some(Value::from(running))),
         ("stats", Some(stats_value(alloc, stats)?)),
         ("statuses", Some(statuses_value(alloc, statuses)?)),
+        ("test", Some(pair_value(alloc, &test.binary, &test.name)?)),
+    ]?)
+}
+
+#[tactic(auto, unfolding(crate::specs::Events::skipped_fields))]
+fn skipped_parts(alloc: Global, test: &TestInstanceId, reason: &Text) -> Mem<Fields>
+    ensures { IfOk result (λ v. seen v.items ≡ skipped_fields test.now reason.now) }
+{
+    Ok(vec![in alloc;
+        ("event", Some(Value::try_from_str(alloc, "test-skipped")?)),
+        ("reason", Some(text_value(alloc, reason)?)),
         ("test", Some(pair_value(alloc, &test.binary, &test.name)?)),
     ]?)
 }
@@ -115,6 +178,32 @@ fn kind_parts(alloc: Global, kind: &TestEventKind) -> Mem<Fields>
             running,
             stats,
         } => { test_started_parts(alloc, test, command.as_slice(), *slot, *running, stats) }
+        TestEventKind::TestAttemptFailedWillRetry {
+            unit: _,
+            test,
+            status,
+            delay_next,
+            running,
+        } => { attempt_failed_parts(alloc, test, status, *delay_next, *running) }
+        TestEventKind::TestRetryStarted {
+            unit: _,
+            test,
+            command,
+            slot,
+            attempt,
+            attempts,
+            running,
+        } => {
+            retry_started_parts(
+                alloc,
+                test,
+                command.as_slice(),
+                *slot,
+                *attempt,
+                *attempts,
+                *running,
+            )
+        }
         TestEventKind::TestFinished {
             unit: _,
             test,
@@ -122,6 +211,11 @@ fn kind_parts(alloc: Global, kind: &TestEventKind) -> Mem<Fields>
             running,
             stats,
         } => { test_finished_parts(alloc, test, statuses.as_slice(), *running, stats) }
+        TestEventKind::TestSkipped {
+            unit: _,
+            test,
+            reason,
+        } => skipped_parts(alloc, test, reason),
         TestEventKind::RunFinished { stats } => run_finished_parts(alloc, stats),
     }
 }

@@ -1,5 +1,12 @@
 // Faults that end the program.
 
+/// What is wrong with a plan whose line is in its table.
+#[derive(Clone, Copy, Debug, Drop, PartialEq, Eq)]
+pub enum PlanFault {
+    /// The test at this place, counted from 0, has the binary and the name of one before it.
+    DuplicateTest { test: u32 },
+}
+
 /// A fault that ends the program.
 #[derive(Clone, Copy, Debug, Drop, PartialEq, Eq)]
 pub enum Fault {
@@ -7,6 +14,8 @@ pub enum Fault {
     Words,
     /// A line of input, counted from 1, is no plan or turn.
     Line { line: u64 },
+    /// The plan can't be run.
+    Plan(PlanFault),
     /// The turn of this number, counted from 0, may not come now.
     NotEnabled { turn: u64 },
     /// The input ended before the run did.

@@ -1,11 +1,10 @@
 // The lines of faults, and their exit statuses.
-ghost use Rattle.std.specs.Prelude.{◌≡◌, map, option_map, IfOk};
-ghost use Rattle.serde_json.specs.View.{view};
+ghost use Rattle.std.specs.Prelude.{◌≡◌, IfOk};
 ghost use Rattle.run_output.specs.Seen.{seen};
-ghost use Rattle.run_output.specs.Faults.{fault_word, fault_status, line_at_fault, turn_at_fault, fault_fields, fault_text};
+ghost use Rattle.run_output.specs.Faults.{fault_word, fault_status, plan_fields, place_fields, fault_fields, fault_text};
 
-use crate::Fault;
 use crate::fields::{Fields, object_line};
+use crate::{Fault, PlanFault};
 use run_capture::{Mem, Text};
 use serde_json::Value;
 use std::alloc::Global;
@@ -18,6 +17,7 @@ impl Fault {
         match self {
             Fault::Words => 2,
             Fault::Line { .. } => 3,
+            Fault::Plan(_) => 5,
             Fault::NotEnabled { .. } => 6,
             Fault::Unfinished => 8,
             Fault::Report => 9,
@@ -35,6 +35,7 @@ fn fault_name(fault: Fault) -> &'static str
     match fault {
         Fault::Words => "words",
         Fault::Line { .. } => "line",
+        Fault::Plan(_) => "plan",
         Fault::NotEnabled { .. } => "not-enabled",
         Fault::Unfinished => "unfinished",
         Fault::Report => "report",
@@ -44,21 +45,27 @@ fn fault_name(fault: Fault) -> &'static str
     }
 }
 
-fn line_field(fault: Fault) -> Option<Value>
-    ensures { option_map view result ≡ line_at_fault fault }
+#[tactic(auto, unfolding(crate::specs::Faults::plan_fields))]
+fn plan_parts(alloc: Global, plan: PlanFault) -> Mem<Fields>
+    ensures { IfOk result (λ v. seen v.items ≡ plan_fields plan) }
 {
-    match fault {
-        Fault::Line { line } => Some(Value::from(line)),
-        _ => None,
+    match plan {
+        PlanFault::DuplicateTest { test } => Ok(vec![in alloc;
+            ("kind", Some(Value::try_from_str(alloc, "duplicate-test")?)),
+            ("test", Some(Value::from(test))),
+        ]?),
     }
 }
 
-fn turn_field(fault: Fault) -> Option<Value>
-    ensures { option_map view result ≡ turn_at_fault fault }
+#[tactic(auto, unfolding(crate::specs::Faults::place_fields))]
+fn place_parts(alloc: Global, fault: Fault) -> Mem<Fields>
+    ensures { IfOk result (λ v. seen v.items ≡ place_fields fault) }
 {
     match fault {
-        Fault::NotEnabled { turn } => Some(Value::from(turn)),
-        _ => None,
+        Fault::Line { line } => Ok(vec![in alloc; ("line", Some(Value::from(line)))]?),
+        Fault::Plan(plan) => plan_parts(alloc, plan),
+        Fault::NotEnabled { turn } => Ok(vec![in alloc; ("turn", Some(Value::from(turn)))]?),
+        _ => Ok(Vec::new(alloc)),
     }
 }
 
@@ -66,15 +73,14 @@ fn turn_field(fault: Fault) -> Option<Value>
 fn fault_parts(alloc: Global, fault: Fault) -> Mem<Fields>
     ensures { IfOk result (λ v. seen v.items ≡ fault_fields fault) }
 {
-    Ok(vec![in alloc;
-        (
-            "fault",
-            Some(Value::try_from_str(alloc, fault_name(fault))?)
-        ),
-        ("line", line_field(fault)),
+    let name = Value::try_from_str(alloc, fault_name(fault))?;
+    let mut fields = vec![in alloc;
+        ("fault", Some(name)),
         ("status", Some(Value::from(fault.status()))),
-        ("turn", turn_field(fault)),
-    ]?)
+    ]?;
+    let mut place = place_parts(alloc, fault)?;
+    fields.append(&mut place)?;
+    Ok(fields)
 }
 
 /// The line of a fault, without its line feed.

@@ -10,6 +10,7 @@ mod faults;
 mod fields;
 mod line_reporter;
 mod outcomes;
+mod output;
 mod results;
 mod stats;
 #[cfg(test)]
@@ -17,7 +18,7 @@ mod tests;
 
 pub use asks::ask_line;
 pub use events::event_line;
-pub use fault::Fault;
+pub use fault::{Fault, PlanFault};
 pub use faults::fault_line;
 pub use fields::with_line_feed;
 pub use line_reporter::{LineReporter, Origin};

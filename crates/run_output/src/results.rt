@@ -1,11 +1,11 @@
 // The attempts of a test as objects.
-ghost use Rattle.std.specs.Prelude.{◌≡◌, map, option_map, string_bytes, IfOk};
+ghost use Rattle.std.specs.Prelude.{◌≡◌, string_bytes, IfOk};
 ghost use Rattle.serde_json.specs.View.{view};
 ghost use Rattle.run_output.specs.Seen.{seen};
-ghost use Rattle.run_output.specs.Fields.{object_of};
-ghost use Rattle.run_output.specs.Results.{leaked_text, result_text, status_fields, statuses_data};
+ghost use Rattle.run_output.specs.Results.{leaked_text, result_text, attempt_fields, status_data, statuses_data};
 
 use crate::fields::{Fields, object_value};
+use crate::output::output_parts;
 use run_capture::Mem;
 use run_events::{
     ExecuteStatus, ExecutionResult, FailureStatus, LeakTimeoutResult, SlowTimeoutResult,
@@ -55,9 +55,9 @@ fn result_string(alloc: Global, outcome: ExecutionResult) -> Mem<String>
     }
 }
 
-#[tactic(auto, unfolding(crate::specs::Results::status_fields))]
-fn status_parts(alloc: Global, status: &ExecuteStatus) -> Mem<Fields>
-    ensures { IfOk result (λ v. seen v.items ≡ status_fields status.now) }
+#[tactic(auto, unfolding(crate::specs::Results::attempt_fields))]
+fn attempt_parts(alloc: Global, status: &ExecuteStatus) -> Mem<Fields>
+    ensures { IfOk result (λ v. seen v.items ≡ attempt_fields status.now) }
 {
     Ok(vec![in alloc;
         ("attempt", Some(Value::from(status.attempt))),
@@ -73,10 +73,14 @@ fn status_parts(alloc: Global, status: &ExecuteStatus) -> Mem<Fields>
     ]?)
 }
 
-fn status_value(alloc: Global, status: &ExecuteStatus) -> Mem<Value>
-    ensures { IfOk result (λ v. view v ≡ object_of (status_fields status.now)) }
+/// An attempt, with what came of its child.
+pub(crate) fn status_value(alloc: Global, status: &ExecuteStatus) -> Mem<Value>
+    ensures { IfOk result (λ v. view v ≡ status_data status.now) }
 {
-    object_value(alloc, status_parts(alloc, status)?)
+    let mut fields = attempt_parts(alloc, status)?;
+    let mut output = output_parts(alloc, &status.output)?;
+    fields.append(&mut output)?;
+    object_value(alloc, fields)
 }
 
 /// The attempts, in order.
