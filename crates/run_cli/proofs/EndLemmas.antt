@@ -16,7 +16,7 @@ use Rattle.run_engine.specs.Execution.{UnlessMemory}
 use Rattle.run_engine.specs.declared.errors.TestRunnerExecuteErrors.{TestRunnerExecuteErrors}
 use Rattle.run_engine.specs.declared.errors.TestRunnerExecuteErrors.TheVariants as engine
 use Rattle.run_output.specs.declared.fault.Fault.{Fault}
-use Rattle.run_output.specs.declared.fault.Fault.TheVariants.{Words, Line, NotEnabled, Unfinished, Report, Read, Memory, TooLong}
+use Rattle.run_output.specs.declared.fault.Fault.TheVariants.{Words, Line, Plan as BadPlan, NotEnabled, Unfinished, Report, Read, Memory, TooLong}
 use Rattle.run_output.specs.Fields.{line_of}
 use Rattle.run_output.specs.Outcomes.{outcome_text}
 use Rattle.run_output.specs.Faults.{fault_text}
@@ -73,6 +73,7 @@ outcome_ends p turns t0 t1 t2 f0 f1 f2 asks o (Err Report) x h =
 outcome_ends p turns t0 t1 t2 f0 f1 f2 asks o (Err Memory) x h = tt
 outcome_ends p turns t0 t1 t2 f0 f1 f2 asks o (Err Words) x h = absurd h
 outcome_ends p turns t0 t1 t2 f0 f1 f2 asks o (Err (Line n)) x h = absurd h
+outcome_ends p turns t0 t1 t2 f0 f1 f2 asks o (Err (BadPlan f)) x h = absurd h
 outcome_ends p turns t0 t1 t2 f0 f1 f2 asks o (Err (NotEnabled n)) x h = absurd h
 outcome_ends p turns t0 t1 t2 f0 f1 f2 asks o (Err Unfinished) x h = absurd h
 outcome_ends p turns t0 t1 t2 f0 f1 f2 asks o (Err Read) x h = absurd h

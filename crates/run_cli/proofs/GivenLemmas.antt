@@ -1,5 +1,5 @@
 -- What the words and the source give, and how the program ends by it.
-use Rattle.std.proofs.Common.{◌≡◌, ℕ, suc, ◌+◌, ◌^◌, ◌<◌, ◌≤◌, ◌==◌, ◌⊎◌, inl, inr, List, [], ◌∷◌, ◌++◌, length, reverse, Bool, true, false, if◌then◌else◌, Option, Some, None, option_and_then, Result, Ok, Err, refl, ap, sym, subst, ◌∙◌, arith, codes}
+use Rattle.std.proofs.Common.{◌≡◌, ℕ, nat_lt, suc, ◌+◌, ◌^◌, ◌<◌, ◌≤◌, ◌==◌, ◌⊎◌, inl, inr, List, [], ◌∷◌, ◌++◌, length, reverse, Bool, true, false, if◌then◌else◌, Option, Some, None, option_and_then, Result, Ok, Err, refl, ap, sym, subst, ◌∙◌, arith, codes}
 use Rattle.run_capture.specs.Faults.{Rose}
 use Rattle.run_capture.specs.declared.test_output.CaptureStrategy.{CaptureStrategy}
 use Rattle.run_events.specs.declared.plan.Plan.{Plan}
@@ -12,8 +12,10 @@ use Rattle.run_model.specs.declared.entry.Entry.{Entry}
 use Rattle.run_model.specs.declared.happening.Happening.{Happening}
 use Rattle.run_model.specs.Words.{is_over, stats, tests_in}
 use Rattle.run_model.specs.Journal.{past_of, IsLegal, outcome}
-use Rattle.run_laws.proofs.Finish.{finishes}
-use Rattle.run_engine.specs.Builder.{settings_of}
+use Rattle.run_laws.proofs.FateLemmas.{fates}
+use Rattle.run_engine.specs.Builder.{settings_of, first_repeat, IsBuilt}
+use Rattle.run_engine.specs.declared.errors.TestRunnerBuildError.{TestRunnerBuildError}
+use Rattle.run_engine.specs.declared.errors.TestRunnerBuildError.TheVariants as build
 use Rattle.run_engine.specs.Execution.{turns_of as engine_turns}
 use Rattle.run_input.specs.Lines.{lines_of, at_front}
 use Rattle.run_input.specs.Input.{IsInput, turns_of, turn_line_of, plan_line_of}
@@ -23,12 +25,12 @@ use Rattle.run_input.specs.ValueOf.{value_of}
 use Rattle.serde_json.specs.Data.{Data}
 use Rattle.serde_json.specs.Find.{get}
 use Rattle.run_output.specs.declared.fault.Fault.{Fault}
-use Rattle.run_output.specs.declared.fault.Fault.TheVariants.{Words, Line, NotEnabled, Unfinished, Report, Read, Memory, TooLong}
+use Rattle.run_output.specs.declared.fault.Fault.TheVariants.{Words, Line, Plan as BadPlan, NotEnabled, Unfinished, Report, Read, Memory, TooLong}
 use Rattle.run_output.specs.Fields.{line_of}
 use Rattle.run_output.specs.Faults.{fault_text}
 use Rattle.run_cli.specs.Given.{IsReplay, IsGiven, IsGivenFault, CountsRead, CountsReadAtEnd}
 use Rattle.run_cli.specs.Ending.{Writes, Replays, IsWhole, IsEnding}
-use Rattle.run_cli.specs.Finish.{EndsAtFault, IsReplayEnding}
+use Rattle.run_cli.specs.Finish.{EndsAtFault, IsReplayEnding, IsInputEnding, fault_of_plan}
 
 -- no more lines than bytes
 front_length : (byte : ℕ) (lines : List (List ℕ)) (n : ℕ) → length lines ≤ n → length (at_front byte lines) ≤ n + 1
@@ -66,23 +68,24 @@ when_is false u e = cc
 
 -- the end of a plan line
 abbrev last_step : CaptureStrategy → List ℕ → List PlanTest → Option (CaptureStrategy × Plan)
-last_step capture run_id tests = option_and_then (λ _. Some (capture, record { run_id = run_id; tests = tests })) (when (length tests == 1))
+last_step capture run_id tests =
+    option_and_then (λ _. Some (capture, record { run_id = run_id; tests = tests })) (when (nat_lt (length tests) 4294967296))
 
-last_one : (capture other : CaptureStrategy) (run_id : List ℕ) (tests : List PlanTest) (plan : Plan)
-    → last_step capture run_id tests ≡ Some (other, plan) → length plan.tests ≡ 1
-last_one capture other run_id tests plan e =
-    let last = then_some (when (length tests == 1)) (λ _. Some (capture, record { run_id = run_id; tests = tests })) (other, plan) e in
-    let one : length tests ≡ 1 = grind (arith, when_is (length tests == 1) last.0 last.1) in
+last_few : (capture other : CaptureStrategy) (run_id : List ℕ) (tests : List PlanTest) (plan : Plan)
+    → last_step capture run_id tests ≡ Some (other, plan) → length plan.tests < 2 ^ 32
+last_few capture other run_id tests plan e =
+    let last = then_some (when (nat_lt (length tests) 4294967296)) (λ _. Some (capture, record { run_id = run_id; tests = tests })) (other, plan) e in
+    let few : length tests < 2 ^ 32 = grind (arith, when_is (nat_lt (length tests) 4294967296) last.0 last.1) in
     let made : Plan = record { run_id = run_id; tests = tests } in
     let pair : CaptureStrategy × Plan = (capture, made) in
     let both : pair ≡ (other, plan) = cc last.2 in
     let same : made ≡ plan = ap (λ (q : CaptureStrategy × Plan). q.1) both in
-    ap (λ (p : Plan). length p.tests) (sym same) ∙ one
+    subst (λ (p : Plan). length p.tests < 2 ^ 32) same few
 
--- a plan line has one test
-one_test : (d : Data) (capture : CaptureStrategy) (plan : Plan) → plan_of d ≡ Some (capture, plan) → length plan.tests ≡ 1
+-- a plan line has few tests
+few_tests : (d : Data) (capture : CaptureStrategy) (plan : Plan) → plan_of d ≡ Some (capture, plan) → length plan.tests < 2 ^ 32
 unfolding plan_of
-one_test d capture plan e =
+few_tests d capture plan e =
     let tests : Option (List PlanTest) = option_and_then tests_of (get (codes "tests") d) in
     let run_ids : Option (List ℕ) = option_and_then run_id_of (get (codes "run_id") d) in
     let captures : Option CaptureStrategy = option_and_then capture_of (get (codes "capture") d) in
@@ -91,7 +94,7 @@ one_test d capture plan e =
     let b = then_some captures (λ c. option_and_then (λ r. option_and_then (last_step c r) tests) run_ids) (capture, plan) a.2 in
     let c = then_some run_ids (λ r. option_and_then (last_step b.0 r) tests) (capture, plan) b.2 in
     let f = then_some tests (last_step b.0 c.0) (capture, plan) c.2 in
-    last_one b.0 capture c.0 f.0 plan f.2
+    last_few b.0 capture c.0 f.0 plan f.2
 
 -- an input has few tests and few turns
 pub given_few : (left left_after : Option (List ℕ)) (capture : CaptureStrategy) (plan : Plan) (turns : List Turn) → IsGiven left left_after capture plan turns
@@ -102,10 +105,10 @@ given_few left left_after capture plan turns g = by_lines (lines_of g.bytes) ref
     by_lines [] e i = absurd i
     by_lines (first ∷ others) e i =
         let read = then_some (value_of first) plan_of (capture, plan) i.0 in
-        let one : length plan.tests ≡ 1 = one_test read.0 capture plan read.2 in
+        let few : length plan.tests < 2 ^ 32 = few_tests read.0 capture plan read.2 in
         let many : length turns ≡ length others = turns_length others turns i.1 in
         let same : length (lines_of g.bytes) ≡ length (first ∷ others) = ap length e in
-        (omega arith, omega (arith, lines_length g.bytes, g.within))
+        (few, omega (arith, lines_length g.bytes, g.within))
 
 -- a run with an outcome is over
 pub over_is : (p : Settings) (past : List Happening) (o : RunOutcome) → outcome p past ≡ Some o → is_over past ≡ true
@@ -123,35 +126,67 @@ whole : (words : List (List ℕ)) (left left_after : Option (List ℕ)) (r : Rep
 whole words left left_after r o all e = record {
   all = all;
   over = e;
-  accounts = λ k below. finishes (settings_of r.capture r.plan) (reverse r.journal) r.legal
+  accounts = λ k below. fates (settings_of r.capture r.plan) (reverse r.journal) r.legal
       (over_is (settings_of r.capture r.plan) (past_of (settings_of r.capture r.plan) r.journal) o e) k below;
 }
 
 -- how a program ends whose input was good
 pub given_says : (words : List (List ℕ)) (left left_after t0 t1 : Option (List ℕ)) (f0 f1 : ℕ) (capture : CaptureStrategy) (plan : Plan) (turns : List Turn)
     (ending : Result RunOutcome Fault) → IsReplay words → IsGiven left left_after capture plan turns
-    → IsReplayEnding (settings_of capture plan) turns t0 t1 f0 f1 ending → IsEnding words left left_after t0 t1 f0 f1 ending
-given_says words left left_after t0 t1 f0 f1 capture plan turns (Ok o) replay given h =
-    let r : Replays words left left_after = record { replay = replay; capture = capture; plan = plan; turns = turns; given = given; journal = h.0; legal = h.1 } in
+    → IsInputEnding capture plan turns t0 t1 f0 f1 ending → IsEnding words left left_after t0 t1 f0 f1 ending
+given_says words left left_after t0 t1 f0 f1 capture plan turns (Ok o) replay given (accepted, h) =
+    let r : Replays words left left_after = record { replay = replay; capture = capture; plan = plan; turns = turns; given = given; accepted = accepted; journal = h.0; legal = h.1 } in
     (r, whole words left left_after r o h.2 h.3, h.4, h.5)
-given_says words left left_after t0 t1 f0 f1 capture plan turns (Err Report) replay given h =
-    let r : Replays words left left_after = record { replay = replay; capture = capture; plan = plan; turns = turns; given = given; journal = h.0; legal = h.1 } in
+given_says words left left_after t0 t1 f0 f1 capture plan turns (Err Report) replay given (accepted, h) =
+    let r : Replays words left left_after = record { replay = replay; capture = capture; plan = plan; turns = turns; given = given; accepted = accepted; journal = h.0; legal = h.1 } in
     (r, h.3.0, whole words left left_after r h.3.0 h.2 h.3.1, h.4)
-given_says words left left_after t0 t1 f0 f1 capture plan turns (Err (NotEnabled place)) replay given h = (
-  record { replay = replay; capture = capture; plan = plan; turns = turns; given = given; journal = h.0; legal = h.1 },
+given_says words left left_after t0 t1 f0 f1 capture plan turns (Err (NotEnabled place)) replay given (accepted, h) = (
+  record { replay = replay; capture = capture; plan = plan; turns = turns; given = given; accepted = accepted; journal = h.0; legal = h.1 },
   record { before = h.2; turn = h.3.0; at = h.3.1; refused = h.3.2 },
   h.4,
 )
-given_says words left left_after t0 t1 f0 f1 capture plan turns (Err Unfinished) replay given h = (
-  record { replay = replay; capture = capture; plan = plan; turns = turns; given = given; journal = h.0; legal = h.1 },
+given_says words left left_after t0 t1 f0 f1 capture plan turns (Err Unfinished) replay given (accepted, h) = (
+  record { replay = replay; capture = capture; plan = plan; turns = turns; given = given; accepted = accepted; journal = h.0; legal = h.1 },
   record { all = h.2; goes_on = h.3 },
   h.4,
 )
+given_says words left left_after t0 t1 f0 f1 capture plan turns (Err (BadPlan f)) replay given h =
+    (replay, record { capture = capture; plan = plan; turns = turns; given = given; refused = h.0 }, h.1)
 given_says words left left_after t0 t1 f0 f1 capture plan turns (Err Memory) replay given h = tt
-given_says words left left_after t0 t1 f0 f1 capture plan turns (Err Words) replay given h = absurd h
-given_says words left left_after t0 t1 f0 f1 capture plan turns (Err (Line n)) replay given h = absurd h
-given_says words left left_after t0 t1 f0 f1 capture plan turns (Err Read) replay given h = absurd h
-given_says words left left_after t0 t1 f0 f1 capture plan turns (Err TooLong) replay given h = absurd h
+given_says words left left_after t0 t1 f0 f1 capture plan turns (Err Words) replay given h = absurd h.1
+given_says words left left_after t0 t1 f0 f1 capture plan turns (Err (Line n)) replay given h = absurd h.1
+given_says words left left_after t0 t1 f0 f1 capture plan turns (Err Read) replay given h = absurd h.1
+given_says words left left_after t0 t1 f0 f1 capture plan turns (Err TooLong) replay given h = absurd h.1
+
+-- the end of the turns of a plan that was accepted
+pub accepted_ends : (capture : CaptureStrategy) (plan : Plan) (turns : List Turn) (t0 t1 : Option (List ℕ)) (f0 f1 : ℕ) (ending : Result RunOutcome Fault)
+    → first_repeat plan.tests ≡ None → IsReplayEnding (settings_of capture plan) turns t0 t1 f0 f1 ending
+    → IsInputEnding capture plan turns t0 t1 f0 f1 ending
+accepted_ends capture plan turns t0 t1 f0 f1 (Ok o) accepted h = (accepted, h)
+accepted_ends capture plan turns t0 t1 f0 f1 (Err Report) accepted h = (accepted, h)
+accepted_ends capture plan turns t0 t1 f0 f1 (Err (NotEnabled place)) accepted h = (accepted, h)
+accepted_ends capture plan turns t0 t1 f0 f1 (Err Unfinished) accepted h = (accepted, h)
+accepted_ends capture plan turns t0 t1 f0 f1 (Err (BadPlan f)) accepted h = absurd h
+accepted_ends capture plan turns t0 t1 f0 f1 (Err Memory) accepted h = tt
+accepted_ends capture plan turns t0 t1 f0 f1 (Err Words) accepted h = absurd h
+accepted_ends capture plan turns t0 t1 f0 f1 (Err (Line n)) accepted h = absurd h
+accepted_ends capture plan turns t0 t1 f0 f1 (Err Read) accepted h = absurd h
+accepted_ends capture plan turns t0 t1 f0 f1 (Err TooLong) accepted h = absurd h
+
+-- the end of a plan that is refused
+refusal_ends : (capture : CaptureStrategy) (plan : Plan) (turns : List Turn) (t0 t1 : Option (List ℕ)) (f0 f1 : ℕ) (error : TestRunnerBuildError)
+    → IsBuilt capture plan (Err error) → Writes t0 t1 f0 f1 (line_of (fault_text (fault_of_plan error)))
+    → IsInputEnding capture plan turns t0 t1 f0 f1 (Err (fault_of_plan error))
+refusal_ends capture plan turns t0 t1 f0 f1 (build.DuplicateTest k) h w = (h, w)
+refusal_ends capture plan turns t0 t1 f0 f1 build.OutOfMemory h w = tt
+
+pub refused_plan : (capture : CaptureStrategy) (plan : Plan) (turns : List Turn) (t0 t1 : Option (List ℕ)) (f0 f1 : ℕ) (error : TestRunnerBuildError)
+    (ending : Result RunOutcome Fault) → IsBuilt capture plan (Err error) → EndsAtFault t0 t1 f0 f1 [] (fault_of_plan error) ending
+    → IsInputEnding capture plan turns t0 t1 f0 f1 ending
+refused_plan capture plan turns t0 t1 f0 f1 error (Ok o) b e = absurd e
+refused_plan capture plan turns t0 t1 f0 f1 error (Err d) b (inl m) = subst (λ f. IsInputEnding capture plan turns t0 t1 f0 f1 (Err f)) (sym m) tt
+refused_plan capture plan turns t0 t1 f0 f1 error (Err d) b (inr w) =
+    subst (λ f. IsInputEnding capture plan turns t0 t1 f0 f1 (Err f)) (sym w.0) (refusal_ends capture plan turns t0 t1 f0 f1 error b w.2)
 
 -- how a program ends whose words or input were not
 fault_says : (words : List (List ℕ)) (left left_after t0 t1 : Option (List ℕ)) (f0 f1 : ℕ) (fault : Fault)
@@ -160,6 +195,7 @@ fault_says words left left_after t0 t1 f0 f1 Words h w = (h, w)
 fault_says words left left_after t0 t1 f0 f1 Read h w = (h, w)
 fault_says words left left_after t0 t1 f0 f1 TooLong h w = (h.0, h.1, w)
 fault_says words left left_after t0 t1 f0 f1 (Line n) h w = (h.0, h.1, w)
+fault_says words left left_after t0 t1 f0 f1 (BadPlan f) h w = absurd h
 fault_says words left left_after t0 t1 f0 f1 Memory h w = tt
 fault_says words left left_after t0 t1 f0 f1 (NotEnabled n) h w = absurd h
 fault_says words left left_after t0 t1 f0 f1 Unfinished h w = absurd h
@@ -178,6 +214,7 @@ fault_counts a b Words h = h
 fault_counts a b Read h = h.1
 fault_counts a b TooLong h = h
 fault_counts a b (Line n) h = h
+fault_counts a b (BadPlan f) h = h
 fault_counts a b Memory h = omega arith
 fault_counts a b (NotEnabled n) h = h
 fault_counts a b Unfinished h = h
@@ -188,6 +225,7 @@ fault_later a b Words h = omega arith
 fault_later a b Read h = h.0
 fault_later a b TooLong h = omega arith
 fault_later a b (Line n) h = omega arith
+fault_later a b (BadPlan f) h = omega arith
 fault_later a b Memory h = omega arith
 fault_later a b (NotEnabled n) h = omega arith
 fault_later a b Unfinished h = omega arith

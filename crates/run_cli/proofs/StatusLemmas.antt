@@ -6,11 +6,11 @@ use Rattle.run_events.specs.declared.outcome.RunOutcome.{RunOutcome}
 use Rattle.run_events.specs.declared.outcome.RunOutcome.TheVariants as outcomes
 use Rattle.run_events.specs.declared.outcome.RunStep.TheVariants as steps
 use Rattle.run_output.specs.declared.fault.Fault.{Fault}
-use Rattle.run_output.specs.declared.fault.Fault.TheVariants.{Words, Line, NotEnabled, Unfinished, Report, Read, Memory, TooLong}
+use Rattle.run_output.specs.declared.fault.Fault.TheVariants.{Words, Line, Plan as BadPlan, NotEnabled, Unfinished, Report, Read, Memory, TooLong}
 use Rattle.run_cli.specs.Text.{history_text, outcome_status, status_of}
 use Rattle.run_cli.specs.Given.{IsReplay, IsTooLong, HasBadLine, CountsReadAtEnd}
 use Rattle.run_cli.specs.Ending.{Writes, Replays, IsWhole, StopsBefore, IsUnfinished, IsEnding, history_in}
-use Rattle.run_cli.specs.Status.{IsOutcomeStatus, is_status, Headline, SaysBadLine, SaysNotEnabled, SaysUnfinished, SaysReport}
+use Rattle.run_cli.specs.Status.{IsOutcomeStatus, is_status, Headline, SaysBadLine, SaysBadPlan, SaysNotEnabled, SaysUnfinished, SaysReport}
 
 -- an outcome's status is one
 pub outcome_is : (o : RunOutcome) → IsOutcomeStatus (outcome_status o)
@@ -47,6 +47,7 @@ status_known (Ok (outcomes.Cancelled steps.Test)) = refl
 status_known (Ok (outcomes.Cancelled steps.SetupScript)) = refl
 status_known (Err Words) = refl
 status_known (Err (Line n)) = refl
+status_known (Err (BadPlan f)) = refl
 status_known (Err (NotEnabled n)) = refl
 status_known (Err Unfinished) = refl
 status_known (Err Report) = refl
@@ -62,6 +63,7 @@ headline_says words left left_after t0 t1 f0 f1 (Ok o) h s =
     (record { run = h.0; outcome = o; whole = h.1; written = h.2; status_is = refl }, h.3)
 headline_says words left left_after t0 t1 f0 f1 (Err Words) h s = absurd (no_outcome 2 s (omega arith) (omega arith))
 headline_says words left left_after t0 t1 f0 f1 (Err (Line n)) h s = absurd (no_outcome 3 s (omega arith) (omega arith))
+headline_says words left left_after t0 t1 f0 f1 (Err (BadPlan f)) h s = absurd (no_outcome_above 5 s (omega arith) (omega arith))
 headline_says words left left_after t0 t1 f0 f1 (Err (NotEnabled n)) h s = absurd (no_outcome_above 6 s (omega arith) (omega arith))
 headline_says words left left_after t0 t1 f0 f1 (Err Unfinished) h s = absurd (no_outcome_above 8 s (omega arith) (omega arith))
 headline_says words left left_after t0 t1 f0 f1 (Err Report) h s = absurd (no_outcome_above 9 s (omega arith) (omega arith))
@@ -75,6 +77,7 @@ pub words_say : (words : List (List ℕ)) (left left_after t0 t1 : Option (List 
 words_say words left left_after t0 t1 f0 f1 (Ok o) h s = absurd (no_outcome 2 (apart _ 2 (outcome_is o) s) (omega arith) (omega arith))
 words_say words left left_after t0 t1 f0 f1 (Err Words) h s = h.0
 words_say words left left_after t0 t1 f0 f1 (Err (Line n)) h s = absurd (omega arith)
+words_say words left left_after t0 t1 f0 f1 (Err (BadPlan f)) h s = absurd (omega arith)
 words_say words left left_after t0 t1 f0 f1 (Err (NotEnabled n)) h s = absurd (omega arith)
 words_say words left left_after t0 t1 f0 f1 (Err Unfinished) h s = absurd (omega arith)
 words_say words left left_after t0 t1 f0 f1 (Err Report) h s = absurd (omega arith)
@@ -88,6 +91,7 @@ pub no_words : (words : List (List ℕ)) (left left_after t0 t1 : Option (List �
 no_words words left left_after t0 t1 f0 f1 (Ok o) h bad = absurd (bad h.0.replay)
 no_words words left left_after t0 t1 f0 f1 (Err Words) h bad = inl refl
 no_words words left left_after t0 t1 f0 f1 (Err (Line n)) h bad = absurd (bad h.0)
+no_words words left left_after t0 t1 f0 f1 (Err (BadPlan f)) h bad = absurd (bad h.0)
 no_words words left left_after t0 t1 f0 f1 (Err (NotEnabled n)) h bad = absurd (bad h.0.replay)
 no_words words left left_after t0 t1 f0 f1 (Err Unfinished) h bad = absurd (bad h.0.replay)
 no_words words left left_after t0 t1 f0 f1 (Err Report) h bad = absurd (bad h.0.replay)
@@ -101,6 +105,7 @@ pub line_says : (words : List (List ℕ)) (left left_after t0 t1 : Option (List 
 line_says words left left_after t0 t1 f0 f1 (Ok o) h s = absurd (no_outcome 3 (apart _ 3 (outcome_is o) s) (omega arith) (omega arith))
 line_says words left left_after t0 t1 f0 f1 (Err Words) h s = absurd (omega arith)
 line_says words left left_after t0 t1 f0 f1 (Err (Line n)) h s = (h.0, (n, h.1, h.2))
+line_says words left left_after t0 t1 f0 f1 (Err (BadPlan f)) h s = absurd (omega arith)
 line_says words left left_after t0 t1 f0 f1 (Err (NotEnabled n)) h s = absurd (omega arith)
 line_says words left left_after t0 t1 f0 f1 (Err Unfinished) h s = absurd (omega arith)
 line_says words left left_after t0 t1 f0 f1 (Err Report) h s = absurd (omega arith)
@@ -108,12 +113,27 @@ line_says words left left_after t0 t1 f0 f1 (Err Read) h s = absurd (omega arith
 line_says words left left_after t0 t1 f0 f1 (Err Memory) h s = absurd (omega arith)
 line_says words left left_after t0 t1 f0 f1 (Err TooLong) h s = absurd (omega arith)
 
+-- 5: a plan that is refused
+pub plan_says : (words : List (List ℕ)) (left left_after t0 t1 : Option (List ℕ)) (f0 f1 : ℕ) (ending : Result RunOutcome Fault)
+    → IsEnding words left left_after t0 t1 f0 f1 ending → status_of ending ≡ 5 → SaysBadPlan words left left_after t0 t1 f0 f1
+plan_says words left left_after t0 t1 f0 f1 (Ok o) h s = absurd (no_outcome_above 5 (apart _ 5 (outcome_is o) s) (omega arith) (omega arith))
+plan_says words left left_after t0 t1 f0 f1 (Err Words) h s = absurd (omega arith)
+plan_says words left left_after t0 t1 f0 f1 (Err (Line n)) h s = absurd (omega arith)
+plan_says words left left_after t0 t1 f0 f1 (Err (BadPlan f)) h s = (h.0, (f, h.1, h.2))
+plan_says words left left_after t0 t1 f0 f1 (Err (NotEnabled n)) h s = absurd (omega arith)
+plan_says words left left_after t0 t1 f0 f1 (Err Unfinished) h s = absurd (omega arith)
+plan_says words left left_after t0 t1 f0 f1 (Err Report) h s = absurd (omega arith)
+plan_says words left left_after t0 t1 f0 f1 (Err Read) h s = absurd (omega arith)
+plan_says words left left_after t0 t1 f0 f1 (Err Memory) h s = absurd (omega arith)
+plan_says words left left_after t0 t1 f0 f1 (Err TooLong) h s = absurd (omega arith)
+
 -- 6: a turn that isn't enabled
 pub not_enabled_says : (words : List (List ℕ)) (left left_after t0 t1 : Option (List ℕ)) (f0 f1 : ℕ) (ending : Result RunOutcome Fault)
     → IsEnding words left left_after t0 t1 f0 f1 ending → status_of ending ≡ 6 → SaysNotEnabled words left left_after t0 t1 f0 f1
 not_enabled_says words left left_after t0 t1 f0 f1 (Ok o) h s = absurd (no_outcome_above 6 (apart _ 6 (outcome_is o) s) (omega arith) (omega arith))
 not_enabled_says words left left_after t0 t1 f0 f1 (Err Words) h s = absurd (omega arith)
 not_enabled_says words left left_after t0 t1 f0 f1 (Err (Line n)) h s = absurd (omega arith)
+not_enabled_says words left left_after t0 t1 f0 f1 (Err (BadPlan f)) h s = absurd (omega arith)
 not_enabled_says words left left_after t0 t1 f0 f1 (Err (NotEnabled n)) h s = (n, h.0, h.1, h.2)
 not_enabled_says words left left_after t0 t1 f0 f1 (Err Unfinished) h s = absurd (omega arith)
 not_enabled_says words left left_after t0 t1 f0 f1 (Err Report) h s = absurd (omega arith)
@@ -127,6 +147,7 @@ pub unfinished_says : (words : List (List ℕ)) (left left_after t0 t1 : Option 
 unfinished_says words left left_after t0 t1 f0 f1 (Ok o) h s = absurd (no_outcome_above 8 (apart _ 8 (outcome_is o) s) (omega arith) (omega arith))
 unfinished_says words left left_after t0 t1 f0 f1 (Err Words) h s = absurd (omega arith)
 unfinished_says words left left_after t0 t1 f0 f1 (Err (Line n)) h s = absurd (omega arith)
+unfinished_says words left left_after t0 t1 f0 f1 (Err (BadPlan f)) h s = absurd (omega arith)
 unfinished_says words left left_after t0 t1 f0 f1 (Err (NotEnabled n)) h s = absurd (omega arith)
 unfinished_says words left left_after t0 t1 f0 f1 (Err Unfinished) h s = h
 unfinished_says words left left_after t0 t1 f0 f1 (Err Report) h s = absurd (omega arith)
@@ -140,6 +161,7 @@ pub report_says : (words : List (List ℕ)) (left left_after t0 t1 : Option (Lis
 report_says words left left_after t0 t1 f0 f1 (Ok o) h s = absurd (no_outcome_above 9 (apart _ 9 (outcome_is o) s) (omega arith) (omega arith))
 report_says words left left_after t0 t1 f0 f1 (Err Words) h s = absurd (omega arith)
 report_says words left left_after t0 t1 f0 f1 (Err (Line n)) h s = absurd (omega arith)
+report_says words left left_after t0 t1 f0 f1 (Err (BadPlan f)) h s = absurd (omega arith)
 report_says words left left_after t0 t1 f0 f1 (Err (NotEnabled n)) h s = absurd (omega arith)
 report_says words left left_after t0 t1 f0 f1 (Err Unfinished) h s = absurd (omega arith)
 report_says words left left_after t0 t1 f0 f1 (Err Report) h s = h
@@ -153,6 +175,7 @@ pub read_says : (words : List (List ℕ)) (left left_after t0 t1 : Option (List 
 read_says words left left_after t0 t1 f0 f1 (Ok o) h s = absurd (no_outcome_above 10 (apart _ 10 (outcome_is o) s) (omega arith) (omega arith))
 read_says words left left_after t0 t1 f0 f1 (Err Words) h s = absurd (omega arith)
 read_says words left left_after t0 t1 f0 f1 (Err (Line n)) h s = absurd (omega arith)
+read_says words left left_after t0 t1 f0 f1 (Err (BadPlan f)) h s = absurd (omega arith)
 read_says words left left_after t0 t1 f0 f1 (Err (NotEnabled n)) h s = absurd (omega arith)
 read_says words left left_after t0 t1 f0 f1 (Err Unfinished) h s = absurd (omega arith)
 read_says words left left_after t0 t1 f0 f1 (Err Report) h s = absurd (omega arith)
@@ -166,6 +189,7 @@ pub too_long_says : (words : List (List ℕ)) (left left_after t0 t1 : Option (L
 too_long_says words left left_after t0 t1 f0 f1 (Ok o) h s = absurd (no_outcome_above 12 (apart _ 12 (outcome_is o) s) (omega arith) (omega arith))
 too_long_says words left left_after t0 t1 f0 f1 (Err Words) h s = absurd (omega arith)
 too_long_says words left left_after t0 t1 f0 f1 (Err (Line n)) h s = absurd (omega arith)
+too_long_says words left left_after t0 t1 f0 f1 (Err (BadPlan f)) h s = absurd (omega arith)
 too_long_says words left left_after t0 t1 f0 f1 (Err (NotEnabled n)) h s = absurd (omega arith)
 too_long_says words left left_after t0 t1 f0 f1 (Err Unfinished) h s = absurd (omega arith)
 too_long_says words left left_after t0 t1 f0 f1 (Err Report) h s = absurd (omega arith)
@@ -178,6 +202,7 @@ pub read_rose : (a b : ℕ) (ending : Result RunOutcome Fault) → CountsReadAtE
 read_rose a b (Ok o) h s = absurd (no_outcome_above 10 (apart _ 10 (outcome_is o) s) (omega arith) (omega arith))
 read_rose a b (Err Words) h s = absurd (omega arith)
 read_rose a b (Err (Line n)) h s = absurd (omega arith)
+read_rose a b (Err (BadPlan f)) h s = absurd (omega arith)
 read_rose a b (Err (NotEnabled n)) h s = absurd (omega arith)
 read_rose a b (Err Unfinished) h s = absurd (omega arith)
 read_rose a b (Err Report) h s = absurd (omega arith)
@@ -190,6 +215,7 @@ pub read_stayed : (a b : ℕ) (ending : Result RunOutcome Fault) → CountsReadA
 read_stayed a b (Ok o) h r m = h
 read_stayed a b (Err Words) h r m = h
 read_stayed a b (Err (Line n)) h r m = h
+read_stayed a b (Err (BadPlan f)) h r m = h
 read_stayed a b (Err (NotEnabled n)) h r m = h
 read_stayed a b (Err Unfinished) h r m = h
 read_stayed a b (Err Report) h r m = h

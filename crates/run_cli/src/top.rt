@@ -1,20 +1,19 @@
 // The top call: all that the program does.
 ghost use Rattle.std.specs.Prelude.{◌≡◌, ◌<◌, ◌^◌, ◌⊎◌, map, length, string_bytes, Ok, Err, true};
 ghost use Rattle.run_capture.specs.Faults.{Rose};
-ghost use Rattle.run_engine.specs.Builder.{settings_of};
 ghost use Rattle.run_cli.specs.Given.{IsReplay, IsTooLong, CountsReadAtEnd};
-ghost use Rattle.run_cli.specs.Finish.{IsReplayEnding};
+ghost use Rattle.run_cli.specs.Finish.{fault_of_plan, IsInputEnding};
 ghost use Rattle.run_cli.specs.Ending.{IsEnding};
 ghost use Rattle.run_cli.specs.Text.{status_of, outcome_status};
-ghost use Rattle.run_cli.specs.Status.{IsOutcomeStatus, is_status, Headline, SaysBadLine, SaysNotEnabled, SaysUnfinished, SaysReport};
+ghost use Rattle.run_cli.specs.Status.{IsOutcomeStatus, is_status, Headline, SaysBadLine, SaysBadPlan, SaysNotEnabled, SaysUnfinished, SaysReport};
 
 use crate::ended::{Ended, end_at_fault, replay};
 use crate::given::read_given;
 use run_capture::{Sink, Source};
-use run_engine::TestRunnerBuilder;
+use run_engine::{TestRunnerBuildError, TestRunnerBuilder};
 use run_events::{RunOutcome, RunStep};
 use run_input::Input;
-use run_output::Fault;
+use run_output::{Fault, PlanFault};
 use std::alloc::Global;
 
 /// What the program ends with: its status, and the sink that it wrote to.
@@ -53,11 +52,23 @@ fn status_of_ending(ending: Result<RunOutcome, Fault>) -> u8
     }
 }
 
+// The fault that a refusal of a plan is.
+fn fault_of_plan(error: TestRunnerBuildError) -> Fault
+    ensures { result ≡ fault_of_plan error }
+{
+    match error {
+        TestRunnerBuildError::DuplicateTest { test } => {
+            Fault::Plan(PlanFault::DuplicateTest { test })
+        }
+        TestRunnerBuildError::OutOfMemory => Fault::Memory,
+    }
+}
+
 // Carries out what an input says.
 fn replay_input<K: Sink>(alloc: Global, input: Input, sink: K) -> Ended<K>
     requires tests { length input.plan.tests < 2 ^ 32 }
     requires turns { length input.turns < 2 ^ 32 }
-    ensures { IsReplayEnding (settings_of input.capture input.plan) input.turns (K.taken sink) (K.taken result.sink)
+    ensures { IsInputEnding input.capture input.plan input.turns (K.taken sink) (K.taken result.sink)
         (K.faults sink) (K.faults result.sink) result.ending }
 {
     let Input {
@@ -69,7 +80,7 @@ fn replay_input<K: Sink>(alloc: Global, input: Input, sink: K) -> Ended<K>
     builder.set_capture_strategy(capture);
     match builder.build(alloc, plan) {
         Ok(runner) => replay(alloc, runner, turns.as_slice(), sink),
-        Err(_) => unreachable!(),
+        Err(error) => end_at_fault(alloc, sink, &[], fault_of_plan(error)),
     }
 }
 
@@ -90,7 +101,7 @@ fn run_to_end<S: Source, K: Sink>(
     }
 }
 
-/// Does all that the program does: reads the words and the source, carries out the turns, writes the lines to the sink,
+/// Does all that the program does: reads the words and the source, builds the run of its plan, carries out the turns, writes the lines to the sink,
 /// and answers the status. Lines come as events are told, then the asks, then the outcome or the fault. Want of memory
 /// may come at any point, and is status 11.
 pub fn run<S: Source, K: Sink>(alloc: Global, words: &[String], source: &mut S, sink: K) -> Ran<K>
@@ -103,6 +114,8 @@ pub fn run<S: Source, K: Sink>(alloc: Global, words: &[String], source: &mut S, 
     ensures words { result.status ≡ 2 → ¬ IsReplay (map (λ w. string_bytes w) words.now) }
     ensures no_words { ¬ IsReplay (map (λ w. string_bytes w) words.now) → (result.status ≡ 2) ⊎ (result.status ≡ 11) }
     ensures line { result.status ≡ 3 → SaysBadLine (map (λ w. string_bytes w) words.now) (S.left source.old) (S.left source.new)
+        (K.taken sink) (K.taken result.sink) (K.faults sink) (K.faults result.sink) }
+    ensures plan { result.status ≡ 5 → SaysBadPlan (map (λ w. string_bytes w) words.now) (S.left source.old) (S.left source.new)
         (K.taken sink) (K.taken result.sink) (K.faults sink) (K.faults result.sink) }
     ensures not_enabled { result.status ≡ 6 → SaysNotEnabled (map (λ w. string_bytes w) words.now) (S.left source.old)
         (S.left source.new) (K.taken sink) (K.taken result.sink) (K.faults sink) (K.faults result.sink) }

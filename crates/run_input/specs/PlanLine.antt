@@ -1,5 +1,5 @@
 -- What a plan line says.
-use Rattle.std.specs.Prelude.{ℕ, ◌==◌, ◌&&◌, not, List, [], ◌∷◌, length, Option, Some, None, option_and_then, if◌then◌else◌, nat_eq, codes}
+use Rattle.std.specs.Prelude.{ℕ, ◌==◌, ◌&&◌, not, List, [], ◌∷◌, length, Option, Some, None, option_and_then, if◌then◌else◌, nat_eq, codes, nat_lt}
 use Rattle.std.specs.List.{starts_with}
 use Rattle.serde_json.specs.Data.{Data, Items, no_items, item}
 use Rattle.serde_json.specs.Find.{get, as_str, as_array}
@@ -47,11 +47,12 @@ tests_from (item d ds) = do
 abbrev pub tests_of : Data → Option (List PlanTest)
 tests_of d = option_and_then tests_from (as_array d)
 
--- a plan of any number of tests, with its way of capture
+-- a plan of any number of tests below 2^32, with its way of capture
 unfoldable pub plan_of : Data → Option (CaptureStrategy × Plan)
 plan_of d = do
   _ ← when (is_object_of (codes "capture" ∷ codes "run_id" ∷ codes "tests" ∷ []) d)
   capture ← option_and_then capture_of (get (codes "capture") d)
   run_id ← option_and_then run_id_of (get (codes "run_id") d)
   tests ← option_and_then tests_of (get (codes "tests") d)
+  _ ← when (nat_lt (length tests) 4294967296)
   Some (capture, record { run_id = run_id; tests = tests })

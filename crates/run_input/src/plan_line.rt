@@ -31,6 +31,9 @@ pub fn read_plan_line(alloc: Global, line: &[u8]) -> Result<(CaptureStrategy, Pl
     }
 }
 
+/// The most tests that a plan may have. No input within its limit has as many.
+const MOST_TESTS: usize = 4_294_967_295;
+
 #[tactic(auto, unfolding(crate::specs::PlanLine::plan_of))]
 fn plan_from(alloc: Global, value: &Value) -> Result<(CaptureStrategy, Plan), LineError>
     ensures { Reads result (plan_of (view value.now)) }
@@ -41,6 +44,9 @@ fn plan_from(alloc: Global, value: &Value) -> Result<(CaptureStrategy, Plan), Li
     let capture = capture_at(value.get("capture")).ok_or(LineError::NotInTable)?;
     let run_id = run_id_at(value.get("run_id")).ok_or(LineError::NotInTable)?;
     let tests = tests_at(alloc, value.get("tests"))?;
+    if tests.len() > MOST_TESTS {
+        return Err(LineError::NotInTable);
+    }
     Ok((capture, Plan { run_id, tests }))
 }
 
