@@ -3,3 +3,4 @@ pub mod ToldLines
 pub mod EndLemmas
 pub mod GivenLemmas
 pub mod StatusLemmas
+pub mod CauseLemmas

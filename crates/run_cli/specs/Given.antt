@@ -29,7 +29,7 @@ IsTooLong left left_after = (bytes : List ℕ) × Gives left left_after bytes ×
 -- the source was read to its end, and the line of this number is the first bad one
 abbrev pub HasBadLine : Option (List ℕ) → Option (List ℕ) → ℕ → Type 0
 HasBadLine left left_after number =
-    (bytes : List ℕ) × Gives left left_after bytes × AtEnd left_after × IsFirstBad (lines_of bytes) number
+    (bytes : List ℕ) × Gives left left_after bytes × AtEnd left_after × (length bytes ≤ 16777216) × IsFirstBad (lines_of bytes) number
 
 -- what each fault before the run says of the words and the source
 abbrev pub IsGivenFault : List (List ℕ) → Option (List ℕ) → Option (List ℕ) → Fault → Type 0

@@ -5,3 +5,4 @@ pub mod Executed
 pub mod Ending
 pub mod Finish
 pub mod Status
+pub mod Cause

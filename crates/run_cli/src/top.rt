@@ -1,9 +1,13 @@
 // The top call: all that the program does.
-ghost use Rattle.std.specs.Prelude.{◌≡◌, ◌<◌, ◌^◌, ◌⊎◌, map, length, string_bytes, Ok, Err, true};
+ghost use Rattle.std.specs.Prelude.{ℕ, List, ◌≡◌, ◌<◌, ◌^◌, ◌⊎◌, map, length, string_bytes, Ok, Err, true};
 ghost use Rattle.run_capture.specs.Faults.{Rose};
 ghost use Rattle.run_cli.specs.Given.{IsReplay, IsTooLong, CountsReadAtEnd};
 ghost use Rattle.run_cli.specs.Finish.{fault_of_plan, IsInputEnding};
 ghost use Rattle.run_cli.specs.Ending.{IsEnding};
+ghost use Rattle.run_capture.specs.declared.test_output.CaptureStrategy.{CaptureStrategy};
+ghost use Rattle.run_events.specs.declared.plan.Plan.{Plan};
+ghost use Rattle.run_events.specs.declared.turn.Turn.{Turn};
+ghost use Rattle.run_cli.specs.Cause.{Gets, HasTooMuch, HasBadInput, HasInput, GetsByCourse};
 ghost use Rattle.run_cli.specs.Text.{status_of, outcome_status};
 ghost use Rattle.run_cli.specs.Status.{IsOutcomeStatus, is_status, Headline, SaysBadLine, SaysBadPlan, SaysNotEnabled, SaysUnfinished, SaysReport};
 
@@ -128,6 +132,16 @@ pub fn run<S: Source, K: Sink>(alloc: Global, words: &[String], source: &mut S, 
     ensures too_long { result.status ≡ 12 → IsReplay (map (λ w. string_bytes w) words.now)
         × IsTooLong (S.left source.old) (S.left source.new) }
     ensures known { is_status result.status ≡ true }
+
+    // Each cause, and its status.
+    ensures unread { S.faults source.old < S.faults source.new → Gets result.status 10 }
+    ensures too_much { IsReplay (map (λ w. string_bytes w) words.now) → ¬ Rose (S.faults source.old) (S.faults source.new)
+        → HasTooMuch (S.left source.old) → Gets result.status 12 }
+    ensures bad_line { IsReplay (map (λ w. string_bytes w) words.now) → ¬ Rose (S.faults source.old) (S.faults source.new)
+        → (number : ℕ) → HasBadInput (S.left source.old) number → Gets result.status 3 }
+    ensures course { IsReplay (map (λ w. string_bytes w) words.now) → ¬ Rose (S.faults source.old) (S.faults source.new)
+        → (capture : CaptureStrategy) (plan : Plan) (turns : List Turn) → HasInput (S.left source.old) capture plan turns
+        → GetsByCourse capture plan turns (K.faults sink) (K.faults result.sink) result.status }
 {
     let Ended { ending, sink } = run_to_end(alloc, words, source, sink);
     Ran {

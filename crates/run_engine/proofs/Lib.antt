@@ -8,3 +8,4 @@ pub mod StartLemmas
 pub mod TakesLemmas
 pub mod TellLemmas
 pub mod DeliveryLemmas
+pub mod CourseLemmas

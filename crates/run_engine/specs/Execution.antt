@@ -1,5 +1,5 @@
 -- What carrying out a list of turns does, and what each answer says of it.
-use Rattle.std.specs.Prelude.{ℕ, ◌≡◌, List, map, take, slice_get, true, false, Option, Some, None, Result, Ok, Err, ⊤}
+use Rattle.std.specs.Prelude.{ℕ, ◌≡◌, ◌⊎◌, ◌<◌, List, map, take, slice_get, true, false, Option, Some, None, Result, Ok, Err, ⊤}
 use Rattle.run_events.specs.Tell.{Adds}
 use Rattle.run_events.specs.declared.settings.Settings.{Settings}
 use Rattle.run_events.specs.declared.turn.Turn.{Turn}
@@ -7,9 +7,12 @@ use Rattle.run_events.specs.declared.ask.Ask.{Ask}
 use Rattle.run_events.specs.declared.events.ReporterEvent.{ReporterEvent}
 use Rattle.run_events.specs.declared.outcome.RunOutcome.{RunOutcome}
 use Rattle.run_model.specs.declared.entry.Entry.{Entry}
-use Rattle.run_model.specs.Words.{answers, asked, is_over}
+use Rattle.run_model.specs.Words.{answers, asked, is_over, tests_in}
+use Rattle.run_model.specs.Fates.{HasFate}
 use Rattle.run_model.specs.Turns.{enabled}
 use Rattle.run_model.specs.Journal.{past_of, outcome}
+use Rattle.run_capture.specs.Faults.{Rose}
+use Rattle.run_laws.specs.Course.{Stops, GoesOn, Ends}
 use Rattle.run_engine.specs.World.{TellsEvents, CountsErrors}
 use Rattle.run_engine.specs.Standing.{IsRunnable}
 use Rattle.run_engine.specs.declared.runner.Stop.{Stop}
@@ -52,6 +55,15 @@ UnlessMemory (Err Unfinished) fact = fact
 UnlessMemory (Err OutOfMemory) fact = ⊤
 
 -- the journal of a call that carries out turns, and what its answer says of it
+pub record Carries {R E C : Type 0} (tells : R → List (ReporterEvent × Option E) → Type 0) (asks : C → List (ℕ × Ask) → Type 0)
+    (p : Settings) (turns : List Turn) (report report_after : R) (children children_after : C) (faults faults_after : ℕ)
+    (answer : Result RunOutcome (TestRunnerExecuteErrors E)) : Type 0 where
+  pub journal : List Entry
+  pub refusal : Option E
+  pub takes : Takes tells asks p journal report report_after children children_after faults faults_after refusal
+  pub says : IsAnswerOf p turns journal refusal answer
+
+-- the same, and where the run is over each test has its fate
 pub record Executes {R E C : Type 0} (tells : R → List (ReporterEvent × Option E) → Type 0) (asks : C → List (ℕ × Ask) → Type 0)
     (p : Settings) (turns : List Turn) (report report_after : R) (children children_after : C) (faults faults_after : ℕ)
     (answer : Result RunOutcome (TestRunnerExecuteErrors E)) : Type 0 where
@@ -59,6 +71,7 @@ pub record Executes {R E C : Type 0} (tells : R → List (ReporterEvent × Optio
   pub refusal : Option E
   pub takes : Takes tells asks p journal report report_after children children_after faults faults_after refusal
   pub says : IsAnswerOf p turns journal refusal answer
+  pub fates : is_over (past_of p journal) ≡ true → (k : ℕ) → k < tests_in p → HasFate p (past_of p journal) k
 
 -- a list of turns stops where the turn at that place isn't enabled after the turns before it
 abbrev pub StopsAt : {R E C : Type 0} → (R → List (ReporterEvent × Option E) → Type 0) → (C → List (ℕ × Ask) → Type 0)
@@ -75,3 +88,13 @@ IsFinal ended refusal (Ok o) = (ended ≡ Some o) × (refusal ≡ None)
 IsFinal ended refusal (Err (Report e)) = ((o : RunOutcome) × (ended ≡ Some o)) × (refusal ≡ Some e)
 IsFinal ended refusal (Err Unfinished) = ended ≡ None
 IsFinal ended refusal (Err _) = ⊥
+
+-- what each course of the turns answers, unless memory was wanting: it stops, it leaves the run unfinished, or it ends the
+-- run, where the reporter's count of faults stayed or rose
+pub record AnswersCourse {E : Type 0} (p : Settings) (turns : List Turn) (faults faults_after : ℕ)
+    (answer : Result RunOutcome (TestRunnerExecuteErrors E)) : Type 0 where
+  pub stops : (place : ℕ) → Stops p turns place → (answer ≡ Err (NotEnabled place)) ⊎ (answer ≡ Err OutOfMemory)
+  pub unfinished : GoesOn p turns → (answer ≡ Err Unfinished) ⊎ (answer ≡ Err OutOfMemory)
+  pub ended : (o : RunOutcome) → Ends p turns o → ¬ Rose faults faults_after → (answer ≡ Ok o) ⊎ (answer ≡ Err OutOfMemory)
+  pub refused : (o : RunOutcome) → Ends p turns o → faults < faults_after
+      → ((e : E) × (answer ≡ Err (Report e))) ⊎ (answer ≡ Err OutOfMemory)

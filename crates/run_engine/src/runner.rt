@@ -5,7 +5,7 @@ ghost use Rattle.run_model.specs.declared.entry.Entry.{Entry};
 ghost use Rattle.run_model.specs.Turns.{enabled};
 ghost use Rattle.run_engine.specs.World.{history_of};
 ghost use Rattle.run_engine.specs.Standing.{sound};
-ghost use Rattle.run_engine.specs.Execution.{Takes, Executes, UnlessMemory, turns_of, StopsAt, IsFinal};
+ghost use Rattle.run_engine.specs.Execution.{Takes, Carries, Executes, AnswersCourse, UnlessMemory, turns_of, StopsAt, IsFinal};
 ghost use Rattle.run_model.specs.Journal.{outcome};
 ghost use Rattle.run_model.specs.Words.{is_over};
 
@@ -146,7 +146,23 @@ impl TestRunner {
         report: &mut R,
     ) -> Result<RunOutcome, TestRunnerExecuteErrors<R::Error>>
         requires { length turns.now < 2 ^ 32 }
-        ensures { UnlessMemory result (Executes R.told C.asked self turns.now report.old report.new children.old children.new
+        ensures executes { UnlessMemory result (Executes R.told C.asked self turns.now report.old report.new children.old children.new
+            (R.faults report.old) (R.faults report.new) result) }
+        ensures course { AnswersCourse self turns.now (R.faults report.old) (R.faults report.new) result }
+    {
+        self.carry_out(alloc, turns, children, report)
+    }
+
+    // Carries out the turns, and answers what the journal of the call says.
+    fn carry_out<C: Children, R: Reporter>(
+        self,
+        alloc: Global,
+        turns: &[Turn],
+        children: &mut C,
+        report: &mut R,
+    ) -> Result<RunOutcome, TestRunnerExecuteErrors<R::Error>>
+        requires { length turns.now < 2 ^ 32 }
+        ensures { UnlessMemory result (Carries R.told C.asked self turns.now report.old report.new children.old children.new
             (R.faults report.old) (R.faults report.new) result) }
     {
         let Ok(mut run) = self.into_run(alloc) else {
@@ -168,7 +184,8 @@ impl TestRunner {
         log: &mut EventLog,
     ) -> Result<RunOutcome, TestRunnerExecuteErrors<Infallible>>
         requires { length turns.now < 2 ^ 32 }
-        ensures { UnlessMemory result (Executes ⟦<EventLog as Reporter>⟧.told C.asked self turns.now log.old log.new children.old children.new 0 0 result) }
+        ensures executes { UnlessMemory result (Executes ⟦<EventLog as Reporter>⟧.told C.asked self turns.now log.old log.new children.old children.new 0 0 result) }
+        ensures course { AnswersCourse self turns.now 0 0 result }
     {
         self.try_execute(alloc, turns, children, log)
     }

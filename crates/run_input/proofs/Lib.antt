@@ -1,4 +1,4 @@
-mod InputLemmas
+pub mod InputLemmas
 mod LineLemmas
 mod SourceLemmas
 mod ValueLemmas

@@ -7,3 +7,6 @@ pub mod Told
 pub mod FateLemmas
 pub mod Prefix
 pub mod Scan
+pub mod Alike
+pub mod Through
+pub mod Courses

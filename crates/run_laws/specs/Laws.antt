@@ -1,9 +1,11 @@
 -- The laws of every legal journal.
-use Rattle.std.specs.Prelude.{ℕ, ◌≡◌, ◌<◌, List, ◌++◌, true}
+use Rattle.std.specs.Prelude.{ℕ, ◌≡◌, ◌<◌, List, ◌++◌, map, true}
 use Rattle.run_events.specs.declared.settings.Settings.{Settings}
 use Rattle.run_model.specs.declared.entry.Entry.{Entry}
-use Rattle.run_model.specs.Journal.{IsLegal, past_of}
-use Rattle.run_model.specs.Words.{is_over, tests_in, told}
+use Rattle.run_events.specs.declared.turn.Turn.{Turn}
+use Rattle.run_model.specs.Turns.{enabled}
+use Rattle.run_model.specs.Journal.{IsLegal, past_of, outcome}
+use Rattle.run_model.specs.Words.{is_over, tests_in, told, asked}
 use Rattle.run_model.specs.Accounts.{IsAccounted}
 use Rattle.run_model.specs.Fates.{HasFate}
 
@@ -24,3 +26,16 @@ Extends {X} xs ys = (more : List X) × (ys ≡ xs ++ more)
 abbrev pub EventsExtend : Type 0
 EventsExtend = (p : Settings) (journal more : List Entry) → IsLegal p (journal ++ more)
     → Extends (told (past_of p journal)) (told (past_of p (journal ++ more)))
+
+-- two journals enable, tell and ask the same, and end alike
+pub record SaysAlike (p : Settings) (journal other : List Entry) : Type 0 where
+  pub enabled : (turn : Turn) → enabled p (past_of p other) turn ≡ enabled p (past_of p journal) turn
+  pub told : told (past_of p other) ≡ told (past_of p journal)
+  pub asked : asked (past_of p other) ≡ asked (past_of p journal)
+  pub over : is_over (past_of p other) ≡ is_over (past_of p journal)
+  pub outcome : outcome p (past_of p other) ≡ outcome p (past_of p journal)
+
+-- the turns alone decide, whatever the reporter answered
+abbrev pub TurnsDecide : Type 0
+TurnsDecide = (p : Settings) (journal other : List Entry) → map (λ e. e.turn) other ≡ map (λ e. e.turn) journal
+    → SaysAlike p journal other

@@ -1,5 +1,6 @@
 // Theorems over every legal journal.
-ghost use Rattle.run_laws.specs.Laws.{AccountsHold, EachHasFate, EventsExtend};
+ghost use Rattle.run_laws.specs.Course.{CoursesExclude};
+ghost use Rattle.run_laws.specs.Laws.{AccountsHold, EachHasFate, EventsExtend, TurnsDecide};
 
 /// What is told of each test, and what waits to be told, is its account, after every legal journal.
 pub fn accounts_hold()
@@ -16,4 +17,15 @@ pub fn each_test_has_its_fate()
 /// The events of a legal journal are the first events of every legal journal that extends it.
 pub fn events_extend()
     ensures { EventsExtend }
+{}
+
+/// Two journals with the same turns enable, tell and ask the same and end alike, whatever the reporter answered.
+pub fn turns_decide()
+    ensures { TurnsDecide }
+{}
+
+/// A list of turns has one course at most: it stops at one place, or it leaves the run unfinished, or it ends the run with
+/// one outcome.
+pub fn a_list_of_turns_has_one_course()
+    ensures { CoursesExclude }
 {}

@@ -4,4 +4,6 @@
 
 mod laws;
 
-pub use laws::{accounts_hold, each_test_has_its_fate, events_extend};
+pub use laws::{
+    a_list_of_turns_has_one_course, accounts_hold, each_test_has_its_fate, events_extend, turns_decide,
+};

@@ -14,4 +14,4 @@ returns g c = unless_weaker c.try_execute-answer.result _ _
     (rw c.requires.taken at (c.into_sink.ensures.told told.0 told.1)) told.2 told.3
     (subst (λ n. CountsErrors n c.try_execute-answer.new.report.refusals x.refusal) c.new-reporter.ensures.faults x.takes.counted)
     (rw c.requires.faults at c.into_sink.ensures.faults))
-    c.try_execute-answer.ensures
+    c.try_execute-answer.ensures.executes
