@@ -19,6 +19,45 @@ const PASSED: &str = r#"{"code":0,"turn":"exit","unit":0}"#;
 
 const FAILED: &str = r#"{"code":1,"turn":"exit","unit":0}"#;
 
+const NO_TESTS: &str =
+    r#"{"capture":"none","run_id":"00000000-0000-4000-8000-000000000001","tests":[]}"#;
+
+const SKIPPED: &str =
+    r#"{"capture":"none","run_id":"00000000-0000-4000-8000-000000000001","tests":[{"binary":"b","command":["true"],"name":"t","skip":"gone"}]}"#;
+
+const REPEATED: &str =
+    r#"{"capture":"none","run_id":"00000000-0000-4000-8000-000000000001","tests":[{"binary":"b","command":["true"],"name":"t"},{"binary":"b","command":["true"],"name":"t"}]}"#;
+
+// Two tests that match, and one that doesn't.
+const THREE: &str =
+    r#"{"capture":"none","run_id":"00000000-0000-4000-8000-000000000001","tests":[{"binary":"b","command":["true"],"name":"a"},{"binary":"b","command":["true"],"name":"b"},{"binary":"b","command":["true"],"name":"c","skip":"no"}]}"#;
+
+const BEGUN: &str = r#"{"turn":"begin"}
+{"turn":"admit"}
+{"turn":"deliver"}"#;
+
+const BEGIN: &str = r#"{"turn":"begin"}"#;
+
+const ADMIT: &str = r#"{"turn":"admit"}"#;
+
+const END: &str = r#"{"turn":"end"}"#;
+
+const START_FAILED: &str = r#"{"text":"x","turn":"start-failed","unit":0}"#;
+
+const FIRST_DONE: &str = r#"{"turn":"decide","unit":0,"word":0}
+{"turn":"deliver"}"#;
+
+const SKIP_LAST: &str = r#"{"turn":"admit"}
+{"turn":"deliver"}
+{"turn":"end"}"#;
+
+const SECOND: &str = r#"{"turn":"admit"}
+{"turn":"deliver"}
+{"pid":101,"turn":"started","unit":1}
+{"text":"no child","turn":"wait-failed","unit":1}
+{"turn":"decide","unit":1,"word":0}
+{"turn":"deliver"}"#;
+
 // What the program is given: words, an input, and the numbers of the read and the write that fail, 0 for none.
 #[derive(Drop)]
 struct Row<'a> {
@@ -83,6 +122,41 @@ fn whole_runs(rt: HostRuntime) {
     let failed = given(&["replay"], &[PLAN, STARTED, FAILED, DECIDED]);
     let last = "{\"outcome\":\"failed\",\"step\":\"test\"}\n";
     assert_eq!(rt; ran(alloc, &failed, last), Ok((100, 6, true)));
+}
+
+#[test]
+fn tests_that_do_not_run(rt: HostRuntime) {
+    let alloc = rt.alloc();
+    let none = given(&["replay"], &[NO_TESTS, BEGIN, END]);
+    let last = "\"event\":\"run-finished\",\"stats\":{}}\n{\"outcome\":\"no-tests-run\"}\n";
+    assert_eq!(rt; ran(alloc, &none, last), Ok((4, 3, true)));
+
+    let skipped = given(&["replay"], &[SKIPPED, BEGUN, END]);
+    let last = "\"stats\":{\"skipped\":1}}\n{\"outcome\":\"no-tests-run\"}\n";
+    assert_eq!(rt; ran(alloc, &skipped, last), Ok((4, 4, true)));
+
+    let refused = given(&["replay"], &[PLAN, BEGUN, START_FAILED, DECIDED]);
+    let last = "{\"outcome\":\"failed\",\"step\":\"test\"}\n";
+    assert_eq!(rt; ran(alloc, &refused, last), Ok((100, 6, true)));
+}
+
+#[test]
+fn many_tests(rt: HostRuntime) {
+    let alloc = rt.alloc();
+    let blocked = given(&["replay"], &[THREE, BEGIN, ADMIT, ADMIT]);
+    let last = "{\"fault\":\"not-enabled\",\"status\":6,\"turn\":2}\n";
+    assert_eq!(rt; ran(alloc, &blocked, last), Ok((6, 2, true)));
+
+    let whole = given(
+        &["replay"],
+        &[THREE, STARTED, PASSED, FIRST_DONE, SECOND, SKIP_LAST],
+    );
+    let last = "{\"outcome\":\"failed\",\"step\":\"test\"}\n";
+    assert_eq!(rt; ran(alloc, &whole, last), Ok((100, 10, true)));
+
+    let repeated = given(&["replay"], &[REPEATED, BEGIN]);
+    let last = "{\"fault\":\"plan\",\"kind\":\"duplicate-test\",\"status\":5,\"test\":1}\n";
+    assert_eq!(rt; ran(alloc, &repeated, last), Ok((5, 1, true)));
 }
 
 #[test]
