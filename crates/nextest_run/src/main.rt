@@ -8,6 +8,8 @@ use std::{env, io};
 
 const USAGE: &str = "usage: nextest_run replay < INPUT, or nextest_run --help or --version";
 
+const NO_MEMORY: &str = "{\"fault\":\"memory\",\"status\":11}";
+
 const VERSION: &str = "nextest_run 0.0.0";
 
 const HELP: &str = "nextest_run: the execution engine of a test runner
@@ -20,9 +22,9 @@ The first line of INPUT is the plan, each later one a turn. Each line is a JSON 
 events go out as they are told, then those of the asks, then the outcome or the fault.
 
 The status is 0 for success, 4 where no test was run, 100 for a failed or cancelled run, 105 for one that
-a setup script ended, and else the fault's: 2 for bad words, 3 for a bad line, 6 for a turn that is not
-enabled, 8 for a run that is not over, 9 for a failed write, 10 for a failed read, 11 for want of memory,
-12 for an input that is too long.";
+a setup script ended, and else the fault's: 2 for bad words, 3 for a bad line, 5 for a plan that repeats
+a test, 6 for a turn that is not enabled, 8 for a run that is not over, 9 for a failed write, 10 for a
+failed read, 11 for want of memory, 12 for an input that is too long.";
 
 // Carries out a run from the standard input to the standard output, and answers its status.
 fn replay(rt: &HostRuntime, words: &[String]) -> u8 {
@@ -60,10 +62,19 @@ fn words_given(rt: &HostRuntime) -> io::Result<Vec<String>> {
     Ok(words)
 }
 
+// Words that could not be copied for want of memory end the program as that; others are no text, and bad words.
+fn without_words(rt: &HostRuntime, error: &io::Error) -> u8 {
+    if error.kind() != io::ErrorKind::OutOfMemory {
+        return replay(rt, &[]);
+    }
+    let _ = println!(rt; "{NO_MEMORY}");
+    11
+}
+
 fn main(rt: HostRuntime) -> ExitCode {
     let status = match words_given(&rt) {
         Ok(words) => status_of_words(&rt, words.as_slice()),
-        Err(_) => replay(&rt, &[]),
+        Err(error) => without_words(&rt, &error),
     };
     ExitCode::from(status)
 }
