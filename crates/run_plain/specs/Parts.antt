@@ -12,7 +12,7 @@ use Rattle.run_model.specs.declared.entry.Entry.{Entry}
 use Rattle.run_model.specs.declared.unit_turn.UnitTurn.TheVariants.{Answered}
 use Rattle.run_model.specs.declared.happening.Happening.{Happening}
 use Rattle.run_model.specs.Turns.{event_at, start_delivery, taken_by}
-use Rattle.run_model.specs.Words.{clock, unit_of, finished, finished_test, reason, running, stats, stats_after}
+use Rattle.run_model.specs.Words.{clock, unit_of, finished, finished_test, reason, running, skipped, stats, stats_after}
 
 -- the statistics after one more event, which may tell that a test finished
 abbrev pub counted : RunStats → Option FinishedTest → RunStats
@@ -30,7 +30,7 @@ start_delivered past e k event =
 
 -- the statistics after one more test that finished, after these attempts
 abbrev pub stats_with : Settings → List Happening → List ExecuteStatus → RunStats
-stats_with p past statuses = stats_after p (reason past) (finished past ++ finished_test statuses ∷ [])
+stats_with p past statuses = stats_after p (reason past) (skipped past) (finished past ++ finished_test statuses ∷ [])
 
 -- the event that a test finished
 unfoldable pub finish_event : Settings → List Happening → ℕ → TestInstanceId → List ExecuteStatus → ReporterEvent

@@ -1,6 +1,7 @@
 // The admission rule.
-ghost use Rattle.std.specs.Prelude.{◌≡◌, ◌<◌, ◌≤◌, ◌^◌, length, is_none, position, IfOk};
+ghost use Rattle.std.specs.Prelude.{◌≡◌, ◌<◌, ◌≤◌, ◌^◌, length, nat_lt, IfOk};
 ghost use Rattle.std.specs.List.{list_any};
+ghost use Rattle.run_events.specs.declared.message.Message.TheVariants.{Skip, Start};
 ghost use Rattle.run_model.specs.Admission.{
   candidate,
   first_view,
@@ -10,13 +11,17 @@ ghost use Rattle.run_model.specs.Admission.{
   is_done,
   is_in_use,
   is_last,
+  is_matched,
   newcomer,
+  newcomer_of,
+  skipped_view,
 };
 
-use run_capture::{Duplicate, List, Mem};
-use run_events::{PlanTest, Settings, TestSlotAssignment};
+use run_capture::{Duplicate, List, Mem, Text};
+use run_events::{Message, PlanTest, Settings, TestSlotAssignment};
 use run_model::{Phase, UnitView};
 use std::alloc::Global;
+use std::marker::Model;
 
 fn is_last(phase: Phase) -> bool
     ensures { result ≡ is_last phase }
@@ -65,6 +70,13 @@ pub fn in_use(units: &[Option<UnitView>]) -> usize
     count
 }
 
+// Whether a planned test matches, and so is to run.
+pub fn is_matched(test: &PlanTest) -> bool
+    ensures { result ≡ is_matched test.now }
+{
+    test.skip.is_none()
+}
+
 fn is_slot_held(slot: usize, units: &[Option<UnitView>]) -> bool
     ensures { result ≡ list_any (holds_slot slot) units.now }
 {
@@ -84,21 +96,18 @@ pub fn free_slot(units: &[Option<UnitView>]) -> usize
     units.len()
 }
 
-fn first_waiting(units: &[Option<UnitView>]) -> Option<usize>
-    ensures { result ≡ position is_none units.now }
+/// The candidate: the first test that wasn't admitted. It blocks all later ones.
+pub fn candidate(units: &[Option<UnitView>]) -> Option<usize>
+    ensures { result ≡ candidate units.now }
 {
     units.iter().position(|unit| unit.is_none())
 }
 
-/// The candidate: the first test that wasn't admitted, where one more test may be in use.
-pub fn candidate(settings: &Settings, units: &[Option<UnitView>]) -> Option<usize>
-    ensures { result ≡ candidate settings.now units.now }
+// Whether one more test may be in use.
+fn has_room(settings: &Settings, units: &[Option<UnitView>]) -> bool
+    ensures { result ≡ nat_lt (in_use units.now) settings.now.threads }
 {
-    if in_use(units) < settings.threads as usize {
-        first_waiting(units)
-    } else {
-        None
-    }
+    in_use(units) < settings.threads as usize
 }
 
 // A test as a unit, as it begins in this slot.
@@ -125,20 +134,105 @@ fn first_view(
     })
 }
 
-/// The unit that the next admission makes, where a test is admitted.
+// A skipped test as a unit: it is over from its admission.
+fn skipped_view(alloc: Global, settings: &Settings, k: u32, test: &PlanTest) -> Mem<UnitView>
+    ensures { IfOk result (λ u. u ≡ skipped_view settings.now k test.now) }
+{
+    let mut unit = first_view(alloc, settings, k, 0, test)?;
+    unit.phase = Phase::Over;
+    Ok(unit)
+}
+
+/// What an admission makes: a unit, and the message that it sends. Contracts see it as the definitions do.
+#[derive(Drop)]
+pub struct Admitted {
+    pub unit: UnitView,
+    pub sent: Message,
+}
+
+impl Model for Admitted {
+    ghost use Rattle.run_model.specs.Admission.{Newcomer};
+
+    ghost Value = { Newcomer };
+
+    ghost view = { λ n. record { unit = n.unit; sent = n.sent } };
+}
+
+// A test that doesn't match, skipped for this reason.
+fn skip_of(
+    alloc: Global,
+    settings: &Settings,
+    k: u32,
+    test: &PlanTest,
+    reason: &Text,
+) -> Mem<Admitted>
+    ensures unit { IfOk result (λ n. n.unit ≡ skipped_view settings.now k test.now) }
+    ensures sent { IfOk result (λ n. n.sent ≡ Skip k test.now.id reason.now) }
+{
+    Ok(Admitted {
+        unit: skipped_view(alloc, settings, k, test)?,
+        sent: Message::Skip {
+            unit: k,
+            test: test.id.copy(alloc)?,
+            reason: reason.copy(alloc)?,
+        },
+    })
+}
+
+// A test that starts in this slot.
+fn start_of(alloc: Global, settings: &Settings, slot: u32, k: u32, test: &PlanTest) -> Mem<Admitted>
+    ensures unit { IfOk result (λ n. n.unit ≡ first_view settings.now k slot test.now) }
+    ensures sent { IfOk result (λ n. n.sent ≡ Start k test.now.id test.now.command (record { global = slot })) }
+{
+    Ok(Admitted {
+        unit: first_view(alloc, settings, k, slot, test)?,
+        sent: Message::Start {
+            unit: k,
+            test: test.id.copy(alloc)?,
+            command: test.command.copy(alloc)?,
+            slot: TestSlotAssignment { global: slot },
+        },
+    })
+}
+
+// What the admission of a test makes: it is skipped where it doesn't match, and else it starts where it fits.
+fn newcomer_of(
+    alloc: Global,
+    settings: &Settings,
+    slot: u32,
+    fits: bool,
+    k: u32,
+    test: &PlanTest,
+) -> Mem<Option<Admitted>>
+    ensures { IfOk result (λ n. n ≡ newcomer_of settings.now slot fits k test.now test.now.skip) }
+{
+    match &test.skip {
+        Some(reason) => Ok(Some(skip_of(alloc, settings, k, test, reason)?)),
+        None => {
+            if fits {
+                Ok(Some(start_of(alloc, settings, slot, k, test)?))
+            } else {
+                Ok(None)
+            }
+        }
+    }
+}
+
+/// What the next admission makes, where a test can be admitted.
 pub fn newcomer(
     alloc: Global,
     settings: &Settings,
     units: &[Option<UnitView>],
-) -> Mem<Option<UnitView>>
+) -> Mem<Option<Admitted>>
     requires tests { length settings.now.plan.tests < 2 ^ 32 }
     requires units { length units.now < 2 ^ 32 }
-    ensures { IfOk result (λ u. u ≡ newcomer settings.now units.now) }
+    ensures { IfOk result (λ n. n ≡ newcomer settings.now units.now) }
 {
     let slot = free_slot(units);
-    match candidate(settings, units) {
+    let fits = has_room(settings, units);
+    match candidate(units) {
         Some(k) => match settings.plan.tests.get(k) {
-            Some(test) => { Ok(Some(first_view(alloc, settings, k as u32, slot as u32, test)?)) }
+            Some(test) => newcomer_of(alloc, settings, slot as u32, fits, k as u32, test),
             None => Ok(None),
         },
         None => Ok(None),

@@ -1,6 +1,7 @@
 // The delivery of the oldest message.
 ghost use Rattle.std.specs.Prelude.{◌≡◌, ◌+◌, ◌<◌, ◌^◌, ◌∷◌, [], length, is_none, IfOk};
-ghost use Rattle.run_model.specs.Turns.{delivery, start_delivery};
+ghost use Rattle.run_events.specs.declared.events.TestEventKind.TheVariants.{TestSkipped};
+ghost use Rattle.run_model.specs.Turns.{delivery, event_at, start_delivery};
 ghost use Rattle.run_model.specs.Words.{reason};
 ghost use Rattle.run_plain.specs.Parts.{finish_event, start_delivered, start_event, stats_with};
 
@@ -80,6 +81,21 @@ fn deliver_start(
     Ok(start_delivery(go, happening, event))
 }
 
+// The event that a test was skipped.
+fn skip_event(
+    alloc: Global,
+    past: &[Happening],
+    unit: u32,
+    test: &TestInstanceId,
+    reason: &Text,
+) -> Mem<ReporterEvent>
+    ensures { IfOk result (λ e. e ≡ event_at past.now (TestSkipped unit test.now reason.now)) }
+{
+    let test = test.copy(alloc)?;
+    let reason = reason.copy(alloc)?;
+    Ok(event_at(past, TestEventKind::TestSkipped { unit, test, reason }))
+}
+
 // The statistics after one more test that finished, after these attempts.
 fn stats_with(
     alloc: Global,
@@ -143,6 +159,13 @@ fn delivery_of(
         } => {
             let event = start_event(alloc, settings, past, *unit, test, command, *slot)?;
             deliver_start(alloc, past, entry, *unit, event)
+        }
+        Message::Skip { unit, test, reason } => {
+            let mut happening = silent(alloc, entry)?;
+            let event = skip_event(alloc, past, *unit, test, reason)?;
+            happening.taken = true;
+            happening.told = Some(event);
+            Ok(happening)
         }
         Message::Finish {
             unit,

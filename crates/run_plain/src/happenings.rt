@@ -1,11 +1,10 @@
 // What a turn does: the rows of the tables, as happenings.
 ghost use Rattle.std.specs.Prelude.{◌≡◌, IfOk};
-ghost use Rattle.run_events.specs.declared.message.Message.TheVariants.{Start};
 ghost use Rattle.run_model.specs.Turns.{admission, event_at, silent, taken_by};
 
-use crate::{clock, elapsed, row};
+use crate::{Admitted, clock, elapsed, row};
 use run_capture::{Duplicate, Mem};
-use run_events::{Message, ReporterEvent, TestEvent, TestEventKind};
+use run_events::{ReporterEvent, TestEvent, TestEventKind};
 use run_model::{Entry, Happening, Place, UnitTurn, UnitView};
 use std::alloc::Global;
 
@@ -57,26 +56,14 @@ pub fn taken_by(
     Ok(happening)
 }
 
-// The start message of a unit that is admitted.
-fn start_message(alloc: Global, unit: &UnitView) -> Mem<Message>
-    ensures { IfOk result (λ m. m ≡ Start unit.now.unit unit.now.id unit.now.command unit.now.slot) }
-{
-    Ok(Message::Start {
-        unit: unit.unit,
-        test: unit.id.copy(alloc)?,
-        command: unit.command.copy(alloc)?,
-        slot: unit.slot,
-    })
-}
-
-// An admission, which sends the start message of the unit that it makes.
-pub fn admission(alloc: Global, entry: &Entry, unit: Option<UnitView>) -> Mem<Happening>
-    ensures { IfOk result (λ x. x ≡ admission entry.now unit) }
+// An admission, which makes a unit and sends its message.
+pub fn admission(alloc: Global, entry: &Entry, admitted: Option<Admitted>) -> Mem<Happening>
+    ensures { IfOk result (λ x. x ≡ admission entry.now admitted) }
 {
     let mut happening = silent(alloc, entry)?;
-    if let Some(unit) = unit {
-        happening.sent = Some(start_message(alloc, &unit)?);
-        happening.place = Some(Place::Admitted(unit));
+    if let Some(admitted) = admitted {
+        happening.place = Some(Place::Admitted(admitted.unit));
+        happening.sent = Some(admitted.sent);
     }
     Ok(happening)
 }

@@ -53,7 +53,7 @@ pub fn happening(
     requires { length settings.now.plan.tests + length past.now + 1 < 2 ^ 32 }
     ensures { IfOk result (λ x. x ≡ happening settings.now past.now entry.now) }
 {
-    match turn_of_unit(&entry.turn) {
+    match turn_of_unit(alloc, &entry.turn)? {
         Some((unit, turn)) => {
             let view = unit_of(alloc, unit as usize, past)?;
             taken_by(alloc, clock(past), entry, unit, turn, view)

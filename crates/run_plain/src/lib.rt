@@ -14,10 +14,10 @@ mod turns;
 mod unit;
 mod words;
 
-pub use admission::{candidate, free_slot, in_use, is_done, newcomer};
+pub use admission::{Admitted, candidate, free_slot, in_use, is_done, newcomer};
 pub use journal::{happening, history, outcome};
 pub use places::{unit_of, units};
-pub use statistics::{reason, running, stats};
+pub use statistics::{matched_in, reason, running, skipped, stats};
 pub use turns::enabled;
 pub use unit::{UnitRow, row, takes};
 pub use words::{answers, asked, clock, delivered, elapsed, has_begun, is_over, queue, sent, told};

@@ -9,15 +9,19 @@ ghost use Rattle.run_model.specs.Words.{
   greater,
   is_running,
   last_slow,
+  matched_in,
   rank,
   reason,
   running,
+  skipped,
+  skips,
   starts,
   stats,
   stats_after,
 };
 ghost use Rattle.run_plain.specs.Parts.{counted};
 
+use crate::admission::is_matched;
 use crate::told;
 use run_capture::Mem;
 use run_events::{
@@ -72,7 +76,11 @@ pub fn reason(past: &[Happening]) -> Option<CancelReason>
 fn results_of(alloc: Global, statuses: &[ExecuteStatus]) -> Mem<Vec<ExecutionResult>>
     ensures { IfOk result (λ v. v.items ≡ map (λ s. s.result) statuses.now) }
 {
-    Ok(statuses.iter().map(|status| status.result).collect(alloc)?)
+    let mut results = Vec::new(alloc);
+    for status in statuses {
+        results.push(status.result)?;
+    }
+    Ok(results)
 }
 
 // Whether the last attempt was slow.
@@ -126,32 +134,78 @@ fn counted(alloc: Global, stats: RunStats, event: &ReporterEvent) -> Mem<RunStat
     }
 }
 
-// The statistics where no test has finished.
-#[tactic(auto, using(crate::proofs::StatisticsLemmas::total_none))]
-fn stats_at_first(settings: &Settings, why: Option<CancelReason>) -> RunStats
-    ensures { result ≡ stats_after settings.now why [] }
+/// How many tests of the plan match, and so are to run.
+pub fn matched_in(settings: &Settings) -> usize
+    ensures matched { result ≡ matched_in settings.now }
+    ensures within { result ≤ length settings.now.plan.tests }
 {
-    let mut stats = RunStats::started(0, settings.plan.tests.len() as u64);
+    let mut count = 0;
+    for test in settings.plan.tests.as_slice() {
+        if is_matched(test) {
+            count += 1;
+        }
+    }
+    count
+}
+
+// The statistics after so many skips, where no test has finished.
+#[tactic(auto, using(crate::proofs::StatisticsLemmas::total_none))]
+fn stats_at_first(settings: &Settings, why: Option<CancelReason>, skips: usize) -> RunStats
+    ensures { result ≡ stats_after settings.now why skips [] }
+{
+    let mut stats = RunStats::started(0, matched_in(settings) as u64);
+    stats.skipped = skips as u64;
     stats.cancel_reason = why;
     stats
 }
 
-// The statistics after these events, of a run that is cancelled for this reason.
+// The statistics after so many skips and these events, of a run that is cancelled for this reason.
 pub fn stats_after(
     alloc: Global,
     settings: &Settings,
     why: Option<CancelReason>,
+    skips: usize,
     events: &[ReporterEvent],
 ) -> Mem<RunStats>
-    requires { length settings.now.plan.tests + length events.now < 2 ^ 32 }
-    ensures stats { IfOk result (λ s. s ≡ stats_after settings.now why (filter_map finish_of events.now)) }
+    requires { length settings.now.plan.tests + skips + length (filter_map finish_of events.now) < 2 ^ 32 }
+    ensures stats { IfOk result (λ s. s ≡ stats_after settings.now why skips (filter_map finish_of events.now)) }
     ensures below { IfOk result (AreBelow (2 ^ 32)) }
 {
-    let mut stats = stats_at_first(settings, why);
+    let mut stats = stats_at_first(settings, why, skips);
     for event in events {
         stats = counted(alloc, stats, event)?;
     }
     Ok(stats)
+}
+
+// Whether an event tells a skipped test.
+fn skips(event: &ReporterEvent) -> bool
+    ensures { result ≡ skips event.now }
+{
+    match event {
+        ReporterEvent::Test(event) => matches!(event.kind, TestEventKind::TestSkipped { .. }),
+    }
+}
+
+// How many of these events tell a skipped test.
+fn count_skips(events: &[ReporterEvent]) -> usize
+    ensures { result ≡ count_by skips events.now }
+{
+    let mut count = 0;
+    for event in events {
+        if skips(event) {
+            count += 1;
+        }
+    }
+    count
+}
+
+/// How many tests were told skipped.
+pub fn skipped(alloc: Global, past: &[Happening]) -> Mem<usize>
+    ensures { IfOk result (λ n. n ≡ skipped past.now) }
+{
+    let events = told(alloc, past)?;
+    Ok(count_skips(&events))
 }
 
 /// The statistics of a run.
@@ -160,8 +214,9 @@ pub fn stats(alloc: Global, settings: &Settings, past: &[Happening]) -> Mem<RunS
     ensures stats { IfOk result (λ s. s ≡ stats settings.now past.now) }
     ensures below { IfOk result (AreBelow (2 ^ 32)) }
 {
+    let skips = skipped(alloc, past)?;
     let events = told(alloc, past)?;
-    stats_after(alloc, settings, reason(past), &events)
+    stats_after(alloc, settings, reason(past), skips, &events)
 }
 
 // Whether an event tells the start of a test.

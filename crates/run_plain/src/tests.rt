@@ -1,14 +1,14 @@
-// A whole run of one test that passes, as it is folded from its journal.
+// Whole runs of one test, which passes or is skipped, as they are folded from their journals.
 ghost use Rattle.std.specs.Prelude.{◌≡◌, length, IfOk};
 
-use crate::{answers, asked, enabled, history, outcome, told};
+use crate::{answers, asked, enabled, history, outcome, skipped, told};
 use run_capture::{CaptureStrategy, List, Mem, Text};
 use run_events::{ChildExit, Plan, PlanTest, RunOutcome, Settings, TestInstanceId, Turn};
 use run_model::Entry;
 use std::alloc::Global;
 use uuid::Uuid;
 
-fn planned(alloc: Global) -> Mem<PlanTest> {
+fn planned(alloc: Global, skip: Option<Text>) -> Mem<PlanTest> {
     let mut command = List::new();
     command.push(alloc, Text::from_str(alloc, "true")?)?;
     Ok(PlanTest {
@@ -17,14 +17,15 @@ fn planned(alloc: Global) -> Mem<PlanTest> {
             name: Text::from_str(alloc, "t")?,
         },
         command,
+        skip,
     })
 }
 
-fn settings(alloc: Global) -> Mem<Settings>
+fn settings(alloc: Global, skip: Option<Text>) -> Mem<Settings>
     ensures { IfOk result (λ s. length s.plan.tests ≡ 1) }
 {
     let mut tests = List::new();
-    tests.push(alloc, planned(alloc)?)?;
+    tests.push(alloc, planned(alloc, skip)?)?;
     Ok(Settings {
         plan: Plan {
             run_id: Uuid::nil(),
@@ -70,7 +71,7 @@ fn journal(alloc: Global) -> Mem<Vec<Entry>>
 
 // How many events are told and answered, and how many asks are made.
 fn counts(alloc: Global) -> Mem<(usize, usize, usize)> {
-    let settings = settings(alloc)?;
+    let settings = settings(alloc, None)?;
     let journal = journal(alloc)?;
     let past = history(alloc, &settings, &journal)?;
     let told = told(alloc, &past)?.len();
@@ -80,11 +81,32 @@ fn counts(alloc: Global) -> Mem<(usize, usize, usize)> {
 
 // How the run ended, and whether it takes one more turn.
 fn ending(alloc: Global) -> Mem<(Option<RunOutcome>, bool)> {
-    let settings = settings(alloc)?;
+    let settings = settings(alloc, None)?;
     let journal = journal(alloc)?;
     let past = history(alloc, &settings, &journal)?;
     let ended = outcome(alloc, &settings, &past)?;
     Ok((ended, enabled(alloc, &settings, &past, &Turn::Deliver)?))
+}
+
+fn skip_journal(alloc: Global) -> Mem<Vec<Entry>>
+    ensures { IfOk result (λ v. length v.items ≡ 4) }
+{
+    Ok(vec![in alloc;
+        telling(alloc, Turn::Begin)?,
+        quiet(Turn::Admit),
+        telling(alloc, Turn::Deliver)?,
+        telling(alloc, Turn::End)?,
+    ]?)
+}
+
+// How many events a run of a skipped test tells, how many of them a skip, and how it ends.
+fn skipping(alloc: Global) -> Mem<(usize, usize, Option<RunOutcome>)> {
+    let settings = settings(alloc, Some(Text::from_str(alloc, "ignored")?))?;
+    let journal = skip_journal(alloc)?;
+    let past = history(alloc, &settings, &journal)?;
+    let told = told(alloc, &past)?.len();
+    let skips = skipped(alloc, &past)?;
+    Ok((told, skips, outcome(alloc, &settings, &past)?))
 }
 
 #[test]
@@ -92,4 +114,12 @@ fn folds_a_run(rt: HostRuntime) {
     let alloc = rt.alloc();
     assert_eq!(rt; counts(alloc), Ok((4, 4, 1)));
     assert_eq!(rt; ending(alloc), Ok((Some(RunOutcome::Success), false)));
+}
+
+#[test]
+fn folds_a_run_of_a_skipped_test(rt: HostRuntime) {
+    assert_eq!(rt;
+        skipping(rt.alloc()),
+        Ok((3, 1, Some(RunOutcome::NoTestsRun)))
+    );
 }

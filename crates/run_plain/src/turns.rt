@@ -12,20 +12,28 @@ ghost use Rattle.run_model.specs.Turns.{
 };
 
 use crate::{has_begun, is_done, is_over, newcomer, queue, takes, unit_of, units};
-use run_capture::Mem;
+use run_capture::{Duplicate, Mem};
 use run_events::{Settings, Turn};
 use run_model::{Happening, UnitTurn, UnitView};
 use std::alloc::Global;
 
 // A turn that names a unit, as the unit and what it is to it.
-pub fn turn_of_unit(turn: &Turn) -> Option<(u32, UnitTurn)>
-    ensures { result ≡ turn_of_unit turn.now }
+pub fn turn_of_unit(alloc: Global, turn: &Turn) -> Mem<Option<(u32, UnitTurn)>>
+    ensures { IfOk result (λ t. t ≡ turn_of_unit turn.now) }
 {
     match turn {
-        Turn::Started { unit, pid } => Some((*unit, UnitTurn::Started { pid: *pid })),
-        Turn::Exit { unit, exit } => Some((*unit, UnitTurn::Exit { exit: *exit })),
-        Turn::Decide { unit, word } => Some((*unit, UnitTurn::Decide { word: *word })),
-        _ => None,
+        Turn::Started { unit, pid } => Ok(Some((*unit, UnitTurn::Started { pid: *pid }))),
+        Turn::StartFailed { unit, error } => {
+            let error = error.copy(alloc)?;
+            Ok(Some((*unit, UnitTurn::StartFailed { error })))
+        }
+        Turn::Exit { unit, exit } => Ok(Some((*unit, UnitTurn::Exit { exit: *exit }))),
+        Turn::WaitFailed { unit, error } => {
+            let error = error.copy(alloc)?;
+            Ok(Some((*unit, UnitTurn::WaitFailed { error })))
+        }
+        Turn::Decide { unit, word } => Ok(Some((*unit, UnitTurn::Decide { word: *word }))),
+        _ => Ok(None),
     }
 }
 
@@ -81,7 +89,7 @@ fn takes_turn(alloc: Global, settings: &Settings, past: &[Happening], turn: &Tur
     requires { length settings.now.plan.tests < 2 ^ 32 }
     ensures { IfOk result (λ b. b ≡ takes_turn settings.now past.now turn.now (turn_of_unit turn.now)) }
 {
-    match turn_of_unit(turn) {
+    match turn_of_unit(alloc, turn)? {
         Some((unit, unit_turn)) => {
             let view = unit_of(alloc, unit as usize, past)?;
             Ok(unit_takes(&view, &unit_turn))

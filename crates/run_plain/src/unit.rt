@@ -1,15 +1,13 @@
 // The unit table, row by row.
-ghost use Rattle.std.specs.Prelude.{◌≡◌, [], false, IfOk, Some, None};
-ghost use Rattle.run_events.specs.Result.{execution_result};
+ghost use Rattle.std.specs.Prelude.{◌≡◌, IfOk, Some, None};
 ghost use Rattle.run_events.specs.declared.message.Message.TheVariants.{Finish};
-ghost use Rattle.run_events.specs.declared.result.LeakTimeoutResult.TheVariants.{Pass};
-ghost use Rattle.run_model.specs.Unit.{row, status_at, takes, ended, start_ask};
+ghost use Rattle.run_model.specs.Unit.{row, status_at, takes, ended, exited, start_ask};
 ghost use Rattle.run_model.specs.declared.phase.Phase.TheVariants.{Starting, Over};
 
-use run_capture::{Duplicate, Mem};
+use run_capture::{ChildFdError, ChildOutput, Duplicate, List, Mem};
 use run_events::{
-    Ask, ChildExit, ExecuteStatus, ExecutionResult, LeakTimeoutResult, Message,
-    create_execution_result,
+    Ask, ChildExecutionOutput, ChildExit, ExecuteStatus, ExecutionResult, LeakTimeoutResult,
+    Message, create_execution_result,
 };
 use run_model::{Phase, UnitTurn, UnitView};
 use run_unit::start_of;
@@ -33,7 +31,9 @@ pub fn takes(phase: Phase, turn: &UnitTurn) -> bool
     match (phase, turn) {
         (Phase::StartSent, UnitTurn::Answered { .. }) => true,
         (Phase::Starting, UnitTurn::Started { .. }) => true,
+        (Phase::Starting, UnitTurn::StartFailed { .. }) => true,
         (Phase::Running, UnitTurn::Exit { .. }) => true,
+        (Phase::Running, UnitTurn::WaitFailed { .. }) => true,
         (Phase::Deciding, UnitTurn::Decide { .. }) => true,
         _ => false,
     }
@@ -52,31 +52,60 @@ fn quiet(next: UnitView) -> UnitRow
     }
 }
 
-// The status of the current attempt, where it ends at this moment.
-fn status_at(now: u64, ended: ExecutionResult, unit: &UnitView) -> ExecuteStatus
-    ensures { result ≡ status_at now ended unit.now }
+// The status of the current attempt, where it ends at this moment with this result.
+fn status_at(
+    now: u64,
+    outcome: ExecutionResult,
+    output: ChildExecutionOutput,
+    unit: &UnitView,
+) -> ExecuteStatus
+    ensures { result ≡ status_at now outcome output unit.now }
 {
     ExecuteStatus {
         attempt: unit.attempt,
         attempts: 1,
         delay: 0,
-        result: ended,
+        result: outcome,
+        output,
         slow: false,
         start: unit.start,
         time: now.saturating_sub(unit.start),
     }
 }
 
-// The unit where its attempt ends so at this moment.
-fn ended(alloc: Global, now: u64, exit: ChildExit, unit: UnitView) -> Mem<UnitView>
-    ensures { IfOk result (λ u. u ≡ ended now (execution_result (Some exit) [] false Pass) unit) }
+// The unit where its attempt ends at this moment with this result.
+fn ended(
+    alloc: Global,
+    now: u64,
+    outcome: ExecutionResult,
+    output: ChildExecutionOutput,
+    unit: UnitView,
+) -> Mem<UnitView>
+    ensures { IfOk result (λ u. u ≡ ended now outcome output unit) }
 {
     let mut unit = unit;
-    let result = create_execution_result(Some(exit), &[], false, LeakTimeoutResult::Pass);
-    let status = status_at(now, result, &unit);
+    let status = status_at(now, outcome, output, &unit);
     unit.statuses.push(alloc, status)?;
     unit.phase = Phase::Deciding;
     Ok(unit)
+}
+
+// The unit where its child ended so, `None` where the wait for it failed, with these faults.
+fn exited(
+    alloc: Global,
+    now: u64,
+    exit: Option<ChildExit>,
+    errors: List<ChildFdError>,
+    unit: UnitView,
+) -> Mem<UnitView>
+    ensures { IfOk result (λ u. u ≡ exited now exit errors unit) }
+{
+    let outcome = create_execution_result(exit, errors.as_slice(), false, LeakTimeoutResult::Pass);
+    let output = ChildExecutionOutput::Output {
+        output: ChildOutput::uncaptured(),
+        errors,
+    };
+    ended(alloc, now, outcome, output, unit)
 }
 
 // The row of a unit that is let go at this moment.
@@ -135,7 +164,18 @@ pub fn row(alloc: Global, now: u64, turn: &UnitTurn, unit: &UnitView) -> Mem<Uni
             next.phase = Phase::Running;
             Ok(quiet(next))
         }
-        (Phase::Running, UnitTurn::Exit { exit }) => Ok(quiet(ended(alloc, now, *exit, next)?)),
+        (Phase::Starting, UnitTurn::StartFailed { error }) => {
+            let output = ChildExecutionOutput::StartError(error.copy(alloc)?);
+            Ok(quiet(ended(alloc, now, ExecutionResult::ExecFail, output, next)?))
+        }
+        (Phase::Running, UnitTurn::Exit { exit }) => {
+            Ok(quiet(exited(alloc, now, Some(*exit), List::new(), next)?))
+        }
+        (Phase::Running, UnitTurn::WaitFailed { error }) => {
+            let mut errors = List::new();
+            errors.push(alloc, ChildFdError::Wait(error.copy(alloc)?))?;
+            Ok(quiet(exited(alloc, now, None, errors, next)?))
+        }
         (Phase::Deciding, UnitTurn::Decide { .. }) => decided(alloc, next),
         _ => Ok(quiet(next)),
     }
