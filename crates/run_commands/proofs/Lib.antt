@@ -1,1 +1,5 @@
 mod CharLemmas
+mod EnvLineLemmas
+mod EnvMapLemmas
+mod EnvTextLemmas
+mod SourceLemmas

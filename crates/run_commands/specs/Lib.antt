@@ -1,4 +1,10 @@
+pub mod EnvFile
+pub mod EnvLine
+pub mod EnvMap
+pub mod EnvOutcome
+pub mod EnvText
 pub mod Interceptor
+pub mod Pair
 pub mod RunnerSource
 pub mod RunnerVariable
 pub mod StressCount

@@ -5,16 +5,27 @@
 #![tactic(auto)]
 
 mod command;
+mod env_file;
+mod env_line;
+mod env_map;
+mod errors;
 mod handle_inheritance;
 mod interceptor;
+mod laws;
+mod script_helpers;
 mod stress_count;
 mod target_runner;
 mod text_list;
 mod version_env_vars;
 
 pub use command::{DebuggerCommand, TracerCommand};
+pub use env_file::{ENV_FILE_LIMIT, read_env_file};
+pub use env_map::EnvMap;
+pub use errors::SetupScriptOutputError;
 pub use handle_inheritance::{ConfigureHandleInheritanceError, configure_handle_inheritance};
 pub use interceptor::Interceptor;
+pub use laws::an_env_text_has_no_bad_line;
+pub use script_helpers::{EnvInput, env_outcome, parse_env_text};
 pub use stress_count::{StressCondition, StressCount, StressCountParseError};
 pub use target_runner::{
     BuildPlatform, CargoConfigSource, PlatformRunner, PlatformRunnerSource, RunnerArgs,

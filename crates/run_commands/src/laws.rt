@@ -1,0 +1,7 @@
+// What holds of every environment text and of every command.
+ghost use Rattle.run_commands.specs.EnvText.{HasNoBadLine};
+
+/// An environment text is never both read and refused for a line.
+pub fn an_env_text_has_no_bad_line()
+    ensures { HasNoBadLine }
+{}
