@@ -3,3 +3,6 @@ mod EnvLineLemmas
 mod EnvMapLemmas
 mod EnvTextLemmas
 mod SourceLemmas
+mod WordLemmas
+mod WordSoundLemmas
+mod OpenQuoteLemmas

@@ -11,3 +11,5 @@ pub mod StressCount
 pub mod TargetRunner
 pub mod VersionEnvVars
 pub mod Versions
+pub mod WordMachine
+pub mod Words

@@ -17,6 +17,7 @@ mod stress_count;
 mod target_runner;
 mod text_list;
 mod version_env_vars;
+mod words;
 
 pub use command::{DebuggerCommand, TracerCommand};
 pub use env_file::{ENV_FILE_LIMIT, read_env_file};
@@ -24,7 +25,7 @@ pub use env_map::EnvMap;
 pub use errors::SetupScriptOutputError;
 pub use handle_inheritance::{ConfigureHandleInheritanceError, configure_handle_inheritance};
 pub use interceptor::Interceptor;
-pub use laws::an_env_text_has_no_bad_line;
+pub use laws::{a_text_has_one_reading, an_env_text_has_no_bad_line};
 pub use script_helpers::{EnvInput, env_outcome, parse_env_text};
 pub use stress_count::{StressCondition, StressCount, StressCountParseError};
 pub use target_runner::{
