@@ -6,3 +6,6 @@ mod SourceLemmas
 mod WordLemmas
 mod WordSoundLemmas
 mod OpenQuoteLemmas
+mod WordStepLemmas
+mod CharStepLemmas
+mod CommandLemmas

@@ -138,9 +138,9 @@ stays_before : (mode : Mode) (place b quote : ℕ) (text : List ℕ) → opened 
 stays_before mode place b quote text open_before stays = record {
   open_now = open_before;
   fronts = λ front rest e. elim (front_cases b text front rest e) [
-      | inl none ↦ ap (reading mode place) none ∙ reading-end mode place ∙ opened_ends mode quote open_before
-      | inr some ↦ ap (reading mode place) some.1 ∙ err_before mode place b quote some.0 (stays.fronts some.0 rest some.2)
-      ];
+    | inl none ↦ ap (reading mode place) none ∙ reading-end mode place ∙ opened_ends mode quote open_before
+    | inr some ↦ ap (reading mode place) some.1 ∙ err_before mode place b quote some.0 (stays.fronts some.0 rest some.2)
+  ];
 }
 
 -- what opens at a byte
@@ -183,16 +183,16 @@ unclosed [] mode place quote e =
       fronts = λ front rest split. ap (reading mode place) (no_front front rest split) ∙ e;
     })
   where
-  no_front : (front rest : List ℕ) → [] ≡ front ++ rest → front ≡ []
-  no_front [] rest split = refl
-  no_front (x ∷ front) rest split = absurd (cc)
+    no_front : (front rest : List ℕ) → [] ≡ front ++ rest → front ≡ []
+    no_front [] rest split = refl
+    no_front (x ∷ front) rest split = absurd (cc)
 unclosed (b ∷ text) mode place quote e =
     elim (unclosed text (step mode place (b ∷ []) (kind b)).0 (suc place) quote (effects_err _ _ quote (sym (reading-step mode place b text (kind b) refl) ∙ e))) [
-    | inl stays ↦ elim (step_opens mode place b quote (kind b) stays.open_now) [
+      | inl stays ↦ elim (step_opens mode place b quote (kind b) stays.open_now) [
         | inl before ↦ inl (stays_before mode place b quote text before stays)
         | inr here ↦ inr (opens_at mode place b quote text here stays)
-        ]
-    | inr opens ↦ inr (opens_before mode place b quote text opens)
+      ]
+      | inr opens ↦ inr (opens_before mode place b quote text opens)
     ]
 
 -- a longer front goes on after the quote
@@ -234,9 +234,9 @@ opens_quote text quote opens =
 pub read_open : (text : List ℕ) (quote : ℕ) → reading (Mode.outside false) 0 text ≡ Err quote → IsOpenQuote text quote
 read_open text quote e =
     elim (unclosed text (Mode.outside false) 0 quote e) [
-    | inl stays ↦ absurd (none_open quote stays.open_now)
-    | inr opens ↦ opens_quote text quote opens
+      | inl stays ↦ absurd (none_open quote stays.open_now)
+      | inr opens ↦ opens_quote text quote opens
     ]
   where
-  none_open : (quote' : ℕ) → None ≡ Some quote' → ⊥
-  none_open quote' f = cc
+    none_open : (quote' : ℕ) → None ≡ Some quote' → ⊥
+    none_open quote' f = cc

@@ -30,7 +30,7 @@ effects-add_nil (Ok (word ∷ words)) = refl
 effects-add_nil (Err place) = refl
 
 -- bytes that are added one after another
-effects-add_add : (xs ys : List ℕ) (r : Read) → effects (Effect.add xs) (effects (Effect.add ys) r) ≡ effects (Effect.add (xs ++ ys)) r
+pub effects-add_add : (xs ys : List ℕ) (r : Read) → effects (Effect.add xs) (effects (Effect.add ys) r) ≡ effects (Effect.add (xs ++ ys)) r
 effects-add_add [] [] (Ok []) = refl
 effects-add_add [] (y ∷ ys) (Ok []) = refl
 effects-add_add (x ∷ xs) [] (Ok []) = ap (λ bytes. Ok ((x ∷ bytes) ∷ [])) (sym (append-nil xs))
@@ -100,9 +100,11 @@ single_reads : (inner : List ℕ) (c : ℕ) (text : List ℕ) (quote place : ℕ
 single_reads [] c text quote place lacks closes =
     (suc place, reading-step (Mode.single quote) place c text kinds.SingleQuote closes ∙ effects-pass _ ∙ sym (effects-add_nil _))
 single_reads (b ∷ inner) c text quote place lacks closes =
-    let (after, e) = single_reads inner c text quote (suc place) lacks.1 closes in
-    (after, single_step (kind b) quote b (inner ++ c ∷ text) place refl lacks.0 ∙ ap (effects (Effect.add (b ∷ []))) e
-    ∙ effects-add_add (b ∷ []) inner _)
+    let (after, e) = single_reads inner c text quote (suc place) lacks.1 closes in (
+      after,
+      single_step (kind b) quote b (inner ++ c ∷ text) place refl lacks.0 ∙ ap (effects (Effect.add (b ∷ []))) e
+          ∙ effects-add_add (b ∷ []) inner _,
+    )
 
 -- a plain byte between double quotes
 double_step : (k : CharKind) (quote b : ℕ) (text : List ℕ) (place : ℕ) → kind b ≡ k → IsPlainInQuotes k
@@ -144,23 +146,31 @@ double_reads : {source meaning : List ℕ} → IsQuoted source meaning → (c : 
 double_reads IsQuoted.nothing c text quote place closes =
     (suc place, reading-step (Mode.double quote) place c text kinds.DoubleQuote closes ∙ effects-pass _ ∙ sym (effects-add_nil _))
 double_reads (IsQuoted.plain {b} {source} {meaning} plain more) c text quote place closes =
-    let (after, e) = double_reads more c text quote (suc place) closes in
-    (after, double_step (kind b) quote b (source ++ c ∷ text) place refl plain ∙ ap (effects (Effect.add (b ∷ []))) e
-    ∙ effects-add_add (b ∷ []) meaning _)
+    let (after, e) = double_reads more c text quote (suc place) closes in (
+      after,
+      double_step (kind b) quote b (source ++ c ∷ text) place refl plain ∙ ap (effects (Effect.add (b ∷ []))) e
+          ∙ effects-add_add (b ∷ []) meaning _,
+    )
 double_reads (IsQuoted.escaped {b} {c = d} {source} {meaning} slash escaped more) c text quote place closes =
-    let (after, e) = double_reads more c text quote (suc (suc place)) closes in
-    (after, slash_step quote b (d ∷ source ++ c ∷ text) place slash
-    ∙ escaped_step (kind d) quote b d (source ++ c ∷ text) (suc place) refl escaped ∙ ap (effects (Effect.add (d ∷ []))) e
-    ∙ effects-add_add (d ∷ []) meaning _)
+    let (after, e) = double_reads more c text quote (suc (suc place)) closes in (
+      after,
+      slash_step quote b (d ∷ source ++ c ∷ text) place slash
+          ∙ escaped_step (kind d) quote b d (source ++ c ∷ text) (suc place) refl escaped ∙ ap (effects (Effect.add (d ∷ []))) e
+          ∙ effects-add_add (d ∷ []) meaning _,
+    )
 double_reads (IsQuoted.joined {b} {c = d} {source} {meaning} slash newline more) c text quote place closes =
-    let (after, e) = double_reads more c text quote (suc (suc place)) closes in
-    (after, slash_step quote b (d ∷ source ++ c ∷ text) place slash
-    ∙ reading-step (Mode.double_escape quote (b ∷ [])) (suc place) d (source ++ c ∷ text) kinds.Newline newline ∙ effects-pass _ ∙ e)
+    let (after, e) = double_reads more c text quote (suc (suc place)) closes in (
+      after,
+      slash_step quote b (d ∷ source ++ c ∷ text) place slash
+          ∙ reading-step (Mode.double_escape quote (b ∷ [])) (suc place) d (source ++ c ∷ text) kinds.Newline newline ∙ effects-pass _ ∙ e,
+    )
 double_reads (IsQuoted.kept {b} {c = d} {source} {meaning} slash keeps more) c text quote place closes =
-    let (after, e) = double_reads more c text quote (suc (suc place)) closes in
-    (after, slash_step quote b (d ∷ source ++ c ∷ text) place slash
-    ∙ kept_step (kind d) quote b d (source ++ c ∷ text) (suc place) refl keeps ∙ ap (effects (Effect.add (b ∷ d ∷ []))) e
-    ∙ effects-add_add (b ∷ d ∷ []) meaning _)
+    let (after, e) = double_reads more c text quote (suc (suc place)) closes in (
+      after,
+      slash_step quote b (d ∷ source ++ c ∷ text) place slash
+          ∙ kept_step (kind d) quote b d (source ++ c ∷ text) (suc place) refl keeps ∙ ap (effects (Effect.add (b ∷ d ∷ []))) e
+          ∙ effects-add_add (b ∷ d ∷ []) meaning _,
+    )
 
 -- a plain byte of a word
 plain_step : (k : CharKind) (inside : Bool) (b : ℕ) (text : List ℕ) (place : ℕ) → kind b ≡ k → IsPlainInWord k → MayStand inside (b ∷ [])
@@ -197,17 +207,23 @@ piece_reads : {source meaning : List ℕ} → IsPiece source meaning → (inside
     → (after : ℕ) × (reading (Mode.outside inside) place (source ++ text) ≡ effects (Effect.add meaning) (reading (Mode.outside true) after text))
 piece_reads (IsPiece.plain {b} plain) true text place may = (suc place, plain_step (kind b) true b text place refl plain tt)
 piece_reads (IsPiece.plain {b} plain) false text place may = (suc place, plain_step (kind b) false b text place refl plain may)
-piece_reads (IsPiece.escaped {b} {c} slash other) inside text place may =
-    (suc (suc place), outside_pass kinds.Backslash (Mode.escape inside (b ∷ [])) inside b (c ∷ text) place slash refl
-    ∙ escape_step (kind c) inside (b ∷ []) c text (suc place) refl other)
+piece_reads (IsPiece.escaped {b} {c} slash other) inside text place may = (
+  suc (suc place),
+  outside_pass kinds.Backslash (Mode.escape inside (b ∷ [])) inside b (c ∷ text) place slash refl
+      ∙ escape_step (kind c) inside (b ∷ []) c text (suc place) refl other,
+)
 piece_reads (IsPiece.single_quoted {b} inner c opens lacks closes) inside text place may =
-    let (after, e) = single_reads inner c text place (suc place) lacks closes in
-    (after, ap (λ bytes. reading (Mode.outside inside) place (b ∷ bytes)) (append_assoc inner (c ∷ []) text)
-    ∙ outside_pass kinds.SingleQuote (Mode.single place) inside b (inner ++ c ∷ text) place opens refl ∙ e)
+    let (after, e) = single_reads inner c text place (suc place) lacks closes in (
+      after,
+      ap (λ bytes. reading (Mode.outside inside) place (b ∷ bytes)) (append_assoc inner (c ∷ []) text)
+          ∙ outside_pass kinds.SingleQuote (Mode.single place) inside b (inner ++ c ∷ text) place opens refl ∙ e,
+    )
 piece_reads (IsPiece.double_quoted {b} {inner} {meaning} c opens quoted closes) inside text place may =
-    let (after, e) = double_reads quoted c text place (suc place) closes in
-    (after, ap (λ bytes. reading (Mode.outside inside) place (b ∷ bytes)) (append_assoc inner (c ∷ []) text)
-    ∙ outside_pass kinds.DoubleQuote (Mode.double place) inside b (inner ++ c ∷ text) place opens refl ∙ e)
+    let (after, e) = double_reads quoted c text place (suc place) closes in (
+      after,
+      ap (λ bytes. reading (Mode.outside inside) place (b ∷ bytes)) (append_assoc inner (c ∷ []) text)
+          ∙ outside_pass kinds.DoubleQuote (Mode.double place) inside b (inner ++ c ∷ text) place opens refl ∙ e,
+    )
 
 -- what is in the grammar is read
 pub reads_all : {inside : Bool} {text : List ℕ} {words : List (List ℕ)} → Reads inside text words

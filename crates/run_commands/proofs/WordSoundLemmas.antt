@@ -53,7 +53,7 @@ quoted_more (IsQuoted.joined slash newline before) after = IsQuoted.joined slash
 quoted_more (IsQuoted.kept slash keeps before) after = IsQuoted.kept slash keeps (quoted_more before after)
 
 -- bytes onto the first word, one after another
-onto_both : (xs ys : List ℕ) (words : List (List ℕ)) → onto (xs ++ ys) words ≡ onto xs (onto ys words)
+pub onto_both : (xs ys : List ℕ) (words : List (List ℕ)) → onto (xs ++ ys) words ≡ onto xs (onto ys words)
 onto_both [] [] [] = refl
 onto_both [] (y ∷ ys) [] = refl
 onto_both (x ∷ xs) [] [] = ap (λ bytes. (x ∷ bytes) ∷ []) (append-nil xs)
@@ -61,7 +61,7 @@ onto_both (x ∷ xs) (y ∷ ys) [] = refl
 onto_both xs ys (word ∷ words) = ap (λ bytes. bytes ∷ words) (append_assoc xs ys word)
 
 -- no bytes onto the first word
-onto_none : (words : List (List ℕ)) → onto [] words ≡ words
+pub onto_none : (words : List (List ℕ)) → onto [] words ≡ words
 onto_none [] = refl
 onto_none (word ∷ words) = refl
 

@@ -1,7 +1,12 @@
 -- How the words of a text are read, byte by byte. Private clauses cite this, and no public one does.
-use Rattle.std.specs.Prelude.{ℕ, Bool, true, false, List, [], ◌∷◌, ◌++◌, Option, Some, None, Result, Ok, Err, suc, if◌then◌else◌}
+use Rattle.std.specs.Prelude.{ℕ, Bool, true, false, List, [], ◌∷◌, ◌++◌, Option, Some, None, Result, Ok, Err, suc, ◌≡◌, ⊤, is_some, encode_utf8, if◌then◌else◌}
 use Rattle.run_commands.specs.declared.words.CharKind.{CharKind}
 use Rattle.run_commands.specs.declared.words.CharKind.TheVariants as kinds
+use Rattle.run_commands.specs.declared.words.State.{State}
+use Rattle.run_commands.specs.declared.words.State.TheVariants as states
+use Rattle.run_commands.specs.declared.words.WordsError.{WordsError}
+use Rattle.run_commands.specs.declared.words.WordsError.TheVariants as errors
+use Rattle.run_commands.specs.Gathered.{Gathered, begun}
 use Rattle.run_commands.specs.Words.{kind}
 
 -- what came before: nothing that matters, in a word or not; a backslash of these bytes; the `#` of a comment;
@@ -109,3 +114,42 @@ unfoldable pub reading : Mode → ℕ → List ℕ → Read
 reading mode place [] = ending mode
 reading mode place (b ∷ text) =
     let next = step mode place (b ∷ []) (kind b) in effects next.1 (reading next.0 (suc place) text)
+
+-- the mode of a state, in a word or not
+abbrev pub mode_of : State → Bool → Mode
+mode_of states.Outside inside = outside inside
+mode_of states.Escape inside = escape inside (92 ∷ [])
+mode_of states.Comment inside = comment
+mode_of (states.SingleQuotes quote) inside = single quote
+mode_of (states.DoubleQuotes quote) inside = double quote
+mode_of (states.DoubleQuotesEscape quote) inside = double_escape quote (92 ∷ [])
+
+-- the words so far before those that are read
+abbrev pub put : Gathered → Read → Read
+put words (Err place) = Err place
+put words (Ok more) = Ok (words.ended ++ (if is_some words.open_word then onto (begun words.open_word) more else more))
+
+-- no word is open in a comment
+abbrev pub IsSound : State → Gathered → Type 0
+IsSound states.Comment words = words.open_word ≡ None
+IsSound _ words = ⊤
+
+-- the step for this character at this place
+abbrev pub step_for : State → Gathered → ℕ → ℕ → Mode × Effect
+step_for state words place c = step (mode_of state (is_some words.open_word)) place (encode_utf8 c) (kind c)
+
+-- the state and the words after a character at this place are those of the machine
+pub record Takes (state next : State) (old new : Gathered) (place c : ℕ) : Type 0 where
+  pub mode : mode_of next (is_some new.open_word) ≡ (step_for state old place c).0
+  pub adds : (r : Read) → put new r ≡ put old (effects (step_for state old place c).1 r)
+  pub sound : IsSound next new
+
+-- what is read where the text ends
+abbrev pub ended_by : State → Gathered → Read
+ended_by state words = put words (ending (mode_of state (is_some words.open_word)))
+
+-- the error of an open quote at the end
+abbrev pub IsOpenAtEnd : Read → WordsError → Type 0
+IsOpenAtEnd read (errors.OpenQuote place) = read ≡ Err place
+IsOpenAtEnd read errors.NoWords = ⊥
+IsOpenAtEnd read errors.OutOfMemory = ⊤

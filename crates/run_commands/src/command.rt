@@ -1,7 +1,10 @@
 // The commands of debuggers and tracers, which contracts see as their words.
-ghost use Rattle.std.specs.Prelude.{◌≡◌, drop, slice_get, Some};
+ghost use Rattle.std.specs.Prelude.{◌≡◌, ℕ, List, drop, slice_get, Some, IfOk, IfErr};
+ghost use Rattle.run_commands.specs.Words.{HasWords};
 
+use crate::errors::{DebuggerCommandParseError, TracerCommandParseError};
 use crate::text_list::TextList;
+use crate::words::{WordsError, split_command};
 use run_capture::{Duplicate, Mem, Text};
 use std::alloc::Global;
 use std::marker::Model;
@@ -22,6 +25,27 @@ impl Model for DebuggerCommand {
 }
 
 impl DebuggerCommand {
+    ghost use Rattle.run_commands.specs.DebuggerCommand.{IsDebuggerAnswer, IsRefusedDebugger};
+
+    /// Splits a text into words as a POSIX shell does, with no expansion: the program, and then the
+    /// arguments.
+    pub fn from_str(alloc: Global, command: &str) -> Result<Self, DebuggerCommandParseError>
+        // What is read is in the grammar, with these words.
+        ensures ok { IfOk result (HasWords command.now) }
+        ensures refused { IfErr result (IsRefusedDebugger command.now) }
+        // What is in the grammar is read, with its words.
+        ensures only { (words : List (List ℕ)) → HasWords command.now words → IsDebuggerAnswer words result }
+    {
+        match split_command(alloc, command) {
+            Ok((program, args)) => Ok(DebuggerCommand { program, args }),
+            Err(WordsError::OpenQuote { place }) => {
+                Err(DebuggerCommandParseError::ShellWordsParse { place })
+            }
+            Err(WordsError::NoWords) => Err(DebuggerCommandParseError::EmptyCommand),
+            Err(WordsError::OutOfMemory) => Err(DebuggerCommandParseError::OutOfMemory),
+        }
+    }
+
     pub fn program(&self) -> &str
         ensures { slice_get self.now 0 ≡ Some result.now }
     {
@@ -61,6 +85,27 @@ impl Model for TracerCommand {
 }
 
 impl TracerCommand {
+    ghost use Rattle.run_commands.specs.TracerCommand.{IsTracerAnswer, IsRefusedTracer};
+
+    /// Splits a text into words as a POSIX shell does, with no expansion: the program, and then the
+    /// arguments.
+    pub fn from_str(alloc: Global, command: &str) -> Result<Self, TracerCommandParseError>
+        // What is read is in the grammar, with these words.
+        ensures ok { IfOk result (HasWords command.now) }
+        ensures refused { IfErr result (IsRefusedTracer command.now) }
+        // What is in the grammar is read, with its words.
+        ensures only { (words : List (List ℕ)) → HasWords command.now words → IsTracerAnswer words result }
+    {
+        match split_command(alloc, command) {
+            Ok((program, args)) => Ok(TracerCommand { program, args }),
+            Err(WordsError::OpenQuote { place }) => {
+                Err(TracerCommandParseError::ShellWordsParse { place })
+            }
+            Err(WordsError::NoWords) => Err(TracerCommandParseError::EmptyCommand),
+            Err(WordsError::OutOfMemory) => Err(TracerCommandParseError::OutOfMemory),
+        }
+    }
+
     pub fn program(&self) -> &str
         ensures { slice_get self.now 0 ≡ Some result.now }
     {

@@ -1,7 +1,41 @@
-// What can be wrong with a script's environment file.
+// What can be wrong with a command, and with a script's environment file.
 use run_capture::{Failed, OutOfMemory};
 use std::alloc::{AllocError, AllocFailed};
 use thiserror::Error;
+
+/// Why a text is no debugger's command.
+#[derive(Clone, Copy, Debug, Drop, PartialEq, Eq, Error)]
+pub enum DebuggerCommandParseError {
+    /// A quote of the text isn't closed.
+    #[error("the quote at byte {place} isn't closed")]
+    ShellWordsParse {
+        /// The quote's place in the text, in bytes from 0.
+        place: usize,
+    },
+    /// The text has no words.
+    #[error("the command has no words")]
+    EmptyCommand,
+    /// Memory was refused.
+    #[error("out of memory")]
+    OutOfMemory,
+}
+
+/// Why a text is no tracer's command.
+#[derive(Clone, Copy, Debug, Drop, PartialEq, Eq, Error)]
+pub enum TracerCommandParseError {
+    /// A quote of the text isn't closed.
+    #[error("the quote at byte {place} isn't closed")]
+    ShellWordsParse {
+        /// The quote's place in the text, in bytes from 0.
+        place: usize,
+    },
+    /// The text has no words.
+    #[error("the command has no words")]
+    EmptyCommand,
+    /// Memory was refused.
+    #[error("out of memory")]
+    OutOfMemory,
+}
 
 /// Why a setup script hands on no environment. Lines are counted from 1.
 #[derive(Clone, Copy, Debug, Drop, PartialEq, Eq, Error)]

@@ -10,5 +10,4 @@ pub fn an_env_text_has_no_bad_line()
 /// A text has one list of words at most.
 pub fn a_text_has_one_reading()
     ensures { HasOneReading }
-{
-}
+{}
