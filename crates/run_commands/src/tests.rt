@@ -11,182 +11,215 @@ use std::alloc::Global;
 use std::process::Abort;
 use std::test::Fail;
 
-// The arguments of a debugger's command, each in brackets.
-fn args_of(alloc: Global, command: &DebuggerCommand) -> Result<String, Fail> {
-    let mut shown = String::new(alloc);
+// The words of a debugger's command, each in brackets.
+fn words_of(alloc: Global, command: &DebuggerCommand) -> Result<String, Fail> {
+    let mut shown = format!(in alloc; "[{}]", command.program())?;
     for arg in command.args() {
-        shown.push_str("[")?;
-        shown.push_str(arg.as_str())?;
-        shown.push_str("]")?;
+        let arg = arg.as_str();
+        shown.push_str(format!(in alloc; "[{arg}]")?.as_str())?;
     }
     Ok(shown)
+}
+
+// A command has these words, and so has its copy.
+fn splits(rt: &impl Abort, alloc: Global, text: &str, words: &str) -> Result<(), Fail> {
+    let command = DebuggerCommand::from_str(alloc, text)?;
+    assert_eq!(rt; words_of(alloc, &command)?.as_str(), words);
+    assert_eq!(rt; words_of(alloc, &command.copy(alloc)?)?.as_str(), words);
+    Ok(())
 }
 
 #[test]
 fn splits_commands(rt: HostRuntime) -> Result<(), Fail> {
     let alloc = rt.alloc();
-    for (text, program, args) in [
-        ("rust-gdb -ex run --args", "rust-gdb", "[-ex][run][--args]"),
-        (
-            "gdb -ex \"set print pretty on\" --args",
-            "gdb",
-            "[-ex][set print pretty on][--args]",
-        ),
-        ("\t a  '' \"\"\n", "a", "[][]"),
-        ("# c 'x\na#b #d", "a#b", ""),
-        ("a\\ b \\\nc d\\", "a b", "[c][d\\]"),
-        (
-            "\"a\\$\\`\\\"\\\\\\x\\\nb\" 'c\\'d",
-            "a$`\"\\\\xb",
-            "[c\\d]",
-        ),
-        ("'é'ü\\ö#", "éüö#", ""),
-    ] {
-        let command = DebuggerCommand::from_str(alloc, text)?;
-        assert_eq!(rt; command.program(), program, "of {text}");
-        assert_eq!(rt; args_of(alloc, &command)?.as_str(), args, "of {text}");
-        let copied = command.copy(alloc)?;
-        assert_eq!(rt; copied.program(), program);
-        assert_eq!(rt; args_of(alloc, &copied)?.as_str(), args);
-    }
-    Ok(())
+    splits(
+        &rt,
+        alloc,
+        "rust-gdb -ex run --args",
+        "[rust-gdb][-ex][run][--args]",
+    )?;
+    splits(
+        &rt,
+        alloc,
+        "gdb -ex \"set print pretty on\" --args",
+        "[gdb][-ex][set print pretty on][--args]",
+    )?;
+    splits(&rt, alloc, "\t a  '' \"\"\n", "[a][][]")?;
+    splits(&rt, alloc, "# c 'x\na#b #d", "[a#b]")?;
+    splits(&rt, alloc, "a\\ b \\\nc d\\", "[a b][c][d\\]")?;
+    splits(
+        &rt,
+        alloc,
+        "\"a\\$\\`\\\"\\\\\\x\\\nb\" 'c\\'d",
+        "[a$`\"\\\\xb][c\\d]",
+    )?;
+    splits(&rt, alloc, "'é'ü\\ö#", "[éüö#]")
 }
 
-#[test]
-fn refuses_commands(rt: HostRuntime) -> Result<(), Fail> {
-    let alloc = rt.alloc();
-    for text in ["", "   ", "# a 'b", "\\\n"] {
-        let debugger = DebuggerCommand::from_str(alloc, text);
-        assert!(rt; matches!(debugger, Err(DebuggerCommandParseError::EmptyCommand)));
-        let tracer = TracerCommand::from_str(alloc, text);
-        assert!(rt; matches!(tracer, Err(TracerCommandParseError::EmptyCommand)));
-    }
-    for (text, at) in [
-        ("a 'b", 2),
-        ("'a' \"b\\\"", 4),
-        ("\\' # '\n'", 7),
-        ("é\"", 2),
-    ] {
-        match DebuggerCommand::from_str(alloc, text) {
-            Err(DebuggerCommandParseError::ShellWordsParse { place }) => {
-                assert_eq!(rt; place, at);
-            }
-            _ => assert!(rt; false),
-        }
-        let tracer = TracerCommand::from_str(alloc, text);
-        assert!(rt; matches!(tracer, Err(TracerCommandParseError::ShellWordsParse { .. })));
-    }
-    Ok(())
+// A command has no words.
+fn is_empty(rt: &impl Abort, alloc: Global, text: &str) {
+    let debugger = DebuggerCommand::from_str(alloc, text);
+    assert!(rt; matches!(debugger, Err(DebuggerCommandParseError::EmptyCommand)));
+    let tracer = TracerCommand::from_str(alloc, text);
+    assert!(rt; matches!(tracer, Err(TracerCommandParseError::EmptyCommand)));
 }
 
-// The six answers of an interceptor, in the order of the table.
-fn answers(interceptor: &Interceptor) -> [bool; 6] {
-    [
-        interceptor.should_disable_timeouts(),
-        interceptor.should_passthrough_stdin(),
-        interceptor.should_create_process_group(),
-        interceptor.should_skip_leak_detection(),
-        interceptor.should_show_wrapper_command(),
-        interceptor.should_send_sigtstp(),
-    ]
-}
-
-#[test]
-fn intercepts(rt: HostRuntime) -> Result<(), Fail> {
-    let alloc = rt.alloc();
-    let none = Interceptor::default();
-    assert_eq!(rt; answers(&none), [false, false, true, false, false, true]);
-    let debugger = Interceptor::Debugger(DebuggerCommand::from_str(alloc, "gdb --args")?);
+// The quote at this byte of a command isn't closed.
+fn is_open(rt: &impl Abort, alloc: Global, text: &str, at: usize) {
+    let debugger = DebuggerCommand::from_str(alloc, text).err();
     assert_eq!(rt;
-        answers(&debugger.copy(alloc)?),
-        [true, true, false, true, true, false]
+        debugger,
+        Some(DebuggerCommandParseError::ShellWordsParse { place: at })
     );
-    let command = TracerCommand::from_str(alloc, "strace -f")?;
+    let tracer = TracerCommand::from_str(alloc, text).err();
+    assert_eq!(rt;
+        tracer,
+        Some(TracerCommandParseError::ShellWordsParse { place: at })
+    );
+}
+
+#[test]
+fn refuses_commands(rt: HostRuntime) {
+    let alloc = rt.alloc();
+    is_empty(&rt, alloc, "");
+    is_empty(&rt, alloc, "   ");
+    is_empty(&rt, alloc, "# a 'b");
+    is_empty(&rt, alloc, "\\\n");
+    is_open(&rt, alloc, "a 'b", 2);
+    is_open(&rt, alloc, "'a' \"b\\\"", 4);
+    is_open(&rt, alloc, "\\' # '\n'", 7);
+    is_open(&rt, alloc, "é\"", 2);
+}
+
+// An interceptor's answers, in the order of the table, and its copy's.
+fn answers(
+    rt: &impl Abort,
+    alloc: Global,
+    interceptor: &Interceptor,
+    expected: [bool; 6],
+) -> Result<(), Fail> {
+    let copied = interceptor.copy(alloc)?;
+    assert_eq!(rt; interceptor.should_disable_timeouts(), expected[0]);
+    assert_eq!(rt; copied.should_passthrough_stdin(), expected[1]);
+    assert_eq!(rt; copied.should_create_process_group(), expected[2]);
+    assert_eq!(rt; interceptor.should_skip_leak_detection(), expected[3]);
+    assert_eq!(rt; copied.should_show_wrapper_command(), expected[4]);
+    assert_eq!(rt; interceptor.should_send_sigtstp(), expected[5]);
+    Ok(())
+}
+
+#[test]
+fn runs_under_nothing(rt: HostRuntime) -> Result<(), Fail> {
+    answers(
+        &rt,
+        rt.alloc(),
+        &Interceptor::default(),
+        [false, false, true, false, false, true],
+    )
+}
+
+#[test]
+fn runs_under_a_debugger(rt: HostRuntime) -> Result<(), Fail> {
+    let debugger = Interceptor::Debugger(DebuggerCommand::from_str(rt.alloc(), "gdb")?);
+    answers(
+        &rt,
+        rt.alloc(),
+        &debugger,
+        [true, true, false, true, true, false],
+    )
+}
+
+#[test]
+fn runs_under_a_tracer(rt: HostRuntime) -> Result<(), Fail> {
+    let command = TracerCommand::from_str(rt.alloc(), "strace -f")?.copy(rt.alloc())?;
     assert_eq!(rt; command.program(), "strace");
-    assert_eq!(rt; command.copy(alloc)?.args().len(), 1);
-    let tracer = Interceptor::Tracer(command);
-    assert_eq!(rt;
-        answers(&tracer.copy(alloc)?),
-        [true, false, true, true, true, true]
-    );
+    assert_eq!(rt; command.args().len(), 1);
+    answers(
+        &rt,
+        rt.alloc(),
+        &Interceptor::Tracer(command),
+        [true, false, true, true, true, true],
+    )
+}
+
+// Variables, each with its value after a `=` and in brackets.
+fn shown(alloc: Global, pairs: &[(Text, Text)]) -> Result<String, Fail> {
+    let mut text = String::new(alloc);
+    for (name, value) in pairs {
+        let (name, value) = (name.as_str(), value.as_str());
+        text.push_str(format!(in alloc; "[{name}={value}]")?.as_str())?;
+    }
+    Ok(text)
+}
+
+// An environment text sets these variables.
+fn sets(rt: &impl Abort, alloc: Global, text: &[u8], variables: &str) -> Result<(), Fail> {
+    let copied = parse_env_text(alloc, text)?.copy(alloc)?;
+    assert_eq!(rt; shown(alloc, copied.pairs())?.as_str(), variables);
     Ok(())
 }
 
 #[test]
 fn reads_environments(rt: HostRuntime) -> Result<(), Fail> {
     let alloc = rt.alloc();
-    for (text, shown) in [
-        (b"A=1\nA=2=3".as_slice(), "[A][2=3]"),
-        (b"b=\r\n_A1==\r\nB=\r".as_slice(), "[B][\r][_A1][=][b][]"),
-        (
-            b"NEXTES=1\nXNEXTEST=2\n".as_slice(),
-            "[NEXTES][1][XNEXTEST][2]",
-        ),
-        (b"".as_slice(), ""),
-    ] {
-        let mut found = String::new(alloc);
-        for (name, value) in parse_env_text(alloc, text)?.copy(alloc)?.pairs() {
-            for part in [name.as_str(), value.as_str()] {
-                found.push_str("[")?;
-                found.push_str(part)?;
-                found.push_str("]")?;
-            }
-        }
-        assert_eq!(rt; found.as_str(), shown);
-    }
-    Ok(())
+    sets(&rt, alloc, b"A=1\nA=2=3", "[A=2=3]")?;
+    sets(&rt, alloc, b"b=\r\n_A1==\r\nB=\r", "[B=\r][_A1==][b=]")?;
+    sets(
+        &rt,
+        alloc,
+        b"NEXTES=1\nXNEXTEST=2\n",
+        "[NEXTES=1][XNEXTEST=2]",
+    )?;
+    sets(&rt, alloc, b"", "")
 }
 
-// The error of an environment text, by each way to read it.
-fn refusal(
+// An environment text is refused so, by each way to read it.
+fn refuses(
     rt: &impl Abort,
     alloc: Global,
     text: &[u8],
-) -> Result<Option<SetupScriptOutputError>, Fail> {
-    let parsed = parse_env_text(alloc, text).err();
+    error: SetupScriptOutputError,
+) -> Result<(), Fail> {
+    assert_eq!(rt; parse_env_text(alloc, text).err(), Some(error));
     let input = EnvInput::Bytes(Blob::from_slice(alloc, text)?).copy(alloc)?;
-    assert_eq!(rt; env_outcome(alloc, &input).err(), parsed);
+    assert_eq!(rt; env_outcome(alloc, &input).err(), Some(error));
     let mut source = MemorySource::new(Blob::from_slice(alloc, text)?, 3, List::new());
-    assert_eq!(rt; read_env_file(alloc, &mut source).err(), parsed);
-    Ok(parsed)
+    assert_eq!(rt; read_env_file(alloc, &mut source).err(), Some(error));
+    Ok(())
 }
 
 #[test]
 fn refuses_environments(rt: HostRuntime) -> Result<(), Fail> {
     let alloc = rt.alloc();
-    for (text, error) in [
-        (
-            b"A".as_slice(),
-            SetupScriptOutputError::EnvFileParse { line: 1 },
-        ),
-        (
-            b"A=1\n\nB=2".as_slice(),
-            SetupScriptOutputError::EnvFileParse { line: 2 },
-        ),
-        (
-            b"NEXTEST_X=1".as_slice(),
-            SetupScriptOutputError::EnvFileInvalidKey { line: 1 },
-        ),
-        (
-            b"1A=".as_slice(),
-            SetupScriptOutputError::EnvFileInvalidKey { line: 1 },
-        ),
-        (
-            b"A=1\n=\n\xff".as_slice(),
-            SetupScriptOutputError::EnvFileInvalidKey { line: 2 },
-        ),
-        (
-            b"A-B=".as_slice(),
-            SetupScriptOutputError::EnvFileInvalidKey { line: 1 },
-        ),
-        (
-            b"\xff".as_slice(),
-            SetupScriptOutputError::EnvFileRead { line: Some(1) },
-        ),
-    ] {
-        assert_eq!(rt; refusal(&rt, alloc, text)?, Some(error));
-    }
-    assert_eq!(rt; refusal(&rt, alloc, b"A=1\nB=2\n")?, None);
+    let no_sign = SetupScriptOutputError::EnvFileParse { line: 1 };
+    let no_key = SetupScriptOutputError::EnvFileInvalidKey { line: 1 };
+    refuses(&rt, alloc, b"A", no_sign)?;
+    refuses(
+        &rt,
+        alloc,
+        b"A=1\n\nB=2",
+        SetupScriptOutputError::EnvFileParse { line: 2 },
+    )?;
+    refuses(&rt, alloc, b"NEXTEST_X=1", no_key)?;
+    refuses(&rt, alloc, b"1A=", no_key)?;
+    refuses(&rt, alloc, b"A-B=", no_key)?;
+    refuses(
+        &rt,
+        alloc,
+        b"A=1\n=\n\xff",
+        SetupScriptOutputError::EnvFileInvalidKey { line: 2 },
+    )?;
+    refuses(
+        &rt,
+        alloc,
+        b"\xff",
+        SetupScriptOutputError::EnvFileRead { line: Some(1) },
+    )
+}
+
+#[test]
+fn tells_why_a_file_is_missing(rt: HostRuntime) -> Result<(), Fail> {
+    let alloc = rt.alloc();
     let failed = env_outcome(alloc, &EnvInput::OpenFailed.copy(alloc)?).err();
     assert_eq!(rt; failed, Some(SetupScriptOutputError::EnvFileOpen));
     let failed = env_outcome(alloc, &EnvInput::ReadFailed.copy(alloc)?).err();
@@ -198,7 +231,7 @@ fn refuses_environments(rt: HostRuntime) -> Result<(), Fail> {
 }
 
 #[test]
-fn reads_files(rt: HostRuntime) -> Result<(), Fail> {
+fn fails_in_the_middle_of_a_file(rt: HostRuntime) -> Result<(), Fail> {
     let alloc = rt.alloc();
     let mut second = List::new();
     second.push(alloc, 2)?;
@@ -208,16 +241,28 @@ fn reads_files(rt: HostRuntime) -> Result<(), Fail> {
         failed,
         Some(SetupScriptOutputError::EnvFileRead { line: None })
     );
-    let rest = read_env_file(alloc, &mut source)?;
-    assert_eq!(rt; rest.pairs().len(), 1);
-    for (extra, error) in [(0, None), (1, Some(SetupScriptOutputError::EnvFileTooLong))] {
-        let mut text = Blob::from_slice(alloc, b"A=")?;
-        for _ in 0..(1_048_574 + extra) {
-            text.extend_from_slice(alloc, b"x")?;
-        }
-        let mut source = MemorySource::new(text, 4096, List::new());
-        assert_eq!(rt; read_env_file(alloc, &mut source).err(), error);
+    assert_eq!(rt; read_env_file(alloc, &mut source)?.pairs().len(), 1);
+    Ok(())
+}
+
+// The error of a file of one line with so many bytes, at least 2.
+fn long_file(alloc: Global, bytes: u32) -> Result<Option<SetupScriptOutputError>, Fail> {
+    let mut text = Blob::from_slice(alloc, b"A=")?;
+    for _ in 2..bytes {
+        text.extend_from_slice(alloc, b"x")?;
     }
+    let mut source = MemorySource::new(text, 4096, List::new());
+    Ok(read_env_file(alloc, &mut source).err())
+}
+
+#[test]
+fn limits_files(rt: HostRuntime) -> Result<(), Fail> {
+    let alloc = rt.alloc();
+    assert_eq!(rt; long_file(alloc, 1_048_576)?, None);
+    assert_eq!(rt;
+        long_file(alloc, 1_048_577)?,
+        Some(SetupScriptOutputError::EnvFileTooLong)
+    );
     Ok(())
 }
 
@@ -297,16 +342,10 @@ fn tells_versions(rt: HostRuntime) -> Result<(), Fail> {
         required_version: None,
         recommended_version: Some(Version::parse(alloc, "1.3.0-b.2+c")?),
     };
-    let mut shown = String::new(alloc);
-    for (name, value) in versions.copy(alloc)?.pairs(alloc)?.as_slice() {
-        shown.push_str(name.as_str())?;
-        shown.push_str(" ")?;
-        shown.push_str(value.as_str())?;
-        shown.push_str("\n")?;
-    }
+    let pairs = versions.copy(alloc)?.pairs(alloc)?;
     let text =
-        "NEXTEST_VERSION 1.2.3\nNEXTEST_REQUIRED_VERSION none\nNEXTEST_RECOMMENDED_VERSION 1.3.0-b.2+c\n";
-    assert_eq!(rt; shown.as_str(), text);
+        "[NEXTEST_VERSION=1.2.3][NEXTEST_REQUIRED_VERSION=none][NEXTEST_RECOMMENDED_VERSION=1.3.0-b.2+c]";
+    assert_eq!(rt; shown(alloc, pairs.as_slice())?.as_str(), text);
     Ok(())
 }
 
