@@ -1,0 +1,64 @@
+-- What reading a command to its end gives.
+use Rattle.std.proofs.Common.{◌≡◌, false, ℕ, zero, suc, ◌<◌, ◌≤◌, List, [], ◌∷◌, length, take, Option, Some, None, Result, Ok, Err, refl, ap, sym, subst, ◌∙◌, arith, is_some, IfOk, IfErr}
+use Rattle.std.proofs.Math.Seq.{take-length}
+use Rattle.std.specs.List.{slice_get}
+use Rattle.std.specs.Option.{IsSomeAnd}
+use Rattle.run_commands.specs.declared.words.State.{State}
+use Rattle.run_commands.specs.declared.words.WordsError.{WordsError}
+use Rattle.run_commands.specs.declared.words.WordsError.TheVariants as errors
+use Rattle.run_commands.specs.Gathered.{Gathered}
+use Rattle.run_commands.specs.Words.{HasWords, IsOpenQuote, IsQuote, kind}
+use Rattle.run_commands.specs.WordMachine.{Mode, Read, put, mode_of, reading, ended_by, IsOpenAtEnd}
+use Rattle.run_commands.specs.WordsRefused.{IsRefusedWords, IsWordsAnswer}
+use Rattle.run_commands.proofs.WordLemmas.{reading-end, one_reading}
+use Rattle.run_commands.proofs.WordSoundLemmas.{read_stands}
+use Rattle.run_commands.proofs.OpenQuoteLemmas.{read_open}
+
+-- a list of no length
+none_left : (left : List ℕ) → length left ≡ 0 → left ≡ []
+none_left [] e = refl
+none_left (b ∷ left) e = absurd (omega arith)
+
+-- with nothing left, the end gives what reading the text gives
+pub ends_whole : (text left : List ℕ) (state : State) (words : Gathered) (place : ℕ)
+    → put words (reading (mode_of state (is_some words.open_word)) place left) ≡ reading (Mode.outside false) 0 text
+    → length left ≡ 0 → ended_by state words ≡ reading (Mode.outside false) 0 text
+ends_whole text left state words place so_far none =
+    ap (put words) (sym (reading-end (mode_of state (is_some words.open_word)) place))
+    ∙ ap (λ bytes. put words (reading (mode_of state (is_some words.open_word)) place bytes)) (sym (none_left left none))
+    ∙ so_far
+
+-- words that are read are the text's
+pub ok_words : (text : List ℕ) (read : Read) (result : Result (List (List ℕ)) WordsError) → read ≡ reading (Mode.outside false) 0 text
+    → IfOk result (λ list. read ≡ Ok list) → IfOk result (HasWords text)
+ok_words text read (Ok list) whole is = read_stands text list (sym whole ∙ is)
+ok_words text read (Err e) whole is = tt
+
+-- a text that is refused has an open quote
+pub refused_words : (text : List ℕ) (read : Read) (result : Result (List (List ℕ)) WordsError) → read ≡ reading (Mode.outside false) 0 text
+    → IfErr result (IsOpenAtEnd read) → IfErr result (IsRefusedWords text)
+refused_words text read (Ok list) whole is = tt
+refused_words text read (Err (errors.OpenQuote place)) whole is = read_open text place (sym whole ∙ is)
+refused_words text read (Err errors.NoWords) whole is = absurd is
+refused_words text read (Err errors.OutOfMemory) whole is = tt
+
+-- a place where something stands is within the text
+quote_within : (text : List ℕ) (place : ℕ) (P : ℕ → Type 0) → IsSomeAnd (slice_get text place) P → place < length text
+quote_within [] place P some = absurd some
+quote_within (b ∷ text) zero P some = omega arith
+quote_within (b ∷ text) (suc place) P some = let within = quote_within text place P some in omega arith
+
+-- a text with words has no open quote
+no_open_quote : (text : List ℕ) (words : List (List ℕ)) (place : ℕ) → HasWords text words → IsOpenQuote text place → place < length text → ⊥
+no_open_quote text words place says open_at within =
+    open_at.longest (length text) words within (omega arith) (rw (take-length text) says)
+
+-- what is answered for a text with words
+pub answers_words : (text : List ℕ) (result : Result (List ℕ × List (List ℕ)) WordsError)
+    → IfOk result (λ split. HasWords text (split.0 ∷ split.1)) → IfErr result (IsRefusedWords text)
+    → (words : List (List ℕ)) → HasWords text words → IsWordsAnswer words result
+answers_words text (Ok split) ok refused words says = one_reading text words (split.0 ∷ split.1) says ok
+answers_words text (Err (errors.OpenQuote place)) ok refused words says =
+    no_open_quote text words place says refused (quote_within text place (λ b. IsQuote (kind b)) refused.quote)
+answers_words text (Err errors.NoWords) ok refused words says = one_reading text words [] says refused
+answers_words text (Err errors.OutOfMemory) ok refused words says = tt

@@ -1,0 +1,11 @@
+mod CharLemmas
+mod EnvLineLemmas
+mod EnvMapLemmas
+mod EnvTextLemmas
+mod SourceLemmas
+mod WordLemmas
+mod WordSoundLemmas
+mod OpenQuoteLemmas
+mod WordStepLemmas
+mod CharStepLemmas
+mod CommandLemmas

@@ -1,0 +1,11 @@
+use Rattle.std.proofs.Common.{sym, ◌∙◌, encode_utf8}
+use Rattle.run_commands.specs.declared.words.CharKind.TheVariants as kinds
+use Rattle.run_commands.specs.declared.words.State.TheVariants as states
+use Rattle.run_commands.proofs.WordStepLemmas.{escape_other, takes_add}
+use Rattle.run_commands.proofs.words.after_escape.Goals as goal
+
+pub returns-in_ok-push-in_default : goal.returns-in_ok-push-in_default
+returns-in_ok-push-in_default c = λ place.
+    rw c.in_ok-push-in_default.ensures (
+    takes_add states.Escape states.Outside _ _ place c.args.c
+    (escape_other _ _ _ (λ e. c.in_default.not-Newline (c.kind_of.ensures ∙ e))) tt)

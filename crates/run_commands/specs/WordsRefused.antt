@@ -1,0 +1,18 @@
+-- Why a command has no words.
+use Rattle.std.specs.Prelude.{ℕ, ◌≡◌, List, [], ◌∷◌, Result, Ok, Err, ⊤}
+use Rattle.run_commands.specs.declared.words.WordsError.{WordsError}
+use Rattle.run_commands.specs.declared.words.WordsError.TheVariants as errors
+use Rattle.run_commands.specs.Words.{HasWords, IsOpenQuote}
+
+-- a quote isn't closed, or the text is in the grammar and has no words
+abbrev pub IsRefusedWords : List ℕ → WordsError → Type 0
+IsRefusedWords text (errors.OpenQuote place) = IsOpenQuote text place
+IsRefusedWords text errors.NoWords = HasWords text []
+IsRefusedWords text errors.OutOfMemory = ⊤
+
+-- where the grammar gives the text these words, this is the answer
+abbrev pub IsWordsAnswer : List (List ℕ) → Result (List ℕ × List (List ℕ)) WordsError → Type 0
+IsWordsAnswer words (Ok split) = words ≡ split.0 ∷ split.1
+IsWordsAnswer words (Err (errors.OpenQuote place)) = ⊥
+IsWordsAnswer words (Err errors.NoWords) = words ≡ []
+IsWordsAnswer words (Err errors.OutOfMemory) = ⊤

@@ -1,0 +1,129 @@
+// The commands of debuggers and tracers, which contracts see as their words.
+ghost use Rattle.std.specs.Prelude.{◌≡◌, ℕ, List, drop, slice_get, Some, IfOk, IfErr};
+ghost use Rattle.run_commands.specs.Words.{HasWords};
+
+use crate::errors::{DebuggerCommandParseError, TracerCommandParseError};
+use crate::text_list::TextList;
+use crate::words::{WordsError, split_command};
+use run_capture::{Duplicate, Mem, Text};
+use std::alloc::Global;
+use std::marker::Model;
+
+/// A debugger with its arguments. Contracts see its words: the program, then the arguments.
+#[derive(Debug, Drop)]
+pub struct DebuggerCommand {
+    program: Text,
+    args: TextList,
+}
+
+impl Model for DebuggerCommand {
+    ghost use Rattle.std.specs.Prelude.{List, ℕ, ◌∷◌};
+
+    ghost Value = { List (List ℕ) };
+
+    ghost view = { λ c. c.program ∷ c.args };
+}
+
+impl DebuggerCommand {
+    ghost use Rattle.run_commands.specs.DebuggerCommand.{IsDebuggerAnswer, IsRefusedDebugger};
+
+    /// Splits a text into words as a POSIX shell does, with no expansion: the program, and then the
+    /// arguments.
+    pub fn from_str(alloc: Global, command: &str) -> Result<Self, DebuggerCommandParseError>
+        // What is read is in the grammar, with these words.
+        ensures ok { IfOk result (HasWords command.now) }
+        ensures refused { IfErr result (IsRefusedDebugger command.now) }
+        // What is in the grammar is read, with its words.
+        ensures only { (words : List (List ℕ)) → HasWords command.now words → IsDebuggerAnswer words result }
+    {
+        match split_command(alloc, command) {
+            Ok((program, args)) => Ok(DebuggerCommand { program, args }),
+            Err(WordsError::OpenQuote { place }) => {
+                Err(DebuggerCommandParseError::ShellWordsParse { place })
+            }
+            Err(WordsError::NoWords) => Err(DebuggerCommandParseError::EmptyCommand),
+            Err(WordsError::OutOfMemory) => Err(DebuggerCommandParseError::OutOfMemory),
+        }
+    }
+
+    pub fn program(&self) -> &str
+        ensures { slice_get self.now 0 ≡ Some result.now }
+    {
+        self.program.as_str()
+    }
+
+    pub fn args(&self) -> &[Text]
+        ensures { result.now ≡ drop 1 self.now }
+    {
+        self.args.as_slice()
+    }
+}
+
+impl Duplicate for DebuggerCommand {
+    fn copy(&self, alloc: Global) -> Mem<DebuggerCommand> {
+        Ok(DebuggerCommand {
+            program: self.program.copy(alloc)?,
+            args: self.args.copy(alloc)?,
+        })
+    }
+}
+
+/// A tracer of system calls with its arguments. Contracts see its words: the program, then the
+/// arguments.
+#[derive(Debug, Drop)]
+pub struct TracerCommand {
+    program: Text,
+    args: TextList,
+}
+
+impl Model for TracerCommand {
+    ghost use Rattle.std.specs.Prelude.{List, ℕ, ◌∷◌};
+
+    ghost Value = { List (List ℕ) };
+
+    ghost view = { λ c. c.program ∷ c.args };
+}
+
+impl TracerCommand {
+    ghost use Rattle.run_commands.specs.TracerCommand.{IsTracerAnswer, IsRefusedTracer};
+
+    /// Splits a text into words as a POSIX shell does, with no expansion: the program, and then the
+    /// arguments.
+    pub fn from_str(alloc: Global, command: &str) -> Result<Self, TracerCommandParseError>
+        // What is read is in the grammar, with these words.
+        ensures ok { IfOk result (HasWords command.now) }
+        ensures refused { IfErr result (IsRefusedTracer command.now) }
+        // What is in the grammar is read, with its words.
+        ensures only { (words : List (List ℕ)) → HasWords command.now words → IsTracerAnswer words result }
+    {
+        match split_command(alloc, command) {
+            Ok((program, args)) => Ok(TracerCommand { program, args }),
+            Err(WordsError::OpenQuote { place }) => {
+                Err(TracerCommandParseError::ShellWordsParse { place })
+            }
+            Err(WordsError::NoWords) => Err(TracerCommandParseError::EmptyCommand),
+            Err(WordsError::OutOfMemory) => Err(TracerCommandParseError::OutOfMemory),
+        }
+    }
+
+    pub fn program(&self) -> &str
+        ensures { slice_get self.now 0 ≡ Some result.now }
+    {
+        self.program.as_str()
+    }
+
+    pub fn args(&self) -> &[Text]
+        ensures { result.now ≡ drop 1 self.now }
+    {
+        self.args.as_slice()
+    }
+}
+
+impl Duplicate for TracerCommand {
+    fn copy(&self, alloc: Global) -> Mem<TracerCommand> {
+        Ok(TracerCommand {
+            program: self.program.copy(alloc)?,
+            args: self.args.copy(alloc)?,
+        })
+    }
+}

@@ -1,0 +1,13 @@
+// What holds of every environment text and of every command.
+ghost use Rattle.run_commands.specs.EnvText.{HasNoBadLine};
+ghost use Rattle.run_commands.specs.Words.{HasOneReading};
+
+/// An environment text is never both read and refused for a line.
+pub fn an_env_text_has_no_bad_line()
+    ensures { HasNoBadLine }
+{}
+
+/// A text has one list of words at most.
+pub fn a_text_has_one_reading()
+    ensures { HasOneReading }
+{}
