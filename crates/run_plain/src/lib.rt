@@ -2,6 +2,7 @@
 //! `run_model` is computed as it is defined, so that tests can compare the engine with it.
 #![tactic(auto)]
 
+mod accounts;
 mod admission;
 mod deliveries;
 mod happenings;
@@ -14,6 +15,7 @@ mod turns;
 mod unit;
 mod words;
 
+pub use accounts::{News, account_of};
 pub use admission::{Admitted, candidate, free_slot, in_use, is_done, newcomer};
 pub use journal::{happening, history, outcome};
 pub use places::{unit_of, units};

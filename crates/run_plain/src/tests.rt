@@ -1,7 +1,7 @@
 // Whole runs of one test, which passes or is skipped, as they are folded from their journals.
 ghost use Rattle.std.specs.Prelude.{◌≡◌, length, IfOk};
 
-use crate::{answers, asked, enabled, history, outcome, skipped, told};
+use crate::{News, account_of, answers, asked, enabled, history, outcome, skipped, told};
 use run_capture::{CaptureStrategy, List, Mem, Text};
 use run_events::{ChildExit, Plan, PlanTest, RunOutcome, Settings, TestInstanceId, Turn};
 use run_model::Entry;
@@ -79,6 +79,19 @@ fn counts(alloc: Global) -> Mem<(usize, usize, usize)> {
     Ok((told, answers, asked(alloc, &past)?.len()))
 }
 
+// Whether the test is told started and then finished after one attempt, and nothing else of it.
+fn is_told_through(alloc: Global) -> Mem<bool> {
+    let settings = settings(alloc, None)?;
+    let journal = journal(alloc)?;
+    let past = history(alloc, &settings, &journal)?;
+    let told = told(alloc, &past)?;
+    let account = account_of(alloc, 0, &told)?;
+    Ok(match account.as_slice() {
+        [News::Started, News::Finished(statuses)] => statuses.len() == 1,
+        _ => false,
+    })
+}
+
 // How the run ended, and whether it takes one more turn.
 fn ending(alloc: Global) -> Mem<(Option<RunOutcome>, bool)> {
     let settings = settings(alloc, None)?;
@@ -99,20 +112,24 @@ fn skip_journal(alloc: Global) -> Mem<Vec<Entry>>
     ]?)
 }
 
-// How many events a run of a skipped test tells, how many of them a skip, and how it ends.
-fn skipping(alloc: Global) -> Mem<(usize, usize, Option<RunOutcome>)> {
+// How many events a run of a skipped test tells, how many of them a skip, whether no more is told of the test, and how
+// the run ends.
+fn skipping(alloc: Global) -> Mem<(usize, usize, bool, Option<RunOutcome>)> {
     let settings = settings(alloc, Some(Text::from_str(alloc, "ignored")?))?;
     let journal = skip_journal(alloc)?;
     let past = history(alloc, &settings, &journal)?;
-    let told = told(alloc, &past)?.len();
+    let told = told(alloc, &past)?;
     let skips = skipped(alloc, &past)?;
-    Ok((told, skips, outcome(alloc, &settings, &past)?))
+    let account = account_of(alloc, 0, &told)?;
+    let only = matches!(account.as_slice(), [News::Skipped]);
+    Ok((told.len(), skips, only, outcome(alloc, &settings, &past)?))
 }
 
 #[test]
 fn folds_a_run(rt: HostRuntime) {
     let alloc = rt.alloc();
     assert_eq!(rt; counts(alloc), Ok((4, 4, 1)));
+    assert_eq!(rt; is_told_through(alloc), Ok(true));
     assert_eq!(rt; ending(alloc), Ok((Some(RunOutcome::Success), false)));
 }
 
@@ -120,6 +137,6 @@ fn folds_a_run(rt: HostRuntime) {
 fn folds_a_run_of_a_skipped_test(rt: HostRuntime) {
     assert_eq!(rt;
         skipping(rt.alloc()),
-        Ok((3, 1, Some(RunOutcome::NoTestsRun)))
+        Ok((3, 1, true, Some(RunOutcome::NoTestsRun)))
     );
 }

@@ -1,6 +1,6 @@
 // What the engine and the definitions say after some turns, of which all but the last are enabled.
 
-use crate::plan::runner;
+use crate::plan::{Tests, runner};
 use run_capture::{Duplicate, List, Mem, OutOfMemory, Text};
 use run_engine::{StepError, TestRunnerExecuteErrors};
 use run_events::{Ask, AskList, EventLog, ReporterEvent, RunOutcome, Settings, Turn};
@@ -37,8 +37,8 @@ fn lines(alloc: Global, events: &[ReporterEvent], asks: &[(u64, Ask)]) -> Mem<Te
 }
 
 // By the engine, step by step.
-pub fn stepped(alloc: Global, turns: &[Turn]) -> Mem<View> {
-    let mut run = runner(alloc)?.into_run(alloc)?;
+pub fn stepped(alloc: Global, of: Tests, turns: &[Turn]) -> Mem<View> {
+    let mut run = runner(alloc, of)?.into_run(alloc)?;
     let mut asks = AskList::new();
     let mut log = EventLog::new();
     let mut enabled = true;
@@ -57,13 +57,13 @@ pub fn stepped(alloc: Global, turns: &[Turn]) -> Mem<View> {
 }
 
 // The answer of the engine to all turns at once.
-pub fn executed(alloc: Global, turns: &[Turn]) -> Mem<Option<RunOutcome>> {
+pub fn executed(alloc: Global, of: Tests, turns: &[Turn]) -> Mem<Option<RunOutcome>> {
     if turns.len() > 100 {
         return Ok(None);
     }
     let mut asks = AskList::new();
     let mut log = EventLog::new();
-    match runner(alloc)?.execute(alloc, turns, &mut asks, &mut log) {
+    match runner(alloc, of)?.execute(alloc, turns, &mut asks, &mut log) {
         Ok(outcome) => Ok(Some(outcome)),
         Err(TestRunnerExecuteErrors::OutOfMemory) => Err(OutOfMemory),
         Err(_) => Ok(None),
@@ -110,8 +110,8 @@ fn is_enabled(alloc: Global, settings: &Settings, past: &[Happening], turn: &Tur
 }
 
 // By the definitions.
-pub fn defined(alloc: Global, turns: &[Turn]) -> Mem<View> {
-    let runner = runner(alloc)?;
+pub fn defined(alloc: Global, of: Tests, turns: &[Turn]) -> Mem<View> {
+    let runner = runner(alloc, of)?;
     let settings = runner.settings();
     let [before @ .., last] = turns else {
         return view_of(alloc, settings, &[], true);

@@ -1,4 +1,4 @@
-use Rattle.std.proofs.Common.{◌∙◌, ap, arith, length, take, sym, subst, filter_map, [], ◌∷◌, ◌++◌}
+use Rattle.std.proofs.Common.{◌∙◌, ap, arith, take, sym, subst, filter_map, [], ◌∷◌, ◌++◌}
 use Rattle.std.proofs.lemmas.List.{take_more, take_all}
 use Rattle.run_events.specs.Stats.{AreBelow}
 use Rattle.run_model.specs.Words.{stats_after, finish_of}
