@@ -1,11 +1,11 @@
 -- Where a line ends, and what it says.
-use Rattle.std.proofs.Common.{◌≡◌, Bool, true, false, not, cond, ℕ, ◌<◌, ◌≤◌, ◌==◌, ◌+◌, ◌-◌, List, [], ◌∷◌, ◌++◌, length, take, drop, Option, Some, None, Result, Ok, Err, refl, sym, ap, ◌∙◌, arith, add-one, nat_lt, if◌then◌else◌}
+use Rattle.std.proofs.Common.{◌≡◌, Bool, true, false, not, cond, ℕ, ◌<◌, ◌≤◌, ◌==◌, ◌+◌, ◌-◌, List, [], ◌∷◌, length, take, drop, Some, None, Result, Ok, Err, refl, sym, ap, ◌∙◌, arith, nat_lt}
 use Rattle.std.proofs.lemmas.Bool.Decides.{nat_tests}
 use Rattle.std.proofs.lemmas.Bool.{ltb-true, lt-ltb}
 use Rattle.std.proofs.lemmas.Option.{none-some, same_Some}
-use Rattle.std.proofs.lemmas.List.Splits.{slice_split_first, slice_split_none}
+use Rattle.std.proofs.lemmas.List.Splits.{slice_split_first}
 use Rattle.std.proofs.lemmas.Str.{IsUtf8-from_is_utf8, is_utf8-from_IsUtf8}
-use Rattle.std.specs.List.{slice_split, onto_first, position, position_or_len, list_any, before_first, after_first}
+use Rattle.std.specs.List.{slice_split, onto_first, position, position_or_len, list_any}
 use Rattle.std.specs.Str.{IsUtf8, is_utf8}
 use Rattle.std.specs.Str.Lines.{lines, lines_of_parts, strip_carriage_return}
 use Rattle.run_capture.proofs.BytesLemmas.{take-drop_all}

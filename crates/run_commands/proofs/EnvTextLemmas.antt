@@ -1,5 +1,5 @@
 -- The lines of an environment text that were read so far.
-use Rattle.std.proofs.Common.{◌≡◌, Bool, true, false, cond, ℕ, ◌+◌, ◌≤◌, ◌<◌, ◌==◌, List, [], ◌∷◌, ◌++◌, length, map, reverse, Option, Some, None, Result, Ok, Err, refl, ap, sym, ◌∙◌, arith, append_assoc, append-nil, length-append, if◌then◌else◌}
+use Rattle.std.proofs.Common.{◌≡◌, Bool, true, cond, ℕ, ◌+◌, ◌≤◌, ◌<◌, ◌==◌, List, [], ◌∷◌, ◌++◌, length, map, reverse, Some, Ok, Err, refl, ap, sym, ◌∙◌, arith, append_assoc, append-nil, length-append}
 use Rattle.std.proofs.lemmas.Bool.Decides.{nat_tests}
 use Rattle.std.proofs.lemmas.List.{map-append, reverse-append}
 use Rattle.std.proofs.lemmas.Map.Text.{is_eq-slice_cmp, btree_map_updates_text}
@@ -16,7 +16,7 @@ use Rattle.run_commands.specs.declared.env_line.BrokenRule.{BrokenRule}
 use Rattle.run_commands.specs.declared.env_line.BrokenRule.TheVariants as rule
 use Rattle.run_commands.specs.Pair.{Pair}
 use Rattle.run_commands.specs.EnvLine.{pair_of}
-use Rattle.run_commands.specs.EnvMap.{value_of, value_in, pairs_in, IsLatest, SetsVariable}
+use Rattle.run_commands.specs.EnvMap.{value_of, value_in, pairs_in, SetsVariable}
 use Rattle.run_commands.specs.EnvText.{Set, IsEnvOf, IsFirstBad, IsRefusedEnv, HasNoBadLine, refusal_for}
 use Rattle.run_commands.proofs.EnvMapLemmas.{by_name}
 

@@ -1,9 +1,9 @@
 -- What the machine reads is what the grammar says: the grammar's side.
-use Rattle.std.proofs.Common.{◌≡◌, ◌≢◌, Bool, true, false, cond, ℕ, suc, List, [], ◌∷◌, ◌++◌, Result, Ok, Err, refl, ap, sym, ◌∙◌, append_assoc, append-nil}
+use Rattle.std.proofs.Common.{◌≡◌, ◌≢◌, Bool, true, false, ℕ, suc, List, [], ◌∷◌, ◌++◌, Ok, Err, refl, ap, sym, ◌∙◌, append_assoc, append-nil}
 use Rattle.run_commands.specs.declared.words.CharKind.{CharKind}
 use Rattle.run_commands.specs.declared.words.CharKind.TheVariants as kinds
 use Rattle.run_commands.specs.Words.{kind, IsBlank, IsPlainInWord, IsPlainInQuotes, IsEscaped, KeepsBackslash, Lacks, IsQuoted, IsPiece, MayStand, EndsComment, Reads}
-use Rattle.run_commands.specs.WordMachine.{Mode, Effect, Read, step, step_outside, step_escape, step_comment, step_single, step_double, step_double_escape, effects, with_effect, onto, word_of, ending, reading}
+use Rattle.run_commands.specs.WordMachine.{Mode, Effect, Read, step, step_outside, effects, ending, reading}
 
 -- one byte more
 pub reading-step : (mode : Mode) (place b : ℕ) (text : List ℕ) (k : CharKind) → kind b ≡ k

@@ -1,13 +1,11 @@
 -- What the code does for a character is a step of the machine.
-use Rattle.std.proofs.Common.{◌≡◌, ◌≢◌, Bool, true, false, ℕ, List, [], ◌∷◌, ◌++◌, Option, Some, None, Result, Ok, Err, refl, ap, sym, subst, ◌∙◌, append_assoc, append-nil, is_some, encode_utf8, if◌then◌else◌}
+use Rattle.std.proofs.Common.{◌≡◌, ◌≢◌, Bool, true, false, ℕ, List, [], ◌∷◌, ◌++◌, Option, Some, None, Ok, Err, refl, ap, sym, ◌∙◌, append_assoc, append-nil, is_some, if◌then◌else◌}
 use Rattle.std.specs.Option.{option_to_list}
 use Rattle.run_commands.specs.declared.words.CharKind.{CharKind}
 use Rattle.run_commands.specs.declared.words.CharKind.TheVariants as kinds
 use Rattle.run_commands.specs.declared.words.State.{State}
-use Rattle.run_commands.specs.declared.words.State.TheVariants as states
 use Rattle.run_commands.specs.Gathered.{Gathered, begun}
-use Rattle.run_commands.specs.Words.{kind}
-use Rattle.run_commands.specs.WordMachine.{Mode, Effect, Read, step, step_outside, step_escape, step_comment, step_single, step_double, step_double_escape, effects, onto, put, mode_of, step_for, IsSound, Takes}
+use Rattle.run_commands.specs.WordMachine.{Mode, Effect, Read, step_outside, step_escape, step_single, step_double, step_double_escape, effects, put, mode_of, step_for, IsSound, Takes}
 use Rattle.run_commands.proofs.WordSoundLemmas.{onto_both, onto_none}
 
 -- bytes that are added to the open word

@@ -1,5 +1,5 @@
 -- How reading a script's environment file ends.
-use Rattle.std.specs.Prelude.{ℕ, ◌≡◌, ◌≤◌, ◌<◌, ◌+◌, List, length, Option, Some, None, Result, Ok, Err, ⊤}
+use Rattle.std.specs.Prelude.{ℕ, ◌≡◌, ◌≤◌, ◌<◌, List, length, Some, None, Result, Ok, Err, ⊤}
 use Rattle.std.specs.Str.Lines.{lines}
 use Rattle.run_capture.specs.Faults.{Rose}
 use Rattle.run_commands.specs.declared.errors.SetupScriptOutputError.{SetupScriptOutputError}

@@ -1,5 +1,5 @@
 -- What comes of a script's environment file.
-use Rattle.std.specs.Prelude.{◌≡◌, List, Option, None, Result, Err, MatchResult}
+use Rattle.std.specs.Prelude.{◌≡◌, List, None, Result, Err, MatchResult}
 use Rattle.std.specs.Str.Lines.{lines}
 use Rattle.run_commands.specs.declared.errors.SetupScriptOutputError.{SetupScriptOutputError}
 use Rattle.run_commands.specs.declared.errors.SetupScriptOutputError.TheVariants as errors

@@ -1,5 +1,5 @@
 -- What the text of an environment file says, and why it is refused.
-use Rattle.std.specs.Prelude.{ℕ, ◌≡◌, ◌+◌, List, ◌∷◌, ◌++◌, length, map, Option, Some, None, Result, Ok, Err, MatchResult, ⊤}
+use Rattle.std.specs.Prelude.{ℕ, ◌≡◌, ◌+◌, List, ◌∷◌, ◌++◌, length, map, Some, None, Ok, Err, ⊤}
 use Rattle.std.specs.Str.Lines.{lines}
 use Rattle.run_commands.specs.declared.env_line.BrokenRule.{BrokenRule}
 use Rattle.run_commands.specs.declared.env_line.BrokenRule.TheVariants as rule

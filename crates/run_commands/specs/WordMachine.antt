@@ -1,5 +1,5 @@
 -- How the words of a text are read, byte by byte. Private clauses cite this, and no public one does.
-use Rattle.std.specs.Prelude.{ℕ, Bool, true, false, List, [], ◌∷◌, ◌++◌, Option, Some, None, Result, Ok, Err, suc, ◌≡◌, ⊤, is_some, encode_utf8, if◌then◌else◌}
+use Rattle.std.specs.Prelude.{ℕ, Bool, true, false, List, [], ◌∷◌, ◌++◌, None, Result, Ok, Err, suc, ◌≡◌, ⊤, is_some, encode_utf8, if◌then◌else◌}
 use Rattle.run_commands.specs.declared.words.CharKind.{CharKind}
 use Rattle.run_commands.specs.declared.words.CharKind.TheVariants as kinds
 use Rattle.run_commands.specs.declared.words.State.{State}

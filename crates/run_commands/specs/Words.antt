@@ -1,4 +1,5 @@
--- The grammar of command words.
+-- The grammar of command words, by rules on the bytes. A text stands between words or in one, and each rule is a
+-- way in which it goes on.
 use Rattle.std.specs.Prelude.{ℕ, ◌≡◌, ◌≢◌, ◌==◌, ◌||◌, ◌<◌, ◌≤◌, Bool, true, false, List, [], ◌∷◌, ◌++◌, length, take, slice_get, IsSomeAnd, ⊤, if◌then◌else◌}
 use Rattle.std.specs.List.{AllByRecursion}
 use Rattle.run_commands.specs.declared.words.CharKind.{CharKind}
@@ -56,18 +57,27 @@ Lacks k bytes = AllByRecursion (λ b. kind b ≢ k) bytes
 
 -- what stands between double quotes, and the bytes that it means
 pub data IsQuoted : List ℕ → List ℕ → Type 0 where
+  -- nothing more
   nothing : IsQuoted [] []
+  -- a byte for itself
   plain : {b : ℕ} {source meaning : List ℕ} → IsPlainInQuotes (kind b) → IsQuoted source meaning → IsQuoted (b ∷ source) (b ∷ meaning)
+  -- a backslash before `$`, a backquote, `"` or a backslash gives that one
   escaped : {b c : ℕ} {source meaning : List ℕ} → kind b ≡ kinds.Backslash → IsEscaped (kind c) → IsQuoted source meaning → IsQuoted (b ∷ c ∷ source) (c ∷ meaning)
+  -- a backslash and an LF are nothing
   joined : {b c : ℕ} {source meaning : List ℕ} → kind b ≡ kinds.Backslash → kind c ≡ kinds.Newline → IsQuoted source meaning → IsQuoted (b ∷ c ∷ source) meaning
+  -- a backslash before any other stands for itself, and so does the other
   kept : {b c : ℕ} {source meaning : List ℕ} → kind b ≡ kinds.Backslash → KeepsBackslash (kind c) → IsQuoted source meaning → IsQuoted (b ∷ c ∷ source) (b ∷ c ∷ meaning)
 
 -- a part of a word, and the bytes that it means
 pub data IsPiece : List ℕ → List ℕ → Type 0 where
+  -- a byte for itself
   plain : {b : ℕ} → IsPlainInWord (kind b) → IsPiece (b ∷ []) (b ∷ [])
+  -- a backslash makes the next byte plain
   escaped : {b c : ℕ} → kind b ≡ kinds.Backslash → kind c ≢ kinds.Newline → IsPiece (b ∷ c ∷ []) (c ∷ [])
+  -- between two single quotes all is plain
   single_quoted : {b : ℕ} (inner : List ℕ) (c : ℕ) → kind b ≡ kinds.SingleQuote → Lacks kinds.SingleQuote inner → kind c ≡ kinds.SingleQuote
       → IsPiece (b ∷ inner ++ c ∷ []) inner
+  -- between two double quotes stands what the rules above give
   double_quoted : {b : ℕ} {inner meaning : List ℕ} (c : ℕ) → kind b ≡ kinds.DoubleQuote → IsQuoted inner meaning → kind c ≡ kinds.DoubleQuote
       → IsPiece (b ∷ inner ++ c ∷ []) meaning
 

@@ -11,7 +11,7 @@ use std::marker::Model;
 #[derive(Drop)]
 pub struct WordList {
     ended: List<Text>,
-    open: Option<String>,
+    word: Option<String>,
 }
 
 impl Model for WordList {
@@ -20,7 +20,7 @@ impl Model for WordList {
 
     ghost Value = { Gathered };
 
-    ghost view = { λ w. record { ended = w.ended; open_word = option_map string_bytes w.open } };
+    ghost view = { λ w. record { ended = w.ended; open_word = option_map string_bytes w.word } };
 }
 
 impl WordList {
@@ -29,7 +29,7 @@ impl WordList {
     {
         WordList {
             ended: List::new(),
-            open: None,
+            word: None,
         }
     }
 
@@ -37,31 +37,31 @@ impl WordList {
     pub fn is_between(&self) -> bool
         ensures { result ≡ is_none self.now.open_word }
     {
-        self.open.is_none()
+        self.word.is_none()
     }
 
-    /// Opens a word, where none is open.
-    pub fn open(&mut self, alloc: Global)
+    /// Begins a word, where none is open.
+    pub fn begin(&mut self, alloc: Global)
         ensures { self.new ≡ record self.old { open_word = Some (begun self.old.open_word) } }
     {
-        if self.open.is_none() {
-            self.open = Some(String::new(alloc));
+        if self.word.is_none() {
+            self.word = Some(String::new(alloc));
         }
     }
 
-    /// Adds a character to the word that is open; opens one where none is.
+    /// Adds a character to the word that is open; begins one where none is.
     pub fn push(&mut self, alloc: Global, c: char) -> Mem<()>
         ensures { OnOk result (self.new ≡ record self.old { open_word = Some (begun self.old.open_word ++ encode_utf8 c) }) }
     {
-        self.open(alloc);
-        push_char(&mut self.open, c)
+        self.begin(alloc);
+        push_char(&mut self.word, c)
     }
 
     /// Ends the word that is open, where one is.
     pub fn end(&mut self, alloc: Global) -> Mem<()>
         ensures { OnOk result (self.new ≡ record { ended = self.old.ended ++ option_to_list self.old.open_word; open_word = None }) }
     {
-        if let Some(word) = self.open.take() {
+        if let Some(word) = self.word.take() {
             self.ended.push(alloc, Text::from_string(word))?;
         }
         Ok(())

@@ -1,4 +1,4 @@
-// The words of a command, as a POSIX shell splits it.
+// The words of a command, as a POSIX shell splits it, with no expansion: a machine over its characters.
 ghost use Rattle.std.specs.Prelude.{◌≡◌, ◌∷◌, ℕ, List as Items, IfOk, IfErr, Ok};
 ghost use Rattle.run_commands.specs.Words.{kind, HasWords};
 ghost use Rattle.run_commands.specs.Gathered.{Gathered};
@@ -134,7 +134,7 @@ fn after_single(alloc: Global, words: &mut WordList, quote: usize, c: char) -> M
 {
     match kind_of(c) {
         CharKind::SingleQuote => {
-            words.open(alloc);
+            words.begin(alloc);
             Ok(State::Outside)
         }
         _ => {
@@ -150,7 +150,7 @@ fn after_double(alloc: Global, words: &mut WordList, quote: usize, c: char) -> M
 {
     match kind_of(c) {
         CharKind::DoubleQuote => {
-            words.open(alloc);
+            words.begin(alloc);
             Ok(State::Outside)
         }
         CharKind::Backslash => Ok(State::DoubleQuotesEscape(quote)),

@@ -1,5 +1,4 @@
 use Rattle.run_commands.proofs.WordLemmas.{one_reading}
-use Rattle.run_commands.proofs.OpenQuoteLemmas.{read_open}
 use Rattle.run_commands.proofs.laws.a_text_has_one_reading.Goals as goal
 
 pub returns : goal.returns

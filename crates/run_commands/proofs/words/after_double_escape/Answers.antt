@@ -1,5 +1,4 @@
-use Rattle.std.proofs.Common.{sym, ◌∙◌, encode_utf8}
-use Rattle.run_commands.specs.declared.words.CharKind.TheVariants as kinds
+use Rattle.std.proofs.Common.{◌∙◌}
 use Rattle.run_commands.specs.declared.words.State.TheVariants as states
 use Rattle.std.proofs.Common.{arith}
 use Rattle.std.proofs.lemmas.Str.{encode_ascii}

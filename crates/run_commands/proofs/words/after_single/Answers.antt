@@ -1,5 +1,4 @@
-use Rattle.std.proofs.Common.{sym, ◌∙◌, encode_utf8}
-use Rattle.run_commands.specs.declared.words.CharKind.TheVariants as kinds
+use Rattle.std.proofs.Common.{◌∙◌}
 use Rattle.run_commands.specs.declared.words.State.TheVariants as states
 use Rattle.run_commands.proofs.WordStepLemmas.{single_other, takes_add}
 use Rattle.run_commands.proofs.words.after_single.Goals as goal
