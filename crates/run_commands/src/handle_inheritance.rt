@@ -2,7 +2,7 @@
 ghost use Rattle.std.specs.Prelude.{◌≡◌, Ok};
 
 /// Why the inheritance of handles can't be set. Nothing on Unix answers it.
-#[derive(Clone, Copy, Debug, Drop, PartialEq, Eq)]
+#[derive(Clone, Copy, Drop)]
 pub enum ConfigureHandleInheritanceError {}
 
 /// Sets which handles children inherit, by whether output is not captured. Does nothing on Unix.

@@ -369,6 +369,6 @@ fn counts_stress_runs(rt: HostRuntime) -> Result<(), Fail> {
     assert!(rt; matches!(condition, StressCondition::Duration(7)));
     let condition = StressCondition::Count(StressCount::Infinite).copy(alloc)?;
     assert!(rt; matches!(condition, StressCondition::Count(StressCount::Infinite)));
-    assert_eq!(rt; configure_handle_inheritance(true), Ok(()));
+    assert!(rt; configure_handle_inheritance(true).is_ok());
     Ok(())
 }
