@@ -145,7 +145,16 @@ happening_agree p past other e d a t =
 histories_alike : (p : Settings) (journal other : List Entry) → map (λ e. e.turn) other ≡ map (λ e. e.turn) journal
     → Alike (history p journal) (history p other)
 histories_alike p [] [] same = record {
-  length = refl; clock = refl; begun = refl; over = refl; sent = refl; delivered = refl; told = refl; asked = refl; reason = refl; unit = λ k. refl;
+  length = refl;
+  clock = refl;
+  begun = refl;
+  over = refl;
+  sent = refl;
+  delivered = refl;
+  told = refl;
+  asked = refl;
+  reason = refl;
+  unit = λ k. refl;
 }
 histories_alike p [] (d ∷ other) same = cc
 histories_alike p (e ∷ journal) [] same = cc
