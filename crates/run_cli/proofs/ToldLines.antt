@@ -10,7 +10,6 @@ use Rattle.run_model.specs.Words.{told, asked, answers}
 use Rattle.run_model.specs.Turns.{happening}
 use Rattle.run_model.specs.Journal.{history, past_of, IsLegalBackward}
 use Rattle.run_engine.specs.World.{flagged, earlier, first_error, CountsErrors}
-use Rattle.run_engine.proofs.TakesLemmas.{happened_refused}
 use Rattle.run_output.specs.Fields.{line_of}
 use Rattle.run_output.specs.Events.{event_text}
 use Rattle.run_output.specs.Told.{IsLine, AreLines, TookLines}
@@ -41,8 +40,7 @@ answers-told p (e ∷ before) legal =
     map-append (λ x. x.0) (answers (history p before)) (zip (option_to_list x.told) x.refused)
     ∙ ap (λ es. es ++ map (λ x. x.0) (zip (option_to_list x.told) x.refused)) (answers-told p before legal.2)
     ∙ ap (λ es. told (history p before) ++ es)
-    (ap (λ refused. map (λ x. x.0) (zip (option_to_list x.told) refused)) (happened_refused p (history p before) e e.turn)
-    ∙ zip_first x.told e.refused legal.1)
+    (zip_first x.told e.refused legal.1)
 
 -- a line of an event that wasn't refused, and then those of the others
 one_whole : {E : Type 0} (event : ReporterEvent) (error later : Option E) (bytes line rest others : List ℕ)

@@ -1,18 +1,21 @@
 // The dispatcher and its rows.
-ghost use Rattle.std.specs.Prelude.{◌≡◌, ◌+◌, ◌<◌, ◌≤◌, ◌^◌, ◌∷◌, [], length, count_by, not, IfOk, OnOk, OnErr, Some, None, true, false, option_to_list};
-ghost use Rattle.run_events.specs.Stats.{AreBelow};
+ghost use Rattle.std.specs.Prelude.{◌≡◌, ◌+◌, ◌-◌, ◌<◌, ◌≤◌, ◌^◌, ◌∷◌, [], length, count_by, not, IfOk, OnOk, OnErr, Some, None, true, false, option_to_list};
+ghost use Rattle.run_events.specs.Stats.{AreBelow, plus, adds_of};
 ghost use Rattle.run_events.specs.declared.events.TestEventKind.TheVariants.{RunStarted, RunFinished};
 ghost use Rattle.run_model.specs.Admission.{is_matched};
-ghost use Rattle.run_dispatch.specs.Dispatch.{unbegun, state_of, is_on, dispatch_takes, event, lets_go, finishing, skipping, dispatched, told_of, go_of, CanDeliver};
+ghost use Rattle.run_model.specs.Words.{finished_test};
+ghost use Rattle.run_model.specs.Dispatch.{unbegun, is_on, dispatch_takes, event, lets_go, having_told, told_of, go_of, CanDeliver};
+ghost use Rattle.run_dispatch.specs.Dispatch.{state_of};
 
 use crate::effects::{DispatchEffects, Fx};
 use crate::status::{is_last_slow, results_of};
-use crate::view::{DispatchState, DispatcherView, Facts};
+use crate::view::DispatchState;
 use run_capture::{List, Mem};
 use run_events::{
     CancelReason, ExecuteStatus, FlakyResult, Message, PlanTest, ReporterEvent, RunStats, Settings,
     TestEvent, TestEventKind, Turn,
 };
+use run_model::{DispatcherView, Facts};
 use std::alloc::Global;
 use std::marker::Model;
 
@@ -23,7 +26,7 @@ pub struct Dispatcher {
 }
 
 impl Model for Dispatcher {
-    ghost use Rattle.run_dispatch.specs.declared.view.DispatcherView.{DispatcherView};
+    ghost use Rattle.run_model.specs.declared.dispatcher_view.DispatcherView.{DispatcherView};
 
     ghost Value = { DispatcherView };
 
@@ -79,7 +82,10 @@ fn count_finished(
     requires counts { AreBelow (2 ^ 32) view.stats }
     requires attempts { 0 < length statuses.now }
     requires runs { 0 < view.running }
-    ensures { IfOk result (λ d. d ≡ finishing view statuses.now) }
+    ensures { IfOk result (λ d. d ≡ record view {
+      running = view.running - 1;
+      stats = plus view.stats (adds_of (finished_test statuses.now));
+    }) }
 {
     let results = results_of(alloc, statuses)?;
     let mut stats = view.stats;
@@ -94,7 +100,7 @@ fn count_finished(
 // The counts after one more test was skipped.
 fn count_skipped(view: DispatcherView) -> DispatcherView
     requires { view.stats.skipped < 2 ^ 32 }
-    ensures { result ≡ skipping view }
+    ensures { result ≡ record view { stats = record view.stats { skipped = view.stats.skipped + 1 } } }
 {
     let stats = RunStats {
         skipped: view.stats.skipped + 1,
@@ -200,7 +206,7 @@ impl Dispatcher {
         requires { CanDeliver self.old message }
         ensures told { IfOk result (λ fx. fx.events ≡ option_to_list (told_of now self.old message)) }
         ensures go { IfOk result (λ fx. fx.go ≡ go_of self.old message) }
-        ensures after { OnOk result (self.new ≡ dispatched self.old message) }
+        ensures after { OnOk result (self.new ≡ having_told self.old (told_of now self.old message)) }
         ensures err { OnErr result (self.new ≡ self.old) }
     {
         match message {

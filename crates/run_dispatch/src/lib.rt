@@ -12,4 +12,4 @@ mod view;
 
 pub use dispatcher::Dispatcher;
 pub use effects::{DispatchEffects, Fx};
-pub use view::{DispatchState, DispatcherView, Facts};
+pub use view::DispatchState;

@@ -1,13 +1,14 @@
 // The dispatcher's rows, at a test that is skipped and one that runs, with ample memory; the rest is proved.
 ghost use Rattle.std.specs.Prelude.{◌≡◌, length, IfOk};
-ghost use Rattle.run_dispatch.specs.Dispatch.{unbegun};
+ghost use Rattle.run_model.specs.Dispatch.{unbegun};
 
-use crate::{DispatchState, Dispatcher, Facts};
+use crate::{DispatchState, Dispatcher};
 use run_capture::{CaptureStrategy, List, Mem, Text};
 use run_events::{
     ExecuteStatus, Message, Plan, PlanTest, ReporterEvent, Settings, TestEventKind, TestInstanceId,
     TestSlotAssignment, Turn,
 };
+use run_model::Facts;
 use std::alloc::Global;
 use uuid::Uuid;
 

@@ -1,5 +1,5 @@
 -- The answer to a list of turns goes by its course.
-use Rattle.std.proofs.Common.{◌≡◌, ℕ, ◌<◌, ◌⊎◌, inl, inr, List, reverse, true, false, Bool, Option, Some, None, Result, Ok, Err, refl, ap, sym, subst, ◌∙◌, arith, if◌then◌else◌}
+use Rattle.std.proofs.Common.{◌≡◌, ℕ, ◌<◌, inl, inr, List, reverse, true, Option, Some, None, Result, Ok, Err, refl, ap, arith, if◌then◌else◌}
 use Rattle.run_capture.specs.Faults.{Rose}
 use Rattle.run_events.specs.Outcome.{outcome_of, summary}
 use Rattle.run_events.specs.declared.settings.Settings.{Settings}

@@ -1,6 +1,6 @@
 -- Histories of journals that grow at their ends.
-use Rattle.std.proofs.Common.{◌≡◌, suc, List, [], ◌∷◌, ◌++◌, length, reverse, true, option_to_list, refl, ap, sym, subst, ◌∙◌}
-use Rattle.std.proofs.lemmas.List.{reverse-append, length-reverse}
+use Rattle.std.proofs.Common.{◌≡◌, List, [], ◌∷◌, ◌++◌, length, reverse, true, option_to_list, ap, sym, subst}
+use Rattle.std.proofs.lemmas.List.{reverse-append}
 use Rattle.run_events.specs.declared.settings.Settings.{Settings}
 use Rattle.run_model.specs.declared.entry.Entry.{Entry}
 use Rattle.run_model.specs.Turns.{enabled, happening}
@@ -20,11 +20,3 @@ pub legal-push : (p : Settings) (journal : List Entry) (e : Entry) → IsLegal p
     → length e.refused ≡ length (option_to_list (happening p (past_of p journal) e).told)
     → IsLegal p (journal ++ e ∷ [])
 legal-push p journal e legal en answered = subst (IsLegalBackward p) (sym (reverse-push journal e)) (en, answered, legal)
-
--- a history is as long as its journal
-history-length : (p : Settings) (backward : List Entry) → length (history p backward) ≡ length backward
-history-length p [] = refl
-history-length p (e ∷ before) = ap suc (history-length p before)
-
-pub past_of-length : (p : Settings) (journal : List Entry) → length (past_of p journal) ≡ length journal
-past_of-length p journal = history-length p (reverse journal) ∙ length-reverse journal

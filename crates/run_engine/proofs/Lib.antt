@@ -1,11 +1,6 @@
-pub mod Fields
-pub mod Same
-pub mod Ready
-pub mod EnabledLemmas
 pub mod JournalLemmas
 pub mod CarryLemmas
 pub mod StartLemmas
 pub mod TakesLemmas
 pub mod TellLemmas
-pub mod DeliveryLemmas
 pub mod CourseLemmas

@@ -1,64 +1,25 @@
 -- Turns taken one after another.
-use Rattle.std.proofs.Common.{◌≡◌, ℕ, ◌+◌, ◌^◌, ◌<◌, List, [], ◌∷◌, ◌++◌, length, map, zip, take, get_or, Bool, true, false, Option, Some, None, option_to_list, refl, ap, sym, subst, ◌∙◌, arith, append_assoc, length-append}
+use Rattle.std.proofs.Common.{◌≡◌, ℕ, ◌+◌, ◌^◌, ◌<◌, List, [], ◌∷◌, ◌++◌, length, map, zip, take, get_or, Bool, Option, Some, None, option_to_list, refl, ap, sym, subst, ◌∙◌, arith, append_assoc, length-append}
 use Rattle.std.proofs.lemmas.List.{append-nil, map-append, take_more}
 use Rattle.run_events.specs.Tell.{Adds}
 use Rattle.run_events.specs.declared.settings.Settings.{Settings}
 use Rattle.run_events.specs.declared.turn.Turn.{Turn}
-use Rattle.run_events.specs.declared.turn.Turn.TheVariants.{Begin, Admit, Deliver, Started, StartFailed, Exit, WaitFailed, Decide, End}
-use Rattle.run_events.specs.declared.message.Message.{Message}
-use Rattle.run_events.specs.declared.message.Message.TheVariants.{Start, Skip, Finish}
 use Rattle.run_events.specs.declared.ask.Ask.{Ask}
 use Rattle.run_events.specs.declared.events.ReporterEvent.{ReporterEvent}
 use Rattle.run_model.specs.declared.entry.Entry.{Entry}
-use Rattle.run_model.specs.declared.happening.Happening.{Happening}
-use Rattle.run_model.specs.declared.unit_turn.UnitTurn.{UnitTurn}
-use Rattle.run_model.specs.declared.unit_view.UnitView.{UnitView}
-use Rattle.run_model.specs.Words.{answers, asked, clock, queue, unit_of, units, tests_in}
-use Rattle.run_model.specs.Admission.{Newcomer, newcomer}
-use Rattle.run_model.specs.Turns.{turn_of_unit, taken_by, admission, start_delivery, delivery, happened, happening}
+use Rattle.run_model.specs.Words.{answers, asked, tests_in}
+use Rattle.run_model.specs.Turns.{happening}
 use Rattle.run_model.specs.Journal.{past_of}
 use Rattle.run_engine.specs.World.{World, flagged, earlier, first_error, TellsEvents, CountsErrors, TakesTurn, entry_of}
 use Rattle.run_engine.specs.Standing.{sound}
 use Rattle.run_engine.specs.Execution.{Takes, turns_of}
-use Rattle.run_engine.proofs.JournalLemmas.{past_of-push, past_of-length, legal-push}
-
--- what a turn does keeps its entry's answers
-taken_refused : (now : ℕ) (e : Entry) (k : ℕ) (turn : UnitTurn) (v : Option UnitView) → (taken_by now e k turn v).refused ≡ e.refused
-taken_refused now e k turn None = refl
-taken_refused now e k turn (Some u) = refl
-
-admission_refused : (e : Entry) (v : Option Newcomer) → (admission e v).refused ≡ e.refused
-admission_refused e None = refl
-admission_refused e (Some new) = refl
-
-start_refused : (go : Bool) (x : Happening) (event : ReporterEvent) → (start_delivery go x event).refused ≡ x.refused
-start_refused true x event = refl
-start_refused false x event = refl
-
-delivery_refused : (p : Settings) (past : List Happening) (e : Entry) (q : List Message) → (delivery p past e q).refused ≡ e.refused
-delivery_refused p past e [] = refl
-delivery_refused p past e (Start k id command slot ∷ rest) = start_refused _ _ _ ∙ taken_refused (clock past) e k _ (unit_of k past)
-delivery_refused p past e (Skip k id why ∷ rest) = refl
-delivery_refused p past e (Finish k id statuses ∷ rest) = refl
-
-pub happened_refused : (p : Settings) (past : List Happening) (e : Entry) (turn : Turn) → (happened p past e turn (turn_of_unit turn)).refused ≡ e.refused
-happened_refused p past e Begin = refl
-happened_refused p past e Admit = admission_refused e (newcomer p (units p past))
-happened_refused p past e Deliver = delivery_refused p past e (queue past)
-happened_refused p past e (Started unit pid) = taken_refused (clock past) e unit _ (unit_of unit past)
-happened_refused p past e (StartFailed unit error) = taken_refused (clock past) e unit _ (unit_of unit past)
-happened_refused p past e (WaitFailed unit error) = taken_refused (clock past) e unit _ (unit_of unit past)
-happened_refused p past e (Exit unit exit) = taken_refused (clock past) e unit _ (unit_of unit past)
-happened_refused p past e (Decide unit word) = taken_refused (clock past) e unit _ (unit_of unit past)
-happened_refused p past e End = refl
+use Rattle.run_laws.proofs.Ready.{past_of-length}
+use Rattle.run_engine.proofs.JournalLemmas.{past_of-push, legal-push}
 
 -- the events of a journal with one more entry
 pub answers-push : (p : Settings) (journal : List Entry) (e : Entry)
     → answers (past_of p (journal ++ e ∷ [])) ≡ answers (past_of p journal) ++ zip (option_to_list (happening p (past_of p journal) e).told) e.refused
-answers-push p journal e =
-    ap answers (past_of-push p journal e)
-    ∙ ap (λ refused. answers (past_of p journal) ++ zip (option_to_list (happening p (past_of p journal) e).told) refused)
-    (happened_refused p (past_of p journal) e e.turn)
+answers-push p journal e = ap answers (past_of-push p journal e)
 
 -- the asks of a journal with one more entry
 pub asked-push : (p : Settings) (journal : List Entry) (e : Entry)

@@ -3,10 +3,9 @@ use Rattle.std.specs.Prelude.{◌≡◌, ◌<◌, ◌^◌, List, length, true, f
 use Rattle.run_events.specs.declared.settings.Settings.{Settings}
 use Rattle.run_model.specs.declared.entry.Entry.{Entry}
 use Rattle.run_model.specs.Words.{tests_in, is_over}
+use Rattle.run_model.specs.Board.{Board, board}
 use Rattle.run_model.specs.Journal.{past_of, IsLegal}
-use Rattle.run_engine.specs.State.{Stands}
 use Rattle.run_engine.specs.World.{World}
-use Rattle.run_engine.specs.declared.state.State.{State}
 
 -- a plan and a journal that a run may have: few tests, few turns, and each of them was enabled
 pub record IsRunnable (p : Settings) (journal : List Entry) : Type 0 where
@@ -14,10 +13,10 @@ pub record IsRunnable (p : Settings) (journal : List Entry) : Type 0 where
   pub short : length journal < 2 ^ 32
   pub legal : IsLegal p journal
 
--- a run that want of memory didn't break has a state that stands for its journal, and one that it broke isn't over
-pub record IsStanding (p : Settings) (journal : List Entry) (s : State) (broken : Bool) : Type 0 where
+-- a run that want of memory didn't break has the board of its journal, and one that it broke isn't over
+pub record IsStanding (p : Settings) (journal : List Entry) (b : Board) (broken : Bool) : Type 0 where
   pub runnable : IsRunnable p journal
-  pub stands : broken ≡ false → Stands p (past_of p journal) s
+  pub stands : broken ≡ false → b ≡ board p (past_of p journal)
   pub unfinished : broken ≡ true → is_over (past_of p journal) ≡ false
 
 -- a run that isn't broken

@@ -1,15 +1,14 @@
 // Which turns are enabled.
 ghost use Rattle.std.specs.Prelude.{◌≡◌, ℕ, length, List};
-ghost use Rattle.run_model.specs.Turns.{unit_takes, is_empty};
-ghost use Rattle.run_engine.specs.Advance.{unit_in};
+ghost use Rattle.run_model.specs.Board.{unit_in};
+ghost use Rattle.run_model.specs.Turns.{unit_takes, is_empty, facts, enabled_on};
 ghost use Rattle.run_model.specs.declared.unit_turn.UnitTurn.TheVariants.{StartFailed, WaitFailed};
-ghost use Rattle.run_engine.specs.Enabled.{facts_in, enabled_in};
 
 use crate::admission::{all_done, can_admit};
 use crate::state::State;
-use run_dispatch::{DispatchState, Facts};
+use run_dispatch::DispatchState;
 use run_events::{Settings, Turn};
-use run_model::{Phase, UnitTurn};
+use run_model::{Facts, Phase, UnitTurn};
 
 // Whether a unit takes a turn; a place of no admitted test takes none.
 fn unit_takes_turn(state: &State, unit: u32, turn: &UnitTurn) -> bool
@@ -43,14 +42,14 @@ fn takes_wait_failed(state: &State, unit: u32) -> bool
 
 // Whether no message waits.
 fn is_queue_empty(state: &State) -> bool
-    ensures { result ≡ is_empty state.now.queue.items }
+    ensures { result ≡ is_empty state.now.queue }
 {
     state.queue.is_empty()
 }
 
 // What the dispatcher asks of the rest of the run.
 fn facts_of(state: &State) -> Facts
-    ensures { result ≡ facts_in state.now }
+    ensures { result ≡ facts state.now }
 {
     let message_waits = !is_queue_empty(state);
     Facts {
@@ -61,8 +60,8 @@ fn facts_of(state: &State) -> Facts
 
 /// Whether a turn is enabled.
 pub fn is_enabled(settings: &Settings, state: &State, turn: &Turn) -> bool
-    requires { length state.now.units.items ≡ length settings.now.plan.tests }
-    ensures { result ≡ enabled_in settings.now state.now turn.now }
+    requires { length state.now.units ≡ length settings.now.plan.tests }
+    ensures { result ≡ enabled_on settings.now state.now turn.now }
 {
     if state.dispatcher.is_over() {
         return false;

@@ -3,7 +3,7 @@ ghost use Rattle.std.specs.Prelude.{◌≡◌, ◌<◌, ◌+◌, ◌^◌, ◌∷
 ghost use Rattle.run_model.specs.Journal.{past_of, IsLegal, outcome};
 ghost use Rattle.run_model.specs.Turns.{enabled};
 ghost use Rattle.run_model.specs.Words.{is_over};
-ghost use Rattle.run_engine.specs.State.{Stands};
+ghost use Rattle.run_model.specs.Board.{board};
 ghost use Rattle.run_engine.specs.World.{TakesTurn, CountsErrors, history_of};
 ghost use Rattle.run_engine.specs.Standing.{IsRunnable, sound};
 ghost use Rattle.run_engine.specs.Refused.{IsRefused, IfNotMemory};
@@ -54,13 +54,13 @@ fn carry_out<C: Children, R: Reporter>(
     report: &mut R,
 ) -> Mem<Option<R::Error>>
     requires runnable { IsRunnable settings.now journal.old.items }
-    requires stands { Stands settings.now (past_of settings.now journal.old.items) state.old }
+    requires stands { state.old ≡ board settings.now (past_of settings.now journal.old.items) }
     requires enabled { enabled settings.now (past_of settings.now journal.old.items) turn ≡ true }
     requires room { length journal.old.items + 1 < 2 ^ 32 }
     ensures takes { IfOk result (λ refusal. TakesTurn R.told C.asked (sound settings.now journal.old.items) turn
         report.old children.old (sound settings.now journal.new.items) report.new children.new refusal) }
     ensures runnable { OnOk result (IsRunnable settings.now journal.new.items) }
-    ensures stands { OnOk result (Stands settings.now (past_of settings.now journal.new.items) state.new) }
+    ensures stands { OnOk result (state.new ≡ board settings.now (past_of settings.now journal.new.items)) }
     ensures faults { IfOk result (λ refusal. CountsErrors (R.faults report.old) (R.faults report.new) refusal) }
     ensures err { OnErr result (journal.new.items ≡ journal.old.items) }
 {
@@ -77,7 +77,7 @@ impl Run {
     // A run that has taken no turn.
     pub(crate) fn begin(alloc: Global, settings: Settings, state: State) -> Self
         requires few { length settings.plan.tests < 2 ^ 32 }
-        requires stands { Stands settings [] state }
+        requires stands { state ≡ board settings [] }
         ensures { result ≡ sound settings [] }
     {
         Run {

@@ -1,6 +1,6 @@
 // The state of a run that has taken no turn.
 ghost use Rattle.std.specs.Prelude.{◌≡◌, ◌<◌, ◌^◌, ℕ, length, [], IfOk, None, slice_index_or};
-ghost use Rattle.run_engine.specs.State.{Stands};
+ghost use Rattle.run_model.specs.Board.{board};
 
 use crate::state::State;
 use run_capture::Mem;
@@ -25,7 +25,7 @@ fn unadmitted(alloc: Global, tests: usize) -> Mem<Vec<Option<Unit>>>
 /// The state of a run that has taken no turn.
 pub fn new_state(alloc: Global, settings: &Settings) -> Mem<State>
     requires { length settings.now.plan.tests < 2 ^ 32 }
-    ensures { IfOk result (λ s. Stands settings.now [] s) }
+    ensures { IfOk result (λ s. s ≡ board settings.now []) }
 {
     let tests = settings.plan.tests.len();
     Ok(State {

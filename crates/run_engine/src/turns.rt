@@ -1,11 +1,10 @@
 // The turns of a run: each does to the state what its row of the tables says.
 ghost use Rattle.std.specs.Prelude.{◌≡◌, ◌<◌, ◌^◌, ◌++◌, [], length, IfOk, OnOk, true, option_to_list, slice_set, Some};
 ghost use Rattle.std.specs.VecDeque.{deque_len, deque_capacity};
-ghost use Rattle.run_model.specs.declared.entry.Entry.{Entry};
 ghost use Rattle.run_model.specs.Admission.{newcomer};
-ghost use Rattle.run_model.specs.Turns.{taken_by, admission, turn_of_unit};
-ghost use Rattle.run_engine.specs.State.{IsAfter};
-ghost use Rattle.run_engine.specs.Advance.{IsInner, unit_in, starting, answer_to, delivery_of, turn_does, CanAnswer, CanTake, CanAdmit, CanDeliverOldest, CanAdvance};
+ghost use Rattle.run_model.specs.Board.{unit_in, moved, step};
+ghost use Rattle.run_model.specs.Turns.{taken_by, admission, starting, answer_to, delivery, deed_on, turn_of_unit};
+ghost use Rattle.run_laws.specs.Ready.{CanAnswer, CanTake, CanAdmit, CanDeliverOldest, CanAdvance};
 
 use crate::admission::{Admitted, admit_test, first_waiting};
 use crate::state::State;
@@ -47,10 +46,8 @@ fn send(queue: &mut VecDeque<Message>, sent: Option<Message>)
 /// A unit takes a turn of its own.
 pub fn take_turn(alloc: Global, state: &mut State, unit: u32, turn: UnitTurn) -> Mem<Option<Ask>>
     requires { CanTake state.old unit turn }
-    ensures after { OnOk result ((e : Entry) → IsInner e
-        → IsAfter state.old (taken_by state.old.clock e unit turn (unit_in state.old unit)) state.new) }
-    ensures asked { IfOk result (λ asked. (e : Entry)
-        → asked ≡ (taken_by state.old.clock e unit turn (unit_in state.old unit)).asked) }
+    ensures after { OnOk result (state.new ≡ moved state.old (taken_by state.old.clock unit turn (unit_in state.old unit))) }
+    ensures asked { IfOk result (λ asked. asked ≡ (taken_by state.old.clock unit turn (unit_in state.old unit)).asked) }
 {
     state.queue.reserve(1)?;
     let now = state.clock;
@@ -81,8 +78,7 @@ fn put(units: &mut Vec<Option<Unit>>, place: usize, unit: Unit)
 pub fn admit(alloc: Global, settings: &Settings, state: &mut State) -> Mem<()>
     requires candidate { CanAdmit settings.now state.old }
     requires few { length settings.now.plan.tests < 2 ^ 32 }
-    ensures after { OnOk result ((e : Entry) → IsInner e
-        → IsAfter state.old (admission e (newcomer settings.now state.old.units.items)) state.new) }
+    ensures after { OnOk result (state.new ≡ moved state.old (admission (newcomer settings.now state.old.units))) }
 {
     match first_waiting(&state.units) {
         Some(test) => {
@@ -108,8 +104,8 @@ fn starting(message: &Message) -> Option<u32>
 // Gives the answer to the unit that waits for it.
 fn answer(alloc: Global, state: &mut State, unit: Option<u32>, go: Option<bool>) -> Mem<Option<Ask>>
     requires { CanAnswer state.old unit go }
-    ensures after { OnOk result ((e : Entry) → IsInner e → IsAfter state.old (answer_to state.old e unit go) state.new) }
-    ensures asked { IfOk result (λ asked. (e : Entry) → asked ≡ (answer_to state.old e unit go).asked) }
+    ensures after { OnOk result (state.new ≡ moved state.old (answer_to state.old unit go)) }
+    ensures asked { IfOk result (λ asked. asked ≡ (answer_to state.old unit go).asked) }
 {
     match (unit, go) {
         (Some(unit), Some(go)) => take_turn(alloc, state, unit, UnitTurn::Answered { go }),
@@ -119,13 +115,10 @@ fn answer(alloc: Global, state: &mut State, unit: Option<u32>, go: Option<bool>)
 
 /// Delivers the oldest message.
 pub fn deliver(alloc: Global, state: &mut State) -> Mem<Effects>
-    requires { CanDeliverOldest state.old state.old.queue.items }
-    ensures after { OnOk result ((e : Entry) → IsInner e
-        → IsAfter state.old (delivery_of state.old e state.old.queue.items) state.new) }
-    ensures told { IfOk result (λ effects. (e : Entry)
-        → effects.events ≡ option_to_list (delivery_of state.old e state.old.queue.items).told) }
-    ensures asked { IfOk result (λ effects. (e : Entry)
-        → effects.asked ≡ (delivery_of state.old e state.old.queue.items).asked) }
+    requires { CanDeliverOldest state.old state.old.queue }
+    ensures after { OnOk result (state.new ≡ moved state.old (delivery state.old state.old.queue)) }
+    ensures told { IfOk result (λ effects. effects.events ≡ option_to_list (delivery state.old state.old.queue).told) }
+    ensures asked { IfOk result (λ effects. effects.asked ≡ (delivery state.old state.old.queue).asked) }
 {
     match state.queue.pop_front() {
         Some(message) => {
@@ -143,12 +136,9 @@ pub fn deliver(alloc: Global, state: &mut State) -> Mem<Effects>
 pub fn advance(alloc: Global, settings: &Settings, state: &mut State, turn: &Turn) -> Mem<Effects>
     requires can { CanAdvance settings.now state.old turn.now (turn_of_unit turn.now) }
     requires few { length settings.now.plan.tests < 2 ^ 32 }
-    ensures after { OnOk result ((e : Entry) → e.turn ≡ turn.now → IsAfter state.old
-        (turn_does settings.now state.old e turn.now (turn_of_unit turn.now)) state.new) }
-    ensures told { IfOk result (λ effects. (e : Entry)
-        → effects.events ≡ option_to_list (turn_does settings.now state.old e turn.now (turn_of_unit turn.now)).told) }
-    ensures asked { IfOk result (λ effects. (e : Entry)
-        → effects.asked ≡ (turn_does settings.now state.old e turn.now (turn_of_unit turn.now)).asked) }
+    ensures after { OnOk result (state.new ≡ step state.old turn.now (deed_on settings.now state.old turn.now)) }
+    ensures told { IfOk result (λ effects. effects.events ≡ option_to_list (deed_on settings.now state.old turn.now).told) }
+    ensures asked { IfOk result (λ effects. effects.asked ≡ (deed_on settings.now state.old turn.now).asked) }
 {
     let now = state.clock;
     match turn {

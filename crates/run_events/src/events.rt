@@ -1,4 +1,6 @@
 // What a reporter is told.
+ghost use Rattle.std.specs.Prelude.{◌≡◌, IfOk};
+
 use crate::{ExecuteStatus, RunStats, TestInstanceId, TestSlotAssignment};
 use run_capture::{Duplicate, List, Mem, Text};
 use std::alloc::Global;
@@ -60,6 +62,111 @@ pub enum TestEventKind {
     },
 }
 
+ghost use Rattle.run_events.specs.declared.events.TestEventKind.TheVariants.{TestStarted, TestAttemptFailedWillRetry, TestRetryStarted, TestFinished, TestSkipped};
+
+fn copy_started(
+    alloc: Global,
+    unit: u32,
+    test: &TestInstanceId,
+    command: &List<Text>,
+    slot: TestSlotAssignment,
+    running: u32,
+    stats: RunStats,
+) -> Mem<TestEventKind>
+    ensures { IfOk result (λ k. k ≡ TestStarted unit test.now command.now slot running stats) }
+{
+    let test = test.copy(alloc)?;
+    let command = command.copy(alloc)?;
+    Ok(TestEventKind::TestStarted {
+        unit,
+        test,
+        command,
+        slot,
+        running,
+        stats,
+    })
+}
+
+fn copy_failed(
+    alloc: Global,
+    unit: u32,
+    test: &TestInstanceId,
+    status: &ExecuteStatus,
+    delay_next: u64,
+    running: u32,
+) -> Mem<TestEventKind>
+    ensures { IfOk result (λ k. k ≡ TestAttemptFailedWillRetry unit test.now status.now delay_next running) }
+{
+    let test = test.copy(alloc)?;
+    let status = status.copy(alloc)?;
+    Ok(TestEventKind::TestAttemptFailedWillRetry {
+        unit,
+        test,
+        status,
+        delay_next,
+        running,
+    })
+}
+
+fn copy_retry(
+    alloc: Global,
+    unit: u32,
+    test: &TestInstanceId,
+    command: &List<Text>,
+    slot: TestSlotAssignment,
+    attempt: u32,
+    attempts: u32,
+    running: u32,
+) -> Mem<TestEventKind>
+    ensures { IfOk result (λ k. k ≡ TestRetryStarted unit test.now command.now slot attempt attempts running) }
+{
+    let test = test.copy(alloc)?;
+    let command = command.copy(alloc)?;
+    Ok(TestEventKind::TestRetryStarted {
+        unit,
+        test,
+        command,
+        slot,
+        attempt,
+        attempts,
+        running,
+    })
+}
+
+fn copy_finished(
+    alloc: Global,
+    unit: u32,
+    test: &TestInstanceId,
+    statuses: &List<ExecuteStatus>,
+    running: u32,
+    stats: RunStats,
+) -> Mem<TestEventKind>
+    ensures { IfOk result (λ k. k ≡ TestFinished unit test.now statuses.now running stats) }
+{
+    let test = test.copy(alloc)?;
+    let statuses = statuses.copy(alloc)?;
+    Ok(TestEventKind::TestFinished {
+        unit,
+        test,
+        statuses,
+        running,
+        stats,
+    })
+}
+
+fn copy_skipped(
+    alloc: Global,
+    unit: u32,
+    test: &TestInstanceId,
+    reason: &Text,
+) -> Mem<TestEventKind>
+    ensures { IfOk result (λ k. k ≡ TestSkipped unit test.now reason.now) }
+{
+    let test = test.copy(alloc)?;
+    let reason = reason.copy(alloc)?;
+    Ok(TestEventKind::TestSkipped { unit, test, reason })
+}
+
 impl Duplicate for TestEventKind {
     fn copy(&self, alloc: Global) -> Mem<TestEventKind> {
         match self {
@@ -74,31 +181,14 @@ impl Duplicate for TestEventKind {
                 slot,
                 running,
                 stats,
-            } => {
-                Ok(TestEventKind::TestStarted {
-                    unit: *unit,
-                    test: test.copy(alloc)?,
-                    command: command.copy(alloc)?,
-                    slot: *slot,
-                    running: *running,
-                    stats: *stats,
-                })
-            }
+            } => copy_started(alloc, *unit, test, command, *slot, *running, *stats),
             TestEventKind::TestAttemptFailedWillRetry {
                 unit,
                 test,
                 status,
                 delay_next,
                 running,
-            } => {
-                Ok(TestEventKind::TestAttemptFailedWillRetry {
-                    unit: *unit,
-                    test: test.copy(alloc)?,
-                    status: status.copy(alloc)?,
-                    delay_next: *delay_next,
-                    running: *running,
-                })
-            }
+            } => copy_failed(alloc, *unit, test, status, *delay_next, *running),
             TestEventKind::TestRetryStarted {
                 unit,
                 test,
@@ -107,37 +197,19 @@ impl Duplicate for TestEventKind {
                 attempt,
                 attempts,
                 running,
-            } => {
-                Ok(TestEventKind::TestRetryStarted {
-                    unit: *unit,
-                    test: test.copy(alloc)?,
-                    command: command.copy(alloc)?,
-                    slot: *slot,
-                    attempt: *attempt,
-                    attempts: *attempts,
-                    running: *running,
-                })
-            }
+            } => copy_retry(
+                alloc, *unit, test, command, *slot, *attempt, *attempts, *running,
+            ),
             TestEventKind::TestFinished {
                 unit,
                 test,
                 statuses,
                 running,
                 stats,
-            } => {
-                Ok(TestEventKind::TestFinished {
-                    unit: *unit,
-                    test: test.copy(alloc)?,
-                    statuses: statuses.copy(alloc)?,
-                    running: *running,
-                    stats: *stats,
-                })
+            } => copy_finished(alloc, *unit, test, statuses, *running, *stats),
+            TestEventKind::TestSkipped { unit, test, reason } => {
+                copy_skipped(alloc, *unit, test, reason)
             }
-            TestEventKind::TestSkipped { unit, test, reason } => Ok(TestEventKind::TestSkipped {
-                unit: *unit,
-                test: test.copy(alloc)?,
-                reason: reason.copy(alloc)?,
-            }),
             TestEventKind::RunFinished { stats } => Ok(TestEventKind::RunFinished {
                 stats: *stats,
             }),

@@ -10,8 +10,6 @@ use Rattle.run_events.specs.declared.plan.TestSlotAssignment.{TestSlotAssignment
 use Rattle.run_events.specs.declared.stats.RunStats.{RunStats}
 use Rattle.run_events.specs.declared.events.ReporterEvent.TheVariants.{Test}
 use Rattle.run_events.specs.declared.events.TestEventKind.TheVariants.{TestStarted, TestFinished, TestSkipped}
-use Rattle.run_model.specs.declared.entry.Entry.{Entry}
-use Rattle.run_model.specs.declared.happening.Happening.{Happening}
 use Rattle.run_model.specs.declared.happening.Place.TheVariants.{Admitted, Took}
 use Rattle.run_events.specs.declared.result.ExecuteStatus.{ExecuteStatus}
 use Rattle.run_model.specs.declared.phase.Phase.{Phase}
@@ -21,13 +19,10 @@ use Rattle.run_model.specs.declared.unit_turn.UnitTurn.TheVariants.{Answered, St
 use Rattle.run_model.specs.declared.unit_view.UnitView.{UnitView}
 use Rattle.run_model.specs.Unit.{row, row_at, takes}
 use Rattle.run_model.specs.Words.{placed}
-use Rattle.run_model.specs.Turns.{taken_by, start_delivery}
+use Rattle.run_model.specs.Board.{Deed}
+use Rattle.run_model.specs.Turns.{taken_by}
+use Rattle.run_laws.proofs.ByTurn.{is_answer}
 use Rattle.run_model.specs.Accounts.{News, HasAccount, HasAccountAt, HasAccountIn, HasSkipIn, account_of, pending_of}
-
--- whether a turn is the answer to a start message
-abbrev pub is_answer : UnitTurn → Bool
-is_answer (Answered go) = true
-is_answer _ = false
 
 -- a row other than an answer keeps the account of its unit
 pub row_accounted : (mm : Bool) (now : ℕ) (ph : Phase) (turn : UnitTurn) (u : UnitView) (ss : List ExecuteStatus) (t : List News) (q : List Message)
@@ -71,17 +66,19 @@ of_row mm now j k turn u v t q en other named same h = by_unit (j == k) refl
         rw (e, row_sends_own now u.phase turn u k q apart) h
 
 -- the delivery of a start message of unit i, w, keeps the account of test k, v, let go or not
-pub start_row : (mm : Bool) (now i k : ℕ) (go : Bool) (v w : Option UnitView) (t : List News) (rest : List Message) (e : Entry)
+pub start_row : (mm : Bool) (now i k : ℕ) (go : Bool) (v w : Option UnitView) (t : List News) (rest : List Message)
     (clock elapsed : ℕ) (id : TestInstanceId) (command : List (List ℕ)) (slot : TestSlotAssignment) (running : ℕ) (stats : RunStats)
     → ((i == k) ≡ true → v ≡ w)
     → HasAccount mm v t (pending_of k (Start i id command slot ∷ rest))
-    → let x : Happening = start_delivery go (taken_by now e i (Answered go) w)
-    (Test (record { clock = clock; elapsed = elapsed; kind = TestStarted i id command slot running stats })) in
+    → let x : Deed = record (taken_by now i (Answered go) w) {
+      taken = true;
+      told = if go then Some (Test (record { clock = clock; elapsed = elapsed; kind = TestStarted i id command slot running stats })) else None;
+    } in
     HasAccount mm (placed now k x.place v) (t ++ account_of k (option_to_list x.told)) (pending_of k (rest ++ option_to_list x.sent))
-start_row mm now i k true v None t rest e clock elapsed id command slot running stats same h = grind (arith, common_steps, append-nil)
-start_row mm now i k false v None t rest e clock elapsed id command slot running stats same h = grind (arith, common_steps, append-nil)
-start_row mm now i k true v (Some u) t rest e clock elapsed id command slot running stats same h = grind (arith, common_steps, append-nil)
-start_row mm now i k false v (Some u) t rest e clock elapsed id command slot running stats same h = grind (arith, common_steps, append-nil)
+start_row mm now i k true v None t rest clock elapsed id command slot running stats same h = grind (arith, common_steps, append-nil)
+start_row mm now i k false v None t rest clock elapsed id command slot running stats same h = grind (arith, common_steps, append-nil)
+start_row mm now i k true v (Some u) t rest clock elapsed id command slot running stats same h = grind (arith, common_steps, append-nil)
+start_row mm now i k false v (Some u) t rest clock elapsed id command slot running stats same h = grind (arith, common_steps, append-nil)
 
 -- the delivery of a finish message keeps the account of each test
 pub of_finish : (mm : Bool) (i k : ℕ) (v : Option UnitView) (t : List News) (rest : List Message)

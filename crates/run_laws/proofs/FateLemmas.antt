@@ -25,21 +25,24 @@ use Rattle.run_model.specs.declared.unit_turn.UnitTurn.{UnitTurn}
 use Rattle.run_model.specs.declared.unit_turn.UnitTurn.TheVariants.{Answered, Started as UnitStarted, StartFailed as UnitStartFailed, Exit as UnitExit, WaitFailed as UnitWaitFailed, Decide as UnitDecide}
 use Rattle.run_model.specs.declared.unit_view.UnitView.{UnitView}
 use Rattle.run_model.specs.Unit.{row, row_at, takes}
-use Rattle.run_model.specs.Words.{clock, told, queue, reason, greater, placed, unit_of, units, tests_in, is_end, is_over, has_begun, running, stats}
+use Rattle.run_model.specs.Words.{clock, told, queue, reason, greater, placed, unit_of, units, tests_in, is_over}
 use Rattle.run_model.specs.Admission.{is_done, is_last, in_use, Newcomer, newcomer, first_view, skipped_view, free_slot}
-use Rattle.run_model.specs.Turns.{event_at, enabled, takes_turn, run_takes, turn_of_unit, unit_takes, is_complete, is_empty, silent, taken_by, admission, start_delivery, delivery, happened, happening, run_turn}
+use Rattle.run_model.specs.Dispatch as dispatch
+use Rattle.run_model.specs.Board.{Board, board, dispatcher_of, unit_in, said}
+use Rattle.run_model.specs.Turns.{takes_turn, turn_of_unit, is_complete, is_empty, taken_by, admission, delivery, done_by, deed_on, happening}
 use Rattle.run_model.specs.Journal.{history, IsLegalBackward}
 use Rattle.run_model.specs.Accounts.{News, news_of, started, finished, HasAccount, HasAccountAt, is_skip, is_mismatched, account_of, pending_of}
 use Rattle.run_model.specs.Fates.{lets_go, deliveries, never_started, was_left, statuses_in, statuses_of, account, MeetsAttemptLaw, HasFate}
+use Rattle.run_laws.proofs.ByTurn.{is_answer, by_turn}
 use Rattle.run_laws.specs.Holds.{Holds}
 use Rattle.run_laws.proofs.Kept.{holds, Newcomes, newcomer_is, newcomer_unit, units-at}
-use Rattle.run_laws.proofs.Told.{happening_tells}
+use Rattle.run_laws.proofs.Told.{deed_tells, lets_go-is}
 
 -- no turn of a legal journal cancels the run
 pub no_reason : (p : Settings) (backward : List Entry) → IsLegalBackward p backward → reason (history p backward) ≡ None
 no_reason p [] legal = refl
 no_reason p (e ∷ before) legal =
-    let tells = happening_tells p (history p before) e (holds p before legal.2) legal.0 in
+    let tells = deed_tells p (history p before) e.turn (holds p before legal.2) in
     ap (λ r. greater r (happening p (history p before) e).cause) (no_reason p before legal.2) ∙ tells.1
 
 -- a matched test that is over has made an attempt
@@ -89,17 +92,13 @@ placed_attempted p now k (Some (Took j turn)) (Some u) t q a h fits = moves (j =
     moves true = row_attempted (is_mismatched p k) now u.phase turn u u.statuses t q refl refl fits h a
     moves false = a
 
-taken_fits : (p : Settings) (now : ℕ) (e : Entry) (k : ℕ) (turn : UnitTurn) (v : Option UnitView) → turn ≢ Answered false → PlaceFits p (taken_by now e k turn v).place
-taken_fits p now e k turn None h = tt
-taken_fits p now e k turn (Some u) h = h
+taken_fits : (p : Settings) (now k : ℕ) (turn : UnitTurn) (v : Option UnitView) → turn ≢ Answered false → PlaceFits p (taken_by now k turn v).place
+taken_fits p now k turn None h = tt
+taken_fits p now k turn (Some u) h = h
 
-start_fits : (p : Settings) (go : Bool) (x : Happening) (event : ReporterEvent) → PlaceFits p x.place → PlaceFits p (start_delivery go x event).place
-start_fits p true x event h = h
-start_fits p false x event h = h
-
-admission_fits : (p : Settings) (us : List (Option UnitView)) (e : Entry) (v : Option Newcomer) → newcomer p us ≡ v → PlaceFits p (admission e v).place
-admission_fits p us e None is = tt
-admission_fits p us e (Some new) is = let found = newcomer_is p us new is in
+admission_fits : (p : Settings) (us : List (Option UnitView)) (v : Option Newcomer) → newcomer p us ≡ v → PlaceFits p (admission v).place
+admission_fits p us None is = tt
+admission_fits p us (Some new) is = let found = newcomer_is p us new is in
     let known = newcomer_unit p us new found in by_case found known.0 found.kind
   where
     by_case : (n : Newcomes p us new) → new.unit.unit ≡ n.place
@@ -111,30 +110,25 @@ admission_fits p us e (Some new) is = let found = newcomer_is p us new is in
         let is : is_mismatched p new.unit.unit ≡ true = ap (is_mismatched p) at ∙ ap is_skip n.planned ∙ ap is_some skip.1 in cc
     by_case n at (inr run) mm = ap (λ (new : Newcomer). new.unit.phase) run.2
 
-place_fits : (p : Settings) (past : List Happening) (e : Entry) (turn : Turn) → reason past ≡ None
-    → PlaceFits p (happened p past e turn (turn_of_unit turn)).place
-place_fits p past e turn none = by_turn turn
+place_fits : (p : Settings) (past : List Happening) (turn : Turn) → reason past ≡ None → PlaceFits p (deed_on p (board p past) turn).place
+place_fits p past turn none = by_turn (λ turn named. PlaceFits p (done_by p (board p past) turn named).place)
+    (record {
+      begin = tt;
+      admit = admission_fits p (units p past) (newcomer p (units p past)) refl;
+      deliver = by_queue (queue past);
+      named = λ turn k to other. taken_fits p (clock past) k to _ (λ h. let same : is_answer to ≡ true = ap is_answer h in cc);
+      end = tt;
+    })
+    turn
   where
-    goes : Answered (is_none (reason past)) ≢ Answered false
-    goes h = let same : Answered true ≡ Answered false = sym (ap (λ r. Answered (is_none r)) none) ∙ h in cc
+    goes : Answered (dispatch.lets_go (dispatcher_of p past)) ≢ Answered false
+    goes h = let same : Answered true ≡ Answered false = sym (ap Answered (lets_go-is p past ∙ ap is_none none)) ∙ h in cc
 
-    by_queue : (q : List Message) → PlaceFits p (delivery p past e q).place
+    by_queue : (q : List Message) → PlaceFits p (delivery (board p past) q).place
     by_queue [] = tt
-    by_queue (Start k id command slot ∷ rest) =
-        start_fits p _ _ _ (taken_fits p (clock past) e k (Answered (is_none (reason past))) (unit_of k past) goes)
+    by_queue (Start k id command slot ∷ rest) = taken_fits p (clock past) k _ (unit_in (board p past) k) goes
     by_queue (Skip k id why ∷ rest) = tt
     by_queue (Finish k id statuses ∷ rest) = tt
-
-    by_turn : (turn : Turn) → PlaceFits p (happened p past e turn (turn_of_unit turn)).place
-    by_turn Begin = tt
-    by_turn Admit = admission_fits p (units p past) e (newcomer p (units p past)) refl
-    by_turn Deliver = by_queue (queue past)
-    by_turn (Started unit pid) = taken_fits p (clock past) e unit (UnitStarted pid) (unit_of unit past) (λ h. cc)
-    by_turn (StartFailed unit error) = taken_fits p (clock past) e unit (UnitStartFailed error) (unit_of unit past) (λ h. cc)
-    by_turn (Exit unit exit) = taken_fits p (clock past) e unit (UnitExit exit) (unit_of unit past) (λ h. cc)
-    by_turn (WaitFailed unit error) = taken_fits p (clock past) e unit (UnitWaitFailed error) (unit_of unit past) (λ h. cc)
-    by_turn (Decide unit word) = taken_fits p (clock past) e unit (UnitDecide word) (unit_of unit past) (λ h. cc)
-    by_turn End = tt
 
 -- after every legal journal each matched test that is over has made an attempt
 attempted : (p : Settings) (backward : List Entry) → IsLegalBackward p backward → (k : ℕ)
@@ -143,7 +137,7 @@ attempted p [] legal k = tt
 attempted p (e ∷ before) legal k =
     let past : List Happening = history p before in
     placed_attempted p (clock past) k (happening p past e).place (unit_of k past) _ _
-    (attempted p before legal.2 k) ((holds p before legal.2).accounts k) (place_fits p past e e.turn (no_reason p before legal.2))
+    (attempted p before legal.2 k) ((holds p before legal.2).accounts k) (place_fits p past e.turn (no_reason p before legal.2))
 
 -- as long as nothing cancels the run no start and no retry is refused
 none_refused : (p : Settings) (backward : List Entry) → IsLegalBackward p backward → (k : ℕ)
@@ -187,46 +181,31 @@ all_at f [] k d h l = absurd (omega arith)
 all_at f (x ∷ xs) zero d h l = first_so (f x) (list_all f xs) h
 all_at f (x ∷ xs) (suc k) d h l = all_at f xs k d (second_so (f x) (list_all f xs) h) (omega arith)
 
--- a happening has its entry's turn
-taken_turn : (now : ℕ) (e : Entry) (k : ℕ) (turn : UnitTurn) (v : Option UnitView) → (taken_by now e k turn v).turn ≡ e.turn
-taken_turn now e k turn None = refl
-taken_turn now e k turn (Some u) = refl
+-- only the end ends a run
+taken_goes_on : (now k : ℕ) (turn : UnitTurn) (v : Option UnitView) → (taken_by now k turn v).ends ≡ false
+taken_goes_on now k turn None = refl
+taken_goes_on now k turn (Some u) = refl
 
-admission_turn : (e : Entry) (v : Option Newcomer) → (admission e v).turn ≡ e.turn
-admission_turn e None = refl
-admission_turn e (Some new) = refl
+admission_goes_on : (v : Option Newcomer) → (admission v).ends ≡ false
+admission_goes_on None = refl
+admission_goes_on (Some new) = refl
 
-start_turn : (go : Bool) (x : Happening) (event : ReporterEvent) → (start_delivery go x event).turn ≡ x.turn
-start_turn true x event = refl
-start_turn false x event = refl
+delivery_goes_on : (b : Board) (q : List Message) → (delivery b q).ends ≡ false
+delivery_goes_on b [] = refl
+delivery_goes_on b (Start k id command slot ∷ rest) = taken_goes_on b.clock k _ (unit_in b k)
+delivery_goes_on b (Skip k id why ∷ rest) = refl
+delivery_goes_on b (Finish k id statuses ∷ rest) = refl
 
-delivery_turn : (p : Settings) (past : List Happening) (e : Entry) (q : List Message) → (delivery p past e q).turn ≡ e.turn
-delivery_turn p past e [] = refl
-delivery_turn p past e (Start k id command slot ∷ rest) = start_turn _ _ _ ∙ taken_turn (clock past) e k _ (unit_of k past)
-delivery_turn p past e (Skip k id why ∷ rest) = refl
-delivery_turn p past e (Finish k id statuses ∷ rest) = refl
-
-happened_turn : (p : Settings) (past : List Happening) (e : Entry) (turn : Turn) → (happened p past e turn (turn_of_unit turn)).turn ≡ e.turn
-happened_turn p past e Begin = refl
-happened_turn p past e Admit = admission_turn e (newcomer p (units p past))
-happened_turn p past e Deliver = delivery_turn p past e (queue past)
-happened_turn p past e (Started unit pid) = taken_turn (clock past) e unit _ (unit_of unit past)
-happened_turn p past e (StartFailed unit error) = taken_turn (clock past) e unit _ (unit_of unit past)
-happened_turn p past e (Exit unit exit) = taken_turn (clock past) e unit _ (unit_of unit past)
-happened_turn p past e (WaitFailed unit error) = taken_turn (clock past) e unit _ (unit_of unit past)
-happened_turn p past e (Decide unit word) = taken_turn (clock past) e unit _ (unit_of unit past)
-happened_turn p past e End = refl
-
-end_is : (turn : Turn) → is_end turn ≡ true → turn ≡ End
-end_is Begin h = cc
-end_is Admit h = cc
-end_is Deliver h = cc
-end_is (Started unit pid) h = cc
-end_is (StartFailed unit error) h = cc
-end_is (Exit unit exit) h = cc
-end_is (WaitFailed unit error) h = cc
-end_is (Decide unit word) h = cc
-end_is End h = refl
+end_is : (p : Settings) (b : Board) (turn : Turn) → (deed_on p b turn).ends ≡ true → turn ≡ End
+end_is p b turn h = by_turn (λ turn named. (done_by p b turn named).ends ≡ true → turn ≡ End)
+    (record {
+      begin = λ h. cc;
+      admit = λ h. let on = admission_goes_on (newcomer p b.units) in cc;
+      deliver = λ h. let on = delivery_goes_on b b.queue in cc;
+      named = λ turn k to other h. let on = taken_goes_on b.clock k to (unit_in b k) in cc;
+      end = λ h. refl;
+    })
+    turn h
 
 -- one of two tests holds, and it isn't the second
 first_holds : (a b : Bool) → (a || b) ≡ true → b ≡ false → a ≡ true
@@ -240,7 +219,7 @@ empty_is (m ∷ ms) h = cc
 -- the end of a complete run leaves each test with its fate
 end_fates : (p : Settings) (past : List Happening) (e : Entry) (k : ℕ) → Holds p past → IsAttempted (is_mismatched p k) (unit_of k past)
     → never_started k past ≡ false → was_left k past ≡ false → k < tests_in p
-    → is_complete p past ≡ true → HasFate p (happened p past e End None ∷ past) k
+    → is_complete (board p past) ≡ true → HasFate p (said e (done_by p (board p past) End None) ∷ past) k
 end_fates p past e k h a never left below complete =
     let whole : length (units p past) ≡ tests_in p = length-map-range_with_len (λ k. unit_of k past) 0 (tests_in p) in
     let all : list_all is_done (units p past) ≡ true = first_so (list_all is_done (units p past)) (is_empty (queue past)) complete in
@@ -262,16 +241,16 @@ pub fates : (p : Settings) (backward : List Entry) → IsLegalBackward p backwar
 fates p [] legal over k below = cc
 fates p (e ∷ before) legal over k below =
     let past : List Happening = history p before in
-    let not_yet : is_over past ≡ false = not_true (is_over past) (first_so (not (is_over past)) (takes_turn p past e.turn (turn_of_unit e.turn)) legal.0) in
-    let ends : is_end (happening p past e).turn ≡ true = first_holds (is_end (happening p past e).turn) (is_over past) over not_yet in
-    let end : e.turn ≡ End = end_is e.turn (sym (ap is_end (happened_turn p past e e.turn)) ∙ ends) in
-    let takes_end : takes_turn p past End None ≡ true =
-    sym (ap (λ turn. takes_turn p past turn (turn_of_unit turn)) end)
-    ∙ second_so (not (is_over past)) (takes_turn p past e.turn (turn_of_unit e.turn)) legal.0 in
+    let b : Board = board p past in
+    let not_yet : is_over past ≡ false = not_true (is_over past) (first_so (not (is_over past)) (takes_turn p b e.turn (turn_of_unit e.turn)) legal.0) in
+    let end : e.turn ≡ End = end_is p b e.turn (first_holds (deed_on p b e.turn).ends (is_over past) over not_yet) in
+    let takes_end : takes_turn p b End None ≡ true =
+    sym (ap (λ turn. takes_turn p b turn (turn_of_unit turn)) end)
+    ∙ second_so (not (is_over past)) (takes_turn p b e.turn (turn_of_unit e.turn)) legal.0 in
     let refused = none_refused p before legal.2 k in
-    subst (λ turn. HasFate p (happened p past e turn (turn_of_unit turn) ∷ past) k) (sym end)
+    subst (λ turn. HasFate p (said e (deed_on p b turn) ∷ past) k) (sym end)
     (end_fates p past e k (holds p before legal.2) (attempted p before legal.2 k) refused.0 refused.1 below
-    (second_so (has_begun past) (is_complete p past) takes_end))
+    (second_so (dispatch.is_on (dispatcher_of p past)) (is_complete b) takes_end))
   where
     not_true : (b : Bool) → not b ≡ true → b ≡ false
     not_true true h = cc

@@ -3,11 +3,12 @@ use Rattle.std.proofs.Common.{◌≡◌, ◌⊎◌, inl, inr, ℕ, ◌+◌, ◌-
 use Rattle.std.specs.List.{range_with_len}
 use Rattle.std.specs.Cmp.{second_so}
 use Rattle.std.proofs.lemmas.List.Elements.{filter_map-append}
-use Rattle.std.proofs.lemmas.List.{append-nil}
+use Rattle.std.proofs.lemmas.List.{append-nil, get_or_past}
 use Rattle.std.proofs.lemmas.List.FromFn.{get_or-map-range_with_len, length-map-range_with_len}
 use Rattle.std.proofs.lemmas.List.Quantifiers.{position-Some}
 use Rattle.std.proofs.lemmas.Option.{slice_get_within}
 use Rattle.std.proofs.lemmas.Grind.{common_steps}
+use Rattle.run_events.specs.Stats.{plus, adds_of}
 use Rattle.run_events.specs.declared.settings.Settings.{Settings}
 use Rattle.run_events.specs.declared.plan.PlanTest.{PlanTest}
 use Rattle.run_events.specs.declared.plan.TestInstanceId.{TestInstanceId}
@@ -30,12 +31,15 @@ use Rattle.run_model.specs.declared.phase.Phase.TheVariants.{StartSent}
 use Rattle.run_model.specs.Unit.{row, takes}
 use Rattle.run_model.specs.Words.{clock, ns_of, elapsed, has_begun, is_over, reason, running, stats, stats_after, finished, finished_test, skipped, sent, delivered, queue, told, unit_of, units, placed, tests_in}
 use Rattle.run_model.specs.Admission.{candidate, in_use, free_slot, first_view, skipped_view, Newcomer, newcomer_of, newcomer_at, newcomer}
-use Rattle.run_model.specs.Turns.{event_at, start_delivery, enabled, is_empty, takes_turn, turn_of_unit, unit_takes, run_takes, taken_by, admission, silent, delivery, happened, happening, run_turn}
+use Rattle.run_model.specs.Dispatch.{is_on, lets_go, event}
+use Rattle.run_model.specs.Board.{board, dispatcher_of, unit_in, said}
+use Rattle.run_model.specs.Turns.{enabled, is_empty, takes_turn, turn_of_unit, unit_takes, nothing_done, taken_by, admission, delivery, done_by, happening}
 use Rattle.run_model.specs.Journal.{history, IsLegalBackward}
 use Rattle.run_model.specs.Accounts.{News, news_in, HasAccount, IsAccounted, is_skip, is_mismatched, account_of, pending_of}
 use Rattle.run_laws.specs.Holds.{Holds, IsNamed}
 use Rattle.run_laws.proofs.Queue.{queue-cons, lt-from_queue}
-use Rattle.run_laws.proofs.AccountLemmas.{is_answer, of_row, start_row, of_finish, of_skip, begins_skipped, begins_started, row_keeps_unit, row_starts}
+use Rattle.run_laws.proofs.ByTurn.{is_answer, by_turn}
+use Rattle.run_laws.proofs.AccountLemmas.{of_row, start_row, of_finish, of_skip, begins_skipped, begins_started, row_keeps_unit, row_starts}
 
 -- the account of a test after one more turn, from the parts of that turn
 pub accounted-cons : (p : Settings) (k : ℕ) (x : Happening) (past : List Happening) → delivered (x ∷ past) ≤ length (sent past)
@@ -47,6 +51,23 @@ accounted-cons p k x past fits h = rw (filter_map-append, queue-cons x past fits
 -- the units of a plan, one by one
 pub units-at : (p : Settings) (past : List Happening) (k : ℕ) → k < tests_in p → get_or (units p past) k None ≡ unit_of k past
 units-at p past k h = get_or-map-range_with_len (λ k. unit_of k past) 0 (tests_in p) k k None h (omega arith)
+
+-- the unit on the board is that of the history
+pub unit_in-is : (p : Settings) (past : List Happening) (k : ℕ) → Holds p past → unit_in (board p past) k ≡ unit_of k past
+unit_in-is p past k h = by_place (nat_lt k (tests_in p)) refl
+  where
+    whole : length (units p past) ≡ tests_in p
+    whole = length-map-range_with_len (λ k. unit_of k past) 0 (tests_in p)
+
+    never : (v : Option UnitView) → unit_of k past ≡ v → tests_in p ≤ k → None ≡ v
+    never None e le = refl
+    never (Some u) e le = absurd (let named = h.named k u e in let below : k < tests_in p = named.1 in omega arith)
+
+    by_place : (b : Bool) → nat_lt k (tests_in p) ≡ b → get_or (units p past) k None ≡ unit_of k past
+    by_place true e = units-at p past k (grind arith)
+    by_place false e =
+        let le : tests_in p ≤ k = grind arith in
+        get_or_past (units p past) k None (omega (arith, whole)) ∙ never (unit_of k past) refl le
 
 -- a place keeps the name of each unit
 pub placed_named : (now later n k : ℕ) (place : Option Place) (v : Option UnitView) → now ≤ later → IsNamed n now k v
@@ -158,28 +179,24 @@ holds-cons p past x h fits known accounts = record {
 }
 
 -- a unit's own turn keeps what holds
-pub kept-unit : (p : Settings) (past : List Happening) (e : Entry) (j : ℕ) (turn : UnitTurn) → Holds p past
-    → unit_takes (unit_of j past) turn ≡ true → is_answer turn ≡ false
-    → Holds p (taken_by (clock past) e j turn (unit_of j past) ∷ past)
-kept-unit p past e j turn h en other = by_view (unit_of j past) refl
-  where
-    by_view : (v : Option UnitView) → unit_of j past ≡ v → Holds p (taken_by (clock past) e j turn v ∷ past)
-    by_view None ev = let never : unit_takes None turn ≡ true = rw ev at en in cc
-    by_view (Some u) ev =
-        let takes_it : takes u.phase turn ≡ true = rw ev at en in
-        let same : (k : ℕ) → (j == k) ≡ true → unit_of k past ≡ Some u =
-        λ k jk. let jk' : k ≡ j = grind arith in ap (λ k. unit_of k past) jk' ∙ ev in
-        holds-cons p past (taken_by (clock past) e j turn (Some u)) h (omega (arith, h.fits)) (λ w ew. cc)
-        (λ k. rw append-nil (of_row (is_mismatched p k) (clock past) j k turn u (unit_of k past) (account_of k (told past)) (queue past)
-        takes_it other (h.named j u ev).0 (same k) (h.accounts k)))
+pub kept-unit : (p : Settings) (past : List Happening) (e : Entry) (j : ℕ) (turn : UnitTurn) (v : Option UnitView) → Holds p past
+    → unit_of j past ≡ v → unit_takes v turn ≡ true → is_answer turn ≡ false
+    → Holds p (said e (taken_by (clock past) j turn v) ∷ past)
+kept-unit p past e j turn None h ev en other = cc
+kept-unit p past e j turn (Some u) h ev en other =
+    let same : (k : ℕ) → (j == k) ≡ true → unit_of k past ≡ Some u =
+    λ k jk. let jk' : k ≡ j = grind arith in ap (λ k. unit_of k past) jk' ∙ ev in
+    holds-cons p past (said e (taken_by (clock past) j turn (Some u))) h (omega (arith, h.fits)) (λ w ew. cc)
+    (λ k. rw append-nil (of_row (is_mismatched p k) (clock past) j k turn u (unit_of k past) (account_of k (told past)) (queue past)
+    en other (h.named j u ev).0 (same k) (h.accounts k)))
 
 -- an admission keeps what holds
 pub kept-admit : (p : Settings) (past : List Happening) (e : Entry) → Holds p past
     → is_some (newcomer p (units p past)) ≡ true
-    → Holds p (admission e (newcomer p (units p past)) ∷ past)
+    → Holds p (said e (admission (newcomer p (units p past))) ∷ past)
 kept-admit p past e h en = by_newcomer (newcomer p (units p past)) refl
   where
-    by_newcomer : (o : Option Newcomer) → newcomer p (units p past) ≡ o → Holds p (admission e o ∷ past)
+    by_newcomer : (o : Option Newcomer) → newcomer p (units p past) ≡ o → Holds p (said e (admission o) ∷ past)
     by_newcomer None eo = let never : is_some {T = Newcomer} None ≡ true = rw eo at en in cc
     by_newcomer (Some new) eo =
         let found = newcomer_is p (units p past) new eo in
@@ -194,7 +211,7 @@ kept-admit p past e h en = by_newcomer (newcomer p (units p past)) refl
         let planned : (k : ℕ) → (new.unit.unit == k) ≡ true → is_mismatched p k ≡ is_some found.test.skip =
         λ k uk. let here : k ≡ found.place = grind arith in
         ap (is_mismatched p) here ∙ ap is_skip found.planned in
-        holds-cons p past (admission e (Some new)) h (omega (arith, h.fits)) (λ w ew. let same : w ≡ new.unit = cc in grind arith)
+        holds-cons p past (said e (admission (Some new))) h (omega (arith, h.fits)) (λ w ew. let same : w ≡ new.unit = cc in grind arith)
         (λ k. by_case k new found.place found.test (units p past) at (fresh k) (planned k) found.kind)
       where
         by_case : (k : ℕ) (new : Newcomer) (place : ℕ) (test : PlanTest) (us : List (Option UnitView)) → new.unit.unit ≡ place
@@ -221,16 +238,15 @@ kept-admit p past e h en = by_newcomer (newcomer p (units p past)) refl
             (λ uk. planned uk ∙ ap is_some run.0) fresh (h.accounts k))
 
 -- a turn that only tells what is no news keeps what holds
-pub kept-told : (p : Settings) (past : List Happening) (e : Entry) (kind : TestEventKind) → Holds p past
+pub kept-told : (p : Settings) (past : List Happening) (e : Entry) (kind : TestEventKind) (begins ends : Bool) → Holds p past
     → ((k : ℕ) → news_in k kind ≡ None)
-    → Holds p (record (silent e) { told = Some (event_at past kind) } ∷ past)
-kept-told p past e kind h no_news =
-    holds-cons p past (record (silent e) { told = Some (event_at past kind) }) h (omega (arith, h.fits)) (λ w ew. cc)
-    (λ k. rw (no_news k) (simp append-nil (h.accounts k)))
+    → Holds p (said e (record nothing_done { told = Some (event (clock past) kind); begins = begins; ends = ends }) ∷ past)
+kept-told p past e kind begins ends h no_news =
+    holds-cons p past _ h (omega (arith, h.fits)) (λ w ew. cc) (λ k. rw (no_news k) (simp append-nil (h.accounts k)))
 
 -- a delivery keeps what holds
 pub kept-deliver : (p : Settings) (past : List Happening) (e : Entry) → Holds p past → not (is_empty (queue past)) ≡ true
-    → Holds p (delivery p past e (queue past) ∷ past)
+    → Holds p (said e (delivery (board p past) (queue past)) ∷ past)
 kept-deliver p past e h en = by_queue (queue past) refl
   where
     same : (i k : ℕ) (w : Option UnitView) → unit_of i past ≡ w → (i == k) ≡ true → unit_of k past ≡ w
@@ -238,28 +254,24 @@ kept-deliver p past e h en = by_queue (queue past) refl
 
     start : (i : ℕ) (id : TestInstanceId) (command : List (List ℕ)) (slot : TestSlotAssignment) (rest : List Message)
         → queue past ≡ Start i id command slot ∷ rest → (running : ℕ) (stats : RunStats) (go : Bool) (w : Option UnitView) → unit_of i past ≡ w
-        → Holds p (start_delivery go (taken_by (clock past) e i (Answered go) w) (event_at past (TestStarted i id command slot running stats)) ∷ past)
-    start i id command slot rest eq running stats true None ew =
+        → Holds p (said e (record (taken_by (clock past) i (Answered go) w) {
+          taken = true;
+          told = if go then Some (event (clock past) (TestStarted i id command slot running stats)) else None;
+        }) ∷ past)
+    start i id command slot rest eq running stats go None ew =
         holds-cons p past _ h (lt-from_queue (delivered past) (sent past) rest _ eq) (λ v ev. cc)
-        (λ k. rw eq (start_row (is_mismatched p k) (clock past) i k true (unit_of k past) None (account_of k (told past)) rest e
+        (λ k. rw eq (start_row (is_mismatched p k) (clock past) i k go (unit_of k past) None (account_of k (told past)) rest
         (clock past) (elapsed past) id command slot running stats (same i k None ew) (rw eq at (h.accounts k))))
-    start i id command slot rest eq running stats true (Some u) ew =
+    start i id command slot rest eq running stats go (Some u) ew =
         holds-cons p past _ h (lt-from_queue (delivered past) (sent past) rest _ eq) (λ v ev. cc)
-        (λ k. rw eq (start_row (is_mismatched p k) (clock past) i k true (unit_of k past) (Some u) (account_of k (told past)) rest e
-        (clock past) (elapsed past) id command slot running stats (same i k (Some u) ew) (rw eq at (h.accounts k))))
-    start i id command slot rest eq running stats false None ew =
-        holds-cons p past _ h (lt-from_queue (delivered past) (sent past) rest _ eq) (λ v ev. cc)
-        (λ k. rw eq (start_row (is_mismatched p k) (clock past) i k false (unit_of k past) None (account_of k (told past)) rest e
-        (clock past) (elapsed past) id command slot running stats (same i k None ew) (rw eq at (h.accounts k))))
-    start i id command slot rest eq running stats false (Some u) ew =
-        holds-cons p past _ h (lt-from_queue (delivered past) (sent past) rest _ eq) (λ v ev. cc)
-        (λ k. rw eq (start_row (is_mismatched p k) (clock past) i k false (unit_of k past) (Some u) (account_of k (told past)) rest e
+        (λ k. rw eq (start_row (is_mismatched p k) (clock past) i k go (unit_of k past) (Some u) (account_of k (told past)) rest
         (clock past) (elapsed past) id command slot running stats (same i k (Some u) ew) (rw eq at (h.accounts k))))
 
-    by_queue : (q : List Message) → queue past ≡ q → Holds p (delivery p past e q ∷ past)
+    by_queue : (q : List Message) → queue past ≡ q → Holds p (said e (delivery (board p past) q) ∷ past)
     by_queue [] eq = let never : not (is_empty []) ≡ true = rw eq at en in cc
     by_queue (Start i id command slot ∷ rest) eq =
-        start i id command slot rest eq (running p past + 1) (stats p past) (is_none (reason past)) (unit_of i past) refl
+        start i id command slot rest eq (running p past + 1) (stats p past) (lets_go (dispatcher_of p past)) (unit_in (board p past) i)
+        (sym (unit_in-is p past i h))
     by_queue (Skip i id why ∷ rest) eq =
         holds-cons p past _ h (lt-from_queue (delivered past) (sent past) rest _ eq) (λ u eu. cc)
         (λ k. rw (eq, append-nil) (of_skip (is_mismatched p k) i k (unit_of k past) (account_of k (told past)) rest (clock past) (elapsed past) id why
@@ -267,23 +279,23 @@ kept-deliver p past e h en = by_queue (queue past) refl
     by_queue (Finish i id statuses ∷ rest) eq =
         holds-cons p past _ h (lt-from_queue (delivered past) (sent past) rest _ eq) (λ u eu. cc)
         (λ k. rw (eq, append-nil) (of_finish (is_mismatched p k) i k (unit_of k past) (account_of k (told past)) rest (clock past) (elapsed past) id statuses
-        (running p past - 1) (stats_after p (reason past) (skipped past) (finished past ++ finished_test statuses ∷ [])) (rw eq at (h.accounts k))))
+        (running p past - 1) (plus (stats p past) (adds_of (finished_test statuses))) (rw eq at (h.accounts k))))
 
 -- each enabled turn keeps what holds
 pub kept : (p : Settings) (past : List Happening) (e : Entry) → Holds p past → enabled p past e.turn ≡ true
     → Holds p (happening p past e ∷ past)
-kept p past e h en = by_turn e.turn (second_so (not (is_over past)) (takes_turn p past e.turn (turn_of_unit e.turn)) en)
+kept p past e h en = by_turn (λ turn named. takes_turn p (board p past) turn named ≡ true → Holds p (said e (done_by p (board p past) turn named) ∷ past))
+    (record {
+      begin = λ en. kept-told p past e _ true false h (λ k. refl);
+      admit = λ en. kept-admit p past e h (second_so on (is_some (newcomer p (units p past))) en);
+      deliver = λ en. kept-deliver p past e h (second_so on (not (is_empty (queue past))) en);
+      named = λ turn k to other en. kept-unit p past e k to _ h (sym (unit_in-is p past k h)) en other;
+      end = λ en. kept-told p past e _ false true h (λ k. refl);
+    })
+    e.turn (second_so (not (is_over past)) (takes_turn p (board p past) e.turn (turn_of_unit e.turn)) en)
   where
-    by_turn : (turn : Turn) → takes_turn p past turn (turn_of_unit turn) ≡ true → Holds p (happened p past e turn (turn_of_unit turn) ∷ past)
-    by_turn Begin en = kept-told p past e _ h (λ k. refl)
-    by_turn Admit en = kept-admit p past e h (second_so (has_begun past) (is_some (newcomer p (units p past))) en)
-    by_turn Deliver en = kept-deliver p past e h (second_so (has_begun past) (not (is_empty (queue past))) en)
-    by_turn (Started unit pid) en = kept-unit p past e unit (UnitStarted pid) h en refl
-    by_turn (StartFailed unit error) en = kept-unit p past e unit (UnitStartFailed error) h en refl
-    by_turn (Exit unit exit) en = kept-unit p past e unit (UnitExit exit) h en refl
-    by_turn (WaitFailed unit error) en = kept-unit p past e unit (UnitWaitFailed error) h en refl
-    by_turn (Decide unit word) en = kept-unit p past e unit (UnitDecide word) h en refl
-    by_turn End en = kept-told p past e _ h (λ k. refl)
+    on : Bool
+    on = is_on (dispatcher_of p past)
 
 -- what holds of the empty history
 pub holds-nil : (p : Settings) → Holds p []

@@ -1,12 +1,15 @@
+pub mod ByTurn
 pub mod Queue
 pub mod AccountLemmas
 pub mod Kept
 pub mod Running
 pub mod Facts
 pub mod Told
+pub mod Boards
 pub mod FateLemmas
 pub mod Prefix
 pub mod Scan
 pub mod Alike
 pub mod Through
 pub mod Courses
+pub mod Ready

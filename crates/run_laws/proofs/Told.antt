@@ -1,9 +1,10 @@
 -- What a turn tells, and that no turn of the built part cancels the run.
-use Rattle.std.proofs.Common.{◌≡◌, ℕ, suc, ◌+◌, ◌-◌, ◌<◌, ◌≤◌, List, [], ◌∷◌, ◌++◌, length, Bool, true, false, not, Option, Some, None, is_none, option_to_list, filter_map, count_by, cond, refl, ap, sym, ◌∙◌, arith, length-append}
+use Rattle.std.proofs.Common.{◌≡◌, ℕ, suc, ◌+◌, ◌-◌, ◌<◌, ◌≤◌, List, [], ◌∷◌, ◌++◌, length, Bool, true, false, if◌then◌else◌, Option, Some, None, is_none, option_to_list, filter_map, count_by, cond, refl, ap, sym, ◌∙◌, arith, length-append}
 use Rattle.std.specs.Prelude.{⊤}
 use Rattle.std.specs.Cmp.{second_so}
 use Rattle.std.proofs.lemmas.List.Sums.{sum_by-cons}
 use Rattle.run_events.specs.Stats.{FinishedTest}
+use Rattle.run_events.proofs.StatsLemmas.{total-cancel_reason}
 use Rattle.run_events.specs.declared.settings.Settings.{Settings}
 use Rattle.run_events.specs.declared.turn.Turn.{Turn}
 use Rattle.run_events.specs.declared.turn.Turn.TheVariants.{Begin, Admit, Deliver, Started, StartFailed, Exit, WaitFailed, Decide, End}
@@ -21,10 +22,13 @@ use Rattle.run_model.specs.declared.unit_turn.UnitTurn.TheVariants.{Answered, St
 use Rattle.run_model.specs.declared.unit_view.UnitView.{UnitView}
 use Rattle.run_model.specs.Words.{clock, sent, delivered, told, queue, reason, greater, unit_of, units, tests_in, has_begun, is_over, finish_in, finish_of, finished, skips_in, skips, skipped, running, stats}
 use Rattle.run_model.specs.Admission.{Newcomer, newcomer}
-use Rattle.run_model.specs.Turns.{event_at, enabled, takes_turn, turn_of_unit, is_empty, taken_by, admission, start_delivery, delivery, happened, happening}
+use Rattle.run_model.specs.Dispatch.{lets_go, event}
+use Rattle.run_model.specs.Board.{Deed, board, dispatcher_of, unit_in}
+use Rattle.run_model.specs.Turns.{enabled, takes_turn, turn_of_unit, taken_by, admission, delivery, done_by, deed_on}
 use Rattle.run_model.specs.Journal.{history, IsLegalBackward}
 use Rattle.run_model.specs.Accounts.{started, account_of}
 use Rattle.run_laws.specs.Holds.{Holds}
+use Rattle.run_laws.proofs.ByTurn.{by_turn}
 use Rattle.run_laws.proofs.Queue.{lt-from_queue}
 use Rattle.run_laws.proofs.Facts.{Waits, Finishes, start_waits, finish_follows}
 
@@ -39,59 +43,59 @@ ToldFits n past None = ⊤
 ToldFits n past (Some (Test event)) = ToldFitsIn n past event.kind
 
 -- what a turn tells fits, it cancels nothing, and it delivers a message only where one waits
-abbrev pub Tells : Settings → List Happening → Happening → Type 0
-Tells p past x = ToldFits (tests_in p) past x.told × (x.cause ≡ None) × (delivered (x ∷ past) ≤ length (sent past))
+abbrev pub Tells : Settings → List Happening → Deed → Type 0
+Tells p past d =
+    ToldFits (tests_in p) past d.told × (d.cause ≡ None) × (delivered past + (if d.taken then 1 else 0) ≤ length (sent past))
 
-taken_tells : (p : Settings) (past : List Happening) (now : ℕ) (e : Entry) (k : ℕ) (turn : UnitTurn) (v : Option UnitView)
-    → delivered past ≤ length (sent past) → Tells p past (taken_by now e k turn v)
-taken_tells p past now e k turn None fits = (tt, refl, omega arith)
-taken_tells p past now e k turn (Some u) fits = (tt, refl, omega arith)
+taken_tells : (p : Settings) (past : List Happening) (now k : ℕ) (turn : UnitTurn) (v : Option UnitView)
+    → delivered past ≤ length (sent past) → Tells p past (taken_by now k turn v)
+taken_tells p past now k turn None fits = (tt, refl, omega arith)
+taken_tells p past now k turn (Some u) fits = (tt, refl, omega arith)
 
-admission_tells : (p : Settings) (past : List Happening) (e : Entry) (v : Option Newcomer)
-    → delivered past ≤ length (sent past) → Tells p past (admission e v)
-admission_tells p past e None fits = (tt, refl, omega arith)
-admission_tells p past e (Some new) fits = (tt, refl, omega arith)
+admission_tells : (p : Settings) (past : List Happening) (v : Option Newcomer) → delivered past ≤ length (sent past) → Tells p past (admission v)
+admission_tells p past None fits = (tt, refl, omega arith)
+admission_tells p past (Some new) fits = (tt, refl, omega arith)
 
-start_tells : (p : Settings) (past : List Happening) (e : Entry) (i : ℕ) (go : Bool) (turn : UnitTurn) (v : Option UnitView) (event : ReporterEvent)
+start_tells : (p : Settings) (past : List Happening) (i : ℕ) (go : Bool) (turn : UnitTurn) (v : Option UnitView) (event : ReporterEvent)
     → ToldFits (tests_in p) past (Some event) → delivered past + 1 ≤ length (sent past)
-    → Tells p past (start_delivery go (taken_by (clock past) e i turn v) event)
-start_tells p past e i true turn None event h room = (h, refl, room)
-start_tells p past e i true turn (Some u) event h room = (h, refl, room)
-start_tells p past e i false turn None event h room = (tt, refl, room)
-start_tells p past e i false turn (Some u) event h room = (tt, refl, room)
+    → Tells p past (record (taken_by (clock past) i turn v) { taken = true; told = if go then Some event else None })
+start_tells p past i true turn None event h room = (h, refl, room)
+start_tells p past i true turn (Some u) event h room = (h, refl, room)
+start_tells p past i false turn None event h room = (tt, refl, room)
+start_tells p past i false turn (Some u) event h room = (tt, refl, room)
 
 -- each enabled turn tells what fits
-pub happening_tells : (p : Settings) (past : List Happening) (e : Entry) → Holds p past → enabled p past e.turn ≡ true
-    → Tells p past (happening p past e)
-happening_tells p past e h en = by_turn e.turn (second_so (not (is_over past)) (takes_turn p past e.turn (turn_of_unit e.turn)) en)
+pub deed_tells : (p : Settings) (past : List Happening) (turn : Turn) → Holds p past → Tells p past (deed_on p (board p past) turn)
+deed_tells p past turn h = by_turn (λ turn named. Tells p past (done_by p (board p past) turn named))
+    (record {
+      begin = (tt, refl, omega (arith, h.fits));
+      admit = admission_tells p past (newcomer p (units p past)) h.fits;
+      deliver = by_queue (queue past) refl;
+      named = λ turn k to other. taken_tells p past (clock past) k to _ h.fits;
+      end = (tt, refl, omega (arith, h.fits));
+    })
+    turn
   where
-    by_queue : (q : List Message) → queue past ≡ q → Tells p past (delivery p past e q)
+    by_queue : (q : List Message) → queue past ≡ q → Tells p past (delivery (board p past) q)
     by_queue [] eq = (tt, refl, omega (arith, h.fits))
     by_queue (Start i id command slot ∷ rest) eq =
         let waits = start_waits p past i id command slot rest h eq in
-        start_tells p past e i (is_none (reason past)) (Answered (is_none (reason past))) (unit_of i past)
-        (event_at past (TestStarted i id command slot (running p past + 1) (stats p past))) (waits.below, waits.untold)
+        start_tells p past i (lets_go (dispatcher_of p past)) (Answered (lets_go (dispatcher_of p past))) (unit_in (board p past) i)
+        (event (clock past) (TestStarted i id command slot (running p past + 1) (stats p past))) (waits.below, waits.untold)
         (lt-from_queue (delivered past) (sent past) rest _ eq)
     by_queue (Skip i id why ∷ rest) eq = (tt, refl, lt-from_queue (delivered past) (sent past) rest _ eq)
     by_queue (Finish i id statuses ∷ rest) eq =
         let follows = finish_follows p past i id statuses rest h eq in
         ((follows.below, follows.told_started), refl, lt-from_queue (delivered past) (sent past) rest _ eq)
 
-    by_turn : (turn : Turn) → takes_turn p past turn (turn_of_unit turn) ≡ true → Tells p past (happened p past e turn (turn_of_unit turn))
-    by_turn Begin en = (tt, refl, omega (arith, h.fits))
-    by_turn Admit en = admission_tells p past e (newcomer p (units p past)) h.fits
-    by_turn Deliver en = by_queue (queue past) refl
-    by_turn (Started unit pid) en = taken_tells p past (clock past) e unit (UnitStarted pid) (unit_of unit past) h.fits
-    by_turn (StartFailed unit error) en = taken_tells p past (clock past) e unit (UnitStartFailed error) (unit_of unit past) h.fits
-    by_turn (Exit unit exit) en = taken_tells p past (clock past) e unit (UnitExit exit) (unit_of unit past) h.fits
-    by_turn (WaitFailed unit error) en = taken_tells p past (clock past) e unit (UnitWaitFailed error) (unit_of unit past) h.fits
-    by_turn (Decide unit word) en = taken_tells p past (clock past) e unit (UnitDecide word) (unit_of unit past) h.fits
-    by_turn End en = (tt, refl, omega (arith, h.fits))
-
 -- what is no cause leaves the reason
 pub greater-None : (r : Option CancelReason) → greater r None ≡ r
 greater-None None = refl
 greater-None (Some r) = refl
+
+-- a unit is let go where no cause stands
+pub lets_go-is : (p : Settings) (past : List Happening) → lets_go (dispatcher_of p past) ≡ is_none (reason past)
+lets_go-is p past = ap is_none (total-cancel_reason _ (finished past))
 
 -- at most one event is told by a turn
 one_at_most : {X : Type 0} (o : Option X) → length (option_to_list o) ≤ 1

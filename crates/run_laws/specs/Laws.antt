@@ -1,9 +1,10 @@
 -- The laws of every legal journal.
-use Rattle.std.specs.Prelude.{ℕ, ◌≡◌, ◌<◌, List, ◌++◌, map, true}
+use Rattle.std.specs.Prelude.{ℕ, ◌≡◌, ◌<◌, List, ◌∷◌, ◌++◌, map, true}
 use Rattle.run_events.specs.declared.settings.Settings.{Settings}
 use Rattle.run_model.specs.declared.entry.Entry.{Entry}
 use Rattle.run_events.specs.declared.turn.Turn.{Turn}
-use Rattle.run_model.specs.Turns.{enabled}
+use Rattle.run_model.specs.Board.{board, step}
+use Rattle.run_model.specs.Turns.{enabled, happening, deed_on}
 use Rattle.run_model.specs.Journal.{IsLegal, past_of, outcome}
 use Rattle.run_model.specs.Words.{is_over, tests_in, told, asked}
 use Rattle.run_model.specs.Accounts.{IsAccounted}
@@ -26,6 +27,12 @@ Extends {X} xs ys = (more : List X) × (ys ≡ xs ++ more)
 abbrev pub EventsExtend : Type 0
 EventsExtend = (p : Settings) (journal more : List Entry) → IsLegal p (journal ++ more)
     → Extends (told (past_of p journal)) (told (past_of p (journal ++ more)))
+
+-- after a legal journal each turn moves the board by its step
+abbrev pub BoardsStep : Type 0
+BoardsStep = (p : Settings) (journal : List Entry) (e : Entry) → IsLegal p journal
+    → board p (happening p (past_of p journal) e ∷ past_of p journal)
+    ≡ step (board p (past_of p journal)) e.turn (deed_on p (board p (past_of p journal)) e.turn)
 
 -- two journals enable, tell and ask the same, and end alike
 pub record SaysAlike (p : Settings) (journal other : List Entry) : Type 0 where

@@ -1,10 +1,21 @@
 // Theorems over every legal journal.
 ghost use Rattle.run_laws.specs.Course.{CoursesExclude};
-ghost use Rattle.run_laws.specs.Laws.{AccountsHold, EachHasFate, EventsExtend, TurnsDecide};
+ghost use Rattle.run_laws.specs.Ready.{EnabledCan};
+ghost use Rattle.run_laws.specs.Laws.{AccountsHold, BoardsStep, EachHasFate, EventsExtend, TurnsDecide};
 
 /// What is told of each test, and what waits to be told, is its account, after every legal journal.
 pub fn accounts_hold()
     ensures { AccountsHold }
+{}
+
+/// Each turn after a legal journal moves the board by its step.
+pub fn boards_step()
+    ensures { BoardsStep }
+{}
+
+/// Each turn that is enabled after a legal journal can be taken: what its parts need holds.
+pub fn enabled_turns_can_be_taken()
+    ensures { EnabledCan }
 {}
 
 /// In every legal journal whose run is over each test has its fate: one that doesn't match was told skipped once and

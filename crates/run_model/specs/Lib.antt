@@ -1,6 +1,8 @@
 pub mod Unit
 pub mod Words
 pub mod Admission
+pub mod Dispatch
+pub mod Board
 pub mod Turns
 pub mod Journal
 pub mod Accounts

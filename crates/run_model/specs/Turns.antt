@@ -1,15 +1,13 @@
--- The tables of turns and of the dispatcher: which turn is enabled after a history, and what it does.
-use Rattle.std.specs.Prelude.{ℕ, ◌+◌, ◌-◌, List, [], ◌∷◌, ◌++◌, map, length, Bool, true, false, ◌&&◌, not, ◌==◌, if◌then◌else◌, Option, Some, None, option_map, is_none, is_some}
+-- The tables of turns: which turn is enabled on a board, and what it does.
+use Rattle.std.specs.Prelude.{ℕ, List, [], ◌∷◌, Bool, true, false, ◌&&◌, not, if◌then◌else◌, Option, Some, None, is_some}
 use Rattle.std.specs.List.{list_all}
 use Rattle.run_events.specs.declared.settings.Settings.{Settings}
 use Rattle.run_events.specs.declared.turn.Turn.{Turn}
 use Rattle.run_events.specs.declared.turn.Turn.TheVariants.{Begin, Admit, Deliver, Started, StartFailed, Exit, WaitFailed, Decide, End}
 use Rattle.run_events.specs.declared.message.Message.{Message}
-use Rattle.run_events.specs.declared.message.Message.TheVariants.{Start, Skip, Finish}
-use Rattle.run_events.specs.declared.events.ReporterEvent.{ReporterEvent}
-use Rattle.run_events.specs.declared.events.ReporterEvent.TheVariants.{Test}
-use Rattle.run_events.specs.declared.events.TestEventKind.{TestEventKind}
-use Rattle.run_events.specs.declared.events.TestEventKind.TheVariants.{RunStarted, TestStarted, TestFinished, TestSkipped, RunFinished}
+use Rattle.run_events.specs.declared.message.Message.TheVariants.{Start}
+use Rattle.run_events.specs.declared.events.TestEventKind.TheVariants.{RunStarted, RunFinished}
+use Rattle.run_model.specs.declared.dispatcher_view.Facts.{Facts}
 use Rattle.run_model.specs.declared.entry.Entry.{Entry}
 use Rattle.run_model.specs.declared.happening.Happening.{Happening}
 use Rattle.run_model.specs.declared.happening.Place.TheVariants.{Admitted, Took}
@@ -18,7 +16,8 @@ use Rattle.run_model.specs.declared.unit_turn.UnitTurn.TheVariants.{Answered, St
 use Rattle.run_model.specs.declared.unit_view.UnitView.{UnitView}
 use Rattle.run_model.specs.Unit.{row, takes}
 use Rattle.run_model.specs.Admission.{is_done, Newcomer, newcomer}
-use Rattle.run_model.specs.Words.{clock, elapsed, has_begun, is_over, queue, reason, unit_of, units, tests_in, finished, finished_test, skipped, stats, stats_after, running}
+use Rattle.run_model.specs.Dispatch.{is_on, dispatch_takes, event, told_of, go_of}
+use Rattle.run_model.specs.Board.{Board, Deed, board, unit_in, said}
 
 -- the turns that name a unit, and what they are to it
 abbrev pub turn_of_unit : Turn → Option (ℕ × UnitTurn)
@@ -40,86 +39,87 @@ is_empty [] = true
 is_empty _ = false
 
 -- each test was admitted and is over, and each message was delivered
-abbrev pub is_complete : Settings → List Happening → Bool
-is_complete p past = list_all is_done (units p past) && is_empty (queue past)
+abbrev pub is_complete : Board → Bool
+is_complete b = list_all is_done b.units && is_empty b.queue
+
+-- what the dispatcher asks of the rest of the run
+abbrev pub facts : Board → Facts
+facts b = record { message_waits = not (is_empty b.queue); complete = is_complete b }
 
 -- which turns of the run's own are enabled where it isn't over
-abbrev pub run_takes : Settings → List Happening → Turn → Bool
-run_takes p past Begin = not (has_begun past)
-run_takes p past Admit = has_begun past && is_some (newcomer p (units p past))
-run_takes p past Deliver = has_begun past && not (is_empty (queue past))
-run_takes p past End = has_begun past && is_complete p past
-run_takes p past _ = false
+abbrev pub run_takes : Settings → Board → Turn → Bool
+run_takes p b Admit = is_on b.dispatcher && is_some (newcomer p b.units)
+run_takes p b turn = dispatch_takes b.dispatcher (facts b) turn
 
 -- a unit's turn is enabled where the unit takes it
-abbrev pub takes_turn : Settings → List Happening → Turn → Option (ℕ × UnitTurn) → Bool
-takes_turn p past turn None = run_takes p past turn
-takes_turn p past turn (Some named) = unit_takes (unit_of named.0 past) named.1
+abbrev pub takes_turn : Settings → Board → Turn → Option (ℕ × UnitTurn) → Bool
+takes_turn p b turn None = run_takes p b turn
+takes_turn p b turn (Some named) = unit_takes (unit_in b named.0) named.1
 
--- which turns are enabled after a history: none once the run is over
-abbrev pub enabled : Settings → List Happening → Turn → Bool
-enabled p past turn = not (is_over past) && takes_turn p past turn (turn_of_unit turn)
+-- which turns are enabled: none once the run is over
+abbrev pub enabled_on : Settings → Board → Turn → Bool
+enabled_on p b turn = not b.dispatcher.over && takes_turn p b turn (turn_of_unit turn)
 
--- an event at this moment
-abbrev pub event_at : List Happening → TestEventKind → ReporterEvent
-event_at past kind = Test (record { clock = clock past; elapsed = elapsed past; kind = kind })
-
--- a turn that does nothing
-abbrev pub silent : Entry → Happening
-silent e = record {
-  turn = e.turn;
-  refused = e.refused;
+-- nothing is done
+abbrev pub nothing_done : Deed
+nothing_done = record {
   place = None;
   sent = None;
   taken = false;
   told = None;
   asked = None;
   cause = None;
+  begins = false;
+  ends = false;
 }
 
 -- a unit's turn is a row of the unit table
-abbrev pub taken_by : ℕ → Entry → ℕ → UnitTurn → Option UnitView → Happening
-taken_by now e k turn None = silent e
-taken_by now e k turn (Some u) =
-    record (silent e) { place = Some (Took k turn); sent = (row now turn u).sent; asked = (row now turn u).asked }
+abbrev pub taken_by : ℕ → ℕ → UnitTurn → Option UnitView → Deed
+taken_by now k turn None = nothing_done
+taken_by now k turn (Some u) =
+    record nothing_done { place = Some (Took k turn); sent = (row now turn u).sent; asked = (row now turn u).asked }
 
 -- an admission makes a unit and sends its message
-abbrev pub admission : Entry → Option Newcomer → Happening
-admission e None = silent e
-admission e (Some new) = record (silent e) { place = Some (Admitted new.unit); sent = Some new.sent }
+abbrev pub admission : Option Newcomer → Deed
+admission None = nothing_done
+admission (Some new) = record nothing_done { place = Some (Admitted new.unit); sent = Some new.sent }
 
--- a start is let go, and told, where nothing cancels the run
-abbrev pub start_delivery : Bool → Happening → ReporterEvent → Happening
-start_delivery true x event = record x { taken = true; told = Some event }
-start_delivery false x event = record x { taken = true }
+-- the unit whose start a message is
+abbrev pub starting : Message → Option ℕ
+starting (Start k id command slot) = Some k
+starting _ = None
+
+-- the answer to a unit
+abbrev pub answer_to : Board → Option ℕ → Option Bool → Deed
+answer_to b (Some k) (Some go) = taken_by b.clock k (Answered go) (unit_in b k)
+answer_to b _ _ = nothing_done
 
 -- the delivery of the oldest message
-abbrev pub delivery : Settings → List Happening → Entry → List Message → Happening
-delivery p past e [] = silent e
-delivery p past e (Start k id command slot ∷ _) =
-    start_delivery (is_none (reason past))
-    (taken_by (clock past) e k (Answered (is_none (reason past))) (unit_of k past))
-    (event_at past (TestStarted k id command slot (running p past + 1) (stats p past)))
-delivery p past e (Skip k id reason ∷ _) =
-    record (silent e) { taken = true; told = Some (event_at past (TestSkipped k id reason)) }
-delivery p past e (Finish k id statuses ∷ _) = record (silent e) {
-  taken = true;
-  told = Some (event_at past (TestFinished k id statuses (running p past - 1)
-      (stats_after p (reason past) (skipped past) (finished past ++ finished_test statuses ∷ []))));
-}
+abbrev pub delivery : Board → List Message → Deed
+delivery b [] = nothing_done
+delivery b (m ∷ rest) =
+    record (answer_to b (starting m) (go_of b.dispatcher m)) { taken = true; told = told_of b.clock b.dispatcher m }
 
 -- what a turn of the run's own does
-abbrev pub run_turn : Settings → List Happening → Entry → Turn → Happening
-run_turn p past e Begin = record (silent e) { told = Some (event_at past (RunStarted p.plan.run_id (tests_in p))) }
-run_turn p past e Admit = admission e (newcomer p (units p past))
-run_turn p past e Deliver = delivery p past e (queue past)
-run_turn p past e End = record (silent e) { told = Some (event_at past (RunFinished (stats p past))) }
-run_turn p past e _ = silent e
+abbrev pub run_turn : Settings → Board → Turn → Deed
+run_turn p b Begin =
+    record nothing_done { told = Some (event b.clock (RunStarted b.dispatcher.run_id b.dispatcher.tests)); begins = true }
+run_turn p b Admit = admission (newcomer p b.units)
+run_turn p b Deliver = delivery b b.queue
+run_turn p b End = record nothing_done { told = Some (event b.clock (RunFinished b.dispatcher.stats)); ends = true }
+run_turn p b _ = nothing_done
 
--- what a turn does after a history
-abbrev pub happened : Settings → List Happening → Entry → Turn → Option (ℕ × UnitTurn) → Happening
-happened p past e turn None = run_turn p past e turn
-happened p past e turn (Some named) = taken_by (clock past) e named.0 named.1 (unit_of named.0 past)
+-- what a turn does
+abbrev pub done_by : Settings → Board → Turn → Option (ℕ × UnitTurn) → Deed
+done_by p b turn None = run_turn p b turn
+done_by p b turn (Some named) = taken_by b.clock named.0 named.1 (unit_in b named.0)
+
+abbrev pub deed_on : Settings → Board → Turn → Deed
+deed_on p b turn = done_by p b turn (turn_of_unit turn)
+
+-- the same after a history
+abbrev pub enabled : Settings → List Happening → Turn → Bool
+enabled p past turn = enabled_on p (board p past) turn
 
 abbrev pub happening : Settings → List Happening → Entry → Happening
-happening p past e = happened p past e e.turn (turn_of_unit e.turn)
+happening p past e = said e (deed_on p (board p past) e.turn)

@@ -5,7 +5,6 @@ use Rattle.run_events.specs.Stats.{FinishedTest, nothing, total, last_or}
 use Rattle.run_events.specs.declared.stats.RunStats.{RunStats}
 use Rattle.run_events.specs.declared.settings.Settings.{Settings}
 use Rattle.run_events.specs.declared.turn.Turn.{Turn}
-use Rattle.run_events.specs.declared.turn.Turn.TheVariants.{Begin, End}
 use Rattle.run_events.specs.declared.message.Message.{Message}
 use Rattle.run_events.specs.declared.ask.Ask.{Ask}
 use Rattle.run_events.specs.declared.cancel.CancelReason.{CancelReason}
@@ -36,24 +35,15 @@ clock (x ∷ past) = clock past + ns_of x.turn
 abbrev pub elapsed : List Happening → ℕ
 elapsed past = clock past
 
--- whether a turn is the first of a run, and whether it is its last
-abbrev pub is_begin : Turn → Bool
-is_begin Begin = true
-is_begin _ = false
-
-abbrev pub is_end : Turn → Bool
-is_end End = true
-is_end _ = false
-
 -- a run has begun where a begin was taken
 abbrev pub has_begun : List Happening → Bool
 has_begun [] = false
-has_begun (x ∷ past) = is_begin x.turn || has_begun past
+has_begun (x ∷ past) = x.begins || has_begun past
 
 -- a run is over where an end was taken
 abbrev pub is_over : List Happening → Bool
 is_over [] = false
-is_over (x ∷ past) = is_end x.turn || is_over past
+is_over (x ∷ past) = x.ends || is_over past
 
 -- the messages sent, the oldest first
 abbrev pub sent : List Happening → List Message

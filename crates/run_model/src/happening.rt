@@ -29,4 +29,8 @@ pub struct Happening {
     pub asked: Option<Ask>,
     /// Why it cancels the run, where it does.
     pub cause: Option<CancelReason>,
+    /// Whether the run begins with it.
+    pub begins: bool,
+    /// Whether the run is over with it.
+    pub ends: bool,
 }

@@ -3,12 +3,14 @@
 //! history lists what each turn did, the newest first; a word is a recursion, a sum or a filter over it.
 #![tactic(auto)]
 
+mod dispatcher_view;
 mod entry;
 mod happening;
 mod phase;
 mod unit_turn;
 mod unit_view;
 
+pub use dispatcher_view::{DispatcherView, Facts};
 pub use entry::Entry;
 pub use happening::{Happening, Place};
 pub use phase::Phase;

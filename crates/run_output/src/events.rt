@@ -1,10 +1,12 @@
 // The lines of events.
-ghost use Rattle.std.specs.Prelude.{◌≡◌, ◌∷◌, [], map, option_map, string_bytes, IfOk, Some, codes};
+ghost use Rattle.std.specs.Prelude.{◌≡◌, ◌∷◌, ◌++◌, [], map, option_map, string_bytes, IfOk, Some, codes};
+ghost use Rattle.serde_json.specs.Data.{string};
 ghost use Rattle.uuid.specs.Text.{hyphenated_text, lower};
 ghost use Rattle.serde_json.specs.View.{view};
 ghost use Rattle.run_output.specs.Seen.{seen};
-ghost use Rattle.run_output.specs.Fields.{object_of, line_of};
-ghost use Rattle.run_output.specs.Events.{slot_fields, run_started_fields, test_started_fields, attempt_failed_fields, retry_started_fields, test_finished_fields, skipped_fields, run_finished_fields, kind_fields, event_fields, event_text};
+ghost use Rattle.run_output.specs.Fields.{object_of, line_of, texts, count};
+ghost use Rattle.run_output.specs.Stats.{stats_data};
+ghost use Rattle.run_output.specs.Events.{test_data, slot_fields, run_started_fields, test_started_fields, attempt_failed_fields, retry_started_fields, test_finished_fields, skipped_fields, run_finished_fields, kind_fields, event_fields, event_text};
 
 use crate::fields::{
     Fields, object_line, object_value, pair_value, text_value, texts_value, with_line_feed,
@@ -52,6 +54,59 @@ fn run_started_parts(alloc: Global, run_id: Uuid, tests: u32) -> Mem<Fields>
     ]?)
 }
 
+fn add_word(alloc: Global, fields: Fields, key: &'static str, word: &str) -> Mem<Fields>
+    ensures { IfOk result (λ v. seen v.items ≡ seen fields.entry.items ++ (key.now, Some (string word.now)) ∷ []) }
+{
+    let mut fields = fields;
+    fields.push((key, Some(Value::try_from_str(alloc, word)?)))?;
+    Ok(fields)
+}
+
+fn add_texts(alloc: Global, fields: Fields, key: &'static str, list: &[Text]) -> Mem<Fields>
+    ensures { IfOk result (λ v. seen v.items ≡ seen fields.entry.items ++ (key.now, Some (texts list.now)) ∷ []) }
+{
+    let mut fields = fields;
+    fields.push((key, Some(texts_value(alloc, list)?)))?;
+    Ok(fields)
+}
+
+fn add_count(fields: Fields, key: &'static str, number: u32) -> Mem<Fields>
+    ensures { IfOk result (λ v. seen v.items ≡ seen fields.entry.items ++ (key.now, Some (count number)) ∷ []) }
+{
+    let mut fields = fields;
+    fields.push((key, Some(Value::from(number))))?;
+    Ok(fields)
+}
+
+fn add_slot(
+    alloc: Global,
+    fields: Fields,
+    key: &'static str,
+    slot: TestSlotAssignment,
+) -> Mem<Fields>
+    ensures { IfOk result (λ v. seen v.items ≡ seen fields.entry.items ++ (key.now, Some (object_of (slot_fields slot))) ∷ []) }
+{
+    let mut fields = fields;
+    fields.push((key, Some(slot_value(alloc, slot)?)))?;
+    Ok(fields)
+}
+
+fn add_stats(alloc: Global, fields: Fields, key: &'static str, stats: &RunStats) -> Mem<Fields>
+    ensures { IfOk result (λ v. seen v.items ≡ seen fields.entry.items ++ (key.now, Some (stats_data stats.now)) ∷ []) }
+{
+    let mut fields = fields;
+    fields.push((key, Some(stats_value(alloc, stats)?)))?;
+    Ok(fields)
+}
+
+fn add_pair(alloc: Global, fields: Fields, key: &'static str, test: &TestInstanceId) -> Mem<Fields>
+    ensures { IfOk result (λ v. seen v.items ≡ seen fields.entry.items ++ (key.now, Some (test_data test.now)) ∷ []) }
+{
+    let mut fields = fields;
+    fields.push((key, Some(pair_value(alloc, &test.binary, &test.name)?)))?;
+    Ok(fields)
+}
+
 #[tactic(auto, unfolding(crate::specs::Events::test_started_fields))]
 fn test_started_parts(
     alloc: Global,
@@ -64,14 +119,14 @@ fn test_started_parts(
     ensures { IfOk result
         (λ v. seen v.items ≡ test_started_fields test.now command.now slot running stats.now) }
 {
-    Ok(vec![in alloc;
-        ("event", Some(Value::try_from_str(alloc, "test-started")?)),
-        ("command", Some(texts_value(alloc, command)?)),
-        ("running", Some(Value::from(running))),
-        ("slot", Some(slot_value(alloc, slot)?)),
-        ("stats", Some(stats_value(alloc, stats)?)),
-        ("test", Some(pair_value(alloc, &test.binary, &test.name)?)),
-    ]?)
+    let fields = Vec::new(alloc);
+    let fields = add_word(alloc, fields, "event", "test-started")?;
+    let fields = add_texts(alloc, fields, "command", command)?;
+    let fields = add_count(fields, "running", running)?;
+    let fields = add_slot(alloc, fields, "slot", slot)?;
+    let fields = add_stats(alloc, fields, "stats", stats)?;
+    let fields = add_pair(alloc, fields, "test", test)?;
+    Ok(fields)
 }
 
 #[tactic(auto, unfolding(crate::specs::Events::attempt_failed_fields))]

@@ -77,6 +77,7 @@ fn script_counts(alloc: Global, stats: &RunStats) -> Mem<Fields>
 fn test_counts(alloc: Global, stats: &RunStats) -> Mem<Fields>
     ensures { IfOk result (λ v. seen v.items ≡ test_fields stats.now) }
 {
+    let reason = reason_field(alloc, stats.cancel_reason)?;
     Ok(vec![in alloc;
         ("passed", nonzero_field(stats.passed)),
         ("passed_slow", nonzero_field(stats.passed_slow)),
@@ -89,7 +90,7 @@ fn test_counts(alloc: Global, stats: &RunStats) -> Mem<Fields>
         ("leaky_failed", nonzero_field(stats.leaky_failed)),
         ("exec_failed", nonzero_field(stats.exec_failed)),
         ("skipped", nonzero_field(stats.skipped)),
-        ("cancel_reason", reason_field(alloc, stats.cancel_reason)?),
+        ("cancel_reason", reason),
     ]?)
 }
 

@@ -1,8 +1,9 @@
 // The delivery of the oldest message.
-ghost use Rattle.std.specs.Prelude.{◌≡◌, ◌+◌, ◌<◌, ◌^◌, ◌∷◌, [], length, is_none, IfOk};
+ghost use Rattle.std.specs.Prelude.{◌≡◌, ◌+◌, ◌<◌, ◌^◌, ◌∷◌, [], length, is_none, IfOk, Some, None, true};
 ghost use Rattle.run_events.specs.declared.events.TestEventKind.TheVariants.{TestSkipped};
-ghost use Rattle.run_model.specs.Turns.{delivery, event_at, start_delivery};
-ghost use Rattle.run_model.specs.Words.{reason};
+ghost use Rattle.run_model.specs.Turns.{delivery, event_at, silent, start_delivery, taken_by};
+ghost use Rattle.run_model.specs.Words.{clock, reason, unit_of};
+ghost use Rattle.run_model.specs.declared.unit_turn.UnitTurn.TheVariants.{Answered};
 ghost use Rattle.run_plain.specs.Parts.{finish_event, start_delivered, start_event, stats_with};
 
 use crate::happenings::{event_at, silent, taken_by};
@@ -11,7 +12,7 @@ use crate::{clock, reason, running, stats, unit_of};
 use run_capture::{Duplicate, List, Mem, Text};
 use run_events::{
     ExecuteStatus, Message, ReporterEvent, RunStats, Settings, TestEventKind, TestInstanceId,
-    TestSlotAssignment,
+    TestSlotAssignment, Turn,
 };
 use run_model::{Entry, Happening, UnitTurn};
 use std::alloc::Global;
@@ -64,6 +65,21 @@ fn is_uncancelled(past: &[Happening]) -> bool
     reason(past).is_none()
 }
 
+// A start, answered: what its unit does then.
+fn answered(alloc: Global, past: &[Happening], entry: &Entry, unit: u32, go: bool) -> Mem<Happening>
+    ensures { IfOk result (λ x. x ≡ taken_by (clock past.now) entry.now unit (Answered go) (unit_of unit past.now)) }
+{
+    let view = unit_of(alloc, unit as usize, past)?;
+    taken_by(
+        alloc,
+        clock(past),
+        entry,
+        unit,
+        UnitTurn::Answered { go },
+        &view,
+    )
+}
+
 // A start, delivered, where its event would be this.
 fn deliver_start(
     alloc: Global,
@@ -75,9 +91,7 @@ fn deliver_start(
     ensures { IfOk result (λ x. x ≡ start_delivered past.now entry.now unit event) }
 {
     let go = is_uncancelled(past);
-    let view = unit_of(alloc, unit as usize, past)?;
-    let turn = UnitTurn::Answered { go };
-    let happening = taken_by(alloc, clock(past), entry, unit, turn, view)?;
+    let happening = answered(alloc, past, entry, unit, go)?;
     Ok(start_delivery(go, happening, event))
 }
 
@@ -138,6 +152,69 @@ fn finish_event(
     Ok(event_at(past, kind))
 }
 
+// A delivery that tells an event.
+fn telling(turn: Turn, refused: List<bool>, event: ReporterEvent) -> Happening
+    ensures { result ≡ record {
+      turn = turn;
+      refused = refused;
+      place = None;
+      sent = None;
+      taken = true;
+      told = Some event;
+      asked = None;
+      cause = None;
+    } }
+{
+    Happening {
+        turn,
+        refused,
+        place: None,
+        sent: None,
+        taken: true,
+        told: Some(event),
+        asked: None,
+        cause: None,
+    }
+}
+
+// The delivery of a skip.
+fn deliver_skip(
+    alloc: Global,
+    past: &[Happening],
+    entry: &Entry,
+    unit: u32,
+    test: &TestInstanceId,
+    reason: &Text,
+) -> Mem<Happening>
+    ensures { IfOk result (λ x. x ≡ record (silent entry.now)
+        { taken = true; told = Some (event_at past.now (TestSkipped unit test.now reason.now)) }) }
+{
+    let turn = entry.turn.copy(alloc)?;
+    let refused = entry.refused.copy(alloc)?;
+    let event = skip_event(alloc, past, unit, test, reason)?;
+    Ok(telling(turn, refused, event))
+}
+
+// The delivery of a finish.
+fn deliver_finish(
+    alloc: Global,
+    settings: &Settings,
+    past: &[Happening],
+    entry: &Entry,
+    unit: u32,
+    test: &TestInstanceId,
+    statuses: &List<ExecuteStatus>,
+) -> Mem<Happening>
+    requires { length settings.now.plan.tests + length past.now + 1 < 2 ^ 32 }
+    ensures { IfOk result (λ x. x ≡ record (silent entry.now)
+        { taken = true; told = Some (finish_event settings.now past.now unit test.now statuses.now) }) }
+{
+    let turn = entry.turn.copy(alloc)?;
+    let refused = entry.refused.copy(alloc)?;
+    let event = finish_event(alloc, settings, past, unit, test, statuses)?;
+    Ok(telling(turn, refused, event))
+}
+
 // The delivery of a message.
 #[tactic(auto, unfolding(crate::specs::Parts::start_event, crate::specs::Parts::finish_event))]
 fn delivery_of(
@@ -161,23 +238,13 @@ fn delivery_of(
             deliver_start(alloc, past, entry, *unit, event)
         }
         Message::Skip { unit, test, reason } => {
-            let mut happening = silent(alloc, entry)?;
-            let event = skip_event(alloc, past, *unit, test, reason)?;
-            happening.taken = true;
-            happening.told = Some(event);
-            Ok(happening)
+            deliver_skip(alloc, past, entry, *unit, test, reason)
         }
         Message::Finish {
             unit,
             test,
             statuses,
-        } => {
-            let mut happening = silent(alloc, entry)?;
-            let event = finish_event(alloc, settings, past, *unit, test, statuses)?;
-            happening.taken = true;
-            happening.told = Some(event);
-            Ok(happening)
-        }
+        } => deliver_finish(alloc, settings, past, entry, *unit, test, statuses),
     }
 }
 

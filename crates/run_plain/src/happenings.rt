@@ -1,10 +1,10 @@
 // What a turn does: the rows of the tables, as happenings.
-ghost use Rattle.std.specs.Prelude.{◌≡◌, IfOk};
+ghost use Rattle.std.specs.Prelude.{◌≡◌, IfOk, Some, None, false};
 ghost use Rattle.run_model.specs.Turns.{admission, event_at, silent, taken_by};
 
-use crate::{Admitted, clock, elapsed, row};
-use run_capture::{Duplicate, Mem};
-use run_events::{ReporterEvent, TestEvent, TestEventKind};
+use crate::{Admitted, UnitRow, clock, elapsed, row};
+use run_capture::{Duplicate, List, Mem};
+use run_events::{Ask, Message, ReporterEvent, TestEvent, TestEventKind, Turn};
 use run_model::{Entry, Happening, Place, UnitTurn, UnitView};
 use std::alloc::Global;
 
@@ -35,6 +35,37 @@ pub fn silent(alloc: Global, entry: &Entry) -> Mem<Happening>
     })
 }
 
+// A turn that took a row of the unit table, with what the row sends and asks.
+fn took(
+    turn: Turn,
+    refused: List<bool>,
+    place: Place,
+    sent: Option<Message>,
+    asked: Option<Ask>,
+) -> Happening
+    ensures { result ≡ record {
+      turn = turn;
+      refused = refused;
+      place = Some place;
+      sent = sent;
+      taken = false;
+      told = None;
+      asked = asked;
+      cause = None;
+    } }
+{
+    Happening {
+        turn,
+        refused,
+        place: Some(place),
+        sent,
+        taken: false,
+        told: None,
+        asked,
+        cause: None,
+    }
+}
+
 // A turn of a unit, as a row of the unit table.
 pub fn taken_by(
     alloc: Global,
@@ -42,18 +73,23 @@ pub fn taken_by(
     entry: &Entry,
     unit: u32,
     turn: UnitTurn,
-    view: Option<UnitView>,
+    view: &Option<UnitView>,
 ) -> Mem<Happening>
-    ensures { IfOk result (λ x. x ≡ taken_by now entry.now unit turn view) }
+    ensures { IfOk result (λ x. x ≡ taken_by now entry.now unit turn view.now) }
 {
-    let mut happening = silent(alloc, entry)?;
-    if let Some(view) = view {
-        let row = row(alloc, now, &turn, &view)?;
-        happening.place = Some(Place::Took { unit, turn });
-        happening.sent = row.sent;
-        happening.asked = row.asked;
+    match view {
+        Some(view) => {
+            let own = entry.turn.copy(alloc)?;
+            let refused = entry.refused.copy(alloc)?;
+            let UnitRow {
+                next: _,
+                sent,
+                asked,
+            } = row(alloc, now, &turn, view)?;
+            Ok(took(own, refused, Place::Took { unit, turn }, sent, asked))
+        }
+        None => silent(alloc, entry),
     }
-    Ok(happening)
 }
 
 // An admission, which makes a unit and sends its message.

@@ -1,12 +1,35 @@
 // Where the units stand after a history.
-ghost use Rattle.std.specs.Prelude.{◌≡◌, length, IfOk};
+ghost use Rattle.std.specs.Prelude.{◌≡◌, length, option_map, IfOk};
+ghost use Rattle.run_model.specs.Unit.{row};
 ghost use Rattle.run_model.specs.Words.{placed, unit_of, units};
 
-use crate::{clock, row};
+use crate::{UnitRow, clock, row};
 use run_capture::{Duplicate, Mem};
 use run_events::Settings;
-use run_model::{Happening, Place, UnitView};
+use run_model::{Happening, Place, UnitTurn, UnitView};
 use std::alloc::Global;
+
+// A unit after a turn of its own.
+fn stepped(
+    alloc: Global,
+    now: u64,
+    turn: &UnitTurn,
+    unit: &Option<UnitView>,
+) -> Mem<Option<UnitView>>
+    ensures { IfOk result (λ u. u ≡ option_map (λ v. (row now turn.now v).next) unit.now) }
+{
+    match unit {
+        Some(view) => {
+            let UnitRow {
+                next,
+                sent: _,
+                asked: _,
+            } = row(alloc, now, turn, view)?;
+            Ok(Some(next))
+        }
+        None => Ok(None),
+    }
+}
 
 // A unit after a place, at a moment of the run's clock in nanoseconds.
 fn placed(
@@ -29,10 +52,7 @@ fn placed(
         }
         Some(Place::Took { unit: j, turn }) => {
             if *j as usize == k {
-                match unit {
-                    Some(view) => Ok(Some(row(alloc, now, turn, &view)?.next)),
-                    None => Ok(None),
-                }
+                stepped(alloc, now, turn, &unit)
             } else {
                 Ok(unit)
             }

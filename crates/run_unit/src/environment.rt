@@ -12,10 +12,36 @@ use uuid::Uuid;
 /// How many attempts a test has: no test has retries yet.
 pub const ATTEMPTS: u32 = 1;
 
+type Variables = Vec<(Text, Text)>;
+
 fn pair(alloc: Global, key: &str, value: &str) -> Mem<(Text, Text)>
     ensures { IfOk result (λ p. p ≡ (key.now, value.now)) }
 {
     Ok((Text::from_str(alloc, key)?, Text::from_str(alloc, value)?))
+}
+
+fn with_text(alloc: Global, list: Variables, key: &str, value: &str) -> Mem<Variables>
+    ensures { IfOk result (λ v. v.items ≡ list.items ++ (key.now, value.now) ∷ []) }
+{
+    let mut list = list;
+    list.push(pair(alloc, key, value)?)?;
+    Ok(list)
+}
+
+fn with_number(alloc: Global, list: Variables, key: &str, value: u32) -> Mem<Variables>
+    ensures { IfOk result (λ v. v.items ≡ list.items ++ (key.now, decimal value) ∷ []) }
+{
+    let mut list = list;
+    list.push(number(alloc, key, value)?)?;
+    Ok(list)
+}
+
+fn with_id(alloc: Global, list: Variables, key: &str, value: Uuid) -> Mem<Variables>
+    ensures { IfOk result (λ v. v.items ≡ list.items ++ (key.now, hyphenated_text lower value) ∷ []) }
+{
+    let mut list = list;
+    list.push(id_pair(alloc, key, value)?)?;
+    Ok(list)
 }
 
 fn number(alloc: Global, key: &str, value: u32) -> Mem<(Text, Text)>
@@ -36,40 +62,40 @@ fn id_pair(alloc: Global, key: &str, value: Uuid) -> Mem<(Text, Text)>
 fn identity_variables(alloc: Global, unit: &UnitView) -> Mem<Vec<(Text, Text)>>
     ensures { IfOk result (λ v. v.items ≡ identity_variables unit.now) }
 {
-    Ok(vec![in alloc;
-        id_pair(alloc, "NEXTEST_RUN_ID", unit.run_id)?,
-        pair(alloc, "NEXTEST_RUN_MODE", "test")?,
-        pair(alloc, "NEXTEST_BINARY_ID", unit.id.binary.as_str())?,
-        pair(alloc, "NEXTEST_TEST_NAME", unit.id.name.as_str())?,
-        number(alloc, "NEXTEST_ATTEMPT", unit.attempt)?,
-        number(alloc, "NEXTEST_TOTAL_ATTEMPTS", ATTEMPTS)?,
-    ]?)
+    let list = Vec::new(alloc);
+    let list = with_id(alloc, list, "NEXTEST_RUN_ID", unit.run_id)?;
+    let list = with_text(alloc, list, "NEXTEST_RUN_MODE", "test")?;
+    let list = with_text(alloc, list, "NEXTEST_BINARY_ID", unit.id.binary.as_str())?;
+    let list = with_text(alloc, list, "NEXTEST_TEST_NAME", unit.id.name.as_str())?;
+    let list = with_number(alloc, list, "NEXTEST_ATTEMPT", unit.attempt)?;
+    let list = with_number(alloc, list, "NEXTEST_TOTAL_ATTEMPTS", ATTEMPTS)?;
+    Ok(list)
 }
 
 #[tactic(auto, unfolding(run_model::specs::Unit::place_variables))]
 fn place_variables(alloc: Global, unit: &UnitView) -> Mem<Vec<(Text, Text)>>
     ensures { IfOk result (λ v. v.items ≡ place_variables unit.now) }
 {
-    Ok(vec![in alloc;
-        pair(alloc, "NEXTEST_STRESS_CURRENT", "none")?,
-        pair(alloc, "NEXTEST_STRESS_TOTAL", "none")?,
-        number(alloc, "NEXTEST_TEST_GLOBAL_SLOT", unit.slot.global)?,
-        pair(alloc, "NEXTEST_TEST_GROUP", "@global")?,
-        pair(alloc, "NEXTEST_TEST_GROUP_SLOT", "none")?,
-        number(alloc, "NEXTEST_TEST_THREADS", unit.threads)?,
-        pair(alloc, "NEXTEST_WORKSPACE_ROOT", "/")?,
-    ]?)
+    let list = Vec::new(alloc);
+    let list = with_text(alloc, list, "NEXTEST_STRESS_CURRENT", "none")?;
+    let list = with_text(alloc, list, "NEXTEST_STRESS_TOTAL", "none")?;
+    let list = with_number(alloc, list, "NEXTEST_TEST_GLOBAL_SLOT", unit.slot.global)?;
+    let list = with_text(alloc, list, "NEXTEST_TEST_GROUP", "@global")?;
+    let list = with_text(alloc, list, "NEXTEST_TEST_GROUP_SLOT", "none")?;
+    let list = with_number(alloc, list, "NEXTEST_TEST_THREADS", unit.threads)?;
+    let list = with_text(alloc, list, "NEXTEST_WORKSPACE_ROOT", "/")?;
+    Ok(list)
 }
 
 #[tactic(auto, unfolding(run_model::specs::Unit::version_variables))]
 fn version_variables(alloc: Global) -> Mem<Vec<(Text, Text)>>
     ensures { IfOk result (λ v. v.items ≡ version_variables) }
 {
-    Ok(vec![in alloc;
-        pair(alloc, "NEXTEST_VERSION", "0.0.0")?,
-        pair(alloc, "NEXTEST_REQUIRED_VERSION", "none")?,
-        pair(alloc, "NEXTEST_RECOMMENDED_VERSION", "none")?,
-    ]?)
+    let list = Vec::new(alloc);
+    let list = with_text(alloc, list, "NEXTEST_VERSION", "0.0.0")?;
+    let list = with_text(alloc, list, "NEXTEST_REQUIRED_VERSION", "none")?;
+    let list = with_text(alloc, list, "NEXTEST_RECOMMENDED_VERSION", "none")?;
+    Ok(list)
 }
 
 #[tactic(auto, unfolding(run_model::specs::Unit::environment))]

@@ -1,4 +1,4 @@
-use Rattle.std.proofs.Common.{◌≡◌, length, true, sym, ◌∙◌, arith}
+use Rattle.std.proofs.Common.{◌≡◌, length, true, sym, arith}
 use Rattle.run_laws.proofs.Scan.{found_first, found_none}
 use Rattle.run_engine.specs.Builder.{is_repeat}
 use Rattle.run_engine.proofs.builder.first_repeat.Goals as goal

@@ -1,11 +1,11 @@
-use Rattle.std.proofs.Common.{◌≡◌, ◌∷◌, ◌++◌, [], length, ap, sym, subst, ◌∙◌, arith, option_to_list, map, refl, zip}
+use Rattle.std.proofs.Common.{◌≡◌, ◌∷◌, ◌++◌, [], length, ap, sym, subst, ◌∙◌, arith, option_to_list, map, zip}
 use Rattle.run_events.specs.Tell.{Adds}
-use Rattle.run_model.specs.declared.happening.Happening.{Happening}
+use Rattle.run_model.specs.Board.{Board, board}
+use Rattle.run_model.specs.Turns.{deed_on}
 use Rattle.run_model.specs.Journal.{past_of}
 use Rattle.run_engine.specs.World.{entry_of, TellsEvents}
 use Rattle.run_engine.specs.Standing.{IsRunnable}
-use Rattle.run_engine.specs.State.{Stands}
-use Rattle.run_engine.proofs.CarryLemmas.{can_advance, does, stands_next, runnable_next, takes_from}
+use Rattle.run_engine.proofs.CarryLemmas.{can_advance, stands_next, runnable_next, takes_from}
 use Rattle.run_engine.proofs.run.carry_out.Goals as goal
 
 pub advance-requires-clause-can : goal.advance-requires-clause-can
@@ -23,7 +23,7 @@ returns-clause-takes g c =
     takes_from g.R.Reporter.told g.C.Children.asked p journal c.push_reserved.new.self.items c.args.state.now
     c.args.turn c.args.report.now c.tell.new.report c.args.children.now c.ask.new.children
     refused events c.in_ok-events.field-0.asked refusal
-    c.requires.runnable c.requires.stands c.requires.enabled c.in_ok-events.ensures.told c.in_ok-events.ensures.asked
+    c.requires.stands c.requires.enabled c.in_ok-events.ensures.told c.in_ok-events.ensures.asked
     (c.in_ok-refused.ensures.answered ∙ ap length c.as_slice.ensures)
     (subst (λ es. TellsEvents g.R.Reporter.told c.args.report.now c.tell.new.report (zip es refused) refusal) c.as_slice.ensures c.in_ok-refused.ensures.told)
     (subst (λ n. Adds g.C.Children.asked c.args.children.now c.ask.new.children
@@ -38,15 +38,15 @@ returns-clause-runnable g c =
     subst (IsRunnable p)
     (sym (c.push_reserved.ensures.items ∙ ap (λ j. j ++ entry_of c.args.turn refused ∷ []) c.in_ok-reserve.ensures.items))
     (runnable_next p journal c.args.turn refused c.requires.runnable c.requires.room c.requires.enabled
-    (c.in_ok-refused.ensures.answered ∙ ap length (c.as_slice.ensures ∙ c.in_ok-events.ensures.told (entry_of c.args.turn refused))
-    ∙ ap (λ (x : Happening). length (option_to_list x.told)) (does p journal c.args.state.now c.args.turn refused c.requires.runnable c.requires.stands)))
+    (c.in_ok-refused.ensures.answered ∙ ap length (c.as_slice.ensures ∙ c.in_ok-events.ensures.told)
+    ∙ ap (λ (b : Board). length (option_to_list (deed_on p b c.args.turn).told)) c.requires.stands))
 
 pub returns-clause-stands : goal.returns-clause-stands
 returns-clause-stands g c =
     let p = c.args.settings.now in
     let journal = c.args.journal.now.items in
     let refused = c.in_ok-refused.field-0.refused in
-    subst (λ journal. Stands p (past_of p journal) c.advance.new.state)
+    subst (λ journal. c.advance.new.state ≡ board p (past_of p journal))
     (sym (c.push_reserved.ensures.items ∙ ap (λ j. j ++ entry_of c.args.turn refused ∷ []) c.in_ok-reserve.ensures.items))
     (stands_next p journal c.args.state.now c.advance.new.state c.args.turn refused
-    c.requires.runnable c.requires.stands c.requires.enabled (c.in_ok-events.ensures.after (entry_of c.args.turn refused) refl))
+    c.requires.runnable c.requires.stands c.in_ok-events.ensures.after)

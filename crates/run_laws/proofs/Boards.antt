@@ -1,4 +1,4 @@
--- A state that stands for a history stands for the longer one after a turn: field by field.
+-- The board after one more turn: a field at a time.
 use Rattle.std.proofs.Common.{◌≡◌, ◌≢◌, ℕ, add-zero, ◌+◌, ◌<◌, ◌≤◌, ◌==◌, ◌||◌, List, [], ◌∷◌, ◌++◌, length, drop, get_or, set, Bool, true, false, if◌then◌else◌, Option, Some, None, option_map, option_to_list, filter_map, count_by, sum_by, cond, refl, ap, sym, ◌∙◌, arith, get_or-set_other}
 use Rattle.std.proofs.Math.ListN.{length-set}
 use Rattle.std.proofs.lemmas.List.{append-nil}
@@ -14,18 +14,21 @@ use Rattle.run_events.specs.declared.events.ReporterEvent.{ReporterEvent}
 use Rattle.run_events.specs.declared.events.ReporterEvent.TheVariants.{Test}
 use Rattle.run_events.specs.declared.events.TestEventKind.{TestEventKind}
 use Rattle.run_events.specs.declared.events.TestEventKind.TheVariants.{RunStarted, TestStarted, TestAttemptFailedWillRetry, TestRetryStarted, TestFinished, TestSkipped, RunFinished}
+use Rattle.run_model.specs.declared.entry.Entry.{Entry}
 use Rattle.run_model.specs.declared.happening.Happening.{Happening}
 use Rattle.run_model.specs.declared.happening.Place.{Place}
 use Rattle.run_model.specs.declared.happening.Place.TheVariants.{Admitted, Took}
 use Rattle.run_model.specs.declared.unit_view.UnitView.{UnitView}
 use Rattle.run_model.specs.Unit.{row}
-use Rattle.run_model.specs.Words.{clock, ns_of, is_begin, is_end, greater, told, sent, delivered, reason, placed, unit_of, units, tests_in, finish_of, finished, finished_test, skips, skipped, stats_after, stats, running}
+use Rattle.run_model.specs.Words.{clock, greater, told, reason, placed, unit_of, units, tests_in, finish_of, finished, finished_test, skips, skipped, stats_after, stats}
+use Rattle.run_model.specs.Dispatch.{running_in, running_after, counted_in, counted_after}
+use Rattle.run_model.specs.Board.{Deed, board, said, placed_in, step}
+use Rattle.run_model.specs.Turns.{deed_on, happening}
+use Rattle.run_model.specs.Journal.{history, IsLegalBackward}
 use Rattle.run_laws.proofs.Queue.{queue-cons}
-use Rattle.run_laws.proofs.Kept.{units-at}
+use Rattle.run_laws.proofs.Kept.{units-at, holds}
 use Rattle.run_laws.proofs.Running.{running_in_told, running-started, running-finished, running-kept}
-use Rattle.run_laws.proofs.Told.{ToldFits, ToldFitsIn, greater-None}
-use Rattle.run_engine.specs.State.{Stands, IsAfter, placed_in, running_in, running_after, counted_in, counted_after}
-use Rattle.run_engine.specs.declared.state.State.{State}
+use Rattle.run_laws.proofs.Told.{ToldFits, ToldFitsIn, Tells, greater-None, deed_tells}
 
 -- a place in the list of units, at one of them
 at_place : (now : ℕ) (place : Option Place) (us : List (Option UnitView)) (k : ℕ) → k < length us
@@ -124,21 +127,22 @@ counted-cons p why (Some (Test event)) events =
     ∙ ap (stats_after p why (count_by skips events + count_by skips (Test event ∷ []))) (filter_map-append finish_of events _)
     ∙ finished_one p why (count_by skips events) event.clock event.elapsed event.kind (filter_map finish_of events)
 
--- the state after a turn stands for the longer history
-pub stands-after : (p : Settings) (past : List Happening) (old new : State) (x : Happening)
-    → Stands p past old → IsAfter old x new
-    → delivered (x ∷ past) ≤ length (sent past) → ToldFits (tests_in p) past x.told → x.cause ≡ None
-    → Stands p (x ∷ past) new
-stands-after p past old new x s after fits tells no_cause = record {
-  units = after.units ∙ ap (λ now. placed_in now x.place old.units.items) s.clock
-      ∙ ap (placed_in (clock past) x.place) s.units ∙ units-cons p x past;
-  queue = after.queue ∙ ap (λ q. drop (if x.taken then 1 else 0) q ++ option_to_list x.sent) s.queue ∙ sym (queue-cons x past fits);
-  run_id = after.run_id ∙ s.run_id;
-  tests = after.tests ∙ s.tests;
-  begun = after.begun ∙ ap (λ b. is_begin x.turn || b) s.begun;
-  over = after.over ∙ ap (λ b. is_end x.turn || b) s.over;
-  running = after.running ∙ ap (running_after x.told) s.running ∙ sym (running-cons (tests_in p) x.told past tells);
-  stats = after.stats ∙ ap (counted_after x.told) s.stats ∙ sym (counted-cons p (reason past) x.told (told past))
-      ∙ ap (λ why. stats_after p why (skipped (x ∷ past)) (finished (x ∷ past))) (sym (ap (greater (reason past)) no_cause ∙ greater-None (reason past)));
-  clock = after.clock ∙ ap (λ n. n + ns_of x.turn) s.clock;
-}
+-- the statistics after one more deed
+stats-cons : (p : Settings) (e : Entry) (d : Deed) (past : List Happening) → d.cause ≡ None
+    → stats p (said e d ∷ past) ≡ counted_after d.told (stats p past)
+stats-cons p e d past no_cause =
+    ap (λ why. stats_after p why (skipped (said e d ∷ past)) (finished (said e d ∷ past))) (ap (greater (reason past)) no_cause ∙ greater-None (reason past))
+    ∙ counted-cons p (reason past) d.told (told past)
+
+-- the board after one more deed
+pub board-cons : (p : Settings) (past : List Happening) (e : Entry) (d : Deed) → Tells p past d
+    → board p (said e d ∷ past) ≡ step (board p past) e.turn d
+board-cons p past e d tells =
+    rw (sym (units-cons p (said e d) past), queue-cons (said e d) past tells.2, running-cons (tests_in p) d.told past tells.0, stats-cons p e d past tells.1) refl
+
+-- so each turn after a legal journal moves the board by its step
+pub board-steps : (p : Settings) (backward : List Entry) (e : Entry) → IsLegalBackward p backward
+    → board p (happening p (history p backward) e ∷ history p backward)
+    ≡ step (board p (history p backward)) e.turn (deed_on p (board p (history p backward)) e.turn)
+board-steps p backward e legal =
+    board-cons p (history p backward) e (deed_on p (board p (history p backward)) e.turn) (deed_tells p (history p backward) e.turn (holds p backward legal))

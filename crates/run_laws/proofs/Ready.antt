@@ -1,5 +1,5 @@
 -- An enabled turn can be taken: what the tables allow is what the parts need.
-use Rattle.std.proofs.Common.{◌≡◌, ℕ, ◌+◌, ◌^◌, ◌<◌, ◌≤◌, List, [], ◌∷◌, ◌++◌, length, Bool, true, false, ◌&&◌, not, Option, Some, None, is_none, is_some, sum_by, refl, ap, sym, subst, ◌∙◌, arith, rules}
+use Rattle.std.proofs.Common.{◌≡◌, ℕ, suc, reverse, ◌+◌, ◌^◌, ◌<◌, ◌≤◌, List, [], ◌∷◌, ◌++◌, length, Bool, true, false, ◌&&◌, not, Option, Some, None, is_some, sum_by, refl, ap, sym, ◌∙◌, arith, rules}
 use Rattle.std.specs.List.{range_with_len}
 use Rattle.std.specs.Cmp.{first_so, second_so}
 use Rattle.std.proofs.lemmas.List.FromFn.{length-map-range_with_len, length-range_with_len}
@@ -13,51 +13,43 @@ use Rattle.run_events.specs.declared.turn.Turn.TheVariants.{Begin, Admit, Delive
 use Rattle.run_events.specs.declared.message.Message.{Message}
 use Rattle.run_events.specs.declared.message.Message.TheVariants.{Start, Skip, Finish}
 use Rattle.run_events.specs.declared.events.TestEventKind.TheVariants.{TestStarted, TestFinished}
+use Rattle.run_model.specs.declared.entry.Entry.{Entry}
+use Rattle.run_model.specs.Journal.{history, past_of, IsLegal}
+use Rattle.std.proofs.lemmas.List.{length-reverse}
 use Rattle.run_model.specs.declared.happening.Happening.{Happening}
 use Rattle.run_model.specs.declared.unit_turn.UnitTurn.{UnitTurn}
 use Rattle.run_model.specs.declared.unit_turn.UnitTurn.TheVariants.{Answered}
 use Rattle.run_model.specs.declared.unit_view.UnitView.{UnitView}
 use Rattle.run_model.specs.Unit.{takes}
-use Rattle.run_model.specs.Words.{clock, told, queue, reason, unit_of, units, tests_in, has_begun, is_over, skipped, finished, stats_after, stats}
+use Rattle.run_model.specs.Words.{clock, told, queue, reason, unit_of, units, tests_in, has_begun, is_over, skipped, finished, stats_after, stats, running}
 use Rattle.run_model.specs.Admission.{is_matched, newcomer}
+use Rattle.run_model.specs.Dispatch.{event, is_on, lets_go}
+use Rattle.run_model.specs.Board.{board, dispatcher_of, unit_in}
 use Rattle.run_model.specs.Turns.{enabled, takes_turn, turn_of_unit, unit_takes, is_empty, is_complete}
+use Rattle.run_laws.proofs.ByTurn.{by_turn}
 use Rattle.run_laws.specs.Holds.{Holds}
+use Rattle.run_laws.specs.Ready.{CanTake, CanDeliverOldest, CanAdvance}
 use Rattle.run_laws.proofs.Facts.{start_waits, finish_follows}
+use Rattle.run_laws.proofs.Kept.{unit_in-is, holds}
 use Rattle.run_laws.proofs.Running.{running_in_told, running-started, running-finished}
 use Rattle.run_laws.proofs.Told.{counted_short}
-use Rattle.run_engine.specs.State.{Stands}
-use Rattle.run_dispatch.specs.Dispatch.{event, is_on}
-use Rattle.run_engine.specs.Advance.{CanTake, CanDeliverOldest, CanAdvance}
-use Rattle.run_engine.specs.declared.state.State.{State}
-use Rattle.run_engine.proofs.Same.{unit_in-is}
-use Rattle.run_engine.proofs.EnabledLemmas.{on-is}
 
--- the units of a state are those of the plan
-pub units-length : (p : Settings) (past : List Happening) (s : State) → Stands p past s → length s.units.items ≡ tests_in p
-units-length p past s st = ap length st.units ∙ length-map-range_with_len (λ k. unit_of k past) 0 (tests_in p)
+-- the board has each test of the plan
+pub units-length : (p : Settings) (past : List Happening) → length (units p past) ≡ tests_in p
+units-length p past = length-map-range_with_len (λ k. unit_of k past) 0 (tests_in p)
 
--- a unit of the history is one of the state
-take_ready : (p : Settings) (past : List Happening) (s : State) (k : ℕ) (turn : UnitTurn) (u : UnitView) → Holds p past → Stands p past s
-    → unit_of k past ≡ Some u → takes u.phase turn ≡ true → CanTake s k turn
-take_ready p past s k turn u h st e t =
-    let named = h.named k u e in
+-- an admitted unit is one of them, and was let go before now
+take_ready : (p : Settings) (past : List Happening) (k : ℕ) (turn : UnitTurn) (u : UnitView) → Holds p past
+    → unit_in (board p past) k ≡ Some u → takes u.phase turn ≡ true → CanTake (board p past) k turn
+take_ready p past k turn u h e t =
+    let named = h.named k u (sym (unit_in-is p past k h) ∙ e) in
     let below : k < tests_in p = named.1 in
-    let early : u.start ≤ clock past = named.2 in
-    record {
-      unit = u;
-      is = unit_in-is p past s k h st ∙ e;
-      below = omega (arith, units-length p past s st);
-      takes = t;
-      early = omega (arith, st.clock);
-    }
+    record { unit = u; is = e; below = omega (arith, units-length p past); takes = t; early = named.2 }
 
-unit_ready : (p : Settings) (past : List Happening) (s : State) (k : ℕ) (turn : UnitTurn) → Holds p past → Stands p past s
-    → unit_takes (unit_of k past) turn ≡ true → CanTake s k turn
-unit_ready p past s k turn h st en = by_view (unit_of k past) refl
-  where
-    by_view : (v : Option UnitView) → unit_of k past ≡ v → CanTake s k turn
-    by_view None e = let never : unit_takes None turn ≡ true = rw e at en in cc
-    by_view (Some u) e = take_ready p past s k turn u h st e (rw e at en)
+unit_ready : (p : Settings) (past : List Happening) (k : ℕ) (turn : UnitTurn) (v : Option UnitView) → Holds p past
+    → unit_in (board p past) k ≡ v → unit_takes v turn ≡ true → CanTake (board p past) k turn
+unit_ready p past k turn None h e en = cc
+unit_ready p past k turn (Some u) h e en = take_ready p past k turn u h e en
 
 -- no test adds to the number of tests
 adds_none : (f : FinishedTest) → (adds_of f).initial_run_count ≡ 0
@@ -95,65 +87,58 @@ stats_below p why n limit fs few short = record {
 }
 
 -- the statistics of a run have room for one more count
-counts_below : (p : Settings) (past : List Happening) (s : State) → Stands p past s → tests_in p < 2 ^ 32 → length past < 2 ^ 32
-    → AreBelow (2 ^ 32) s.dispatcher.stats
-counts_below p past s st few short =
-    rw st.stats (stats_below p (reason past) (skipped past) (2 ^ 32) (finished past) few (omega (arith, counted_short past)))
+counts_below : (p : Settings) (past : List Happening) → tests_in p < 2 ^ 32 → length past < 2 ^ 32 → AreBelow (2 ^ 32) (stats p past)
+counts_below p past few short = stats_below p (reason past) (skipped past) (2 ^ 32) (finished past) few (omega (arith, counted_short past))
 
 -- the oldest message can be delivered
-oldest_ready : (p : Settings) (past : List Happening) (s : State) (q : List Message) → Holds p past → Stands p past s → is_on s.dispatcher ≡ true
-    → tests_in p < 2 ^ 32 → length past < 2 ^ 32 → queue past ≡ q → not (is_empty q) ≡ true → CanDeliverOldest s q
-oldest_ready p past s [] h st on few short eq en = cc
-oldest_ready p past s (Start i id command slot ∷ rest) h st on few short eq en =
+oldest_ready : (p : Settings) (past : List Happening) (q : List Message) → Holds p past → is_on (dispatcher_of p past) ≡ true
+    → tests_in p < 2 ^ 32 → length past < 2 ^ 32 → queue past ≡ q → not (is_empty q) ≡ true → CanDeliverOldest (board p past) q
+oldest_ready p past [] h on few short eq en = cc
+oldest_ready p past (Start i id command slot ∷ rest) h on few short eq en =
+    let go : Bool = lets_go (dispatcher_of p past) in
     let waits = start_waits p past i id command slot rest h eq in
     let more = running-started (tests_in p) i (told past) (event 0 (TestStarted i id command slot 0 (stats p past))) waits.below waits.untold (λ k. refl) (λ k. refl) in
     let most : running_in_told (tests_in p) (told past ++ event 0 (TestStarted i id command slot 0 (stats p past)) ∷ []) ≤ length (range_with_len 0 (tests_in p)) =
     count_by-le-length _ (range_with_len 0 (tests_in p)) in (
-      (on, omega (arith, st.running, length-range_with_len 0 (tests_in p))),
-      take_ready p past s i (Answered (is_none s.dispatcher.stats.cancel_reason)) waits.unit h st waits.is
-          (ap (λ ph. takes ph (Answered (is_none s.dispatcher.stats.cancel_reason))) waits.phase),
+      (on, omega (arith, length-range_with_len 0 (tests_in p))),
+      take_ready p past i (Answered go) waits.unit h (unit_in-is p past i h ∙ waits.is) (ap (λ ph. takes ph (Answered go)) waits.phase),
     )
-oldest_ready p past s (Skip i id why ∷ rest) h st on few short eq en = ((on, (counts_below p past s st few short).skipped), tt)
-oldest_ready p past s (Finish i id statuses ∷ rest) h st on few short eq en =
+oldest_ready p past (Skip i id why ∷ rest) h on few short eq en = ((on, (counts_below p past few short).skipped), tt)
+oldest_ready p past (Finish i id statuses ∷ rest) h on few short eq en =
     let follows = finish_follows p past i id statuses rest h eq in
     let less = running-finished (tests_in p) i (told past) (event 0 (TestFinished i id statuses 0 (stats p past))) follows.below follows.told_started (λ k. refl) (λ k. refl) in
-    ((on, (counts_below p past s st few short, follows.attempted, omega (arith, st.running))), tt)
+    ((on, (counts_below p past few short, follows.attempted, omega arith)), tt)
 
 -- each enabled turn can be taken
-pub ready : (p : Settings) (past : List Happening) (s : State) (turn : Turn) → Holds p past → Stands p past s
-    → tests_in p < 2 ^ 32 → length past < 2 ^ 32 → enabled p past turn ≡ true → CanAdvance p s turn (turn_of_unit turn)
-ready p past s turn h st few short en =
-    by_turn turn (second_so (not (is_over past)) (takes_turn p past turn (turn_of_unit turn)) en)
+pub ready : (p : Settings) (past : List Happening) (turn : Turn) → Holds p past
+    → tests_in p < 2 ^ 32 → length past < 2 ^ 32 → enabled p past turn ≡ true → CanAdvance p (board p past) turn (turn_of_unit turn)
+ready p past turn h few short en = by_turn (λ turn named. takes_turn p (board p past) turn named ≡ true → CanAdvance p (board p past) turn named)
+    (record {
+      begin = λ en. not_begun (has_begun past) (not (is_over past)) en;
+      admit = λ en. record { candidate = second_so on (is_some (newcomer p (units p past))) en; whole = units-length p past };
+      deliver = λ en. oldest_ready p past (queue past) h (first_so on (not (is_empty (queue past))) en) few short refl
+          (second_so on (not (is_empty (queue past))) en);
+      named = λ turn k to other en. unit_ready p past k to _ h refl en;
+      end = λ en. first_so on (is_complete (board p past)) en;
+    })
+    turn (second_so (not (is_over past)) (takes_turn p (board p past) turn (turn_of_unit turn)) en)
   where
-    not_over : s.dispatcher.over ≡ false
-    not_over = st.over ∙ not_true (is_over past) (first_so (not (is_over past)) (takes_turn p past turn (turn_of_unit turn)) en)
-      where
-        not_true : (b : Bool) → not b ≡ true → b ≡ false
-        not_true true h = cc
-        not_true false h = refl
+    on : Bool
+    on = is_on (dispatcher_of p past)
 
-    on : (b : Bool) → (has_begun past && b) ≡ true → is_on s.dispatcher ≡ true
-    on b e = on-is p past s st not_over ∙ first_so (has_begun past) b e
+    not_begun : (b c : Bool) → (not b && c) ≡ true → b ≡ false
+    not_begun true c e = cc
+    not_begun false c e = refl
 
-    not_begun : not (has_begun past) ≡ true → s.dispatcher.begun ≡ false
-    not_begun e = st.begun ∙ is_false (has_begun past) e
-      where
-        is_false : (b : Bool) → not b ≡ true → b ≡ false
-        is_false true h = cc
-        is_false false h = refl
+-- a history is as long as its journal
+history-length : (p : Settings) (backward : List Entry) → length (history p backward) ≡ length backward
+history-length p [] = refl
+history-length p (e ∷ before) = ap (λ n. suc n) (history-length p before)
 
-    by_turn : (turn : Turn) → takes_turn p past turn (turn_of_unit turn) ≡ true → CanAdvance p s turn (turn_of_unit turn)
-    by_turn Begin en = not_begun en
-    by_turn Admit en = record {
-      candidate = ap (λ us. is_some (newcomer p us)) st.units ∙ second_so (has_begun past) (is_some (newcomer p (units p past))) en;
-      whole = units-length p past s st;
-    }
-    by_turn Deliver en = subst (CanDeliverOldest s) (sym st.queue)
-        (oldest_ready p past s (queue past) h st (on (not (is_empty (queue past))) en) few short refl
-        (second_so (has_begun past) (not (is_empty (queue past))) en))
-    by_turn (Started unit pid) en = unit_ready p past s unit _ h st en
-    by_turn (StartFailed unit error) en = unit_ready p past s unit _ h st en
-    by_turn (Exit unit exit) en = unit_ready p past s unit _ h st en
-    by_turn (WaitFailed unit error) en = unit_ready p past s unit _ h st en
-    by_turn (Decide unit word) en = unit_ready p past s unit _ h st en
-    by_turn End en = on (is_complete p past) en
+pub past_of-length : (p : Settings) (journal : List Entry) → length (past_of p journal) ≡ length journal
+past_of-length p journal = history-length p (reverse journal) ∙ length-reverse journal
+
+pub ready_after : (p : Settings) (journal : List Entry) (turn : Turn) → IsLegal p journal → tests_in p < 2 ^ 32 → length journal < 2 ^ 32
+    → enabled p (past_of p journal) turn ≡ true → CanAdvance p (board p (past_of p journal)) turn (turn_of_unit turn)
+ready_after p journal turn legal few short en =
+    ready p (past_of p journal) turn (holds p (reverse journal) legal) few (omega (arith, past_of-length p journal)) en

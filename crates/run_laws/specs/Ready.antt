@@ -1,0 +1,58 @@
+-- When a turn can be taken, on a board.
+use Rattle.std.specs.Prelude.{ℕ, ◌≡◌, ◌<◌, ◌≤◌, ◌^◌, List, [], ◌∷◌, length, Bool, true, false, Option, Some, None, is_some, ⊤}
+use Rattle.run_events.specs.declared.settings.Settings.{Settings}
+use Rattle.run_events.specs.declared.turn.Turn.{Turn}
+use Rattle.run_events.specs.declared.turn.Turn.TheVariants.{Begin, Admit, Deliver, End}
+use Rattle.run_events.specs.declared.message.Message.{Message}
+use Rattle.run_model.specs.declared.entry.Entry.{Entry}
+use Rattle.run_model.specs.declared.unit_turn.UnitTurn.{UnitTurn}
+use Rattle.run_model.specs.declared.unit_turn.UnitTurn.TheVariants.{Answered}
+use Rattle.run_model.specs.declared.unit_view.UnitView.{UnitView}
+use Rattle.run_model.specs.Unit.{takes}
+use Rattle.run_model.specs.Words.{tests_in}
+use Rattle.run_model.specs.Admission.{newcomer}
+use Rattle.run_model.specs.Dispatch.{is_on, go_of, CanDeliver}
+use Rattle.run_model.specs.Board.{Board, board, unit_in}
+use Rattle.run_model.specs.Turns.{starting, enabled, turn_of_unit}
+use Rattle.run_model.specs.Journal.{past_of, IsLegal}
+
+-- a unit of the plan can take a turn
+pub record CanTake (b : Board) (k : ℕ) (turn : UnitTurn) : Type 0 where
+  pub unit : UnitView
+  pub is : unit_in b k ≡ Some unit
+  pub below : k < length b.units
+  pub takes : takes unit.phase turn ≡ true
+  pub early : unit.start ≤ b.clock
+
+-- an answer can be given to the unit that waits for it
+abbrev pub CanAnswer : Board → Option ℕ → Option Bool → Type 0
+CanAnswer b (Some k) (Some go) = CanTake b k (Answered go)
+CanAnswer b _ _ = ⊤
+
+-- the oldest message can be delivered
+abbrev pub CanDeliverOldest : Board → List Message → Type 0
+CanDeliverOldest b [] = ⊥
+CanDeliverOldest b (m ∷ rest) = CanDeliver b.dispatcher m × CanAnswer b (starting m) (go_of b.dispatcher m)
+
+-- the next test can be admitted
+pub record CanAdmit (p : Settings) (b : Board) : Type 0 where
+  pub candidate : is_some (newcomer p b.units) ≡ true
+  pub whole : length b.units ≡ tests_in p
+
+-- a turn of the run's own can be taken
+abbrev pub CanRun : Settings → Board → Turn → Type 0
+CanRun p b Begin = b.dispatcher.begun ≡ false
+CanRun p b Admit = CanAdmit p b
+CanRun p b Deliver = CanDeliverOldest b b.queue
+CanRun p b End = is_on b.dispatcher ≡ true
+CanRun p b _ = ⊤
+
+-- a turn can be taken
+abbrev pub CanAdvance : Settings → Board → Turn → Option (ℕ × UnitTurn) → Type 0
+CanAdvance p b turn None = CanRun p b turn
+CanAdvance p b turn (Some named) = CanTake b named.0 named.1
+
+-- after a legal journal each enabled turn can be taken
+abbrev pub EnabledCan : Type 0
+EnabledCan = (p : Settings) (journal : List Entry) (turn : Turn) → IsLegal p journal → tests_in p < 2 ^ 32 → length journal < 2 ^ 32
+    → enabled p (past_of p journal) turn ≡ true → CanAdvance p (board p (past_of p journal)) turn (turn_of_unit turn)
