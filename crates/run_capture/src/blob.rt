@@ -73,3 +73,25 @@ impl Duplicate for Blob {
         Blob::from_slice(alloc, self.as_slice())
     }
 }
+
+/// Whether two blobs have the same bytes.
+impl PartialEq for Blob {
+    ghost use Rattle.std.specs.Prelude.{nat_eq};
+    ghost use lib.Pointwise.{pointwise};
+    ghost use Rattle.std.specs.Cmp.{partial_equiv_from_equiv};
+    ghost use Rattle.std.specs.Cmp.Lexicographic.{nat_list_eq_equiv};
+
+    ghost eq = { pointwise nat_eq };
+
+    ghost laws = { partial_equiv_from_equiv nat_list_eq_equiv };
+
+    fn eq(&self, other: &Blob) -> bool {
+        self.as_slice() == other.as_slice()
+    }
+}
+
+impl Eq for Blob {
+    ghost use Rattle.std.specs.Cmp.Lexicographic.{nat_list_eq_equiv};
+
+    ghost laws = { nat_list_eq_equiv };
+}

@@ -24,5 +24,5 @@ pub use memory_sink::MemorySink;
 pub use memory_source::MemorySource;
 pub use sink::{Sink, write_all};
 pub use source::{Failed, Source};
-pub use test_output::{CaptureStrategy, ChildFdError, ChildOutput, ChildSplitOutput};
+pub use test_output::{CaptureStrategy, ChildFdError, ChildOutput, ChildSplitOutput, Stream};
 pub use text::Text;

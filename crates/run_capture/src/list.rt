@@ -100,3 +100,23 @@ impl<T: Duplicate + Drop> Duplicate for List<T> {
         Ok(List::from_vec(copies(alloc, self.as_slice())?))
     }
 }
+
+/// Whether two lists have equal items, in order.
+impl<T: PartialEq> PartialEq for List<T> {
+    ghost use lib.Pointwise.{pointwise};
+    ghost use Rattle.std.specs.Cmp.Lexicographic.{lists_per};
+
+    ghost eq = { pointwise T.eq };
+
+    ghost laws = { lists_per T.laws };
+
+    fn eq(&self, other: &List<T>) -> bool {
+        self.as_slice() == other.as_slice()
+    }
+}
+
+impl<T: Eq> Eq for List<T> {
+    ghost use Rattle.std.specs.Cmp.Lexicographic.{lists_equiv};
+
+    ghost laws = { lists_equiv T.Eq.laws };
+}

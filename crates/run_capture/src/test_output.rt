@@ -10,6 +10,19 @@ use std::alloc::Global;
 pub enum CaptureStrategy {
     /// Nothing is captured.
     None,
+    /// Standard output and standard error, each by itself.
+    Split,
+    /// Both as one stream.
+    Combined,
+}
+
+/// A stream of a child's output.
+#[derive(Clone, Copy, Debug, Drop, PartialEq, Eq)]
+pub enum Stream {
+    Stdout,
+    Stderr,
+    /// Standard output and standard error in one.
+    Combined,
 }
 
 /// A fault at a child's descriptors, or of the wait for it, with the text of its error.

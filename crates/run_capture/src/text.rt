@@ -3,6 +3,7 @@ ghost use Rattle.std.specs.Prelude.{◌≡◌, ◌++◌, ◌==◌, length, strin
 
 use crate::{Duplicate, Mem};
 use std::alloc::Global;
+use std::cmp::Ordering;
 use std::marker::Model;
 
 /// A text in UTF-8.
@@ -98,4 +99,37 @@ impl Eq for Text {
     ghost use Rattle.std.specs.Cmp.Lexicographic.{nat_list_eq_equiv};
 
     ghost laws = { nat_list_eq_equiv };
+}
+
+/// Texts are ordered by their bytes, from the first on.
+impl PartialOrd for Text {
+    ghost use Rattle.std.specs.Prelude.{Some};
+    ghost use Rattle.std.specs.Ordering.{nat_cmp};
+    ghost use Rattle.std.specs.Cmp.Lexicographic.{slice_cmp, texts_po};
+
+    ghost partial_cmp = { λ s t. Some (slice_cmp nat_cmp s t) };
+
+    ghost laws = { texts_po };
+
+    fn partial_cmp(&self, other: &Text) -> Option<Ordering> {
+        Some(self.cmp(other))
+    }
+}
+
+impl Ord for Text {
+    ghost use Rattle.std.specs.Prelude.{refl};
+    ghost use Rattle.std.specs.Ordering.{nat_cmp};
+    ghost use Rattle.std.specs.Cmp.Lexicographic.{slice_cmp, nat_list_cmp_total, texts_ties};
+
+    ghost cmp = { slice_cmp nat_cmp };
+
+    ghost total = { nat_list_cmp_total };
+
+    ghost matches_partial_cmp = { λ s t. refl };
+
+    ghost matches_eq = { texts_ties };
+
+    fn cmp(&self, other: &Text) -> Ordering {
+        self.as_str().cmp(other.as_str())
+    }
 }
