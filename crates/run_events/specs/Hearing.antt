@@ -41,7 +41,6 @@ heard_signal handlers.Standard quit_is_info signal = standard quit_is_info signa
 heard_signal handlers.DebuggerMode quit_is_info signal = beside_debugger signal
 heard_signal handlers.Noop quit_is_info signal = None
 
-
 -- what a key that was pressed is: Enter with any modifiers, and `t` with none
 abbrev pub pressed : KeyCode → Bool → Option InputEvent
 pressed codes.Enter modified = Some events.Enter

@@ -8,7 +8,6 @@ use Rattle.run_events.specs.declared.stress.StressProgress.TheVariants as progre
 use Rattle.run_events.specs.declared.stress.StressRemaining.{StressRemaining}
 use Rattle.run_events.specs.declared.stress.StressRemaining.TheVariants.{Runs, Infinite, Time}
 
-
 -- how many sub-runs remain
 abbrev pub runs_left : StressCount → ℕ → Option StressRemaining
 runs_left counts.Infinite completed = Some Infinite

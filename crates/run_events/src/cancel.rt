@@ -24,7 +24,10 @@ impl CancelReason {
     }
 
     /// The greater of two reasons, of which either may be missing.
-    pub fn greater(reason: Option<CancelReason>, cause: Option<CancelReason>) -> Option<CancelReason>
+    pub fn greater(
+        reason: Option<CancelReason>,
+        cause: Option<CancelReason>,
+    ) -> Option<CancelReason>
         ensures { result ≡ greater reason cause }
     {
         match (reason, cause) {

@@ -226,9 +226,7 @@ pub enum TestEventKind {
     InfoStarted(InfoStarted),
     InfoResponse(InfoAnswered),
     /// So many units gave no answer.
-    InfoFinished {
-        missing: u32,
-    },
+    InfoFinished { missing: u32 },
     InputEnter(InputEntered),
     RunBeginCancel(RunCancelled),
     RunBeginKill(RunCancelled),
@@ -239,31 +237,49 @@ pub enum TestEventKind {
 
 impl Duplicate for TestEventKind {
     fn copy(&self, alloc: Global) -> Mem<TestEventKind> {
-        Ok(match self {
-            TestEventKind::RunStarted(event) => TestEventKind::RunStarted(event.copy(alloc)?),
-            TestEventKind::StressSubRunStarted(event) => TestEventKind::StressSubRunStarted(*event),
-            TestEventKind::StressSubRunFinished(event) => TestEventKind::StressSubRunFinished(*event),
-            TestEventKind::SetupScriptStarted(event) => TestEventKind::SetupScriptStarted(event.copy(alloc)?),
-            TestEventKind::SetupScriptSlow(event) => TestEventKind::SetupScriptSlow(event.copy(alloc)?),
-            TestEventKind::SetupScriptFinished(event) => TestEventKind::SetupScriptFinished(event.copy(alloc)?),
-            TestEventKind::TestStarted(event) => TestEventKind::TestStarted(event.copy(alloc)?),
-            TestEventKind::TestSlow(event) => TestEventKind::TestSlow(event.copy(alloc)?),
-            TestEventKind::TestAttemptFailedWillRetry(event) => TestEventKind::TestAttemptFailedWillRetry(event.copy(alloc)?),
-            TestEventKind::TestRetryStarted(event) => TestEventKind::TestRetryStarted(event.copy(alloc)?),
-            TestEventKind::TestFinished(event) => TestEventKind::TestFinished(event.copy(alloc)?),
-            TestEventKind::TestSkipped(event) => TestEventKind::TestSkipped(event.copy(alloc)?),
-            TestEventKind::InfoStarted(event) => TestEventKind::InfoStarted(*event),
-            TestEventKind::InfoResponse(event) => TestEventKind::InfoResponse(event.copy(alloc)?),
-            TestEventKind::InfoFinished { missing } => TestEventKind::InfoFinished {
+        match self {
+            TestEventKind::RunStarted(event) => event.copy(alloc).map(TestEventKind::RunStarted),
+            TestEventKind::StressSubRunStarted(event) => Ok(TestEventKind::StressSubRunStarted(
+                *event,
+            )),
+            TestEventKind::StressSubRunFinished(event) => Ok(TestEventKind::StressSubRunFinished(
+                *event,
+            )),
+            TestEventKind::SetupScriptStarted(event) => event
+                .copy(alloc)
+                .map(TestEventKind::SetupScriptStarted),
+            TestEventKind::SetupScriptSlow(event) => event
+                .copy(alloc)
+                .map(TestEventKind::SetupScriptSlow),
+            TestEventKind::SetupScriptFinished(event) => event
+                .copy(alloc)
+                .map(TestEventKind::SetupScriptFinished),
+            TestEventKind::TestStarted(event) => event.copy(alloc).map(TestEventKind::TestStarted),
+            TestEventKind::TestSlow(event) => event.copy(alloc).map(TestEventKind::TestSlow),
+            TestEventKind::TestAttemptFailedWillRetry(event) => event
+                .copy(alloc)
+                .map(TestEventKind::TestAttemptFailedWillRetry),
+            TestEventKind::TestRetryStarted(event) => event
+                .copy(alloc)
+                .map(TestEventKind::TestRetryStarted),
+            TestEventKind::TestFinished(event) => event
+                .copy(alloc)
+                .map(TestEventKind::TestFinished),
+            TestEventKind::TestSkipped(event) => event.copy(alloc).map(TestEventKind::TestSkipped),
+            TestEventKind::InfoStarted(event) => Ok(TestEventKind::InfoStarted(*event)),
+            TestEventKind::InfoResponse(event) => event
+                .copy(alloc)
+                .map(TestEventKind::InfoResponse),
+            TestEventKind::InfoFinished { missing } => Ok(TestEventKind::InfoFinished {
                 missing: *missing,
-            },
-            TestEventKind::InputEnter(event) => TestEventKind::InputEnter(*event),
-            TestEventKind::RunBeginCancel(event) => TestEventKind::RunBeginCancel(*event),
-            TestEventKind::RunBeginKill(event) => TestEventKind::RunBeginKill(*event),
-            TestEventKind::RunPaused(event) => TestEventKind::RunPaused(*event),
-            TestEventKind::RunContinued(event) => TestEventKind::RunContinued(*event),
-            TestEventKind::RunFinished(event) => TestEventKind::RunFinished(event.copy(alloc)?),
-        })
+            }),
+            TestEventKind::InputEnter(event) => Ok(TestEventKind::InputEnter(*event)),
+            TestEventKind::RunBeginCancel(event) => Ok(TestEventKind::RunBeginCancel(*event)),
+            TestEventKind::RunBeginKill(event) => Ok(TestEventKind::RunBeginKill(*event)),
+            TestEventKind::RunPaused(event) => Ok(TestEventKind::RunPaused(*event)),
+            TestEventKind::RunContinued(event) => Ok(TestEventKind::RunContinued(*event)),
+            TestEventKind::RunFinished(event) => event.copy(alloc).map(TestEventKind::RunFinished),
+        }
     }
 }
 

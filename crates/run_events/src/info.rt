@@ -6,7 +6,7 @@ use run_capture::{Duplicate, Mem};
 use std::alloc::Global;
 
 /// How long something has been waited for and how long it still is, in nanoseconds.
-#[derive(Clone, Copy, Drop, PartialEq, Eq)]
+#[derive(Clone, Copy, Drop)]
 pub struct Waiting {
     pub waiting: u64,
     /// The period less the time waited, at least 0.
@@ -14,7 +14,7 @@ pub struct Waiting {
 }
 
 /// What a unit is doing. Times are in nanoseconds; `time` is that of its attempt so far.
-#[derive(Clone, Copy, Drop, PartialEq, Eq)]
+#[derive(Clone, Copy, Drop)]
 pub enum UnitState {
     /// Its child runs.
     Running {

@@ -3,14 +3,14 @@ ghost use Rattle.std.specs.Prelude.{◌≡◌};
 ghost use Rattle.run_events.specs.Hearing.{heard_key};
 
 /// Which key it is.
-#[derive(Clone, Copy, Drop, PartialEq, Eq)]
+#[derive(Clone, Copy, Drop)]
 pub enum KeyCode {
     Enter,
     Char(char),
 }
 
 /// A key that was pressed or let go.
-#[derive(Clone, Copy, Drop, PartialEq, Eq)]
+#[derive(Clone, Copy, Drop)]
 pub struct Key {
     pub code: KeyCode,
     /// Whether a modifier was held, as control.

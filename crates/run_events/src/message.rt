@@ -241,15 +241,15 @@ pub enum Message {
 impl Duplicate for Message {
     fn copy(&self, alloc: Global) -> Mem<Message> {
         match self {
-            Message::ScriptStart(message) => Ok(Message::ScriptStart(message.copy(alloc)?)),
-            Message::ScriptSlow(message) => Ok(Message::ScriptSlow(message.copy(alloc)?)),
-            Message::ScriptFinish(message) => Ok(Message::ScriptFinish(message.copy(alloc)?)),
-            Message::Start(message) => Ok(Message::Start(message.copy(alloc)?)),
-            Message::Slow(message) => Ok(Message::Slow(message.copy(alloc)?)),
-            Message::AttemptFailed(message) => Ok(Message::AttemptFailed(message.copy(alloc)?)),
-            Message::Retry(message) => Ok(Message::Retry(message.copy(alloc)?)),
-            Message::Finish(message) => Ok(Message::Finish(message.copy(alloc)?)),
-            Message::Skip(message) => Ok(Message::Skip(message.copy(alloc)?)),
+            Message::ScriptStart(message) => message.copy(alloc).map(Message::ScriptStart),
+            Message::ScriptSlow(message) => message.copy(alloc).map(Message::ScriptSlow),
+            Message::ScriptFinish(message) => message.copy(alloc).map(Message::ScriptFinish),
+            Message::Start(message) => message.copy(alloc).map(Message::Start),
+            Message::Slow(message) => message.copy(alloc).map(Message::Slow),
+            Message::AttemptFailed(message) => message.copy(alloc).map(Message::AttemptFailed),
+            Message::Retry(message) => message.copy(alloc).map(Message::Retry),
+            Message::Finish(message) => message.copy(alloc).map(Message::Finish),
+            Message::Skip(message) => message.copy(alloc).map(Message::Skip),
         }
     }
 }

@@ -78,7 +78,7 @@ impl Duplicate for Group {
 }
 
 /// When an attempt is slow, and what comes of that. Times are in nanoseconds.
-#[derive(Clone, Copy, Drop, PartialEq, Eq)]
+#[derive(Clone, Copy, Drop)]
 pub struct SlowTimeout {
     /// After each such time the attempt is reported slow.
     pub period: u64,
@@ -91,7 +91,7 @@ pub struct SlowTimeout {
 }
 
 /// How long open descriptors of an ended child are waited for, in nanoseconds, and what a leak counts as.
-#[derive(Clone, Copy, Drop, PartialEq, Eq)]
+#[derive(Clone, Copy, Drop)]
 pub struct LeakTimeout {
     pub period: u64,
     pub result: LeakTimeoutResult,
@@ -150,11 +150,11 @@ pub struct PlanTest {
 
 impl Duplicate for PlanTest {
     fn copy(&self, alloc: Global) -> Mem<PlanTest> {
-        let id = self.id.copy(alloc)?;
         let command = self.command.copy(alloc)?;
+        let scripts = self.scripts.copy(alloc)?;
         let skip = self.skip.copy(alloc)?;
         let group = self.group.copy(alloc)?;
-        let scripts = self.scripts.copy(alloc)?;
+        let id = self.id.copy(alloc)?;
         Ok(PlanTest {
             id,
             command,
@@ -204,7 +204,7 @@ impl Duplicate for RunHead {
 }
 
 /// Which signals and keys a run hears.
-#[derive(Clone, Copy, Drop, PartialEq, Eq)]
+#[derive(Clone, Copy, Drop)]
 pub struct Hearing {
     pub signals: SignalHandlerKind,
     pub input: InputHandlerKind,
@@ -228,11 +228,11 @@ pub struct Plan {
 
 impl Duplicate for Plan {
     fn copy(&self, alloc: Global) -> Mem<Plan> {
-        let head = self.head.copy(alloc)?;
         let groups = self.groups.copy(alloc)?;
-        let runners = self.runners.copy(alloc)?;
         let scripts = self.scripts.copy(alloc)?;
         let tests = self.tests.copy(alloc)?;
+        let runners = self.runners.copy(alloc)?;
+        let head = self.head.copy(alloc)?;
         Ok(Plan {
             head,
             hearing: self.hearing,

@@ -29,7 +29,7 @@ pub enum Request {
 }
 
 /// Why a child is being ended.
-#[derive(Clone, Copy, Drop, PartialEq, Eq)]
+#[derive(Clone, Copy, Drop)]
 pub enum TerminateReason {
     /// It ran too long.
     Timeout,
@@ -38,7 +38,7 @@ pub enum TerminateReason {
 }
 
 /// The signal that ends a child.
-#[derive(Clone, Copy, Drop, PartialEq, Eq)]
+#[derive(Clone, Copy, Drop)]
 pub enum TermSignal {
     Interrupt,
     Term,
@@ -48,7 +48,7 @@ pub enum TermSignal {
 }
 
 /// A signal that is asked for a child.
-#[derive(Clone, Copy, Drop, PartialEq, Eq)]
+#[derive(Clone, Copy, Drop)]
 pub enum ChildSignal {
     /// It is to end.
     End(TermSignal),

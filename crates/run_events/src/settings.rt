@@ -25,10 +25,10 @@ pub struct Settings {
 
 impl Duplicate for Settings {
     fn copy(&self, alloc: Global) -> Mem<Settings> {
-        let plan = self.plan.copy(alloc)?;
+        let expected = self.expected.copy(alloc)?;
         let stress = self.stress.copy(alloc)?;
         let interceptor = self.interceptor.copy(alloc)?;
-        let expected = self.expected.copy(alloc)?;
+        let plan = self.plan.copy(alloc)?;
         Ok(Settings {
             plan,
             capture: self.capture,

@@ -17,13 +17,25 @@ pub enum Turn {
     /// The oldest message of a unit is delivered.
     Deliver,
     /// A unit's child started, with this process id.
-    Started { unit: u32, pid: u32 },
+    Started {
+        unit: u32,
+        pid: u32,
+    },
     /// A unit's child could not be started.
-    StartFailed { unit: u32, error: Text },
+    StartFailed {
+        unit: u32,
+        error: Text,
+    },
     /// A unit's child ended.
-    Exit { unit: u32, exit: ChildExit },
+    Exit {
+        unit: u32,
+        exit: ChildExit,
+    },
     /// The wait for a unit's child failed.
-    WaitFailed { unit: u32, error: Text },
+    WaitFailed {
+        unit: u32,
+        error: Text,
+    },
     /// A unit's child wrote to a captured stream.
     Piece {
         unit: u32,
@@ -31,7 +43,10 @@ pub enum Turn {
         bytes: Blob,
     },
     /// A captured stream of a unit's child ended.
-    StreamEnd { unit: u32, stream: Stream },
+    StreamEnd {
+        unit: u32,
+        stream: Stream,
+    },
     /// Reading a captured stream of a unit's child failed.
     ReadError {
         unit: u32,
@@ -39,11 +54,19 @@ pub enum Turn {
         error: Text,
     },
     /// A script's environment file was read, or could not be.
-    Env { unit: u32, input: EnvInput },
+    Env {
+        unit: u32,
+        input: EnvInput,
+    },
     /// A unit decides what comes after its attempt, with a random word.
-    Decide { unit: u32, word: u32 },
+    Decide {
+        unit: u32,
+        word: u32,
+    },
     /// The timer of a unit's phase is due.
-    UnitDue { unit: u32 },
+    UnitDue {
+        unit: u32,
+    },
     /// The global timer is due.
     GlobalDue,
     /// The wait for stopped units is over.
@@ -53,13 +76,21 @@ pub enum Turn {
     /// The oldest answer of an information round is told.
     Answer,
     /// A unit takes the oldest request of its line.
-    Take { unit: u32 },
+    Take {
+        unit: u32,
+    },
     /// The clock moves by so many nanoseconds.
-    Clock { ns: u64 },
+    Clock {
+        ns: u64,
+    },
     /// A signal came.
-    Signal { signal: Signal },
+    Signal {
+        signal: Signal,
+    },
     /// A key was pressed or let go.
-    Key { key: Key },
+    Key {
+        key: Key,
+    },
     /// A display wants to draw anew.
     Tick,
     /// The run is cancelled since the reporter refused an event.

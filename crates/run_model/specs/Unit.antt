@@ -7,7 +7,7 @@ use Rattle.run_events.specs.declared.ask.StartAsk.{StartAsk}
 use Rattle.run_events.specs.declared.ask.Ask.{Ask}
 use Rattle.run_events.specs.declared.ask.Ask.TheVariants.{Start as AskStart}
 use Rattle.run_events.specs.declared.message.Message.{Message}
-use Rattle.run_events.specs.declared.message.Message.TheVariants.{Start, Finish}
+use Rattle.run_events.specs.declared.message.Message.TheVariants.{Finish}
 use Rattle.run_capture.specs.Output.{uncaptured}
 use Rattle.run_capture.specs.declared.test_output.ChildFdError.{ChildFdError}
 use Rattle.run_capture.specs.declared.test_output.ChildFdError.TheVariants.{Wait}
@@ -33,8 +33,8 @@ unfoldable pub identity_variables : UnitView → List (List ℕ × List ℕ)
 identity_variables u =
     (codes "NEXTEST_RUN_ID", hyphenated_text lower u.run_id)
     ∷ (codes "NEXTEST_RUN_MODE", codes "test")
-    ∷ (codes "NEXTEST_BINARY_ID", u.id.binary)
-    ∷ (codes "NEXTEST_TEST_NAME", u.id.name)
+    ∷ (codes "NEXTEST_BINARY_ID", u.test.id.binary)
+    ∷ (codes "NEXTEST_TEST_NAME", u.test.id.name)
     ∷ (codes "NEXTEST_ATTEMPT", decimal u.attempt)
     ∷ (codes "NEXTEST_TOTAL_ATTEMPTS", decimal (attempts u))
     ∷ []
@@ -66,12 +66,14 @@ environment u = identity_variables u ++ (place_variables u ++ version_variables)
 -- the start of a test's child that is asked where its attempt is let go
 unfoldable pub start_ask : UnitView → Ask
 start_ask u = AskStart (record {
-  unit = u.unit;
+  unit = u.test.unit;
   attempt = u.attempt;
   command = u.command;
   env = environment u;
   group = true;
   stdin = false;
+  streams = [];
+  env_path = None;
 })
 
 -- the status of the current attempt where it ends at this moment with this result
@@ -102,6 +104,10 @@ pub record Row : Type 0 where
   pub sent : Option Message
   pub asked : Option Ask
 
+-- the message of a unit that is done
+abbrev pub finish_message : UnitView → Message
+finish_message u = Finish (record { test = u.test; statuses = u.statuses; flaky = u.flaky })
+
 -- a row that sends and asks nothing
 abbrev pub quiet : UnitView → Row
 quiet u = record { next = u; sent = None; asked = None }
@@ -116,7 +122,7 @@ row_at now Starting (StartFailed error) u = quiet (ended now ExecFail (StartErro
 row_at now Running (Exit exit) u = quiet (exited now (Some exit) [] u)
 row_at now Running (WaitFailed error) u = quiet (exited now None (Wait error ∷ []) u)
 row_at now Deciding (Decide word) u =
-    record { next = record u { phase = Over }; sent = Some (Finish u.unit u.id u.statuses); asked = None }
+    record { next = record u { phase = Over }; sent = Some (finish_message u); asked = None }
 row_at _ _ _ u = quiet u
 
 -- the row of a unit's phase
