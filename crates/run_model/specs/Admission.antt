@@ -4,6 +4,7 @@ use Rattle.std.specs.List.{range_with_len, list_any, list_all, position_or_len}
 use Rattle.run_events.specs.declared.settings.Settings.{Settings}
 use Rattle.run_events.specs.declared.result.FlakyResult.{FlakyResult}
 use Rattle.run_events.specs.declared.plan.PlanTest.{PlanTest}
+use Rattle.run_events.specs.declared.plan.TestSlotAssignment.{TestSlotAssignment}
 use Rattle.run_events.specs.declared.message.Message.{Message}
 use Rattle.run_events.specs.declared.message.Message.TheVariants.{Start, Skip}
 use Rattle.run_model.specs.declared.phase.Phase.{Phase}
@@ -64,12 +65,16 @@ matched_in p = count_by is_matched p.plan.tests
 abbrev pub flaky_of : Settings → PlanTest → FlakyResult
 flaky_of p test = unwrap_or p.flaky_result test.flaky
 
+-- a slot outside of all groups
+abbrev pub global_slot : ℕ → TestSlotAssignment
+global_slot n = record { global = n; group = None }
+
 -- a test as a unit of this number, as it begins in this slot
-abbrev pub first_view : Settings → ℕ → ℕ → PlanTest → UnitView
+abbrev pub first_view : Settings → ℕ → TestSlotAssignment → PlanTest → UnitView
 first_view p k slot test = record {
   test = record { unit = k; id = test.id; stress_index = None };
   command = test.command;
-  slot = record { global = slot; group = None };
+  slot = slot;
   flaky = flaky_of p test;
   run_id = p.plan.head.run_id;
   threads = p.threads;
@@ -81,7 +86,7 @@ first_view p k slot test = record {
 
 -- a skipped test as a unit: over from its admission, so it holds no slot, whatever its number
 abbrev pub skipped_view : Settings → ℕ → PlanTest → UnitView
-skipped_view p k test = record (first_view p k 0 test) { phase = Over }
+skipped_view p k test = record (first_view p k (global_slot 0) test) { phase = Over }
 
 -- the message of a unit's start, and that of its skip for a reason
 abbrev pub start_message : UnitView → Message
@@ -104,7 +109,7 @@ started_newcomer u = record { unit = u; sent = start_message u }
 -- a test is skipped where it doesn't match; else it starts, where one more test may be in use
 abbrev pub newcomer_of : Settings → ℕ → Bool → ℕ → PlanTest → Option (List ℕ) → Option Newcomer
 newcomer_of p slot fits k test (Some reason) = Some (skipped_newcomer (skipped_view p k test) reason)
-newcomer_of p slot true k test None = Some (started_newcomer (first_view p k slot test))
+newcomer_of p slot true k test None = Some (started_newcomer (first_view p k (global_slot slot) test))
 newcomer_of p slot false k test None = None
 
 -- the candidate: the place of the first test that wasn't admitted. It blocks all later ones
