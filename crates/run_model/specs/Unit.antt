@@ -112,6 +112,10 @@ finish_message u = Finish (record { test = u.test; statuses = u.statuses; flaky 
 abbrev pub quiet : UnitView → Row
 quiet u = record { next = u; sent = None; asked = None }
 
+-- it decides that it is done
+abbrev pub decided : UnitView → Row
+decided u = record { next = record u { phase = Over }; sent = Some (finish_message u); asked = None }
+
 -- the rows, at a moment of the run's clock; what isn't enabled leaves all as it is
 abbrev pub row_at : ℕ → Phase → UnitTurn → UnitView → Row
 row_at now StartSent (Answered true) u =
@@ -121,8 +125,7 @@ row_at now Starting (Started pid) u = quiet (record u { phase = Running })
 row_at now Starting (StartFailed error) u = quiet (ended now ExecFail (StartError error) u)
 row_at now Running (Exit exit) u = quiet (exited now (Some exit) [] u)
 row_at now Running (WaitFailed error) u = quiet (exited now None (Wait error ∷ []) u)
-row_at now Deciding (Decide word) u =
-    record { next = record u { phase = Over }; sent = Some (finish_message u); asked = None }
+row_at now Deciding (Decide word) u = decided u
 row_at _ _ _ u = quiet u
 
 -- the row of a unit's phase
