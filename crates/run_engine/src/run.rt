@@ -1,21 +1,22 @@
 // A run, turn by turn.
 ghost use Rattle.std.specs.Prelude.{◌≡◌, ◌<◌, ◌+◌, ◌^◌, ◌∷◌, ◌++◌, [], length, IfOk, IfErr, OnOk, OnErr, IsErrOf, IsTrue, Option, Some, None, true, false};
 ghost use Rattle.run_model.specs.Journal.{past_of, IsLegal, outcome};
-ghost use Rattle.run_model.specs.Turns.{enabled};
+ghost use Rattle.run_model.specs.Admission.{units_in};
+ghost use Rattle.run_model.specs.Turns.{enabled, turn_of_unit};
 ghost use Rattle.run_model.specs.Words.{is_over};
 ghost use Rattle.run_model.specs.Board.{board};
 ghost use Rattle.run_engine.specs.World.{TakesTurn, CountsErrors, history_of};
 ghost use Rattle.run_engine.specs.Standing.{IsRunnable, sound};
 ghost use Rattle.run_engine.specs.Refused.{IsRefused, IfNotMemory};
 
-use crate::enabled::is_enabled;
+use crate::enabled::{is_enabled, turn_of_unit};
 use crate::errors::StepError;
 use crate::state::State;
 use crate::tell::{Told, ask, tell};
 use crate::turns::{Effects, advance};
 use run_capture::Mem;
 use run_events::{Children, Reporter, RunOutcome, Settings, Turn};
-use run_model::Entry;
+use run_model::{Entry, UnitTurn};
 use std::alloc::Global;
 use std::marker::Model;
 
@@ -50,9 +51,11 @@ fn carry_out<C: Children, R: Reporter>(
     state: &mut State,
     journal: &mut Vec<Entry>,
     turn: Turn,
+    named: Option<(u32, UnitTurn)>,
     children: &mut C,
     report: &mut R,
 ) -> Mem<Option<R::Error>>
+    requires named { named ≡ turn_of_unit turn }
     requires runnable { IsRunnable settings.now journal.old.items }
     requires stands { state.old ≡ board settings.now (past_of settings.now journal.old.items) }
     requires enabled { enabled settings.now (past_of settings.now journal.old.items) turn ≡ true }
@@ -66,7 +69,7 @@ fn carry_out<C: Children, R: Reporter>(
 {
     let place = journal.len() as u64;
     journal.reserve(1)?;
-    let Effects { events, asked } = advance(alloc, settings, state, &turn)?;
+    let Effects { events, asked } = advance(alloc, settings, state, &turn, named)?;
     ask(alloc, children, place, asked)?;
     let Told { refused, refusal } = tell(alloc, report, events.as_slice())?;
     journal.push_reserved(Entry { turn, refused });
@@ -76,7 +79,7 @@ fn carry_out<C: Children, R: Reporter>(
 impl Run {
     // A run that has taken no turn.
     pub(crate) fn begin(alloc: Global, settings: Settings, state: State) -> Self
-        requires few { length settings.plan.tests < 2 ^ 32 }
+        requires few { units_in settings < 2 ^ 32 }
         requires stands { state ≡ board settings [] }
         ensures { result ≡ sound settings [] }
     {
@@ -114,7 +117,14 @@ impl Run {
         if self.journal.len() >= MOST_TURNS {
             return Err(StepError::Full);
         }
-        if !is_enabled(&self.settings, &self.state, &turn) {
+        if self.state.dispatcher.is_over() {
+            return Err(StepError::NotEnabled);
+        }
+        let Ok(named) = turn_of_unit(alloc, &turn) else {
+            self.broken = true;
+            return Err(StepError::OutOfMemory);
+        };
+        if !is_enabled(&self.settings, &self.state, &turn, &named) {
             return Err(StepError::NotEnabled);
         }
         let settings = &self.settings;
@@ -124,6 +134,7 @@ impl Run {
             &mut self.state,
             &mut self.journal,
             turn,
+            named,
             children,
             report,
         ) {

@@ -2,6 +2,7 @@
 ghost use Rattle.std.specs.Prelude.{◌≡◌, ◌<◌, ◌^◌, ◌∷◌, [], length, map, take, slice_get, IfOk, IfErr, OnOk, Option, Some, None, List, true, false};
 ghost use Rattle.run_events.specs.Tell.{Adds};
 ghost use Rattle.run_model.specs.declared.entry.Entry.{Entry};
+ghost use Rattle.run_model.specs.Admission.{units_in};
 ghost use Rattle.run_model.specs.Turns.{enabled};
 ghost use Rattle.run_engine.specs.World.{history_of};
 ghost use Rattle.run_engine.specs.Standing.{sound};
@@ -27,14 +28,15 @@ pub struct TestRunner {
 }
 
 impl Model for TestRunner {
-    ghost use Rattle.std.specs.Prelude.{◌<◌, ◌^◌, length};
+    ghost use Rattle.std.specs.Prelude.{◌<◌, ◌^◌};
+    ghost use Rattle.run_model.specs.Admission.{units_in};
     ghost use Rattle.run_events.specs.declared.settings.Settings.{Settings};
 
     ghost Value = { Settings };
 
     ghost view = { λ r. r.settings };
 
-    ghost invariant = { λ r. length r.settings.plan.tests < 2 ^ 32 };
+    ghost invariant = { λ r. units_in r.settings < 2 ^ 32 };
 }
 
 /// Why a list of turns stops before its end.
@@ -62,7 +64,7 @@ fn take_all<C: Children, R: Reporter>(
     report: &mut R,
 ) -> Result<Option<R::Error>, Stop>
     requires fresh { run.old ≡ sound run.old.settings [] }
-    requires tests { length run.old.settings.plan.tests < 2 ^ 32 }
+    requires units { units_in run.old.settings < 2 ^ 32 }
     requires few { length turns.now < 2 ^ 32 }
     ensures ok { IfOk result (λ refusal. Takes R.told C.asked run.old.settings run.new.journal report.old report.new
         children.old children.new (R.faults report.old) (R.faults report.new) refusal) }
@@ -99,7 +101,7 @@ fn answer<E: Drop>(run: &Run, refusal: Option<E>) -> Result<RunOutcome, TestRunn
 impl TestRunner {
     // A runner with these settings.
     pub(crate) fn new(settings: Settings) -> Self
-        requires { length settings.plan.tests < 2 ^ 32 }
+        requires { units_in settings < 2 ^ 32 }
         ensures { result ≡ settings }
     {
         TestRunner { settings }
@@ -107,9 +109,9 @@ impl TestRunner {
 
     /// The id of the run.
     pub fn run_id(&self) -> Uuid
-        ensures { result ≡ self.now.plan.run_id }
+        ensures { result ≡ self.now.plan.head.run_id }
     {
-        self.settings.plan.run_id
+        self.settings.plan.head.run_id
     }
 
     /// How many tests may run at a time.

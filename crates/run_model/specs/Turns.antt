@@ -1,5 +1,5 @@
 -- The tables of turns: which turn is enabled on a board, and what it does.
-use Rattle.std.specs.Prelude.{ℕ, List, [], ◌∷◌, Bool, true, false, ◌&&◌, not, if◌then◌else◌, Option, Some, None, is_some, option_map}
+use Rattle.std.specs.Prelude.{ℕ, List, [], ◌∷◌, Bool, true, false, ◌&&◌, not, if◌then◌else◌, Option, Some, None, is_some, option_map, option_and_then}
 use Rattle.std.specs.List.{list_all}
 use Rattle.run_events.specs.declared.settings.Settings.{Settings}
 use Rattle.run_events.specs.declared.turn.Turn.{Turn}
@@ -42,9 +42,9 @@ abbrev pub is_empty : List Message → Bool
 is_empty [] = true
 is_empty _ = false
 
--- each script and test was admitted and is over, and each message was delivered
+-- each message was delivered, and each script and test was admitted and is over
 abbrev pub is_complete : Board → Bool
-is_complete b = list_all is_done b.units && is_empty b.queue
+is_complete b = is_empty b.queue && list_all is_done b.units
 
 -- what the dispatcher asks of the rest of the run
 abbrev pub facts : Board → Facts
@@ -81,9 +81,11 @@ nothing_done = record {
 
 -- a unit's turn is a row of the unit table
 abbrev pub taken_by : ℕ → ℕ → UnitTurn → Option UnitView → Deed
-taken_by now k turn None = nothing_done
-taken_by now k turn (Some u) =
-    record nothing_done { place = Some (Took k turn); sent = (row now turn u).sent; asked = (row now turn u).asked }
+taken_by now k turn u = record nothing_done {
+  place = option_map (λ v. Took k turn) u;
+  sent = option_and_then (λ v. (row now turn v).sent) u;
+  asked = option_and_then (λ v. (row now turn v).asked) u;
+}
 
 -- an admission makes a unit and sends its message
 abbrev pub admission : Option Newcomer → Deed
@@ -100,25 +102,38 @@ abbrev pub answer_to : Board → Option ℕ → Option Bool → Deed
 answer_to b (Some k) (Some go) = taken_by b.clock k (Answered go) (unit_in b k)
 answer_to b _ _ = nothing_done
 
+-- the delivery of a message, with the answer that the unit is given
+abbrev pub delivered_as : Board → Message → Deed → Deed
+delivered_as b m answer = record nothing_done {
+  place = answer.place;
+  sent = answer.sent;
+  taken = true;
+  told = option_map (event b.clock) (told_of b.dispatcher.tally m);
+  asked = answer.asked;
+}
+
 -- the delivery of the oldest message
 abbrev pub delivery : Board → List Message → Deed
 delivery b [] = nothing_done
-delivery b (m ∷ rest) = record (answer_to b (starting m) (go_of b.dispatcher.tally m)) {
-  taken = true;
-  told = option_map (event b.clock) (told_of b.dispatcher.tally m);
-}
+delivery b (m ∷ rest) = delivered_as b m (answer_to b (starting m) (go_of b.dispatcher.tally m))
 
 -- the end of a run: it tells the statistics
 abbrev pub finale : RunStats → TestEventKind
 finale stats = RunFinished (record { stats = Single stats; not_seen = None })
 
+-- the begin and the end of a run
+abbrev pub begun : Board → Deed
+begun b = record nothing_done { told = Some (event b.clock (RunStarted b.dispatcher.head)); begins = true }
+
+abbrev pub ended : Board → Deed
+ended b = record nothing_done { told = Some (event b.clock (finale b.dispatcher.tally.stats)); ends = true; over = true }
+
 -- what a turn of the run's own does
 abbrev pub run_turn : Settings → Board → Turn → Deed
-run_turn p b Begin = record nothing_done { told = Some (event b.clock (RunStarted b.dispatcher.head)); begins = true }
+run_turn p b Begin = begun b
 run_turn p b Admit = admission (newcomer p b.units)
 run_turn p b Deliver = delivery b b.queue
-run_turn p b End =
-    record nothing_done { told = Some (event b.clock (finale b.dispatcher.tally.stats)); ends = true; over = true }
+run_turn p b End = ended b
 run_turn p b _ = nothing_done
 
 -- what a turn does
