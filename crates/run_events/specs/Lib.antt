@@ -6,3 +6,4 @@ pub mod Outcome
 pub mod Hearing
 pub mod Stress
 pub mod Cancel
+pub mod Usual

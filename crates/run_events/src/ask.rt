@@ -25,10 +25,10 @@ pub struct StartAsk {
 
 impl Duplicate for StartAsk {
     fn copy(&self, alloc: Global) -> Mem<StartAsk> {
+        let env_path = self.env_path.copy(alloc)?;
+        let streams = self.streams.copy(alloc)?;
         let command = self.command.copy(alloc)?;
         let env = self.env.copy(alloc)?;
-        let streams = self.streams.copy(alloc)?;
-        let env_path = self.env_path.copy(alloc)?;
         Ok(StartAsk {
             unit: self.unit,
             attempt: self.attempt,

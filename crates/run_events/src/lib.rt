@@ -24,6 +24,7 @@ mod signal;
 mod stats;
 mod stress;
 mod turn;
+mod usual;
 
 pub use ask::{Ask, SignalAsk, StartAsk};
 pub use ask_list::AskList;

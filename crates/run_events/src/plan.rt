@@ -1,4 +1,6 @@
 // What is to be run.
+ghost use Rattle.std.specs.Prelude.{◌≡◌, IfOk};
+
 use crate::{
     FlakyResult, InputHandlerKind, LeakTimeoutResult, RetryPolicy, RunMode, SignalHandlerKind,
     SlowTimeoutResult,
@@ -148,12 +150,20 @@ pub struct PlanTest {
     pub platform: BuildPlatform,
 }
 
+// The reason of a test's skip, and its group.
+fn texts_of(alloc: Global, test: &PlanTest) -> Mem<(Option<Text>, Option<Text>)>
+    ensures { IfOk result (λ p. p ≡ (test.now.skip, test.now.group)) }
+{
+    let skip = test.skip.copy(alloc)?;
+    let group = test.group.copy(alloc)?;
+    Ok((skip, group))
+}
+
 impl Duplicate for PlanTest {
     fn copy(&self, alloc: Global) -> Mem<PlanTest> {
-        let command = self.command.copy(alloc)?;
         let scripts = self.scripts.copy(alloc)?;
-        let skip = self.skip.copy(alloc)?;
-        let group = self.group.copy(alloc)?;
+        let command = self.command.copy(alloc)?;
+        let (skip, group) = texts_of(alloc, self)?;
         let id = self.id.copy(alloc)?;
         Ok(PlanTest {
             id,
@@ -175,8 +185,8 @@ impl Duplicate for PlanTest {
 #[derive(Drop)]
 pub struct RunHead {
     pub run_id: Uuid,
-    /// The moment at which the run's clock is 0.
-    pub started_at: Timestamp,
+    /// The moment at which the run's clock is 0: the start of 1970 where none is given.
+    pub started_at: Option<Timestamp>,
     pub profile: Text,
     pub workspace_root: Text,
     /// The words with which the runner was called.
@@ -226,21 +236,54 @@ pub struct Plan {
     pub tests: List<PlanTest>,
 }
 
+// What a plan lists.
+#[derive(Drop)]
+struct PlanLists {
+    groups: List<Group>,
+    scripts: List<PlanScript>,
+    tests: List<PlanTest>,
+}
+
+fn lists_of(alloc: Global, plan: &Plan) -> Mem<PlanLists>
+    ensures groups { IfOk result (λ lists. lists.groups ≡ plan.now.groups) }
+    ensures scripts { IfOk result (λ lists. lists.scripts ≡ plan.now.scripts) }
+    ensures tests { IfOk result (λ lists. lists.tests ≡ plan.now.tests) }
+{
+    let groups = plan.groups.copy(alloc)?;
+    let scripts = plan.scripts.copy(alloc)?;
+    let tests = plan.tests.copy(alloc)?;
+    Ok(PlanLists {
+        groups,
+        scripts,
+        tests,
+    })
+}
+
+// A plan with these lists and runners, and all else of another.
+fn with_head(alloc: Global, plan: &Plan, lists: PlanLists, runners: TargetRunner) -> Mem<Plan>
+    ensures { IfOk result (λ p. p ≡ record plan.now {
+      groups = lists.groups;
+      runners = runners;
+      scripts = lists.scripts;
+      tests = lists.tests;
+    }) }
+{
+    let head = plan.head.copy(alloc)?;
+    Ok(Plan {
+        head,
+        hearing: plan.hearing,
+        global_timeout: plan.global_timeout,
+        groups: lists.groups,
+        runners,
+        scripts: lists.scripts,
+        tests: lists.tests,
+    })
+}
+
 impl Duplicate for Plan {
     fn copy(&self, alloc: Global) -> Mem<Plan> {
-        let groups = self.groups.copy(alloc)?;
-        let scripts = self.scripts.copy(alloc)?;
-        let tests = self.tests.copy(alloc)?;
+        let lists = lists_of(alloc, self)?;
         let runners = self.runners.copy(alloc)?;
-        let head = self.head.copy(alloc)?;
-        Ok(Plan {
-            head,
-            hearing: self.hearing,
-            global_timeout: self.global_timeout,
-            groups,
-            runners,
-            scripts,
-            tests,
-        })
+        with_head(alloc, self, lists, runners)
     }
 }

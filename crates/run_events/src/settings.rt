@@ -1,4 +1,6 @@
 // What a run goes by.
+ghost use Rattle.std.specs.Prelude.{◌≡◌, IfOk};
+
 use crate::{FlakyResult, MaxFail, Plan, RetryPolicy, TestInstanceId};
 use run_capture::{CaptureStrategy, Duplicate, List, Mem};
 use run_commands::{Interceptor, StressCondition};
@@ -23,11 +25,36 @@ pub struct Settings {
     pub flaky_result: Option<FlakyResult>,
 }
 
+// What settings hold beside the plan.
+#[derive(Drop)]
+struct Extras {
+    stress: Option<StressCondition>,
+    interceptor: Interceptor,
+    expected: Option<List<TestInstanceId>>,
+}
+
+fn extras_of(alloc: Global, settings: &Settings) -> Mem<Extras>
+    ensures stress { IfOk result (λ extras. extras.stress ≡ settings.now.stress) }
+    ensures interceptor { IfOk result (λ extras. extras.interceptor ≡ settings.now.interceptor) }
+    ensures expected { IfOk result (λ extras. extras.expected ≡ settings.now.expected) }
+{
+    let expected = settings.expected.copy(alloc)?;
+    let stress = settings.stress.copy(alloc)?;
+    let interceptor = settings.interceptor.copy(alloc)?;
+    Ok(Extras {
+        stress,
+        interceptor,
+        expected,
+    })
+}
+
 impl Duplicate for Settings {
     fn copy(&self, alloc: Global) -> Mem<Settings> {
-        let expected = self.expected.copy(alloc)?;
-        let stress = self.stress.copy(alloc)?;
-        let interceptor = self.interceptor.copy(alloc)?;
+        let Extras {
+            stress,
+            interceptor,
+            expected,
+        } = extras_of(alloc, self)?;
         let plan = self.plan.copy(alloc)?;
         Ok(Settings {
             plan,
