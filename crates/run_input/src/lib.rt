@@ -15,7 +15,9 @@ mod plan_line;
 mod reading;
 mod std_sink;
 mod std_source;
+mod turn_fields;
 mod turn_line;
+mod turn_name;
 mod value;
 
 pub use errors::{InputError, LineError, ReadAllError};
@@ -26,6 +28,3 @@ pub use reading::{INPUT_LIMIT, read_all};
 pub use std_sink::StdSink;
 pub use std_source::StdSource;
 pub use turn_line::read_turn_line;
-
-#[cfg(test)]
-mod tests;
