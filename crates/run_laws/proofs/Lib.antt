@@ -8,4 +8,5 @@ pub mod Kept
 pub mod Boards
 pub mod FateLemmas
 pub mod Ready
+pub mod Courses
 pub mod Prefix

@@ -1,3 +1,4 @@
 pub mod Holds
 pub mod Laws
+pub mod Course
 pub mod Ready

@@ -1,5 +1,6 @@
 // Theorems over every legal journal.
 ghost use Rattle.run_laws.specs.Laws.{AccountsHold, BoardsStep, EachHasFate, EventsExtend, OverHasEnded};
+ghost use Rattle.run_laws.specs.Course.{CoursesExclude, NoneRefused};
 ghost use Rattle.run_laws.specs.Ready.{EnabledCan};
 
 /// What is told of each test in the newest sub-run, and what waits to be told, is its account, after every legal
@@ -30,4 +31,11 @@ pub fn each_test_has_its_fate()
 /// The events of a legal journal are the first events of every legal journal that extends it.
 pub fn events_extend()
     ensures { EventsExtend }
+{}
+
+/// A list of turns has one journal at most with a reporter, and one course: it stops at one place, or it leaves the run
+/// unfinished, or it ends the run with one outcome. Where no event was refused, the reporter is the one that refuses none.
+pub fn a_list_of_turns_has_one_course()
+    ensures one { CoursesExclude }
+    ensures unrefused { NoneRefused }
 {}
