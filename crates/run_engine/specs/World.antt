@@ -1,6 +1,6 @@
 -- A run as its callers see it, and what a step of it does to the world.
-use Rattle.std.specs.Prelude.{ℕ, ◌≡◌, ◌≤◌, List, [], ◌∷◌, ◌++◌, length, map, Bool, Option, Some, None, option_to_list, is_some, zip, IsTrue}
-use Rattle.std.specs.List.{list_any}
+use Rattle.std.specs.Prelude.{ℕ, ◌≡◌, ◌≤◌, List, [], ◌∷◌, ◌++◌, length, map, Bool, not, Option, Some, None, option_to_list, is_some, is_none, zip, IsTrue}
+use Rattle.std.specs.List.{list_all}
 use Rattle.run_capture.specs.Faults.{Rose}
 use Rattle.run_events.specs.Tell.{Adds}
 use Rattle.run_events.specs.declared.settings.Settings.{Settings}
@@ -37,10 +37,6 @@ abbrev pub first_error : {X E : Type 0} → List (X × Option E) → Option E
 first_error [] = None
 first_error (x ∷ xs) = earlier x.1 (first_error xs)
 
--- whether one of a turn's events was refused
-abbrev pub any_refused : List Bool → Bool
-any_refused refused = list_any (λ mark. mark) refused
-
 -- a reporter that had told a list has told these events after it, refused as marked, with this first error
 abbrev pub TellsEvents : {R E : Type 0} → (R → List (ReporterEvent × Option E) → Type 0) → R → R → List (ReporterEvent × Bool) → Option E → Type 0
 TellsEvents {R} {E} told before after events refusal =
@@ -69,6 +65,6 @@ pub record TakesTurn {R E C : Type 0} (tells : R → List (ReporterEvent × Opti
   pub refused : List Bool
   pub answered : length refused ≡ length (events_in (next_of old turn refused))
   pub grown : new ≡ record old { journal = old.journal ++ entry_of turn refused ∷ [] }
-  pub marked : is_some refusal ≡ any_refused refused
+  pub marked : is_none refusal ≡ list_all not refused
   pub told : TellsEvents tells report report_after (zip (events_in (next_of old turn refused)) refused) refusal
   pub asked : Adds asks children children_after (map (λ ask. (length old.journal, ask)) (option_to_list (next_of old turn refused).asked))

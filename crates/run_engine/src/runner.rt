@@ -6,7 +6,9 @@ ghost use Rattle.run_model.specs.Admission.{units_in};
 ghost use Rattle.run_model.specs.Turns.{enabled};
 ghost use Rattle.run_engine.specs.World.{history_of};
 ghost use Rattle.run_engine.specs.Standing.{sound};
-ghost use Rattle.run_engine.specs.Execution.{Takes, Carries, Executes, AnswersCourse, UnlessMemory, turns_of, StopsAt, IsFinal};
+ghost use Rattle.run_engine.specs.Execution.{Takes, Carries, Executes, AnswersCourse, UnlessMemory, StopsAt, IsFinal};
+ghost use Rattle.run_capture.specs.Faults.{Rose};
+ghost use Rattle.run_laws.specs.Course.{turns_of, refuses_none};
 ghost use Rattle.run_model.specs.Journal.{outcome};
 ghost use Rattle.run_model.specs.Words.{is_over};
 
@@ -150,7 +152,8 @@ impl TestRunner {
         requires { length turns.now < 2 ^ 32 }
         ensures executes { UnlessMemory result (Executes R.told C.asked self turns.now report.old report.new children.old children.new
             (R.faults report.old) (R.faults report.new) result) }
-        ensures course { AnswersCourse self turns.now (R.faults report.old) (R.faults report.new) result }
+        ensures course { ¬ Rose (R.faults report.old) (R.faults report.new)
+            → AnswersCourse self turns.now refuses_none (R.faults report.old) (R.faults report.new) result }
     {
         self.carry_out(alloc, turns, children, report)
     }
@@ -187,7 +190,7 @@ impl TestRunner {
     ) -> Result<RunOutcome, TestRunnerExecuteErrors<Infallible>>
         requires { length turns.now < 2 ^ 32 }
         ensures executes { UnlessMemory result (Executes ⟦<EventLog as Reporter>⟧.told C.asked self turns.now log.old log.new children.old children.new 0 0 result) }
-        ensures course { AnswersCourse self turns.now 0 0 result }
+        ensures course { AnswersCourse self turns.now refuses_none 0 0 result }
     {
         self.try_execute(alloc, turns, children, log)
     }

@@ -85,11 +85,7 @@ pub fn admit(alloc: Global, settings: &Settings, state: &mut State) -> Mem<()>
             state.queue.reserve(1)?;
             let Admitted { unit, sent } = admit_test(alloc, settings, &state.units, test)?;
             state.queue.push_back_reserved(sent);
-            put(
-                &mut state.units,
-                settings.plan.scripts.len() + test,
-                unit,
-            );
+            put(&mut state.units, settings.plan.scripts.len() + test, unit);
             Ok(())
         }
         None => unreachable!(),

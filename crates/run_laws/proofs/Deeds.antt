@@ -31,7 +31,7 @@ use Rattle.run_model.specs.declared.unit_turn.UnitTurn.TheVariants.{Answered}
 use Rattle.run_model.specs.declared.unit_view.UnitView.{UnitView}
 use Rattle.run_model.specs.Unit.{takes}
 use Rattle.run_model.specs.Words.{is_on, reason, finished, finished_test, sent, delivered, queue, told, unit_of, units, placed, tally}
-use Rattle.run_model.specs.Admission.{scripts_in, units_in, unit_of_test, scripts_over, candidate, free_slot, first_view, skipped_view, Newcomer, skipped_newcomer, started_newcomer, newcomer_of, newcomer_at, newcomer}
+use Rattle.run_model.specs.Admission.{scripts_in, units_in, unit_of_test, scripts_over, candidate, free_slot, first_view, skipped_view, Newcomer, skipped_newcomer, started_newcomer, newcomer_of, newcomer_at, newcomer, global_slot}
 use Rattle.run_model.specs.Dispatch.{head_of, lets_go, event, with_start, with_finish, started_event}
 use Rattle.run_model.specs.Board.{Board, Deed, deed_events}
 use Rattle.run_model.specs.Turns.{enabled_on, is_empty, is_complete, takes_turn, turn_of_unit, unit_takes, taken_by, admission, delivery, run_turn, done_by, deed_on}
@@ -79,12 +79,12 @@ record Newcomes (p : Settings) (us : List (Option UnitView)) (new : Newcomer) : 
   candidate : candidate p us ≡ Some place
   planned : slice_get p.plan.tests place ≡ Some test
   is : ((reason : List ℕ) × (test.skip ≡ Some reason) × (new ≡ skipped_newcomer (skipped_view p (unit_of_test p place) test) reason))
-      ⊎ ((test.skip ≡ None) × (new ≡ started_newcomer (first_view p (unit_of_test p place) (free_slot us) test)))
+      ⊎ ((test.skip ≡ None) × (new ≡ started_newcomer (first_view p (unit_of_test p place) (global_slot (free_slot us)) test)))
 
 newcomer_cases : (p : Settings) (slot : ℕ) (fits : Bool) (k : ℕ) (test : PlanTest) (skip : Option (List ℕ)) (new : Newcomer)
     → newcomer_of p slot fits k test skip ≡ Some new
     → ((reason : List ℕ) × (skip ≡ Some reason) × (new ≡ skipped_newcomer (skipped_view p k test) reason))
-    ⊎ ((skip ≡ None) × (new ≡ started_newcomer (first_view p k slot test)))
+    ⊎ ((skip ≡ None) × (new ≡ started_newcomer (first_view p k (global_slot slot) test)))
 newcomer_cases p slot fits k test (Some reason) new e = inl (reason, refl, cc)
 newcomer_cases p slot true k test None new e = inr (refl, cc)
 newcomer_cases p slot false k test None new e = cc
@@ -152,7 +152,7 @@ new_unit p run new e = by_case found.is
     mismatched = ap (is_mismatched p) (place-of_test p found.place) ∙ ap is_skip found.planned
 
     by_case : ((reason : List ℕ) × (found.test.skip ≡ Some reason) × (new ≡ skipped_newcomer (skipped_view p k found.test) reason))
-        ⊎ ((found.test.skip ≡ None) × (new ≡ started_newcomer (first_view p k (free_slot (units p run)) found.test)))
+        ⊎ ((found.test.skip ≡ None) × (new ≡ started_newcomer (first_view p k (global_slot (free_slot (units p run))) found.test)))
         → IsNew p run new.unit new.sent
     by_case (inl (reason, skip, is)) =
         let mm : is_mismatched p (place_of p k) ≡ true = mismatched ∙ ap is_some skip in

@@ -60,8 +60,8 @@ end_fates : (p : Settings) (over : Bool) (now : ℕ) (run : List Happening) (e :
     → HasFate p (said now e (run_turn p (board_of p over now run) End) ∷ run) j
 end_fates p over now run e j h below complete =
     let k : ℕ = unit_of_test p j in
-    let all : list_all is_done (units p run) ≡ true = first_so (list_all is_done (units p run)) (is_empty (queue run)) complete in
-    let empty : queue run ≡ [] = empty_is (queue run) (second_so (list_all is_done (units p run)) (is_empty (queue run)) complete) in
+    let all : list_all is_done (units p run) ≡ true = second_so (is_empty (queue run)) (list_all is_done (units p run)) complete in
+    let empty : queue run ≡ [] = empty_is (queue run) (first_so (is_empty (queue run)) (list_all is_done (units p run)) complete) in
     let done : is_done (unit_of k run) ≡ true =
     sym (ap is_done (units-at p run k (omega arith))) ∙ all_at is_done (units p run) k None all (omega (arith, units-length p run)) in
     let fate = fate_of (is_mismatched p j) (unit_of k run) (account_of k (told run)) done

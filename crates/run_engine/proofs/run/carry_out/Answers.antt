@@ -1,6 +1,6 @@
 use Rattle.std.proofs.Common.{◌≡◌, ◌∷◌, ◌++◌, [], length, ap, sym, subst, ◌∙◌, arith, option_to_list, map, zip}
 use Rattle.run_events.specs.Tell.{Adds}
-use Rattle.run_model.specs.Board.{Board, board}
+use Rattle.run_model.specs.Board.{Board, board, deed_events}
 use Rattle.run_model.specs.Turns.{deed_on}
 use Rattle.run_model.specs.Journal.{past_of}
 use Rattle.run_engine.specs.World.{entry_of, TellsEvents}
@@ -24,7 +24,7 @@ returns-clause-takes g c =
     c.args.turn c.args.report.now c.tell.new.report c.args.children.now c.ask.new.children
     refused events c.in_ok-events.field-0.asked refusal
     c.requires.stands c.requires.enabled c.in_ok-events.ensures.told c.in_ok-events.ensures.asked
-    (c.in_ok-refused.ensures.answered ∙ ap length c.as_slice.ensures)
+    (c.in_ok-refused.ensures.answered ∙ ap length c.as_slice.ensures) c.in_ok-refused.ensures.marked
     (subst (λ es. TellsEvents g.R.Reporter.told c.args.report.now c.tell.new.report (zip es refused) refusal) c.as_slice.ensures c.in_ok-refused.ensures.told)
     (subst (λ n. Adds g.C.Children.asked c.args.children.now c.ask.new.children
     (map (λ ask. (n, ask)) (option_to_list c.in_ok-events.field-0.asked))) place c.in_ok-ask.ensures)
@@ -39,7 +39,7 @@ returns-clause-runnable g c =
     (sym (c.push_reserved.ensures.items ∙ ap (λ j. j ++ entry_of c.args.turn refused ∷ []) c.in_ok-reserve.ensures.items))
     (runnable_next p journal c.args.turn refused c.requires.runnable c.requires.room c.requires.enabled
     (c.in_ok-refused.ensures.answered ∙ ap length (c.as_slice.ensures ∙ c.in_ok-events.ensures.told)
-    ∙ ap (λ (b : Board). length (option_to_list (deed_on p b c.args.turn).told)) c.requires.stands))
+    ∙ ap (λ (b : Board). length (deed_events (deed_on p b c.args.turn))) c.requires.stands))
 
 pub returns-clause-stands : goal.returns-clause-stands
 returns-clause-stands g c =
@@ -49,4 +49,4 @@ returns-clause-stands g c =
     subst (λ journal. c.advance.new.state ≡ board p (past_of p journal))
     (sym (c.push_reserved.ensures.items ∙ ap (λ j. j ++ entry_of c.args.turn refused ∷ []) c.in_ok-reserve.ensures.items))
     (stands_next p journal c.args.state.now c.advance.new.state c.args.turn refused
-    c.requires.runnable c.requires.stands c.in_ok-events.ensures.after)
+    c.requires.runnable c.requires.stands c.requires.enabled c.in_ok-events.ensures.after)
