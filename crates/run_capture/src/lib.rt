@@ -12,8 +12,6 @@ mod memory_source;
 mod sink;
 mod source;
 mod test_output;
-#[cfg(test)]
-mod tests;
 mod text;
 
 pub use blob::Blob;

@@ -15,8 +15,6 @@ mod laws;
 mod script_helpers;
 mod stress_count;
 mod target_runner;
-#[cfg(test)]
-mod tests;
 mod text_list;
 mod version_env_vars;
 mod word_list;

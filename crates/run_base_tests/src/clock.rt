@@ -1,10 +1,11 @@
-// Each call at worked rows, and over any list of calls.
+// Stopwatches and sleeps at worked rows, and over any list of calls.
 ghost use Rattle.std.specs.Prelude.{◌≡◌, ◌≤◌, Ok};
-ghost use Rattle.run_clock.specs.Counted.{IsInOrder, is_due, marks_of, counted_time, paused_time};
+ghost use Rattle.run_clock.specs.Counted.{IsInOrder, is_due, counted_time, paused_time};
 ghost use Rattle.run_clock.specs.Stopwatch.{Times};
 ghost use Rattle.run_clock.specs.Sleep.{Keeps, ready_where};
+ghost use Rattle.run_base_tests.specs.Marks.{marks_of};
 
-use crate::{PausableSleep, Poll, StopwatchSnapshot, StopwatchStart};
+use run_clock::{PausableSleep, Poll, StopwatchSnapshot, StopwatchStart};
 use std::alloc::AllocError;
 
 // A stopwatch after any list of calls, the newest first: pauses (true) and resumes.
@@ -72,61 +73,60 @@ fn copied(watch: &StopwatchStart) -> Result<StopwatchStart, AllocError>
     watch.clone()
 }
 
-#[test]
-fn stopwatch_counts_pauses_one_after_another(rt: HostRuntime) {
+fn shows(shown: StopwatchSnapshot, start: u64, active: u64, paused: u64) -> bool {
+    shown.start == start && shown.active == active && shown.paused == paused
+}
+
+// A stopwatch that is paused twice in a row.
+fn counts_pauses() -> bool {
     let mut watch = StopwatchStart::new(0);
     watch.pause(0);
     watch.resume(250);
     watch.pause(250);
-    assert!(rt; watch.is_paused());
-    let shown = watch.snapshot(600);
-    assert_eq!(rt; (shown.start, shown.active, shown.paused), (0, 0, 600));
+    let paused = watch.is_paused() && shows(watch.snapshot(600), 0, 0, 600);
     watch.resume(550);
-    assert!(rt; copied(&watch).is_ok_and(|copy| !copy.is_paused()));
-    let shown = watch.snapshot(600);
-    assert_eq!(rt; (shown.start, shown.active, shown.paused), (0, 50, 550));
-    let shown = shown_after(
-        0,
-        &[(550, false), (250, true), (250, false), (0, true)],
-        600,
-    );
-    assert_eq!(rt; (shown.active, shown.paused), (50, 550));
+    paused && !watch.is_paused() && shows(watch.snapshot(600), 0, 50, 550)
+}
+
+fn is_copied(watch: &StopwatchStart) -> bool {
+    match copied(watch) {
+        Ok(copy) => copy.is_paused() == watch.is_paused(),
+        Err(_) => false,
+    }
 }
 
 #[test]
-fn sleep_is_set_again_while_paused(rt: HostRuntime) {
+fn stopwatch_counts_pauses_one_after_another(rt: HostRuntime) {
+    assert!(rt; counts_pauses());
+    let calls = [(550, false), (250, true), (250, false), (0, true)];
+    assert!(rt; shows(shown_after(0, &calls, 600), 0, 50, 550));
+    assert!(rt; is_copied(&StopwatchStart::new(0)));
+}
+
+fn is_ready(sleep: &PausableSleep, now: u64) -> bool
+    requires { sleep.now.latest ≤ now }
+{
+    sleep.poll_at(now) == Poll::Ready(())
+}
+
+// A sleep that is set again while it is paused, with the duration that it has, and past the greatest moment.
+fn fires_where_due() -> bool {
     let mut sleep = PausableSleep::new(0, 1);
     sleep.pause(0);
     sleep.reset(0, 500);
-    assert!(rt; sleep.is_paused());
-    assert_eq!(rt; sleep.poll_at(1000), Poll::Pending);
+    let paused = sleep.is_paused() && !is_ready(&sleep, 1000);
     sleep.resume(1000);
-    assert!(rt; !sleep.is_paused());
-    assert_eq!(rt; sleep.poll_at(1499), Poll::Pending);
-    assert_eq!(rt; sleep.poll_at(1500), Poll::Ready(()));
+    let resumed = !is_ready(&sleep, 1499) && is_ready(&sleep, 1500);
     sleep.reset_last_duration(1500);
-    assert_eq!(rt; sleep.poll_at(1999), Poll::Pending);
-    assert_eq!(rt; sleep.poll_at(2000), Poll::Ready(()));
+    let again = !is_ready(&sleep, 1999) && is_ready(&sleep, 2000);
+    sleep.reset(2000, u64::MAX - 1999);
+    paused && resumed && again && !is_ready(&sleep, u64::MAX)
 }
 
 #[test]
-fn sleep_keeps_what_remains(rt: HostRuntime) {
-    let mut sleep = PausableSleep::new(10, 100);
-    sleep.pause(70);
-    sleep.pause(90);
-    sleep.resume(200);
-    sleep.resume(210);
-    assert_eq!(rt; sleep.poll_at(239), Poll::Pending);
-    assert_eq!(rt; sleep.poll_at(240), Poll::Ready(()));
+fn sleep_fires_at_its_deadline(rt: HostRuntime) {
+    assert!(rt; fires_where_due());
     let calls = [(210, false), (200, false), (90, true), (70, true)];
-    assert_eq!(rt; polled_after(10, 100, &calls, 239), Poll::Pending);
-    assert_eq!(rt; polled_after(10, 100, &calls, 240), Poll::Ready(()));
-}
-
-#[test]
-fn deadline_past_the_greatest_moment_never_fires(rt: HostRuntime) {
-    let mut sleep = PausableSleep::new(1, u64::MAX);
-    assert_eq!(rt; sleep.poll_at(u64::MAX), Poll::Pending);
-    sleep.reset(2, u64::MAX - 2);
-    assert_eq!(rt; sleep.poll_at(u64::MAX), Poll::Ready(()));
+    assert!(rt; polled_after(10, 100, &calls, 239) == Poll::Pending);
+    assert!(rt; polled_after(10, 100, &calls, 240) == Poll::Ready(()));
 }
