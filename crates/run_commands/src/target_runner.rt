@@ -31,7 +31,7 @@ pub struct TargetRunner {
 }
 
 /// A runner's program, its arguments, and where it was named.
-#[derive(Debug, Drop, PartialEq, Eq)]
+#[derive(Debug, PartialEq, Eq)]
 pub struct PlatformRunner {
     runner_binary: Text,
     args: TextList,
@@ -59,6 +59,17 @@ pub enum PlatformRunnerSource {
         /// The table under `target` that names the runner.
         target_table: Text,
     },
+}
+
+// A call of its own, which keeps the proofs of all that hold a runner small.
+impl Drop for PlatformRunner {
+    fn drop(self) {
+        let PlatformRunner {
+            runner_binary: _,
+            args: _,
+            source: _,
+        } = self;
+    }
 }
 
 impl TargetRunner {
