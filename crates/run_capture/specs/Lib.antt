@@ -3,3 +3,5 @@ pub mod Faults
 pub mod Bytes
 pub mod InMemory
 pub mod Output
+pub mod Captured
+pub mod Heard

@@ -3,8 +3,12 @@
 //! implementations in memory. The layers above use these types in every signature.
 #![tactic(auto)]
 
+mod accumulator;
 mod blob;
+mod child_output_mut;
 mod duplicate;
+mod ended;
+mod laws;
 mod list;
 mod memory;
 mod memory_sink;
@@ -14,8 +18,11 @@ mod source;
 mod test_output;
 mod text;
 
+pub use accumulator::ChildAccumulator;
 pub use blob::Blob;
+pub use child_output_mut::ChildOutputMut;
 pub use duplicate::Duplicate;
+pub use laws::output_is_what_was_heard;
 pub use list::List;
 pub use memory::{Mem, OutOfMemory};
 pub use memory_sink::MemorySink;
