@@ -5,3 +5,4 @@ pub mod InMemory
 pub mod Output
 pub mod Captured
 pub mod Heard
+pub mod OutputText
