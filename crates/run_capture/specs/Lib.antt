@@ -6,3 +6,5 @@ pub mod Output
 pub mod Captured
 pub mod Heard
 pub mod OutputText
+pub mod Reading
+pub mod StdStreams

@@ -1,9 +1,8 @@
 // Tables of lines, whole inputs, and sources that fail.
 use crate::{
-    InputError, LineError, ReadAllError, StdSink, StdSource, read_all, read_input, read_plan_line,
-    read_turn_line,
+    InputError, LineError, ReadAllError, read_all, read_input, read_plan_line, read_turn_line,
 };
-use run_capture::{Blob, CaptureStrategy, List, MemorySource, Sink, Source, Text};
+use run_capture::{Blob, CaptureStrategy, List, MemorySource, Text};
 use run_events::{ChildExit, Turn};
 use std::test::Fail;
 
@@ -220,24 +219,5 @@ fn whole_sources(rt: HostRuntime) -> Result<(), Fail> {
     let mut source = MemorySource::new(bytes, 3, fail);
     let failed = matches!(read_all(rt.alloc(), &mut source), Err(ReadAllError::Failed));
     assert!(rt; failed);
-    Ok(())
-}
-
-#[test]
-fn streams_of_std(rt: HostRuntime) -> Result<(), Fail> {
-    let mut source = StdSource::new(&b"0123456789"[..]);
-    assert_eq!(rt;
-        read_all(rt.alloc(), &mut source)?.as_slice(),
-        b"0123456789".as_slice()
-    );
-    let mut chunk = [0u8; 4];
-    assert_eq!(rt; source.read(&mut chunk), Ok(0));
-
-    let mut held = Vec::new(rt.alloc());
-    let mut sink = StdSink::new(&mut held);
-    assert_eq!(rt; sink.write(b"abc"), Ok(3));
-    assert_eq!(rt; sink.write(b""), Ok(0));
-    drop(sink);
-    assert_eq!(rt; held.as_slice(), b"abc".as_slice());
     Ok(())
 }

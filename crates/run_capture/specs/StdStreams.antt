@@ -1,7 +1,7 @@
 -- A source over a reader of std and a sink over a writer.
 use Rattle.std.specs.Prelude.{ℕ, List, Option, None}
-use Rattle.run_input.specs.declared.std_source.StdSource.{StdSource}
-use Rattle.run_input.specs.declared.std_sink.StdSink.{StdSink}
+use Rattle.run_capture.specs.declared.std_source.StdSource.{StdSource}
+use Rattle.run_capture.specs.declared.std_sink.StdSink.{StdSink}
 
 -- nothing is told of a stream that others may use too
 abbrev pub untold : Option (List ℕ)

@@ -1,7 +1,7 @@
 use Rattle.std.proofs.Common.{◌++◌, take, arith, length-append, length-take}
 use Rattle.std.proofs.lemmas.Result.{err_from_is_err_and}
-use Rattle.run_input.proofs.SourceLemmas.{gives_both}
-use Rattle.run_input.proofs.reading.read_all.Goals as goal
+use Rattle.run_capture.proofs.BytesLemmas.{gives_both}
+use Rattle.run_capture.proofs.reading.read_to_end.Goals as goal
 
 pub returns-in_err-extend_from_slice-clause-refused :
     goal.returns-in_err-extend_from_slice-clause-refused

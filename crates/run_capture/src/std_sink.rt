@@ -3,9 +3,9 @@ ghost use Rattle.std.specs.Prelude.{◌≡◌, ◌≤◌, ◌<◌, length, take,
 ghost use Rattle.std.specs.Io.KnownBytes.{Appends};
 ghost use Rattle.run_capture.specs.Bytes.{Takes};
 ghost use Rattle.run_capture.specs.Faults.{CountsFault};
-ghost use Rattle.run_input.specs.StdStreams.{untold, writer_holds, sink_faults};
+ghost use Rattle.run_capture.specs.StdStreams.{untold, writer_holds, sink_faults};
 
-use run_capture::{Failed, Sink};
+use crate::{Failed, Sink};
 use std::io::Write;
 
 /// Takes bytes into a writer of std, such as the standard output, and flushes it after each write.

@@ -3,9 +3,9 @@ ghost use Rattle.std.specs.Prelude.{◌≡◌, ◌≤◌, ◌<◌, length, take,
 ghost use Rattle.std.specs.Io.KnownBytes.{ReadConsumes};
 ghost use Rattle.run_capture.specs.Bytes.{Gives, AtEnd};
 ghost use Rattle.run_capture.specs.Faults.{CountsFault};
-ghost use Rattle.run_input.specs.StdStreams.{untold, reader_left, source_faults};
+ghost use Rattle.run_capture.specs.StdStreams.{untold, reader_left, source_faults};
 
-use run_capture::{Failed, Source};
+use crate::{Failed, Source};
 use std::io::Read;
 
 /// Bytes from a reader of std, such as the standard input. As a source it tells nothing of what is left.
