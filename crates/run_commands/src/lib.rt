@@ -15,9 +15,7 @@ mod laws;
 mod script_helpers;
 mod stress_count;
 mod target_runner;
-mod text_list;
 mod version_env_vars;
-mod word_list;
 mod words;
 
 pub use command::{DebuggerCommand, TracerCommand};

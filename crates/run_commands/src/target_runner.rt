@@ -8,7 +8,6 @@ ghost use Rattle.run_commands.specs.declared.target_runner.PlatformRunner.{Platf
 ghost use Rattle.run_commands.specs.TargetRunner.{runner_for, binary_of, args_of, source_of, args_left};
 ghost use Rattle.run_commands.specs.RunnerVariable.{letter_in_variable, runner_variable};
 
-use crate::text_list::TextList;
 use run_capture::{Duplicate, List, Mem, Text};
 use std::alloc::Global;
 use std::fmt;
@@ -34,7 +33,7 @@ pub struct TargetRunner {
 #[derive(Debug, PartialEq, Eq)]
 pub struct PlatformRunner {
     runner_binary: Text,
-    args: TextList,
+    args: List<Text>,
     source: PlatformRunnerSource,
 }
 
@@ -138,7 +137,7 @@ impl PlatformRunner {
     {
         PlatformRunner {
             runner_binary,
-            args: TextList::new(args),
+            args,
             source,
         }
     }

@@ -1,7 +1,7 @@
 use Rattle.std.proofs.Common.{◌≡◌, false, is_some}
 use Rattle.std.specs.Str.Iter.{char_indices_offset, char_indices_rest}
 use Rattle.run_commands.specs.WordMachine.{IsSound, Mode, mode_of, put, reading}
-use Rattle.run_commands.proofs.words.split_words.Given as goal
+use Rattle.run_commands.proofs.words.splitting.split_words.Given as goal
 
 abbrev pub invariant-loop-place : goal.invariant-loop-place
 invariant-loop-place l = record {

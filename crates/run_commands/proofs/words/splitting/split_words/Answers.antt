@@ -1,6 +1,6 @@
 use Rattle.run_commands.proofs.CharStepLemmas.{goes_on_from}
 use Rattle.run_commands.proofs.CommandLemmas.{ends_whole, ok_words, refused_words}
-use Rattle.run_commands.proofs.words.split_words.Goals as goal
+use Rattle.run_commands.proofs.words.splitting.split_words.Goals as goal
 
 pub loop-place-preserved : goal.loop-place-preserved
 loop-place-preserved c = record {

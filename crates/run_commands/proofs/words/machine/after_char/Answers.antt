@@ -1,4 +1,4 @@
-use Rattle.run_commands.proofs.words.after_char.Goals as goal
+use Rattle.run_commands.proofs.words.machine.after_char.Goals as goal
 
 pub returns-in-Comment : goal.returns-in-Comment
 returns-in-Comment c =

@@ -1,7 +1,7 @@
 use Rattle.std.proofs.Common.{◌∙◌}
-use Rattle.run_commands.specs.declared.words.State.TheVariants as states
+use Rattle.run_commands.specs.declared.words.machine.State.TheVariants as states
 use Rattle.run_commands.proofs.WordStepLemmas.{double_other, takes_add}
-use Rattle.run_commands.proofs.words.after_double.Goals as goal
+use Rattle.run_commands.proofs.words.machine.after_double.Goals as goal
 
 pub returns-in_ok-push-in_default : goal.returns-in_ok-push-in_default
 returns-in_ok-push-in_default c = λ place.

@@ -1,9 +1,9 @@
 use Rattle.std.proofs.Common.{◌∙◌}
-use Rattle.run_commands.specs.declared.words.State.TheVariants as states
+use Rattle.run_commands.specs.declared.words.machine.State.TheVariants as states
 use Rattle.std.proofs.Common.{arith}
 use Rattle.std.proofs.lemmas.Str.{encode_ascii}
 use Rattle.run_commands.proofs.WordStepLemmas.{double_escape_other, takes_add_both}
-use Rattle.run_commands.proofs.words.after_double_escape.Goals as goal
+use Rattle.run_commands.proofs.words.machine.after_double_escape.Goals as goal
 
 pub returns-in_ok-push-in_default-2 : goal.returns-in_ok-push-in_default-2
 returns-in_ok-push-in_default-2 c = λ place.
