@@ -96,7 +96,7 @@ impl ChildAccumulator {
         ensures err { OnErr result (self.new ≡ self.old) }
     {
         self.errors.push(alloc, fd_error(stream, text))?;
-        self.ended = self.ended.with(stream);
+        self.end(stream);
         Ok(())
     }
 
