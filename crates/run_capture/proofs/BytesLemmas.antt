@@ -2,7 +2,7 @@
 use Rattle.std.proofs.Common.{◌≡◌, ℕ, ◌+◌, ◌-◌, List, ◌++◌, length, take, drop, Option, Some, None, option_map, ap, ◌∙◌, append_assoc, sym, arith, length-drop}
 use Rattle.std.proofs.Math.Seq.{take-add}
 use Rattle.std.proofs.lemmas.List.{take_all, drop-drop, take-append-drop}
-use Rattle.run_capture.specs.Bytes.{Takes}
+use Rattle.run_capture.specs.Bytes.{Takes, Gives}
 
 -- two pieces taken are their join
 pub takes_both : (before between after : Option (List ℕ)) (xs ys : List ℕ)
@@ -31,3 +31,10 @@ drop-given at n bytes given e =
     sym (take-append-drop n (drop at bytes))
     ∙ ap (λ rest. take n (drop at bytes) ++ rest) (drop-drop n at bytes)
     ∙ ap (λ front. front ++ drop (at + n) bytes) (sym (rw (take-drop_all at bytes) at e))
+
+-- two pieces given are their join
+pub gives_both : (before between after : Option (List ℕ)) (xs ys : List ℕ)
+    → Gives before between xs → Gives between after ys → Gives before after (xs ++ ys)
+gives_both before between None xs ys e f = e ∙ ap (option_map (λ left. xs ++ left)) f
+gives_both before between (Some left) xs ys e f =
+    e ∙ ap (option_map (λ left. xs ++ left)) f ∙ ap Some (sym (append_assoc xs ys left))

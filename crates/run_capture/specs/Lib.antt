@@ -3,3 +3,8 @@ pub mod Faults
 pub mod Bytes
 pub mod InMemory
 pub mod Output
+pub mod Captured
+pub mod Heard
+pub mod OutputText
+pub mod Reading
+pub mod StdStreams

@@ -3,26 +3,41 @@
 //! implementations in memory. The layers above use these types in every signature.
 #![tactic(auto)]
 
+mod accumulator;
 mod blob;
+mod child_output_mut;
 mod duplicate;
+mod ended;
+mod laws;
 mod list;
 mod memory;
 mod memory_sink;
 mod memory_source;
+mod output_spec;
+mod output_text;
+mod reading;
 mod sink;
 mod source;
+mod std_sink;
+mod std_source;
 mod test_output;
-#[cfg(test)]
-mod tests;
 mod text;
 
+pub use accumulator::ChildAccumulator;
 pub use blob::Blob;
+pub use child_output_mut::ChildOutputMut;
 pub use duplicate::Duplicate;
+pub use laws::output_is_what_was_heard;
 pub use list::List;
 pub use memory::{Mem, OutOfMemory};
 pub use memory_sink::MemorySink;
 pub use memory_source::MemorySource;
+pub use output_spec::{LiveSpec, OutputSpec, RecordingSpec, SerializableOutputSpec};
+pub use output_text::OutputText;
+pub use reading::{ReadError, read_to_end};
 pub use sink::{Sink, write_all};
 pub use source::{Failed, Source};
+pub use std_sink::StdSink;
+pub use std_source::StdSource;
 pub use test_output::{CaptureStrategy, ChildFdError, ChildOutput, ChildSplitOutput, Stream};
 pub use text::Text;

@@ -5,6 +5,8 @@ ghost use Rattle.std.specs.Option.{option_copied};
 use crate::duplicate::copies;
 use crate::{Duplicate, Mem};
 use std::alloc::Global;
+use std::fmt;
+use std::fmt::{Debug, Write};
 use std::marker::Model;
 
 /// A list of items in order.
@@ -119,4 +121,10 @@ impl<T: Eq> Eq for List<T> {
     ghost use Rattle.std.specs.Cmp.Lexicographic.{lists_equiv};
 
     ghost laws = { lists_equiv T.Eq.laws };
+}
+
+impl<T: Debug> Debug for List<T> {
+    fn fmt<W: Write>(&self, f: &mut fmt::Formatter<W>) -> fmt::Result {
+        self.as_slice().fmt(f)
+    }
 }

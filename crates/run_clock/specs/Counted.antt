@@ -1,5 +1,5 @@
 -- Counted time: the time of a history that lies in no pause. A history is a start and a list of marks, newest first.
-use Rattle.std.specs.Prelude.{ℕ, ◌+◌, ◌-◌, ◌≤◌, Bool, true, false, ◌&&◌, not, nat_le, if◌then◌else◌, List, [], ◌∷◌, map}
+use Rattle.std.specs.Prelude.{ℕ, ◌+◌, ◌-◌, ◌≤◌, Bool, true, false, ◌&&◌, not, nat_le, if◌then◌else◌, List, [], ◌∷◌}
 
 -- what an entry of a history does to a timer; most turns of a run do something else
 pub data Act : Type 0 where
@@ -67,7 +67,3 @@ set_again timer now duration = record {
   duration = duration;
   past = if is_paused timer.past then mark_of pause now ∷ [] else [];
 }
-
--- the marks of calls, the newest first: each with its moment, and whether it is a pause or a resume
-abbrev pub marks_of : List (ℕ × Bool) → List Mark
-marks_of calls = map (λ call. mark_of (if call.1 then pause else resume) call.0) calls

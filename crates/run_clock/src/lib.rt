@@ -8,8 +8,6 @@ mod pausable_sleep;
 mod poll;
 mod sleep_state;
 mod stopwatch;
-#[cfg(test)]
-mod tests;
 
 pub use laws::{
     idle_marks_count_nothing, idle_marks_need_no_call, passing_time_counts,

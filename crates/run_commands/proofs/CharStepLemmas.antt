@@ -5,8 +5,8 @@ use Rattle.std.proofs.Math.Dec.{ltb}
 use Rattle.std.proofs.lemmas.Bool.{ltb-true}
 use Rattle.std.proofs.lemmas.Bool.Decides.{nat_tests}
 use Rattle.std.proofs.lemmas.Str.{encode_ascii, length-encode, len_utf8_bounds}
-use Rattle.run_commands.specs.declared.words.CharKind.TheVariants as kinds
-use Rattle.run_commands.specs.declared.words.State.{State}
+use Rattle.run_commands.specs.declared.words.char_kind.CharKind.TheVariants as kinds
+use Rattle.run_commands.specs.declared.words.machine.State.{State}
 use Rattle.run_commands.specs.Gathered.{Gathered}
 use Rattle.run_commands.specs.Words.{kind}
 use Rattle.run_commands.specs.WordMachine.{Mode, Effect, Read, step, effects, put, mode_of, step_for, Takes, reading}

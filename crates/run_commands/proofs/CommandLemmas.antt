@@ -3,9 +3,9 @@ use Rattle.std.proofs.Common.{◌≡◌, false, ℕ, zero, suc, ◌<◌, List, [
 use Rattle.std.proofs.Math.Seq.{take-length}
 use Rattle.std.specs.List.{slice_get}
 use Rattle.std.specs.Option.{IsSomeAnd}
-use Rattle.run_commands.specs.declared.words.State.{State}
-use Rattle.run_commands.specs.declared.words.WordsError.{WordsError}
-use Rattle.run_commands.specs.declared.words.WordsError.TheVariants as errors
+use Rattle.run_commands.specs.declared.words.machine.State.{State}
+use Rattle.run_commands.specs.declared.words.words_error.WordsError.{WordsError}
+use Rattle.run_commands.specs.declared.words.words_error.WordsError.TheVariants as errors
 use Rattle.run_commands.specs.Gathered.{Gathered}
 use Rattle.run_commands.specs.Words.{HasWords, IsOpenQuote, IsQuote, kind}
 use Rattle.run_commands.specs.WordMachine.{Mode, Read, put, mode_of, reading, ended_by, IsOpenAtEnd}
@@ -54,10 +54,10 @@ no_open_quote text words place says open_at within =
     open_at.longest (length text) words within (omega arith) (rw (take-length text) says)
 
 -- what is answered for a text with words
-pub answers_words : (text : List ℕ) (result : Result (List ℕ × List (List ℕ)) WordsError)
-    → IfOk result (λ split. HasWords text (split.0 ∷ split.1)) → IfErr result (IsRefusedWords text)
+pub answers_words : (text : List ℕ) (result : Result (List (List ℕ)) WordsError)
+    → IfOk result (HasWords text) → IfErr result (IsRefusedWords text)
     → (words : List (List ℕ)) → HasWords text words → IsWordsAnswer words result
-answers_words text (Ok split) ok refused words says = one_reading text words (split.0 ∷ split.1) says ok
+answers_words text (Ok command) ok refused words says = one_reading text command words ok says
 answers_words text (Err (errors.OpenQuote place)) ok refused words says =
     no_open_quote text words place says refused (quote_within text place (λ b. IsQuote (kind b)) refused.quote)
 answers_words text (Err errors.NoWords) ok refused words says = one_reading text words [] says refused

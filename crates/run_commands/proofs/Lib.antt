@@ -2,7 +2,6 @@ mod CharLemmas
 mod EnvLineLemmas
 mod EnvMapLemmas
 mod EnvTextLemmas
-mod SourceLemmas
 mod WordLemmas
 mod WordSoundLemmas
 mod OpenQuoteLemmas

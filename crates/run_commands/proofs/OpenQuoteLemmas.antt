@@ -4,8 +4,8 @@ use Rattle.std.proofs.Math.Seq.{take-append_seam}
 use Rattle.std.proofs.lemmas.List.{take-append-drop}
 use Rattle.std.specs.List.{slice_get}
 use Rattle.std.specs.Option.{IsSomeAnd}
-use Rattle.run_commands.specs.declared.words.CharKind.{CharKind}
-use Rattle.run_commands.specs.declared.words.CharKind.TheVariants as kinds
+use Rattle.run_commands.specs.declared.words.char_kind.CharKind.{CharKind}
+use Rattle.run_commands.specs.declared.words.char_kind.CharKind.TheVariants as kinds
 use Rattle.run_commands.specs.Words.{kind, IsQuote, IsOpenQuote, HasWords}
 use Rattle.run_commands.specs.WordMachine.{Mode, Effect, Read, step, step_outside, step_escape, step_comment, step_single, step_double, step_double_escape, effects, with_effect, ending, reading}
 use Rattle.run_commands.proofs.WordLemmas.{reading-step, reading-end, reads_all}

@@ -1,7 +1,7 @@
 -- What the machine reads is what the grammar says: the machine's side.
 use Rattle.std.proofs.Common.{◌≡◌, ◌≢◌, Bool, true, false, ℕ, suc, List, [], ◌∷◌, ◌++◌, Ok, Err, refl, ap, sym, subst, ◌∙◌, append_assoc, append-nil}
-use Rattle.run_commands.specs.declared.words.CharKind.{CharKind}
-use Rattle.run_commands.specs.declared.words.CharKind.TheVariants as kinds
+use Rattle.run_commands.specs.declared.words.char_kind.CharKind.{CharKind}
+use Rattle.run_commands.specs.declared.words.char_kind.CharKind.TheVariants as kinds
 use Rattle.run_commands.specs.Words.{kind, IsEscaped, KeepsBackslash, Lacks, IsQuoted, IsPiece, MayStand, Reads}
 use Rattle.run_commands.specs.WordMachine.{Mode, Effect, Read, step, step_outside, step_escape, step_comment, step_single, step_double, step_double_escape, effects, with_effect, onto, ending, reading}
 use Rattle.run_commands.proofs.WordLemmas.{reading-step, reading-end}

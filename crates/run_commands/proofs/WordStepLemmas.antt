@@ -1,9 +1,9 @@
 -- What the code does for a character is a step of the machine.
 use Rattle.std.proofs.Common.{◌≡◌, ◌≢◌, Bool, true, false, ℕ, List, [], ◌∷◌, ◌++◌, Option, Some, None, Ok, Err, refl, ap, sym, ◌∙◌, append_assoc, append-nil, is_some, if◌then◌else◌}
 use Rattle.std.specs.Option.{option_to_list}
-use Rattle.run_commands.specs.declared.words.CharKind.{CharKind}
-use Rattle.run_commands.specs.declared.words.CharKind.TheVariants as kinds
-use Rattle.run_commands.specs.declared.words.State.{State}
+use Rattle.run_commands.specs.declared.words.char_kind.CharKind.{CharKind}
+use Rattle.run_commands.specs.declared.words.char_kind.CharKind.TheVariants as kinds
+use Rattle.run_commands.specs.declared.words.machine.State.{State}
 use Rattle.run_commands.specs.Gathered.{Gathered, begun}
 use Rattle.run_commands.specs.WordMachine.{Mode, Effect, Read, step_outside, step_escape, step_single, step_double, step_double_escape, effects, put, mode_of, step_for, IsSound, Takes}
 use Rattle.run_commands.proofs.WordSoundLemmas.{onto_both, onto_none}

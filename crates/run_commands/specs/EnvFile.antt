@@ -1,7 +1,8 @@
 -- How reading a script's environment file ends.
-use Rattle.std.specs.Prelude.{ℕ, ◌≡◌, ◌≤◌, ◌<◌, List, length, Some, None, Result, Ok, Err, ⊤}
+use Rattle.std.specs.Prelude.{ℕ, Bool, false, is_none, ◌≤◌, ◌<◌, List, length, Some, None, Result, Ok, Err, ⊤}
 use Rattle.std.specs.Str.Lines.{lines}
-use Rattle.run_capture.specs.Faults.{Rose}
+use Rattle.run_capture.specs.declared.reading.ReadError.{ReadError}
+use Rattle.run_capture.specs.declared.reading.ReadError.TheVariants as reading
 use Rattle.run_commands.specs.declared.errors.SetupScriptOutputError.{SetupScriptOutputError}
 use Rattle.run_commands.specs.declared.errors.SetupScriptOutputError.TheVariants as errors
 use Rattle.run_commands.specs.EnvText.{IsRefusedEnv}
@@ -10,15 +11,11 @@ use Rattle.run_commands.specs.EnvText.{IsRefusedEnv}
 abbrev pub env_file_limit : ℕ
 env_file_limit = 1048576
 
--- how many bytes the source had given where reading it was refused
-abbrev pub IsReadingRefused : SetupScriptOutputError → ℕ → Type 0
-IsReadingRefused (errors.EnvFileRead None) count = count ≤ env_file_limit
-IsReadingRefused (errors.EnvFileRead (Some _)) count = ⊥
-IsReadingRefused (errors.EnvFileParse _) count = ⊥
-IsReadingRefused (errors.EnvFileInvalidKey _) count = ⊥
-IsReadingRefused errors.EnvFileTooLong count = env_file_limit < count
-IsReadingRefused errors.EnvFileOpen count = ⊥
-IsReadingRefused errors.OutOfMemory count = ⊤
+-- the error of a file that wasn't read to its end
+abbrev pub error_for : ReadError → SetupScriptOutputError
+error_for reading.Failed = errors.EnvFileRead None
+error_for reading.TooLong = errors.EnvFileTooLong
+error_for reading.OutOfMemory = errors.OutOfMemory
 
 -- a file's bytes are refused as a text is, where they are all that the source had, and no more than the
 -- limit
@@ -37,13 +34,8 @@ IsRefusedFile ended taken errors.EnvFileTooLong = env_file_limit < length taken
 IsRefusedFile ended taken errors.EnvFileOpen = ⊥
 IsRefusedFile ended taken errors.OutOfMemory = ⊤
 
--- reading fails exactly where the count of faults rose, and no line is blamed for it
-abbrev pub CountsFileFault : {T : Type 0} → ℕ → ℕ → Result T SetupScriptOutputError → Type 0
-CountsFileFault before now (Ok _) = now ≡ before
-CountsFileFault before now (Err (errors.EnvFileRead None)) = (before ≤ now) × Rose before now
-CountsFileFault before now (Err (errors.EnvFileRead (Some _))) = now ≡ before
-CountsFileFault before now (Err (errors.EnvFileParse _)) = now ≡ before
-CountsFileFault before now (Err (errors.EnvFileInvalidKey _)) = now ≡ before
-CountsFileFault before now (Err errors.EnvFileTooLong) = now ≡ before
-CountsFileFault before now (Err errors.EnvFileOpen) = now ≡ before
-CountsFileFault before now (Err errors.OutOfMemory) = now ≡ before
+-- whether reading the file failed: then no line is blamed for it
+abbrev pub is_unread : {T : Type 0} → Result T SetupScriptOutputError → Bool
+is_unread (Ok _) = false
+is_unread (Err (errors.EnvFileRead line)) = is_none line
+is_unread (Err _) = false

@@ -1,11 +1,11 @@
 -- How the words of a text are read, byte by byte. Private clauses cite this, and no public one does.
 use Rattle.std.specs.Prelude.{ℕ, Bool, true, false, List, [], ◌∷◌, ◌++◌, None, Result, Ok, Err, suc, ◌≡◌, ⊤, is_some, encode_utf8, if◌then◌else◌}
-use Rattle.run_commands.specs.declared.words.CharKind.{CharKind}
-use Rattle.run_commands.specs.declared.words.CharKind.TheVariants as kinds
-use Rattle.run_commands.specs.declared.words.State.{State}
-use Rattle.run_commands.specs.declared.words.State.TheVariants as states
-use Rattle.run_commands.specs.declared.words.WordsError.{WordsError}
-use Rattle.run_commands.specs.declared.words.WordsError.TheVariants as errors
+use Rattle.run_commands.specs.declared.words.char_kind.CharKind.{CharKind}
+use Rattle.run_commands.specs.declared.words.char_kind.CharKind.TheVariants as kinds
+use Rattle.run_commands.specs.declared.words.machine.State.{State}
+use Rattle.run_commands.specs.declared.words.machine.State.TheVariants as states
+use Rattle.run_commands.specs.declared.words.words_error.WordsError.{WordsError}
+use Rattle.run_commands.specs.declared.words.words_error.WordsError.TheVariants as errors
 use Rattle.run_commands.specs.Gathered.{Gathered, begun}
 use Rattle.run_commands.specs.Words.{kind}
 

@@ -2,8 +2,8 @@
 -- way in which it goes on.
 use Rattle.std.specs.Prelude.{ℕ, ◌≡◌, ◌≢◌, ◌==◌, ◌||◌, ◌<◌, ◌≤◌, Bool, true, false, List, [], ◌∷◌, ◌++◌, length, take, slice_get, IsSomeAnd, ⊤, if◌then◌else◌}
 use Rattle.std.specs.List.{AllByRecursion}
-use Rattle.run_commands.specs.declared.words.CharKind.{CharKind}
-use Rattle.run_commands.specs.declared.words.CharKind.TheVariants as kinds
+use Rattle.run_commands.specs.declared.words.char_kind.CharKind.{CharKind}
+use Rattle.run_commands.specs.declared.words.char_kind.CharKind.TheVariants as kinds
 
 -- what a byte means to the grammar
 abbrev pub kind : ℕ → CharKind

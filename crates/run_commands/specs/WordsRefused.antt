@@ -1,7 +1,7 @@
 -- Why a command has no words.
-use Rattle.std.specs.Prelude.{ℕ, ◌≡◌, List, [], ◌∷◌, Result, Ok, Err, ⊤}
-use Rattle.run_commands.specs.declared.words.WordsError.{WordsError}
-use Rattle.run_commands.specs.declared.words.WordsError.TheVariants as errors
+use Rattle.std.specs.Prelude.{ℕ, ◌≡◌, List, [], Result, Ok, Err, ⊤}
+use Rattle.run_commands.specs.declared.words.words_error.WordsError.{WordsError}
+use Rattle.run_commands.specs.declared.words.words_error.WordsError.TheVariants as errors
 use Rattle.run_commands.specs.Words.{HasWords, IsOpenQuote}
 
 -- a quote isn't closed, or the text is in the grammar and has no words
@@ -11,8 +11,8 @@ IsRefusedWords text errors.NoWords = HasWords text []
 IsRefusedWords text errors.OutOfMemory = ⊤
 
 -- where the grammar gives the text these words, this is the answer
-abbrev pub IsWordsAnswer : List (List ℕ) → Result (List ℕ × List (List ℕ)) WordsError → Type 0
-IsWordsAnswer words (Ok split) = words ≡ split.0 ∷ split.1
+abbrev pub IsWordsAnswer : List (List ℕ) → Result (List (List ℕ)) WordsError → Type 0
+IsWordsAnswer words (Ok command) = command ≡ words
 IsWordsAnswer words (Err (errors.OpenQuote place)) = ⊥
 IsWordsAnswer words (Err errors.NoWords) = words ≡ []
 IsWordsAnswer words (Err errors.OutOfMemory) = ⊤

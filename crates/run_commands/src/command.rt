@@ -3,8 +3,7 @@ ghost use Rattle.std.specs.Prelude.{◌≡◌, ℕ, List, drop, slice_get, Some,
 ghost use Rattle.run_commands.specs.Words.{HasWords};
 
 use crate::errors::{DebuggerCommandParseError, TracerCommandParseError};
-use crate::text_list::TextList;
-use crate::words::{WordsError, split_command};
+use crate::words::{CommandWords, WordsError};
 use run_capture::{Duplicate, Mem, Text};
 use std::alloc::Global;
 use std::marker::Model;
@@ -12,16 +11,15 @@ use std::marker::Model;
 /// A debugger with its arguments. Contracts see its words: the program, then the arguments.
 #[derive(Debug, Drop)]
 pub struct DebuggerCommand {
-    program: Text,
-    args: TextList,
+    words: CommandWords,
 }
 
 impl Model for DebuggerCommand {
-    ghost use Rattle.std.specs.Prelude.{List, ℕ, ◌∷◌};
+    ghost use Rattle.std.specs.Prelude.{List, ℕ};
 
     ghost Value = { List (List ℕ) };
 
-    ghost view = { λ c. c.program ∷ c.args };
+    ghost view = { λ c. c.words };
 }
 
 impl DebuggerCommand {
@@ -36,8 +34,8 @@ impl DebuggerCommand {
         // What is in the grammar is read, with its words.
         ensures only { (words : List (List ℕ)) → HasWords command.now words → IsDebuggerAnswer words result }
     {
-        match split_command(alloc, command) {
-            Ok((program, args)) => Ok(DebuggerCommand { program, args }),
+        match CommandWords::from_str(alloc, command) {
+            Ok(words) => Ok(DebuggerCommand { words }),
             Err(WordsError::OpenQuote { place }) => {
                 Err(DebuggerCommandParseError::ShellWordsParse { place })
             }
@@ -49,21 +47,20 @@ impl DebuggerCommand {
     pub fn program(&self) -> &str
         ensures { slice_get self.now 0 ≡ Some result.now }
     {
-        self.program.as_str()
+        self.words.program()
     }
 
     pub fn args(&self) -> &[Text]
         ensures { result.now ≡ drop 1 self.now }
     {
-        self.args.as_slice()
+        self.words.args()
     }
 }
 
 impl Duplicate for DebuggerCommand {
     fn copy(&self, alloc: Global) -> Mem<DebuggerCommand> {
         Ok(DebuggerCommand {
-            program: self.program.copy(alloc)?,
-            args: self.args.copy(alloc)?,
+            words: self.words.copy(alloc)?,
         })
     }
 }
@@ -72,16 +69,15 @@ impl Duplicate for DebuggerCommand {
 /// arguments.
 #[derive(Debug, Drop)]
 pub struct TracerCommand {
-    program: Text,
-    args: TextList,
+    words: CommandWords,
 }
 
 impl Model for TracerCommand {
-    ghost use Rattle.std.specs.Prelude.{List, ℕ, ◌∷◌};
+    ghost use Rattle.std.specs.Prelude.{List, ℕ};
 
     ghost Value = { List (List ℕ) };
 
-    ghost view = { λ c. c.program ∷ c.args };
+    ghost view = { λ c. c.words };
 }
 
 impl TracerCommand {
@@ -96,8 +92,8 @@ impl TracerCommand {
         // What is in the grammar is read, with its words.
         ensures only { (words : List (List ℕ)) → HasWords command.now words → IsTracerAnswer words result }
     {
-        match split_command(alloc, command) {
-            Ok((program, args)) => Ok(TracerCommand { program, args }),
+        match CommandWords::from_str(alloc, command) {
+            Ok(words) => Ok(TracerCommand { words }),
             Err(WordsError::OpenQuote { place }) => {
                 Err(TracerCommandParseError::ShellWordsParse { place })
             }
@@ -109,21 +105,20 @@ impl TracerCommand {
     pub fn program(&self) -> &str
         ensures { slice_get self.now 0 ≡ Some result.now }
     {
-        self.program.as_str()
+        self.words.program()
     }
 
     pub fn args(&self) -> &[Text]
         ensures { result.now ≡ drop 1 self.now }
     {
-        self.args.as_slice()
+        self.words.args()
     }
 }
 
 impl Duplicate for TracerCommand {
     fn copy(&self, alloc: Global) -> Mem<TracerCommand> {
         Ok(TracerCommand {
-            program: self.program.copy(alloc)?,
-            args: self.args.copy(alloc)?,
+            words: self.words.copy(alloc)?,
         })
     }
 }

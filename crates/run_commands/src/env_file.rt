@@ -1,37 +1,28 @@
 // A script's environment file, from a source of bytes.
 ghost use Rattle.std.specs.Prelude.{◌≡◌, ◌≤◌, ℕ, List, length, IfOk, IfErr};
 ghost use Rattle.run_capture.specs.Bytes.{Gives, AtEnd};
+ghost use Rattle.run_capture.specs.Faults.{RoseExactlyIf};
 ghost use Rattle.run_commands.specs.EnvText.{IsEnvOf};
-ghost use Rattle.run_commands.specs.EnvFile.{IsReadingRefused, IsRefusedFile, CountsFileFault};
+ghost use Rattle.run_commands.specs.EnvFile.{error_for, IsRefusedFile, is_unread};
 
 use crate::env_map::EnvMap;
 use crate::errors::SetupScriptOutputError;
 use crate::script_helpers::parse_env_text;
-use run_capture::{Blob, Source};
+use run_capture::{ReadError, Source, read_to_end};
 use std::alloc::Global;
 
 /// The most bytes that an environment file may have.
 pub const ENV_FILE_LIMIT: usize = 1_048_576;
 
-// Reads a source to its end, where it gives no more than `ENV_FILE_LIMIT` bytes.
-fn read_bytes<S: Source>(alloc: Global, source: &mut S) -> Result<Blob, SetupScriptOutputError>
-    ensures given { IfOk result (λ bytes. Gives (S.left source.old) (S.left source.new) bytes) }
-    ensures end { IfOk result (λ bytes. AtEnd (S.left source.new)) }
-    ensures within { IfOk result (λ bytes. length bytes ≤ ENV_FILE_LIMIT) }
-    ensures refused { IfErr result (λ e. (taken : List ℕ) × Gives (S.left source.old) (S.left source.new) taken
-        × IsReadingRefused e (length taken)) }
-    ensures fault { CountsFileFault (S.faults source.old) (S.faults source.new) result }
+// The error of a file that wasn't read to its end.
+fn unread(error: ReadError) -> SetupScriptOutputError
+    ensures { result ≡ error_for error }
 {
-    let mut bytes = Blob::new(alloc);
-    let mut chunk = [0u8; 8192];
-    'chunks: while bytes.len() <= ENV_FILE_LIMIT {
-        let count = source.read(&mut chunk)?;
-        if count == 0 {
-            return Ok(bytes);
-        }
-        bytes.extend_from_slice(alloc, &chunk[..count])?;
+    match error {
+        ReadError::Failed => SetupScriptOutputError::EnvFileRead { line: None },
+        ReadError::TooLong => SetupScriptOutputError::EnvFileTooLong,
+        ReadError::OutOfMemory => SetupScriptOutputError::OutOfMemory,
     }
-    Err(SetupScriptOutputError::EnvFileTooLong)
 }
 
 /// Reads a source to its end, and the variables that its bytes set, as `parse_env_text` does. A
@@ -46,8 +37,10 @@ pub fn read_env_file<S: Source>(
         × AtEnd (S.left source.new) × (length bytes ≤ ENV_FILE_LIMIT) × IsEnvOf bytes map) }
     ensures refused { IfErr result (λ e. (taken : List ℕ) × Gives (S.left source.old) (S.left source.new) taken
         × IsRefusedFile (AtEnd (S.left source.new)) taken e) }
-    ensures fault { CountsFileFault (S.faults source.old) (S.faults source.new) result }
+    ensures fault { RoseExactlyIf (is_unread result) (S.faults source.old) (S.faults source.new) }
 {
-    let bytes = read_bytes(alloc, source)?;
-    parse_env_text(alloc, bytes.as_slice())
+    match read_to_end(alloc, source, ENV_FILE_LIMIT) {
+        Ok(bytes) => parse_env_text(alloc, bytes.as_slice()),
+        Err(error) => Err(unread(error)),
+    }
 }

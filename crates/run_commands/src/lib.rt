@@ -15,24 +15,22 @@ mod laws;
 mod script_helpers;
 mod stress_count;
 mod target_runner;
-#[cfg(test)]
-mod tests;
-mod text_list;
 mod version_env_vars;
-mod word_list;
 mod words;
 
 pub use command::{DebuggerCommand, TracerCommand};
 pub use env_file::{ENV_FILE_LIMIT, read_env_file};
 pub use env_map::EnvMap;
 pub use errors::{DebuggerCommandParseError, SetupScriptOutputError, TracerCommandParseError};
-pub use handle_inheritance::{ConfigureHandleInheritanceError, configure_handle_inheritance};
 pub use interceptor::Interceptor;
 pub use laws::{a_text_has_one_reading, an_env_text_has_no_bad_line};
 pub use script_helpers::{EnvInput, env_outcome, parse_env_text};
 pub use stress_count::{StressCondition, StressCount, StressCountParseError};
+pub use version_env_vars::VersionEnvVars;
+
+// For callers of this library: a plan has the commands with their runners, so that no crate above calls these.
+pub use handle_inheritance::{ConfigureHandleInheritanceError, configure_handle_inheritance};
 pub use target_runner::{
     BuildPlatform, CargoConfigSource, PlatformRunner, PlatformRunnerSource, RunnerArgs,
     TargetRunner,
 };
-pub use version_env_vars::VersionEnvVars;

@@ -8,7 +8,6 @@ ghost use Rattle.run_commands.specs.declared.target_runner.PlatformRunner.{Platf
 ghost use Rattle.run_commands.specs.TargetRunner.{no_runners, runner_for, binary_of, args_of, source_of, args_left};
 ghost use Rattle.run_commands.specs.RunnerVariable.{letter_in_variable, runner_variable};
 
-use crate::text_list::TextList;
 use run_capture::{Duplicate, List, Mem, Text};
 use std::alloc::Global;
 use std::fmt;
@@ -31,10 +30,10 @@ pub struct TargetRunner {
 }
 
 /// A runner's program, its arguments, and where it was named.
-#[derive(Debug, Drop, PartialEq, Eq)]
+#[derive(Debug, PartialEq, Eq)]
 pub struct PlatformRunner {
     runner_binary: Text,
-    args: TextList,
+    args: List<Text>,
     source: PlatformRunnerSource,
 }
 
@@ -59,6 +58,17 @@ pub enum PlatformRunnerSource {
         /// The table under `target` that names the runner.
         target_table: Text,
     },
+}
+
+// A call of its own, which keeps the proofs of all that hold a runner small.
+impl Drop for PlatformRunner {
+    fn drop(self) {
+        let PlatformRunner {
+            runner_binary: _,
+            args: _,
+            source: _,
+        } = self;
+    }
 }
 
 impl TargetRunner {
@@ -128,7 +138,7 @@ impl PlatformRunner {
     {
         PlatformRunner {
             runner_binary,
-            args: TextList::new(args),
+            args,
             source,
         }
     }

@@ -1,5 +1,5 @@
 // The variables that tell a child the versions.
-ghost use Rattle.std.specs.Prelude.{◌≡◌, ◌∷◌, IfOk};
+ghost use Rattle.std.specs.Prelude.{◌≡◌, ◌++◌, [], ◌∷◌, IfOk};
 ghost use Rattle.std.specs.Option.{option_map, option_copied};
 ghost use Rattle.semver.specs.Identifiers.{parts_of};
 ghost use Rattle.run_commands.specs.VersionEnvVars.{version_pairs, version_or_none};
@@ -39,28 +39,22 @@ impl VersionEnvVars {
     pub fn pairs(&self, alloc: Global) -> Mem<List<(Text, Text)>>
         ensures { IfOk result (λ pairs. pairs ≡ version_pairs self.now) }
     {
-        let mut pairs = List::new();
-        pairs.push(
-            alloc,
-            pair(alloc, "NEXTEST_VERSION", Some(&self.current_version))?,
-        )?;
-        pairs.push(
-            alloc,
-            pair(
-                alloc,
-                "NEXTEST_REQUIRED_VERSION",
-                self.required_version.as_ref(),
-            )?,
-        )?;
-        pairs.push(
-            alloc,
-            pair(
-                alloc,
-                "NEXTEST_RECOMMENDED_VERSION",
-                self.recommended_version.as_ref(),
-            )?,
-        )?;
-        Ok(pairs)
+        let current = Some(&self.current_version);
+        let pairs = with_pair(alloc, List::new(), "NEXTEST_VERSION", current)?;
+        let required = self.required_version.as_ref();
+        let pairs = with_pair(alloc, pairs, "NEXTEST_REQUIRED_VERSION", required)?;
+        let recommended = self.recommended_version.as_ref();
+        with_pair(alloc, pairs, "NEXTEST_RECOMMENDED_VERSION", recommended)
+    }
+}
+
+// A version's text, or `none`.
+fn version_text(alloc: Global, version: Option<&Version>) -> Mem<Text>
+    ensures { IfOk result (λ text. text ≡ version_or_none (option_map parts_of (option_copied version.entry))) }
+{
+    match version {
+        Some(version) => Ok(Text::from_string(format!(in alloc; "{version}")?)),
+        None => Text::from_str(alloc, "none"),
     }
 }
 
@@ -68,11 +62,23 @@ impl VersionEnvVars {
 fn pair(alloc: Global, name: &str, version: Option<&Version>) -> Mem<(Text, Text)>
     ensures { IfOk result (λ p. p ≡ (name.now, version_or_none (option_map parts_of (option_copied version.entry)))) }
 {
-    let value = match version {
-        Some(version) => Text::from_string(format!(in alloc; "{version}")?),
-        None => Text::from_str(alloc, "none")?,
-    };
-    Ok((Text::from_str(alloc, name)?, value))
+    let name = Text::from_str(alloc, name)?;
+    let value = version_text(alloc, version)?;
+    Ok((name, value))
+}
+
+// One variable more.
+fn with_pair(
+    alloc: Global,
+    mut pairs: List<(Text, Text)>,
+    name: &str,
+    version: Option<&Version>,
+) -> Mem<List<(Text, Text)>>
+    ensures { IfOk result (λ new. new ≡ pairs ++ (name.now, version_or_none (option_map parts_of (option_copied version.entry))) ∷ []) }
+{
+    let pair = pair(alloc, name, version)?;
+    pairs.push(alloc, pair)?;
+    Ok(pairs)
 }
 
 // A copy of a version, where there is one.
@@ -85,12 +91,30 @@ fn copy_version(version: Option<&Version>) -> Mem<Option<Version>>
     }
 }
 
+// Copies of two versions, where they are there.
+fn copy_versions(
+    first: Option<&Version>,
+    second: Option<&Version>,
+) -> Mem<(Option<Version>, Option<Version>)>
+    ensures first { IfOk result (λ copied. option_map parts_of copied.0 ≡ option_map parts_of (option_copied first.entry)) }
+    ensures second { IfOk result (λ copied. option_map parts_of copied.1 ≡ option_map parts_of (option_copied second.entry)) }
+{
+    let first = copy_version(first)?;
+    let second = copy_version(second)?;
+    Ok((first, second))
+}
+
 impl Duplicate for VersionEnvVars {
     fn copy(&self, _alloc: Global) -> Mem<VersionEnvVars> {
+        let current_version = self.current_version.clone()?;
+        let (required_version, recommended_version) = copy_versions(
+            self.required_version.as_ref(),
+            self.recommended_version.as_ref(),
+        )?;
         Ok(VersionEnvVars {
-            current_version: self.current_version.clone()?,
-            required_version: copy_version(self.required_version.as_ref())?,
-            recommended_version: copy_version(self.recommended_version.as_ref())?,
+            current_version,
+            required_version,
+            recommended_version,
         })
     }
 }

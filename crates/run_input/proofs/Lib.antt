@@ -1,4 +1,3 @@
 pub mod InputLemmas
 mod LineLemmas
-mod SourceLemmas
 mod ValueLemmas

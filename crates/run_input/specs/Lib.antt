@@ -2,9 +2,7 @@ pub mod Fields
 pub mod Input
 pub mod Lines
 pub mod PlanLine
-pub mod ReadAll
 pub mod Reads
 pub mod Refused
-pub mod StdStreams
 pub mod TurnLine
 pub mod ValueOf

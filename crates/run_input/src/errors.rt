@@ -1,5 +1,5 @@
 // What can be wrong with an input.
-use run_capture::{Failed, OutOfMemory};
+use run_capture::OutOfMemory;
 use std::alloc::{AllocError, AllocFailed};
 use thiserror::Error;
 
@@ -66,41 +66,5 @@ impl From<OutOfMemory> for InputError {
 
     fn from(_: OutOfMemory) -> Self {
         InputError::OutOfMemory
-    }
-}
-
-/// Why a source was not read to its end.
-#[derive(Clone, Copy, Debug, Drop, PartialEq, Eq, Error)]
-pub enum ReadAllError {
-    /// The source failed.
-    #[error("reading the input failed")]
-    Failed,
-    /// The source gave more bytes than an input may have.
-    #[error("the input is longer than 16777216 bytes")]
-    TooLong,
-    /// Memory was refused.
-    #[error("out of memory")]
-    OutOfMemory,
-}
-
-impl From<Failed> for ReadAllError {
-    ghost use Rattle.std.specs.Prelude.{◌≡◌};
-    ghost use Rattle.run_input.specs.declared.errors.ReadAllError.TheVariants as errors;
-
-    ghost from_gives = { λ _ e. e ≡ errors.Failed };
-
-    fn from(_: Failed) -> Self {
-        ReadAllError::Failed
-    }
-}
-
-impl From<OutOfMemory> for ReadAllError {
-    ghost use Rattle.std.specs.Prelude.{◌≡◌};
-    ghost use Rattle.run_input.specs.declared.errors.ReadAllError.TheVariants as errors;
-
-    ghost from_gives = { λ _ e. e ≡ errors.OutOfMemory };
-
-    fn from(_: OutOfMemory) -> Self {
-        ReadAllError::OutOfMemory
     }
 }

@@ -1,7 +1,6 @@
 //! The input of a run: all bytes of a source, its lines, and what each line means. The first line is
 //! the plan, each later one a turn. A line is a JSON object with known keys and whole numbers; the
-//! first line that is anything else is named by its number. Sources and sinks over the streams of
-//! std stand here too.
+//! first line that is anything else is named by its number.
 #![tactic(auto)]
 
 mod errors;
@@ -13,18 +12,17 @@ mod lines;
 mod objects;
 mod plan_line;
 mod reading;
-mod std_sink;
-mod std_source;
 mod turn_fields;
 mod turn_line;
 mod turn_name;
 mod value;
 
-pub use errors::{InputError, LineError, ReadAllError};
+pub use errors::{InputError, LineError};
 pub use input::{Input, read_input};
 pub use laws::an_input_has_no_bad_line;
 pub use plan_line::read_plan_line;
 pub use reading::{INPUT_LIMIT, read_all};
-pub use std_sink::StdSink;
-pub use std_source::StdSource;
 pub use turn_line::read_turn_line;
+
+// Names that callers know from here.
+pub use run_capture::{ReadError as ReadAllError, StdSink, StdSource};

@@ -1,10 +1,11 @@
-// All bytes of a source.
+// All bytes of a run's input.
 ghost use Rattle.std.specs.Prelude.{◌≡◌, ◌≤◌, ℕ, List, length, IfOk, IfErr};
 ghost use Rattle.run_capture.specs.Bytes.{Gives, AtEnd};
-ghost use Rattle.run_input.specs.ReadAll.{CountsReadFault, IsRefusedAfter};
+ghost use Rattle.run_capture.specs.Faults.{RoseExactlyIf};
+ghost use Rattle.run_capture.specs.Reading.{IsUnreadAfter, has_failed};
 
 use crate::ReadAllError;
-use run_capture::{Blob, Source};
+use run_capture::{Blob, Source, read_to_end};
 use std::alloc::Global;
 
 /// The most bytes that an input may have.
@@ -18,17 +19,8 @@ pub fn read_all<S: Source>(alloc: Global, source: &mut S) -> Result<Blob, ReadAl
     ensures end { IfOk result (λ bytes. AtEnd (S.left source.new)) }
     ensures within { IfOk result (λ bytes. length bytes ≤ INPUT_LIMIT) }
     ensures refused { IfErr result (λ e. (lost : List ℕ) × Gives (S.left source.old) (S.left source.new) lost
-        × IsRefusedAfter e (length lost)) }
-    ensures fault { CountsReadFault (S.faults source.old) (S.faults source.new) result }
+        × IsUnreadAfter INPUT_LIMIT e (length lost)) }
+    ensures fault { RoseExactlyIf (has_failed result) (S.faults source.old) (S.faults source.new) }
 {
-    let mut bytes = Blob::new(alloc);
-    let mut chunk = [0u8; 8192];
-    'chunks: while bytes.len() <= INPUT_LIMIT {
-        let count = source.read(&mut chunk)?;
-        if count == 0 {
-            return Ok(bytes);
-        }
-        bytes.extend_from_slice(alloc, &chunk[..count])?;
-    }
-    Err(ReadAllError::TooLong)
+    read_to_end(alloc, source, INPUT_LIMIT)
 }

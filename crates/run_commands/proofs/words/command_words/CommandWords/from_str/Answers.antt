@@ -1,0 +1,6 @@
+use Rattle.run_commands.proofs.CommandLemmas.{answers_words}
+use Rattle.run_commands.proofs.words.command_words.CommandWords.from_str.Goals as goal
+
+pub returns-clause-only : goal.returns-clause-only
+returns-clause-only c =
+    answers_words _ c.some_words.result c.some_words.ensures.ok c.some_words.ensures.refused
