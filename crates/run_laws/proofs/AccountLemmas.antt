@@ -22,7 +22,7 @@ use Rattle.run_model.specs.Unit.{row, row_at, takes}
 use Rattle.run_model.specs.Words.{placed}
 use Rattle.run_model.specs.Admission.{start_message, skip_message}
 use Rattle.run_model.specs.Dispatch.{event, started_event, finished_event}
-use Rattle.run_laws.specs.Holds.{IsBuilt}
+use Rattle.run_laws.proofs.Holds.{IsBuilt}
 use Rattle.run_laws.proofs.ByTurn.{is_answer}
 use Rattle.run_model.specs.Accounts.{News, HasAccount, HasAccountAt, account_of, pending_of}
 

@@ -36,7 +36,7 @@ use Rattle.run_model.specs.Dispatch.{head_of, lets_go, event, with_start, with_f
 use Rattle.run_model.specs.Board.{Board, Deed, deed_events}
 use Rattle.run_model.specs.Turns.{enabled_on, is_empty, is_complete, takes_turn, turn_of_unit, unit_takes, taken_by, admission, delivery, run_turn, done_by, deed_on}
 use Rattle.run_model.specs.Accounts.{News, started, HasAccount, is_skip, is_mismatched, account_of, pending_of}
-use Rattle.run_laws.specs.Holds.{Holds, IsBuilt, place_of}
+use Rattle.run_laws.proofs.Holds.{Holds, IsBuilt, place_of}
 use Rattle.run_laws.proofs.Queue.{lt-from_queue}
 use Rattle.run_laws.proofs.ByTurn.{is_answer, by_turn}
 use Rattle.run_laws.proofs.AccountLemmas.{of_row, of_start, of_finish, of_skip, IsFirst, begins, first_built, IsBuiltIf, row_sends_built}

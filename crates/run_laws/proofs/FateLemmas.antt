@@ -21,19 +21,24 @@ use Rattle.run_model.specs.Board.{board, said}
 use Rattle.run_model.specs.Turns.{enabled, is_complete, is_empty, takes_turn, turn_of_unit, run_turn, happening}
 use Rattle.run_model.specs.Journal.{history, IsLegalBackward}
 use Rattle.run_model.specs.Accounts.{News, news_of, HasAccount, HasAccountAt, is_mismatched, account_of}
-use Rattle.run_model.specs.Fates.{was_left, statuses_in, statuses_of, account, MeetsAttemptLaw, HasFate, HaveFates}
-use Rattle.run_laws.specs.Holds.{Holds, IsAttempted, IsAttemptedIn}
+use Rattle.run_model.specs.Attempts.{OwnTurn, story_of, pieces, ended_statuses, statuses_of}
+use Rattle.run_model.specs.Fates.{was_left, account, MeetsAttemptLaw, HasFate, HaveFates}
+use Rattle.run_laws.proofs.Holds.{Holds, IsAttempted, IsAttemptedIn}
+use Rattle.run_laws.proofs.AttemptLemmas.{IsMadeIf, made_statuses}
 use Rattle.run_laws.proofs.Deeds.{board_of, units-length, units-at, place-of_test}
 use Rattle.run_laws.proofs.Kept.{HoldsAfter, does_after, sub_run-after, holds}
 
--- a test that is done, of which nothing waits to be told, has its account and its one attempt
-fate_of : (mm : Bool) (v : Option UnitView) (t : List News) → is_done v ≡ true → IsAttempted mm v → HasAccount mm v t []
-    → (t ≡ account mm false false (statuses_in v)) × (mm ≡ false → MeetsAttemptLaw 0 (statuses_in v))
-fate_of mm None t d a h = cc
-fate_of mm (Some u) t d a h = by_attempts mm u.phase u.statuses d a h
+-- a test that is done, of which nothing waits to be told, has its account and its one attempt, by its own turns
+abbrev HasFateWith : Bool → List News → List ExecuteStatus → Type 0
+HasFateWith mm t ss = (t ≡ account mm false false ss) × (mm ≡ false → MeetsAttemptLaw 0 ss)
+
+fate_of : (mm : Bool) (v : Option UnitView) (story : List OwnTurn) (t : List News) → is_done v ≡ true → IsAttempted mm v → IsMadeIf v story
+    → HasAccount mm v t [] → HasFateWith mm t (ended_statuses 1 (pieces story))
+fate_of mm None story t d a made h = cc
+fate_of mm (Some u) story t d a made h = subst (HasFateWith mm t) (made_statuses u (pieces story) made) (by_attempts mm u.phase u.statuses d a h)
   where
     by_attempts : (mm : Bool) (ph : Phase) (ss : List ExecuteStatus) → is_last ph ≡ true → IsAttemptedIn mm ph ss → HasAccountAt mm ph ss t []
-        → (t ≡ account mm false false ss) × (mm ≡ false → MeetsAttemptLaw 0 ss)
+        → HasFateWith mm t ss
     by_attempts true Over [] l a h = (grind (arith, common_steps), λ e. cc)
     by_attempts true Over (s ∷ ss) l a h = absurd h
     by_attempts false Over [] l a h = absurd a
@@ -64,13 +69,13 @@ end_fates p over now run e j h below complete =
     let empty : queue run ≡ [] = empty_is (queue run) (second_so (list_all is_done (units p run)) (is_empty (queue run)) complete) in
     let done : is_done (unit_of k run) ≡ true =
     sym (ap is_done (units-at p run k (omega arith))) ∙ all_at is_done (units p run) k None all (omega (arith, units-length p run)) in
-    let fate = fate_of (is_mismatched p j) (unit_of k run) (account_of k (told run)) done
-    (subst (λ j. IsAttempted (is_mismatched p j) (unit_of k run)) (place-of_test p j) (h.attempted k))
+    let fate = fate_of (is_mismatched p j) (unit_of k run) (story_of k run) (account_of k (told run)) done
+    (subst (λ j. IsAttempted (is_mismatched p j) (unit_of k run)) (place-of_test p j) (h.attempted k)) (h.made k)
     (subst (λ j. HasAccount (is_mismatched p j) (unit_of k run) (account_of k (told run)) []) (place-of_test p j) (rw empty at (h.accounts k))) in
     record {
       account = filter_map-append (news_of k) (told run) _ ∙ append-nil (account_of k (told run)) ∙ fate.0
-          ∙ sym (ap (λ b. account (is_mismatched p j) b (was_left k run) (statuses_of k run)) (h.let_go k).0
-          ∙ ap (λ b. account (is_mismatched p j) false b (statuses_of k run)) (h.let_go k).1);
+          ∙ sym (ap (λ b. account (is_mismatched p j) b (was_left k run) (statuses_of p j run)) (h.let_go k).0
+          ∙ ap (λ b. account (is_mismatched p j) false b (statuses_of p j run)) (h.let_go k).1);
       finished = λ mm n l. fate.1 mm;
       left = λ mm l. let never_so : false ≡ true = sym (h.let_go k).1 ∙ l in cc;
     }

@@ -29,8 +29,11 @@ use Rattle.run_model.specs.Board.{Deed, said}
 use Rattle.run_model.specs.Turns.{enabled, deed_on, happening}
 use Rattle.run_model.specs.Journal.{history, IsLegalBackward}
 use Rattle.run_model.specs.Accounts.{News, HasAccount, HasAccountAt, IsAccounted, IsAccountedAs, is_mismatched, account_of, pending_of}
+use Rattle.run_model.specs.Attempts.{OwnTurn, own_turn, story_of, pieces}
 use Rattle.run_model.specs.Fates.{lets_go, deliveries, never_started, was_left}
-use Rattle.run_laws.specs.Holds.{Holds, IsBuilt, IsNamed, IsAttempted, IsAttemptedIn, place_of}
+use Rattle.run_laws.specs.Laws.{IsMadeByItsTurns}
+use Rattle.run_laws.proofs.Holds.{Holds, IsBuilt, IsNamed, IsAttempted, IsAttemptedIn, place_of}
+use Rattle.run_laws.proofs.AttemptLemmas.{IsMade, IsMadeIf, made_statuses, row_made_if}
 use Rattle.run_laws.proofs.Queue.{queue-cons}
 use Rattle.run_laws.proofs.AccountLemmas.{IsFirst, IsBuiltIf, row_keeps_unit, row_starts}
 use Rattle.run_laws.proofs.Deeds.{board_of, place-of_test, PlaceFits, Does, does}
@@ -128,6 +131,33 @@ placed_attempted p run now k (Some (Took j turn)) v t q a h taken = moves (j == 
     moves true (Some u) a h = row_attempted _ now u.phase turn u u.statuses t q refl refl taken.goes h a
     moves false v a h = a
 
+-- a unit that begins is at its first attempt, of which there is none yet
+first_made : (mm : Bool) (u : UnitView) (sent : Message) → IsFirst mm u sent → u.attempt ≡ 1 → u.start ≡ 0 → u.statuses ≡ [] → IsMade u []
+first_made true u sent (ph, is) a s ss = record { attempt = a; start = s; has = rw ph ss }
+first_made false u sent (ph, is) a s ss = record { attempt = a; start = s; has = rw ph ss }
+
+-- a place leaves each unit as its own turns make it
+placed_made : (p : Settings) (run : List Happening) (now k : ℕ) (place : Option Place) → IsMadeIf (unit_of k run) (story_of k run) → PlaceFits p run place
+    → IsMadeIf (placed now k place (unit_of k run)) (option_to_list (own_turn k now place) ++ story_of k run)
+placed_made p run now k None h fits = h
+placed_made p run now k (Some (Admitted first)) h (sent, new) = begins (first.test.unit == k) refl
+  where
+    begins : (b : Bool) → (first.test.unit == k) ≡ b → IsMadeIf (if b then Some first else unit_of k run) (story_of k run)
+    begins true e =
+        let here : k ≡ first.test.unit = grind arith in
+        let none : unit_of k run ≡ None = ap (λ k. unit_of k run) here ∙ new.unknown in
+        rw (rw none at h) (first_made _ first sent new.first new.attempt new.start new.statuses)
+    begins false e = h
+placed_made p run now k (Some (Took j turn)) h taken = by_unit (j == k) refl
+  where
+    by_unit : (b : Bool) → (j == k) ≡ b
+        → IsMadeIf (if b then option_map (λ w. (row now turn w).next) (unit_of k run) else unit_of k run)
+        (option_to_list (if b then Some (record { moment = now; turn = turn }) else None) ++ story_of k run)
+    by_unit true e =
+        let here : k ≡ j = grind arith in
+        row_made_if now turn taken.unit (unit_of k run) (story_of k run) (ap (λ k. unit_of k run) here ∙ taken.is) taken.takes h
+    by_unit false e = h
+
 -- what is no cause leaves the reason
 pub greater-None : (r : Option CancelReason) → greater r None ≡ r
 greater-None None = refl
@@ -154,6 +184,7 @@ holds-cons p over now run e d h does = record {
   counted = counted-cons (said now e d) run does.marks.cancel h.counted;
   named = λ k. placed_named p run now (now + ns_of e.turn) k d.place (unit_of k run) (omega arith) (h.named k) does.place;
   accounts = λ k. accounted-cons p (place_of p k) k (said now e d) run does.room (does.accounts k);
+  made = λ k. placed_made p run now k d.place (h.made k) does.place;
   fresh = λ off going. absurd (stays_on d.begins (is_on run) d.ends d.over over does.marks.finishes does.marks.on off going);
   built = All-append IsBuilt (sent run) (option_to_list d.sent) h.built (built_if d.sent does.sends);
   calm = ap (greater (reason run)) does.marks.cause ∙ greater-None (reason run) ∙ h.calm;
@@ -197,6 +228,7 @@ holds-nil p = record {
   counted = omega arith;
   named = λ k u e. cc;
   accounts = λ k. (refl, refl);
+  made = λ k. refl;
   fresh = λ off going. refl;
   built = All-nil IsBuilt;
   calm = refl;
@@ -214,3 +246,12 @@ pub accounts : (p : Settings) (backward : List Entry) → IsLegalBackward p back
 accounts p backward legal j =
     subst (λ i. IsAccountedAs p i (unit_of_test p j) (sub_run (history p backward))) (place-of_test p j)
     ((holds p backward legal).accounts (unit_of_test p j))
+
+-- and its attempts are its own turns
+pub made : (p : Settings) (backward : List Entry) → IsLegalBackward p backward → (j : ℕ) (u : UnitView)
+    → unit_of (unit_of_test p j) (sub_run (history p backward)) ≡ Some u → IsMadeByItsTurns p (sub_run (history p backward)) j u
+made p backward legal j u is =
+    let k : ℕ = unit_of_test p j in
+    let ps : List (List OwnTurn) = pieces (story_of k (sub_run (history p backward))) in
+    let it : IsMade u ps = rw is at ((holds p backward legal).made k) in
+    record { statuses = made_statuses u ps it; attempt = it.attempt; start = it.start }

@@ -1,8 +1,10 @@
+pub mod Holds
 pub mod ByTurn
 pub mod Queue
 pub mod AccountLemmas
 pub mod Running
 pub mod Scan
+pub mod AttemptLemmas
 pub mod Deeds
 pub mod Kept
 pub mod Boards

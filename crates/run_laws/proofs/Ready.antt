@@ -25,7 +25,7 @@ use Rattle.run_model.specs.Dispatch.{event, lets_go, started_event, finished_eve
 use Rattle.run_model.specs.Board.{board}
 use Rattle.run_model.specs.Turns.{enabled, enabled_on, takes_turn, turn_of_unit, unit_takes, is_empty, is_complete}
 use Rattle.run_model.specs.Journal.{history, past_of, IsLegal}
-use Rattle.run_laws.specs.Holds.{Holds}
+use Rattle.run_laws.proofs.Holds.{Holds}
 use Rattle.run_laws.specs.Ready.{CanTake, CanDeliverOldest, CanAdvance}
 use Rattle.run_laws.proofs.ByTurn.{by_turn}
 use Rattle.run_laws.proofs.Deeds.{board_of, units-length, unit_in-is, start_waits, finish_follows, oldest_built}

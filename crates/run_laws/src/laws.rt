@@ -1,5 +1,5 @@
 // Theorems over every legal journal.
-ghost use Rattle.run_laws.specs.Laws.{AccountsHold, BoardsStep, EachHasFate, EventsExtend, OverHasEnded};
+ghost use Rattle.run_laws.specs.Laws.{AccountsHold, AttemptsAreOwnTurns, BoardsStep, EachHasFate, EventsExtend, OverHasEnded};
 ghost use Rattle.run_laws.specs.Course.{CoursesExclude, NoneRefused};
 ghost use Rattle.run_laws.specs.Ready.{EnabledCan};
 
@@ -7,6 +7,12 @@ ghost use Rattle.run_laws.specs.Ready.{EnabledCan};
 /// journal.
 pub fn accounts_hold()
     ensures { AccountsHold }
+{}
+
+/// The attempts of each test in the newest sub-run are its own turns, cut where it was let go: their results, outputs,
+/// starts and times, after every legal journal.
+pub fn attempts_are_their_own_turns()
+    ensures { AttemptsAreOwnTurns }
 {}
 
 /// Each enabled turn after a legal journal moves the board by its step.
