@@ -9,11 +9,11 @@ use Rattle.run_model.specs.declared.unit_turn.UnitTurn.{UnitTurn}
 use Rattle.run_model.specs.declared.unit_turn.UnitTurn.TheVariants.{Answered, Started, StartFailed, Exit, WaitFailed, Decide}
 use Rattle.run_model.specs.declared.unit_view.UnitView.{UnitView}
 use Rattle.run_model.specs.Unit.{row, row_at, takes, attempts}
-use Rattle.run_model.specs.Attempts.{OwnTurn, lets_go, with_turn, pieces, first_said, moment_if, end_of, refusal_of, exit_of, faults_of, ended_statuses, attempt_in, start_in}
+use Rattle.run_model.specs.Attempts.{OwnTurn, begins_attempt, with_turn, pieces, first_said, moment_if, end_of, refusal_of, exit_of, faults_of, ended_statuses, attempt_in, start_in}
 
 -- an attempt that was let go at this moment and goes on
 pub record IsGoing (start : ℕ) (piece : List OwnTurn) : Type 0 where
-  pub let_go : first_said (moment_if lets_go) piece ≡ Some start
+  pub let_go : first_said (moment_if begins_attempt) piece ≡ Some start
   pub not_ended : end_of piece ≡ None
   pub not_refused : refusal_of piece ≡ None
   pub no_exit : exit_of piece ≡ None
@@ -41,7 +41,7 @@ quiet_said (Some x) = refl
 
 -- the pieces after one more turn
 abbrev pub more : OwnTurn → List (List OwnTurn) → List (List OwnTurn)
-more t ps = if lets_go t.turn then (t ∷ []) ∷ ps else with_turn t ps
+more t ps = if begins_attempt t.turn then (t ∷ []) ∷ ps else with_turn t ps
 
 -- each row of a unit that takes its turn keeps that
 row_made : (now : ℕ) (ph : Phase) (turn : UnitTurn) (u : UnitView) (ps : List (List OwnTurn)) → takes ph turn ≡ true
@@ -94,14 +94,16 @@ row_made now Deciding turn u [] en a s h = absurd h
 row_made now ph turn u ps en a s h = cc
 
 -- in each phase its statuses are those of its ended pieces
-pub made_statuses : (u : UnitView) (ps : List (List OwnTurn)) → IsMade u ps → u.statuses ≡ ended_statuses (attempts u) ps
+pub made_statuses : (u : UnitView) (ps : List (List OwnTurn)) → IsMade u ps
+    → u.statuses ≡ ended_statuses (attempts u) ps
 made_statuses u ps made = by_phase u.phase u.statuses ps made.has
   where
     unended : (piece : List OwnTurn) (earlier : List (List OwnTurn)) (ss : List ExecuteStatus) → IsGoing u.start piece
         → ss ≡ ended_statuses (attempts u) earlier → ss ≡ ended_statuses (attempts u) (piece ∷ earlier)
     unended piece earlier ss on is = rw on.not_ended (is ∙ sym (append-nil (ended_statuses (attempts u) earlier)))
 
-    by_phase : (ph : Phase) (ss : List ExecuteStatus) (ps : List (List OwnTurn)) → HasPieces ph (attempts u) u.start ss ps
+    by_phase : (ph : Phase) (ss : List ExecuteStatus) (ps : List (List OwnTurn))
+        → HasPieces ph (attempts u) u.start ss ps
         → ss ≡ ended_statuses (attempts u) ps
     by_phase StartSent ss [] h = h
     by_phase Starting ss (piece ∷ earlier) (on, is) = unended piece earlier ss on is
@@ -116,7 +118,10 @@ abbrev pub IsMadeIf : Option UnitView → List OwnTurn → Type 0
 IsMadeIf None story = story ≡ []
 IsMadeIf (Some u) story = IsMade u (pieces story)
 
-pub row_made_if : (now : ℕ) (turn : UnitTurn) (u : UnitView) (v : Option UnitView) (story : List OwnTurn) → v ≡ Some u → takes u.phase turn ≡ true
-    → IsMadeIf v story → IsMadeIf (option_map (λ w. (row now turn w).next) v) (record { moment = now; turn = turn } ∷ story)
+pub row_made_if : (now : ℕ) (turn : UnitTurn) (u : UnitView) (v : Option UnitView) (story : List OwnTurn) → v ≡ Some u
+    → takes u.phase turn ≡ true
+    → IsMadeIf v story → IsMadeIf (option_map (λ w. (row now turn w).next) v)
+    (record { moment = now; turn = turn } ∷ story)
 row_made_if now turn u v story is en h =
-    rw is (let made : IsMade u (pieces story) = rw is at h in row_made now u.phase turn u (pieces story) en made.attempt made.start made.has)
+    rw is (let made : IsMade u (pieces story) = rw is at h in
+    row_made now u.phase turn u (pieces story) en made.attempt made.start made.has)

@@ -5,6 +5,9 @@ pub mod AccountLemmas
 pub mod Running
 pub mod Scan
 pub mod AttemptLemmas
+pub mod OnBoard
+pub mod Newcomers
+pub mod Facts
 pub mod Deeds
 pub mod Kept
 pub mod Boards

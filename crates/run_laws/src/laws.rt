@@ -1,5 +1,6 @@
 // Theorems over every legal journal.
-ghost use Rattle.run_laws.specs.Laws.{AccountsHold, AttemptsAreOwnTurns, BoardsStep, EachHasFate, EventsExtend, OverHasEnded};
+ghost use Rattle.run_laws.specs.Laws.{AccountsHold, AttemptsAreOwnTurns, BoardsStep, EventsExtend};
+ghost use Rattle.run_laws.specs.Laws.{EachHasFate, OverHasEnded};
 ghost use Rattle.run_laws.specs.Course.{CoursesExclude, NoneRefused};
 ghost use Rattle.run_laws.specs.Ready.{EnabledCan};
 
@@ -40,7 +41,8 @@ pub fn events_extend()
 {}
 
 /// A list of turns has one journal at most with a reporter, and one course: it stops at one place, or it leaves the run
-/// unfinished, or it ends the run with one outcome. Where no event was refused, the reporter is the one that refuses none.
+/// unfinished, or it ends the run with one outcome. Where no event was refused, the reporter is the one that refuses
+/// none.
 pub fn a_list_of_turns_has_one_course()
     ensures one { CoursesExclude }
     ensures unrefused { NoneRefused }

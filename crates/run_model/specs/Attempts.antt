@@ -35,42 +35,45 @@ abbrev pub story_of : ℕ → List Happening → List OwnTurn
 story_of k [] = []
 story_of k (x ∷ run) = option_to_list (own_turn k x.moment x.place) ++ story_of k run
 
--- whether a turn lets the unit go, and whether it ends its attempt: its start is refused, or its child has ended or can't
--- be waited for
-abbrev pub lets_go : UnitTurn → Bool
-lets_go (Answered go) = go
-lets_go _ = false
+-- an attempt begins where its unit is let go, and ends where its start is refused, or its child has ended or can't be
+-- waited for
+abbrev pub begins_attempt : UnitTurn → Bool
+begins_attempt (Answered go) = go
+begins_attempt _ = false
 
-abbrev pub ends : UnitTurn → Bool
-ends (StartFailed error) = true
-ends (Exit exit) = true
-ends (WaitFailed error) = true
-ends _ = false
+abbrev pub ends_attempt : UnitTurn → Bool
+ends_attempt (StartFailed error) = true
+ends_attempt (Exit exit) = true
+ends_attempt (WaitFailed error) = true
+ends_attempt _ = false
 
--- the pieces of a story, one for each attempt: each begins with the turn that let it go, and what comes before the first
--- is in none. The newest piece stands first, and in each its newest turn
+-- the pieces of a story, one for each attempt: each begins with the turn that let it go, and what comes before that of the
+-- first is in none. The newest piece stands first, and in each its newest turn
 abbrev pub with_turn : OwnTurn → List (List OwnTurn) → List (List OwnTurn)
 with_turn t [] = []
 with_turn t (piece ∷ earlier) = (t ∷ piece) ∷ earlier
 
 abbrev pub pieces : List OwnTurn → List (List OwnTurn)
 pieces [] = []
-pieces (t ∷ before) = if lets_go t.turn then (t ∷ []) ∷ pieces before else with_turn t (pieces before)
+pieces (t ∷ before) = if begins_attempt t.turn then (t ∷ []) ∷ pieces before else with_turn t (pieces before)
 
--- the first of some turns that says something says this
+-- what the first of some turns that says anything says
 abbrev pub first_said : {X : Type 0} → (OwnTurn → Option X) → List OwnTurn → Option X
 first_said say [] = None
 first_said say (t ∷ before) = option_or (first_said say before) (say t)
 
--- when an attempt was let go, and when it ended, if it has
+-- when an attempt began, and when it ended, if it has
 abbrev pub moment_if : (UnitTurn → Bool) → OwnTurn → Option ℕ
 moment_if is t = if is t.turn then Some t.moment else None
 
 abbrev pub start_of : List OwnTurn → ℕ
-start_of piece = unwrap_or (first_said (moment_if lets_go) piece) 0
+start_of piece = unwrap_or (first_said (moment_if begins_attempt) piece) 0
 
 abbrev pub end_of : List OwnTurn → Option ℕ
-end_of piece = first_said (moment_if ends) piece
+end_of piece = first_said (moment_if ends_attempt) piece
+
+abbrev pub has_ended : List OwnTurn → Bool
+has_ended piece = is_some (end_of piece)
 
 -- how long it took: no pause exists yet
 abbrev pub time_of : List OwnTurn → ℕ
@@ -101,18 +104,22 @@ abbrev pub faults_of : List OwnTurn → List ChildFdError
 faults_of [] = []
 faults_of (t ∷ before) = faults_of before ++ option_to_list (fault_in t.turn)
 
--- what came of it: a refused start is a failure to run, and so are a fault and a child that wasn't seen to end; else it is
--- as its child ended. Nothing is captured yet, so nothing leaks
+-- its result: it failed to run where its start was refused, at a fault, and where its child wasn't seen to end; else it
+-- is as its child ended. Nothing is captured yet, so nothing leaks
 abbrev pub result_by : Option (List ℕ) → Option ChildExit → List ChildFdError → ExecutionResult
 result_by (Some refusal) exit faults = ExecFail
 result_by None exit faults = execution_result exit faults false Pass
 
+-- what came of its child: nothing is captured yet
 abbrev pub output_by : Option (List ℕ) → List ChildFdError → ChildExecutionOutput
 output_by (Some refusal) faults = StartError refusal
 output_by None faults = Output uncaptured faults
 
--- the status of a piece as the attempt of this number, of so many at most: no delay comes before it, and no turn finds it
--- slow yet
+-- whether it was reported slow: no turn does that yet
+abbrev pub is_slow : List OwnTurn → Bool
+is_slow piece = false
+
+-- the status of a piece as the attempt of this number, of so many at most: no delay comes before one yet
 abbrev pub status_of : ℕ → ℕ → List OwnTurn → ExecuteStatus
 status_of attempts attempt piece = record {
   attempt = attempt;
@@ -120,7 +127,7 @@ status_of attempts attempt piece = record {
   delay = 0;
   result = result_by (refusal_of piece) (exit_of piece) (faults_of piece);
   output = output_by (refusal_of piece) (faults_of piece);
-  slow = false;
+  slow = is_slow piece;
   start = start_of piece;
   time = time_of piece;
 }
@@ -130,9 +137,9 @@ abbrev pub ended_statuses : ℕ → List (List OwnTurn) → List ExecuteStatus
 ended_statuses attempts [] = []
 ended_statuses attempts (piece ∷ earlier) =
     ended_statuses attempts earlier
-    ++ (if is_some (end_of piece) then status_of attempts (length earlier + 1) piece ∷ [] else [])
+    ++ (if has_ended piece then status_of attempts (length earlier + 1) piece ∷ [] else [])
 
--- which attempt a unit is at, and when that was let go: before the first let go it is at attempt 1
+-- which attempt a unit is at, and when that began: before the first it is at attempt 1
 abbrev pub attempt_in : List (List OwnTurn) → ℕ
 attempt_in [] = 1
 attempt_in (piece ∷ earlier) = length earlier + 1
@@ -145,7 +152,7 @@ start_in (piece ∷ earlier) = start_of piece
 abbrev pub retries_of : Settings → ℕ → ℕ
 retries_of p j = 0
 
--- the attempts of the test at place j, and those of them that have ended, by its own turns in a sub-run
+-- the attempts of the test at place j in a sub-run, and what came of those that have ended, by its own turns alone
 abbrev pub pieces_of : Settings → ℕ → List Happening → List (List OwnTurn)
 pieces_of p j run = pieces (story_of (unit_of_test p j) run)
 

@@ -64,8 +64,8 @@ MeetsAttemptLaw n (s ∷ t ∷ ss) = (is_success s.result ≡ false) × (0 < n) 
 abbrev pub HasRetryLeft : ℕ → List ExecuteStatus → Type 0
 HasRetryLeft n ss = (list_all (λ s. not (is_success s.result)) ss ≡ true) × (length ss ≤ n) × (0 < length ss)
 
--- the test at place j of the plan, which is unit k, has its fate in a sub-run: what was told of it is its account, and its
--- attempts, by its own turns, meet their law
+-- the test at place j of the plan, which is unit k, has its fate in a sub-run: what was told of it is its account, with
+-- the attempts that its own turns made, and these meet their law
 pub record HasFateAs (p : Settings) (run : List Happening) (j k : ℕ) : Type 0 where
   pub account : account_of k (told run)
       ≡ account (is_mismatched p j) (never_started k run) (was_left k run) (statuses_of p j run)
