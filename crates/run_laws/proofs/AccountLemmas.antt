@@ -22,12 +22,13 @@ use Rattle.run_model.specs.Unit.{row, row_at, takes}
 use Rattle.run_model.specs.Words.{placed}
 use Rattle.run_model.specs.Admission.{start_message, skip_message}
 use Rattle.run_model.specs.Dispatch.{event, started_event, finished_event}
-use Rattle.run_laws.specs.Holds.{IsBuilt}
+use Rattle.run_laws.proofs.Holds.{IsBuilt}
 use Rattle.run_laws.proofs.ByTurn.{is_answer}
 use Rattle.run_model.specs.Accounts.{News, HasAccount, HasAccountAt, account_of, pending_of}
 
 -- a row other than an answer keeps the account of its unit
-pub row_accounted : (mm : Bool) (now : ℕ) (ph : Phase) (turn : UnitTurn) (u : UnitView) (ss : List ExecuteStatus) (t : List News) (q : List Message)
+pub row_accounted : (mm : Bool) (now : ℕ) (ph : Phase) (turn : UnitTurn) (u : UnitView) (ss : List ExecuteStatus)
+    (t : List News) (q : List Message)
     → u.statuses ≡ ss → takes ph turn ≡ true → is_answer turn ≡ false
     → HasAccountAt mm ph ss t (pending_of u.test.unit q)
     → HasAccountAt mm (row_at now ph turn u).next.phase (row_at now ph turn u).next.statuses t
@@ -53,30 +54,35 @@ pub row_keeps_unit : (now : ℕ) (ph : Phase) (turn : UnitTurn) (u : UnitView) �
 row_keeps_unit now ph turn u = grind arith
 
 -- an attempt is let go at the moment of its row, and no row moves that later
-pub row_starts : (now : ℕ) (ph : Phase) (turn : UnitTurn) (u : UnitView) → u.start ≤ now → (row_at now ph turn u).next.start ≤ now
+pub row_starts : (now : ℕ) (ph : Phase) (turn : UnitTurn) (u : UnitView) → u.start ≤ now
+    → (row_at now ph turn u).next.start ≤ now
 row_starts now ph turn u h = grind arith
 
 -- a unit's own turn keeps the account of each test
-pub of_row : (mm : Bool) (now j k : ℕ) (turn : UnitTurn) (u : UnitView) (v : Option UnitView) (t : List News) (q : List Message)
+pub of_row : (mm : Bool) (now j k : ℕ) (turn : UnitTurn) (u : UnitView) (v : Option UnitView) (t : List News)
+    (q : List Message)
     → takes u.phase turn ≡ true → is_answer turn ≡ false → u.test.unit ≡ j → ((j == k) ≡ true → v ≡ Some u)
     → HasAccount mm v t (pending_of k q)
     → HasAccount mm (placed now k (Some (Took j turn)) v) t (pending_of k (q ++ option_to_list (row now turn u).sent))
 of_row mm now j k turn u v t q en other named same h = by_unit (j == k) refl
   where
     by_unit : (b : Bool) → (j == k) ≡ b
-        → HasAccount mm (placed now k (Some (Took j turn)) v) t (pending_of k (q ++ option_to_list (row now turn u).sent))
+        → HasAccount mm (placed now k (Some (Took j turn)) v) t
+        (pending_of k (q ++ option_to_list (row now turn u).sent))
     by_unit true e =
         let own : u.test.unit ≡ k = grind arith in
         let was : HasAccountAt mm u.phase u.statuses t (pending_of u.test.unit q) =
         subst (λ m. HasAccountAt mm u.phase u.statuses t (pending_of m q)) (sym own) (rw (same e) at h) in
-        rw (e, same e) (subst (λ m. HasAccount mm (Some (row now turn u).next) t (pending_of m (q ++ option_to_list (row now turn u).sent))) own
+        rw (e, same e) (subst (λ m. HasAccount mm (Some (row now turn u).next) t
+        (pending_of m (q ++ option_to_list (row now turn u).sent))) own
         (row_accounted mm now u.phase turn u u.statuses t q refl en other was))
     by_unit false e =
         let apart : (u.test.unit == k) ≡ false = grind arith in
         rw (e, row_sends_own now u.phase turn u k q apart) h
 
 -- the delivery of the start message of a unit keeps the account of test k, v, let go or not
-pub of_start : (mm : Bool) (now k : ℕ) (go : Bool) (u : UnitView) (v : Option UnitView) (t : List News) (rest : List Message) (start : TestStart) (tally : Tally)
+pub of_start : (mm : Bool) (now k : ℕ) (go : Bool) (u : UnitView) (v : Option UnitView) (t : List News)
+    (rest : List Message) (start : TestStart) (tally : Tally)
     → ((start.test.unit == k) ≡ true → v ≡ Some u)
     → HasAccount mm v t (pending_of k (Start start ∷ rest))
     → HasAccount mm (placed now k (Some (Took start.test.unit (Answered go))) v)
@@ -88,7 +94,8 @@ of_start mm now k true u (Some v) t rest start tally same h = grind (arith, comm
 of_start mm now k false u (Some v) t rest start tally same h = grind (arith, common_steps, append-nil)
 
 -- the delivery of a finish message keeps the account of each test
-pub of_finish : (mm : Bool) (now k : ℕ) (v : Option UnitView) (t : List News) (rest : List Message) (finish : TestFinish) (tally : Tally)
+pub of_finish : (mm : Bool) (now k : ℕ) (v : Option UnitView) (t : List News) (rest : List Message)
+    (finish : TestFinish) (tally : Tally)
     → HasAccount mm v t (pending_of k (Finish finish ∷ rest))
     → HasAccount mm v (t ++ account_of k (event now (finished_event finish tally) ∷ [])) (pending_of k (rest ++ []))
 of_finish mm now k v t rest finish tally h = grind (arith, common_steps, append-nil)
@@ -109,9 +116,13 @@ first_built true u sent (ph, (reason, is)) = rw is tt
 first_built false u sent (ph, is) = rw is tt
 
 -- its first account
-pub begins : (first mm : Bool) (k : ℕ) (u : UnitView) (sent : Message) (v : Option UnitView) (t : List News) (q : List Message)
-    → IsFirst first u sent → u.statuses ≡ [] → ((u.test.unit == k) ≡ true → mm ≡ first) → ((u.test.unit == k) ≡ true → v ≡ None)
+pub begins : (first mm : Bool) (k : ℕ) (u : UnitView) (sent : Message) (v : Option UnitView) (t : List News)
+    (q : List Message)
+    → IsFirst first u sent → u.statuses ≡ [] → ((u.test.unit == k) ≡ true → mm ≡ first)
+    → ((u.test.unit == k) ≡ true → v ≡ None)
     → HasAccount mm v t (pending_of k q)
     → HasAccount mm (if u.test.unit == k then Some u else v) (t ++ []) (pending_of k (q ++ sent ∷ []))
-begins true mm k u sent v t q (ph, (reason, is)) st mismatched fresh h = rw is (grind (arith, common_steps, append-nil, filter_map-append))
-begins false mm k u sent v t q (ph, is) st mismatched fresh h = rw is (grind (arith, common_steps, append-nil, filter_map-append))
+begins true mm k u sent v t q (ph, (reason, is)) st mismatched fresh h =
+    rw is (grind (arith, common_steps, append-nil, filter_map-append))
+begins false mm k u sent v t q (ph, is) st mismatched fresh h =
+    rw is (grind (arith, common_steps, append-nil, filter_map-append))

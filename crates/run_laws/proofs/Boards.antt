@@ -30,7 +30,8 @@ use Rattle.run_model.specs.Turns.{enabled, deed_on, happening}
 use Rattle.run_model.specs.Journal.{history, IsLegalBackward}
 use Rattle.run_laws.proofs.Queue.{queue-cons}
 use Rattle.run_laws.proofs.Running.{running_in_told, running-started, running-finished, running-kept}
-use Rattle.run_laws.proofs.Deeds.{board_of, units-length, units-at, ToldFits, ToldFitsIn, Does}
+use Rattle.run_laws.proofs.OnBoard.{board_of, units-length, units-at}
+use Rattle.run_laws.proofs.Deeds.{ToldFits, ToldFitsIn, Does}
 use Rattle.run_laws.proofs.Kept.{greater-None, HoldsAfter, does_after, sub_run-after, holds}
 
 -- a place in the list of units, at one of them
@@ -40,9 +41,12 @@ at_place now None us k h = refl
 at_place now (Some (Admitted first)) us k h = by_place (first.test.unit == k) refl
   where
     by_place : (b : Bool) → (first.test.unit == k) ≡ b
-        → get_or (set us first.test.unit (Some first)) k None ≡ (if first.test.unit == k then Some first else get_or us k None)
-    by_place true e = let here : k ≡ first.test.unit = grind arith in rw e (get_or-set_at us first.test.unit k (Some first) None here (omega arith))
-    by_place false e = let apart : k ≢ first.test.unit = grind arith in rw e (get_or-set_other us first.test.unit k (Some first) None apart)
+        → get_or (set us first.test.unit (Some first)) k None
+        ≡ (if first.test.unit == k then Some first else get_or us k None)
+    by_place true e = let here : k ≡ first.test.unit = grind arith in
+        rw e (get_or-set_at us first.test.unit k (Some first) None here (omega arith))
+    by_place false e = let apart : k ≢ first.test.unit = grind arith in
+        rw e (get_or-set_other us first.test.unit k (Some first) None apart)
 at_place now (Some (Took j turn)) us k h = by_place (j == k) refl
   where
     by_place : (b : Bool) → (j == k) ≡ b
@@ -54,13 +58,15 @@ at_place now (Some (Took j turn)) us k h = by_place (j == k) refl
         ∙ ap (λ j. option_map (λ v. (row now turn v).next) (get_or us j None)) (sym here))
     by_place false e = let apart : k ≢ j = grind arith in rw e (get_or-set_other us j k _ None apart)
 
-length_placed : (now : ℕ) (place : Option Place) (us : List (Option UnitView)) → length (placed_in now place us) ≡ length us
+length_placed : (now : ℕ) (place : Option Place) (us : List (Option UnitView))
+    → length (placed_in now place us) ≡ length us
 length_placed now None us = refl
 length_placed now (Some (Admitted first)) us = length-set us first.test.unit (Some first)
 length_placed now (Some (Took j turn)) us = length-set us j _
 
 -- the units after one more turn
-units-cons : (p : Settings) (x : Happening) (run : List Happening) → placed_in x.moment x.place (units p run) ≡ units p (x ∷ run)
+units-cons : (p : Settings) (x : Happening) (run : List Happening)
+    → placed_in x.moment x.place (units p run) ≡ units p (x ∷ run)
 units-cons p x run =
     fill_by_all (λ k. unit_of k (x ∷ run)) (placed_in x.moment x.place (units p run)) (units_in p) None
     (length_placed x.moment x.place (units p run) ∙ units-length p run)
@@ -75,12 +81,16 @@ counts p why events = record {
 }
 
 -- how many tests run after one more event
-running_one : (p : Settings) (why : Option CancelReason) (now elapsed : ℕ) (kind : TestEventKind) (es : List ReporterEvent)
+running_one : (p : Settings) (why : Option CancelReason) (now elapsed : ℕ) (kind : TestEventKind)
+    (es : List ReporterEvent)
     → ToldFitsIn (units_in p) es kind
-    → running_in_told (units_in p) (es ++ Test (record { clock = now; elapsed = elapsed; kind = kind }) ∷ []) ≡ (tallied kind (counts p why es)).running
-running_one p why now elapsed (TestStarted e) es fits = running-started (units_in p) e.start.test.unit es _ fits.0 fits.1 (λ k. refl) (λ k. refl)
+    → running_in_told (units_in p) (es ++ Test (record { clock = now; elapsed = elapsed; kind = kind }) ∷ [])
+    ≡ (tallied kind (counts p why es)).running
+running_one p why now elapsed (TestStarted e) es fits =
+    running-started (units_in p) e.start.test.unit es _ fits.0 fits.1 (λ k. refl) (λ k. refl)
 running_one p why now elapsed (TestFinished e) es fits =
-    let less = running-finished (units_in p) e.finish.test.unit es (Test (record { clock = now; elapsed = elapsed; kind = TestFinished e }))
+    let less = running-finished (units_in p) e.finish.test.unit es
+    (Test (record { clock = now; elapsed = elapsed; kind = TestFinished e }))
     fits.0 fits.1 (λ k. refl) (λ k. refl) in omega arith
 running_one p why now elapsed kind es fits = running-kept (units_in p) es _ (λ k. refl) (λ k. refl)
 
@@ -90,61 +100,83 @@ one_skip_more : (p : Settings) (why : Option CancelReason) (n : ℕ) (fs : List 
 unfolding total_by
 one_skip_more p why n fs =
     ap (λ m. record (stats_after p why n fs) { skipped = m })
-    (let more : n + 1 + sum_by (λ f. (adds_of f).skipped) fs ≡ n + sum_by (λ f. (adds_of f).skipped) fs + 1 = omega arith in more)
+    (let more : n + 1 + sum_by (λ f. (adds_of f).skipped) fs ≡ n + sum_by (λ f. (adds_of f).skipped) fs + 1 =
+    omega arith in more)
 
 -- the statistics after one more event: one finish more adds what it adds, and what tells neither leaves them
-stats_one : (p : Settings) (why : Option CancelReason) (n now elapsed running : ℕ) (kind : TestEventKind) (fs : List FinishedTest)
+stats_one : (p : Settings) (why : Option CancelReason) (n now elapsed running : ℕ) (kind : TestEventKind)
+    (fs : List FinishedTest)
     → stats_after p why (n + count_by skips (Test (record { clock = now; elapsed = elapsed; kind = kind }) ∷ []))
     (fs ++ filter_map finish_of (Test (record { clock = now; elapsed = elapsed; kind = kind }) ∷ []))
     ≡ (tallied kind (record { running = running; stats = stats_after p why n fs })).stats
 stats_one p why n now elapsed running (TestFinished e) fs =
-    ap (λ m. stats_after p why m (fs ++ finished_test e.finish ∷ [])) (add-zero n) ∙ total_push _ fs (finished_test e.finish)
-stats_one p why n now elapsed running (TestSkipped e) fs = ap (stats_after p why (n + 1)) (append-nil fs) ∙ one_skip_more p why n fs
+    ap (λ m. stats_after p why m (fs ++ finished_test e.finish ∷ [])) (add-zero n)
+    ∙ total_push _ fs (finished_test e.finish)
+stats_one p why n now elapsed running (TestSkipped e) fs = ap (stats_after p why (n + 1)) (append-nil fs)
+    ∙ one_skip_more p why n fs
 stats_one p why n now elapsed running kind fs =
     ap (λ m. stats_after p why m (fs ++ [])) (add-zero n) ∙ ap (stats_after p why n) (append-nil fs)
 
 same_counts : (a b : Tally) → a.running ≡ b.running → a.stats ≡ b.stats → a ≡ b
 same_counts a b running stats =
-    ap (λ n. record { running = n; stats = a.stats }) running ∙ ap (λ s. record { running = b.running; stats = s }) stats
+    ap (λ n. record { running = n; stats = a.stats }) running
+    ∙ ap (λ s. record { running = b.running; stats = s }) stats
 
 -- so what is counted after one more event is what the dispatcher makes of it
-counts-more : (p : Settings) (why : Option CancelReason) (o : Option ReporterEvent) (es : List ReporterEvent) → ToldFits (units_in p) es o
+counts-more : (p : Settings) (why : Option CancelReason) (o : Option ReporterEvent) (es : List ReporterEvent)
+    → ToldFits (units_in p) es o
     → counts p why (es ++ option_to_list o) ≡ having_told (counts p why es) o
 counts-more p why None es fits = ap (counts p why) (append-nil es)
 counts-more p why (Some Tick) es fits =
-    same_counts (counts p why (es ++ Tick ∷ [])) (counts p why es) (running-kept (units_in p) es Tick (λ k. refl) (λ k. refl))
-    (ap (λ n. stats_after p why n (filter_map finish_of (es ++ Tick ∷ []))) (sum_by-append (λ x. cond (skips x) 1 0) es (Tick ∷ []) ∙ add-zero _)
+    same_counts (counts p why (es ++ Tick ∷ [])) (counts p why es)
+    (running-kept (units_in p) es Tick (λ k. refl) (λ k. refl))
+    (ap (λ n. stats_after p why n (filter_map finish_of (es ++ Tick ∷ [])))
+    (sum_by-append (λ x. cond (skips x) 1 0) es (Tick ∷ []) ∙ add-zero _)
     ∙ ap (stats_after p why (count_by skips es)) (filter_map-append finish_of es _ ∙ append-nil _))
 counts-more p why (Some (Test e)) es fits =
-    same_counts (counts p why (es ++ Test e ∷ [])) (tallied e.kind (counts p why es)) (running_one p why e.clock e.elapsed e.kind es fits)
-    (ap (λ n. stats_after p why n (filter_map finish_of (es ++ Test e ∷ []))) (sum_by-append (λ x. cond (skips x) 1 0) es (Test e ∷ []))
+    same_counts (counts p why (es ++ Test e ∷ [])) (tallied e.kind (counts p why es))
+    (running_one p why e.clock e.elapsed e.kind es fits)
+    (ap (λ n. stats_after p why n (filter_map finish_of (es ++ Test e ∷ [])))
+    (sum_by-append (λ x. cond (skips x) 1 0) es (Test e ∷ []))
     ∙ ap (stats_after p why (count_by skips es + count_by skips (Test e ∷ []))) (filter_map-append finish_of es _)
-    ∙ stats_one p why (count_by skips es) e.clock e.elapsed (running_in_told (units_in p) es) e.kind (filter_map finish_of es))
+    ∙ stats_one p why (count_by skips es) e.clock e.elapsed (running_in_told (units_in p) es) e.kind
+    (filter_map finish_of es))
 
 -- what is counted after one more deed
-tally-cons : (p : Settings) (over : Bool) (now : ℕ) (run : List Happening) (e : Entry) (d : Deed) → Does p over now run d
+tally-cons : (p : Settings) (over : Bool) (now : ℕ) (run : List Happening) (e : Entry) (d : Deed)
+    → Does p over now run d
     → tally p (said now e d ∷ run) ≡ having_told (having_told (tally p run) d.told) d.cancel
 tally-cons p over now run e d does =
-    ap (λ why. counts p why (told run ++ deed_events d)) (ap (greater (reason run)) does.marks.cause ∙ greater-None (reason run))
+    ap (λ why. counts p why (told run ++ deed_events d))
+    (ap (greater (reason run)) does.marks.cause ∙ greater-None (reason run))
     ∙ ap (λ c. counts p (reason run) (told run ++ (option_to_list d.told ++ option_to_list c))) does.marks.cancel
     ∙ ap (λ es. counts p (reason run) (told run ++ es)) (append-nil (option_to_list d.told))
     ∙ counts-more p (reason run) d.told (told run) does.tells
     ∙ ap (having_told (having_told (tally p run) d.told)) (sym does.marks.cancel)
 
 -- the board after one more deed
-board-cons : (p : Settings) (over : Bool) (now : ℕ) (run : List Happening) (e : Entry) (d : Deed) → Does p over now run d
+board-cons : (p : Settings) (over : Bool) (now : ℕ) (run : List Happening) (e : Entry) (d : Deed)
+    → Does p over now run d
     → board_of p (d.over || over) (now + ns_of e.turn) (said now e d ∷ run) ≡ step (board_of p over now run) e.turn d
 board-cons p over now run e d does =
-    rw (sym (units-cons p (said now e d) run), queue-cons (said now e d) run does.room, tally-cons p over now run e d does) refl
+    rw (
+      sym (units-cons p (said now e d) run),
+      queue-cons (said now e d) run does.room,
+      tally-cons p over now run e d
+          does,
+    ) refl
 
 -- so each enabled turn after a history that holds moves the board by its step
 board_step : (p : Settings) (past : List Happening) (e : Entry) → HoldsAfter p past → enabled p past e.turn ≡ true
     → board p (happening p past e ∷ past) ≡ step (board p past) e.turn (deed_on p (board p past) e.turn)
 board_step p past e h en =
-    ap (board_of p (is_over (happening p past e ∷ past)) (clock (happening p past e ∷ past))) (sub_run-after p past e h en)
-    ∙ board-cons p (is_over past) (clock past) (sub_run past) e (deed_on p (board p past) e.turn) (does_after p past e h en)
+    ap (board_of p (is_over (happening p past e ∷ past)) (clock (happening p past e ∷ past)))
+    (sub_run-after p past e h en)
+    ∙ board-cons p (is_over past) (clock past) (sub_run past) e (deed_on p (board p past) e.turn)
+    (does_after p past e h en)
 
-pub board-steps : (p : Settings) (backward : List Entry) (e : Entry) → IsLegalBackward p backward → enabled p (history p backward) e.turn ≡ true
+pub board-steps : (p : Settings) (backward : List Entry) (e : Entry) → IsLegalBackward p backward
+    → enabled p (history p backward) e.turn ≡ true
     → board p (happening p (history p backward) e ∷ history p backward)
     ≡ step (board p (history p backward)) e.turn (deed_on p (board p (history p backward)) e.turn)
 board-steps p backward e legal en = board_step p (history p backward) e (holds p backward legal) en

@@ -17,10 +17,12 @@ use Rattle.run_laws.specs.Course.{turns_of, refusals, none_refused, refuses_none
 pub refusals-append : (journal later : List Entry) → refusals (journal ++ later) ≡ refusals journal ++ refusals later
 refusals-append [] later = refl
 refusals-append (e ∷ journal) later =
-    ap (λ rs. e.refused ++ rs) (refusals-append journal later) ∙ sym (append_assoc e.refused (refusals journal) (refusals later))
+    ap (λ rs. e.refused ++ rs) (refusals-append journal later)
+    ∙ sym (append_assoc e.refused (refusals journal) (refusals later))
 
 -- answers of a longer journal are answers of its front
-answers_before : (refuses : ℕ → Bool) (journal later : List Entry) → AreAnswersOf refuses (journal ++ later) → AreAnswersOf refuses journal
+answers_before : (refuses : ℕ → Bool) (journal later : List Entry) → AreAnswersOf refuses (journal ++ later)
+    → AreAnswersOf refuses journal
 answers_before refuses journal later h n below =
     sym (get_or_append_left (refusals journal) (refusals later) false n below)
     ∙ sym (ap (λ rs. get_or rs n false) (refusals-append journal later))
@@ -42,8 +44,10 @@ same_entry a b turn refused =
     ap (λ t. record { turn = t; refused = a.refused }) turn ∙ ap (λ rs. record { turn = b.turn; refused = rs }) refused
 
 -- two legal journals with the same turns and a reporter, newest first, are one
-one_backward : (p : Settings) (refuses : ℕ → Bool) (journal other : List Entry) → map (λ e. e.turn) other ≡ map (λ e. e.turn) journal
-    → IsLegalBackward p journal → IsLegalBackward p other → AreAnswersOf refuses (reverse journal) → AreAnswersOf refuses (reverse other)
+one_backward : (p : Settings) (refuses : ℕ → Bool) (journal other : List Entry)
+    → map (λ e. e.turn) other ≡ map (λ e. e.turn) journal
+    → IsLegalBackward p journal → IsLegalBackward p other → AreAnswersOf refuses (reverse journal)
+    → AreAnswersOf refuses (reverse other)
     → other ≡ journal
 one_backward p refuses [] [] same legal legal_too answers answers_too = refl
 one_backward p refuses [] (d ∷ other) same legal legal_too answers answers_too = cc
@@ -51,15 +55,21 @@ one_backward p refuses (e ∷ journal) [] same legal legal_too answers answers_t
 one_backward p refuses (e ∷ journal) (d ∷ other) same legal legal_too answers answers_too =
     let turn : d.turn ≡ e.turn = cc in
     let rest : map (λ e. e.turn) other ≡ map (λ e. e.turn) journal = cc in
-    let last : AreAnswersOf refuses (reverse journal ++ e ∷ []) = subst (AreAnswersOf refuses) (reverse-append (e ∷ []) journal) answers in
-    let last_too : AreAnswersOf refuses (reverse other ++ d ∷ []) = subst (AreAnswersOf refuses) (reverse-append (d ∷ []) other) answers_too in
+    let last : AreAnswersOf refuses (reverse journal ++ e ∷ []) =
+    subst (AreAnswersOf refuses) (reverse-append (e ∷ []) journal) answers in
+    let last_too : AreAnswersOf refuses (reverse other ++ d ∷ []) =
+    subst (AreAnswersOf refuses) (reverse-append (d ∷ []) other) answers_too in
     let before : other ≡ journal = one_backward p refuses journal other rest legal.2 legal_too.2
-    (answers_before refuses (reverse journal) (e ∷ []) last) (answers_before refuses (reverse other) (d ∷ []) last_too) in
-    let events : length (events_in (happening p (history p other) d)) ≡ length (events_in (happening p (history p journal) e)) =
+    (answers_before refuses (reverse journal) (e ∷ []) last)
+    (answers_before refuses (reverse other) (d ∷ []) last_too) in
+    let events : length (events_in (happening p (history p other) d))
+    ≡ length (events_in (happening p (history p journal) e)) =
     ap (λ (es : List Entry). length (events_in (happening p (history p es) d))) before
-    ∙ ap (λ (t : Turn). length (events_in (happening p (history p journal) (record { turn = t; refused = [] })))) turn in
+    ∙ ap (λ (t : Turn). length (events_in (happening p (history p journal) (record { turn = t; refused = [] })))) turn
+    in
     let as_many : length d.refused ≡ length e.refused = legal_too.1 ∙ events ∙ sym legal.1 in
-    let start : length (refusals (reverse other)) ≡ length (refusals (reverse journal)) = ap (λ es. length (refusals (reverse es))) before in
+    let start : length (refusals (reverse other)) ≡ length (refusals (reverse journal)) =
+    ap (λ es. length (refusals (reverse es))) before in
     let refused : d.refused ≡ e.refused = ext_get_or false d.refused e.refused as_many
     (λ n below. answers_last refuses (reverse other) d last_too n below ∙ ap (λ m. refuses (m + n)) start
     ∙ sym (answers_last refuses (reverse journal) e last n (omega arith))) in
@@ -68,7 +78,8 @@ one_backward p refuses (e ∷ journal) (d ∷ other) same legal legal_too answer
 map_reverse : {A B : Type 0} (f : A → B) (xs : List A) → map f (reverse xs) ≡ reverse (map f xs)
 map_reverse f [] = refl
 map_reverse f (x ∷ xs) =
-    ap (map f) (reverse-append (x ∷ []) xs) ∙ map-append f (reverse xs) (x ∷ []) ∙ ap (λ ys. ys ++ f x ∷ []) (map_reverse f xs)
+    ap (map f) (reverse-append (x ∷ []) xs) ∙ map-append f (reverse xs) (x ∷ [])
+    ∙ ap (λ ys. ys ++ f x ∷ []) (map_reverse f xs)
     ∙ sym (reverse-append (f x ∷ []) (map f xs))
 
 one_journal : (p : Settings) (turns : List Turn) (refuses : ℕ → Bool) (journal other : List Entry)
@@ -78,8 +89,10 @@ one_journal p turns refuses journal other j o =
     let forward_too : reverse (reverse other) ≡ other = reverse-reverse other in
     sym forward_too
     ∙ ap reverse (one_backward p refuses (reverse journal) (reverse other)
-    (map_reverse (λ (e : Entry). e.turn) other ∙ ap reverse (o.takes ∙ sym j.takes) ∙ sym (map_reverse (λ (e : Entry). e.turn) journal))
-    j.legal o.legal (subst (AreAnswersOf refuses) (sym forward) j.answers) (subst (AreAnswersOf refuses) (sym forward_too) o.answers))
+    (map_reverse (λ (e : Entry). e.turn) other ∙ ap reverse (o.takes ∙ sym j.takes)
+    ∙ sym (map_reverse (λ (e : Entry). e.turn) journal))
+    j.legal o.legal (subst (AreAnswersOf refuses) (sym forward) j.answers)
+    (subst (AreAnswersOf refuses) (sym forward_too) o.answers))
     ∙ forward
 
 -- a journal at one of its turns
@@ -91,9 +104,11 @@ record Split (journal : List Entry) (place : ℕ) (turn : Turn) : Type 0 where
   earlier : turns_of before ≡ take place (turns_of journal)
   at : entry.turn ≡ turn
 
-split_at : (journal : List Entry) (place : ℕ) (turn : Turn) → slice_get (turns_of journal) place ≡ Some turn → Split journal place turn
+split_at : (journal : List Entry) (place : ℕ) (turn : Turn) → slice_get (turns_of journal) place ≡ Some turn
+    → Split journal place turn
 split_at [] place turn e = cc
-split_at (d ∷ journal) zero turn e = record { before = []; entry = d; after = journal; whole = refl; earlier = refl; at = cc }
+split_at (d ∷ journal) zero turn e =
+    record { before = []; entry = d; after = journal; whole = refl; earlier = refl; at = cc }
 split_at (d ∷ journal) (suc place) turn e =
     let rest = split_at journal place turn e in
     record {
@@ -112,19 +127,23 @@ legal_at p [] older e legal = (legal.2, legal.0)
 legal_at p (d ∷ newer) older e legal = legal_at p newer older e legal.2
 
 -- turns that a journal takes past a place don't stop there
-passes : (p : Settings) (turns longer : List Turn) (refuses : ℕ → Bool) (place : ℕ) (journal : List Entry) → IsJournalOf p longer refuses journal
-    → slice_get longer place ≡ slice_get turns place → take place longer ≡ take place turns → Stops p turns refuses place → ⊥
+passes : (p : Settings) (turns longer : List Turn) (refuses : ℕ → Bool) (place : ℕ) (journal : List Entry)
+    → IsJournalOf p longer refuses journal
+    → slice_get longer place ≡ slice_get turns place → take place longer ≡ take place turns
+    → Stops p turns refuses place → ⊥
 passes p turns longer refuses place journal j at same (other, o, (turn, here, refused)) =
     let split = split_at journal place turn (ap (λ ts. slice_get ts place) j.takes ∙ at ∙ here) in
     let backward : reverse journal ≡ reverse split.after ++ split.entry ∷ reverse split.before =
     ap reverse split.whole ∙ reverse-append split.before (split.entry ∷ split.after)
     ∙ ap (λ es. es ++ reverse split.before) (reverse-append (split.entry ∷ []) split.after)
     ∙ append_assoc (reverse split.after) (split.entry ∷ []) (reverse split.before) in
-    let was = legal_at p (reverse split.after) (reverse split.before) split.entry (subst (IsLegalBackward p) backward j.legal) in
+    let was = legal_at p (reverse split.after) (reverse split.before) split.entry
+    (subst (IsLegalBackward p) backward j.legal) in
     let front : IsJournalOf p (take place turns) refuses split.before = record {
       legal = was.0;
       takes = split.earlier ∙ ap (take place) j.takes ∙ same;
-      answers = answers_before refuses split.before (split.entry ∷ split.after) (subst (AreAnswersOf refuses) split.whole j.answers);
+      answers = answers_before refuses split.before (split.entry ∷ split.after)
+          (subst (AreAnswersOf refuses) split.whole j.answers);
     } in
     let one : other ≡ split.before = one_journal p (take place turns) refuses split.before other front o in
     let never_so : false ≡ true = sym refused ∙ ap (λ es. enabled p (past_of p es) turn) one
@@ -147,7 +166,8 @@ fewer_first (x ∷ xs) a zero lt = absurd (omega arith)
 fewer_first (x ∷ xs) zero (suc b) lt = refl
 fewer_first (x ∷ xs) (suc a) (suc b) lt = ap (λ ys. x ∷ ys) (fewer_first xs a b (omega arith))
 
-passes_first : (p : Settings) (turns : List Turn) (refuses : ℕ → Bool) (a b : ℕ) → a < b → Stops p turns refuses a → Stops p turns refuses b → ⊥
+passes_first : (p : Settings) (turns : List Turn) (refuses : ℕ → Bool) (a b : ℕ) → a < b → Stops p turns refuses a
+    → Stops p turns refuses b → ⊥
 passes_first p turns refuses a b lt first (journal, j, rest) =
     passes p turns (take b turns) refuses a journal j (first_take turns a b lt) (fewer_first turns a b lt) first
 
@@ -171,7 +191,8 @@ one_course p turns refuses = record {
       let same : Some u ≡ Some o = sym e.2 ∙ ap (λ es. outcome p (past_of p es)) one ∙ d.2 in cc;
 }
   where
-    by_other : (a b : ℕ) → Stops p turns refuses a → Stops p turns refuses b → (c : Bool) → nat_lt b a ≡ c → nat_lt a b ≡ false → a ≡ b
+    by_other : (a b : ℕ) → Stops p turns refuses a → Stops p turns refuses b → (c : Bool) → nat_lt b a ≡ c
+        → nat_lt a b ≡ false → a ≡ b
     by_other a b s t true lt ge = absurd (passes_first p turns refuses b a (grind arith) t s)
     by_other a b s t false lt ge = grind arith
 
@@ -180,7 +201,8 @@ one_course p turns refuses = record {
     by_place a b s t false ge = by_other a b s t (nat_lt b a) refl ge
 
 -- where no event was refused the reporter is the one that refuses none
-none_at : (refused : List Bool) (n : ℕ) → list_all not refused ≡ true → n < length refused → get_or refused n false ≡ false
+none_at : (refused : List Bool) (n : ℕ) → list_all not refused ≡ true → n < length refused
+    → get_or refused n false ≡ false
 none_at [] n h below = refl
 none_at (true ∷ refused) n h below = cc
 none_at (false ∷ refused) zero h below = refl

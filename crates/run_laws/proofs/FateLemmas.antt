@@ -21,19 +21,28 @@ use Rattle.run_model.specs.Board.{board, said}
 use Rattle.run_model.specs.Turns.{enabled, is_complete, is_empty, takes_turn, turn_of_unit, run_turn, happening}
 use Rattle.run_model.specs.Journal.{history, IsLegalBackward}
 use Rattle.run_model.specs.Accounts.{News, news_of, HasAccount, HasAccountAt, is_mismatched, account_of}
-use Rattle.run_model.specs.Fates.{was_left, statuses_in, statuses_of, account, MeetsAttemptLaw, HasFate, HaveFates}
-use Rattle.run_laws.specs.Holds.{Holds, IsAttempted, IsAttemptedIn}
-use Rattle.run_laws.proofs.Deeds.{board_of, units-length, units-at, place-of_test}
+use Rattle.run_model.specs.Attempts.{OwnTurn, story_of, pieces, ended_statuses, statuses_of}
+use Rattle.run_model.specs.Fates.{was_left, account, MeetsAttemptLaw, HasFate, HaveFates}
+use Rattle.run_laws.proofs.Holds.{Holds, IsAttempted, IsAttemptedIn}
+use Rattle.run_laws.proofs.AttemptLemmas.{IsMadeIf, made_statuses}
+use Rattle.run_laws.proofs.OnBoard.{board_of, units-length, units-at}
+use Rattle.run_laws.proofs.Newcomers.{place-of_test}
 use Rattle.run_laws.proofs.Kept.{HoldsAfter, does_after, sub_run-after, holds}
 
--- a test that is done, of which nothing waits to be told, has its account and its one attempt
-fate_of : (mm : Bool) (v : Option UnitView) (t : List News) → is_done v ≡ true → IsAttempted mm v → HasAccount mm v t []
-    → (t ≡ account mm false false (statuses_in v)) × (mm ≡ false → MeetsAttemptLaw 0 (statuses_in v))
-fate_of mm None t d a h = cc
-fate_of mm (Some u) t d a h = by_attempts mm u.phase u.statuses d a h
+-- a test that is done, of which nothing waits to be told, has its account and its one attempt, by its own turns
+abbrev HasFateWith : Bool → List News → List ExecuteStatus → Type 0
+HasFateWith mm t ss = (t ≡ account mm false false ss) × (mm ≡ false → MeetsAttemptLaw 0 ss)
+
+fate_of : (mm : Bool) (v : Option UnitView) (story : List OwnTurn) (t : List News) → is_done v ≡ true
+    → IsAttempted mm v → IsMadeIf v story
+    → HasAccount mm v t [] → HasFateWith mm t (ended_statuses 1 (pieces story))
+fate_of mm None story t d a made h = cc
+fate_of mm (Some u) story t d a made h =
+    subst (HasFateWith mm t) (made_statuses u (pieces story) made) (by_attempts mm u.phase u.statuses d a h)
   where
-    by_attempts : (mm : Bool) (ph : Phase) (ss : List ExecuteStatus) → is_last ph ≡ true → IsAttemptedIn mm ph ss → HasAccountAt mm ph ss t []
-        → (t ≡ account mm false false ss) × (mm ≡ false → MeetsAttemptLaw 0 ss)
+    by_attempts : (mm : Bool) (ph : Phase) (ss : List ExecuteStatus) → is_last ph ≡ true → IsAttemptedIn mm ph ss
+        → HasAccountAt mm ph ss t []
+        → HasFateWith mm t ss
     by_attempts true Over [] l a h = (grind (arith, common_steps), λ e. cc)
     by_attempts true Over (s ∷ ss) l a h = absurd h
     by_attempts false Over [] l a h = absurd a
@@ -45,7 +54,8 @@ fate_of mm (Some u) t d a h = by_attempts mm u.phase u.statuses d a h
     by_attempts mm Deciding ss l a h = cc
 
 -- each item of a list on which a test holds throughout passes
-all_at : {X : Type 0} (f : X → Bool) (xs : List X) (k : ℕ) (d : X) → list_all f xs ≡ true → k < length xs → f (get_or xs k d) ≡ true
+all_at : {X : Type 0} (f : X → Bool) (xs : List X) (k : ℕ) (d : X) → list_all f xs ≡ true → k < length xs
+    → f (get_or xs k d) ≡ true
 all_at f [] k d h l = absurd (omega arith)
 all_at f (x ∷ xs) zero d h l = first_so (f x) (list_all f xs) h
 all_at f (x ∷ xs) (suc k) d h l = all_at f xs k d (second_so (f x) (list_all f xs) h) (omega arith)
@@ -60,23 +70,28 @@ end_fates : (p : Settings) (over : Bool) (now : ℕ) (run : List Happening) (e :
     → HasFate p (said now e (run_turn p (board_of p over now run) End) ∷ run) j
 end_fates p over now run e j h below complete =
     let k : ℕ = unit_of_test p j in
-    let all : list_all is_done (units p run) ≡ true = second_so (is_empty (queue run)) (list_all is_done (units p run)) complete in
-    let empty : queue run ≡ [] = empty_is (queue run) (first_so (is_empty (queue run)) (list_all is_done (units p run)) complete) in
+    let all : list_all is_done (units p run) ≡ true =
+    second_so (is_empty (queue run)) (list_all is_done (units p run)) complete in
+    let empty : queue run ≡ [] = empty_is (queue run)
+    (first_so (is_empty (queue run)) (list_all is_done (units p run)) complete) in
     let done : is_done (unit_of k run) ≡ true =
-    sym (ap is_done (units-at p run k (omega arith))) ∙ all_at is_done (units p run) k None all (omega (arith, units-length p run)) in
-    let fate = fate_of (is_mismatched p j) (unit_of k run) (account_of k (told run)) done
-    (subst (λ j. IsAttempted (is_mismatched p j) (unit_of k run)) (place-of_test p j) (h.attempted k))
-    (subst (λ j. HasAccount (is_mismatched p j) (unit_of k run) (account_of k (told run)) []) (place-of_test p j) (rw empty at (h.accounts k))) in
+    sym (ap is_done (units-at p run k (omega arith)))
+    ∙ all_at is_done (units p run) k None all (omega (arith, units-length p run)) in
+    let fate = fate_of (is_mismatched p j) (unit_of k run) (story_of k run) (account_of k (told run)) done
+    (subst (λ j. IsAttempted (is_mismatched p j) (unit_of k run)) (place-of_test p j) (h.attempted k)) (h.made k)
+    (subst (λ j. HasAccount (is_mismatched p j) (unit_of k run) (account_of k (told run)) []) (place-of_test p j)
+    (rw empty at (h.accounts k))) in
     record {
       account = filter_map-append (news_of k) (told run) _ ∙ append-nil (account_of k (told run)) ∙ fate.0
-          ∙ sym (ap (λ b. account (is_mismatched p j) b (was_left k run) (statuses_of k run)) (h.let_go k).0
-          ∙ ap (λ b. account (is_mismatched p j) false b (statuses_of k run)) (h.let_go k).1);
+          ∙ sym (ap (λ b. account (is_mismatched p j) b (was_left k run) (statuses_of p j run)) (h.let_go k).0
+          ∙ ap (λ b. account (is_mismatched p j) false b (statuses_of p j run)) (h.let_go k).1);
       finished = λ mm n l. fate.1 mm;
       left = λ mm l. let never_so : false ≡ true = sym (h.let_go k).1 ∙ l in cc;
     }
 
 -- each test has its fate in the sub-run that a turn ends
-ends_fates : (p : Settings) (past : List Happening) (e : Entry) (j : ℕ) → HoldsAfter p past → IsTrue (enabled p past e.turn)
+ends_fates : (p : Settings) (past : List Happening) (e : Entry) (j : ℕ) → HoldsAfter p past
+    → IsTrue (enabled p past e.turn)
     → (happening p past e).ends ≡ true → j < tests_in p → HasFate p (sub_run (happening p past e ∷ past)) j
 ends_fates p past e j h en ends below =
     let end = (does_after p past e h en).marks.ends ends in
@@ -85,7 +100,8 @@ ends_fates p past e j h en ends below =
     (end_fates p (is_over past) (clock past) (sub_run past) e j h below end.1))
 
 -- each test has its fate in each sub-run that has ended
-pub ended_fates : (p : Settings) (backward : List Entry) → IsLegalBackward p backward → All (HaveFates p) (ended_runs (history p backward))
+pub ended_fates : (p : Settings) (backward : List Entry) → IsLegalBackward p backward
+    → All (HaveFates p) (ended_runs (history p backward))
 ended_fates p [] legal = All-nil (HaveFates p)
 ended_fates p (e ∷ before) legal = by_end (happening p (history p before) e).ends refl (ended_fates p before legal.2)
   where
@@ -99,11 +115,13 @@ ended_fates p (e ∷ before) legal = by_end (happening p (history p before) e).e
     by_end false ends earlier = earlier
 
 -- the newest sub-run of a run that is over has ended: no turn is enabled after that
-pub over_ended : (p : Settings) (backward : List Entry) → IsLegalBackward p backward → is_over (history p backward) ≡ true
+pub over_ended : (p : Settings) (backward : List Entry) → IsLegalBackward p backward
+    → is_over (history p backward) ≡ true
     → Contains (ended_runs (history p backward)) (sub_run (history p backward))
 over_ended p [] legal over = cc
 over_ended p (e ∷ before) legal over =
-    subst (λ b. Contains (if b then sub_run (happening p past e ∷ past) ∷ ended_runs past else ended_runs past) (sub_run (happening p past e ∷ past)))
+    subst (λ b. Contains (if b then sub_run (happening p past e ∷ past) ∷ ended_runs past else ended_runs past)
+    (sub_run (happening p past e ∷ past)))
     (sym ends) (0, omega arith, refl)
   where
     past : List Happening
@@ -118,13 +136,16 @@ over_ended p (e ∷ before) legal over =
     first_holds false b h n = cc
 
     going : is_over past ≡ false
-    going = not_true (is_over past) (first_so (not (is_over past)) (takes_turn p (board p past) e.turn (turn_of_unit e.turn)) legal.0)
+    going = not_true (is_over past)
+        (first_so (not (is_over past)) (takes_turn p (board p past) e.turn (turn_of_unit e.turn)) legal.0)
 
     ends : (happening p past e).ends ≡ true
-    ends = sym (does_after p past e (holds p before legal.2) legal.0).marks.finishes ∙ first_holds (happening p past e).over (is_over past) over going
+    ends = sym (does_after p past e (holds p before legal.2) legal.0).marks.finishes
+        ∙ first_holds (happening p past e).over (is_over past) over going
 
 -- so where the run is over each test has its fate in its newest sub-run
 pub fates : (p : Settings) (backward : List Entry) → IsLegalBackward p backward → is_over (history p backward) ≡ true
     → HaveFates p (sub_run (history p backward))
 fates p backward legal over =
-    All-contains (HaveFates p) (ended_runs (history p backward)) (sub_run (history p backward)) (ended_fates p backward legal) (over_ended p backward legal over)
+    All-contains (HaveFates p) (ended_runs (history p backward)) (sub_run (history p backward))
+    (ended_fates p backward legal) (over_ended p backward legal over)

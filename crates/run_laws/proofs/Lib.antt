@@ -1,8 +1,13 @@
+pub mod Holds
 pub mod ByTurn
 pub mod Queue
 pub mod AccountLemmas
 pub mod Running
 pub mod Scan
+pub mod AttemptLemmas
+pub mod OnBoard
+pub mod Newcomers
+pub mod Facts
 pub mod Deeds
 pub mod Kept
 pub mod Boards

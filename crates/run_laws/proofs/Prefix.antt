@@ -17,7 +17,8 @@ adds p (e ∷ newer) older =
     let now : List ReporterEvent = events_in (happening p (history p (newer ++ older)) e) in
     (so_far.0 ++ now, ap (λ es. es ++ now) so_far.1 ∙ append_assoc (told (history p older)) so_far.0 now)
 
-pub extends : (p : Settings) (journal more : List Entry) → Extends (told (past_of p journal)) (told (past_of p (journal ++ more)))
+pub extends : (p : Settings) (journal more : List Entry)
+    → Extends (told (past_of p journal)) (told (past_of p (journal ++ more)))
 extends p journal more =
     let longer = adds p (reverse more) (reverse journal) in
     (longer.0, ap (λ entries. told (history p entries)) (reverse-append journal more) ∙ longer.1)

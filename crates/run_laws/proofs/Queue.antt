@@ -5,7 +5,8 @@ use Rattle.run_model.specs.declared.happening.Happening.{Happening}
 use Rattle.run_model.specs.Words.{sent, delivered, queue}
 
 -- dropping from a longer list what a list has enough of
-pub drop-sent : {X : Type 0} (n m : ℕ) (xs ys : List X) → n + m ≤ length xs → drop (n + m) (xs ++ ys) ≡ drop m (drop n xs) ++ ys
+pub drop-sent : {X : Type 0} (n m : ℕ) (xs ys : List X) → n + m ≤ length xs
+    → drop (n + m) (xs ++ ys) ≡ drop m (drop n xs) ++ ys
 drop-sent n m xs ys h = drop-append-le (n + m) xs ys h ∙ ap (λ zs. zs ++ ys) (sym (drop-drop m n xs))
 
 -- the queue loses what was taken and gains what was sent

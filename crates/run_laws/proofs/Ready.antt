@@ -25,15 +25,17 @@ use Rattle.run_model.specs.Dispatch.{event, lets_go, started_event, finished_eve
 use Rattle.run_model.specs.Board.{board}
 use Rattle.run_model.specs.Turns.{enabled, enabled_on, takes_turn, turn_of_unit, unit_takes, is_empty, is_complete}
 use Rattle.run_model.specs.Journal.{history, past_of, IsLegal}
-use Rattle.run_laws.specs.Holds.{Holds}
+use Rattle.run_laws.proofs.Holds.{Holds}
 use Rattle.run_laws.specs.Ready.{CanTake, CanDeliverOldest, CanAdvance}
 use Rattle.run_laws.proofs.ByTurn.{by_turn}
-use Rattle.run_laws.proofs.Deeds.{board_of, units-length, unit_in-is, start_waits, finish_follows, oldest_built}
+use Rattle.run_laws.proofs.OnBoard.{board_of, units-length, unit_in-is}
+use Rattle.run_laws.proofs.Facts.{start_waits, finish_follows, oldest_built}
 use Rattle.run_laws.proofs.Kept.{holds}
 use Rattle.run_laws.proofs.Running.{running_in_told, running-started, running-finished}
 
 -- an admitted unit is one of them, and was let go before now
-take_ready : (p : Settings) (over : Bool) (now : ℕ) (run : List Happening) (k : ℕ) (turn : UnitTurn) (v : Option UnitView) → Holds p over now run
+take_ready : (p : Settings) (over : Bool) (now : ℕ) (run : List Happening) (k : ℕ) (turn : UnitTurn)
+    (v : Option UnitView) → Holds p over now run
     → get_or (units p run) k None ≡ v → unit_takes v turn ≡ true → CanTake (board_of p over now run) k turn
 take_ready p over now run k turn None h e t = cc
 take_ready p over now run k turn (Some u) h e t =
@@ -67,22 +69,27 @@ stats_below : (p : Settings) (why : Option CancelReason) (n limit : ℕ) (fs : L
 unfolding total_by
 stats_below p why n limit fs few short =
     with_tests limit _ why (total (record nothing { skipped = n }) fs)
-    (total_below limit (n + 1) (record nothing { skipped = n }) fs (search (rules, zero_below n, below_more n)) (omega arith))
+    (total_below limit (n + 1) (record nothing { skipped = n }) fs (search (rules, zero_below n, below_more n))
+    (omega arith))
     (omega (arith, sum_none fs, count_by-le-length is_matched p.plan.tests))
 
 -- the oldest message can be delivered
-oldest_ready : (p : Settings) (over : Bool) (now : ℕ) (run : List Happening) (q : List Message) → Holds p over now run → is_on run ≡ true
-    → units_in p < 2 ^ 32 → length run < 2 ^ 32 → queue run ≡ q → not (is_empty q) ≡ true → CanDeliverOldest (board_of p over now run) q
+oldest_ready : (p : Settings) (over : Bool) (now : ℕ) (run : List Happening) (q : List Message) → Holds p over now run
+    → is_on run ≡ true
+    → units_in p < 2 ^ 32 → length run < 2 ^ 32 → queue run ≡ q → not (is_empty q) ≡ true
+    → CanDeliverOldest (board_of p over now run) q
 oldest_ready p over now run [] h on few short eq en = cc
 oldest_ready p over now run (Start start ∷ rest) h on few short eq en =
     let n : ℕ = units_in p in
     let e = event 0 (started_event start (tally p run)) in
     let waits = start_waits p over now run start rest h eq in
     let more = running-started n start.test.unit (told run) e waits.below waits.untold (λ k. refl) (λ k. refl) in
-    let most : running_in_told n (told run ++ e ∷ []) ≤ length (range_with_len 0 n) = count_by-le-length _ (range_with_len 0 n) in (
+    let most : running_in_told n (told run ++ e ∷ []) ≤ length (range_with_len 0 n) =
+    count_by-le-length _ (range_with_len 0 n) in (
       (on, omega (arith, length-range_with_len 0 n)),
       take_ready p over now run start.test.unit (Answered (lets_go (tally p run))) (Some waits.unit) h
-          (unit_in-is p over now run start.test.unit h ∙ waits.is) (ap (λ ph. takes ph (Answered (lets_go (tally p run)))) waits.phase),
+          (unit_in-is p over now run start.test.unit h ∙ waits.is)
+          (ap (λ ph. takes ph (Answered (lets_go (tally p run)))) waits.phase),
     )
 oldest_ready p over now run (Skip skip ∷ rest) h on few short eq en =
     let counted = h.counted in
@@ -91,20 +98,38 @@ oldest_ready p over now run (Finish finish ∷ rest) h on few short eq en =
     let n : ℕ = units_in p in
     let e = event 0 (finished_event finish (tally p run)) in
     let follows = finish_follows p over now run finish rest h eq in
-    let less = running-finished n finish.test.unit (told run) e follows.below follows.told_started (λ k. refl) (λ k. refl) in
-    let counted = h.counted in
-    ((on, (stats_below p (reason run) (skipped run) (2 ^ 32) (finished run) (omega arith) (omega arith), follows.attempted, omega arith)), tt)
+    let less = running-finished n finish.test.unit (told run) e follows.below follows.told_started (λ k. refl)
+    (λ k. refl) in
+    let counted = h.counted in (
+      (
+        on,
+        (
+          stats_below p (reason run) (skipped run) (2 ^ 32) (finished run) (omega arith) (omega arith),
+          follows.attempted,
+          omega arith,
+        ),
+      ),
+      tt,
+    )
 oldest_ready p over now run (m ∷ rest) h on few short eq en = absurd (oldest_built p over now run m rest h eq)
 
 -- each enabled turn can be taken
-ready : (p : Settings) (over : Bool) (now : ℕ) (run : List Happening) (turn : Turn) → Holds p over now run → units_in p < 2 ^ 32 → length run < 2 ^ 32
-    → enabled_on p (board_of p over now run) turn ≡ true → CanAdvance p (board_of p over now run) turn (turn_of_unit turn)
+ready : (p : Settings) (over : Bool) (now : ℕ) (run : List Happening) (turn : Turn) → Holds p over now run
+    → units_in p < 2 ^ 32 → length run < 2 ^ 32
+    → enabled_on p (board_of p over now run) turn ≡ true
+    → CanAdvance p (board_of p over now run) turn (turn_of_unit turn)
 ready p over now run turn h few short en =
-    by_turn (λ turn named. takes_turn p (board_of p over now run) turn named ≡ true → CanAdvance p (board_of p over now run) turn named)
+    by_turn (λ turn named. takes_turn p (board_of p over now run) turn named ≡ true
+    → CanAdvance p (board_of p over now run) turn named)
     (record {
       begin = λ en. off (is_on run) (not over) en;
-      admit = λ en. record { candidate = second_so (is_on run) (is_some (newcomer p (units p run))) en; whole = units-length p run };
-      deliver = λ en. oldest_ready p over now run (queue run) h (first_so (is_on run) (not (is_empty (queue run))) en) few short refl
+      admit = λ en. record {
+        candidate = second_so (is_on run) (is_some (newcomer p (units p run))) en;
+        whole =
+            units-length p run;
+      };
+      deliver = λ en. oldest_ready p over now run (queue run) h (first_so (is_on run) (not (is_empty (queue run))) en)
+          few short refl
           (second_so (is_on run) (not (is_empty (queue run))) en);
       named = λ turn k to other en. take_ready p over now run k to _ h refl en;
       end = λ en. first_so (is_on run) (is_complete (board_of p over now run)) en;
@@ -128,12 +153,15 @@ sub_run-length : (past : List Happening) → length (sub_run past) ≤ length pa
 sub_run-length [] = omega arith
 sub_run-length (x ∷ past) = by_begin x.begins (sub_run-length past)
   where
-    by_begin : (b : Bool) → length (sub_run past) ≤ length past → length (x ∷ (if b then [] else sub_run past)) ≤ length (x ∷ past)
+    by_begin : (b : Bool) → length (sub_run past) ≤ length past
+        → length (x ∷ (if b then [] else sub_run past)) ≤ length (x ∷ past)
     by_begin true h = omega arith
     by_begin false h = omega arith
 
-pub ready_after : (p : Settings) (journal : List Entry) (turn : Turn) → IsLegal p journal → units_in p < 2 ^ 32 → length journal < 2 ^ 32
+pub ready_after : (p : Settings) (journal : List Entry) (turn : Turn) → IsLegal p journal → units_in p < 2 ^ 32
+    → length journal < 2 ^ 32
     → enabled p (past_of p journal) turn ≡ true → CanAdvance p (board p (past_of p journal)) turn (turn_of_unit turn)
 ready_after p journal turn legal few short en =
     let past : List Happening = past_of p journal in
-    ready p (is_over past) (clock past) (sub_run past) turn (holds p (reverse journal) legal) few (omega (arith, past_of-length p journal, sub_run-length past)) en
+    ready p (is_over past) (clock past) (sub_run past) turn (holds p (reverse journal) legal) few
+    (omega (arith, past_of-length p journal, sub_run-length past)) en

@@ -31,7 +31,8 @@ not_below n = grind arith
 -- none of them passes
 pub found_none : (p : ℕ → Bool) (n : ℕ) → ((k : ℕ) → k < n → p k ≡ false) → position p (range_with_len 0 n) ≡ None
 found_none p n below =
-    let at : position_or_len p (range_with_len 0 n) ≡ n = first_is p n n (omega arith) below (λ h. absurd (omega arith)) in
+    let at : position_or_len p (range_with_len 0 n) ≡ n =
+    first_is p n n (omega arith) below (λ h. absurd (omega arith)) in
     let lt : nat_lt n (length (range_with_len 0 n)) ≡ false = ap (nat_lt n) (length-range_with_len 0 n) ∙ not_below n in
     ap (λ m. cond (nat_lt m (length (range_with_len 0 n))) (Some m) None) at ∙ ap (λ b. cond b (Some n) None) lt
 
@@ -41,4 +42,5 @@ pub free_slot_is : (us : List (Option UnitView)) (i : ℕ) → i ≤ length us
     → (i < length us → list_any (holds_slot i) us ≡ false)
     → i ≡ free_slot us
 free_slot_is us i within below here =
-    sym (first_is (λ n. not (list_any (holds_slot n) us)) (length us) i within (λ k h. ap not (below k h)) (λ h. ap not (here h)))
+    sym (first_is (λ n. not (list_any (holds_slot n) us)) (length us) i within (λ k h. ap not (below k h))
+    (λ h. ap not (here h)))

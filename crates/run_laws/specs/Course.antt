@@ -1,5 +1,5 @@
--- The course of a list of turns with a reporter: it stops at one that isn't enabled, it leaves the run unfinished, or it
--- ends the run.
+-- The course of a list of turns with a reporter: it stops at one that isn't enabled, it leaves the run unfinished, or
+-- it ends the run.
 use Rattle.std.specs.Prelude.{ℕ, ◌≡◌, ◌<◌, List, [], ◌∷◌, ◌++◌, map, take, length, slice_get, slice_index_or, Bool, true, false, not, Some}
 use Rattle.std.specs.List.{list_all}
 use Rattle.run_events.specs.declared.settings.Settings.{Settings}
@@ -33,7 +33,8 @@ refuses_as_in journal n = slice_index_or (refusals journal) n false
 
 -- the answers in a journal are those of this reporter
 abbrev pub AreAnswersOf : (ℕ → Bool) → List Entry → Type 0
-AreAnswersOf refuses journal = (n : ℕ) → n < length (refusals journal) → slice_index_or (refusals journal) n false ≡ refuses n
+AreAnswersOf refuses journal = (n : ℕ) → n < length (refusals journal)
+    → slice_index_or (refusals journal) n false ≡ refuses n
 
 -- a legal journal of these turns with this reporter
 pub record IsJournalOf (p : Settings) (turns : List Turn) (refuses : ℕ → Bool) (journal : List Entry) : Type 0 where
@@ -49,15 +50,18 @@ Stops p turns refuses place =
 
 -- with this reporter all turns are those of a legal journal, after which the run isn't over
 abbrev pub GoesOn : Settings → List Turn → (ℕ → Bool) → Type 0
-GoesOn p turns refuses = (journal : List Entry) × IsJournalOf p turns refuses journal × (is_over (past_of p journal) ≡ false)
+GoesOn p turns refuses = (journal : List Entry) × IsJournalOf p turns refuses journal
+    × (is_over (past_of p journal) ≡ false)
 
 -- with this reporter all turns are those of a legal journal, after which the run is over with this outcome
 abbrev pub Ends : Settings → List Turn → (ℕ → Bool) → RunOutcome → Type 0
-Ends p turns refuses o = (journal : List Entry) × IsJournalOf p turns refuses journal × (outcome p (past_of p journal) ≡ Some o)
+Ends p turns refuses o = (journal : List Entry) × IsJournalOf p turns refuses journal
+    × (outcome p (past_of p journal) ≡ Some o)
 
 -- a list of turns has one journal at most with a reporter, and one course
 pub record HasOneCourse (p : Settings) (turns : List Turn) (refuses : ℕ → Bool) : Type 0 where
-  pub one_journal : (journal other : List Entry) → IsJournalOf p turns refuses journal → IsJournalOf p turns refuses other → other ≡ journal
+  pub one_journal : (journal other : List Entry) → IsJournalOf p turns refuses journal
+      → IsJournalOf p turns refuses other → other ≡ journal
   pub one_stop : (a b : ℕ) → Stops p turns refuses a → Stops p turns refuses b → a ≡ b
   pub stop_or_unfinished : (a : ℕ) → Stops p turns refuses a → GoesOn p turns refuses → ⊥
   pub stop_or_end : (a : ℕ) (o : RunOutcome) → Stops p turns refuses a → Ends p turns refuses o → ⊥

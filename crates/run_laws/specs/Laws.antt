@@ -1,18 +1,35 @@
 -- The laws of every legal journal.
-use Rattle.std.specs.Prelude.{ℕ, ◌≡◌, List, ◌∷◌, ◌++◌, true}
+use Rattle.std.specs.Prelude.{ℕ, ◌≡◌, List, ◌∷◌, ◌++◌, true, Some}
 use Rattle.std.specs.List.{All, Contains}
 use Rattle.run_events.specs.declared.settings.Settings.{Settings}
 use Rattle.run_model.specs.declared.entry.Entry.{Entry}
+use Rattle.run_model.specs.declared.happening.Happening.{Happening}
+use Rattle.run_model.specs.declared.unit_view.UnitView.{UnitView}
+use Rattle.run_model.specs.Admission.{unit_of_test}
+use Rattle.run_model.specs.Attempts.{pieces_of, statuses_of, attempt_in, start_in}
 use Rattle.run_model.specs.Board.{board, step}
 use Rattle.run_model.specs.Turns.{enabled, happening, deed_on}
 use Rattle.run_model.specs.Journal.{IsLegal, past_of}
-use Rattle.run_model.specs.Words.{is_over, sub_run, ended_runs, told}
+use Rattle.run_model.specs.Words.{is_over, sub_run, ended_runs, told, unit_of}
 use Rattle.run_model.specs.Accounts.{IsAccounted}
 use Rattle.run_model.specs.Fates.{HaveFates}
 
 -- after every legal journal each test has its account in the newest sub-run
 abbrev pub AccountsHold : Type 0
-AccountsHold = (p : Settings) (journal : List Entry) → IsLegal p journal → (j : ℕ) → IsAccounted p j (sub_run (past_of p journal))
+AccountsHold = (p : Settings) (journal : List Entry) → IsLegal p journal → (j : ℕ)
+    → IsAccounted p j (sub_run (past_of p journal))
+
+-- a test is at the attempt that its own turns in a sub-run say, and those that have ended are as they say
+pub record IsMadeByItsTurns (p : Settings) (run : List Happening) (j : ℕ) (u : UnitView) : Type 0 where
+  pub statuses : u.statuses ≡ statuses_of p j run
+  pub attempt : u.attempt ≡ attempt_in (pieces_of p j run)
+  pub start : u.start ≡ start_in (pieces_of p j run)
+
+-- after every legal journal that holds of each admitted test in the newest sub-run
+abbrev pub AttemptsAreOwnTurns : Type 0
+AttemptsAreOwnTurns = (p : Settings) (journal : List Entry) → IsLegal p journal → (j : ℕ) (u : UnitView)
+    → unit_of (unit_of_test p j) (sub_run (past_of p journal)) ≡ Some u
+    → IsMadeByItsTurns p (sub_run (past_of p journal)) j u
 
 -- in every legal journal each test of the plan has its fate in each sub-run that has ended
 abbrev pub EachHasFate : Type 0
@@ -35,6 +52,7 @@ EventsExtend = (p : Settings) (journal more : List Entry) → IsLegal p (journal
 
 -- after a legal journal each enabled turn moves the board by its step
 abbrev pub BoardsStep : Type 0
-BoardsStep = (p : Settings) (journal : List Entry) (e : Entry) → IsLegal p journal → enabled p (past_of p journal) e.turn ≡ true
+BoardsStep = (p : Settings) (journal : List Entry) (e : Entry) → IsLegal p journal
+    → enabled p (past_of p journal) e.turn ≡ true
     → board p (happening p (past_of p journal) e ∷ past_of p journal)
     ≡ step (board p (past_of p journal)) e.turn (deed_on p (board p (past_of p journal)) e.turn)

@@ -54,5 +54,6 @@ CanAdvance p b turn (Some named) = CanTake b named.0 named.1
 
 -- after a legal journal each enabled turn can be taken
 abbrev pub EnabledCan : Type 0
-EnabledCan = (p : Settings) (journal : List Entry) (turn : Turn) → IsLegal p journal → units_in p < 2 ^ 32 → length journal < 2 ^ 32
+EnabledCan = (p : Settings) (journal : List Entry) (turn : Turn) → IsLegal p journal → units_in p < 2 ^ 32
+    → length journal < 2 ^ 32
     → enabled p (past_of p journal) turn ≡ true → CanAdvance p (board p (past_of p journal)) turn (turn_of_unit turn)

@@ -1,5 +1,6 @@
 // Theorems over every legal journal.
-ghost use Rattle.run_laws.specs.Laws.{AccountsHold, BoardsStep, EachHasFate, EventsExtend, OverHasEnded};
+ghost use Rattle.run_laws.specs.Laws.{AccountsHold, AttemptsAreOwnTurns, BoardsStep, EventsExtend};
+ghost use Rattle.run_laws.specs.Laws.{EachHasFate, OverHasEnded};
 ghost use Rattle.run_laws.specs.Course.{CoursesExclude, NoneRefused};
 ghost use Rattle.run_laws.specs.Ready.{EnabledCan};
 
@@ -7,6 +8,12 @@ ghost use Rattle.run_laws.specs.Ready.{EnabledCan};
 /// journal.
 pub fn accounts_hold()
     ensures { AccountsHold }
+{}
+
+/// The attempts of each test in the newest sub-run are its own turns, cut where it was let go: their results, outputs,
+/// starts and times, after every legal journal.
+pub fn attempts_are_their_own_turns()
+    ensures { AttemptsAreOwnTurns }
 {}
 
 /// Each enabled turn after a legal journal moves the board by its step.
@@ -34,7 +41,8 @@ pub fn events_extend()
 {}
 
 /// A list of turns has one journal at most with a reporter, and one course: it stops at one place, or it leaves the run
-/// unfinished, or it ends the run with one outcome. Where no event was refused, the reporter is the one that refuses none.
+/// unfinished, or it ends the run with one outcome. Where no event was refused, the reporter is the one that refuses
+/// none.
 pub fn a_list_of_turns_has_one_course()
     ensures one { CoursesExclude }
     ensures unrefused { NoneRefused }

@@ -1,5 +1,5 @@
 -- The dispatcher's table: which turns it takes, what each tells, and what it leaves.
-use Rattle.std.specs.Prelude.{ℕ, ◌≡◌, ◌+◌, ◌-◌, ◌<◌, ◌^◌, List, length, Bool, true, false, ◌&&◌, not, if◌then◌else◌, Option, Some, None, is_none}
+use Rattle.std.specs.Prelude.{ℕ, ◌≡◌, ◌+◌, ◌-◌, ◌<◌, ◌^◌, length, Bool, true, false, ◌&&◌, not, if◌then◌else◌, Option, Some, None, is_none}
 use Rattle.run_events.specs.Stats.{AreBelow, FinishedTest, nothing, adds_of, plus}
 use Rattle.run_events.specs.declared.settings.Settings.{Settings}
 use Rattle.run_events.specs.declared.turn.Turn.{Turn}

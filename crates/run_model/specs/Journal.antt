@@ -1,5 +1,5 @@
 -- A journal and its history, and which journals are legal.
-use Rattle.std.specs.Prelude.{ℕ, ◌≡◌, List, [], ◌∷◌, length, reverse, Bool, if◌then◌else◌, Option, Some, None, IsTrue}
+use Rattle.std.specs.Prelude.{◌≡◌, List, [], ◌∷◌, length, reverse, if◌then◌else◌, Option, Some, None, IsTrue}
 use Rattle.run_events.specs.Outcome.{outcome_of, summary}
 use Rattle.run_events.specs.declared.settings.Settings.{Settings}
 use Rattle.run_events.specs.declared.outcome.RunOutcome.{RunOutcome}

@@ -1,5 +1,5 @@
 -- The tables of turns: which turn is enabled on a board, and what it does.
-use Rattle.std.specs.Prelude.{ℕ, List, [], ◌∷◌, Bool, true, false, ◌&&◌, not, if◌then◌else◌, Option, Some, None, is_some, option_map, option_and_then}
+use Rattle.std.specs.Prelude.{ℕ, List, [], ◌∷◌, Bool, true, false, ◌&&◌, not, Option, Some, None, is_some, option_map, option_and_then}
 use Rattle.std.specs.List.{list_all}
 use Rattle.run_events.specs.declared.settings.Settings.{Settings}
 use Rattle.run_events.specs.declared.turn.Turn.{Turn}

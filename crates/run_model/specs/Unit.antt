@@ -1,9 +1,8 @@
 -- The unit table: what each turn does to a unit in each phase.
-use Rattle.std.specs.Prelude.{ℕ, ◌+◌, ◌-◌, List, [], ◌∷◌, ◌++◌, Bool, true, false, Option, Some, None, codes}
+use Rattle.std.specs.Prelude.{ℕ, ◌-◌, List, [], ◌∷◌, ◌++◌, Bool, true, false, Option, Some, None, codes}
 use Rattle.std.specs.Prelude.{decimal}
 use Rattle.uuid.specs.Text.{hyphenated_text, lower}
 use Rattle.run_events.specs.Result.{execution_result}
-use Rattle.run_events.specs.declared.ask.StartAsk.{StartAsk}
 use Rattle.run_events.specs.declared.ask.Ask.{Ask}
 use Rattle.run_events.specs.declared.ask.Ask.TheVariants.{Start as AskStart}
 use Rattle.run_events.specs.declared.message.Message.{Message}

@@ -12,7 +12,9 @@ use Rattle.run_model.specs.declared.unit_view.UnitView.{UnitView}
 use Rattle.run_model.specs.Admission.{scripts_in, units_in}
 use Rattle.run_model.specs.Words.{is_on, sent, delivered, skipped, finished, reason, unit_of}
 use Rattle.run_model.specs.Accounts.{is_mismatched, IsAccountedAs}
+use Rattle.run_model.specs.Attempts.{story_of}
 use Rattle.run_model.specs.Fates.{never_started, was_left}
+use Rattle.run_laws.proofs.AttemptLemmas.{IsMadeIf}
 
 -- the place of a unit among the tests of the plan, where it is a test
 abbrev pub place_of : Settings → ℕ → ℕ
@@ -39,13 +41,14 @@ IsBuilt (Finish finish) = ⊤
 IsBuilt m = ⊥
 
 -- of a sub-run at this moment, by whether the run is over: no more messages are delivered than sent, no more skips and
--- finishes are told than it has turns, units are named, and each test has its account. No script is a unit yet, so of a
--- number that is no test's nothing is told
+-- finishes are told than it has turns, units are named, each test has its account, and its attempts are its own turns. No
+-- script is a unit yet, so of a number that is no test's nothing is told
 pub record Holds (p : Settings) (over : Bool) (now : ℕ) (run : List Happening) : Type 0 where
   pub fits : delivered run ≤ length (sent run)
   pub counted : skipped run + length (finished run) ≤ length run
   pub named : (k : ℕ) → IsNamed (units_in p) now k (unit_of k run)
   pub accounts : (k : ℕ) → IsAccountedAs p (place_of p k) k run
+  pub made : (k : ℕ) → IsMadeIf (unit_of k run) (story_of k run)
   -- before a sub-run is on, and the run not over, nothing has happened: no further sub-run begins yet
   pub fresh : is_on run ≡ false → over ≡ false → run ≡ []
   -- no other message is sent yet, and no turn is a cause, so no start is refused
