@@ -1,2 +1,2 @@
 mod Floats
-mod ToldLemmas
+mod FieldLemmas

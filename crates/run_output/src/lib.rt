@@ -3,23 +3,14 @@
 //! the sink of `run_capture`. The layer above prints these lines and rests on their texts.
 #![tactic(auto)]
 
-mod asks;
-mod events;
-mod fault;
-mod faults;
-mod fields;
-mod line_reporter;
-mod outcomes;
-mod output;
-mod results;
+mod errors;
+mod items;
+mod leaf;
+mod lists;
+mod object;
+mod plain;
+mod slots;
 mod stats;
-#[cfg(test)]
-mod tests;
-
-pub use asks::ask_line;
-pub use events::event_line;
-pub use fault::{Fault, PlanFault};
-pub use faults::fault_line;
-pub use fields::with_line_feed;
-pub use line_reporter::{LineReporter, Origin};
-pub use outcomes::outcome_line;
+mod statuses;
+mod stress;
+mod texts;
