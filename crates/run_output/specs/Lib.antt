@@ -9,3 +9,9 @@ pub mod Stats
 pub mod Slots
 pub mod Stress
 pub mod Statuses
+pub mod Info
+pub mod Field
+pub mod EventsOfRun
+pub mod EventsOfScripts
+pub mod EventsOfTests
+pub mod Events

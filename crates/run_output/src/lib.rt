@@ -4,6 +4,13 @@
 #![tactic(auto)]
 
 mod errors;
+mod events;
+mod events_of_run;
+mod events_of_scripts;
+mod events_of_tests;
+mod field;
+mod fields;
+mod info;
 mod items;
 mod leaf;
 mod lists;
