@@ -15,3 +15,8 @@ pub mod EventsOfRun
 pub mod EventsOfScripts
 pub mod EventsOfTests
 pub mod Events
+pub mod Asks
+pub mod Outcomes
+pub mod Faults
+pub mod Told
+pub mod Refusals

@@ -3,21 +3,34 @@
 //! the sink of `run_capture`. The layer above prints these lines and rests on their texts.
 #![tactic(auto)]
 
+mod asks;
 mod errors;
 mod events;
 mod events_of_run;
 mod events_of_scripts;
 mod events_of_tests;
+mod fault;
+mod faults;
 mod field;
 mod fields;
 mod info;
 mod items;
 mod leaf;
+mod line_reporter;
 mod lists;
 mod object;
+mod outcomes;
 mod plain;
 mod slots;
 mod stats;
 mod statuses;
 mod stress;
 mod texts;
+
+pub use asks::ask_line;
+pub use events::event_line;
+pub use fault::{Fault, PlanFault};
+pub use faults::fault_line;
+pub use fields::with_line_feed;
+pub use line_reporter::{LineReporter, Origin};
+pub use outcomes::outcome_line;
