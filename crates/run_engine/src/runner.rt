@@ -16,7 +16,7 @@ use crate::errors::{StepError, TestRunnerExecuteErrors};
 use crate::run::Run;
 use crate::start::new_state;
 use crate::tell::first_of;
-use run_capture::{Duplicate, Mem};
+use run_capture::{Duplicate, Mem, Whole};
 use run_events::{Children, EventLog, Reporter, RunOutcome, Settings, Turn};
 use std::alloc::Global;
 use std::convert::Infallible;
@@ -26,7 +26,7 @@ use uuid::Uuid;
 /// Carries out runs of a plan.
 #[derive(Drop)]
 pub struct TestRunner {
-    settings: Settings,
+    settings: Whole<Settings>,
 }
 
 impl Model for TestRunner {
@@ -100,42 +100,67 @@ fn answer<E: Drop>(run: &Run, refusal: Option<E>) -> Result<RunOutcome, TestRunn
     }
 }
 
+// Takes all turns with a run that has taken none, and answers what its journal says.
+fn run_all<C: Children, R: Reporter>(
+    alloc: Global,
+    run: &mut Run,
+    turns: &[Turn],
+    children: &mut C,
+    report: &mut R,
+) -> Result<RunOutcome, TestRunnerExecuteErrors<R::Error>>
+    requires fresh { run.old ≡ sound run.old.settings [] }
+    requires units { units_in run.old.settings < 2 ^ 32 }
+    requires few { length turns.now < 2 ^ 32 }
+    ensures { UnlessMemory result (Carries R.told C.asked run.old.settings turns.now report.old report.new children.old children.new
+        (R.faults report.old) (R.faults report.new) result) }
+{
+    match take_all(alloc, run, turns, children, report) {
+        Ok(refusal) => answer(run, refusal),
+        Err(Stop::NotEnabled { turn }) => Err(TestRunnerExecuteErrors::NotEnabled { turn }),
+        Err(Stop::OutOfMemory) => Err(TestRunnerExecuteErrors::OutOfMemory),
+    }
+}
+
 impl TestRunner {
     // A runner with these settings.
     pub(crate) fn new(settings: Settings) -> Self
         requires { units_in settings < 2 ^ 32 }
         ensures { result ≡ settings }
     {
-        TestRunner { settings }
+        TestRunner {
+            settings: Whole::new(settings),
+        }
     }
 
     /// The id of the run.
     pub fn run_id(&self) -> Uuid
         ensures { result ≡ self.now.plan.head.run_id }
     {
-        self.settings.plan.head.run_id
+        self.settings.get().plan.head.run_id
     }
 
     /// How many tests may run at a time.
     pub fn test_threads(&self) -> u32
         ensures { result ≡ self.now.threads }
     {
-        self.settings.threads
+        self.settings.get().threads
     }
 
     /// The effective settings, with the plan.
     pub fn settings(&self) -> &Settings
         ensures { result.now ≡ self.now }
     {
-        &self.settings
+        self.settings.get()
     }
 
     /// A run that has taken no turn.
     pub fn into_run(self, alloc: Global) -> Mem<Run>
         ensures { IfOk result (λ run. run ≡ sound self []) }
     {
-        let state = new_state(alloc, &self.settings)?;
-        Ok(Run::begin(alloc, self.settings, state))
+        match new_state(alloc, self.settings.get()) {
+            Ok(state) => Ok(Run::begin(alloc, self.settings, state)),
+            Err(error) => Err(error),
+        }
     }
 
     /// Carries out the turns of a run, fewer than 2^32. The reporter is told each event, also after it refused one. The
@@ -170,13 +195,9 @@ impl TestRunner {
         ensures { UnlessMemory result (Carries R.told C.asked self turns.now report.old report.new children.old children.new
             (R.faults report.old) (R.faults report.new) result) }
     {
-        let Ok(mut run) = self.into_run(alloc) else {
-            return Err(TestRunnerExecuteErrors::OutOfMemory);
-        };
-        match take_all(alloc, &mut run, turns, children, report) {
-            Ok(refusal) => answer(&run, refusal),
-            Err(Stop::NotEnabled { turn }) => Err(TestRunnerExecuteErrors::NotEnabled { turn }),
-            Err(Stop::OutOfMemory) => Err(TestRunnerExecuteErrors::OutOfMemory),
+        match self.into_run(alloc) {
+            Ok(mut run) => run_all(alloc, &mut run, turns, children, report),
+            Err(_) => Err(TestRunnerExecuteErrors::OutOfMemory),
         }
     }
 
