@@ -14,7 +14,7 @@ use Rattle.run_model.specs.Turns.{enabled, happening}
 use Rattle.run_model.specs.Journal.{history, past_of, IsLegalBackward, outcome}
 use Rattle.run_laws.specs.Course.{turns_of, refusals, none_refused, refuses_none, AreAnswersOf, IsJournalOf, Stops, HasOneCourse}
 
-refusals-append : (journal later : List Entry) → refusals (journal ++ later) ≡ refusals journal ++ refusals later
+pub refusals-append : (journal later : List Entry) → refusals (journal ++ later) ≡ refusals journal ++ refusals later
 refusals-append [] later = refl
 refusals-append (e ∷ journal) later =
     ap (λ rs. e.refused ++ rs) (refusals-append journal later)
