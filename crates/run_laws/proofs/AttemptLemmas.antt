@@ -9,15 +9,15 @@ use Rattle.run_model.specs.declared.unit_turn.UnitTurn.{UnitTurn}
 use Rattle.run_model.specs.declared.unit_turn.UnitTurn.TheVariants.{Answered, Started, StartFailed, Exit, WaitFailed, Decide}
 use Rattle.run_model.specs.declared.unit_view.UnitView.{UnitView}
 use Rattle.run_model.specs.Unit.{row, row_at, takes, attempts}
-use Rattle.run_model.specs.Attempts.{OwnTurn, begins_attempt, with_turn, pieces, first_said, moment_if, end_of, refusal_of, exit_of, faults_of, ended_statuses, attempt_in, start_in}
+use Rattle.run_model.specs.Attempts.{OwnTurn, begins_attempt, with_turn, pieces, first_said, moment_if, end_of, start_error_of, exit_of, errors_of, ended_statuses, attempt_in, start_in}
 
 -- an attempt that was let go at this moment and goes on
 pub record IsGoing (start : ℕ) (piece : List OwnTurn) : Type 0 where
   pub let_go : first_said (moment_if begins_attempt) piece ≡ Some start
   pub not_ended : end_of piece ≡ None
-  pub not_refused : refusal_of piece ≡ None
+  pub not_refused : start_error_of piece ≡ None
   pub no_exit : exit_of piece ≡ None
-  pub no_faults : faults_of piece ≡ []
+  pub no_errors : errors_of piece ≡ []
 
 -- the ended attempts of a unit are those of its pieces, by its phase: the newest goes on in Starting and Running
 abbrev pub HasPieces : Phase → ℕ → ℕ → List ExecuteStatus → List (List OwnTurn) → Type 0
@@ -50,7 +50,7 @@ row_made : (now : ℕ) (ph : Phase) (turn : UnitTurn) (u : UnitView) (ps : List 
 row_made now StartSent (Answered true) u [] en a s h = record {
   attempt = a;
   start = refl;
-  has = (record { let_go = refl; not_ended = refl; not_refused = refl; no_exit = refl; no_faults = refl }, h);
+  has = (record { let_go = refl; not_ended = refl; not_refused = refl; no_exit = refl; no_errors = refl }, h);
 }
 row_made now StartSent (Answered false) u [] en a s h = record { attempt = a; start = s; has = h }
 row_made now Starting (Started pid) u (piece ∷ earlier) en a s (on, ss) = record {
@@ -62,7 +62,7 @@ row_made now Starting (Started pid) u (piece ∷ earlier) en a s (on, ss) = reco
       not_ended = simp quiet_said on.not_ended;
       not_refused = simp quiet_said on.not_refused;
       no_exit = simp quiet_said on.no_exit;
-      no_faults = simp append-nil on.no_faults;
+      no_errors = simp append-nil on.no_errors;
     },
     ss,
   );
@@ -75,12 +75,12 @@ row_made now Starting (StartFailed error) u (piece ∷ earlier) en a s (on, ss) 
 row_made now Running (Exit exit) u (piece ∷ earlier) en a s (on, ss) = record {
   attempt = a;
   start = simp quiet_said s;
-  has = rw (ss, on.let_go, on.not_ended, on.not_refused, on.no_exit, on.no_faults, a) refl;
+  has = rw (ss, on.let_go, on.not_ended, on.not_refused, on.no_exit, on.no_errors, a) refl;
 }
 row_made now Running (WaitFailed error) u (piece ∷ earlier) en a s (on, ss) = record {
   attempt = a;
   start = simp quiet_said s;
-  has = rw (ss, on.let_go, on.not_ended, on.not_refused, on.no_exit, on.no_faults, a) refl;
+  has = rw (ss, on.let_go, on.not_ended, on.not_refused, on.no_exit, on.no_errors, a) refl;
 }
 row_made now Deciding (Decide word) u (piece ∷ earlier) en a s h = record {
   attempt = a;

@@ -35,8 +35,8 @@ abbrev pub story_of : ℕ → List Happening → List OwnTurn
 story_of k [] = []
 story_of k (x ∷ run) = option_to_list (own_turn k x.moment x.place) ++ story_of k run
 
--- an attempt begins where its unit is let go, and ends where its start is refused, or its child has ended or can't be
--- waited for
+-- an attempt begins where its unit is let go, and ends where its start is refused, its child has ended, or the wait for
+-- it failed
 abbrev pub begins_attempt : UnitTurn → Bool
 begins_attempt (Answered go) = go
 begins_attempt _ = false
@@ -47,8 +47,8 @@ ends_attempt (Exit exit) = true
 ends_attempt (WaitFailed error) = true
 ends_attempt _ = false
 
--- the pieces of a story, one for each attempt: each begins with the turn that let it go, and what comes before that of the
--- first is in none. The newest piece stands first, and in each its newest turn
+-- the pieces of a story, one for each attempt: each begins with the turn that let it go, and what comes before the
+-- first of these is in none. The newest piece stands first, and in each its newest turn
 abbrev pub with_turn : OwnTurn → List (List OwnTurn) → List (List OwnTurn)
 with_turn t [] = []
 with_turn t (piece ∷ earlier) = (t ∷ piece) ∷ earlier
@@ -79,13 +79,13 @@ has_ended piece = is_some (end_of piece)
 abbrev pub time_of : List OwnTurn → ℕ
 time_of piece = unwrap_or (end_of piece) 0 - start_of piece
 
--- why its start was refused, if it was
-abbrev pub refusal_in : UnitTurn → Option (List ℕ)
-refusal_in (StartFailed error) = Some error
-refusal_in _ = None
+-- the error that refused its start, if one did
+abbrev pub start_error_in : UnitTurn → Option (List ℕ)
+start_error_in (StartFailed error) = Some error
+start_error_in _ = None
 
-abbrev pub refusal_of : List OwnTurn → Option (List ℕ)
-refusal_of piece = first_said (λ t. refusal_in t.turn) piece
+abbrev pub start_error_of : List OwnTurn → Option (List ℕ)
+start_error_of piece = first_said (λ t. start_error_in t.turn) piece
 
 -- how its child ended, if it did
 abbrev pub exit_in : UnitTurn → Option ChildExit
@@ -95,25 +95,25 @@ exit_in _ = None
 abbrev pub exit_of : List OwnTurn → Option ChildExit
 exit_of piece = first_said (λ t. exit_in t.turn) piece
 
--- its faults, in the order of its turns
-abbrev pub fault_in : UnitTurn → Option ChildFdError
-fault_in (WaitFailed error) = Some (Wait error)
-fault_in _ = None
+-- its errors but that, in the order of its turns
+abbrev pub error_in : UnitTurn → Option ChildFdError
+error_in (WaitFailed error) = Some (Wait error)
+error_in _ = None
 
-abbrev pub faults_of : List OwnTurn → List ChildFdError
-faults_of [] = []
-faults_of (t ∷ before) = faults_of before ++ option_to_list (fault_in t.turn)
+abbrev pub errors_of : List OwnTurn → List ChildFdError
+errors_of [] = []
+errors_of (t ∷ before) = errors_of before ++ option_to_list (error_in t.turn)
 
--- its result: it failed to run where its start was refused, at a fault, and where its child wasn't seen to end; else it
--- is as its child ended. Nothing is captured yet, so nothing leaks
+-- its result: it failed to run where its start was refused, at an error, and where its child wasn't seen to end; else
+-- it is as its child ended. Nothing is captured yet, so nothing leaks
 abbrev pub result_by : Option (List ℕ) → Option ChildExit → List ChildFdError → ExecutionResult
-result_by (Some refusal) exit faults = ExecFail
-result_by None exit faults = execution_result exit faults false Pass
+result_by (Some error) exit errors = ExecFail
+result_by None exit errors = execution_result exit errors false Pass
 
 -- what came of its child: nothing is captured yet
 abbrev pub output_by : Option (List ℕ) → List ChildFdError → ChildExecutionOutput
-output_by (Some refusal) faults = StartError refusal
-output_by None faults = Output uncaptured faults
+output_by (Some error) errors = StartError error
+output_by None errors = Output uncaptured errors
 
 -- whether it was reported slow: no turn does that yet
 abbrev pub is_slow : List OwnTurn → Bool
@@ -125,8 +125,8 @@ status_of attempts attempt piece = record {
   attempt = attempt;
   attempts = attempts;
   delay = 0;
-  result = result_by (refusal_of piece) (exit_of piece) (faults_of piece);
-  output = output_by (refusal_of piece) (faults_of piece);
+  result = result_by (start_error_of piece) (exit_of piece) (errors_of piece);
+  output = output_by (start_error_of piece) (errors_of piece);
   slow = is_slow piece;
   start = start_of piece;
   time = time_of piece;

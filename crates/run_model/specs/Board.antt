@@ -83,7 +83,8 @@ deed_events d = option_to_list d.told ++ option_to_list d.cancel
 abbrev pub placed_in : ℕ → Option Place → List (Option UnitView) → List (Option UnitView)
 placed_in now None us = us
 placed_in now (Some (Admitted first)) us = slice_set us first.test.unit (Some first)
-placed_in now (Some (Took j turn)) us = slice_set us j (option_map (λ v. (row now turn v).next) (slice_index_or us j None))
+placed_in now (Some (Took j turn)) us =
+    slice_set us j (option_map (λ v. (row now turn v).next) (slice_index_or us j None))
 
 -- the dispatcher after a deed
 abbrev pub dispatched : DispatcherView → Deed → DispatcherView

@@ -1,4 +1,6 @@
 // A unit as the tables see it.
+ghost use Rattle.std.specs.Prelude.{◌≡◌, IfOk};
+
 use crate::Phase;
 use run_capture::{Duplicate, List, Mem, Text};
 use run_events::{ExecuteStatus, FlakyResult, TestSlotAssignment, TestUnit};
@@ -25,23 +27,35 @@ pub struct UnitView {
     pub statuses: List<ExecuteStatus>,
 }
 
+// A copy of a unit, with its command and its attempts, that are copied already.
+fn with_parts(
+    alloc: Global,
+    view: &UnitView,
+    command: List<Text>,
+    statuses: List<ExecuteStatus>,
+) -> Mem<UnitView>
+    ensures { IfOk result (λ u. u ≡ record view.now { command = command; statuses = statuses }) }
+{
+    let slot = view.slot.copy(alloc)?;
+    let test = view.test.copy(alloc)?;
+    Ok(UnitView {
+        test,
+        command,
+        slot,
+        flaky: view.flaky,
+        run_id: view.run_id,
+        threads: view.threads,
+        phase: view.phase,
+        attempt: view.attempt,
+        start: view.start,
+        statuses,
+    })
+}
+
 impl Duplicate for UnitView {
     fn copy(&self, alloc: Global) -> Mem<UnitView> {
         let command = self.command.copy(alloc)?;
         let statuses = self.statuses.copy(alloc)?;
-        let slot = self.slot.copy(alloc)?;
-        let test = self.test.copy(alloc)?;
-        Ok(UnitView {
-            test,
-            command,
-            slot,
-            flaky: self.flaky,
-            run_id: self.run_id,
-            threads: self.threads,
-            phase: self.phase,
-            attempt: self.attempt,
-            start: self.start,
-            statuses,
-        })
+        with_parts(alloc, self, command, statuses)
     }
 }
