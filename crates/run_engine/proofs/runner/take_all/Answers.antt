@@ -1,4 +1,5 @@
 use Rattle.std.proofs.Common.{rules, false, Some, slice_get, ◌≡◌, ◌+◌, ◌<◌, ◌^◌, length, ap, sym, subst, ◌∙◌, arith}
+use Rattle.std.proofs.lemmas.Option.{slice_get-get_or}
 use Rattle.run_model.specs.Turns.{enabled}
 use Rattle.run_engine.specs.World.{World, TakesTurn, history_of}
 use Rattle.run_engine.specs.Standing.{sound}
@@ -48,7 +49,10 @@ returns-in-Err-NotEnabled-clause-stopped g c =
     let children : c.take.new.children ≡ c.loop-place.children = rw c.in-Err-NotEnabled.field-0-is at c.in-Err-NotEnabled.ensures.children in
     let refused : enabled p (past_of p c.loop-place.run.journal) turn ≡ false =
     subst (λ (w : World). enabled w.settings (history_of w) turn ≡ false) inv.run no.1 in
-    let at : slice_get turns c.loop-place.place ≡ Some turn = search rules in
+    let inside : c.loop-place.place < length turns = omega arith in
+    let at : slice_get turns c.loop-place.place ≡ Some turn =
+    slice_get-get_or turns c.loop-place.place c.index-turns-place.result inside
+    ∙ ap Some (sym (c.in_ok-turn.ensures.ok ∙ c.index-turns-place.is)) in
     subst (λ (w : World). StopsAt g.R.Reporter.told g.C.Children.asked p turns w.journal c.args.report.now c.take.new.report
     c.args.children.now c.take.new.children (g.R.Reporter.faults c.args.report.now) (g.R.Reporter.faults c.take.new.report)
     (NotEnabled c.loop-place.place)) (sym stay)
