@@ -58,7 +58,10 @@ impl TestRunnerBuilder {
     {
         let _alloc = alloc;
         match first_repeat(plan.tests.as_slice()) {
-            Some(test) => Err(TestRunnerBuildError::DuplicateTest { test: test as u32 }),
+            Some(test) => {
+                drop(plan);
+                Err(TestRunnerBuildError::DuplicateTest { test: test as u32 })
+            }
             None => Ok(TestRunner::new(Settings {
                 plan,
                 capture: self.capture,

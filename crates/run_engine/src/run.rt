@@ -46,6 +46,38 @@ impl Model for Run {
     ghost invariant = { λ r. IsStanding r.settings r.journal.items r.state r.broken };
 }
 
+// Asks what a turn asks, and tells its events.
+fn send<C: Children, R: Reporter>(
+    alloc: Global,
+    place: u64,
+    effects: Effects,
+    children: &mut C,
+    report: &mut R,
+) -> Mem<Told<R::Error>>
+    ensures asked { OnOk result (Adds C.asked children.old children.new
+        (map (λ ask. (place, ask)) (option_to_list effects.asked))) }
+    ensures answered { IfOk result (λ t. length t.refused ≡ length effects.events) }
+    ensures marked { IfOk result (λ t. is_none t.refusal ≡ list_all not t.refused) }
+    ensures told { IfOk result (λ t. TellsEvents R.told report.old report.new (zip effects.events t.refused) t.refusal) }
+    ensures faults { IfOk result (λ t. CountsErrors (R.faults report.old) (R.faults report.new) t.refusal) }
+{
+    let Effects { events, asked } = effects;
+    ask(alloc, children, place, asked)?;
+    tell(alloc, report, events.as_slice())
+}
+
+// Makes room for one more turn, and answers its place.
+fn make_room(journal: &mut Vec<Entry>) -> Mem<u64>
+    requires { length journal.old.items < 2 ^ 32 }
+    ensures place { IfOk result (λ place. place ≡ length journal.old.items) }
+    ensures same { journal.new.items ≡ journal.old.items }
+    ensures room { OnOk result (vec_len journal.new < vec_capacity journal.new) }
+{
+    let place = journal.len() as u64;
+    journal.reserve(1)?;
+    Ok(place)
+}
+
 // Does what an enabled turn does to the state, the children and the reporter, and makes room for it in the journal.
 fn act<C: Children, R: Reporter>(
     alloc: Global,
@@ -72,11 +104,9 @@ fn act<C: Children, R: Reporter>(
     ensures same { journal.new.items ≡ journal.old.items }
     ensures room { OnOk result (vec_len journal.new < vec_capacity journal.new) }
 {
-    let place = journal.len() as u64;
-    journal.reserve(1)?;
-    let Effects { events, asked } = advance(alloc, settings, state, turn, named)?;
-    ask(alloc, children, place, asked)?;
-    tell(alloc, report, events.as_slice())
+    let place = make_room(journal)?;
+    let effects = advance(alloc, settings, state, turn, named)?;
+    send(alloc, place, effects, children, report)
 }
 
 // Takes an enabled turn: the state moves, what it asks and tells goes out, and the journal grows. The answer is the
@@ -110,7 +140,10 @@ fn carry_out<C: Children, R: Reporter>(
             journal.push_reserved(Entry { turn, refused });
             Ok(refusal)
         }
-        Err(error) => Err(error),
+        Err(error) => {
+            drop(turn);
+            Err(error)
+        }
     }
 }
 
@@ -173,14 +206,36 @@ impl Run {
         ensures broken { IsErrOf result StepError.OutOfMemory → self.new ≡ record self.old { broken = true } }
         ensures over { IsErrOf result StepError.OutOfMemory → is_over (history_of self.old) ≡ false }
     {
+        match self.admit(alloc, &turn) {
+            Ok(named) => self.take_named(alloc, turn, named, children, report),
+            Err(error) => {
+                drop(turn);
+                Err(error)
+            }
+        }
+    }
+
+    // The unit that a turn names, with what the turn is to it, where the run can take the turn.
+    fn admit(&mut self, alloc: Global, turn: &Turn) -> Result<Option<(u32, UnitTurn)>, StepError>
+        ensures named { IfOk result (λ named. named ≡ turn_of_unit turn.now) }
+        ensures enabled { OnOk result (enabled self.old.settings (history_of self.old) turn.now ≡ true) }
+        ensures room { OnOk result (length self.old.journal < 4294967295) }
+        ensures sound { OnOk result (self.old.broken ≡ false) }
+        ensures same { OnOk result (self.new ≡ self.old) }
+        ensures refused { IfErr result (IsRefused self.old turn.now) }
+        ensures unchanged { IfErr result (λ e. IfNotMemory e (self.new ≡ self.old)) }
+        ensures broken { IsErrOf result StepError.OutOfMemory → self.new ≡ record self.old { broken = true } }
+        ensures stays_broken { self.old.broken ≡ true → IsErrOf result StepError.OutOfMemory }
+        ensures over { IsErrOf result StepError.OutOfMemory → is_over (history_of self.old) ≡ false }
+    {
         if self.broken {
             return Err(StepError::OutOfMemory);
         }
         if self.journal.len() >= MOST_TURNS {
             return Err(StepError::Full);
         }
-        match named_if_enabled(alloc, self.settings.get(), &self.state, &turn) {
-            Ok(named) => self.take_named(alloc, turn, named, children, report),
+        match named_if_enabled(alloc, self.settings.get(), &self.state, turn) {
+            Ok(named) => Ok(named),
             Err(StepError::OutOfMemory) => {
                 self.broken = true;
                 Err(StepError::OutOfMemory)

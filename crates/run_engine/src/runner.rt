@@ -159,7 +159,10 @@ impl TestRunner {
     {
         match new_state(alloc, self.settings.get()) {
             Ok(state) => Ok(Run::begin(alloc, self.settings, state)),
-            Err(error) => Err(error),
+            Err(error) => {
+                drop(self);
+                Err(error)
+            }
         }
     }
 
@@ -196,7 +199,11 @@ impl TestRunner {
             (R.faults report.old) (R.faults report.new) result) }
     {
         match self.into_run(alloc) {
-            Ok(mut run) => run_all(alloc, &mut run, turns, children, report),
+            Ok(mut run) => {
+                let answer = run_all(alloc, &mut run, turns, children, report);
+                drop(run);
+                answer
+            }
             Err(_) => Err(TestRunnerExecuteErrors::OutOfMemory),
         }
     }
