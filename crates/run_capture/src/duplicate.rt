@@ -22,6 +22,12 @@ pub fn copies<T: Duplicate + Drop>(alloc: Global, items: &[T]) -> Mem<Vec<T>>
     Ok(vec)
 }
 
+impl Duplicate for u32 {
+    fn copy(&self, _alloc: Global) -> Mem<u32> {
+        Ok(*self)
+    }
+}
+
 impl Duplicate for u64 {
     fn copy(&self, _alloc: Global) -> Mem<u64> {
         Ok(*self)

@@ -22,6 +22,7 @@ mod std_sink;
 mod std_source;
 mod test_output;
 mod text;
+mod whole;
 
 pub use accumulator::ChildAccumulator;
 pub use blob::Blob;
@@ -41,3 +42,4 @@ pub use std_sink::StdSink;
 pub use std_source::StdSource;
 pub use test_output::{CaptureStrategy, ChildFdError, ChildOutput, ChildSplitOutput, Stream};
 pub use text::Text;
+pub use whole::Whole;

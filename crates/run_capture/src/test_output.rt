@@ -25,6 +25,12 @@ pub enum Stream {
     Combined,
 }
 
+impl Duplicate for Stream {
+    fn copy(&self, _alloc: Global) -> Mem<Stream> {
+        Ok(*self)
+    }
+}
+
 /// A fault at a child's descriptors, or of the wait for it, with the text of its error.
 #[derive(Debug, Drop)]
 pub enum ChildFdError {

@@ -1,11 +1,15 @@
 -- The runners of the two platforms, and the parts of one.
-use Rattle.std.specs.Prelude.{ℕ, List, Option}
+use Rattle.std.specs.Prelude.{ℕ, List, Option, None}
 use Rattle.run_commands.specs.declared.target_runner.BuildPlatform.{BuildPlatform}
 use Rattle.run_commands.specs.declared.target_runner.BuildPlatform.TheVariants as built_for
 use Rattle.run_commands.specs.declared.target_runner.TargetRunner.{TargetRunner}
 use Rattle.run_commands.specs.declared.target_runner.PlatformRunner.{PlatformRunner}
 use Rattle.run_commands.specs.declared.target_runner.PlatformRunnerSource.{PlatformRunnerSource}
 use Rattle.run_commands.specs.declared.target_runner.RunnerArgs.{RunnerArgs}
+
+-- no runner on either platform
+abbrev pub no_runners : TargetRunner
+no_runners = record { host = None; target = None }
 
 -- the runner of a platform, where there is one
 abbrev pub runner_for : TargetRunner → BuildPlatform → Option PlatformRunner

@@ -5,7 +5,7 @@ ghost use Rattle.std.specs.Iterator.{YieldsFirstRef, item_count};
 ghost use Rattle.run_commands.specs.declared.target_runner.BuildPlatform.{BuildPlatform};
 ghost use Rattle.run_commands.specs.declared.target_runner.BuildPlatform.TheVariants as built_for;
 ghost use Rattle.run_commands.specs.declared.target_runner.PlatformRunner.{PlatformRunner};
-ghost use Rattle.run_commands.specs.TargetRunner.{runner_for, binary_of, args_of, source_of, args_left};
+ghost use Rattle.run_commands.specs.TargetRunner.{no_runners, runner_for, binary_of, args_of, source_of, args_left};
 ghost use Rattle.run_commands.specs.RunnerVariable.{letter_in_variable, runner_variable};
 
 use run_capture::{Duplicate, List, Mem, Text};
@@ -74,7 +74,8 @@ impl Drop for PlatformRunner {
 impl TargetRunner {
     /// No runner on either platform.
     pub fn empty() -> Self
-        ensures { (platform : BuildPlatform) → runner_for result platform ≡ None }
+        ensures same { result ≡ no_runners }
+        ensures none { (platform : BuildPlatform) → runner_for result platform ≡ None }
     {
         TargetRunner {
             host: None,

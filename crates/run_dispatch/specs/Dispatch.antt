@@ -1,9 +1,8 @@
--- Whether the run is on, as the dispatcher says it.
+-- Whether a sub-run is on, as the dispatcher says it.
 use Rattle.std.specs.Prelude.{if◌then◌else◌}
 use Rattle.run_model.specs.declared.dispatcher_view.DispatcherView.{DispatcherView}
-use Rattle.run_model.specs.Dispatch.{is_on}
 use Rattle.run_dispatch.specs.declared.view.DispatchState.{DispatchState}
 use Rattle.run_dispatch.specs.declared.view.DispatchState.TheVariants.{Idle, Main}
 
 abbrev pub state_of : DispatcherView → DispatchState
-state_of d = if is_on d then Main else Idle
+state_of d = if d.on then Main else Idle

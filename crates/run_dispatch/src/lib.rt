@@ -5,9 +5,7 @@
 
 mod dispatcher;
 mod effects;
-mod status;
-#[cfg(test)]
-mod tests;
+mod tally;
 mod view;
 
 pub use dispatcher::Dispatcher;

@@ -1,12 +1,14 @@
 -- What one turn of a run does to its board and its journal.
-use Rattle.std.proofs.Common.{◌≡◌, ℕ, ◌+◌, ◌<◌, ◌^◌, List, [], ◌∷◌, ◌++◌, length, reverse, Bool, true, Option, option_to_list, map, zip, ap, sym, subst, ◌∙◌, arith, length-append}
+use Rattle.std.proofs.Common.{◌≡◌, ℕ, ◌+◌, ◌<◌, ◌^◌, List, [], ◌∷◌, ◌++◌, length, reverse, Bool, true, not, Option, is_none, option_to_list, map, zip, ap, sym, subst, ◌∙◌, arith, length-append}
+use Rattle.std.specs.List.{list_all}
 use Rattle.run_events.specs.declared.settings.Settings.{Settings}
 use Rattle.run_events.specs.Tell.{Adds}
 use Rattle.run_events.specs.declared.ask.Ask.{Ask}
 use Rattle.run_events.specs.declared.events.ReporterEvent.{ReporterEvent}
 use Rattle.run_events.specs.declared.turn.Turn.{Turn}
 use Rattle.run_model.specs.declared.entry.Entry.{Entry}
-use Rattle.run_model.specs.Board.{Board, board, step}
+use Rattle.run_model.specs.Words.{events_in}
+use Rattle.run_model.specs.Board.{Board, board, step, deed_events}
 use Rattle.run_model.specs.Turns.{enabled, turn_of_unit, deed_on, happening}
 use Rattle.run_model.specs.Journal.{past_of}
 use Rattle.run_laws.specs.Ready.{CanAdvance}
@@ -24,16 +26,17 @@ can_advance p journal b turn r st en =
 
 -- the board after a turn is that of the longer journal
 pub stands_next : (p : Settings) (journal : List Entry) (old new : Board) (turn : Turn) (refused : List Bool)
-    → IsRunnable p journal → old ≡ board p (past_of p journal) → new ≡ step old turn (deed_on p old turn)
+    → IsRunnable p journal → old ≡ board p (past_of p journal) → enabled p (past_of p journal) turn ≡ true
+    → new ≡ step old turn (deed_on p old turn)
     → new ≡ board p (past_of p (journal ++ entry_of turn refused ∷ []))
-stands_next p journal old new turn refused r st after =
-    after ∙ ap (λ b. step b turn (deed_on p b turn)) st ∙ sym (board-steps p (reverse journal) (entry_of turn refused) r.legal)
+stands_next p journal old new turn refused r st en after =
+    after ∙ ap (λ b. step b turn (deed_on p b turn)) st ∙ sym (board-steps p (reverse journal) (entry_of turn refused) r.legal en)
     ∙ ap (board p) (sym (past_of-push p journal (entry_of turn refused)))
 
 -- and the longer journal is legal
 pub runnable_next : (p : Settings) (journal : List Entry) (turn : Turn) (refused : List Bool) → IsRunnable p journal
     → length journal + 1 < 2 ^ 32 → enabled p (past_of p journal) turn ≡ true
-    → length refused ≡ length (option_to_list (happening p (past_of p journal) (entry_of turn refused)).told)
+    → length refused ≡ length (events_in (happening p (past_of p journal) (entry_of turn refused)))
     → IsRunnable p (journal ++ entry_of turn refused ∷ [])
 runnable_next p journal turn refused r room en answered = record {
   few = r.few;
@@ -46,20 +49,21 @@ pub takes_from : {R E C : Type 0} (tells : R → List (ReporterEvent × Option E
     (p : Settings) (journal after : List Entry) (b : Board) (turn : Turn) (report report_after : R) (children children_after : C)
     (refused : List Bool) (told : List ReporterEvent) (asked : Option Ask) (refusal : Option E)
     → b ≡ board p (past_of p journal) → enabled p (past_of p journal) turn ≡ true
-    → told ≡ option_to_list (deed_on p b turn).told → asked ≡ (deed_on p b turn).asked
-    → length refused ≡ length told
+    → told ≡ deed_events (deed_on p b turn) → asked ≡ (deed_on p b turn).asked
+    → length refused ≡ length told → is_none refusal ≡ list_all not refused
     → TellsEvents tells report report_after (zip told refused) refusal
     → Adds asks children children_after (map (λ ask. (length journal, ask)) (option_to_list asked))
     → after ≡ journal ++ entry_of turn refused ∷ []
     → TakesTurn tells asks (sound p journal) turn report children (sound p after) report_after children_after refusal
-takes_from tells asks p journal after b turn report report_after children children_after refused told asked refusal st en told_is asked_is answered tell ask grown =
-    let told_as : told ≡ option_to_list (happening p (past_of p journal) (entry_of turn refused)).told =
-    told_is ∙ ap (λ b. option_to_list (deed_on p b turn).told) st in
+takes_from tells asks p journal after b turn report report_after children children_after refused told asked refusal st en told_is asked_is answered marked tell ask grown =
+    let told_as : told ≡ events_in (happening p (past_of p journal) (entry_of turn refused)) =
+    told_is ∙ ap (λ b. deed_events (deed_on p b turn)) st in
     let asked_as : asked ≡ (happening p (past_of p journal) (entry_of turn refused)).asked = asked_is ∙ ap (λ b. (deed_on p b turn).asked) st in
     record {
       is_enabled = en;
       refused = refused;
       answered = answered ∙ ap length told_as;
+      marked = marked;
       grown = ap (sound p) grown;
       told = subst (λ es. TellsEvents tells report report_after (zip es refused) refusal) told_as tell;
       asked = subst (λ o. Adds asks children children_after (map (λ ask. (length journal, ask)) (option_to_list o))) asked_as ask;

@@ -1,8 +1,9 @@
 -- Histories of journals that grow at their ends.
-use Rattle.std.proofs.Common.{◌≡◌, List, [], ◌∷◌, ◌++◌, length, reverse, true, option_to_list, ap, sym, subst}
+use Rattle.std.proofs.Common.{◌≡◌, List, [], ◌∷◌, ◌++◌, length, reverse, true, ap, sym, subst}
 use Rattle.std.proofs.lemmas.List.{reverse-append}
 use Rattle.run_events.specs.declared.settings.Settings.{Settings}
 use Rattle.run_model.specs.declared.entry.Entry.{Entry}
+use Rattle.run_model.specs.Words.{events_in}
 use Rattle.run_model.specs.Turns.{enabled, happening}
 use Rattle.run_model.specs.Journal.{history, IsLegalBackward, past_of, IsLegal}
 
@@ -17,6 +18,6 @@ past_of-push p journal e = ap (history p) (reverse-push journal e)
 -- a legal journal with one more legal entry is legal
 pub legal-push : (p : Settings) (journal : List Entry) (e : Entry) → IsLegal p journal
     → enabled p (past_of p journal) e.turn ≡ true
-    → length e.refused ≡ length (option_to_list (happening p (past_of p journal) e).told)
+    → length e.refused ≡ length (events_in (happening p (past_of p journal) e))
     → IsLegal p (journal ++ e ∷ [])
 legal-push p journal e legal en answered = subst (IsLegalBackward p) (sym (reverse-push journal e)) (en, answered, legal)

@@ -7,7 +7,8 @@ use Rattle.run_events.specs.Stats.{total_by, total}
 use Rattle.run_events.specs.declared.stats.RunStats.{RunStats}
 use Rattle.run_events.specs.declared.settings.Settings.{Settings}
 use Rattle.run_model.specs.declared.unit_view.UnitView.{UnitView}
-use Rattle.run_model.specs.Words.{units, unit_of, tests_in, running, is_running}
+use Rattle.run_model.specs.Admission.{units_in}
+use Rattle.run_model.specs.Words.{units, unit_of, running, is_running}
 
 -- no finish adds nothing
 pub total-nil : (start : RunStats) → total start [] ≡ start
@@ -24,8 +25,8 @@ count-none f (suc n) a none =
 
 -- no test runs
 pub running-nil : (p : Settings) → running p [] ≡ 0
-running-nil p = count-none (is_running []) (tests_in p) 0 (λ k. refl)
+running-nil p = count-none (is_running []) (units_in p) 0 (λ k. refl)
 
 -- no test was admitted
-pub units-nil : (p : Settings) (us : List (Option UnitView)) → length us ≡ tests_in p → ((k : ℕ) → get_or us k None ≡ None) → us ≡ units p []
-units-nil p us whole none = fill_by_all (λ k. unit_of k []) us (tests_in p) None whole (λ k h. none k)
+pub units-nil : (p : Settings) (us : List (Option UnitView)) → length us ≡ units_in p → ((k : ℕ) → get_or us k None ≡ None) → us ≡ units p []
+units-nil p us whole none = fill_by_all (λ k. unit_of k []) us (units_in p) None whole (λ k h. none k)

@@ -1,24 +1,29 @@
 -- Turns taken one after another.
-use Rattle.std.proofs.Common.{◌≡◌, ℕ, ◌+◌, ◌^◌, ◌<◌, List, [], ◌∷◌, ◌++◌, length, map, zip, take, get_or, Bool, Option, Some, None, option_to_list, refl, ap, sym, subst, ◌∙◌, arith, append_assoc, length-append}
+use Rattle.std.proofs.Common.{◌≡◌, ℕ, ◌+◌, ◌^◌, ◌<◌, ◌&&◌, List, [], ◌∷◌, ◌++◌, length, map, zip, take, get_or, Bool, not, Option, Some, None, is_none, option_to_list, refl, ap, sym, subst, ◌∙◌, arith, append_assoc, length-append}
+use Rattle.std.specs.List.{list_all}
 use Rattle.std.proofs.lemmas.List.{append-nil, map-append, take_more}
+use Rattle.std.proofs.lemmas.List.Folds.{list_all-append}
 use Rattle.run_events.specs.Tell.{Adds}
 use Rattle.run_events.specs.declared.settings.Settings.{Settings}
 use Rattle.run_events.specs.declared.turn.Turn.{Turn}
 use Rattle.run_events.specs.declared.ask.Ask.{Ask}
 use Rattle.run_events.specs.declared.events.ReporterEvent.{ReporterEvent}
 use Rattle.run_model.specs.declared.entry.Entry.{Entry}
-use Rattle.run_model.specs.Words.{answers, asked, tests_in}
+use Rattle.run_model.specs.Admission.{units_in}
+use Rattle.run_model.specs.Words.{answers, asked, events_in}
 use Rattle.run_model.specs.Turns.{happening}
 use Rattle.run_model.specs.Journal.{past_of}
 use Rattle.run_engine.specs.World.{World, flagged, earlier, first_error, TellsEvents, CountsErrors, TakesTurn, entry_of}
 use Rattle.run_engine.specs.Standing.{sound}
-use Rattle.run_engine.specs.Execution.{Takes, turns_of}
+use Rattle.run_laws.specs.Course.{turns_of, refusals, none_refused}
+use Rattle.run_engine.specs.Execution.{Takes}
+use Rattle.run_laws.proofs.Courses.{refusals-append}
 use Rattle.run_laws.proofs.Ready.{past_of-length}
 use Rattle.run_engine.proofs.JournalLemmas.{past_of-push, legal-push}
 
 -- the events of a journal with one more entry
 pub answers-push : (p : Settings) (journal : List Entry) (e : Entry)
-    → answers (past_of p (journal ++ e ∷ [])) ≡ answers (past_of p journal) ++ zip (option_to_list (happening p (past_of p journal) e).told) e.refused
+    → answers (past_of p (journal ++ e ∷ [])) ≡ answers (past_of p journal) ++ zip (events_in (happening p (past_of p journal) e)) e.refused
 answers-push p journal e = ap answers (past_of-push p journal e)
 
 -- the asks of a journal with one more entry
@@ -59,12 +64,27 @@ counts_both a b c None later f g = subst (λ n. CountsErrors n c later) f g
 counts_both a b c (Some e) None f g = (omega arith, omega arith)
 counts_both a b c (Some e) (Some d) f g = (omega arith, omega arith)
 
+-- no error is the first of two where none is either
+pub none-earlier : {E : Type 0} (a b : Option E) → is_none (earlier a b) ≡ (is_none a && is_none b)
+none-earlier None b = refl
+none-earlier (Some e) b = refl
+
+pub marked_both : (a b c d : Bool) → a ≡ c → b ≡ d → (a && b) ≡ (c && d)
+marked_both a b c d e f = cc
+
+-- no event of a longer journal was refused where none was before, and none by the last entry
+none_refused-push : (journal : List Entry) (e : Entry) → none_refused (journal ++ e ∷ []) ≡ (none_refused journal && list_all not e.refused)
+none_refused-push journal e =
+    ap (list_all not) (refusals-append journal (e ∷ []) ∙ ap (λ rs. refusals journal ++ rs) (append-nil e.refused))
+    ∙ list_all-append not (refusals journal) e.refused
+
 -- no turn taken
 pub takes-nil : {R E C : Type 0} (tells : R → List (ReporterEvent × Option E) → Type 0) (asks : C → List (ℕ × Ask) → Type 0)
-    (p : Settings) (report : R) (children : C) (faults : ℕ) → tests_in p < 2 ^ 32
+    (p : Settings) (report : R) (children : C) (faults : ℕ) → units_in p < 2 ^ 32
     → Takes {R = R} {E = E} {C = C} tells asks p [] report report children children faults faults None
 takes-nil tells asks p report children faults few = record {
   runnable = record { few = few; short = omega arith; legal = tt };
+  marked = refl;
   told = λ xs t. ([], subst (tells report) (sym (append-nil xs)) t, refl, refl);
   asked = λ xs t. subst (asks children) (sym (append-nil xs)) t;
   counted = refl;
@@ -85,6 +105,8 @@ takes-more tells asks p journal a b c d e f m n o first later turn new so_far st
         short = omega (arith, length-append journal (entry_of turn step.refused ∷ []));
         legal = legal-push p journal (entry_of turn step.refused) so_far.runnable.legal step.is_enabled step.answered;
       };
+      marked = none-earlier first later ∙ marked_both _ _ _ _ so_far.marked step.marked
+          ∙ sym (none_refused-push journal (entry_of turn step.refused));
       told = subst (λ es. TellsEvents tells a c es (earlier first later)) (sym (answers-push p journal (entry_of turn step.refused)))
           (tells_both tells a b c (answers (past_of p journal)) _ first later so_far.told step.told);
       asked = subst (λ es. Adds asks d f es) (sym (asked-push p journal (entry_of turn step.refused)))

@@ -1,5 +1,6 @@
 -- What carrying out a list of turns does, and what each answer says of it.
-use Rattle.std.specs.Prelude.{ℕ, ◌≡◌, ◌⊎◌, ◌<◌, List, map, take, slice_get, true, false, Option, Some, None, Result, Ok, Err, ⊤}
+use Rattle.std.specs.Prelude.{ℕ, ◌≡◌, ◌⊎◌, ◌<◌, List, map, take, slice_get, Bool, true, false, Option, Some, None, is_none, Result, Ok, Err, ⊤}
+use Rattle.std.specs.List.{All, Contains}
 use Rattle.run_events.specs.Tell.{Adds}
 use Rattle.run_events.specs.declared.settings.Settings.{Settings}
 use Rattle.run_events.specs.declared.turn.Turn.{Turn}
@@ -7,12 +8,12 @@ use Rattle.run_events.specs.declared.ask.Ask.{Ask}
 use Rattle.run_events.specs.declared.events.ReporterEvent.{ReporterEvent}
 use Rattle.run_events.specs.declared.outcome.RunOutcome.{RunOutcome}
 use Rattle.run_model.specs.declared.entry.Entry.{Entry}
-use Rattle.run_model.specs.Words.{answers, asked, is_over, tests_in}
-use Rattle.run_model.specs.Fates.{HasFate}
+use Rattle.run_model.specs.Words.{answers, asked, is_over, sub_run, ended_runs}
+use Rattle.run_model.specs.Fates.{HaveFates}
 use Rattle.run_model.specs.Turns.{enabled}
 use Rattle.run_model.specs.Journal.{past_of, outcome}
 use Rattle.run_capture.specs.Faults.{Rose}
-use Rattle.run_laws.specs.Course.{Stops, GoesOn, Ends}
+use Rattle.run_laws.specs.Course.{turns_of, none_refused, AreAnswersOf, Stops, GoesOn, Ends}
 use Rattle.run_engine.specs.World.{TellsEvents, CountsErrors}
 use Rattle.run_engine.specs.Standing.{IsRunnable}
 use Rattle.run_engine.specs.declared.runner.Stop.{Stop}
@@ -20,16 +21,14 @@ use Rattle.run_engine.specs.declared.runner.Stop.TheVariants as stops
 use Rattle.run_engine.specs.declared.errors.TestRunnerExecuteErrors.{TestRunnerExecuteErrors}
 use Rattle.run_engine.specs.declared.errors.TestRunnerExecuteErrors.TheVariants.{Report, NotEnabled, Unfinished, OutOfMemory}
 
--- the turns of a journal
-abbrev pub turns_of : List Entry → List Turn
-turns_of journal = map (λ e. e.turn) journal
-
 -- a run of this plan has taken the turns of a journal: the reporter has told its events and the children were asked
--- its asks, in order, and nothing else; the refusal is the reporter's first error
+-- its asks, in order, and nothing else; the refusal is the reporter's first error, and there is one where an event was
+-- refused
 pub record Takes {R E C : Type 0} (tells : R → List (ReporterEvent × Option E) → Type 0) (asks : C → List (ℕ × Ask) → Type 0)
     (p : Settings) (journal : List Entry) (report report_after : R) (children children_after : C) (faults faults_after : ℕ) (refusal : Option E)
     : Type 0 where
   pub runnable : IsRunnable p journal
+  pub marked : is_none refusal ≡ none_refused journal
   pub told : TellsEvents tells report report_after (answers (past_of p journal)) refusal
   pub asked : Adds asks children children_after (asked (past_of p journal))
   pub counted : CountsErrors faults faults_after refusal
@@ -54,6 +53,16 @@ UnlessMemory (Err (NotEnabled i)) fact = fact
 UnlessMemory (Err Unfinished) fact = fact
 UnlessMemory (Err OutOfMemory) fact = ⊤
 
+-- what each course of the turns with a reporter answers, unless memory was wanting: it stops, it leaves the run unfinished, or it ends the
+-- run, where the reporter's count of faults stayed or rose
+pub record AnswersCourse {E : Type 0} (p : Settings) (turns : List Turn) (refuses : ℕ → Bool) (faults faults_after : ℕ)
+    (answer : Result RunOutcome (TestRunnerExecuteErrors E)) : Type 0 where
+  pub stops : (place : ℕ) → Stops p turns refuses place → (answer ≡ Err (NotEnabled place)) ⊎ (answer ≡ Err OutOfMemory)
+  pub unfinished : GoesOn p turns refuses → (answer ≡ Err Unfinished) ⊎ (answer ≡ Err OutOfMemory)
+  pub ended : (o : RunOutcome) → Ends p turns refuses o → ¬ Rose faults faults_after → (answer ≡ Ok o) ⊎ (answer ≡ Err OutOfMemory)
+  pub refused : (o : RunOutcome) → Ends p turns refuses o → faults < faults_after
+      → ((e : E) × (answer ≡ Err (Report e))) ⊎ (answer ≡ Err OutOfMemory)
+
 -- the journal of a call that carries out turns, and what its answer says of it
 pub record Carries {R E C : Type 0} (tells : R → List (ReporterEvent × Option E) → Type 0) (asks : C → List (ℕ × Ask) → Type 0)
     (p : Settings) (turns : List Turn) (report report_after : R) (children children_after : C) (faults faults_after : ℕ)
@@ -63,7 +72,8 @@ pub record Carries {R E C : Type 0} (tells : R → List (ReporterEvent × Option
   pub takes : Takes tells asks p journal report report_after children children_after faults faults_after refusal
   pub says : IsAnswerOf p turns journal refusal answer
 
--- the same, and where the run is over each test has its fate
+-- the same, and each test has its fate in each sub-run that has ended, which the newest is of a run that is over; and
+-- with any reporter that answers so, the turns have the course that is answered
 pub record Executes {R E C : Type 0} (tells : R → List (ReporterEvent × Option E) → Type 0) (asks : C → List (ℕ × Ask) → Type 0)
     (p : Settings) (turns : List Turn) (report report_after : R) (children children_after : C) (faults faults_after : ℕ)
     (answer : Result RunOutcome (TestRunnerExecuteErrors E)) : Type 0 where
@@ -71,7 +81,9 @@ pub record Executes {R E C : Type 0} (tells : R → List (ReporterEvent × Optio
   pub refusal : Option E
   pub takes : Takes tells asks p journal report report_after children children_after faults faults_after refusal
   pub says : IsAnswerOf p turns journal refusal answer
-  pub fates : is_over (past_of p journal) ≡ true → (k : ℕ) → k < tests_in p → HasFate p (past_of p journal) k
+  pub fates : All (HaveFates p) (ended_runs (past_of p journal))
+  pub over : is_over (past_of p journal) ≡ true → Contains (ended_runs (past_of p journal)) (sub_run (past_of p journal))
+  pub course : (refuses : ℕ → Bool) → AreAnswersOf refuses journal → AnswersCourse p turns refuses faults faults_after answer
 
 -- a list of turns stops where the turn at that place isn't enabled after the turns before it
 abbrev pub StopsAt : {R E C : Type 0} → (R → List (ReporterEvent × Option E) → Type 0) → (C → List (ℕ × Ask) → Type 0)
@@ -88,13 +100,3 @@ IsFinal ended refusal (Ok o) = (ended ≡ Some o) × (refusal ≡ None)
 IsFinal ended refusal (Err (Report e)) = ((o : RunOutcome) × (ended ≡ Some o)) × (refusal ≡ Some e)
 IsFinal ended refusal (Err Unfinished) = ended ≡ None
 IsFinal ended refusal (Err _) = ⊥
-
--- what each course of the turns answers, unless memory was wanting: it stops, it leaves the run unfinished, or it ends the
--- run, where the reporter's count of faults stayed or rose
-pub record AnswersCourse {E : Type 0} (p : Settings) (turns : List Turn) (faults faults_after : ℕ)
-    (answer : Result RunOutcome (TestRunnerExecuteErrors E)) : Type 0 where
-  pub stops : (place : ℕ) → Stops p turns place → (answer ≡ Err (NotEnabled place)) ⊎ (answer ≡ Err OutOfMemory)
-  pub unfinished : GoesOn p turns → (answer ≡ Err Unfinished) ⊎ (answer ≡ Err OutOfMemory)
-  pub ended : (o : RunOutcome) → Ends p turns o → ¬ Rose faults faults_after → (answer ≡ Ok o) ⊎ (answer ≡ Err OutOfMemory)
-  pub refused : (o : RunOutcome) → Ends p turns o → faults < faults_after
-      → ((e : E) × (answer ≡ Err (Report e))) ⊎ (answer ≡ Err OutOfMemory)

@@ -1,14 +1,15 @@
 -- Why a run takes no turn.
-use Rattle.std.specs.Prelude.{◌≡◌, length, false, ⊤}
+use Rattle.std.specs.Prelude.{◌≡◌, ◌<◌, length, false, ⊤}
 use Rattle.run_events.specs.declared.turn.Turn.{Turn}
 use Rattle.run_model.specs.Turns.{enabled}
 use Rattle.run_engine.specs.World.{World, history_of}
 use Rattle.run_engine.specs.declared.errors.StepError.{StepError}
 use Rattle.run_engine.specs.declared.errors.StepError.TheVariants.{NotEnabled, Full, OutOfMemory}
 
--- a turn is refused because it isn't enabled after the journal, or the journal is full; want of memory has no cause here
+-- a turn is refused because the journal is full, or has room and the turn isn't enabled after it; want of memory has no
+-- cause here
 abbrev pub IsRefused : World → Turn → StepError → Type 0
-IsRefused w turn NotEnabled = enabled w.settings (history_of w) turn ≡ false
+IsRefused w turn NotEnabled = (length w.journal < 4294967295) × (enabled w.settings (history_of w) turn ≡ false)
 IsRefused w turn Full = length w.journal ≡ 4294967295
 IsRefused w turn OutOfMemory = ⊤
 

@@ -1,5 +1,6 @@
 -- A run as its callers see it, and what a step of it does to the world.
-use Rattle.std.specs.Prelude.{ℕ, ◌≡◌, ◌≤◌, List, [], ◌∷◌, ◌++◌, length, map, Bool, Option, Some, None, option_to_list, is_some, zip, IsTrue}
+use Rattle.std.specs.Prelude.{ℕ, ◌≡◌, ◌≤◌, List, [], ◌∷◌, ◌++◌, length, map, Bool, not, Option, Some, None, option_to_list, is_some, is_none, zip, IsTrue}
+use Rattle.std.specs.List.{list_all}
 use Rattle.run_capture.specs.Faults.{Rose}
 use Rattle.run_events.specs.Tell.{Adds}
 use Rattle.run_events.specs.declared.settings.Settings.{Settings}
@@ -8,6 +9,7 @@ use Rattle.run_events.specs.declared.ask.Ask.{Ask}
 use Rattle.run_events.specs.declared.events.ReporterEvent.{ReporterEvent}
 use Rattle.run_model.specs.declared.entry.Entry.{Entry}
 use Rattle.run_model.specs.declared.happening.Happening.{Happening}
+use Rattle.run_model.specs.Words.{events_in}
 use Rattle.run_model.specs.Turns.{enabled, happening}
 use Rattle.run_model.specs.Journal.{past_of}
 
@@ -61,7 +63,8 @@ pub record TakesTurn {R E C : Type 0} (tells : R → List (ReporterEvent × Opti
     : Type 0 where
   pub is_enabled : IsTrue (enabled old.settings (history_of old) turn)
   pub refused : List Bool
-  pub answered : length refused ≡ length (option_to_list (next_of old turn refused).told)
+  pub answered : length refused ≡ length (events_in (next_of old turn refused))
   pub grown : new ≡ record old { journal = old.journal ++ entry_of turn refused ∷ [] }
-  pub told : TellsEvents tells report report_after (zip (option_to_list (next_of old turn refused).told) refused) refusal
+  pub marked : is_none refusal ≡ list_all not refused
+  pub told : TellsEvents tells report report_after (zip (events_in (next_of old turn refused)) refused) refusal
   pub asked : Adds asks children children_after (map (λ ask. (length old.journal, ask)) (option_to_list (next_of old turn refused).asked))

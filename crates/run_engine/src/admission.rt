@@ -1,8 +1,7 @@
 // The admission rule, by plain scans over all units.
 ghost use Rattle.std.specs.Prelude.{◌≡◌, ◌<◌, ◌≤◌, ◌^◌, length, IfOk, Some, option_map, is_some, slice_get, nat_lt, true};
 ghost use Rattle.std.specs.List.{list_all, list_any};
-ghost use Rattle.run_events.specs.declared.message.Message.TheVariants.{Start, Skip};
-ghost use Rattle.run_model.specs.Admission.{is_done, is_in_use, in_use, holds_slot, free_slot, candidate, newcomer, first_view, skipped_view};
+ghost use Rattle.run_model.specs.Admission.{is_done, is_in_use, in_use, holds_slot, free_slot, candidate, scripts_over, newcomer, newcomer_at, first_view, skipped_view, start_message, skip_message, global_slot, units_in, unit_of_test};
 
 use run_capture::{Mem, Text};
 use run_events::{Message, Settings, TestSlotAssignment};
@@ -75,11 +74,22 @@ fn least_free_slot(units: &[Option<Unit>]) -> usize
     units.len()
 }
 
-/// The candidate: the first test that wasn't admitted.
-pub fn first_waiting(units: &[Option<Unit>]) -> Option<usize>
-    ensures { result ≡ candidate units.now }
+/// The candidate: the place of the first test that wasn't admitted.
+pub fn first_waiting(settings: &Settings, units: &[Option<Unit>]) -> Option<usize>
+    requires { length units.now ≡ units_in settings.now }
+    ensures { result ≡ candidate settings.now units.now }
 {
-    units.iter().position(|unit| unit.is_none())
+    units[settings.plan.scripts.len()..]
+        .iter()
+        .position(|unit| unit.is_none())
+}
+
+// Whether all setup scripts are over.
+fn are_scripts_over(settings: &Settings, units: &[Option<Unit>]) -> bool
+    requires { length units.now ≡ units_in settings.now }
+    ensures { result ≡ scripts_over settings.now units.now }
+{
+    all_done(&units[..settings.plan.scripts.len()])
 }
 
 // Whether one more test may be in use.
@@ -89,15 +99,26 @@ fn has_room(settings: &Settings, units: &[Option<Unit>]) -> bool
     count_in_use(units) < settings.threads as usize
 }
 
-/// Whether the candidate can be admitted: it is skipped, or one more test may be in use.
-pub fn can_admit(settings: &Settings, units: &[Option<Unit>]) -> bool
-    ensures { result ≡ is_some (newcomer settings.now units.now) }
+// Whether the candidate can be admitted: it is skipped, or one more test may be in use.
+fn fits(settings: &Settings, units: &[Option<Unit>], test: usize) -> bool
+    ensures { result ≡ is_some (newcomer_at settings.now units.now test (slice_get settings.now.plan.tests test)) }
 {
-    let Some(test) = first_waiting(units) else {
-        return false;
-    };
     match settings.plan.tests.as_slice().get(test) {
         Some(planned) => planned.skip.is_some() || has_room(settings, units),
+        None => false,
+    }
+}
+
+/// Whether a test can be admitted: all scripts are over, and the candidate can be.
+pub fn can_admit(settings: &Settings, units: &[Option<Unit>]) -> bool
+    requires { length units.now ≡ units_in settings.now }
+    ensures { result ≡ is_some (newcomer settings.now units.now) }
+{
+    if !are_scripts_over(settings, units) {
+        return false;
+    }
+    match first_waiting(settings, units) {
+        Some(test) => fits(settings, units, test),
         None => false,
     }
 }
@@ -111,9 +132,11 @@ pub struct Admitted {
 
 // A test that doesn't match, as it is skipped for this reason.
 fn skip_test(alloc: Global, settings: &Settings, test: u32, reason: &Text) -> Mem<Admitted>
-    requires { test < length settings.now.plan.tests }
-    ensures unit { IfOk result (λ a. option_map (skipped_view settings.now test) (slice_get settings.now.plan.tests test) ≡ Some a.unit) }
-    ensures sent { IfOk result (λ a. a.sent ≡ Skip test a.unit.id reason.now) }
+    requires planned { test < length settings.now.plan.tests }
+    requires few { units_in settings.now < 2 ^ 32 }
+    ensures unit { IfOk result (λ a. option_map (skipped_view settings.now (unit_of_test settings.now test))
+        (slice_get settings.now.plan.tests test) ≡ Some a.unit) }
+    ensures sent { IfOk result (λ a. a.sent ≡ skip_message a.unit reason.now) }
 {
     let unit = Unit::skipped(alloc, settings, test)?;
     let sent = unit.skip_message(alloc, reason)?;
@@ -127,13 +150,16 @@ fn start_test(
     units: &[Option<Unit>],
     test: u32,
 ) -> Mem<Admitted>
-    requires inside { test < length settings.now.plan.tests }
-    requires few { length units.now < 2 ^ 32 }
-    ensures unit { IfOk result (λ a. option_map (first_view settings.now test (free_slot units.now)) (slice_get settings.now.plan.tests test) ≡ Some a.unit) }
-    ensures sent { IfOk result (λ a. a.sent ≡ Start test a.unit.id a.unit.command a.unit.slot) }
+    requires planned { test < length settings.now.plan.tests }
+    requires few { units_in settings.now < 2 ^ 32 }
+    requires whole { length units.now ≡ units_in settings.now }
+    ensures unit { IfOk result (λ a. option_map (first_view settings.now (unit_of_test settings.now test) (global_slot (free_slot units.now)))
+        (slice_get settings.now.plan.tests test) ≡ Some a.unit) }
+    ensures sent { IfOk result (λ a. a.sent ≡ start_message a.unit) }
 {
     let slot = TestSlotAssignment {
         global: least_free_slot(units) as u32,
+        group: None,
     };
     let unit = Unit::test(alloc, settings, test, slot)?;
     let sent = unit.start_message(alloc)?;
@@ -147,13 +173,13 @@ pub fn admit_test(
     units: &[Option<Unit>],
     test: usize,
 ) -> Mem<Admitted>
-    requires candidate { candidate units.now ≡ Some test }
+    requires candidate { candidate settings.now units.now ≡ Some test }
     requires admitted { is_some (newcomer settings.now units.now) ≡ true }
-    requires inside { test < length settings.now.plan.tests }
-    requires few { length units.now < 2 ^ 32 }
-    requires small { length settings.now.plan.tests < 2 ^ 32 }
+    requires planned { test < length settings.now.plan.tests }
+    requires whole { length units.now ≡ units_in settings.now }
+    requires few { units_in settings.now < 2 ^ 32 }
     ensures made { IfOk result (λ a. newcomer settings.now units.now ≡ Some (record { unit = a.unit; sent = a.sent })) }
-    ensures place { IfOk result (λ a. a.unit.unit ≡ test) }
+    ensures place { IfOk result (λ a. a.unit.test.unit ≡ unit_of_test settings.now test) }
 {
     match &settings.plan.tests.as_slice()[test].skip {
         Some(reason) => skip_test(alloc, settings, test as u32, reason),

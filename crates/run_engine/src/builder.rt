@@ -1,12 +1,13 @@
 // How a runner is made of a plan.
-ghost use Rattle.std.specs.Prelude.{◌≡◌, ◌<◌, ◌^◌, length, IfSome, IsErrOf};
+ghost use Rattle.std.specs.Prelude.{◌≡◌, ◌+◌, ◌<◌, ◌^◌, length, IfSome, IsErrOf};
 ghost use Rattle.run_engine.specs.Builder.{IsBuilt, same_id, is_repeat, first_repeat};
 ghost use Rattle.std.specs.List.{list_any};
 
 use crate::errors::TestRunnerBuildError;
 use crate::runner::TestRunner;
 use run_capture::CaptureStrategy;
-use run_events::{Plan, PlanTest, Settings, TestInstanceId};
+use run_commands::Interceptor;
+use run_events::{MaxFail, Plan, PlanTest, Settings, TestInstanceId};
 use std::alloc::Global;
 use std::marker::Model;
 
@@ -17,22 +18,23 @@ pub struct TestRunnerBuilder {
 }
 
 impl Model for TestRunnerBuilder {
-    ghost use Rattle.run_capture.specs.declared.test_output.CaptureStrategy.{CaptureStrategy};
+    ghost use Rattle.run_engine.specs.Builder.{Builder};
 
-    ghost Value = { CaptureStrategy };
+    ghost Value = { Builder };
 
-    ghost view = { λ b. b.capture };
+    ghost view = { λ b. record { capture = b.capture } };
 }
 
+/// Each stream is captured by itself.
 impl Default for TestRunnerBuilder {
     ghost use Rattle.std.specs.Prelude.{◌≡◌};
     ghost use Rattle.run_capture.specs.declared.test_output.CaptureStrategy.TheVariants as strategies;
 
-    ghost is_default = { λ b. b ≡ strategies.None };
+    ghost is_default = { λ b. b ≡ record { capture = strategies.Split } };
 
     fn default() -> Self {
         TestRunnerBuilder {
-            capture: CaptureStrategy::None,
+            capture: CaptureStrategy::Split,
         }
     }
 }
@@ -41,28 +43,34 @@ impl TestRunnerBuilder {
     /// Sets how the output of tests is captured.
     pub fn set_capture_strategy(&mut self, strategy: CaptureStrategy) -> &mut Self
         ensures same { result.ghost_name ≡ self.entry.ghost_name }
-        ensures set { result.now ≡ strategy }
+        ensures set { result.now ≡ record self.old { capture = strategy } }
     {
         self.capture = strategy;
         self
     }
 
-    /// The runner of a plan of fewer than 2^32 tests. A plan is refused exactly where two of its tests have one id, with
+    /// The runner of a plan of fewer than 2^32 units. A plan is refused exactly where two of its tests have one id, with
     /// the place of the first test that repeats one. No memory is taken yet.
     pub fn build(self, alloc: Global, plan: Plan) -> Result<TestRunner, TestRunnerBuildError>
-        requires { length plan.tests < 2 ^ 32 }
+        requires { length plan.scripts + length plan.tests < 2 ^ 32 }
         ensures built { IsBuilt self plan result }
         ensures memory { IsErrOf result TestRunnerBuildError.OutOfMemory → ⊥ }
     {
         let _alloc = alloc;
-        if let Some(test) = first_repeat(plan.tests.as_slice()) {
-            return Err(TestRunnerBuildError::DuplicateTest { test: test as u32 });
+        match first_repeat(plan.tests.as_slice()) {
+            Some(test) => Err(TestRunnerBuildError::DuplicateTest { test: test as u32 }),
+            None => Ok(TestRunner::new(Settings {
+                plan,
+                capture: self.capture,
+                threads: 1,
+                max_fail: MaxFail::All,
+                stress: None,
+                interceptor: Interceptor::None,
+                expected: None,
+                retries: None,
+                flaky_result: None,
+            })),
         }
-        Ok(TestRunner::new(Settings {
-            plan,
-            capture: self.capture,
-            threads: 1,
-        }))
     }
 }
 

@@ -1,41 +1,52 @@
 // Which turns are enabled.
-ghost use Rattle.std.specs.Prelude.{◌≡◌, ℕ, length, List};
+ghost use Rattle.std.specs.Prelude.{◌≡◌, length, IfOk};
+ghost use Rattle.run_model.specs.Admission.{units_in};
 ghost use Rattle.run_model.specs.Board.{unit_in};
-ghost use Rattle.run_model.specs.Turns.{unit_takes, is_empty, facts, enabled_on};
-ghost use Rattle.run_model.specs.declared.unit_turn.UnitTurn.TheVariants.{StartFailed, WaitFailed};
+ghost use Rattle.run_model.specs.Turns.{turn_of_unit, unit_takes, is_empty, facts, run_takes, enabled_on};
+ghost use Rattle.run_events.specs.declared.turn.Turn.TheVariants.{StartFailed, WaitFailed};
 
 use crate::admission::{all_done, can_admit};
 use crate::state::State;
+use run_capture::{Duplicate, Mem, Text};
 use run_dispatch::DispatchState;
 use run_events::{Settings, Turn};
-use run_model::{Facts, Phase, UnitTurn};
+use run_model::{Facts, UnitTurn};
+use std::alloc::Global;
 
-// Whether a unit takes a turn; a place of no admitted test takes none.
+/// The unit that a turn names, with what the turn is to it.
+pub fn turn_of_unit(alloc: Global, turn: &Turn) -> Mem<Option<(u32, UnitTurn)>>
+    ensures { IfOk result (λ named. named ≡ turn_of_unit turn.now) }
+{
+    match turn {
+        Turn::Started { unit, pid } => Ok(Some((*unit, UnitTurn::Started { pid: *pid }))),
+        Turn::StartFailed { unit, error } => start_failed(alloc, *unit, error),
+        Turn::Exit { unit, exit } => Ok(Some((*unit, UnitTurn::Exit { exit: *exit }))),
+        Turn::WaitFailed { unit, error } => wait_failed(alloc, *unit, error),
+        Turn::Decide { unit, word } => Ok(Some((*unit, UnitTurn::Decide { word: *word }))),
+        _ => Ok(None),
+    }
+}
+
+fn start_failed(alloc: Global, unit: u32, error: &Text) -> Mem<Option<(u32, UnitTurn)>>
+    ensures { IfOk result (λ named. named ≡ turn_of_unit (StartFailed unit error.now)) }
+{
+    let error = error.copy(alloc)?;
+    Ok(Some((unit, UnitTurn::StartFailed { error })))
+}
+
+fn wait_failed(alloc: Global, unit: u32, error: &Text) -> Mem<Option<(u32, UnitTurn)>>
+    ensures { IfOk result (λ named. named ≡ turn_of_unit (WaitFailed unit error.now)) }
+{
+    let error = error.copy(alloc)?;
+    Ok(Some((unit, UnitTurn::WaitFailed { error })))
+}
+
+// Whether a unit takes a turn; a number of no admitted unit takes none.
 fn unit_takes_turn(state: &State, unit: u32, turn: &UnitTurn) -> bool
     ensures { result ≡ unit_takes (unit_in state.now unit) turn.now }
 {
     match state.units.get(unit as usize) {
         Some(Some(unit)) => unit.enabled(turn),
-        _ => false,
-    }
-}
-
-// Whether a unit can be told that its child could not be started.
-fn takes_start_failed(state: &State, unit: u32) -> bool
-    ensures { (error : List ℕ) → result ≡ unit_takes (unit_in state.now unit) (StartFailed error) }
-{
-    match state.units.get(unit as usize) {
-        Some(Some(unit)) => matches!(unit.phase(), Phase::Starting),
-        _ => false,
-    }
-}
-
-// Whether a unit can be told that the wait for its child failed.
-fn takes_wait_failed(state: &State, unit: u32) -> bool
-    ensures { (error : List ℕ) → result ≡ unit_takes (unit_in state.now unit) (WaitFailed error) }
-{
-    match state.units.get(unit as usize) {
-        Some(Some(unit)) => matches!(unit.phase(), Phase::Running),
         _ => false,
     }
 }
@@ -47,42 +58,46 @@ fn is_queue_empty(state: &State) -> bool
     state.queue.is_empty()
 }
 
-// What the dispatcher asks of the rest of the run.
+// What the dispatcher asks of the rest of the run. Units are looked at only where no message waits.
 fn facts_of(state: &State) -> Facts
     ensures { result ≡ facts state.now }
 {
     let message_waits = !is_queue_empty(state);
     Facts {
         message_waits,
-        complete: all_done(&state.units) && !message_waits,
+        complete: !message_waits && all_done(&state.units),
     }
 }
 
-/// Whether a turn is enabled.
-pub fn is_enabled(settings: &Settings, state: &State, turn: &Turn) -> bool
-    requires { length state.now.units ≡ length settings.now.plan.tests }
+// Whether a turn of the run's own is enabled where the run isn't over.
+fn is_run_enabled(settings: &Settings, state: &State, turn: &Turn) -> bool
+    requires { length state.now.units ≡ units_in settings.now }
+    ensures { result ≡ run_takes settings.now state.now turn.now }
+{
+    match turn {
+        Turn::Admit => {
+            state.dispatcher.state() == DispatchState::Main && can_admit(settings, &state.units)
+        }
+        _ => state.dispatcher.enabled(turn, facts_of(state), state.clock),
+    }
+}
+
+/// Whether a turn is enabled, by the unit that it names.
+pub fn is_enabled(
+    settings: &Settings,
+    state: &State,
+    turn: &Turn,
+    named: &Option<(u32, UnitTurn)>,
+) -> bool
+    requires whole { length state.now.units ≡ units_in settings.now }
+    requires named { named.now ≡ turn_of_unit turn.now }
     ensures { result ≡ enabled_on settings.now state.now turn.now }
 {
     if state.dispatcher.is_over() {
         return false;
     }
-    match turn {
-        Turn::Admit => {
-            state.dispatcher.state() == DispatchState::Main && can_admit(settings, &state.units)
-        }
-        Turn::Started { unit, pid } => unit_takes_turn(
-            state,
-            *unit,
-            &UnitTurn::Started { pid: *pid },
-        ),
-        Turn::StartFailed { unit, .. } => takes_start_failed(state, *unit),
-        Turn::Exit { unit, exit } => unit_takes_turn(state, *unit, &UnitTurn::Exit { exit: *exit }),
-        Turn::WaitFailed { unit, .. } => takes_wait_failed(state, *unit),
-        Turn::Decide { unit, word } => unit_takes_turn(
-            state,
-            *unit,
-            &UnitTurn::Decide { word: *word },
-        ),
-        _ => state.dispatcher.enabled(turn, facts_of(state), state.clock),
+    match named {
+        Some((unit, own)) => unit_takes_turn(state, *unit, own),
+        None => is_run_enabled(settings, state, turn),
     }
 }

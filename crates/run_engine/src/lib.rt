@@ -11,8 +11,6 @@ mod runner;
 mod start;
 mod state;
 mod tell;
-#[cfg(test)]
-mod tests;
 mod turns;
 
 pub use builder::TestRunnerBuilder;

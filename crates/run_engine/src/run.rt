@@ -1,21 +1,25 @@
 // A run, turn by turn.
-ghost use Rattle.std.specs.Prelude.{◌≡◌, ◌<◌, ◌+◌, ◌^◌, ◌∷◌, ◌++◌, [], length, IfOk, IfErr, OnOk, OnErr, IsErrOf, IsTrue, Option, Some, None, true, false};
+ghost use Rattle.std.specs.Prelude.{◌≡◌, ◌<◌, ◌+◌, ◌^◌, ◌∷◌, ◌++◌, [], length, map, zip, not, is_none, option_to_list, vec_len, vec_capacity, IfOk, IfErr, OnOk, OnErr, IsErrOf, IsTrue, Option, Some, None, true, false};
+ghost use Rattle.std.specs.List.{list_all};
+ghost use Rattle.run_events.specs.Tell.{Adds};
+ghost use Rattle.run_laws.specs.Ready.{CanAdvance};
 ghost use Rattle.run_model.specs.Journal.{past_of, IsLegal, outcome};
-ghost use Rattle.run_model.specs.Turns.{enabled};
+ghost use Rattle.run_model.specs.Admission.{units_in};
+ghost use Rattle.run_model.specs.Turns.{enabled, turn_of_unit, deed_on};
 ghost use Rattle.run_model.specs.Words.{is_over};
-ghost use Rattle.run_model.specs.Board.{board};
-ghost use Rattle.run_engine.specs.World.{TakesTurn, CountsErrors, history_of};
+ghost use Rattle.run_model.specs.Board.{board, step, deed_events};
+ghost use Rattle.run_engine.specs.World.{TakesTurn, TellsEvents, CountsErrors, history_of};
 ghost use Rattle.run_engine.specs.Standing.{IsRunnable, sound};
 ghost use Rattle.run_engine.specs.Refused.{IsRefused, IfNotMemory};
 
-use crate::enabled::is_enabled;
+use crate::enabled::{is_enabled, turn_of_unit};
 use crate::errors::StepError;
 use crate::state::State;
 use crate::tell::{Told, ask, tell};
 use crate::turns::{Effects, advance};
-use run_capture::Mem;
+use run_capture::{Mem, Whole};
 use run_events::{Children, Reporter, RunOutcome, Settings, Turn};
-use run_model::Entry;
+use run_model::{Entry, UnitTurn};
 use std::alloc::Global;
 use std::marker::Model;
 
@@ -25,7 +29,7 @@ pub const MOST_TURNS: usize = 4_294_967_295;
 /// A run: the settings that it goes by and its journal. Once memory was wanting it is broken.
 #[derive(Drop)]
 pub struct Run {
-    settings: Settings,
+    settings: Whole<Settings>,
     journal: Vec<Entry>,
     state: State,
     broken: bool,
@@ -42,6 +46,39 @@ impl Model for Run {
     ghost invariant = { λ r. IsStanding r.settings r.journal.items r.state r.broken };
 }
 
+// Does what an enabled turn does to the state, the children and the reporter, and makes room for it in the journal.
+fn act<C: Children, R: Reporter>(
+    alloc: Global,
+    settings: &Settings,
+    state: &mut State,
+    journal: &mut Vec<Entry>,
+    turn: &Turn,
+    named: Option<(u32, UnitTurn)>,
+    children: &mut C,
+    report: &mut R,
+) -> Mem<Told<R::Error>>
+    requires named { named ≡ turn_of_unit turn.now }
+    requires can { CanAdvance settings.now state.old turn.now (turn_of_unit turn.now) }
+    requires few { units_in settings.now < 2 ^ 32 }
+    requires short { length journal.old.items < 2 ^ 32 }
+    ensures after { OnOk result (state.new ≡ step state.old turn.now (deed_on settings.now state.old turn.now)) }
+    ensures asked { OnOk result (Adds C.asked children.old children.new
+        (map (λ ask. (length journal.old.items, ask)) (option_to_list (deed_on settings.now state.old turn.now).asked))) }
+    ensures answered { IfOk result (λ t. length t.refused ≡ length (deed_events (deed_on settings.now state.old turn.now))) }
+    ensures marked { IfOk result (λ t. is_none t.refusal ≡ list_all not t.refused) }
+    ensures told { IfOk result (λ t. TellsEvents R.told report.old report.new
+        (zip (deed_events (deed_on settings.now state.old turn.now)) t.refused) t.refusal) }
+    ensures faults { IfOk result (λ t. CountsErrors (R.faults report.old) (R.faults report.new) t.refusal) }
+    ensures same { journal.new.items ≡ journal.old.items }
+    ensures room { OnOk result (vec_len journal.new < vec_capacity journal.new) }
+{
+    let place = journal.len() as u64;
+    journal.reserve(1)?;
+    let Effects { events, asked } = advance(alloc, settings, state, turn, named)?;
+    ask(alloc, children, place, asked)?;
+    tell(alloc, report, events.as_slice())
+}
+
 // Takes an enabled turn: the state moves, what it asks and tells goes out, and the journal grows. The answer is the
 // error of the reporter, where it refused the turn's event.
 fn carry_out<C: Children, R: Reporter>(
@@ -50,9 +87,11 @@ fn carry_out<C: Children, R: Reporter>(
     state: &mut State,
     journal: &mut Vec<Entry>,
     turn: Turn,
+    named: Option<(u32, UnitTurn)>,
     children: &mut C,
     report: &mut R,
 ) -> Mem<Option<R::Error>>
+    requires named { named ≡ turn_of_unit turn }
     requires runnable { IsRunnable settings.now journal.old.items }
     requires stands { state.old ≡ board settings.now (past_of settings.now journal.old.items) }
     requires enabled { enabled settings.now (past_of settings.now journal.old.items) turn ≡ true }
@@ -64,19 +103,21 @@ fn carry_out<C: Children, R: Reporter>(
     ensures faults { IfOk result (λ refusal. CountsErrors (R.faults report.old) (R.faults report.new) refusal) }
     ensures err { OnErr result (journal.new.items ≡ journal.old.items) }
 {
-    let place = journal.len() as u64;
-    journal.reserve(1)?;
-    let Effects { events, asked } = advance(alloc, settings, state, &turn)?;
-    ask(alloc, children, place, asked)?;
-    let Told { refused, refusal } = tell(alloc, report, events.as_slice())?;
-    journal.push_reserved(Entry { turn, refused });
-    Ok(refusal)
+    match act(
+        alloc, settings, state, journal, &turn, named, children, report,
+    ) {
+        Ok(Told { refused, refusal }) => {
+            journal.push_reserved(Entry { turn, refused });
+            Ok(refusal)
+        }
+        Err(error) => Err(error),
+    }
 }
 
 impl Run {
     // A run that has taken no turn.
-    pub(crate) fn begin(alloc: Global, settings: Settings, state: State) -> Self
-        requires few { length settings.plan.tests < 2 ^ 32 }
+    pub(crate) fn begin(alloc: Global, settings: Whole<Settings>, state: State) -> Self
+        requires few { units_in settings < 2 ^ 32 }
         requires stands { state ≡ board settings [] }
         ensures { result ≡ sound settings [] }
     {
@@ -114,16 +155,24 @@ impl Run {
         if self.journal.len() >= MOST_TURNS {
             return Err(StepError::Full);
         }
-        if !is_enabled(&self.settings, &self.state, &turn) {
+        if self.state.dispatcher.is_over() {
             return Err(StepError::NotEnabled);
         }
-        let settings = &self.settings;
+        let Ok(named) = turn_of_unit(alloc, &turn) else {
+            self.broken = true;
+            return Err(StepError::OutOfMemory);
+        };
+        if !is_enabled(self.settings.get(), &self.state, &turn, &named) {
+            return Err(StepError::NotEnabled);
+        }
+        let settings = self.settings.get();
         match carry_out(
             alloc,
             settings,
             &mut self.state,
             &mut self.journal,
             turn,
+            named,
             children,
             report,
         ) {
@@ -198,6 +247,6 @@ impl Run {
     pub fn settings(&self) -> &Settings
         ensures { result.now ≡ self.now.settings }
     {
-        &self.settings
+        self.settings.get()
     }
 }

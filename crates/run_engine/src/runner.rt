@@ -2,10 +2,13 @@
 ghost use Rattle.std.specs.Prelude.{◌≡◌, ◌<◌, ◌^◌, ◌∷◌, [], length, map, take, slice_get, IfOk, IfErr, OnOk, Option, Some, None, List, true, false};
 ghost use Rattle.run_events.specs.Tell.{Adds};
 ghost use Rattle.run_model.specs.declared.entry.Entry.{Entry};
+ghost use Rattle.run_model.specs.Admission.{units_in};
 ghost use Rattle.run_model.specs.Turns.{enabled};
 ghost use Rattle.run_engine.specs.World.{history_of};
 ghost use Rattle.run_engine.specs.Standing.{sound};
-ghost use Rattle.run_engine.specs.Execution.{Takes, Carries, Executes, AnswersCourse, UnlessMemory, turns_of, StopsAt, IsFinal};
+ghost use Rattle.run_engine.specs.Execution.{Takes, Carries, Executes, AnswersCourse, UnlessMemory, StopsAt, IsFinal};
+ghost use Rattle.run_capture.specs.Faults.{Rose};
+ghost use Rattle.run_laws.specs.Course.{turns_of, refuses_none};
 ghost use Rattle.run_model.specs.Journal.{outcome};
 ghost use Rattle.run_model.specs.Words.{is_over};
 
@@ -13,7 +16,7 @@ use crate::errors::{StepError, TestRunnerExecuteErrors};
 use crate::run::Run;
 use crate::start::new_state;
 use crate::tell::first_of;
-use run_capture::{Duplicate, Mem};
+use run_capture::{Duplicate, Mem, Whole};
 use run_events::{Children, EventLog, Reporter, RunOutcome, Settings, Turn};
 use std::alloc::Global;
 use std::convert::Infallible;
@@ -23,18 +26,19 @@ use uuid::Uuid;
 /// Carries out runs of a plan.
 #[derive(Drop)]
 pub struct TestRunner {
-    settings: Settings,
+    settings: Whole<Settings>,
 }
 
 impl Model for TestRunner {
-    ghost use Rattle.std.specs.Prelude.{◌<◌, ◌^◌, length};
+    ghost use Rattle.std.specs.Prelude.{◌<◌, ◌^◌};
+    ghost use Rattle.run_model.specs.Admission.{units_in};
     ghost use Rattle.run_events.specs.declared.settings.Settings.{Settings};
 
     ghost Value = { Settings };
 
     ghost view = { λ r. r.settings };
 
-    ghost invariant = { λ r. length r.settings.plan.tests < 2 ^ 32 };
+    ghost invariant = { λ r. units_in r.settings < 2 ^ 32 };
 }
 
 /// Why a list of turns stops before its end.
@@ -62,7 +66,7 @@ fn take_all<C: Children, R: Reporter>(
     report: &mut R,
 ) -> Result<Option<R::Error>, Stop>
     requires fresh { run.old ≡ sound run.old.settings [] }
-    requires tests { length run.old.settings.plan.tests < 2 ^ 32 }
+    requires units { units_in run.old.settings < 2 ^ 32 }
     requires few { length turns.now < 2 ^ 32 }
     ensures ok { IfOk result (λ refusal. Takes R.told C.asked run.old.settings run.new.journal report.old report.new
         children.old children.new (R.faults report.old) (R.faults report.new) refusal) }
@@ -96,42 +100,67 @@ fn answer<E: Drop>(run: &Run, refusal: Option<E>) -> Result<RunOutcome, TestRunn
     }
 }
 
+// Takes all turns with a run that has taken none, and answers what its journal says.
+fn run_all<C: Children, R: Reporter>(
+    alloc: Global,
+    run: &mut Run,
+    turns: &[Turn],
+    children: &mut C,
+    report: &mut R,
+) -> Result<RunOutcome, TestRunnerExecuteErrors<R::Error>>
+    requires fresh { run.old ≡ sound run.old.settings [] }
+    requires units { units_in run.old.settings < 2 ^ 32 }
+    requires few { length turns.now < 2 ^ 32 }
+    ensures { UnlessMemory result (Carries R.told C.asked run.old.settings turns.now report.old report.new children.old children.new
+        (R.faults report.old) (R.faults report.new) result) }
+{
+    match take_all(alloc, run, turns, children, report) {
+        Ok(refusal) => answer(run, refusal),
+        Err(Stop::NotEnabled { turn }) => Err(TestRunnerExecuteErrors::NotEnabled { turn }),
+        Err(Stop::OutOfMemory) => Err(TestRunnerExecuteErrors::OutOfMemory),
+    }
+}
+
 impl TestRunner {
     // A runner with these settings.
     pub(crate) fn new(settings: Settings) -> Self
-        requires { length settings.plan.tests < 2 ^ 32 }
+        requires { units_in settings < 2 ^ 32 }
         ensures { result ≡ settings }
     {
-        TestRunner { settings }
+        TestRunner {
+            settings: Whole::new(settings),
+        }
     }
 
     /// The id of the run.
     pub fn run_id(&self) -> Uuid
-        ensures { result ≡ self.now.plan.run_id }
+        ensures { result ≡ self.now.plan.head.run_id }
     {
-        self.settings.plan.run_id
+        self.settings.get().plan.head.run_id
     }
 
     /// How many tests may run at a time.
     pub fn test_threads(&self) -> u32
         ensures { result ≡ self.now.threads }
     {
-        self.settings.threads
+        self.settings.get().threads
     }
 
     /// The effective settings, with the plan.
     pub fn settings(&self) -> &Settings
         ensures { result.now ≡ self.now }
     {
-        &self.settings
+        self.settings.get()
     }
 
     /// A run that has taken no turn.
     pub fn into_run(self, alloc: Global) -> Mem<Run>
         ensures { IfOk result (λ run. run ≡ sound self []) }
     {
-        let state = new_state(alloc, &self.settings)?;
-        Ok(Run::begin(alloc, self.settings, state))
+        match new_state(alloc, self.settings.get()) {
+            Ok(state) => Ok(Run::begin(alloc, self.settings, state)),
+            Err(error) => Err(error),
+        }
     }
 
     /// Carries out the turns of a run, fewer than 2^32. The reporter is told each event, also after it refused one. The
@@ -148,7 +177,8 @@ impl TestRunner {
         requires { length turns.now < 2 ^ 32 }
         ensures executes { UnlessMemory result (Executes R.told C.asked self turns.now report.old report.new children.old children.new
             (R.faults report.old) (R.faults report.new) result) }
-        ensures course { AnswersCourse self turns.now (R.faults report.old) (R.faults report.new) result }
+        ensures course { ¬ Rose (R.faults report.old) (R.faults report.new)
+            → AnswersCourse self turns.now refuses_none (R.faults report.old) (R.faults report.new) result }
     {
         self.carry_out(alloc, turns, children, report)
     }
@@ -165,13 +195,9 @@ impl TestRunner {
         ensures { UnlessMemory result (Carries R.told C.asked self turns.now report.old report.new children.old children.new
             (R.faults report.old) (R.faults report.new) result) }
     {
-        let Ok(mut run) = self.into_run(alloc) else {
-            return Err(TestRunnerExecuteErrors::OutOfMemory);
-        };
-        match take_all(alloc, &mut run, turns, children, report) {
-            Ok(refusal) => answer(&run, refusal),
-            Err(Stop::NotEnabled { turn }) => Err(TestRunnerExecuteErrors::NotEnabled { turn }),
-            Err(Stop::OutOfMemory) => Err(TestRunnerExecuteErrors::OutOfMemory),
+        match self.into_run(alloc) {
+            Ok(mut run) => run_all(alloc, &mut run, turns, children, report),
+            Err(_) => Err(TestRunnerExecuteErrors::OutOfMemory),
         }
     }
 
@@ -185,7 +211,7 @@ impl TestRunner {
     ) -> Result<RunOutcome, TestRunnerExecuteErrors<Infallible>>
         requires { length turns.now < 2 ^ 32 }
         ensures executes { UnlessMemory result (Executes ⟦<EventLog as Reporter>⟧.told C.asked self turns.now log.old log.new children.old children.new 0 0 result) }
-        ensures course { AnswersCourse self turns.now 0 0 result }
+        ensures course { AnswersCourse self turns.now refuses_none 0 0 result }
     {
         self.try_execute(alloc, turns, children, log)
     }

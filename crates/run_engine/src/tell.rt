@@ -1,5 +1,6 @@
 // How what a turn told and asked goes out.
-ghost use Rattle.std.specs.Prelude.{◌≡◌, ◌++◌, ◌∷◌, [], length, map, zip, is_some, IfOk, OnOk, option_to_list};
+ghost use Rattle.std.specs.Prelude.{◌≡◌, ◌++◌, ◌∷◌, [], length, map, zip, is_some, is_none, not, IfOk, OnOk, option_to_list};
+ghost use Rattle.std.specs.List.{list_all};
 ghost use Rattle.run_events.specs.Tell.{Adds};
 ghost use Rattle.run_engine.specs.World.{TellsEvents, CountsErrors, earlier};
 
@@ -47,6 +48,7 @@ pub fn tell<R: Reporter>(
     events: &[ReporterEvent],
 ) -> Mem<Told<R::Error>>
     ensures answered { IfOk result (λ t. length t.refused ≡ length events.now) }
+    ensures marked { IfOk result (λ t. is_none t.refusal ≡ list_all not t.refused) }
     ensures told { IfOk result (λ t. TellsEvents R.told report.old report.new (zip events.now t.refused) t.refusal) }
     ensures faults { IfOk result (λ t. CountsErrors (R.faults report.old) (R.faults report.new) t.refusal) }
 {

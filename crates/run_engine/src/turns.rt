@@ -1,14 +1,14 @@
 // The turns of a run: each does to the state what its row of the tables says.
-ghost use Rattle.std.specs.Prelude.{◌≡◌, ◌<◌, ◌^◌, ◌++◌, [], length, IfOk, OnOk, true, option_to_list, slice_set, Some};
+ghost use Rattle.std.specs.Prelude.{◌≡◌, ◌<◌, ◌^◌, ◌++◌, [], length, IfOk, OnOk, true, false, option_to_list, slice_set, Some, None};
 ghost use Rattle.std.specs.VecDeque.{deque_len, deque_capacity};
-ghost use Rattle.run_model.specs.Admission.{newcomer};
-ghost use Rattle.run_model.specs.Board.{unit_in, moved, step};
-ghost use Rattle.run_model.specs.Turns.{taken_by, admission, starting, answer_to, delivery, deed_on, turn_of_unit};
-ghost use Rattle.run_laws.specs.Ready.{CanAnswer, CanTake, CanAdmit, CanDeliverOldest, CanAdvance};
+ghost use Rattle.run_model.specs.Admission.{newcomer, units_in};
+ghost use Rattle.run_model.specs.Board.{unit_in, moved, step, deed_events};
+ghost use Rattle.run_model.specs.Turns.{taken_by, admission, starting, answer_to, delivery, begun, ended, run_turn, deed_on, turn_of_unit};
+ghost use Rattle.run_laws.specs.Ready.{CanAnswer, CanTake, CanAdmit, CanDeliverOldest, CanRun, CanAdvance};
 
 use crate::admission::{Admitted, admit_test, first_waiting};
 use crate::state::State;
-use run_capture::{Duplicate, List, Mem};
+use run_capture::{List, Mem};
 use run_dispatch::DispatchEffects;
 use run_events::{Ask, Message, ReporterEvent, Settings, Turn};
 use run_model::UnitTurn;
@@ -77,14 +77,15 @@ fn put(units: &mut Vec<Option<Unit>>, place: usize, unit: Unit)
 /// Admits the candidate.
 pub fn admit(alloc: Global, settings: &Settings, state: &mut State) -> Mem<()>
     requires candidate { CanAdmit settings.now state.old }
-    requires few { length settings.now.plan.tests < 2 ^ 32 }
+    requires few { units_in settings.now < 2 ^ 32 }
     ensures after { OnOk result (state.new ≡ moved state.old (admission (newcomer settings.now state.old.units))) }
 {
-    match first_waiting(&state.units) {
+    match first_waiting(settings, &state.units) {
         Some(test) => {
+            state.queue.reserve(1)?;
             let Admitted { unit, sent } = admit_test(alloc, settings, &state.units, test)?;
-            state.queue.push_back(sent)?;
-            put(&mut state.units, test, unit);
+            state.queue.push_back_reserved(sent);
+            put(&mut state.units, settings.plan.scripts.len() + test, unit);
             Ok(())
         }
         None => unreachable!(),
@@ -96,7 +97,7 @@ fn starting(message: &Message) -> Option<u32>
     ensures { result ≡ starting message.now }
 {
     match message {
-        Message::Start { unit, .. } => Some(*unit),
+        Message::Start(start) => Some(start.test.unit),
         _ => None,
     }
 }
@@ -132,56 +133,76 @@ pub fn deliver(alloc: Global, state: &mut State) -> Mem<Effects>
     }
 }
 
-/// Takes a turn.
-pub fn advance(alloc: Global, settings: &Settings, state: &mut State, turn: &Turn) -> Mem<Effects>
+/// Takes a turn: that of a unit, as what it is to it, or one of the run's own.
+pub fn advance(
+    alloc: Global,
+    settings: &Settings,
+    state: &mut State,
+    turn: &Turn,
+    named: Option<(u32, UnitTurn)>,
+) -> Mem<Effects>
+    requires named { named ≡ turn_of_unit turn.now }
     requires can { CanAdvance settings.now state.old turn.now (turn_of_unit turn.now) }
-    requires few { length settings.now.plan.tests < 2 ^ 32 }
+    requires few { units_in settings.now < 2 ^ 32 }
     ensures after { OnOk result (state.new ≡ step state.old turn.now (deed_on settings.now state.old turn.now)) }
-    ensures told { IfOk result (λ effects. effects.events ≡ option_to_list (deed_on settings.now state.old turn.now).told) }
+    ensures told { IfOk result (λ effects. effects.events ≡ deed_events (deed_on settings.now state.old turn.now)) }
     ensures asked { IfOk result (λ effects. effects.asked ≡ (deed_on settings.now state.old turn.now).asked) }
 {
-    let now = state.clock;
-    match turn {
-        Turn::Begin => {
-            let DispatchEffects { events, .. } = state.dispatcher.begin(alloc, now)?;
-            Ok(Effects {
-                events,
-                asked: None,
-            })
+    match named {
+        Some((unit, own)) => {
+            let asked = take_turn(alloc, state, unit, own)?;
+            Ok(asking(asked))
         }
+        None => advance_run(alloc, settings, state, turn),
+    }
+}
+
+// Takes a turn of the run's own.
+fn advance_run(alloc: Global, settings: &Settings, state: &mut State, turn: &Turn) -> Mem<Effects>
+    requires can { CanRun settings.now state.old turn.now }
+    requires few { units_in settings.now < 2 ^ 32 }
+    ensures after { OnOk result (state.new ≡ moved state.old (run_turn settings.now state.old turn.now)) }
+    ensures told { IfOk result (λ effects. effects.events ≡ deed_events (run_turn settings.now state.old turn.now)) }
+    ensures asked { IfOk result (λ effects. effects.asked ≡ (run_turn settings.now state.old turn.now).asked) }
+{
+    match turn {
+        Turn::Begin => begin(alloc, state),
         Turn::Admit => {
             admit(alloc, settings, state)?;
             Ok(asking(None))
         }
         Turn::Deliver => deliver(alloc, state),
-        Turn::Started { unit, pid } => {
-            let asked = take_turn(alloc, state, *unit, UnitTurn::Started { pid: *pid })?;
-            Ok(asking(asked))
-        }
-        Turn::StartFailed { unit, error } => {
-            let error = error.copy(alloc)?;
-            let asked = take_turn(alloc, state, *unit, UnitTurn::StartFailed { error })?;
-            Ok(asking(asked))
-        }
-        Turn::Exit { unit, exit } => {
-            let asked = take_turn(alloc, state, *unit, UnitTurn::Exit { exit: *exit })?;
-            Ok(asking(asked))
-        }
-        Turn::WaitFailed { unit, error } => {
-            let error = error.copy(alloc)?;
-            let asked = take_turn(alloc, state, *unit, UnitTurn::WaitFailed { error })?;
-            Ok(asking(asked))
-        }
-        Turn::Decide { unit, word } => {
-            let asked = take_turn(alloc, state, *unit, UnitTurn::Decide { word: *word })?;
-            Ok(asking(asked))
-        }
-        Turn::End => {
-            let DispatchEffects { events, .. } = state.dispatcher.end(alloc, now)?;
-            Ok(Effects {
-                events,
-                asked: None,
-            })
-        }
+        Turn::End => end(alloc, state),
+        _ => Ok(asking(None)),
     }
+}
+
+// Begins the run.
+fn begin(alloc: Global, state: &mut State) -> Mem<Effects>
+    requires { state.old.dispatcher.on ≡ false }
+    ensures after { OnOk result (state.new ≡ moved state.old (begun state.old)) }
+    ensures told { IfOk result (λ effects. effects.events ≡ deed_events (begun state.old)) }
+    ensures asked { IfOk result (λ effects. effects.asked ≡ None) }
+{
+    let now = state.clock;
+    let DispatchEffects { events, .. } = state.dispatcher.begin(alloc, now)?;
+    Ok(Effects {
+        events,
+        asked: None,
+    })
+}
+
+// Ends the run.
+fn end(alloc: Global, state: &mut State) -> Mem<Effects>
+    requires { state.old.dispatcher.on ≡ true }
+    ensures after { OnOk result (state.new ≡ moved state.old (ended state.old)) }
+    ensures told { IfOk result (λ effects. effects.events ≡ deed_events (ended state.old)) }
+    ensures asked { IfOk result (λ effects. effects.asked ≡ None) }
+{
+    let now = state.clock;
+    let DispatchEffects { events, .. } = state.dispatcher.end(alloc, now)?;
+    Ok(Effects {
+        events,
+        asked: None,
+    })
 }

@@ -51,3 +51,14 @@ outcome_of finals.Success = outcomes.Success
 outcome_of finals.NoTestsRun = outcomes.NoTestsRun
 outcome_of (finals.Cancelled reason step) = outcomes.Cancelled step
 outcome_of (finals.Failed step) = outcomes.Failed step
+
+-- the order of outcomes
+abbrev pub severity : RunOutcome → ℕ
+severity outcomes.NoTestsRun = 0
+severity outcomes.Success = 1
+severity (outcomes.Failed step) = 2
+severity (outcomes.Cancelled step) = 3
+
+-- the outcome of two sub-runs together: the greater, of equally great ones the earlier
+abbrev pub combined : RunOutcome → RunOutcome → RunOutcome
+combined earlier later = if nat_lt (severity earlier) (severity later) then later else earlier

@@ -1,5 +1,6 @@
 // What the outside is asked to do.
-use run_capture::{Duplicate, List, Mem, Text};
+use crate::ChildSignal;
+use run_capture::{Duplicate, List, Mem, Stream, Text};
 use std::alloc::Global;
 
 /// A child is to be started.
@@ -16,31 +17,54 @@ pub struct StartAsk {
     pub group: bool,
     /// Whether it keeps the program's standard input.
     pub stdin: bool,
+    /// The captured streams, in the order standard output, standard error, combined. Not printed.
+    pub streams: List<Stream>,
+    /// Where a script writes the variables that it hands on; none of a test. Not printed.
+    pub env_path: Option<Text>,
 }
 
 impl Duplicate for StartAsk {
     fn copy(&self, alloc: Global) -> Mem<StartAsk> {
+        let env_path = self.env_path.copy(alloc)?;
+        let streams = self.streams.copy(alloc)?;
+        let command = self.command.copy(alloc)?;
+        let env = self.env.copy(alloc)?;
         Ok(StartAsk {
             unit: self.unit,
             attempt: self.attempt,
-            command: self.command.copy(alloc)?,
-            env: self.env.copy(alloc)?,
+            command,
+            env,
             group: self.group,
             stdin: self.stdin,
+            streams,
+            env_path,
         })
     }
+}
+
+/// A signal is to be sent to a unit's child, or to its process group.
+#[derive(Clone, Copy, Drop)]
+pub struct SignalAsk {
+    pub unit: u32,
+    pub signal: ChildSignal,
+    pub group: bool,
 }
 
 /// A request to the outside.
 #[derive(Drop)]
 pub enum Ask {
     Start(StartAsk),
+    Signal(SignalAsk),
+    /// The runner itself is to stop.
+    StopSelf,
 }
 
 impl Duplicate for Ask {
     fn copy(&self, alloc: Global) -> Mem<Ask> {
         match self {
             Ask::Start(ask) => Ok(Ask::Start(ask.copy(alloc)?)),
+            Ask::Signal(ask) => Ok(Ask::Signal(*ask)),
+            Ask::StopSelf => Ok(Ask::StopSelf),
         }
     }
 }

@@ -1,218 +1,284 @@
-// What a reporter is told.
-ghost use Rattle.std.specs.Prelude.{◌≡◌, IfOk};
-
-use crate::{ExecuteStatus, RunStats, TestInstanceId, TestSlotAssignment};
+// What a reporter is told. `running` is the number of tests told started and not told finished, and
+// `scripts_running` that of setup scripts; they count the event's own change, as `stats` does.
+use crate::{
+    AttemptFailed, InfoResponse, RunStats, ScriptFinish, ScriptSlow, ScriptStart, StressProgress,
+    StressRunStats, TestFinish, TestInstanceId, TestRetry, TestSkip, TestSlow, TestStart,
+};
 use run_capture::{Duplicate, List, Mem, Text};
+use run_commands::StressCondition;
 use std::alloc::Global;
 use uuid::Uuid;
 
-/// What an event says. `running` is the number of tests told started and not told finished, and
-/// counts the event's own change, as `stats` does.
+/// The run started.
+#[derive(Drop)]
+pub struct RunStarted {
+    pub run_id: Uuid,
+    /// How many tests the plan has.
+    pub tests: u32,
+    /// The words with which the runner was called.
+    pub args: List<Text>,
+    pub profile: Text,
+    /// In a stress run alone.
+    pub stress: Option<StressCondition>,
+}
+
+impl Duplicate for RunStarted {
+    fn copy(&self, alloc: Global) -> Mem<RunStarted> {
+        let args = self.args.copy(alloc)?;
+        let profile = self.profile.copy(alloc)?;
+        let stress = self.stress.copy(alloc)?;
+        Ok(RunStarted {
+            run_id: self.run_id,
+            tests: self.tests,
+            args,
+            profile,
+            stress,
+        })
+    }
+}
+
+/// A sub-run of a stress run ended. Its own time is in nanoseconds.
+#[derive(Clone, Copy, Drop)]
+pub struct SubRunFinished {
+    pub progress: StressProgress,
+    pub sub_elapsed: u64,
+    pub stats: RunStats,
+}
+
+/// A test started.
+#[derive(Drop)]
+pub struct TestStarted {
+    pub start: TestStart,
+    pub running: u32,
+    pub stats: RunStats,
+}
+
+impl Duplicate for TestStarted {
+    fn copy(&self, alloc: Global) -> Mem<TestStarted> {
+        let start = self.start.copy(alloc)?;
+        Ok(TestStarted {
+            start,
+            running: self.running,
+            stats: self.stats,
+        })
+    }
+}
+
+/// An attempt of a test failed, and a further one follows.
+#[derive(Drop)]
+pub struct AttemptFailedWillRetry {
+    pub failed: AttemptFailed,
+    pub running: u32,
+}
+
+impl Duplicate for AttemptFailedWillRetry {
+    fn copy(&self, alloc: Global) -> Mem<AttemptFailedWillRetry> {
+        let failed = self.failed.copy(alloc)?;
+        Ok(AttemptFailedWillRetry {
+            failed,
+            running: self.running,
+        })
+    }
+}
+
+/// A further attempt of a test started.
+#[derive(Drop)]
+pub struct RetryStarted {
+    pub retry: TestRetry,
+    pub running: u32,
+}
+
+impl Duplicate for RetryStarted {
+    fn copy(&self, alloc: Global) -> Mem<RetryStarted> {
+        let retry = self.retry.copy(alloc)?;
+        Ok(RetryStarted {
+            retry,
+            running: self.running,
+        })
+    }
+}
+
+/// A test finished.
+#[derive(Drop)]
+pub struct TestFinished {
+    pub finish: TestFinish,
+    pub running: u32,
+    pub stats: RunStats,
+}
+
+impl Duplicate for TestFinished {
+    fn copy(&self, alloc: Global) -> Mem<TestFinished> {
+        let finish = self.finish.copy(alloc)?;
+        Ok(TestFinished {
+            finish,
+            running: self.running,
+            stats: self.stats,
+        })
+    }
+}
+
+/// An information round started, with so many units asked.
+#[derive(Clone, Copy, Drop)]
+pub struct InfoStarted {
+    pub total: u32,
+    pub running: u32,
+    pub stats: RunStats,
+}
+
+/// A unit answered, as the one with this index, from 0, of so many.
+#[derive(Drop)]
+pub struct InfoAnswered {
+    pub response: InfoResponse,
+    pub index: u32,
+    pub total: u32,
+}
+
+impl Duplicate for InfoAnswered {
+    fn copy(&self, alloc: Global) -> Mem<InfoAnswered> {
+        let response = self.response.copy(alloc)?;
+        Ok(InfoAnswered {
+            response,
+            index: self.index,
+            total: self.total,
+        })
+    }
+}
+
+/// Counts as they are.
+#[derive(Clone, Copy, Drop)]
+pub struct InputEntered {
+    pub running: u32,
+    pub stats: RunStats,
+}
+
+/// The run begins to be cancelled, for the reason in the statistics.
+#[derive(Clone, Copy, Drop)]
+pub struct RunCancelled {
+    pub running: u32,
+    pub scripts_running: u32,
+    pub stats: RunStats,
+}
+
+/// The run was stopped, or goes on.
+#[derive(Clone, Copy, Drop)]
+pub struct JobControlled {
+    pub running: u32,
+    pub scripts_running: u32,
+}
+
+/// The statistics of a run that is over: its own, or in a stress run those of its sub-runs.
+#[derive(Clone, Copy, Drop)]
+pub enum RunFinishedStats {
+    Single(RunStats),
+    Stress(StressRunStats),
+}
+
+/// The tests that were expected and not seen: the first of them, in order, and how many they are.
+#[derive(Drop)]
+pub struct TestsNotSeen {
+    pub not_seen: List<TestInstanceId>,
+    pub total_not_seen: u64,
+}
+
+impl Duplicate for TestsNotSeen {
+    fn copy(&self, alloc: Global) -> Mem<TestsNotSeen> {
+        let not_seen = self.not_seen.copy(alloc)?;
+        Ok(TestsNotSeen {
+            not_seen,
+            total_not_seen: self.total_not_seen,
+        })
+    }
+}
+
+/// The run finished.
+#[derive(Drop)]
+pub struct RunFinished {
+    pub stats: RunFinishedStats,
+    /// In a rerun alone.
+    pub not_seen: Option<TestsNotSeen>,
+}
+
+impl Duplicate for RunFinished {
+    fn copy(&self, alloc: Global) -> Mem<RunFinished> {
+        let not_seen = self.not_seen.copy(alloc)?;
+        Ok(RunFinished {
+            stats: self.stats,
+            not_seen,
+        })
+    }
+}
+
+/// What an event says.
 #[derive(Drop)]
 pub enum TestEventKind {
-    /// The run started, with this number of tests in the plan.
-    RunStarted {
-        run_id: Uuid,
-        tests: u32,
-    },
-    /// A test started.
-    TestStarted {
-        unit: u32,
-        test: TestInstanceId,
-        command: List<Text>,
-        slot: TestSlotAssignment,
-        running: u32,
-        stats: RunStats,
-    },
-    /// An attempt of a test failed, and the next one comes after this delay.
-    TestAttemptFailedWillRetry {
-        unit: u32,
-        test: TestInstanceId,
-        status: ExecuteStatus,
-        delay_next: u64,
-        running: u32,
-    },
-    /// A further attempt of a test started.
-    TestRetryStarted {
-        unit: u32,
-        test: TestInstanceId,
-        command: List<Text>,
-        slot: TestSlotAssignment,
-        attempt: u32,
-        attempts: u32,
-        running: u32,
-    },
-    /// A test finished, after these attempts.
-    TestFinished {
-        unit: u32,
-        test: TestInstanceId,
-        statuses: List<ExecuteStatus>,
-        running: u32,
-        stats: RunStats,
-    },
-    /// A test doesn't match, and was skipped for this reason.
-    TestSkipped {
-        unit: u32,
-        test: TestInstanceId,
-        reason: Text,
-    },
-    /// The run finished.
-    RunFinished {
-        stats: RunStats,
-    },
-}
-
-ghost use Rattle.run_events.specs.declared.events.TestEventKind.TheVariants.{TestStarted, TestAttemptFailedWillRetry, TestRetryStarted, TestFinished, TestSkipped};
-
-fn copy_started(
-    alloc: Global,
-    unit: u32,
-    test: &TestInstanceId,
-    command: &List<Text>,
-    slot: TestSlotAssignment,
-    running: u32,
-    stats: RunStats,
-) -> Mem<TestEventKind>
-    ensures { IfOk result (λ k. k ≡ TestStarted unit test.now command.now slot running stats) }
-{
-    let test = test.copy(alloc)?;
-    let command = command.copy(alloc)?;
-    Ok(TestEventKind::TestStarted {
-        unit,
-        test,
-        command,
-        slot,
-        running,
-        stats,
-    })
-}
-
-fn copy_failed(
-    alloc: Global,
-    unit: u32,
-    test: &TestInstanceId,
-    status: &ExecuteStatus,
-    delay_next: u64,
-    running: u32,
-) -> Mem<TestEventKind>
-    ensures { IfOk result (λ k. k ≡ TestAttemptFailedWillRetry unit test.now status.now delay_next running) }
-{
-    let test = test.copy(alloc)?;
-    let status = status.copy(alloc)?;
-    Ok(TestEventKind::TestAttemptFailedWillRetry {
-        unit,
-        test,
-        status,
-        delay_next,
-        running,
-    })
-}
-
-fn copy_retry(
-    alloc: Global,
-    unit: u32,
-    test: &TestInstanceId,
-    command: &List<Text>,
-    slot: TestSlotAssignment,
-    attempt: u32,
-    attempts: u32,
-    running: u32,
-) -> Mem<TestEventKind>
-    ensures { IfOk result (λ k. k ≡ TestRetryStarted unit test.now command.now slot attempt attempts running) }
-{
-    let test = test.copy(alloc)?;
-    let command = command.copy(alloc)?;
-    Ok(TestEventKind::TestRetryStarted {
-        unit,
-        test,
-        command,
-        slot,
-        attempt,
-        attempts,
-        running,
-    })
-}
-
-fn copy_finished(
-    alloc: Global,
-    unit: u32,
-    test: &TestInstanceId,
-    statuses: &List<ExecuteStatus>,
-    running: u32,
-    stats: RunStats,
-) -> Mem<TestEventKind>
-    ensures { IfOk result (λ k. k ≡ TestFinished unit test.now statuses.now running stats) }
-{
-    let test = test.copy(alloc)?;
-    let statuses = statuses.copy(alloc)?;
-    Ok(TestEventKind::TestFinished {
-        unit,
-        test,
-        statuses,
-        running,
-        stats,
-    })
-}
-
-fn copy_skipped(
-    alloc: Global,
-    unit: u32,
-    test: &TestInstanceId,
-    reason: &Text,
-) -> Mem<TestEventKind>
-    ensures { IfOk result (λ k. k ≡ TestSkipped unit test.now reason.now) }
-{
-    let test = test.copy(alloc)?;
-    let reason = reason.copy(alloc)?;
-    Ok(TestEventKind::TestSkipped { unit, test, reason })
+    RunStarted(RunStarted),
+    StressSubRunStarted(StressProgress),
+    StressSubRunFinished(SubRunFinished),
+    SetupScriptStarted(ScriptStart),
+    SetupScriptSlow(ScriptSlow),
+    SetupScriptFinished(ScriptFinish),
+    TestStarted(TestStarted),
+    TestSlow(TestSlow),
+    TestAttemptFailedWillRetry(AttemptFailedWillRetry),
+    TestRetryStarted(RetryStarted),
+    TestFinished(TestFinished),
+    TestSkipped(TestSkip),
+    InfoStarted(InfoStarted),
+    InfoResponse(InfoAnswered),
+    /// So many units gave no answer.
+    InfoFinished { missing: u32 },
+    InputEnter(InputEntered),
+    RunBeginCancel(RunCancelled),
+    RunBeginKill(RunCancelled),
+    RunPaused(JobControlled),
+    RunContinued(JobControlled),
+    RunFinished(RunFinished),
 }
 
 impl Duplicate for TestEventKind {
     fn copy(&self, alloc: Global) -> Mem<TestEventKind> {
         match self {
-            TestEventKind::RunStarted { run_id, tests } => Ok(TestEventKind::RunStarted {
-                run_id: *run_id,
-                tests: *tests,
+            TestEventKind::RunStarted(event) => event.copy(alloc).map(TestEventKind::RunStarted),
+            TestEventKind::StressSubRunStarted(event) => Ok(TestEventKind::StressSubRunStarted(
+                *event,
+            )),
+            TestEventKind::StressSubRunFinished(event) => Ok(TestEventKind::StressSubRunFinished(
+                *event,
+            )),
+            TestEventKind::SetupScriptStarted(event) => event
+                .copy(alloc)
+                .map(TestEventKind::SetupScriptStarted),
+            TestEventKind::SetupScriptSlow(event) => event
+                .copy(alloc)
+                .map(TestEventKind::SetupScriptSlow),
+            TestEventKind::SetupScriptFinished(event) => event
+                .copy(alloc)
+                .map(TestEventKind::SetupScriptFinished),
+            TestEventKind::TestStarted(event) => event.copy(alloc).map(TestEventKind::TestStarted),
+            TestEventKind::TestSlow(event) => event.copy(alloc).map(TestEventKind::TestSlow),
+            TestEventKind::TestAttemptFailedWillRetry(event) => event
+                .copy(alloc)
+                .map(TestEventKind::TestAttemptFailedWillRetry),
+            TestEventKind::TestRetryStarted(event) => event
+                .copy(alloc)
+                .map(TestEventKind::TestRetryStarted),
+            TestEventKind::TestFinished(event) => event
+                .copy(alloc)
+                .map(TestEventKind::TestFinished),
+            TestEventKind::TestSkipped(event) => event.copy(alloc).map(TestEventKind::TestSkipped),
+            TestEventKind::InfoStarted(event) => Ok(TestEventKind::InfoStarted(*event)),
+            TestEventKind::InfoResponse(event) => event
+                .copy(alloc)
+                .map(TestEventKind::InfoResponse),
+            TestEventKind::InfoFinished { missing } => Ok(TestEventKind::InfoFinished {
+                missing: *missing,
             }),
-            TestEventKind::TestStarted {
-                unit,
-                test,
-                command,
-                slot,
-                running,
-                stats,
-            } => copy_started(alloc, *unit, test, command, *slot, *running, *stats),
-            TestEventKind::TestAttemptFailedWillRetry {
-                unit,
-                test,
-                status,
-                delay_next,
-                running,
-            } => copy_failed(alloc, *unit, test, status, *delay_next, *running),
-            TestEventKind::TestRetryStarted {
-                unit,
-                test,
-                command,
-                slot,
-                attempt,
-                attempts,
-                running,
-            } => copy_retry(
-                alloc, *unit, test, command, *slot, *attempt, *attempts, *running,
-            ),
-            TestEventKind::TestFinished {
-                unit,
-                test,
-                statuses,
-                running,
-                stats,
-            } => copy_finished(alloc, *unit, test, statuses, *running, *stats),
-            TestEventKind::TestSkipped { unit, test, reason } => {
-                copy_skipped(alloc, *unit, test, reason)
-            }
-            TestEventKind::RunFinished { stats } => Ok(TestEventKind::RunFinished {
-                stats: *stats,
-            }),
+            TestEventKind::InputEnter(event) => Ok(TestEventKind::InputEnter(*event)),
+            TestEventKind::RunBeginCancel(event) => Ok(TestEventKind::RunBeginCancel(*event)),
+            TestEventKind::RunBeginKill(event) => Ok(TestEventKind::RunBeginKill(*event)),
+            TestEventKind::RunPaused(event) => Ok(TestEventKind::RunPaused(*event)),
+            TestEventKind::RunContinued(event) => Ok(TestEventKind::RunContinued(*event)),
+            TestEventKind::RunFinished(event) => event.copy(alloc).map(TestEventKind::RunFinished),
         }
     }
 }
@@ -227,10 +293,11 @@ pub struct TestEvent {
 
 impl Duplicate for TestEvent {
     fn copy(&self, alloc: Global) -> Mem<TestEvent> {
+        let kind = self.kind.copy(alloc)?;
         Ok(TestEvent {
             clock: self.clock,
             elapsed: self.elapsed,
-            kind: self.kind.copy(alloc)?,
+            kind,
         })
     }
 }
@@ -238,12 +305,15 @@ impl Duplicate for TestEvent {
 /// What a reporter is told.
 #[derive(Drop)]
 pub enum ReporterEvent {
+    /// A display wants to draw anew.
+    Tick,
     Test(TestEvent),
 }
 
 impl Duplicate for ReporterEvent {
     fn copy(&self, alloc: Global) -> Mem<ReporterEvent> {
         match self {
+            ReporterEvent::Tick => Ok(ReporterEvent::Tick),
             ReporterEvent::Test(event) => Ok(ReporterEvent::Test(event.copy(alloc)?)),
         }
     }

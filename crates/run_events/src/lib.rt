@@ -10,31 +10,53 @@ mod cancel;
 mod children;
 mod event_log;
 mod events;
+mod info;
+mod input;
 mod message;
 mod outcome;
 mod plan;
 mod reporter;
+mod request;
 mod result;
+mod retry_policy;
 mod settings;
+mod signal;
 mod stats;
-#[cfg(test)]
-mod tests;
+mod stress;
 mod turn;
+mod usual;
 
-pub use ask::{Ask, StartAsk};
+pub use ask::{Ask, SignalAsk, StartAsk};
 pub use ask_list::AskList;
 pub use cancel::CancelReason;
 pub use children::Children;
 pub use event_log::EventLog;
-pub use events::{ReporterEvent, TestEvent, TestEventKind};
-pub use message::Message;
+pub use events::{
+    AttemptFailedWillRetry, InfoAnswered, InfoStarted, InputEntered, JobControlled, ReporterEvent,
+    RetryStarted, RunCancelled, RunFinished, RunFinishedStats, RunStarted, SubRunFinished,
+    TestEvent, TestEventKind, TestFinished, TestStarted, TestsNotSeen,
+};
+pub use info::{InfoResponse, InfoSubject, UnitState, Waiting};
+pub use input::{InputEvent, InputHandlerKind, InputHandlerStatus, Key, KeyCode, hears_key};
+pub use message::{
+    AttemptFailed, Message, ScriptFinish, ScriptSlow, ScriptStart, ScriptUnit, TestFinish,
+    TestRetry, TestSkip, TestSlow, TestStart, TestUnit,
+};
 pub use outcome::{FinalRunStats, RunOutcome, RunStep};
-pub use plan::{Plan, PlanTest, TestInstanceId, TestSlotAssignment};
+pub use plan::{
+    Group, GroupSlot, Hearing, LeakTimeout, Plan, PlanScript, PlanTest, RunHead, SlowTimeout,
+    TestInstanceId, TestSlotAssignment,
+};
 pub use reporter::{ReportFault, Reporter};
+pub use request::{ChildSignal, Request, ShutdownRequest, TermSignal, TerminateReason};
 pub use result::{
     ChildExecutionOutput, ChildExit, ExecuteStatus, ExecutionResult, FailureStatus, FlakyResult,
-    LeakTimeoutResult, SlowTimeoutResult, create_execution_result,
+    LeakTimeoutResult, ScriptEnv, SetupScriptExecuteStatus, SlowTimeoutResult,
+    create_execution_result,
 };
+pub use retry_policy::{MaxFail, RetryPolicy, RunMode, TerminateMode, TestThreads};
 pub use settings::Settings;
+pub use signal::{Heard, Signal, SignalHandlerKind, hears_signal};
 pub use stats::RunStats;
+pub use stress::{StressIndex, StressProgress, StressRemaining, StressRunStats};
 pub use turn::Turn;

@@ -1,60 +1,255 @@
 // What a unit tells the dispatcher.
-use crate::{ExecuteStatus, TestInstanceId, TestSlotAssignment};
+use crate::{
+    ExecuteStatus, FlakyResult, SetupScriptExecuteStatus, StressIndex, TestInstanceId,
+    TestSlotAssignment,
+};
 use run_capture::{Duplicate, List, Mem, Text};
 use std::alloc::Global;
+
+/// A test, as its messages and events name it. The unit's number isn't printed.
+#[derive(Drop)]
+pub struct TestUnit {
+    pub unit: u32,
+    pub id: TestInstanceId,
+    /// In a stress run alone.
+    pub stress_index: Option<StressIndex>,
+}
+
+impl Duplicate for TestUnit {
+    fn copy(&self, alloc: Global) -> Mem<TestUnit> {
+        let id = self.id.copy(alloc)?;
+        Ok(TestUnit {
+            unit: self.unit,
+            id,
+            stress_index: self.stress_index,
+        })
+    }
+}
+
+/// A setup script, as its messages and events name it.
+#[derive(Drop)]
+pub struct ScriptUnit {
+    pub unit: u32,
+    pub id: Text,
+    /// Its place among the scripts, from 0.
+    pub index: u32,
+    /// How many scripts there are.
+    pub total: u32,
+    /// Whether one of its streams isn't captured, by its own settings.
+    pub no_capture: bool,
+    /// In a stress run alone.
+    pub stress_index: Option<StressIndex>,
+}
+
+impl Duplicate for ScriptUnit {
+    fn copy(&self, alloc: Global) -> Mem<ScriptUnit> {
+        let id = self.id.copy(alloc)?;
+        Ok(ScriptUnit {
+            unit: self.unit,
+            id,
+            index: self.index,
+            total: self.total,
+            no_capture: self.no_capture,
+            stress_index: self.stress_index,
+        })
+    }
+}
+
+/// A script is about to start.
+#[derive(Drop)]
+pub struct ScriptStart {
+    pub script: ScriptUnit,
+    pub command: List<Text>,
+}
+
+impl Duplicate for ScriptStart {
+    fn copy(&self, alloc: Global) -> Mem<ScriptStart> {
+        let script = self.script.copy(alloc)?;
+        let command = self.command.copy(alloc)?;
+        Ok(ScriptStart { script, command })
+    }
+}
+
+/// A script has run for so long, in nanoseconds, and is ended for it or not.
+#[derive(Drop)]
+pub struct ScriptSlow {
+    pub script: ScriptUnit,
+    pub elapsed_slow: u64,
+    pub terminates: bool,
+}
+
+impl Duplicate for ScriptSlow {
+    fn copy(&self, alloc: Global) -> Mem<ScriptSlow> {
+        let script = self.script.copy(alloc)?;
+        Ok(ScriptSlow {
+            script,
+            elapsed_slow: self.elapsed_slow,
+            terminates: self.terminates,
+        })
+    }
+}
+
+/// A script is done.
+#[derive(Drop)]
+pub struct ScriptFinish {
+    pub script: ScriptUnit,
+    pub status: SetupScriptExecuteStatus,
+}
+
+impl Duplicate for ScriptFinish {
+    fn copy(&self, alloc: Global) -> Mem<ScriptFinish> {
+        let script = self.script.copy(alloc)?;
+        let status = self.status.copy(alloc)?;
+        Ok(ScriptFinish { script, status })
+    }
+}
+
+/// A test is about to start, in this slot.
+#[derive(Drop)]
+pub struct TestStart {
+    pub test: TestUnit,
+    pub command: List<Text>,
+    pub slot: TestSlotAssignment,
+}
+
+impl Duplicate for TestStart {
+    fn copy(&self, alloc: Global) -> Mem<TestStart> {
+        let test = self.test.copy(alloc)?;
+        let command = self.command.copy(alloc)?;
+        let slot = self.slot.copy(alloc)?;
+        Ok(TestStart {
+            test,
+            command,
+            slot,
+        })
+    }
+}
+
+/// An attempt of a test has run for so long, in nanoseconds, and is ended for it or not.
+#[derive(Drop)]
+pub struct TestSlow {
+    pub test: TestUnit,
+    /// Which attempt, from 1.
+    pub attempt: u32,
+    /// How many attempts the test has at most.
+    pub attempts: u32,
+    pub elapsed_slow: u64,
+    pub terminates: bool,
+}
+
+impl Duplicate for TestSlow {
+    fn copy(&self, alloc: Global) -> Mem<TestSlow> {
+        let test = self.test.copy(alloc)?;
+        Ok(TestSlow {
+            test,
+            attempt: self.attempt,
+            attempts: self.attempts,
+            elapsed_slow: self.elapsed_slow,
+            terminates: self.terminates,
+        })
+    }
+}
+
+/// An attempt of a test failed, and the next one comes after this delay, in nanoseconds.
+#[derive(Drop)]
+pub struct AttemptFailed {
+    pub test: TestUnit,
+    pub status: ExecuteStatus,
+    pub delay_next: u64,
+}
+
+impl Duplicate for AttemptFailed {
+    fn copy(&self, alloc: Global) -> Mem<AttemptFailed> {
+        let test = self.test.copy(alloc)?;
+        let status = self.status.copy(alloc)?;
+        Ok(AttemptFailed {
+            test,
+            status,
+            delay_next: self.delay_next,
+        })
+    }
+}
+
+/// A further attempt of a test is about to start.
+#[derive(Drop)]
+pub struct TestRetry {
+    pub start: TestStart,
+    pub attempt: u32,
+    pub attempts: u32,
+}
+
+impl Duplicate for TestRetry {
+    fn copy(&self, alloc: Global) -> Mem<TestRetry> {
+        let start = self.start.copy(alloc)?;
+        Ok(TestRetry {
+            start,
+            attempt: self.attempt,
+            attempts: self.attempts,
+        })
+    }
+}
+
+/// A test is done, after these attempts. What a pass after a failed attempt counts as isn't printed.
+#[derive(Drop)]
+pub struct TestFinish {
+    pub test: TestUnit,
+    pub statuses: List<ExecuteStatus>,
+    pub flaky: FlakyResult,
+}
+
+impl Duplicate for TestFinish {
+    fn copy(&self, alloc: Global) -> Mem<TestFinish> {
+        let test = self.test.copy(alloc)?;
+        let statuses = self.statuses.copy(alloc)?;
+        Ok(TestFinish {
+            test,
+            statuses,
+            flaky: self.flaky,
+        })
+    }
+}
+
+/// A test doesn't match, and is skipped for this reason.
+#[derive(Drop)]
+pub struct TestSkip {
+    pub test: TestUnit,
+    pub reason: Text,
+}
+
+impl Duplicate for TestSkip {
+    fn copy(&self, alloc: Global) -> Mem<TestSkip> {
+        let test = self.test.copy(alloc)?;
+        let reason = self.reason.copy(alloc)?;
+        Ok(TestSkip { test, reason })
+    }
+}
 
 /// A message of a unit to the dispatcher. All messages stand in one queue.
 #[derive(Drop)]
 pub enum Message {
-    /// The test is about to start, and waits to be let go.
-    Start {
-        unit: u32,
-        test: TestInstanceId,
-        command: List<Text>,
-        slot: TestSlotAssignment,
-    },
-    /// The test doesn't match, and is skipped for this reason.
-    Skip {
-        unit: u32,
-        test: TestInstanceId,
-        reason: Text,
-    },
-    /// The test is done, after these attempts.
-    Finish {
-        unit: u32,
-        test: TestInstanceId,
-        statuses: List<ExecuteStatus>,
-    },
+    ScriptStart(ScriptStart),
+    ScriptSlow(ScriptSlow),
+    ScriptFinish(ScriptFinish),
+    Start(TestStart),
+    Slow(TestSlow),
+    AttemptFailed(AttemptFailed),
+    Retry(TestRetry),
+    Finish(TestFinish),
+    Skip(TestSkip),
 }
 
 impl Duplicate for Message {
     fn copy(&self, alloc: Global) -> Mem<Message> {
         match self {
-            Message::Start {
-                unit,
-                test,
-                command,
-                slot,
-            } => Ok(Message::Start {
-                unit: *unit,
-                test: test.copy(alloc)?,
-                command: command.copy(alloc)?,
-                slot: *slot,
-            }),
-            Message::Skip { unit, test, reason } => Ok(Message::Skip {
-                unit: *unit,
-                test: test.copy(alloc)?,
-                reason: reason.copy(alloc)?,
-            }),
-            Message::Finish {
-                unit,
-                test,
-                statuses,
-            } => Ok(Message::Finish {
-                unit: *unit,
-                test: test.copy(alloc)?,
-                statuses: statuses.copy(alloc)?,
-            }),
+            Message::ScriptStart(message) => message.copy(alloc).map(Message::ScriptStart),
+            Message::ScriptSlow(message) => message.copy(alloc).map(Message::ScriptSlow),
+            Message::ScriptFinish(message) => message.copy(alloc).map(Message::ScriptFinish),
+            Message::Start(message) => message.copy(alloc).map(Message::Start),
+            Message::Slow(message) => message.copy(alloc).map(Message::Slow),
+            Message::AttemptFailed(message) => message.copy(alloc).map(Message::AttemptFailed),
+            Message::Retry(message) => message.copy(alloc).map(Message::Retry),
+            Message::Finish(message) => message.copy(alloc).map(Message::Finish),
+            Message::Skip(message) => message.copy(alloc).map(Message::Skip),
         }
     }
 }

@@ -1,6 +1,6 @@
 // How a run ended.
 ghost use Rattle.std.specs.Prelude.{◌≡◌};
-ghost use Rattle.run_events.specs.Outcome.{outcome_of};
+ghost use Rattle.run_events.specs.Outcome.{outcome_of, severity, combined};
 
 use crate::CancelReason;
 
@@ -44,6 +44,30 @@ impl RunOutcome {
             FinalRunStats::NoTestsRun => RunOutcome::NoTestsRun,
             FinalRunStats::Cancelled { step, .. } => RunOutcome::Cancelled { step },
             FinalRunStats::Failed { step } => RunOutcome::Failed { step },
+        }
+    }
+
+    /// The outcome of two sub-runs together: the greater in the order no tests run, success, failed, cancelled;
+    /// of equally great ones the earlier.
+    pub fn combine(self, later: RunOutcome) -> RunOutcome
+        ensures { result ≡ combined self later }
+    {
+        if self.severity() < later.severity() {
+            later
+        } else {
+            self
+        }
+    }
+
+    // Its place in the order.
+    fn severity(self) -> u8
+        ensures { result ≡ severity self }
+    {
+        match self {
+            RunOutcome::NoTestsRun => 0,
+            RunOutcome::Success => 1,
+            RunOutcome::Failed { .. } => 2,
+            RunOutcome::Cancelled { .. } => 3,
         }
     }
 }

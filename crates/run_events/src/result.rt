@@ -1,8 +1,10 @@
 // Results of attempts.
-ghost use Rattle.std.specs.Prelude.{◌≡◌};
+ghost use Rattle.std.specs.Prelude.{◌≡◌, IfOk};
 ghost use Rattle.run_events.specs.Result.{is_success, execution_result};
+ghost use Rattle.run_events.specs.declared.result.ChildExecutionOutput.TheVariants.{Output};
 
 use run_capture::{ChildFdError, ChildOutput, Duplicate, List, Mem, Text};
+use run_commands::{EnvMap, SetupScriptOutputError};
 use std::alloc::Global;
 
 /// How a child ended.
@@ -78,17 +80,78 @@ pub enum ChildExecutionOutput {
     StartError(Text),
 }
 
+fn copy_output(
+    alloc: Global,
+    output: &ChildOutput,
+    errors: &List<ChildFdError>,
+) -> Mem<ChildExecutionOutput>
+    ensures { IfOk result (λ o. o ≡ Output output.now errors.now) }
+{
+    let output = output.copy(alloc)?;
+    let errors = errors.copy(alloc)?;
+    Ok(ChildExecutionOutput::Output { output, errors })
+}
+
 impl Duplicate for ChildExecutionOutput {
     fn copy(&self, alloc: Global) -> Mem<ChildExecutionOutput> {
         match self {
-            ChildExecutionOutput::Output { output, errors } => Ok(ChildExecutionOutput::Output {
-                output: output.copy(alloc)?,
-                errors: errors.copy(alloc)?,
-            }),
+            ChildExecutionOutput::Output { output, errors } => copy_output(alloc, output, errors),
             ChildExecutionOutput::StartError(error) => {
                 Ok(ChildExecutionOutput::StartError(error.copy(alloc)?))
             }
         }
+    }
+}
+
+/// What came of a setup script's environment file.
+#[derive(Drop)]
+pub enum ScriptEnv {
+    /// It wasn't read, since the script failed.
+    Unread,
+    /// It gave these variables.
+    Variables(EnvMap),
+    /// It gave none, and the script failed for it.
+    Fault(SetupScriptOutputError),
+}
+
+impl Duplicate for ScriptEnv {
+    fn copy(&self, alloc: Global) -> Mem<ScriptEnv> {
+        match self {
+            ScriptEnv::Unread => Ok(ScriptEnv::Unread),
+            ScriptEnv::Variables(map) => Ok(ScriptEnv::Variables(map.copy(alloc)?)),
+            ScriptEnv::Fault(fault) => Ok(ScriptEnv::Fault(*fault)),
+        }
+    }
+}
+
+/// The one attempt of a setup script: moments and times in nanoseconds of the run's clock.
+#[derive(Drop)]
+pub struct SetupScriptExecuteStatus {
+    pub result: ExecutionResult,
+    /// What came of its child.
+    pub output: ChildExecutionOutput,
+    /// Whether it was reported slow.
+    pub slow: bool,
+    /// When it was let go.
+    pub start: u64,
+    /// How long it took, without pauses.
+    pub time: u64,
+    /// What came of its environment file.
+    pub env: ScriptEnv,
+}
+
+impl Duplicate for SetupScriptExecuteStatus {
+    fn copy(&self, alloc: Global) -> Mem<SetupScriptExecuteStatus> {
+        let output = self.output.copy(alloc)?;
+        let env = self.env.copy(alloc)?;
+        Ok(SetupScriptExecuteStatus {
+            result: self.result,
+            output,
+            slow: self.slow,
+            start: self.start,
+            time: self.time,
+            env,
+        })
     }
 }
 
@@ -114,12 +177,13 @@ pub struct ExecuteStatus {
 
 impl Duplicate for ExecuteStatus {
     fn copy(&self, alloc: Global) -> Mem<ExecuteStatus> {
+        let output = self.output.copy(alloc)?;
         Ok(ExecuteStatus {
             attempt: self.attempt,
             attempts: self.attempts,
             delay: self.delay,
             result: self.result,
-            output: self.output.copy(alloc)?,
+            output,
             slow: self.slow,
             start: self.start,
             time: self.time,

@@ -1,6 +1,9 @@
 // What a run goes by.
-use crate::Plan;
-use run_capture::{CaptureStrategy, Duplicate, Mem};
+ghost use Rattle.std.specs.Prelude.{◌≡◌, IfOk};
+
+use crate::{FlakyResult, MaxFail, Plan, RetryPolicy, TestInstanceId};
+use run_capture::{CaptureStrategy, Duplicate, List, Mem};
+use run_commands::{Interceptor, StressCondition};
 use std::alloc::Global;
 
 /// The effective settings of a run, with the plan that they belong to.
@@ -8,16 +11,61 @@ use std::alloc::Global;
 pub struct Settings {
     pub plan: Plan,
     pub capture: CaptureStrategy,
-    /// How many tests may run at a time.
+    /// How much may run at a time: the greatest sum of weights.
     pub threads: u32,
+    pub max_fail: MaxFail,
+    /// In a stress run alone: when it ends.
+    pub stress: Option<StressCondition>,
+    pub interceptor: Interceptor,
+    /// In a rerun alone: the tests that are expected, in ascending order.
+    pub expected: Option<List<TestInstanceId>>,
+    /// Where it is set, it replaces every test's.
+    pub retries: Option<RetryPolicy>,
+    /// Where it is set, it replaces every test's.
+    pub flaky_result: Option<FlakyResult>,
+}
+
+// What settings hold beside the plan.
+#[derive(Drop)]
+struct Extras {
+    stress: Option<StressCondition>,
+    interceptor: Interceptor,
+    expected: Option<List<TestInstanceId>>,
+}
+
+fn extras_of(alloc: Global, settings: &Settings) -> Mem<Extras>
+    ensures stress { IfOk result (λ extras. extras.stress ≡ settings.now.stress) }
+    ensures interceptor { IfOk result (λ extras. extras.interceptor ≡ settings.now.interceptor) }
+    ensures expected { IfOk result (λ extras. extras.expected ≡ settings.now.expected) }
+{
+    let expected = settings.expected.copy(alloc)?;
+    let stress = settings.stress.copy(alloc)?;
+    let interceptor = settings.interceptor.copy(alloc)?;
+    Ok(Extras {
+        stress,
+        interceptor,
+        expected,
+    })
 }
 
 impl Duplicate for Settings {
     fn copy(&self, alloc: Global) -> Mem<Settings> {
+        let Extras {
+            stress,
+            interceptor,
+            expected,
+        } = extras_of(alloc, self)?;
+        let plan = self.plan.copy(alloc)?;
         Ok(Settings {
-            plan: self.plan.copy(alloc)?,
+            plan,
             capture: self.capture,
             threads: self.threads,
+            max_fail: self.max_fail,
+            stress,
+            interceptor,
+            expected,
+            retries: self.retries,
+            flaky_result: self.flaky_result,
         })
     }
 }

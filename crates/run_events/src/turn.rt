@@ -1,58 +1,194 @@
 // One thing that happened outside.
-use crate::ChildExit;
-use run_capture::{Duplicate, Mem, Text};
+ghost use Rattle.std.specs.Prelude.{◌≡◌, IfOk};
+ghost use Rattle.run_events.specs.declared.turn.Turn.TheVariants.{StartFailed, WaitFailed, Piece, ReadError, Env};
+
+use crate::{ChildExit, Key, Signal};
+use run_capture::{Blob, Duplicate, Mem, Stream, Text};
+use run_commands::EnvInput;
 use std::alloc::Global;
 
-/// A turn: one thing that happened. A unit is a test, by its place in the plan.
-#[derive(Debug, Drop, PartialEq, Eq)]
+/// A turn: one thing that happened. A unit is a setup script or a test, by its number.
+#[derive(Drop)]
 pub enum Turn {
-    /// The run begins.
+    /// The run, or a further sub-run of a stress run, begins.
     Begin,
-    /// The next test is admitted.
+    /// The next script or test is admitted.
     Admit,
     /// The oldest message of a unit is delivered.
     Deliver,
     /// A unit's child started, with this process id.
-    Started { unit: u32, pid: u32 },
+    Started {
+        unit: u32,
+        pid: u32,
+    },
     /// A unit's child could not be started.
-    StartFailed { unit: u32, error: Text },
+    StartFailed {
+        unit: u32,
+        error: Text,
+    },
     /// A unit's child ended.
-    Exit { unit: u32, exit: ChildExit },
+    Exit {
+        unit: u32,
+        exit: ChildExit,
+    },
     /// The wait for a unit's child failed.
-    WaitFailed { unit: u32, error: Text },
+    WaitFailed {
+        unit: u32,
+        error: Text,
+    },
+    /// A unit's child wrote to a captured stream.
+    Piece {
+        unit: u32,
+        stream: Stream,
+        bytes: Blob,
+    },
+    /// A captured stream of a unit's child ended.
+    StreamEnd {
+        unit: u32,
+        stream: Stream,
+    },
+    /// Reading a captured stream of a unit's child failed.
+    ReadError {
+        unit: u32,
+        stream: Stream,
+        error: Text,
+    },
+    /// A script's environment file was read, or could not be.
+    Env {
+        unit: u32,
+        input: EnvInput,
+    },
     /// A unit decides what comes after its attempt, with a random word.
-    Decide { unit: u32, word: u32 },
-    /// The run ends.
+    Decide {
+        unit: u32,
+        word: u32,
+    },
+    /// The timer of a unit's phase is due.
+    UnitDue {
+        unit: u32,
+    },
+    /// The global timer is due.
+    GlobalDue,
+    /// The wait for stopped units is over.
+    StopWaitDue,
+    /// An information round is over.
+    InfoDue,
+    /// The oldest answer of an information round is told.
+    Answer,
+    /// A unit takes the oldest request of its line.
+    Take {
+        unit: u32,
+    },
+    /// The clock moves by so many nanoseconds.
+    Clock {
+        ns: u64,
+    },
+    /// A signal came.
+    Signal {
+        signal: Signal,
+    },
+    /// A key was pressed or let go.
+    Key {
+        key: Key,
+    },
+    /// A display wants to draw anew.
+    Tick,
+    /// The run is cancelled since the reporter refused an event.
+    ReportCancel,
+    /// The run, or a sub-run, ends.
     End,
+}
+
+fn copy_piece(alloc: Global, unit: u32, stream: Stream, bytes: &Blob) -> Mem<Turn>
+    ensures { IfOk result (λ t. t ≡ Piece unit stream bytes.now) }
+{
+    let bytes = bytes.copy(alloc)?;
+    Ok(Turn::Piece {
+        unit,
+        stream,
+        bytes,
+    })
+}
+
+fn copy_read_error(alloc: Global, unit: u32, stream: Stream, error: &Text) -> Mem<Turn>
+    ensures { IfOk result (λ t. t ≡ ReadError unit stream error.now) }
+{
+    let error = error.copy(alloc)?;
+    Ok(Turn::ReadError {
+        unit,
+        stream,
+        error,
+    })
+}
+
+fn copy_env(alloc: Global, unit: u32, input: &EnvInput) -> Mem<Turn>
+    ensures { IfOk result (λ t. t ≡ Env unit input.now) }
+{
+    let input = input.copy(alloc)?;
+    Ok(Turn::Env { unit, input })
+}
+
+fn copy_start_failed(alloc: Global, unit: u32, error: &Text) -> Mem<Turn>
+    ensures { IfOk result (λ t. t ≡ StartFailed unit error.now) }
+{
+    let error = error.copy(alloc)?;
+    Ok(Turn::StartFailed { unit, error })
+}
+
+fn copy_wait_failed(alloc: Global, unit: u32, error: &Text) -> Mem<Turn>
+    ensures { IfOk result (λ t. t ≡ WaitFailed unit error.now) }
+{
+    let error = error.copy(alloc)?;
+    Ok(Turn::WaitFailed { unit, error })
 }
 
 impl Duplicate for Turn {
     fn copy(&self, alloc: Global) -> Mem<Turn> {
-        Ok(match self {
-            Turn::Begin => Turn::Begin,
-            Turn::Admit => Turn::Admit,
-            Turn::Deliver => Turn::Deliver,
-            Turn::Started { unit, pid } => Turn::Started {
+        match self {
+            Turn::Begin => Ok(Turn::Begin),
+            Turn::Admit => Ok(Turn::Admit),
+            Turn::Deliver => Ok(Turn::Deliver),
+            Turn::Started { unit, pid } => Ok(Turn::Started {
                 unit: *unit,
                 pid: *pid,
-            },
-            Turn::StartFailed { unit, error } => Turn::StartFailed {
-                unit: *unit,
-                error: error.copy(alloc)?,
-            },
-            Turn::Exit { unit, exit } => Turn::Exit {
+            }),
+            Turn::StartFailed { unit, error } => copy_start_failed(alloc, *unit, error),
+            Turn::Exit { unit, exit } => Ok(Turn::Exit {
                 unit: *unit,
                 exit: *exit,
-            },
-            Turn::WaitFailed { unit, error } => Turn::WaitFailed {
+            }),
+            Turn::WaitFailed { unit, error } => copy_wait_failed(alloc, *unit, error),
+            Turn::Piece {
+                unit,
+                stream,
+                bytes,
+            } => copy_piece(alloc, *unit, *stream, bytes),
+            Turn::StreamEnd { unit, stream } => Ok(Turn::StreamEnd {
                 unit: *unit,
-                error: error.copy(alloc)?,
-            },
-            Turn::Decide { unit, word } => Turn::Decide {
+                stream: *stream,
+            }),
+            Turn::ReadError {
+                unit,
+                stream,
+                error,
+            } => copy_read_error(alloc, *unit, *stream, error),
+            Turn::Env { unit, input } => copy_env(alloc, *unit, input),
+            Turn::Decide { unit, word } => Ok(Turn::Decide {
                 unit: *unit,
                 word: *word,
-            },
-            Turn::End => Turn::End,
-        })
+            }),
+            Turn::UnitDue { unit } => Ok(Turn::UnitDue { unit: *unit }),
+            Turn::GlobalDue => Ok(Turn::GlobalDue),
+            Turn::StopWaitDue => Ok(Turn::StopWaitDue),
+            Turn::InfoDue => Ok(Turn::InfoDue),
+            Turn::Answer => Ok(Turn::Answer),
+            Turn::Take { unit } => Ok(Turn::Take { unit: *unit }),
+            Turn::Clock { ns } => Ok(Turn::Clock { ns: *ns }),
+            Turn::Signal { signal } => Ok(Turn::Signal { signal: *signal }),
+            Turn::Key { key } => Ok(Turn::Key { key: *key }),
+            Turn::Tick => Ok(Turn::Tick),
+            Turn::ReportCancel => Ok(Turn::ReportCancel),
+            Turn::End => Ok(Turn::End),
+        }
     }
 }

@@ -1,7 +1,7 @@
 -- The fields of an object, each read or refused.
 use Rattle.std.specs.Prelude.{ℕ, ◌^◌, ℤ, pos, negsuc, Bool, true, false, ◌&&◌, ◌||◌, List, [], ◌∷◌, Option, Some, None, option_map, option_and_then, unwrap_or, if◌then◌else◌, nat_eq, nat_lt, int_le}
 use Rattle.serde_json.specs.Data.{Data, Items, no_items, item, Members, no_members, member}
-use Rattle.serde_json.specs.Find.{as_str, as_number, as_u64, as_i64, as_array, as_object}
+use Rattle.serde_json.specs.Find.{as_str, as_bool, as_number, as_u64, as_i64, as_array, as_object}
 use lib.Pointwise.{pointwise}
 
 infixl 10 ◌>>=◌
@@ -35,6 +35,14 @@ optional f (Some d) = option_map Some (f d)
 -- a number of 32 bits, without a sign
 abbrev pub u32_of : Data → Option ℕ
 u32_of d = option_and_then (λ n. if nat_lt n (2 ^ 32) then Some n else None) (option_and_then as_u64 (as_number d))
+
+-- a number of 64 bits, without a sign
+abbrev pub u64_of : Data → Option ℕ
+u64_of d = option_and_then as_u64 (as_number d)
+
+-- a truth value
+abbrev pub truth_of : Data → Option Bool
+truth_of d = as_bool d
 
 -- a number of 32 bits, with a sign
 abbrev pub i32_of : Data → Option ℤ

@@ -8,6 +8,8 @@ use Rattle.run_capture.specs.declared.test_output.CaptureStrategy.{CaptureStrate
 use Rattle.run_capture.specs.declared.test_output.CaptureStrategy.TheVariants as capture
 use Rattle.run_events.specs.declared.plan.Plan.{Plan}
 use Rattle.run_events.specs.declared.plan.PlanTest.{PlanTest}
+use Rattle.run_events.specs.declared.plan.TestInstanceId.{TestInstanceId}
+use Rattle.run_events.specs.Usual.{usual_test, usual_plan}
 use Rattle.run_input.specs.Fields.{◌>>=◌, when, is_object_of, optional, texts_of}
 use lib.Pointwise.{pointwise}
 
@@ -25,15 +27,21 @@ uuid_of text = if (length text == 45) && not (starts_with nat_eq text (codes "ur
 abbrev pub run_id_of : Data → Option (List ℕ)
 run_id_of d = option_and_then uuid_of (as_str d)
 
+-- the name of a test
+abbrev pub id_of : Data → Option TestInstanceId
+id_of d = do
+  binary ← option_and_then as_str (get (codes "binary") d)
+  name ← option_and_then as_str (get (codes "name") d)
+  Some (record { binary = binary; name = name })
+
 -- a test, with its name and its command, and the reason for which it is skipped where it doesn't match
 unfoldable pub test_of : Data → Option PlanTest
 test_of d = do
   _ ← when (is_object_of (codes "binary" ∷ codes "command" ∷ codes "name" ∷ codes "skip" ∷ []) d)
-  binary ← option_and_then as_str (get (codes "binary") d)
-  name ← option_and_then as_str (get (codes "name") d)
+  id ← id_of d
   command ← option_and_then texts_of (get (codes "command") d)
   skip ← optional as_str (get (codes "skip") d)
-  Some (record { id = record { binary = binary; name = name }; command = command; skip = skip })
+  Some (usual_test id command skip)
 
 -- the tests of items, each of which is one
 abbrev pub tests_from : Items → Option (List PlanTest)
@@ -55,4 +63,4 @@ plan_of d = do
   run_id ← option_and_then run_id_of (get (codes "run_id") d)
   tests ← option_and_then tests_of (get (codes "tests") d)
   _ ← when (nat_lt (length tests) 4294967296)
-  Some (capture, record { run_id = run_id; tests = tests })
+  Some (capture, usual_plan run_id tests)

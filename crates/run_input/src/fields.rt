@@ -3,7 +3,7 @@
 ghost use Rattle.std.specs.Prelude.{◌≡◌, List, ℕ, option_map, option_and_then};
 ghost use Rattle.serde_json.specs.Find.{as_str};
 ghost use Rattle.serde_json.specs.View.{view, items_view};
-ghost use Rattle.run_input.specs.Fields.{optional, u32_of, i32_of, texts_of, texts_from};
+ghost use Rattle.run_input.specs.Fields.{optional, u32_of, u64_of, truth_of, i32_of, texts_of, texts_from};
 ghost use Rattle.run_input.specs.Reads.{Reads};
 
 use crate::LineError;
@@ -16,6 +16,20 @@ pub fn u32_at(value: Option<&Value>) -> Option<u32>
     ensures { result ≡ option_and_then u32_of (option_map (λ v. view v.now) value.entry) }
 {
     u32::try_from(value?.as_u64()?).ok()
+}
+
+/// A whole number from 0 to 18446744073709551615.
+pub fn u64_at(value: Option<&Value>) -> Option<u64>
+    ensures { result ≡ option_and_then u64_of (option_map (λ v. view v.now) value.entry) }
+{
+    value?.as_u64()
+}
+
+/// A truth value.
+pub fn truth_at(value: Option<&Value>) -> Option<bool>
+    ensures { result ≡ option_and_then truth_of (option_map (λ v. view v.now) value.entry) }
+{
+    value?.as_bool()
 }
 
 /// A whole number from -2147483648 to 2147483647.

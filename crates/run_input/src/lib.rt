@@ -12,7 +12,9 @@ mod lines;
 mod objects;
 mod plan_line;
 mod reading;
+mod turn_fields;
 mod turn_line;
+mod turn_name;
 mod value;
 
 pub use errors::{InputError, LineError};
@@ -24,6 +26,3 @@ pub use turn_line::read_turn_line;
 
 // Names that callers know from here.
 pub use run_capture::{ReadError as ReadAllError, StdSink, StdSource};
-
-#[cfg(test)]
-mod tests;

@@ -5,7 +5,7 @@ ghost use Rattle.serde_json.specs.View.{view, items_view};
 ghost use Rattle.run_input.specs.Reads.{Reads};
 ghost use Rattle.run_input.specs.ValueOf.{value_of};
 ghost use Rattle.uuid.specs.Text.{parsed};
-ghost use Rattle.run_input.specs.PlanLine.{uuid_of, capture_of, run_id_of, test_of, tests_of, tests_from, plan_of};
+ghost use Rattle.run_input.specs.PlanLine.{uuid_of, capture_of, run_id_of, id_of, test_of, tests_of, tests_from, plan_of};
 
 use crate::LineError;
 use crate::fields::{optional_text_at, str_at, text_at, texts_at};
@@ -47,7 +47,8 @@ fn plan_from(alloc: Global, value: &Value) -> Result<(CaptureStrategy, Plan), Li
     if tests.len() > MOST_TESTS {
         return Err(LineError::NotInTable);
     }
-    Ok((capture, Plan { run_id, tests }))
+    let plan = Plan::usual(alloc, run_id, tests)?;
+    Ok((capture, plan))
 }
 
 // The way of capture that a text names.
@@ -94,15 +95,19 @@ fn test_from(alloc: Global, value: &Value) -> Result<PlanTest, LineError>
     if !has_keys_of(value, &["binary", "command", "name", "skip"]) {
         return Err(LineError::NotInTable);
     }
-    let binary = text_at(alloc, value.get("binary"))?;
-    let name = text_at(alloc, value.get("name"))?;
+    let id = id_from(alloc, value)?;
     let command = texts_at(alloc, value.get("command"))?;
     let skip = optional_text_at(alloc, value.get("skip"))?;
-    Ok(PlanTest {
-        id: TestInstanceId { binary, name },
-        command,
-        skip,
-    })
+    Ok(PlanTest::usual(id, command, skip))
+}
+
+// The name of a test.
+fn id_from(alloc: Global, value: &Value) -> Result<TestInstanceId, LineError>
+    ensures { Reads result (id_of (view value.now)) }
+{
+    let binary = text_at(alloc, value.get("binary"))?;
+    let name = text_at(alloc, value.get("name"))?;
+    Ok(TestInstanceId { binary, name })
 }
 
 fn tests_in(alloc: Global, items: &[Value]) -> Result<List<PlanTest>, LineError>

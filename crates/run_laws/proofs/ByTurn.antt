@@ -1,15 +1,21 @@
 -- A turn is one of the run's own, or a unit's.
 use Rattle.std.proofs.Common.{◌≡◌, ℕ, Bool, true, false, Option, Some, None, refl}
+use Rattle.run_events.specs.declared.settings.Settings.{Settings}
 use Rattle.run_events.specs.declared.turn.Turn.{Turn}
 use Rattle.run_events.specs.declared.turn.Turn.TheVariants.{Begin, Admit, Deliver, Started, StartFailed, Exit, WaitFailed, Decide, End}
 use Rattle.run_model.specs.declared.unit_turn.UnitTurn.{UnitTurn}
 use Rattle.run_model.specs.declared.unit_turn.UnitTurn.TheVariants.{Answered}
-use Rattle.run_model.specs.Turns.{turn_of_unit}
+use Rattle.run_model.specs.Board.{Board}
+use Rattle.run_model.specs.Turns.{turn_of_unit, run_takes}
 
 -- whether a turn is the answer to a start message
 abbrev pub is_answer : UnitTurn → Bool
 is_answer (Answered go) = true
 is_answer _ = false
+
+-- a turn that is never enabled: it isn't built yet
+abbrev pub IsUnbuilt : Turn → Type 0
+IsUnbuilt turn = (p : Settings) (b : Board) → run_takes p b turn ≡ false
 
 -- what holds of each of the run's own turns, and of any turn of a unit, holds of every turn
 pub record Cases (P : Turn → Option (ℕ × UnitTurn) → Type 0) : Type 0 where
@@ -18,6 +24,7 @@ pub record Cases (P : Turn → Option (ℕ × UnitTurn) → Type 0) : Type 0 whe
   pub deliver : P Deliver None
   pub end : P End None
   pub named : (turn : Turn) (k : ℕ) (to : UnitTurn) → is_answer to ≡ false → P turn (Some (k, to))
+  pub unbuilt : (turn : Turn) → IsUnbuilt turn → P turn None
 
 pub by_turn : (P : Turn → Option (ℕ × UnitTurn) → Type 0) → Cases P → (turn : Turn) → P turn (turn_of_unit turn)
 by_turn P c Begin = c.begin
@@ -29,3 +36,4 @@ by_turn P c (Exit unit exit) = c.named _ _ _ refl
 by_turn P c (WaitFailed unit error) = c.named _ _ _ refl
 by_turn P c (Decide unit word) = c.named _ _ _ refl
 by_turn P c End = c.end
+by_turn P c turn = c.unbuilt turn (λ p b. refl)

@@ -1,307 +1,291 @@
--- Each enabled turn keeps what holds of a history.
-use Rattle.std.proofs.Common.{◌≡◌, ◌⊎◌, inl, inr, ℕ, ◌+◌, ◌-◌, ◌<◌, ◌≤◌, ◌==◌, List, [], ◌∷◌, ◌++◌, length, drop, get_or, Bool, true, false, if◌then◌else◌, Option, Some, None, option_to_list, option_map, option_and_then, is_none, is_some, not, position, slice_get, refl, ap, sym, subst, ◌∙◌, arith, length-append, filter_map, nat_lt, map}
-use Rattle.std.specs.List.{range_with_len}
-use Rattle.std.specs.Cmp.{second_so}
-use Rattle.std.proofs.lemmas.List.Elements.{filter_map-append}
-use Rattle.std.proofs.lemmas.List.{append-nil, get_or_past}
-use Rattle.std.proofs.lemmas.List.FromFn.{get_or-map-range_with_len, length-map-range_with_len}
-use Rattle.std.proofs.lemmas.List.Quantifiers.{position-Some}
-use Rattle.std.proofs.lemmas.Option.{slice_get_within}
+-- Each enabled turn keeps what holds of the newest sub-run.
+use Rattle.std.proofs.Common.{◌≡◌, ◌≢◌, ℕ, ◌+◌, ◌<◌, ◌≤◌, ◌==◌, ◌&&◌, ◌||◌, List, [], ◌∷◌, ◌++◌, length, drop, Bool, true, false, not, if◌then◌else◌, Option, Some, None, option_to_list, option_map, filter_map, count_by, cond, is_some, nat_lt, refl, ap, sym, subst, ◌∙◌, arith, length-append}
+use Rattle.std.specs.List.{All}
+use Rattle.std.proofs.lemmas.List.Elements.{filter_map-append, All-nil, All-cons, All-append}
+use Rattle.std.proofs.lemmas.List.Sums.{sum_by-append}
 use Rattle.std.proofs.lemmas.Grind.{common_steps}
-use Rattle.run_events.specs.Stats.{plus, adds_of}
+use Rattle.run_events.specs.Cancel.{greater}
 use Rattle.run_events.specs.declared.settings.Settings.{Settings}
-use Rattle.run_events.specs.declared.plan.PlanTest.{PlanTest}
-use Rattle.run_events.specs.declared.plan.TestInstanceId.{TestInstanceId}
-use Rattle.run_events.specs.declared.plan.TestSlotAssignment.{TestSlotAssignment}
-use Rattle.run_events.specs.declared.stats.RunStats.{RunStats}
-use Rattle.run_events.specs.declared.events.TestEventKind.{TestEventKind}
-use Rattle.run_events.specs.declared.events.TestEventKind.TheVariants.{TestStarted}
-use Rattle.run_events.specs.declared.turn.Turn.{Turn}
-use Rattle.run_events.specs.declared.turn.Turn.TheVariants.{Begin, Admit, Deliver, Started, StartFailed, Exit, WaitFailed, Decide, End}
 use Rattle.run_events.specs.declared.message.Message.{Message}
-use Rattle.run_events.specs.declared.message.Message.TheVariants.{Start, Skip, Finish}
+use Rattle.run_events.specs.declared.cancel.CancelReason.{CancelReason}
+use Rattle.run_events.specs.declared.events.ReporterEvent.{ReporterEvent}
+use Rattle.run_events.specs.declared.events.ReporterEvent.TheVariants.{Tick, Test}
+use Rattle.run_events.specs.declared.events.TestEventKind.{TestEventKind}
+use Rattle.run_events.specs.declared.events.TestEventKind.TheVariants.{TestFinished, TestSkipped}
+use Rattle.run_events.specs.declared.result.ExecuteStatus.{ExecuteStatus}
 use Rattle.run_model.specs.declared.entry.Entry.{Entry}
 use Rattle.run_model.specs.declared.happening.Happening.{Happening}
 use Rattle.run_model.specs.declared.happening.Place.{Place}
 use Rattle.run_model.specs.declared.happening.Place.TheVariants.{Admitted, Took}
+use Rattle.run_model.specs.declared.phase.Phase.{Phase}
 use Rattle.run_model.specs.declared.unit_turn.UnitTurn.{UnitTurn}
-use Rattle.run_model.specs.declared.unit_turn.UnitTurn.TheVariants.{Answered, Started as UnitStarted, StartFailed as UnitStartFailed, Exit as UnitExit, WaitFailed as UnitWaitFailed, Decide as UnitDecide}
+use Rattle.run_model.specs.declared.unit_turn.UnitTurn.TheVariants.{Answered}
 use Rattle.run_model.specs.declared.unit_view.UnitView.{UnitView}
-use Rattle.run_model.specs.declared.phase.Phase.TheVariants.{StartSent}
-use Rattle.run_model.specs.Unit.{row, takes}
-use Rattle.run_model.specs.Words.{clock, ns_of, elapsed, has_begun, is_over, reason, running, stats, stats_after, finished, finished_test, skipped, sent, delivered, queue, told, unit_of, units, placed, tests_in}
-use Rattle.run_model.specs.Admission.{candidate, in_use, free_slot, first_view, skipped_view, Newcomer, newcomer_of, newcomer_at, newcomer}
-use Rattle.run_model.specs.Dispatch.{is_on, lets_go, event}
-use Rattle.run_model.specs.Board.{board, dispatcher_of, unit_in, said}
-use Rattle.run_model.specs.Turns.{enabled, is_empty, takes_turn, turn_of_unit, unit_takes, nothing_done, taken_by, admission, delivery, done_by, happening}
+use Rattle.run_model.specs.Unit.{row, row_at}
+use Rattle.run_model.specs.Words.{events_in, clock, ns_of, is_on, is_over, sub_run, reason, sent, delivered, queue, told, finish_of, finished, skips, skipped, unit_of, placed}
+use Rattle.run_model.specs.Admission.{units_in, unit_of_test}
+use Rattle.run_model.specs.Dispatch.{event}
+use Rattle.run_model.specs.Board.{Deed, said}
+use Rattle.run_model.specs.Turns.{enabled, deed_on, happening}
 use Rattle.run_model.specs.Journal.{history, IsLegalBackward}
-use Rattle.run_model.specs.Accounts.{News, news_in, HasAccount, IsAccounted, is_skip, is_mismatched, account_of, pending_of}
-use Rattle.run_laws.specs.Holds.{Holds, IsNamed}
-use Rattle.run_laws.proofs.Queue.{queue-cons, lt-from_queue}
-use Rattle.run_laws.proofs.ByTurn.{is_answer, by_turn}
-use Rattle.run_laws.proofs.AccountLemmas.{of_row, start_row, of_finish, of_skip, begins_skipped, begins_started, row_keeps_unit, row_starts}
+use Rattle.run_model.specs.Accounts.{News, HasAccount, HasAccountAt, IsAccounted, IsAccountedAs, is_mismatched, account_of, pending_of}
+use Rattle.run_model.specs.Attempts.{OwnTurn, own_turn, story_of, pieces}
+use Rattle.run_model.specs.Fates.{lets_go, deliveries, never_started, was_left}
+use Rattle.run_laws.specs.Laws.{IsMadeByItsTurns}
+use Rattle.run_laws.proofs.Holds.{Holds, IsBuilt, IsNamed, IsAttempted, IsAttemptedIn, place_of}
+use Rattle.run_laws.proofs.AttemptLemmas.{IsMade, IsMadeIf, made_statuses, row_made_if}
+use Rattle.run_laws.proofs.Queue.{queue-cons}
+use Rattle.run_laws.proofs.AccountLemmas.{IsFirst, IsBuiltIf, row_keeps_unit, row_starts}
+use Rattle.run_laws.proofs.OnBoard.{board_of}
+use Rattle.run_laws.proofs.Newcomers.{place-of_test}
+use Rattle.run_laws.proofs.Deeds.{PlaceFits, Does, does}
 
 -- the account of a test after one more turn, from the parts of that turn
-pub accounted-cons : (p : Settings) (k : ℕ) (x : Happening) (past : List Happening) → delivered (x ∷ past) ≤ length (sent past)
-    → HasAccount (is_mismatched p k) (placed (clock past) k x.place (unit_of k past)) (account_of k (told past) ++ account_of k (option_to_list x.told))
-    (pending_of k (drop (if x.taken then 1 else 0) (queue past) ++ option_to_list x.sent))
-    → IsAccounted p k (x ∷ past)
-accounted-cons p k x past fits h = rw (filter_map-append, queue-cons x past fits) h
+accounted-cons : (p : Settings) (j k : ℕ) (x : Happening) (run : List Happening)
+    → delivered (x ∷ run) ≤ length (sent run)
+    → HasAccount (is_mismatched p j) (placed x.moment k x.place (unit_of k run))
+    (account_of k (told run) ++ account_of k (events_in x))
+    (pending_of k (drop (if x.taken then 1 else 0) (queue run) ++ option_to_list x.sent))
+    → IsAccountedAs p j k (x ∷ run)
+accounted-cons p j k x run fits h = rw (filter_map-append, queue-cons x run fits) h
 
--- the units of a plan, one by one
-pub units-at : (p : Settings) (past : List Happening) (k : ℕ) → k < tests_in p → get_or (units p past) k None ≡ unit_of k past
-units-at p past k h = get_or-map-range_with_len (λ k. unit_of k past) 0 (tests_in p) k k None h (omega arith)
-
--- the unit on the board is that of the history
-pub unit_in-is : (p : Settings) (past : List Happening) (k : ℕ) → Holds p past → unit_in (board p past) k ≡ unit_of k past
-unit_in-is p past k h = by_place (nat_lt k (tests_in p)) refl
+-- a turn tells one skip or one finish at most
+counted_one : (o : Option ReporterEvent)
+    → count_by skips (option_to_list o ++ []) + length (filter_map finish_of (option_to_list o ++ [])) ≤ 1
+counted_one None = omega arith
+counted_one (Some Tick) = omega arith
+counted_one (Some (Test e)) = by_kind e.kind
   where
-    whole : length (units p past) ≡ tests_in p
-    whole = length-map-range_with_len (λ k. unit_of k past) 0 (tests_in p)
+    by_kind : (kind : TestEventKind)
+        → count_by skips (event 0 kind ∷ []) + length (filter_map finish_of (event 0 kind ∷ [])) ≤ 1
+    by_kind (TestSkipped skip) = omega arith
+    by_kind (TestFinished finish) = omega arith
+    by_kind kind = omega arith
 
-    never : (v : Option UnitView) → unit_of k past ≡ v → tests_in p ≤ k → None ≡ v
-    never None e le = refl
-    never (Some u) e le = absurd (let named = h.named k u e in let below : k < tests_in p = named.1 in omega arith)
+counted-cons : (x : Happening) (run : List Happening) → x.cancel ≡ None
+    → skipped run + length (finished run) ≤ length run
+    → skipped (x ∷ run) + length (finished (x ∷ run)) ≤ length (x ∷ run)
+counted-cons x run none short =
+    let one = counted_one x.told in
+    let now : count_by skips (events_in x) + length (filter_map finish_of (events_in x)) ≤ 1 =
+    subst (λ c. count_by skips (option_to_list x.told ++ option_to_list c) + length
+    (filter_map finish_of (option_to_list x.told ++ option_to_list c)) ≤ 1)
+    (sym none) (counted_one x.told) in
+    let skip : skipped (x ∷ run) ≡ skipped run + count_by skips (events_in x) =
+    sum_by-append (λ e. cond (skips e) 1 0) (told run) (events_in x) in
+    let finish : length (finished (x ∷ run)) ≡ length (finished run) + length (filter_map finish_of (events_in x)) =
+    ap length (filter_map-append finish_of (told run) (events_in x))
+    ∙ length-append (finished run) (filter_map finish_of (events_in x)) in
+    omega arith
 
-    by_place : (b : Bool) → nat_lt k (tests_in p) ≡ b → get_or (units p past) k None ≡ unit_of k past
-    by_place true e = units-at p past k (grind arith)
-    by_place false e =
-        let le : tests_in p ≤ k = grind arith in
-        get_or_past (units p past) k None (omega (arith, whole)) ∙ never (unit_of k past) refl le
+-- what is sent is built
+built_if : (o : Option Message) → IsBuiltIf o → All IsBuilt (option_to_list o)
+built_if None h = All-nil IsBuilt
+built_if (Some m) h = All-cons IsBuilt m [] h (All-nil IsBuilt)
 
 -- a place keeps the name of each unit
-pub placed_named : (now later n k : ℕ) (place : Option Place) (v : Option UnitView) → now ≤ later → IsNamed n now k v
-    → ((u : UnitView) → place ≡ Some (Admitted u) → (u.unit < n) × (u.start ≤ now))
-    → IsNamed n later k (placed now k place v)
-placed_named now later n k None v le h known u e = let at = h u e in (at.0, at.1, omega arith)
-placed_named now later n k (Some (Admitted first)) v le h known u e = at_once (first.unit == k) refl
+placed_named : (p : Settings) (run : List Happening) (now later k : ℕ) (place : Option Place) (v : Option UnitView)
+    → now ≤ later
+    → IsNamed (units_in p) now k v → PlaceFits p run place → IsNamed (units_in p) later k (placed now k place v)
+placed_named p run now later k None v le h fits u e = let at = h u e in (at.0, at.1, omega arith)
+placed_named p run now later k (Some (Admitted first)) v le h (sent, new) u e = at_once (first.test.unit == k) refl e
   where
-    at_once : (b : Bool) → (first.unit == k) ≡ b → (u.unit ≡ k) × (k < n) × (u.start ≤ later)
-    at_once true be =
-        let same : first ≡ u = cc (sym (ap (λ b. if b then Some first else v) be) ∙ e) in
-        let below : (first.unit < n) × (first.start ≤ now) = known first refl in
-        subst (λ (w : UnitView). (w.unit ≡ k) × (k < n) × (w.start ≤ later)) same (grind arith)
-    at_once false be = let at = h u (sym (ap (λ b. if b then Some first else v) be) ∙ e) in (at.0, at.1, omega arith)
-placed_named now later n k (Some (Took j turn)) v le h known u e = by_unit (j == k) refl
+    at_once : (b : Bool) → (first.test.unit == k) ≡ b → (if b then Some first else v) ≡ Some u
+        → (u.test.unit ≡ k) × (k < units_in p) × (u.start ≤ later)
+    at_once true be e =
+        let same : first ≡ u = cc in
+        let below = new.below in
+        let start = new.start in
+        subst (λ (w : UnitView). (w.test.unit ≡ k) × (k < units_in p) × (w.start ≤ later)) same (grind arith)
+    at_once false be e = let at = h u e in (at.0, at.1, omega arith)
+placed_named p run now later k (Some (Took j turn)) v le h fits u e = by_unit (j == k) e
   where
-    by_view : (v : Option UnitView) → IsNamed n now k v → option_map (λ w. (row now turn w).next) v ≡ Some u
-        → (u.unit ≡ k) × (k < n) × (u.start ≤ later)
+    by_view : (v : Option UnitView) → IsNamed (units_in p) now k v → option_map (λ w. (row now turn w).next) v ≡ Some u
+        → (u.test.unit ≡ k) × (k < units_in p) × (u.start ≤ later)
     by_view None h e = cc
     by_view (Some w) h e =
         let same : (row now turn w).next ≡ u = cc in
-        let named : (w.unit ≡ k) × (k < n) × (w.start ≤ now) = h w refl in
+        let named : (w.test.unit ≡ k) × (k < units_in p) × (w.start ≤ now) = h w refl in
         let early : (row now turn w).next.start ≤ now = row_starts now w.phase turn w named.2 in
-        subst (λ (v : UnitView). (v.unit ≡ k) × (k < n) × (v.start ≤ later)) same
-        (row_keeps_unit now w.phase turn w ∙ named.0, named.1, omega arith)
+        subst (λ (v : UnitView). (v.test.unit ≡ k) × (k < units_in p) × (v.start ≤ later)) same
+        (ap (λ t. t.unit) (row_keeps_unit now w.phase turn w) ∙ named.0, named.1, omega arith)
 
-    by_unit : (b : Bool) → (j == k) ≡ b → (u.unit ≡ k) × (k < n) × (u.start ≤ later)
-    by_unit true be = by_view v h (sym (ap (λ b. if b then option_map (λ w. (row now turn w).next) v else v) be) ∙ e)
-    by_unit false be =
-        let at = h u (sym (ap (λ b. if b then option_map (λ w. (row now turn w).next) v else v) be) ∙ e) in (at.0, at.1, omega arith)
+    by_unit : (b : Bool) → (if b then option_map (λ w. (row now turn w).next) v else v) ≡ Some u
+        → (u.test.unit ≡ k) × (k < units_in p) × (u.start ≤ later)
+    by_unit true e = by_view v h e
+    by_unit false e = let at = h u e in (at.0, at.1, omega arith)
 
--- who is admitted: the candidate of the plan, as a unit that is over where it is skipped, and that waits else
-pub record Newcomes (p : Settings) (us : List (Option UnitView)) (new : Newcomer) : Type 0 where
-  pub place : ℕ
-  pub test : PlanTest
-  pub candidate : candidate us ≡ Some place
-  pub planned : slice_get p.plan.tests place ≡ Some test
-  pub kind : ((reason : List ℕ) × (test.skip ≡ Some reason) × (new ≡ record { unit = skipped_view p place test; sent = Skip place test.id reason }))
-      ⊎ ((test.skip ≡ None) × (nat_lt (in_use us) p.threads ≡ true)
-      × (new ≡ record { unit = first_view p place (free_slot us) test; sent = Start place test.id test.command (record { global = free_slot us }) }))
+-- a row of a unit that has its account keeps that it has made an attempt where it is over, unless it is a refused start
+row_attempted : (mm : Bool) (now : ℕ) (ph : Phase) (turn : UnitTurn) (u : UnitView) (ss : List ExecuteStatus)
+    (t q : List News)
+    → u.statuses ≡ ss → u.phase ≡ ph → turn ≢ Answered false → HasAccountAt mm ph ss t q → IsAttemptedIn mm ph ss
+    → IsAttemptedIn mm (row_at now ph turn u).next.phase (row_at now ph turn u).next.statuses
+row_attempted mm now ph turn u ss t q e f go h a = grind (arith, common_steps)
 
-newcomer_cases : (p : Settings) (slot : ℕ) (fits : Bool) (k : ℕ) (test : PlanTest) (skip : Option (List ℕ)) (new : Newcomer)
-    → newcomer_of p slot fits k test skip ≡ Some new
-    → ((reason : List ℕ) × (skip ≡ Some reason) × (new ≡ record { unit = skipped_view p k test; sent = Skip k test.id reason }))
-    ⊎ ((skip ≡ None) × (fits ≡ true)
-    × (new ≡ record { unit = first_view p k slot test; sent = Start k test.id test.command (record { global = slot }) }))
-newcomer_cases p slot fits k test (Some reason) new e = inl (reason, refl, cc)
-newcomer_cases p slot true k test None new e = inr (refl, refl, cc)
-newcomer_cases p slot false k test None new e = cc
+first_attempted : (mm : Bool) (u : UnitView) (sent : Message) → IsFirst mm u sent → IsAttempted mm (Some u)
+first_attempted true u sent first = tt
+first_attempted false u sent (ph, is) = rw ph tt
 
-pub newcomer_is : (p : Settings) (us : List (Option UnitView)) (new : Newcomer) → newcomer p us ≡ Some new → Newcomes p us new
-newcomer_is p us new e = by_candidate (candidate us) refl
+placed_attempted : (p : Settings) (run : List Happening) (now k : ℕ) (place : Option Place) (v : Option UnitView)
+    (t q : List News)
+    → IsAttempted (is_mismatched p (place_of p k)) v → HasAccount (is_mismatched p (place_of p k)) v t q
+    → PlaceFits p run place
+    → IsAttempted (is_mismatched p (place_of p k)) (placed now k place v)
+placed_attempted p run now k None v t q a h fits = a
+placed_attempted p run now k (Some (Admitted first)) v t q a h (sent, new) = begins (first.test.unit == k) refl
   where
-    by_test : (k : ℕ) → candidate us ≡ Some k → (o : Option PlanTest) → slice_get p.plan.tests k ≡ o
-        → newcomer_at p us k o ≡ Some new → Newcomes p us new
-    by_test k ck None ek e = cc
-    by_test k ck (Some test) ek e = record {
-      place = k;
-      test = test;
-      candidate = ck;
-      planned = ek;
-      kind = newcomer_cases p (free_slot us) (nat_lt (in_use us) p.threads) k test test.skip new e;
-    }
-
-    by_candidate : (o : Option ℕ) → candidate us ≡ o → Newcomes p us new
-    by_candidate None ek =
-        let chosen : option_and_then (λ k. newcomer_at p us k (slice_get p.plan.tests k)) None ≡ Some new =
-        sym (ap (option_and_then (λ k. newcomer_at p us k (slice_get p.plan.tests k))) ek) ∙ e in
-        cc
-    by_candidate (Some k) ek =
-        by_test k ek (slice_get p.plan.tests k) refl
-        (sym (ap (option_and_then (λ k. newcomer_at p us k (slice_get p.plan.tests k))) ek) ∙ e)
-
--- it is known by its place, and has not begun
-pub newcomer_unit : (p : Settings) (us : List (Option UnitView)) (new : Newcomer) (n : Newcomes p us new)
-    → (new.unit.unit ≡ n.place) × (new.unit.start ≡ 0) × (new.unit.statuses ≡ [])
-newcomer_unit p us new n = by_case n.kind
+    begins : (b : Bool) → (first.test.unit == k) ≡ b
+        → IsAttempted (is_mismatched p (place_of p k)) (if b then Some first else v)
+    begins true e =
+        let here : first.test.unit ≡ k = grind arith in
+        subst (λ k. IsAttempted (is_mismatched p (place_of p k)) (Some first)) here
+        (first_attempted _ first sent new.first)
+    begins false e = a
+placed_attempted p run now k (Some (Took j turn)) v t q a h taken = moves (j == k) v a h
   where
-    by_case : ((reason : List ℕ) × (n.test.skip ≡ Some reason) × (new ≡ record { unit = skipped_view p n.place n.test; sent = Skip n.place n.test.id reason }))
-        ⊎ ((n.test.skip ≡ None) × (nat_lt (in_use us) p.threads ≡ true)
-        × (new ≡ record { unit = first_view p n.place (free_slot us) n.test; sent = Start n.place n.test.id n.test.command (record { global = free_slot us }) }))
-        → (new.unit.unit ≡ n.place) × (new.unit.start ≡ 0) × (new.unit.statuses ≡ [])
-    by_case (inl skip) =
-        let unit : new.unit ≡ skipped_view p n.place n.test = ap (λ (new : Newcomer). new.unit) skip.2 in
-        (ap (λ (u : UnitView). u.unit) unit, ap (λ (u : UnitView). u.start) unit, ap (λ (u : UnitView). u.statuses) unit)
-    by_case (inr run) =
-        let unit : new.unit ≡ first_view p n.place (free_slot us) n.test = ap (λ (new : Newcomer). new.unit) run.2 in
-        (ap (λ (u : UnitView). u.unit) unit, ap (λ (u : UnitView). u.start) unit, ap (λ (u : UnitView). u.statuses) unit)
+    moves : (b : Bool) (v : Option UnitView) → IsAttempted (is_mismatched p (place_of p k)) v
+        → HasAccount (is_mismatched p (place_of p k)) v t q
+        → IsAttempted (is_mismatched p (place_of p k)) (if b then option_map (λ w. (row now turn w).next) v else v)
+    moves true None a h = tt
+    moves true (Some u) a h = row_attempted _ now u.phase turn u u.statuses t q refl refl taken.goes h a
+    moves false v a h = a
 
--- a candidate is a test that wasn't admitted
-pub candidate_waits : (us : List (Option UnitView)) (k : ℕ) → candidate us ≡ Some k → (k < length us) × (get_or us k None ≡ None)
-candidate_waits us k e = let at = position-Some is_none us k None e in (at.0, is_none_None _ at.1)
+-- a unit that begins is at its first attempt, of which there is none yet
+first_made : (mm : Bool) (u : UnitView) (sent : Message) → IsFirst mm u sent → u.attempt ≡ 1 → u.start ≡ 0
+    → u.statuses ≡ [] → IsMade u []
+first_made true u sent (ph, is) a s ss = record { attempt = a; start = s; has = rw ph ss }
+first_made false u sent (ph, is) a s ss = record { attempt = a; start = s; has = rw ph ss }
+
+-- a place leaves each unit as its own turns make it
+placed_made : (p : Settings) (run : List Happening) (now k : ℕ) (place : Option Place)
+    → IsMadeIf (unit_of k run) (story_of k run) → PlaceFits p run place
+    → IsMadeIf (placed now k place (unit_of k run)) (option_to_list (own_turn k now place) ++ story_of k run)
+placed_made p run now k None h fits = h
+placed_made p run now k (Some (Admitted first)) h (sent, new) = begins (first.test.unit == k) refl
   where
-    is_none_None : (v : Option UnitView) → is_none v ≡ true → v ≡ None
-    is_none_None None e = refl
-    is_none_None (Some u) e = cc
+    begins : (b : Bool) → (first.test.unit == k) ≡ b
+        → IsMadeIf (if b then Some first else unit_of k run) (story_of k run)
+    begins true e =
+        let here : k ≡ first.test.unit = grind arith in
+        let none : unit_of k run ≡ None = ap (λ k. unit_of k run) here ∙ new.unknown in
+        rw (rw none at h) (first_made _ first sent new.first new.attempt new.start new.statuses)
+    begins false e = h
+placed_made p run now k (Some (Took j turn)) h taken = by_unit (j == k) refl
+  where
+    by_unit : (b : Bool) → (j == k) ≡ b
+        → IsMadeIf (if b then option_map (λ w. (row now turn w).next) (unit_of k run) else unit_of k run)
+        (option_to_list (if b then Some (record { moment = now; turn = turn }) else None) ++ story_of k run)
+    by_unit true e =
+        let here : k ≡ j = grind arith in
+        row_made_if now turn taken.unit (unit_of k run) (story_of k run) (ap (λ k. unit_of k run) here ∙ taken.is)
+        taken.takes h
+    by_unit false e = h
 
--- what holds after one more turn, from the parts of that turn
-pub holds-cons : (p : Settings) (past : List Happening) (x : Happening) → Holds p past
-    → delivered (x ∷ past) ≤ length (sent past)
-    → ((u : UnitView) → x.place ≡ Some (Admitted u) → (u.unit < tests_in p) × (u.start ≤ clock past))
-    → ((k : ℕ) → HasAccount (is_mismatched p k) (placed (clock past) k x.place (unit_of k past)) (account_of k (told past) ++ account_of k (option_to_list x.told))
-    (pending_of k (drop (if x.taken then 1 else 0) (queue past) ++ option_to_list x.sent)))
-    → Holds p (x ∷ past)
-holds-cons p past x h fits known accounts = record {
-  fits = omega (arith, length-append (sent past) (option_to_list x.sent));
-  named = λ k. placed_named (clock past) (clock past + ns_of x.turn) (tests_in p) k x.place (unit_of k past) (omega arith) (h.named k) known;
-  accounts = λ k. accounted-cons p k x past fits (accounts k);
+-- what is no cause leaves the reason
+pub greater-None : (r : Option CancelReason) → greater r None ≡ r
+greater-None None = refl
+greater-None (Some r) = refl
+
+-- where no cause stands no start is refused
+stays_let_go : (a b c d : Bool) → c ≡ false → d ≡ false → (a && b && c || d) ≡ false
+stays_let_go true true c d ec ed = rw (ec, ed) refl
+stays_let_go true false c d ec ed = ed
+stays_let_go false b c d ec ed = ed
+
+-- once it is on, a sub-run is on or the run is over
+stays_on : (begins on ends over_now over : Bool) → over_now ≡ ends → (begins || on) ≡ true
+    → (not ends && (begins || on)) ≡ false → (over_now || over) ≡ false → ⊥
+stays_on begins on true true over e is off going = cc
+stays_on begins on true false over e is off going = cc
+stays_on begins on false over_now over e is off going = let never : true ≡ false = sym is ∙ off in cc
+
+-- what holds after one more deed that fits
+pub holds-cons : (p : Settings) (over : Bool) (now : ℕ) (run : List Happening) (e : Entry) (d : Deed)
+    → Holds p over now run → Does p over now run d
+    → Holds p (d.over || over) (now + ns_of e.turn) (said now e d ∷ run)
+holds-cons p over now run e d h does = record {
+  fits = let room = does.room in omega (arith, length-append (sent run) (option_to_list d.sent));
+  counted = counted-cons (said now e d) run does.marks.cancel h.counted;
+  named = λ k. placed_named p run now (now + ns_of e.turn) k d.place (unit_of k run) (omega arith) (h.named k)
+      does.place;
+  accounts = λ k. accounted-cons p (place_of p k) k (said now e d) run does.room (does.accounts k);
+  made = λ k. placed_made p run now k d.place (h.made k) does.place;
+  fresh = λ off going. absurd (stays_on d.begins (is_on run) d.ends d.over over does.marks.finishes does.marks.on off
+      going);
+  built = All-append IsBuilt (sent run) (option_to_list d.sent) h.built (built_if d.sent does.sends);
+  calm = ap (greater (reason run)) does.marks.cause ∙ greater-None (reason run) ∙ h.calm;
+  let_go = λ k. let none : is_some (reason run) ≡ false = ap is_some h.calm in (
+    stays_let_go (lets_go k d.place) (deliveries k run == 0) (is_some (reason run)) (never_started k run) none
+        (h.let_go k).0,
+    stays_let_go (lets_go k d.place) (nat_lt 0 (deliveries k run)) (is_some (reason run)) (was_left k run) none
+        (h.let_go k).1,
+  );
+  attempted = λ k. placed_attempted p run now k d.place (unit_of k run) _ _ (h.attempted k) (h.accounts k) does.place;
 }
 
--- a unit's own turn keeps what holds
-pub kept-unit : (p : Settings) (past : List Happening) (e : Entry) (j : ℕ) (turn : UnitTurn) (v : Option UnitView) → Holds p past
-    → unit_of j past ≡ v → unit_takes v turn ≡ true → is_answer turn ≡ false
-    → Holds p (said e (taken_by (clock past) j turn v) ∷ past)
-kept-unit p past e j turn None h ev en other = cc
-kept-unit p past e j turn (Some u) h ev en other =
-    let same : (k : ℕ) → (j == k) ≡ true → unit_of k past ≡ Some u =
-    λ k jk. let jk' : k ≡ j = grind arith in ap (λ k. unit_of k past) jk' ∙ ev in
-    holds-cons p past (said e (taken_by (clock past) j turn (Some u))) h (omega (arith, h.fits)) (λ w ew. cc)
-    (λ k. rw append-nil (of_row (is_mismatched p k) (clock past) j k turn u (unit_of k past) (account_of k (told past)) (queue past)
-    en other (h.named j u ev).0 (same k) (h.accounts k)))
-
--- an admission keeps what holds
-pub kept-admit : (p : Settings) (past : List Happening) (e : Entry) → Holds p past
-    → is_some (newcomer p (units p past)) ≡ true
-    → Holds p (said e (admission (newcomer p (units p past))) ∷ past)
-kept-admit p past e h en = by_newcomer (newcomer p (units p past)) refl
+-- the newest sub-run after a turn that begins one only where nothing has happened
+pub sub_run-cons : (x : Happening) (past : List Happening) → (x.begins ≡ true → sub_run past ≡ [])
+    → sub_run (x ∷ past) ≡ x ∷ sub_run past
+sub_run-cons x past fresh = by_begin x.begins refl
   where
-    by_newcomer : (o : Option Newcomer) → newcomer p (units p past) ≡ o → Holds p (said e (admission o) ∷ past)
-    by_newcomer None eo = let never : is_some {T = Newcomer} None ≡ true = rw eo at en in cc
-    by_newcomer (Some new) eo =
-        let found = newcomer_is p (units p past) new eo in
-        let known = newcomer_unit p (units p past) new found in
-        let waits = candidate_waits (units p past) found.place found.candidate in
-        let below : found.place < tests_in p = slice_get_within p.plan.tests found.place found.test found.planned in
-        let at : new.unit.unit ≡ found.place = known.0 in
-        let starts : new.unit.start ≡ 0 = known.1 in
-        let fresh : (k : ℕ) → (new.unit.unit == k) ≡ true → unit_of k past ≡ None =
-        λ k uk. let here : k ≡ found.place = grind arith in
-        ap (λ k. unit_of k past) here ∙ sym (units-at p past found.place below) ∙ waits.1 in
-        let planned : (k : ℕ) → (new.unit.unit == k) ≡ true → is_mismatched p k ≡ is_some found.test.skip =
-        λ k uk. let here : k ≡ found.place = grind arith in
-        ap (is_mismatched p) here ∙ ap is_skip found.planned in
-        holds-cons p past (said e (admission (Some new))) h (omega (arith, h.fits)) (λ w ew. let same : w ≡ new.unit = cc in grind arith)
-        (λ k. by_case k new found.place found.test (units p past) at (fresh k) (planned k) found.kind)
-      where
-        by_case : (k : ℕ) (new : Newcomer) (place : ℕ) (test : PlanTest) (us : List (Option UnitView)) → new.unit.unit ≡ place
-            → ((new.unit.unit == k) ≡ true → unit_of k past ≡ None)
-            → ((new.unit.unit == k) ≡ true → is_mismatched p k ≡ is_some test.skip)
-            → ((reason : List ℕ) × (test.skip ≡ Some reason) × (new ≡ record { unit = skipped_view p place test; sent = Skip place test.id reason }))
-            ⊎ ((test.skip ≡ None) × (nat_lt (in_use us) p.threads ≡ true)
-            × (new ≡ record { unit = first_view p place (free_slot us) test; sent = Start place test.id test.command (record { global = free_slot us }) }))
-            → HasAccount (is_mismatched p k) (if new.unit.unit == k then Some new.unit else unit_of k past) (account_of k (told past) ++ [])
-            (pending_of k (queue past ++ new.sent ∷ []))
-        by_case k new place test us at fresh planned (inl skip) =
-            let unit : new.unit ≡ skipped_view p place test = ap (λ (new : Newcomer). new.unit) skip.2 in
-            let sent : new.sent ≡ Skip new.unit.unit test.id skip.0 =
-            ap (λ (new : Newcomer). new.sent) skip.2 ∙ ap (λ k. Skip k test.id skip.0) (sym at) in
-            rw sent (begins_skipped (is_mismatched p k) k new.unit (unit_of k past) (account_of k (told past)) (queue past) test.id skip.0
-            (ap (λ (u : UnitView). u.phase) unit) (ap (λ (u : UnitView). u.statuses) unit)
-            (λ uk. planned uk ∙ ap is_some skip.1) fresh (h.accounts k))
-        by_case k new place test us at fresh planned (inr run) =
-            let unit : new.unit ≡ first_view p place (free_slot us) test = ap (λ (new : Newcomer). new.unit) run.2 in
-            let sent : new.sent ≡ Start new.unit.unit test.id test.command (record { global = free_slot us }) =
-            ap (λ (new : Newcomer). new.sent) run.2 ∙ ap (λ k. Start k test.id test.command (record { global = free_slot us })) (sym at) in
-            rw sent (begins_started (is_mismatched p k) k new.unit (unit_of k past) (account_of k (told past)) (queue past) test.id test.command (record { global = free_slot us })
-            (ap (λ (u : UnitView). u.phase) unit) (ap (λ (u : UnitView). u.statuses) unit)
-            (λ uk. planned uk ∙ ap is_some run.0) fresh (h.accounts k))
+    by_begin : (b : Bool) → x.begins ≡ b → x ∷ (if b then [] else sub_run past) ≡ x ∷ sub_run past
+    by_begin true is = ap (λ run. x ∷ run) (sym (fresh is))
+    by_begin false is = refl
 
--- a turn that only tells what is no news keeps what holds
-pub kept-told : (p : Settings) (past : List Happening) (e : Entry) (kind : TestEventKind) (begins ends : Bool) → Holds p past
-    → ((k : ℕ) → news_in k kind ≡ None)
-    → Holds p (said e (record nothing_done { told = Some (event (clock past) kind); begins = begins; ends = ends }) ∷ past)
-kept-told p past e kind begins ends h no_news =
-    holds-cons p past _ h (omega (arith, h.fits)) (λ w ew. cc) (λ k. rw (no_news k) (simp append-nil (h.accounts k)))
+-- what holds after a history, and what an enabled turn does to it
+abbrev pub HoldsAfter : Settings → List Happening → Type 0
+HoldsAfter p past = Holds p (is_over past) (clock past) (sub_run past)
 
--- a delivery keeps what holds
-pub kept-deliver : (p : Settings) (past : List Happening) (e : Entry) → Holds p past → not (is_empty (queue past)) ≡ true
-    → Holds p (said e (delivery (board p past) (queue past)) ∷ past)
-kept-deliver p past e h en = by_queue (queue past) refl
-  where
-    same : (i k : ℕ) (w : Option UnitView) → unit_of i past ≡ w → (i == k) ≡ true → unit_of k past ≡ w
-    same i k w ew ik = let here : k ≡ i = grind arith in ap (λ k. unit_of k past) here ∙ ew
+pub does_after : (p : Settings) (past : List Happening) (e : Entry) → HoldsAfter p past → enabled p past e.turn ≡ true
+    → Does p (is_over past) (clock past) (sub_run past)
+    (deed_on p (board_of p (is_over past) (clock past) (sub_run past)) e.turn)
+does_after p past e h en = does p (is_over past) (clock past) (sub_run past) e.turn h en
 
-    start : (i : ℕ) (id : TestInstanceId) (command : List (List ℕ)) (slot : TestSlotAssignment) (rest : List Message)
-        → queue past ≡ Start i id command slot ∷ rest → (running : ℕ) (stats : RunStats) (go : Bool) (w : Option UnitView) → unit_of i past ≡ w
-        → Holds p (said e (record (taken_by (clock past) i (Answered go) w) {
-          taken = true;
-          told = if go then Some (event (clock past) (TestStarted i id command slot running stats)) else None;
-        }) ∷ past)
-    start i id command slot rest eq running stats go None ew =
-        holds-cons p past _ h (lt-from_queue (delivered past) (sent past) rest _ eq) (λ v ev. cc)
-        (λ k. rw eq (start_row (is_mismatched p k) (clock past) i k go (unit_of k past) None (account_of k (told past)) rest
-        (clock past) (elapsed past) id command slot running stats (same i k None ew) (rw eq at (h.accounts k))))
-    start i id command slot rest eq running stats go (Some u) ew =
-        holds-cons p past _ h (lt-from_queue (delivered past) (sent past) rest _ eq) (λ v ev. cc)
-        (λ k. rw eq (start_row (is_mismatched p k) (clock past) i k go (unit_of k past) (Some u) (account_of k (told past)) rest
-        (clock past) (elapsed past) id command slot running stats (same i k (Some u) ew) (rw eq at (h.accounts k))))
+pub sub_run-after : (p : Settings) (past : List Happening) (e : Entry) → HoldsAfter p past
+    → enabled p past e.turn ≡ true
+    → sub_run (happening p past e ∷ past) ≡ happening p past e ∷ sub_run past
+sub_run-after p past e h en = sub_run-cons (happening p past e) past (does_after p past e h en).marks.begins
 
-    by_queue : (q : List Message) → queue past ≡ q → Holds p (said e (delivery (board p past) q) ∷ past)
-    by_queue [] eq = let never : not (is_empty []) ≡ true = rw eq at en in cc
-    by_queue (Start i id command slot ∷ rest) eq =
-        start i id command slot rest eq (running p past + 1) (stats p past) (lets_go (dispatcher_of p past)) (unit_in (board p past) i)
-        (sym (unit_in-is p past i h))
-    by_queue (Skip i id why ∷ rest) eq =
-        holds-cons p past _ h (lt-from_queue (delivered past) (sent past) rest _ eq) (λ u eu. cc)
-        (λ k. rw (eq, append-nil) (of_skip (is_mismatched p k) i k (unit_of k past) (account_of k (told past)) rest (clock past) (elapsed past) id why
-        (rw eq at (h.accounts k))))
-    by_queue (Finish i id statuses ∷ rest) eq =
-        holds-cons p past _ h (lt-from_queue (delivered past) (sent past) rest _ eq) (λ u eu. cc)
-        (λ k. rw (eq, append-nil) (of_finish (is_mismatched p k) i k (unit_of k past) (account_of k (told past)) rest (clock past) (elapsed past) id statuses
-        (running p past - 1) (plus (stats p past) (adds_of (finished_test statuses))) (rw eq at (h.accounts k))))
-
--- each enabled turn keeps what holds
-pub kept : (p : Settings) (past : List Happening) (e : Entry) → Holds p past → enabled p past e.turn ≡ true
-    → Holds p (happening p past e ∷ past)
-kept p past e h en = by_turn (λ turn named. takes_turn p (board p past) turn named ≡ true → Holds p (said e (done_by p (board p past) turn named) ∷ past))
-    (record {
-      begin = λ en. kept-told p past e _ true false h (λ k. refl);
-      admit = λ en. kept-admit p past e h (second_so on (is_some (newcomer p (units p past))) en);
-      deliver = λ en. kept-deliver p past e h (second_so on (not (is_empty (queue past))) en);
-      named = λ turn k to other en. kept-unit p past e k to _ h (sym (unit_in-is p past k h)) en other;
-      end = λ en. kept-told p past e _ false true h (λ k. refl);
-    })
-    e.turn (second_so (not (is_over past)) (takes_turn p (board p past) e.turn (turn_of_unit e.turn)) en)
-  where
-    on : Bool
-    on = is_on (dispatcher_of p past)
+pub kept : (p : Settings) (past : List Happening) (e : Entry) → HoldsAfter p past → enabled p past e.turn ≡ true
+    → HoldsAfter p (happening p past e ∷ past)
+kept p past e h en =
+    subst (Holds p (is_over (happening p past e ∷ past)) (clock (happening p past e ∷ past)))
+    (sym (sub_run-after p past e h en))
+    (holds-cons p (is_over past) (clock past) (sub_run past) e _ h (does_after p past e h en))
 
 -- what holds of the empty history
-pub holds-nil : (p : Settings) → Holds p []
-holds-nil p = record { fits = omega arith; named = λ k u e. cc; accounts = λ k. (refl, refl) }
+holds-nil : (p : Settings) → Holds p false 0 []
+holds-nil p = record {
+  fits = omega arith;
+  counted = omega arith;
+  named = λ k u e. cc;
+  accounts = λ k. (refl, refl);
+  made = λ k. refl;
+  fresh = λ off going. refl;
+  built = All-nil IsBuilt;
+  calm = refl;
+  let_go = λ k. (refl, refl);
+  attempted = λ k. tt;
+}
 
 -- what holds after every legal journal
-pub holds : (p : Settings) (journal : List Entry) → IsLegalBackward p journal → Holds p (history p journal)
+pub holds : (p : Settings) (backward : List Entry) → IsLegalBackward p backward → HoldsAfter p (history p backward)
 holds p [] legal = holds-nil p
 holds p (e ∷ before) legal = kept p (history p before) e (holds p before legal.2) legal.0
+
+-- so each test has its account
+pub accounts : (p : Settings) (backward : List Entry) → IsLegalBackward p backward → (j : ℕ)
+    → IsAccounted p j (sub_run (history p backward))
+accounts p backward legal j =
+    subst (λ i. IsAccountedAs p i (unit_of_test p j) (sub_run (history p backward))) (place-of_test p j)
+    ((holds p backward legal).accounts (unit_of_test p j))
+
+-- and its attempts are its own turns
+pub made : (p : Settings) (backward : List Entry) → IsLegalBackward p backward → (j : ℕ) (u : UnitView)
+    → unit_of (unit_of_test p j) (sub_run (history p backward)) ≡ Some u
+    → IsMadeByItsTurns p (sub_run (history p backward)) j u
+made p backward legal j u is =
+    let k : ℕ = unit_of_test p j in
+    let ps : List (List OwnTurn) = pieces (story_of k (sub_run (history p backward))) in
+    let it : IsMade u ps = rw is at ((holds p backward legal).made k) in
+    record { statuses = made_statuses u ps it; attempt = it.attempt; start = it.start }

@@ -1,11 +1,12 @@
 -- The message queue after one more turn.
-use Rattle.std.proofs.Common.{◌≡◌, ℕ, ◌+◌, ◌-◌, ◌≤◌, List, [], ◌∷◌, ◌++◌, length, drop, Bool, true, false, if◌then◌else◌, Option, option_to_list, refl, ap, sym, ◌∙◌, arith, length-append, length-drop}
+use Rattle.std.proofs.Common.{◌≡◌, ℕ, ◌+◌, ◌≤◌, List, ◌∷◌, ◌++◌, length, drop, if◌then◌else◌, option_to_list, ap, sym, ◌∙◌, arith, length-drop}
 use Rattle.std.proofs.lemmas.List.{drop-drop, drop-append-le}
 use Rattle.run_model.specs.declared.happening.Happening.{Happening}
 use Rattle.run_model.specs.Words.{sent, delivered, queue}
 
 -- dropping from a longer list what a list has enough of
-pub drop-sent : {X : Type 0} (n m : ℕ) (xs ys : List X) → n + m ≤ length xs → drop (n + m) (xs ++ ys) ≡ drop m (drop n xs) ++ ys
+pub drop-sent : {X : Type 0} (n m : ℕ) (xs ys : List X) → n + m ≤ length xs
+    → drop (n + m) (xs ++ ys) ≡ drop m (drop n xs) ++ ys
 drop-sent n m xs ys h = drop-append-le (n + m) xs ys h ∙ ap (λ zs. zs ++ ys) (sym (drop-drop m n xs))
 
 -- the queue loses what was taken and gains what was sent

@@ -1,19 +1,16 @@
 -- How many tests run, after one more event.
-use Rattle.std.proofs.Common.{◌≡◌, ◌≢◌, ℕ, zero, suc, ◌+◌, ◌-◌, ◌<◌, ◌≤◌, ◌==◌, List, [], ◌∷◌, ◌++◌, length, Bool, true, false, not, ◌&&◌, ◌||◌, cond, Option, Some, None, option_to_list, filter_map, count_by, refl, ap, sym, subst, ◌∙◌, arith}
+use Rattle.std.proofs.Common.{◌≡◌, ◌≢◌, ℕ, zero, suc, ◌+◌, ◌<◌, ◌≤◌, ◌==◌, List, [], ◌∷◌, ◌++◌, Bool, true, false, cond, count_by, refl, ap, sym, ◌∙◌, arith}
 use Rattle.std.specs.List.{range_with_len, list_any}
 use Rattle.std.proofs.lemmas.List.Sums.{sum_by-cons}
 use Rattle.std.proofs.lemmas.List.Folds.{list_any-append}
 use Rattle.std.proofs.lemmas.Grind.{common_steps}
-use Rattle.run_events.specs.declared.result.ExecuteStatus.{ExecuteStatus}
 use Rattle.run_events.specs.declared.events.ReporterEvent.{ReporterEvent}
-use Rattle.run_events.specs.declared.events.ReporterEvent.TheVariants.{Test}
-use Rattle.run_events.specs.declared.events.TestEventKind.{TestEventKind}
-use Rattle.run_events.specs.declared.events.TestEventKind.TheVariants.{RunStarted, TestStarted, TestAttemptFailedWillRetry, TestRetryStarted, TestFinished, TestSkipped, RunFinished}
 use Rattle.run_model.specs.Words.{starts, finishes, is_running}
-use Rattle.run_model.specs.Accounts.{News, started, finished, news_of, account_of}
+use Rattle.run_model.specs.Accounts.{News, started, finished, account_of}
 
 -- the first of a range, and the rest
-count-cons : (f : ℕ → Bool) (a n : ℕ) → count_by f (range_with_len a (suc n)) ≡ cond (f a) 1 0 + count_by f (range_with_len (a + 1) n)
+count-cons : (f : ℕ → Bool) (a n : ℕ)
+    → count_by f (range_with_len a (suc n)) ≡ cond (f a) 1 0 + count_by f (range_with_len (a + 1) n)
 count-cons f a n = sum_by-cons (λ x. cond (f x) 1 0) a (range_with_len (a + 1) n)
 
 -- two tests that agree on a range count alike
@@ -34,7 +31,8 @@ count-more f g zero a i low high was is same = absurd (omega arith)
 count-more f g (suc n) a i low high was is same =
     by_place (a == i) refl (λ apart. count-more f g n (a + 1) i (omega arith) (omega arith) was is same)
   where
-    by_place : (b : Bool) → (a == i) ≡ b → (a ≢ i → count_by g (range_with_len (a + 1) n) ≡ count_by f (range_with_len (a + 1) n) + 1)
+    by_place : (b : Bool) → (a == i) ≡ b
+        → (a ≢ i → count_by g (range_with_len (a + 1) n) ≡ count_by f (range_with_len (a + 1) n) + 1)
         → count_by g (range_with_len a (suc n)) ≡ count_by f (range_with_len a (suc n)) + 1
     by_place true e later =
         let here : a ≡ i = grind arith in
@@ -53,7 +51,8 @@ count-more f g (suc n) a i low high was is same =
         later apart in
         let left : count_by g (range_with_len a (suc n)) ≡ cond (f a) 1 0 + count_by g (range_with_len (a + 1) n) =
         count-cons g a n ∙ ap (λ b. cond b 1 0 + count_by g (range_with_len (a + 1) n)) (same a apart) in
-        let right : count_by f (range_with_len a (suc n)) ≡ cond (f a) 1 0 + count_by f (range_with_len (a + 1) n) = count-cons f a n in
+        let right : count_by f (range_with_len a (suc n)) ≡ cond (f a) 1 0 + count_by f (range_with_len (a + 1) n) =
+        count-cons f a n in
         omega arith
 
 -- whether news tell a start, or a finish
@@ -80,7 +79,8 @@ finishes-one : (k : ℕ) (e : ReporterEvent) (es : List ReporterEvent)
     → list_any (finishes k) (e ∷ es) ≡ list_any is_finish (account_of k (e ∷ es))
 finishes-one k e es h = grind (arith, common_steps)
 
-pub finishes-account : (k : ℕ) (es : List ReporterEvent) → list_any (finishes k) es ≡ list_any is_finish (account_of k es)
+pub finishes-account : (k : ℕ) (es : List ReporterEvent)
+    → list_any (finishes k) es ≡ list_any is_finish (account_of k es)
 finishes-account k [] = refl
 finishes-account k (e ∷ es) = finishes-one k e es (finishes-account k es)
 
@@ -149,4 +149,5 @@ running-finished n i es e below one f s =
 pub running-kept : (n : ℕ) (es : List ReporterEvent) (e : ReporterEvent)
     → ((k : ℕ) → starts k e ≡ false) → ((k : ℕ) → finishes k e ≡ false)
     → running_in_told n (es ++ e ∷ []) ≡ running_in_told n es
-running-kept n es e s f = count-same (is_running es) (is_running (es ++ e ∷ [])) n 0 (λ k h. running-other k es e (s k) (f k))
+running-kept n es e s f = count-same (is_running es) (is_running (es ++ e ∷ [])) n 0
+    (λ k h. running-other k es e (s k) (f k))

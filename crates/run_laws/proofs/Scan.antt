@@ -1,5 +1,5 @@
 -- Scans from 0 for the first number that passes a test.
-use Rattle.std.proofs.Common.{◌≡◌, ℕ, ◌<◌, ◌≤◌, List, Bool, true, false, not, Option, Some, None, length, get_or, nat_lt, cond, position, ap, ◌∙◌, sym, refl, zero-add, arith}
+use Rattle.std.proofs.Common.{◌≡◌, ℕ, ◌<◌, ◌≤◌, List, Bool, true, false, not, Option, Some, None, length, get_or, nat_lt, cond, position, ap, ◌∙◌, sym, zero-add, arith}
 use Rattle.std.specs.List.{list_any, range_with_len, position_or_len}
 use Rattle.std.proofs.lemmas.List.FromFn.{get_or-range_with_len, length-range_with_len}
 use Rattle.std.proofs.lemmas.List.Sums.{position_or_len_is}
@@ -31,7 +31,8 @@ not_below n = grind arith
 -- none of them passes
 pub found_none : (p : ℕ → Bool) (n : ℕ) → ((k : ℕ) → k < n → p k ≡ false) → position p (range_with_len 0 n) ≡ None
 found_none p n below =
-    let at : position_or_len p (range_with_len 0 n) ≡ n = first_is p n n (omega arith) below (λ h. absurd (omega arith)) in
+    let at : position_or_len p (range_with_len 0 n) ≡ n =
+    first_is p n n (omega arith) below (λ h. absurd (omega arith)) in
     let lt : nat_lt n (length (range_with_len 0 n)) ≡ false = ap (nat_lt n) (length-range_with_len 0 n) ∙ not_below n in
     ap (λ m. cond (nat_lt m (length (range_with_len 0 n))) (Some m) None) at ∙ ap (λ b. cond b (Some n) None) lt
 
@@ -41,4 +42,5 @@ pub free_slot_is : (us : List (Option UnitView)) (i : ℕ) → i ≤ length us
     → (i < length us → list_any (holds_slot i) us ≡ false)
     → i ≡ free_slot us
 free_slot_is us i within below here =
-    sym (first_is (λ n. not (list_any (holds_slot n) us)) (length us) i within (λ k h. ap not (below k h)) (λ h. ap not (here h)))
+    sym (first_is (λ n. not (list_any (holds_slot n) us)) (length us) i within (λ k h. ap not (below k h))
+    (λ h. ap not (here h)))

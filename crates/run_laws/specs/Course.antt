@@ -1,5 +1,7 @@
--- The course of a list of turns: it stops at one that isn't enabled, it leaves the run unfinished, or it ends the run.
-use Rattle.std.specs.Prelude.{ℕ, ◌≡◌, List, map, take, slice_get, false, Option, Some}
+-- The course of a list of turns with a reporter: it stops at one that isn't enabled, it leaves the run unfinished, or
+-- it ends the run.
+use Rattle.std.specs.Prelude.{ℕ, ◌≡◌, ◌<◌, List, [], ◌∷◌, ◌++◌, map, take, length, slice_get, slice_index_or, Bool, true, false, not, Some}
+use Rattle.std.specs.List.{list_all}
 use Rattle.run_events.specs.declared.settings.Settings.{Settings}
 use Rattle.run_events.specs.declared.turn.Turn.{Turn}
 use Rattle.run_events.specs.declared.outcome.RunOutcome.{RunOutcome}
@@ -8,29 +10,67 @@ use Rattle.run_model.specs.Words.{is_over}
 use Rattle.run_model.specs.Turns.{enabled}
 use Rattle.run_model.specs.Journal.{past_of, IsLegal, outcome}
 
--- the turns before this place are those of a legal journal, after which the turn there isn't enabled
-abbrev pub Stops : Settings → List Turn → ℕ → Type 0
-Stops p turns place =
-    (journal : List Entry) × IsLegal p journal × (map (λ e. e.turn) journal ≡ take place turns)
+-- the turns of a journal
+abbrev pub turns_of : List Entry → List Turn
+turns_of journal = map (λ e. e.turn) journal
+
+-- of each event told in it, in order, whether the reporter refused it
+abbrev pub refusals : List Entry → List Bool
+refusals [] = []
+refusals (e ∷ later) = e.refused ++ refusals later
+
+-- no event was refused
+abbrev pub none_refused : List Entry → Bool
+none_refused journal = list_all not (refusals journal)
+
+-- a reporter: of the nth event that it is told in a run, counted from 0, whether it refuses it. One that refuses none,
+-- and one that answers as in this journal
+abbrev pub refuses_none : ℕ → Bool
+refuses_none n = false
+
+abbrev pub refuses_as_in : List Entry → ℕ → Bool
+refuses_as_in journal n = slice_index_or (refusals journal) n false
+
+-- the answers in a journal are those of this reporter
+abbrev pub AreAnswersOf : (ℕ → Bool) → List Entry → Type 0
+AreAnswersOf refuses journal = (n : ℕ) → n < length (refusals journal)
+    → slice_index_or (refusals journal) n false ≡ refuses n
+
+-- a legal journal of these turns with this reporter
+pub record IsJournalOf (p : Settings) (turns : List Turn) (refuses : ℕ → Bool) (journal : List Entry) : Type 0 where
+  pub legal : IsLegal p journal
+  pub takes : turns_of journal ≡ turns
+  pub answers : AreAnswersOf refuses journal
+
+-- with this reporter the turns before this place are those of a legal journal, after which the turn there isn't enabled
+abbrev pub Stops : Settings → List Turn → (ℕ → Bool) → ℕ → Type 0
+Stops p turns refuses place =
+    (journal : List Entry) × IsJournalOf p (take place turns) refuses journal
     × ((turn : Turn) × (slice_get turns place ≡ Some turn) × (enabled p (past_of p journal) turn ≡ false))
 
--- all turns are those of a legal journal, after which the run isn't over
-abbrev pub GoesOn : Settings → List Turn → Type 0
-GoesOn p turns =
-    (journal : List Entry) × IsLegal p journal × (map (λ e. e.turn) journal ≡ turns) × (is_over (past_of p journal) ≡ false)
+-- with this reporter all turns are those of a legal journal, after which the run isn't over
+abbrev pub GoesOn : Settings → List Turn → (ℕ → Bool) → Type 0
+GoesOn p turns refuses = (journal : List Entry) × IsJournalOf p turns refuses journal
+    × (is_over (past_of p journal) ≡ false)
 
--- all turns are those of a legal journal, after which the run is over with this outcome
-abbrev pub Ends : Settings → List Turn → RunOutcome → Type 0
-Ends p turns o =
-    (journal : List Entry) × IsLegal p journal × (map (λ e. e.turn) journal ≡ turns) × (outcome p (past_of p journal) ≡ Some o)
+-- with this reporter all turns are those of a legal journal, after which the run is over with this outcome
+abbrev pub Ends : Settings → List Turn → (ℕ → Bool) → RunOutcome → Type 0
+Ends p turns refuses o = (journal : List Entry) × IsJournalOf p turns refuses journal
+    × (outcome p (past_of p journal) ≡ Some o)
 
--- a list of turns has one course at most
-pub record HasOneCourse (p : Settings) (turns : List Turn) : Type 0 where
-  pub one_stop : (a b : ℕ) → Stops p turns a → Stops p turns b → a ≡ b
-  pub stop_or_unfinished : (a : ℕ) → Stops p turns a → GoesOn p turns → ⊥
-  pub stop_or_end : (a : ℕ) (o : RunOutcome) → Stops p turns a → Ends p turns o → ⊥
-  pub unfinished_or_end : (o : RunOutcome) → GoesOn p turns → Ends p turns o → ⊥
-  pub one_end : (o u : RunOutcome) → Ends p turns o → Ends p turns u → o ≡ u
+-- a list of turns has one journal at most with a reporter, and one course
+pub record HasOneCourse (p : Settings) (turns : List Turn) (refuses : ℕ → Bool) : Type 0 where
+  pub one_journal : (journal other : List Entry) → IsJournalOf p turns refuses journal
+      → IsJournalOf p turns refuses other → other ≡ journal
+  pub one_stop : (a b : ℕ) → Stops p turns refuses a → Stops p turns refuses b → a ≡ b
+  pub stop_or_unfinished : (a : ℕ) → Stops p turns refuses a → GoesOn p turns refuses → ⊥
+  pub stop_or_end : (a : ℕ) (o : RunOutcome) → Stops p turns refuses a → Ends p turns refuses o → ⊥
+  pub unfinished_or_end : (o : RunOutcome) → GoesOn p turns refuses → Ends p turns refuses o → ⊥
+  pub one_end : (o u : RunOutcome) → Ends p turns refuses o → Ends p turns refuses u → o ≡ u
 
 abbrev pub CoursesExclude : Type 0
-CoursesExclude = (p : Settings) (turns : List Turn) → HasOneCourse p turns
+CoursesExclude = (p : Settings) (turns : List Turn) (refuses : ℕ → Bool) → HasOneCourse p turns refuses
+
+-- where no event was refused the reporter is the one that refuses none
+abbrev pub NoneRefused : Type 0
+NoneRefused = (journal : List Entry) → none_refused journal ≡ true → AreAnswersOf refuses_none journal

@@ -1,23 +1,45 @@
 -- The laws of every legal journal.
-use Rattle.std.specs.Prelude.{ℕ, ◌≡◌, ◌<◌, List, ◌∷◌, ◌++◌, map, true}
+use Rattle.std.specs.Prelude.{ℕ, ◌≡◌, List, ◌∷◌, ◌++◌, true, Some}
+use Rattle.std.specs.List.{All, Contains}
 use Rattle.run_events.specs.declared.settings.Settings.{Settings}
 use Rattle.run_model.specs.declared.entry.Entry.{Entry}
-use Rattle.run_events.specs.declared.turn.Turn.{Turn}
+use Rattle.run_model.specs.declared.happening.Happening.{Happening}
+use Rattle.run_model.specs.declared.unit_view.UnitView.{UnitView}
+use Rattle.run_model.specs.Admission.{unit_of_test}
+use Rattle.run_model.specs.Attempts.{pieces_of, statuses_of, attempt_in, start_in}
 use Rattle.run_model.specs.Board.{board, step}
 use Rattle.run_model.specs.Turns.{enabled, happening, deed_on}
-use Rattle.run_model.specs.Journal.{IsLegal, past_of, outcome}
-use Rattle.run_model.specs.Words.{is_over, tests_in, told, asked}
+use Rattle.run_model.specs.Journal.{IsLegal, past_of}
+use Rattle.run_model.specs.Words.{is_over, sub_run, ended_runs, told, unit_of}
 use Rattle.run_model.specs.Accounts.{IsAccounted}
-use Rattle.run_model.specs.Fates.{HasFate}
+use Rattle.run_model.specs.Fates.{HaveFates}
 
--- after every legal journal each test has its account
+-- after every legal journal each test has its account in the newest sub-run
 abbrev pub AccountsHold : Type 0
-AccountsHold = (p : Settings) (journal : List Entry) → IsLegal p journal → (k : ℕ) → IsAccounted p k (past_of p journal)
+AccountsHold = (p : Settings) (journal : List Entry) → IsLegal p journal → (j : ℕ)
+    → IsAccounted p j (sub_run (past_of p journal))
 
--- in every legal journal whose run is over each test has its fate
+-- a test is at the attempt that its own turns in a sub-run say, and those that have ended are as they say
+pub record IsMadeByItsTurns (p : Settings) (run : List Happening) (j : ℕ) (u : UnitView) : Type 0 where
+  pub statuses : u.statuses ≡ statuses_of p j run
+  pub attempt : u.attempt ≡ attempt_in (pieces_of p j run)
+  pub start : u.start ≡ start_in (pieces_of p j run)
+
+-- after every legal journal that holds of each admitted test in the newest sub-run
+abbrev pub AttemptsAreOwnTurns : Type 0
+AttemptsAreOwnTurns = (p : Settings) (journal : List Entry) → IsLegal p journal → (j : ℕ) (u : UnitView)
+    → unit_of (unit_of_test p j) (sub_run (past_of p journal)) ≡ Some u
+    → IsMadeByItsTurns p (sub_run (past_of p journal)) j u
+
+-- in every legal journal each test of the plan has its fate in each sub-run that has ended
 abbrev pub EachHasFate : Type 0
-EachHasFate = (p : Settings) (journal : List Entry) → IsLegal p journal → is_over (past_of p journal) ≡ true
-    → (k : ℕ) → k < tests_in p → HasFate p (past_of p journal) k
+EachHasFate = (p : Settings) (journal : List Entry) → IsLegal p journal
+    → All (HaveFates p) (ended_runs (past_of p journal))
+
+-- where the run is over its newest sub-run has ended
+abbrev pub OverHasEnded : Type 0
+OverHasEnded = (p : Settings) (journal : List Entry) → IsLegal p journal → is_over (past_of p journal) ≡ true
+    → Contains (ended_runs (past_of p journal)) (sub_run (past_of p journal))
 
 -- a list and what follows it
 abbrev pub Extends : {X : Type 0} → List X → List X → Type 0
@@ -28,21 +50,9 @@ abbrev pub EventsExtend : Type 0
 EventsExtend = (p : Settings) (journal more : List Entry) → IsLegal p (journal ++ more)
     → Extends (told (past_of p journal)) (told (past_of p (journal ++ more)))
 
--- after a legal journal each turn moves the board by its step
+-- after a legal journal each enabled turn moves the board by its step
 abbrev pub BoardsStep : Type 0
 BoardsStep = (p : Settings) (journal : List Entry) (e : Entry) → IsLegal p journal
+    → enabled p (past_of p journal) e.turn ≡ true
     → board p (happening p (past_of p journal) e ∷ past_of p journal)
     ≡ step (board p (past_of p journal)) e.turn (deed_on p (board p (past_of p journal)) e.turn)
-
--- two journals enable, tell and ask the same, and end alike
-pub record SaysAlike (p : Settings) (journal other : List Entry) : Type 0 where
-  pub enabled : (turn : Turn) → enabled p (past_of p other) turn ≡ enabled p (past_of p journal) turn
-  pub told : told (past_of p other) ≡ told (past_of p journal)
-  pub asked : asked (past_of p other) ≡ asked (past_of p journal)
-  pub over : is_over (past_of p other) ≡ is_over (past_of p journal)
-  pub outcome : outcome p (past_of p other) ≡ outcome p (past_of p journal)
-
--- the turns alone decide, whatever the reporter answered
-abbrev pub TurnsDecide : Type 0
-TurnsDecide = (p : Settings) (journal other : List Entry) → map (λ e. e.turn) other ≡ map (λ e. e.turn) journal
-    → SaysAlike p journal other

@@ -1,4 +1,3 @@
-pub mod Holds
 pub mod Laws
 pub mod Course
 pub mod Ready

@@ -9,17 +9,17 @@ use Rattle.run_model.specs.declared.unit_turn.UnitTurn.{UnitTurn}
 use Rattle.run_model.specs.declared.unit_turn.UnitTurn.TheVariants.{Answered}
 use Rattle.run_model.specs.declared.unit_view.UnitView.{UnitView}
 use Rattle.run_model.specs.Unit.{takes}
-use Rattle.run_model.specs.Words.{tests_in}
-use Rattle.run_model.specs.Admission.{newcomer}
-use Rattle.run_model.specs.Dispatch.{is_on, go_of, CanDeliver}
+use Rattle.run_model.specs.Admission.{units_in, newcomer}
+use Rattle.run_model.specs.Dispatch.{go_of, CanDeliver}
 use Rattle.run_model.specs.Board.{Board, board, unit_in}
 use Rattle.run_model.specs.Turns.{starting, enabled, turn_of_unit}
 use Rattle.run_model.specs.Journal.{past_of, IsLegal}
 
--- a unit of the plan can take a turn
+-- the unit of this number is one of the plan and can take a turn
 pub record CanTake (b : Board) (k : ℕ) (turn : UnitTurn) : Type 0 where
   pub unit : UnitView
   pub is : unit_in b k ≡ Some unit
+  pub named : unit.test.unit ≡ k
   pub below : k < length b.units
   pub takes : takes unit.phase turn ≡ true
   pub early : unit.start ≤ b.clock
@@ -32,20 +32,20 @@ CanAnswer b _ _ = ⊤
 -- the oldest message can be delivered
 abbrev pub CanDeliverOldest : Board → List Message → Type 0
 CanDeliverOldest b [] = ⊥
-CanDeliverOldest b (m ∷ rest) = CanDeliver b.dispatcher m × CanAnswer b (starting m) (go_of b.dispatcher m)
+CanDeliverOldest b (m ∷ rest) = CanDeliver b.dispatcher m × CanAnswer b (starting m) (go_of b.dispatcher.tally m)
 
 -- the next test can be admitted
 pub record CanAdmit (p : Settings) (b : Board) : Type 0 where
   pub candidate : is_some (newcomer p b.units) ≡ true
-  pub whole : length b.units ≡ tests_in p
+  pub whole : length b.units ≡ units_in p
 
 -- a turn of the run's own can be taken
 abbrev pub CanRun : Settings → Board → Turn → Type 0
-CanRun p b Begin = b.dispatcher.begun ≡ false
+CanRun p b Begin = b.dispatcher.on ≡ false
 CanRun p b Admit = CanAdmit p b
 CanRun p b Deliver = CanDeliverOldest b b.queue
-CanRun p b End = is_on b.dispatcher ≡ true
-CanRun p b _ = ⊤
+CanRun p b End = b.dispatcher.on ≡ true
+CanRun p b _ = ⊥
 
 -- a turn can be taken
 abbrev pub CanAdvance : Settings → Board → Turn → Option (ℕ × UnitTurn) → Type 0
@@ -54,5 +54,6 @@ CanAdvance p b turn (Some named) = CanTake b named.0 named.1
 
 -- after a legal journal each enabled turn can be taken
 abbrev pub EnabledCan : Type 0
-EnabledCan = (p : Settings) (journal : List Entry) (turn : Turn) → IsLegal p journal → tests_in p < 2 ^ 32 → length journal < 2 ^ 32
+EnabledCan = (p : Settings) (journal : List Entry) (turn : Turn) → IsLegal p journal → units_in p < 2 ^ 32
+    → length journal < 2 ^ 32
     → enabled p (past_of p journal) turn ≡ true → CanAdvance p (board p (past_of p journal)) turn (turn_of_unit turn)

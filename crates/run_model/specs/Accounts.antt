@@ -1,7 +1,7 @@
 -- What is told of one test: its account.
 use Rattle.std.specs.Prelude.{ℕ, ◌≡◌, ◌⊎◌, ◌==◌, List, [], ◌∷◌, Bool, true, false, if◌then◌else◌, Option, Some, None, filter_map, is_some, slice_get}
 use Rattle.run_events.specs.declared.message.Message.{Message}
-use Rattle.run_events.specs.declared.message.Message.TheVariants.{Start, Skip, Finish}
+use Rattle.run_events.specs.declared.message.Message.TheVariants.{Start, Skip, AttemptFailed, Retry, Finish}
 use Rattle.run_events.specs.declared.result.ExecuteStatus.{ExecuteStatus}
 use Rattle.run_events.specs.declared.settings.Settings.{Settings}
 use Rattle.run_events.specs.declared.plan.PlanTest.{PlanTest}
@@ -13,6 +13,7 @@ use Rattle.run_model.specs.declared.happening.Happening.{Happening}
 use Rattle.run_model.specs.declared.phase.Phase.{Phase}
 use Rattle.run_model.specs.declared.phase.Phase.TheVariants.{StartSent, Starting, Running, Deciding, Over}
 use Rattle.run_model.specs.declared.unit_view.UnitView.{UnitView}
+use Rattle.run_model.specs.Admission.{unit_of_test}
 use Rattle.run_model.specs.Words.{told, queue, unit_of}
 
 -- what is told of a test, apart from moments and counts: that it started; that an attempt failed and the next one
@@ -26,15 +27,16 @@ pub data News : Type 0 where
 
 -- what an event tells of test k
 abbrev pub news_in : ℕ → TestEventKind → Option News
-news_in k (TestStarted unit id command slot running stats) = if unit == k then Some started else None
-news_in k (TestAttemptFailedWillRetry unit id status delay running) = if unit == k then Some (failed status) else None
-news_in k (TestRetryStarted unit id command slot attempt attempts running) = if unit == k then Some retried else None
-news_in k (TestFinished unit id statuses running stats) = if unit == k then Some (finished statuses) else None
-news_in k (TestSkipped unit id reason) = if unit == k then Some skipped else None
+news_in k (TestStarted e) = if e.start.test.unit == k then Some started else None
+news_in k (TestAttemptFailedWillRetry e) = if e.failed.test.unit == k then Some (failed e.failed.status) else None
+news_in k (TestRetryStarted e) = if e.retry.start.test.unit == k then Some retried else None
+news_in k (TestFinished e) = if e.finish.test.unit == k then Some (finished e.finish.statuses) else None
+news_in k (TestSkipped skip) = if skip.test.unit == k then Some skipped else None
 news_in k _ = None
 
 abbrev pub news_of : ℕ → ReporterEvent → Option News
 news_of k (Test event) = news_in k event.kind
+news_of k _ = None
 
 -- what is told of test k, in order
 abbrev pub account_of : ℕ → List ReporterEvent → List News
@@ -42,9 +44,12 @@ account_of k events = filter_map (news_of k) events
 
 -- what the delivery of a message would tell of test k
 abbrev pub pending_in : ℕ → Message → Option News
-pending_in k (Start unit id command slot) = if unit == k then Some started else None
-pending_in k (Skip unit id reason) = if unit == k then Some skipped else None
-pending_in k (Finish unit id statuses) = if unit == k then Some (finished statuses) else None
+pending_in k (Start start) = if start.test.unit == k then Some started else None
+pending_in k (Skip skip) = if skip.test.unit == k then Some skipped else None
+pending_in k (AttemptFailed failure) = if failure.test.unit == k then Some (failed failure.status) else None
+pending_in k (Retry retry) = if retry.start.test.unit == k then Some retried else None
+pending_in k (Finish finish) = if finish.test.unit == k then Some (finished finish.statuses) else None
+pending_in k _ = None
 
 -- what the messages that wait would tell of test k, in order
 abbrev pub pending_of : ℕ → List Message → List News
@@ -55,9 +60,9 @@ abbrev pub is_skip : Option PlanTest → Bool
 is_skip None = false
 is_skip (Some test) = is_some test.skip
 
--- whether test k of the plan doesn't match
+-- whether the test at a place of the plan doesn't match
 abbrev pub is_mismatched : Settings → ℕ → Bool
-is_mismatched p k = is_skip (slice_get p.plan.tests k)
+is_mismatched p j = is_skip (slice_get p.plan.tests j)
 
 -- what was told of a matched test and what waits to be told, by its phase and its ended attempts
 abbrev pub HasAccountIn : Phase → List ExecuteStatus → List News → List News → Type 0
@@ -85,7 +90,10 @@ abbrev pub HasAccount : Bool → Option UnitView → List News → List News →
 HasAccount mismatched None t q = (t ≡ []) × (q ≡ [])
 HasAccount mismatched (Some u) t q = HasAccountAt mismatched u.phase u.statuses t q
 
--- test k has its account after a history
+-- the test at a place of the plan, which is unit k, has its account in a sub-run
+abbrev pub IsAccountedAs : Settings → ℕ → ℕ → List Happening → Type 0
+IsAccountedAs p j k run =
+    HasAccount (is_mismatched p j) (unit_of k run) (account_of k (told run)) (pending_of k (queue run))
+
 abbrev pub IsAccounted : Settings → ℕ → List Happening → Type 0
-IsAccounted p k past =
-    HasAccount (is_mismatched p k) (unit_of k past) (account_of k (told past)) (pending_of k (queue past))
+IsAccounted p j run = IsAccountedAs p j (unit_of_test p j) run

@@ -1,5 +1,5 @@
 -- The board: what a turn may read of a run, and what a deed does to it.
-use Rattle.std.specs.Prelude.{ℕ, ◌+◌, ◌||◌, List, ◌++◌, drop, Bool, if◌then◌else◌, Option, Some, None, option_map, option_to_list, slice_index_or, slice_set}
+use Rattle.std.specs.Prelude.{ℕ, ◌+◌, ◌||◌, ◌&&◌, not, List, ◌++◌, drop, Bool, if◌then◌else◌, Option, Some, None, option_map, option_to_list, slice_index_or, slice_set}
 use Rattle.run_events.specs.declared.settings.Settings.{Settings}
 use Rattle.run_events.specs.declared.message.Message.{Message}
 use Rattle.run_events.specs.declared.ask.Ask.{Ask}
@@ -13,8 +13,8 @@ use Rattle.run_model.specs.declared.happening.Place.{Place}
 use Rattle.run_model.specs.declared.happening.Place.TheVariants.{Admitted, Took}
 use Rattle.run_model.specs.declared.unit_view.UnitView.{UnitView}
 use Rattle.run_model.specs.Unit.{row}
-use Rattle.run_model.specs.Words.{clock, ns_of, has_begun, is_over, queue, units, tests_in, stats, running}
-use Rattle.run_model.specs.Dispatch.{having_told}
+use Rattle.run_model.specs.Words.{clock, ns_of, is_on, is_over, sub_run, queue, units, tally}
+use Rattle.run_model.specs.Dispatch.{head_of, having_told}
 
 -- what a turn may read: the units, the messages that wait, the dispatcher and the clock
 pub record Board : Type 0 where
@@ -23,62 +23,82 @@ pub record Board : Type 0 where
   pub dispatcher : DispatcherView
   pub clock : ℕ
 
--- the dispatcher and the board after a history, by words
+-- the dispatcher and the board after a history, by words: what a turn reads is of the newest sub-run
 abbrev pub dispatcher_of : Settings → List Happening → DispatcherView
 dispatcher_of p past = record {
-  run_id = p.plan.run_id;
-  tests = tests_in p;
-  begun = has_begun past;
+  head = head_of p;
+  on = is_on (sub_run past);
   over = is_over past;
-  running = running p past;
-  stats = stats p past;
+  tally = tally p (sub_run past);
 }
 
 abbrev pub board : Settings → List Happening → Board
-board p past = record { units = units p past; queue = queue past; dispatcher = dispatcher_of p past; clock = clock past }
+board p past = record {
+  units = units p (sub_run past);
+  queue = queue (sub_run past);
+  dispatcher = dispatcher_of p past;
+  clock = clock past;
+}
 
--- the unit at a place, if it was admitted
+-- the unit of a number, if it was admitted
 abbrev pub unit_in : Board → ℕ → Option UnitView
 unit_in b k = slice_index_or b.units k None
 
--- what a turn does, apart from its entry
+-- what a turn does, apart from its entry and its moment
 pub record Deed : Type 0 where
   pub place : Option Place
   pub sent : Option Message
   pub taken : Bool
   pub told : Option ReporterEvent
+  pub cancel : Option ReporterEvent
   pub asked : Option Ask
   pub cause : Option CancelReason
   pub begins : Bool
   pub ends : Bool
+  pub over : Bool
 
--- a deed, as what an entry did
-abbrev pub said : Entry → Deed → Happening
-said e d = record {
+-- a deed, as what an entry did at a moment
+abbrev pub said : ℕ → Entry → Deed → Happening
+said now e d = record {
   turn = e.turn;
   refused = e.refused;
+  moment = now;
   place = d.place;
   sent = d.sent;
   taken = d.taken;
   told = d.told;
+  cancel = d.cancel;
   asked = d.asked;
   cause = d.cause;
   begins = d.begins;
   ends = d.ends;
+  over = d.over;
 }
+
+-- the events that a deed tells
+abbrev pub deed_events : Deed → List ReporterEvent
+deed_events d = option_to_list d.told ++ option_to_list d.cancel
 
 -- the list of units after a place
 abbrev pub placed_in : ℕ → Option Place → List (Option UnitView) → List (Option UnitView)
 placed_in now None us = us
-placed_in now (Some (Admitted first)) us = slice_set us first.unit (Some first)
+placed_in now (Some (Admitted first)) us = slice_set us first.test.unit (Some first)
 placed_in now (Some (Took j turn)) us = slice_set us j (option_map (λ v. (row now turn v).next) (slice_index_or us j None))
+
+-- the dispatcher after a deed
+abbrev pub dispatched : DispatcherView → Deed → DispatcherView
+dispatched d deed = record d {
+  on = not deed.ends && (deed.begins || d.on);
+  over = deed.over || d.over;
+  tally = having_told (having_told d.tally deed.told) deed.cancel;
+}
 
 -- the board after a deed
 abbrev pub moved : Board → Deed → Board
 moved b d = record {
   units = placed_in b.clock d.place b.units;
   queue = drop (if d.taken then 1 else 0) b.queue ++ option_to_list d.sent;
-  dispatcher = record (having_told b.dispatcher d.told) { begun = d.begins || b.dispatcher.begun; over = d.ends || b.dispatcher.over };
+  dispatcher = dispatched b.dispatcher d;
   clock = b.clock;
 }
 

@@ -1,5 +1,5 @@
--- What becomes of a test in a run that is over, and what is told of it then.
-use Rattle.std.specs.Prelude.{ℕ, ◌+◌, ◌-◌, ◌≡◌, ◌⊎◌, ◌≤◌, ◌<◌, ◌==◌, nat_lt, ◌&&◌, ◌||◌, not, List, [], ◌∷◌, ◌++◌, length, Bool, true, false, if◌then◌else◌, Option, Some, None, is_some}
+-- What becomes of a test in a sub-run that has ended, and what is told of it then.
+use Rattle.std.specs.Prelude.{ℕ, ◌+◌, ◌-◌, ◌≡◌, ◌⊎◌, ◌≤◌, ◌<◌, ◌==◌, nat_lt, ◌&&◌, ◌||◌, not, List, [], ◌∷◌, ◌++◌, length, Bool, true, false, if◌then◌else◌, Option, Some, is_some}
 use Rattle.std.specs.List.{list_all}
 use Rattle.run_events.specs.Result.{is_success}
 use Rattle.run_events.specs.declared.result.ExecuteStatus.{ExecuteStatus}
@@ -8,8 +8,9 @@ use Rattle.run_model.specs.declared.happening.Happening.{Happening}
 use Rattle.run_model.specs.declared.happening.Place.{Place}
 use Rattle.run_model.specs.declared.happening.Place.TheVariants.{Took}
 use Rattle.run_model.specs.declared.unit_turn.UnitTurn.TheVariants.{Answered}
-use Rattle.run_model.specs.declared.unit_view.UnitView.{UnitView}
-use Rattle.run_model.specs.Words.{reason, unit_of, told}
+use Rattle.run_model.specs.Admission.{tests_in, unit_of_test}
+use Rattle.run_model.specs.Attempts.{retries_of, statuses_of}
+use Rattle.run_model.specs.Words.{reason, told}
 use Rattle.run_model.specs.Accounts.{News, started, failed, retried, finished, skipped, account_of, is_mismatched}
 
 -- whether a turn delivered the start of test k, or its retry
@@ -34,14 +35,6 @@ was_left k [] = false
 was_left k (x ∷ past) =
     (lets_go k x.place && nat_lt 0 (deliveries k past) && is_some (reason past)) || was_left k past
 
--- the attempts of test k that have ended, as its own turns made them
-abbrev pub statuses_in : Option UnitView → List ExecuteStatus
-statuses_in None = []
-statuses_in (Some u) = u.statuses
-
-abbrev pub statuses_of : ℕ → List Happening → List ExecuteStatus
-statuses_of k past = statuses_in (unit_of k past)
-
 -- what is told of attempts each of which a further one follows, but the last
 abbrev pub retries : List ExecuteStatus → List News
 retries [] = []
@@ -61,10 +54,6 @@ account false true left ss = []
 account false false true ss = started ∷ failures ss
 account false false false ss = started ∷ (retries ss ++ finished ss ∷ [])
 
--- how many retries a test has: no plan gives any yet
-abbrev pub retries_of : Settings → ℕ → ℕ
-retries_of p k = 0
-
 -- with so many retries: each attempt but the last failed, and the last passed or no retry was left
 abbrev pub MeetsAttemptLaw : ℕ → List ExecuteStatus → Type 0
 MeetsAttemptLaw n [] = ⊥
@@ -75,10 +64,18 @@ MeetsAttemptLaw n (s ∷ t ∷ ss) = (is_success s.result ≡ false) × (0 < n) 
 abbrev pub HasRetryLeft : ℕ → List ExecuteStatus → Type 0
 HasRetryLeft n ss = (list_all (λ s. not (is_success s.result)) ss ≡ true) × (length ss ≤ n) × (0 < length ss)
 
--- test k has its fate: what was told of it is its account, and its attempts meet their law
-pub record HasFate (p : Settings) (past : List Happening) (k : ℕ) : Type 0 where
-  pub account : account_of k (told past)
-      ≡ account (is_mismatched p k) (never_started k past) (was_left k past) (statuses_of k past)
-  pub finished : is_mismatched p k ≡ false → never_started k past ≡ false → was_left k past ≡ false
-      → MeetsAttemptLaw (retries_of p k) (statuses_of k past)
-  pub left : is_mismatched p k ≡ false → was_left k past ≡ true → HasRetryLeft (retries_of p k) (statuses_of k past)
+-- the test at place j of the plan, which is unit k, has its fate in a sub-run: what was told of it is its account, with
+-- the attempts that its own turns made, and these meet their law
+pub record HasFateAs (p : Settings) (run : List Happening) (j k : ℕ) : Type 0 where
+  pub account : account_of k (told run)
+      ≡ account (is_mismatched p j) (never_started k run) (was_left k run) (statuses_of p j run)
+  pub finished : is_mismatched p j ≡ false → never_started k run ≡ false → was_left k run ≡ false
+      → MeetsAttemptLaw (retries_of p j) (statuses_of p j run)
+  pub left : is_mismatched p j ≡ false → was_left k run ≡ true → HasRetryLeft (retries_of p j) (statuses_of p j run)
+
+abbrev pub HasFate : Settings → List Happening → ℕ → Type 0
+HasFate p run j = HasFateAs p run j (unit_of_test p j)
+
+-- each test of the plan has its fate in a sub-run
+abbrev pub HaveFates : Settings → List Happening → Type 0
+HaveFates p run = (j : ℕ) → j < tests_in p → HasFate p run j

@@ -1,11 +1,11 @@
 -- A journal and its history, and which journals are legal.
-use Rattle.std.specs.Prelude.{ℕ, ◌≡◌, List, [], ◌∷◌, length, reverse, Bool, if◌then◌else◌, Option, Some, None, option_to_list, IsTrue}
+use Rattle.std.specs.Prelude.{◌≡◌, List, [], ◌∷◌, length, reverse, if◌then◌else◌, Option, Some, None, IsTrue}
 use Rattle.run_events.specs.Outcome.{outcome_of, summary}
 use Rattle.run_events.specs.declared.settings.Settings.{Settings}
 use Rattle.run_events.specs.declared.outcome.RunOutcome.{RunOutcome}
 use Rattle.run_model.specs.declared.entry.Entry.{Entry}
 use Rattle.run_model.specs.declared.happening.Happening.{Happening}
-use Rattle.run_model.specs.Words.{is_over, stats}
+use Rattle.run_model.specs.Words.{events_in, is_over, sub_run, stats}
 use Rattle.run_model.specs.Turns.{enabled, happening}
 
 -- the history of a journal, whose newest entry stands first
@@ -19,7 +19,7 @@ abbrev pub IsLegalBackward : Settings → List Entry → Type 0
 IsLegalBackward p [] = Unit {0}
 IsLegalBackward p (e ∷ before) =
     IsTrue (enabled p (history p before) e.turn)
-    × (length e.refused ≡ length (option_to_list (happening p (history p before) e).told))
+    × (length e.refused ≡ length (events_in (happening p (history p before) e)))
     × IsLegalBackward p before
 
 -- the history of a journal in the order of its turns
@@ -32,4 +32,4 @@ IsLegal p journal = IsLegalBackward p (reverse journal)
 
 -- the outcome of a run that is over
 abbrev pub outcome : Settings → List Happening → Option RunOutcome
-outcome p past = if is_over past then Some (outcome_of (summary (stats p past))) else None
+outcome p past = if is_over past then Some (outcome_of (summary (stats p (sub_run past)))) else None

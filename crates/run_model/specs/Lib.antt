@@ -6,4 +6,5 @@ pub mod Board
 pub mod Turns
 pub mod Journal
 pub mod Accounts
+pub mod Attempts
 pub mod Fates

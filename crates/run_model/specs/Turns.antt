@@ -1,12 +1,15 @@
 -- The tables of turns: which turn is enabled on a board, and what it does.
-use Rattle.std.specs.Prelude.{ℕ, List, [], ◌∷◌, Bool, true, false, ◌&&◌, not, if◌then◌else◌, Option, Some, None, is_some}
+use Rattle.std.specs.Prelude.{ℕ, List, [], ◌∷◌, Bool, true, false, ◌&&◌, not, Option, Some, None, is_some, option_map, option_and_then}
 use Rattle.std.specs.List.{list_all}
 use Rattle.run_events.specs.declared.settings.Settings.{Settings}
 use Rattle.run_events.specs.declared.turn.Turn.{Turn}
 use Rattle.run_events.specs.declared.turn.Turn.TheVariants.{Begin, Admit, Deliver, Started, StartFailed, Exit, WaitFailed, Decide, End}
 use Rattle.run_events.specs.declared.message.Message.{Message}
 use Rattle.run_events.specs.declared.message.Message.TheVariants.{Start}
+use Rattle.run_events.specs.declared.events.TestEventKind.{TestEventKind}
 use Rattle.run_events.specs.declared.events.TestEventKind.TheVariants.{RunStarted, RunFinished}
+use Rattle.run_events.specs.declared.events.RunFinishedStats.TheVariants.{Single}
+use Rattle.run_events.specs.declared.stats.RunStats.{RunStats}
 use Rattle.run_model.specs.declared.dispatcher_view.Facts.{Facts}
 use Rattle.run_model.specs.declared.entry.Entry.{Entry}
 use Rattle.run_model.specs.declared.happening.Happening.{Happening}
@@ -16,7 +19,8 @@ use Rattle.run_model.specs.declared.unit_turn.UnitTurn.TheVariants.{Answered, St
 use Rattle.run_model.specs.declared.unit_view.UnitView.{UnitView}
 use Rattle.run_model.specs.Unit.{row, takes}
 use Rattle.run_model.specs.Admission.{is_done, Newcomer, newcomer}
-use Rattle.run_model.specs.Dispatch.{is_on, dispatch_takes, event, told_of, go_of}
+use Rattle.run_model.specs.Dispatch.{dispatch_takes, event, told_of, go_of}
+use Rattle.run_model.specs.Words.{clock}
 use Rattle.run_model.specs.Board.{Board, Deed, board, unit_in, said}
 
 -- the turns that name a unit, and what they are to it
@@ -38,9 +42,9 @@ abbrev pub is_empty : List Message → Bool
 is_empty [] = true
 is_empty _ = false
 
--- each test was admitted and is over, and each message was delivered
+-- each message was delivered, and each script and test was admitted and is over
 abbrev pub is_complete : Board → Bool
-is_complete b = list_all is_done b.units && is_empty b.queue
+is_complete b = is_empty b.queue && list_all is_done b.units
 
 -- what the dispatcher asks of the rest of the run
 abbrev pub facts : Board → Facts
@@ -48,7 +52,7 @@ facts b = record { message_waits = not (is_empty b.queue); complete = is_complet
 
 -- which turns of the run's own are enabled where it isn't over
 abbrev pub run_takes : Settings → Board → Turn → Bool
-run_takes p b Admit = is_on b.dispatcher && is_some (newcomer p b.units)
+run_takes p b Admit = b.dispatcher.on && is_some (newcomer p b.units)
 run_takes p b turn = dispatch_takes b.dispatcher (facts b) turn
 
 -- a unit's turn is enabled where the unit takes it
@@ -67,17 +71,21 @@ nothing_done = record {
   sent = None;
   taken = false;
   told = None;
+  cancel = None;
   asked = None;
   cause = None;
   begins = false;
   ends = false;
+  over = false;
 }
 
 -- a unit's turn is a row of the unit table
 abbrev pub taken_by : ℕ → ℕ → UnitTurn → Option UnitView → Deed
-taken_by now k turn None = nothing_done
-taken_by now k turn (Some u) =
-    record nothing_done { place = Some (Took k turn); sent = (row now turn u).sent; asked = (row now turn u).asked }
+taken_by now k turn u = record nothing_done {
+  place = option_map (λ v. Took k turn) u;
+  sent = option_and_then (λ v. (row now turn v).sent) u;
+  asked = option_and_then (λ v. (row now turn v).asked) u;
+}
 
 -- an admission makes a unit and sends its message
 abbrev pub admission : Option Newcomer → Deed
@@ -86,7 +94,7 @@ admission (Some new) = record nothing_done { place = Some (Admitted new.unit); s
 
 -- the unit whose start a message is
 abbrev pub starting : Message → Option ℕ
-starting (Start k id command slot) = Some k
+starting (Start start) = Some start.test.unit
 starting _ = None
 
 -- the answer to a unit
@@ -94,19 +102,38 @@ abbrev pub answer_to : Board → Option ℕ → Option Bool → Deed
 answer_to b (Some k) (Some go) = taken_by b.clock k (Answered go) (unit_in b k)
 answer_to b _ _ = nothing_done
 
+-- the delivery of a message, with the answer that the unit is given
+abbrev pub delivered_as : Board → Message → Deed → Deed
+delivered_as b m answer = record nothing_done {
+  place = answer.place;
+  sent = answer.sent;
+  taken = true;
+  told = option_map (event b.clock) (told_of b.dispatcher.tally m);
+  asked = answer.asked;
+}
+
 -- the delivery of the oldest message
 abbrev pub delivery : Board → List Message → Deed
 delivery b [] = nothing_done
-delivery b (m ∷ rest) =
-    record (answer_to b (starting m) (go_of b.dispatcher m)) { taken = true; told = told_of b.clock b.dispatcher m }
+delivery b (m ∷ rest) = delivered_as b m (answer_to b (starting m) (go_of b.dispatcher.tally m))
+
+-- the end of a run: it tells the statistics
+abbrev pub finale : RunStats → TestEventKind
+finale stats = RunFinished (record { stats = Single stats; not_seen = None })
+
+-- the begin and the end of a run
+abbrev pub begun : Board → Deed
+begun b = record nothing_done { told = Some (event b.clock (RunStarted b.dispatcher.head)); begins = true }
+
+abbrev pub ended : Board → Deed
+ended b = record nothing_done { told = Some (event b.clock (finale b.dispatcher.tally.stats)); ends = true; over = true }
 
 -- what a turn of the run's own does
 abbrev pub run_turn : Settings → Board → Turn → Deed
-run_turn p b Begin =
-    record nothing_done { told = Some (event b.clock (RunStarted b.dispatcher.run_id b.dispatcher.tests)); begins = true }
+run_turn p b Begin = begun b
 run_turn p b Admit = admission (newcomer p b.units)
 run_turn p b Deliver = delivery b b.queue
-run_turn p b End = record nothing_done { told = Some (event b.clock (RunFinished b.dispatcher.stats)); ends = true }
+run_turn p b End = ended b
 run_turn p b _ = nothing_done
 
 -- what a turn does
@@ -122,4 +149,4 @@ abbrev pub enabled : Settings → List Happening → Turn → Bool
 enabled p past turn = enabled_on p (board p past) turn
 
 abbrev pub happening : Settings → List Happening → Entry → Happening
-happening p past e = said e (deed_on p (board p past) e.turn)
+happening p past e = said (clock past) e (deed_on p (board p past) e.turn)

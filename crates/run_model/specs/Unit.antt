@@ -1,13 +1,12 @@
 -- The unit table: what each turn does to a unit in each phase.
-use Rattle.std.specs.Prelude.{ℕ, ◌+◌, ◌-◌, List, [], ◌∷◌, ◌++◌, Bool, true, false, Option, Some, None, codes}
+use Rattle.std.specs.Prelude.{ℕ, ◌-◌, List, [], ◌∷◌, ◌++◌, Bool, true, false, Option, Some, None, codes}
 use Rattle.std.specs.Prelude.{decimal}
 use Rattle.uuid.specs.Text.{hyphenated_text, lower}
 use Rattle.run_events.specs.Result.{execution_result}
-use Rattle.run_events.specs.declared.ask.StartAsk.{StartAsk}
 use Rattle.run_events.specs.declared.ask.Ask.{Ask}
 use Rattle.run_events.specs.declared.ask.Ask.TheVariants.{Start as AskStart}
 use Rattle.run_events.specs.declared.message.Message.{Message}
-use Rattle.run_events.specs.declared.message.Message.TheVariants.{Start, Finish}
+use Rattle.run_events.specs.declared.message.Message.TheVariants.{Finish}
 use Rattle.run_capture.specs.Output.{uncaptured}
 use Rattle.run_capture.specs.declared.test_output.ChildFdError.{ChildFdError}
 use Rattle.run_capture.specs.declared.test_output.ChildFdError.TheVariants.{Wait}
@@ -33,8 +32,8 @@ unfoldable pub identity_variables : UnitView → List (List ℕ × List ℕ)
 identity_variables u =
     (codes "NEXTEST_RUN_ID", hyphenated_text lower u.run_id)
     ∷ (codes "NEXTEST_RUN_MODE", codes "test")
-    ∷ (codes "NEXTEST_BINARY_ID", u.id.binary)
-    ∷ (codes "NEXTEST_TEST_NAME", u.id.name)
+    ∷ (codes "NEXTEST_BINARY_ID", u.test.id.binary)
+    ∷ (codes "NEXTEST_TEST_NAME", u.test.id.name)
     ∷ (codes "NEXTEST_ATTEMPT", decimal u.attempt)
     ∷ (codes "NEXTEST_TOTAL_ATTEMPTS", decimal (attempts u))
     ∷ []
@@ -66,12 +65,14 @@ environment u = identity_variables u ++ (place_variables u ++ version_variables)
 -- the start of a test's child that is asked where its attempt is let go
 unfoldable pub start_ask : UnitView → Ask
 start_ask u = AskStart (record {
-  unit = u.unit;
+  unit = u.test.unit;
   attempt = u.attempt;
   command = u.command;
   env = environment u;
   group = true;
   stdin = false;
+  streams = [];
+  env_path = None;
 })
 
 -- the status of the current attempt where it ends at this moment with this result
@@ -102,9 +103,17 @@ pub record Row : Type 0 where
   pub sent : Option Message
   pub asked : Option Ask
 
+-- the message of a unit that is done
+abbrev pub finish_message : UnitView → Message
+finish_message u = Finish (record { test = u.test; statuses = u.statuses; flaky = u.flaky })
+
 -- a row that sends and asks nothing
 abbrev pub quiet : UnitView → Row
 quiet u = record { next = u; sent = None; asked = None }
+
+-- it decides that it is done
+abbrev pub decided : UnitView → Row
+decided u = record { next = record u { phase = Over }; sent = Some (finish_message u); asked = None }
 
 -- the rows, at a moment of the run's clock; what isn't enabled leaves all as it is
 abbrev pub row_at : ℕ → Phase → UnitTurn → UnitView → Row
@@ -115,8 +124,7 @@ row_at now Starting (Started pid) u = quiet (record u { phase = Running })
 row_at now Starting (StartFailed error) u = quiet (ended now ExecFail (StartError error) u)
 row_at now Running (Exit exit) u = quiet (exited now (Some exit) [] u)
 row_at now Running (WaitFailed error) u = quiet (exited now None (Wait error ∷ []) u)
-row_at now Deciding (Decide word) u =
-    record { next = record u { phase = Over }; sent = Some (Finish u.unit u.id u.statuses); asked = None }
+row_at now Deciding (Decide word) u = decided u
 row_at _ _ _ u = quiet u
 
 -- the row of a unit's phase

@@ -1,26 +1,27 @@
 -- Words over a history: what each turn did, the newest first.
-use Rattle.std.specs.Prelude.{ℕ, ◌+◌, List, [], ◌∷◌, ◌++◌, map, length, drop, Bool, true, false, ◌&&◌, ◌||◌, not, ◌==◌, nat_lt, if◌then◌else◌, Option, Some, None, option_map, option_to_list, filter_map, count_by, zip, is_none, unwrap_or}
-use Rattle.std.specs.List.{range_with_len, list_any, list_all}
+use Rattle.std.specs.Prelude.{ℕ, ◌+◌, List, [], ◌∷◌, ◌++◌, map, length, drop, Bool, true, false, ◌&&◌, ◌||◌, not, ◌==◌, if◌then◌else◌, Option, Some, None, option_map, option_to_list, filter_map, count_by, zip}
+use Rattle.std.specs.List.{range_with_len, list_any}
 use Rattle.run_events.specs.Stats.{FinishedTest, nothing, total, last_or}
+use Rattle.run_events.specs.Cancel.{greater}
 use Rattle.run_events.specs.declared.stats.RunStats.{RunStats}
 use Rattle.run_events.specs.declared.settings.Settings.{Settings}
 use Rattle.run_events.specs.declared.turn.Turn.{Turn}
 use Rattle.run_events.specs.declared.message.Message.{Message}
+use Rattle.run_events.specs.declared.message.TestFinish.{TestFinish}
 use Rattle.run_events.specs.declared.ask.Ask.{Ask}
 use Rattle.run_events.specs.declared.cancel.CancelReason.{CancelReason}
-use Rattle.run_events.specs.declared.cancel.CancelReason.TheVariants.{SetupScriptFailure, TestFailure, ReportError, GlobalTimeout, TestFailureImmediate, Signal, Interrupt, SecondSignal}
 use Rattle.run_events.specs.declared.events.ReporterEvent.{ReporterEvent}
 use Rattle.run_events.specs.declared.events.ReporterEvent.TheVariants.{Test}
 use Rattle.run_events.specs.declared.events.TestEventKind.{TestEventKind}
 use Rattle.run_events.specs.declared.events.TestEventKind.TheVariants.{TestStarted, TestFinished, TestSkipped}
 use Rattle.run_events.specs.declared.result.ExecuteStatus.{ExecuteStatus}
-use Rattle.run_events.specs.declared.result.FlakyResult.TheVariants.{Pass}
 use Rattle.run_model.specs.declared.happening.Happening.{Happening}
 use Rattle.run_model.specs.declared.happening.Place.{Place}
 use Rattle.run_model.specs.declared.happening.Place.TheVariants.{Admitted, Took}
 use Rattle.run_model.specs.declared.unit_view.UnitView.{UnitView}
+use Rattle.run_model.specs.declared.dispatcher_view.Tally.{Tally}
 use Rattle.run_model.specs.Unit.{row}
-use Rattle.run_model.specs.Admission.{is_matched}
+use Rattle.run_model.specs.Admission.{units_in, matched_in}
 
 -- how far a turn moves the clock, in nanoseconds: no turn does yet
 abbrev pub ns_of : Turn → ℕ
@@ -35,15 +36,25 @@ clock (x ∷ past) = clock past + ns_of x.turn
 abbrev pub elapsed : List Happening → ℕ
 elapsed past = clock past
 
--- a run has begun where a begin was taken
-abbrev pub has_begun : List Happening → Bool
-has_begun [] = false
-has_begun (x ∷ past) = x.begins || has_begun past
-
--- a run is over where an end was taken
+-- a run is over where a turn ended it
 abbrev pub is_over : List Happening → Bool
 is_over [] = false
-is_over (x ∷ past) = x.ends || is_over past
+is_over (x ∷ past) = x.over || is_over past
+
+-- the newest sub-run: the history from its begin on
+abbrev pub sub_run : List Happening → List Happening
+sub_run [] = []
+sub_run (x ∷ past) = x ∷ (if x.begins then [] else sub_run past)
+
+-- a sub-run is on where it has begun and not ended
+abbrev pub is_on : List Happening → Bool
+is_on [] = false
+is_on (x ∷ past) = not x.ends && (x.begins || is_on past)
+
+-- the sub-runs that have ended, each as a history of its own, the newest first
+abbrev pub ended_runs : List Happening → List (List Happening)
+ended_runs [] = []
+ended_runs (x ∷ past) = if x.ends then sub_run (x ∷ past) ∷ ended_runs past else ended_runs past
 
 -- the messages sent, the oldest first
 abbrev pub sent : List Happening → List Message
@@ -59,37 +70,24 @@ delivered (x ∷ past) = delivered past + (if x.taken then 1 else 0)
 abbrev pub queue : List Happening → List Message
 queue past = drop (delivered past) (sent past)
 
+-- the events that a turn told: its own, and then its cause's
+abbrev pub events_in : Happening → List ReporterEvent
+events_in x = option_to_list x.told ++ option_to_list x.cancel
+
 -- the events told, in order
 abbrev pub told : List Happening → List ReporterEvent
 told [] = []
-told (x ∷ past) = told past ++ option_to_list x.told
+told (x ∷ past) = told past ++ events_in x
 
 -- the events told, each with whether the reporter refused it
 abbrev pub answers : List Happening → List (ReporterEvent × Bool)
 answers [] = []
-answers (x ∷ past) = answers past ++ zip (option_to_list x.told) x.refused
+answers (x ∷ past) = answers past ++ zip (events_in x) x.refused
 
 -- what was asked, each with the turn that asked it, counted from 0
 abbrev pub asked : List Happening → List (ℕ × Ask)
 asked [] = []
 asked (x ∷ past) = asked past ++ map (λ ask. (length past, ask)) (option_to_list x.asked)
-
--- the rank of a reason: a cause of a higher rank replaces the reason
-abbrev pub rank : CancelReason → ℕ
-rank SetupScriptFailure = 0
-rank TestFailure = 1
-rank ReportError = 2
-rank GlobalTimeout = 3
-rank TestFailureImmediate = 4
-rank Signal = 5
-rank Interrupt = 6
-rank SecondSignal = 7
-
--- the greater of two reasons
-abbrev pub greater : Option CancelReason → Option CancelReason → Option CancelReason
-greater None cause = cause
-greater (Some r) None = Some r
-greater (Some r) (Some c) = if nat_lt (rank r) (rank c) then Some c else Some r
 
 -- the reason for which a run is cancelled: the greatest of its causes
 abbrev pub reason : List Happening → Option CancelReason
@@ -99,40 +97,37 @@ reason (x ∷ past) = greater (reason past) x.cause
 -- a unit after a place: an admitted test begins, and a turn of the unit's own is a row of the unit table
 abbrev pub placed : ℕ → ℕ → Option Place → Option UnitView → Option UnitView
 placed now k None u = u
-placed now k (Some (Admitted first)) u = if first.unit == k then Some first else u
+placed now k (Some (Admitted first)) u = if first.test.unit == k then Some first else u
 placed now k (Some (Took j turn)) u = if j == k then option_map (λ v. (row now turn v).next) u else u
 
 -- a unit stands where the unit table leads along its own turns; None is a test that wasn't admitted
 abbrev pub unit_of : ℕ → List Happening → Option UnitView
 unit_of k [] = None
-unit_of k (x ∷ past) = placed (clock past) k x.place (unit_of k past)
+unit_of k (x ∷ past) = placed x.moment k x.place (unit_of k past)
 
--- how many tests the plan has
-abbrev pub tests_in : Settings → ℕ
-tests_in p = length p.plan.tests
-
--- how many of them match, and so are to run
-abbrev pub matched_in : Settings → ℕ
-matched_in p = count_by is_matched p.plan.tests
-
--- all units, in the order of the plan
+-- all units, by number
 abbrev pub units : Settings → List Happening → List (Option UnitView)
-units p past = map (λ k. unit_of k past) (range_with_len 0 (tests_in p))
+units p past = map (λ k. unit_of k past) (range_with_len 0 (units_in p))
 
 -- whether the last attempt was slow
 abbrev pub last_slow : List ExecuteStatus → Bool
 last_slow statuses = last_or false (map (λ s. s.slow) statuses)
 
--- a finished test, as the statistics count it; no test is flaky by its plan yet
-abbrev pub finished_test : List ExecuteStatus → FinishedTest
-finished_test statuses = record { results = map (λ s. s.result) statuses; slow = last_slow statuses; flaky = Pass }
+-- a finished test, as the statistics count it
+abbrev pub finished_test : TestFinish → FinishedTest
+finished_test finish = record {
+  results = map (λ s. s.result) finish.statuses;
+  slow = last_slow finish.statuses;
+  flaky = finish.flaky;
+}
 
 abbrev pub finish_in : TestEventKind → Option FinishedTest
-finish_in (TestFinished unit id statuses running stats) = Some (finished_test statuses)
+finish_in (TestFinished event) = Some (finished_test event.finish)
 finish_in _ = None
 
 abbrev pub finish_of : ReporterEvent → Option FinishedTest
 finish_of (Test event) = finish_in event.kind
+finish_of _ = None
 
 -- the tests told finished, in order
 abbrev pub finished : List Happening → List FinishedTest
@@ -140,11 +135,12 @@ finished past = filter_map finish_of (told past)
 
 -- whether an event tells a skipped test
 abbrev pub skips_in : TestEventKind → Bool
-skips_in (TestSkipped unit id reason) = true
+skips_in (TestSkipped skip) = true
 skips_in _ = false
 
 abbrev pub skips : ReporterEvent → Bool
 skips (Test event) = skips_in event.kind
+skips _ = false
 
 -- how many tests were told skipped
 abbrev pub skipped : List Happening → ℕ
@@ -162,18 +158,20 @@ stats p past = stats_after p (reason past) (skipped past) (finished past)
 
 -- whether an event tells the start, or the finish, of a test
 abbrev pub starts_in : ℕ → TestEventKind → Bool
-starts_in k (TestStarted unit id command slot running stats) = unit == k
+starts_in k (TestStarted event) = event.start.test.unit == k
 starts_in k _ = false
 
 abbrev pub starts : ℕ → ReporterEvent → Bool
 starts k (Test event) = starts_in k event.kind
+starts k _ = false
 
 abbrev pub finishes_in : ℕ → TestEventKind → Bool
-finishes_in k (TestFinished unit id statuses running stats) = unit == k
+finishes_in k (TestFinished event) = event.finish.test.unit == k
 finishes_in k _ = false
 
 abbrev pub finishes : ℕ → ReporterEvent → Bool
 finishes k (Test event) = finishes_in k event.kind
+finishes k _ = false
 
 -- a test runs where it was told started and not told finished
 abbrev pub is_running : List ReporterEvent → ℕ → Bool
@@ -181,4 +179,8 @@ is_running events k = list_any (starts k) events && not (list_any (finishes k) e
 
 -- how many tests run
 abbrev pub running : Settings → List Happening → ℕ
-running p past = count_by (is_running (told past)) (range_with_len 0 (tests_in p))
+running p past = count_by (is_running (told past)) (range_with_len 0 (units_in p))
+
+-- what a dispatcher counts
+abbrev pub tally : Settings → List Happening → Tally
+tally p past = record { running = running p past; stats = stats p past }

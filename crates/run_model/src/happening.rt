@@ -18,19 +18,25 @@ pub struct Happening {
     pub turn: Turn,
     /// Of each event told, whether the reporter refused it.
     pub refused: List<bool>,
+    /// The run's clock before it, in nanoseconds.
+    pub moment: u64,
     pub place: Option<Place>,
     /// The message that it sent.
     pub sent: Option<Message>,
     /// Whether it delivered the oldest message.
     pub taken: bool,
-    /// The event that it told.
+    /// The event that it told of its own.
     pub told: Option<ReporterEvent>,
+    /// The event that its cause told after that one.
+    pub cancel: Option<ReporterEvent>,
     /// What it asked of the outside.
     pub asked: Option<Ask>,
     /// Why it cancels the run, where it does.
     pub cause: Option<CancelReason>,
-    /// Whether the run begins with it.
+    /// Whether a sub-run begins with it.
     pub begins: bool,
-    /// Whether the run is over with it.
+    /// Whether a sub-run ends with it.
     pub ends: bool,
+    /// Whether the run is over with it.
+    pub over: bool,
 }

@@ -10,7 +10,7 @@ mod phase;
 mod unit_turn;
 mod unit_view;
 
-pub use dispatcher_view::{DispatcherView, Facts};
+pub use dispatcher_view::{DispatcherView, Facts, Tally};
 pub use entry::Entry;
 pub use happening::{Happening, Place};
 pub use phase::Phase;

@@ -4,7 +4,7 @@ use run_events::ChildExit;
 use std::alloc::Global;
 
 /// A turn of one unit.
-#[derive(Debug, Drop, PartialEq, Eq)]
+#[derive(Drop)]
 pub enum UnitTurn {
     /// Its start message was delivered, and it is let go or not.
     Answered { go: bool },

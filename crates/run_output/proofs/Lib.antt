@@ -1,2 +1,3 @@
 mod Floats
+mod FieldLemmas
 mod ToldLemmas

@@ -1,121 +1,77 @@
--- The line of an event: its kind, its moment and its active time, and the fields of its kind.
-use Rattle.std.specs.Prelude.{ℕ, List, [], ◌∷◌, ◌++◌, Option, Some, codes}
-use Rattle.serde_json.specs.Data.{Data, string, array, no_items}
-use Rattle.uuid.specs.Text.{hyphenated_text, lower}
+-- The line of an event: its moment and its active time, its kind, and the fields of its kind.
+use Rattle.std.specs.Prelude.{ℕ, List, [], ◌∷◌, Option, Some, codes}
+use Rattle.serde_json.specs.Data.{Data, string}
 use Rattle.run_events.specs.declared.events.ReporterEvent.{ReporterEvent}
-use Rattle.run_events.specs.declared.events.ReporterEvent.TheVariants.{Test}
+use Rattle.run_events.specs.declared.events.ReporterEvent.TheVariants.{Tick, Test}
 use Rattle.run_events.specs.declared.events.TestEvent.{TestEvent}
 use Rattle.run_events.specs.declared.events.TestEventKind.{TestEventKind}
-use Rattle.run_events.specs.declared.events.TestEventKind.TheVariants.{RunStarted, TestStarted, TestAttemptFailedWillRetry, TestRetryStarted, TestFinished, TestSkipped, RunFinished}
-use Rattle.run_events.specs.declared.plan.TestInstanceId.{TestInstanceId}
-use Rattle.run_events.specs.declared.plan.TestSlotAssignment.{TestSlotAssignment}
-use Rattle.run_events.specs.declared.result.ExecuteStatus.{ExecuteStatus}
-use Rattle.run_events.specs.declared.stats.RunStats.{RunStats}
-use Rattle.run_output.specs.Fields.{count, texts, object_of, object_text}
-use Rattle.run_output.specs.Stats.{stats_data}
-use Rattle.run_output.specs.Results.{status_data, statuses_data}
+use Rattle.run_events.specs.declared.events.TestEventKind.TheVariants.{RunStarted, StressSubRunStarted, StressSubRunFinished, SetupScriptStarted, SetupScriptSlow, SetupScriptFinished, TestStarted, TestSlow, TestAttemptFailedWillRetry, TestRetryStarted, TestFinished, TestSkipped, InfoStarted, InfoResponse, InfoFinished, InputEnter, RunBeginCancel, RunBeginKill, RunPaused, RunContinued, RunFinished}
+use Rattle.run_output.specs.Fields.{count, object_text}
+use Rattle.run_output.specs.EventsOfRun.{run_started_fields, sub_run_started_fields, sub_run_finished_fields, info_started_fields, info_answered_fields, info_finished_fields, input_entered_fields, run_cancelled_fields, job_controlled_fields, run_finished_fields}
+use Rattle.run_output.specs.EventsOfScripts.{script_started_fields, script_slow_fields, script_finished_fields}
+use Rattle.run_output.specs.EventsOfTests.{test_started_fields, test_slow_fields, attempt_failed_fields, retry_started_fields, test_finished_fields, test_skipped_fields}
 
--- a test by its binary and its name
-abbrev pub test_data : TestInstanceId → Data
-test_data test = texts (test.binary ∷ test.name ∷ [])
+-- each kind of event by its word
+unfoldable pub event_word : TestEventKind → List ℕ
+event_word (RunStarted event) = codes "run-started"
+event_word (StressSubRunStarted progress) = codes "sub-run-started"
+event_word (StressSubRunFinished event) = codes "sub-run-finished"
+event_word (SetupScriptStarted event) = codes "script-started"
+event_word (SetupScriptSlow event) = codes "script-slow"
+event_word (SetupScriptFinished event) = codes "script-finished"
+event_word (TestStarted event) = codes "test-started"
+event_word (TestSlow event) = codes "test-slow"
+event_word (TestAttemptFailedWillRetry event) = codes "test-attempt-failed"
+event_word (TestRetryStarted event) = codes "test-retry-started"
+event_word (TestFinished event) = codes "test-finished"
+event_word (TestSkipped event) = codes "test-skipped"
+event_word (InfoStarted event) = codes "info-started"
+event_word (InfoResponse event) = codes "info-response"
+event_word (InfoFinished missing) = codes "info-finished"
+event_word (InputEnter event) = codes "input-enter"
+event_word (RunBeginCancel event) = codes "run-begin-cancel"
+event_word (RunBeginKill event) = codes "run-begin-kill"
+event_word (RunPaused event) = codes "run-paused"
+event_word (RunContinued event) = codes "run-continued"
+event_word (RunFinished event) = codes "run-finished"
 
--- a slot
-unfoldable pub slot_fields : TestSlotAssignment → List (List ℕ × Option Data)
-slot_fields slot = (codes "global", Some (count slot.global)) ∷ []
-
--- the run started
-unfoldable pub run_started_fields : List ℕ → ℕ → List (List ℕ × Option Data)
-run_started_fields run_id tests =
-    (codes "event", Some (string (codes "run-started")))
-    ∷ (codes "args", Some (array no_items))
-    ∷ (codes "profile", Some (string (codes "default")))
-    ∷ (codes "run_id", Some (string (hyphenated_text lower run_id)))
-    ∷ (codes "tests", Some (count tests))
-    ∷ []
-
--- a test started
-unfoldable pub test_started_fields : TestInstanceId → List (List ℕ) → TestSlotAssignment → ℕ → RunStats
-    → List (List ℕ × Option Data)
-test_started_fields test command slot running stats =
-    (codes "event", Some (string (codes "test-started")))
-    ∷ (codes "command", Some (texts command))
-    ∷ (codes "running", Some (count running))
-    ∷ (codes "slot", Some (object_of (slot_fields slot)))
-    ∷ (codes "stats", Some (stats_data stats))
-    ∷ (codes "test", Some (test_data test))
-    ∷ []
-
--- an attempt of a test failed, and the next one comes after a delay
-unfoldable pub attempt_failed_fields : TestInstanceId → ExecuteStatus → ℕ → ℕ → List (List ℕ × Option Data)
-attempt_failed_fields test status delay_next running =
-    (codes "event", Some (string (codes "test-attempt-failed")))
-    ∷ (codes "delay_next", Some (count delay_next))
-    ∷ (codes "running", Some (count running))
-    ∷ (codes "status", Some (status_data status))
-    ∷ (codes "test", Some (test_data test))
-    ∷ []
-
--- a further attempt of a test started
-unfoldable pub retry_started_fields : TestInstanceId → List (List ℕ) → TestSlotAssignment → ℕ → ℕ → ℕ
-    → List (List ℕ × Option Data)
-retry_started_fields test command slot attempt attempts running =
-    (codes "event", Some (string (codes "test-retry-started")))
-    ∷ (codes "attempt", Some (count attempt))
-    ∷ (codes "attempts", Some (count attempts))
-    ∷ (codes "command", Some (texts command))
-    ∷ (codes "running", Some (count running))
-    ∷ (codes "slot", Some (object_of (slot_fields slot)))
-    ∷ (codes "test", Some (test_data test))
-    ∷ []
-
--- a test finished
-unfoldable pub test_finished_fields : TestInstanceId → List ExecuteStatus → ℕ → RunStats
-    → List (List ℕ × Option Data)
-test_finished_fields test statuses running stats =
-    (codes "event", Some (string (codes "test-finished")))
-    ∷ (codes "running", Some (count running))
-    ∷ (codes "stats", Some (stats_data stats))
-    ∷ (codes "statuses", Some (statuses_data statuses))
-    ∷ (codes "test", Some (test_data test))
-    ∷ []
-
--- a test was skipped
-unfoldable pub skipped_fields : TestInstanceId → List ℕ → List (List ℕ × Option Data)
-skipped_fields test reason =
-    (codes "event", Some (string (codes "test-skipped")))
-    ∷ (codes "reason", Some (string reason))
-    ∷ (codes "test", Some (test_data test))
-    ∷ []
-
--- the run finished
-unfoldable pub run_finished_fields : RunStats → List (List ℕ × Option Data)
-run_finished_fields stats =
-    (codes "event", Some (string (codes "run-finished")))
-    ∷ (codes "stats", Some (stats_data stats))
-    ∷ []
-
--- the fields of each kind; the unit is not printed
+-- the fields of each kind
 abbrev pub kind_fields : TestEventKind → List (List ℕ × Option Data)
-kind_fields (RunStarted run_id tests) = run_started_fields run_id tests
-kind_fields (TestStarted unit test command slot running stats) =
-    test_started_fields test command slot running stats
-kind_fields (TestAttemptFailedWillRetry unit test status delay_next running) =
-    attempt_failed_fields test status delay_next running
-kind_fields (TestRetryStarted unit test command slot attempt attempts running) =
-    retry_started_fields test command slot attempt attempts running
-kind_fields (TestFinished unit test statuses running stats) =
-    test_finished_fields test statuses running stats
-kind_fields (TestSkipped unit test reason) = skipped_fields test reason
-kind_fields (RunFinished stats) = run_finished_fields stats
+kind_fields (RunStarted event) = run_started_fields event
+kind_fields (StressSubRunStarted progress) = sub_run_started_fields progress
+kind_fields (StressSubRunFinished event) = sub_run_finished_fields event
+kind_fields (SetupScriptStarted event) = script_started_fields event
+kind_fields (SetupScriptSlow event) = script_slow_fields event
+kind_fields (SetupScriptFinished event) = script_finished_fields event
+kind_fields (TestStarted event) = test_started_fields event
+kind_fields (TestSlow event) = test_slow_fields event
+kind_fields (TestAttemptFailedWillRetry event) = attempt_failed_fields event
+kind_fields (TestRetryStarted event) = retry_started_fields event
+kind_fields (TestFinished event) = test_finished_fields event
+kind_fields (TestSkipped event) = test_skipped_fields event
+kind_fields (InfoStarted event) = info_started_fields event
+kind_fields (InfoResponse event) = info_answered_fields event
+kind_fields (InfoFinished missing) = info_finished_fields missing
+kind_fields (InputEnter event) = input_entered_fields event
+kind_fields (RunBeginCancel event) = run_cancelled_fields event
+kind_fields (RunBeginKill event) = run_cancelled_fields event
+kind_fields (RunPaused event) = job_controlled_fields event
+kind_fields (RunContinued event) = job_controlled_fields event
+kind_fields (RunFinished event) = run_finished_fields event
 
--- the fields of a test's event
+-- the fields of an event of the run
 unfoldable pub event_fields : TestEvent → List (List ℕ × Option Data)
 event_fields event =
-    ((codes "clock", Some (count event.clock))
+    (codes "clock", Some (count event.clock))
     ∷ (codes "elapsed", Some (count event.elapsed))
-    ∷ [])
-    ++ kind_fields event.kind
+    ∷ (codes "event", Some (string (event_word event.kind)))
+    ∷ kind_fields event.kind
+
+-- its line
+abbrev pub test_event_text : TestEvent → List ℕ
+test_event_text event = object_text (event_fields event)
 
 -- the line of what a reporter is told
 abbrev pub event_text : ReporterEvent → List ℕ
-event_text (Test event) = object_text (event_fields event)
+event_text Tick = object_text ((codes "event", Some (string (codes "tick"))) ∷ [])
+event_text (Test event) = test_event_text event

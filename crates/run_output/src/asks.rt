@@ -1,50 +1,81 @@
 // The lines of asks.
-ghost use Rattle.std.specs.Prelude.{◌≡◌, map, option_map, IfOk};
-ghost use Rattle.serde_json.specs.View.{view};
-ghost use Rattle.run_output.specs.Seen.{seen};
-ghost use Rattle.run_output.specs.Asks.{env_data, start_fields, ask_text};
+ghost use Rattle.std.specs.Prelude.{◌≡◌, IfOk};
+ghost use Rattle.run_output.specs.Fields.{object_text};
+ghost use Rattle.run_output.specs.Asks.{signal_word, start_fields, signal_fields, stop_self_fields, ask_text};
 
-use crate::fields::{Fields, object_line, pair_value, texts_value};
+use crate::info::method_name;
+use crate::leaf::Leaf;
+use crate::object::Object;
 use run_capture::{Mem, Text};
-use run_events::{Ask, StartAsk};
-use serde_json::Value;
+use run_events::{Ask, ChildSignal, SignalAsk, StartAsk};
 use std::alloc::Global;
 
-fn env_value(alloc: Global, env: &[(Text, Text)]) -> Mem<Value>
-    ensures { IfOk result (λ v. view v ≡ env_data env.now) }
+#[tactic(auto, unfolding(crate::specs::Asks::signal_word))]
+fn signal_name(signal: ChildSignal) -> &'static str
+    ensures { result.now ≡ signal_word signal }
 {
-    let mut items = Vec::new(alloc);
-    for variable in env {
-        items.push(pair_value(alloc, &variable.0, &variable.1)?)?;
+    match signal {
+        ChildSignal::End(method) => method_name(method),
+        ChildSignal::Tstp => "tstp",
+        ChildSignal::Cont => "cont",
     }
-    Ok(Value::Array(items))
 }
 
 #[tactic(auto, unfolding(crate::specs::Asks::start_fields))]
-fn start_parts(alloc: Global, turn: u64, start: &StartAsk) -> Mem<Fields>
-    ensures { IfOk result (λ v. seen v.items ≡ start_fields turn start.now) }
+fn start_line(alloc: Global, turn: u64, start: &StartAsk) -> Mem<Text>
+    ensures { IfOk result (λ t. t ≡ object_text (start_fields turn start.now)) }
 {
-    Ok(vec![in alloc;
-        ("ask", Some(Value::try_from_str(alloc, "start")?)),
-        ("attempt", Some(Value::from(start.attempt))),
-        (
-            "command",
-            Some(texts_value(alloc, start.command.as_slice())?)
-        ),
-        ("env", Some(env_value(alloc, start.env.as_slice())?)),
-        ("group", Some(Value::from(start.group))),
-        ("stdin", Some(Value::from(start.stdin))),
-        ("turn", Some(Value::from(turn))),
-        ("unit", Some(Value::from(start.unit))),
-    ]?)
+    Object::line(
+        alloc,
+        &[
+            ("ask", Leaf::Word("start")),
+            ("attempt", Leaf::Count(start.attempt)),
+            ("command", Leaf::Texts(&start.command)),
+            ("env", Leaf::Pairs(start.env.as_slice())),
+            ("group", Leaf::Truth(start.group)),
+            ("stdin", Leaf::Truth(start.stdin)),
+            ("turn", Leaf::Number(turn)),
+            ("unit", Leaf::Count(start.unit)),
+        ],
+    )
 }
 
-/// The line of an ask under the turn that asked it, without its line feed.
-#[tactic(auto, using(crate::proofs::Floats::start_no_float))]
+#[tactic(auto, unfolding(crate::specs::Asks::signal_fields))]
+fn signal_line(alloc: Global, turn: u64, ask: SignalAsk) -> Mem<Text>
+    ensures { IfOk result (λ t. t ≡ object_text (signal_fields turn ask)) }
+{
+    Object::line(
+        alloc,
+        &[
+            ("ask", Leaf::Word("signal")),
+            ("group", Leaf::Truth(ask.group)),
+            ("signal", Leaf::Word(signal_name(ask.signal))),
+            ("turn", Leaf::Number(turn)),
+            ("unit", Leaf::Count(ask.unit)),
+        ],
+    )
+}
+
+#[tactic(auto, unfolding(crate::specs::Asks::stop_self_fields))]
+fn stop_self_line(alloc: Global, turn: u64) -> Mem<Text>
+    ensures { IfOk result (λ t. t ≡ object_text (stop_self_fields turn)) }
+{
+    Object::line(
+        alloc,
+        &[
+            ("ask", Leaf::Word("stop-self")),
+            ("turn", Leaf::Number(turn)),
+        ],
+    )
+}
+
+/// The line of an ask under the turn that asked it, counted from 0, without its line feed.
 pub fn ask_line(alloc: Global, turn: u64, ask: &Ask) -> Mem<Text>
     ensures { IfOk result (λ t. t ≡ ask_text turn ask.now) }
 {
     match ask {
-        Ask::Start(start) => object_line(alloc, start_parts(alloc, turn, start)?),
+        Ask::Start(start) => start_line(alloc, turn, start),
+        Ask::Signal(ask) => signal_line(alloc, turn, *ask),
+        Ask::StopSelf => stop_self_line(alloc, turn),
     }
 }

@@ -1,10 +1,18 @@
 // Faults that end the program.
 
-/// What is wrong with a plan whose line is in its table.
+/// What is wrong with a plan whose line is in its table. Places are counted from 0.
 #[derive(Clone, Copy, Debug, Drop, PartialEq, Eq)]
 pub enum PlanFault {
-    /// The test at this place, counted from 0, has the binary and the name of one before it.
+    /// The group at this place has the limit 0; without a group, the run has 0 threads.
+    ZeroLimit { group: Option<u32> },
+    /// The test at this place has the binary and the name of one before it.
     DuplicateTest { test: u32 },
+    /// The test at this place names a group that the plan doesn't have.
+    UnknownGroup { test: u32 },
+    /// The test at this place has the weight 0.
+    ZeroWeight { test: u32 },
+    /// The test at this place has 4,294,967,295 retries.
+    TooManyRetries { test: u32 },
 }
 
 /// A fault that ends the program.
@@ -18,6 +26,8 @@ pub enum Fault {
     Plan(PlanFault),
     /// The turn of this number, counted from 0, may not come now.
     NotEnabled { turn: u64 },
+    /// The turn of this number, counted from 0, is a third signal that shuts the run down.
+    ThirdSignal { turn: u64 },
     /// The input ended before the run did.
     Unfinished,
     /// A line could not be written.

@@ -1,12 +1,14 @@
 // The lines of faults, and their exit statuses.
 ghost use Rattle.std.specs.Prelude.{◌≡◌, IfOk};
-ghost use Rattle.run_output.specs.Seen.{seen};
-ghost use Rattle.run_output.specs.Faults.{fault_word, fault_status, plan_fields, place_fields, fault_fields, fault_text};
+ghost use Rattle.run_output.specs.Fields.{put_all, rows};
+ghost use Rattle.run_output.specs.Leaf.{leaf_data};
+ghost use Rattle.run_output.specs.Object.{members_of};
+ghost use Rattle.run_output.specs.Faults.{fault_word, fault_status, plan_fields, place_fields, fault_text};
 
-use crate::fields::{Fields, object_line};
+use crate::leaf::Leaf;
+use crate::object::Object;
 use crate::{Fault, PlanFault};
 use run_capture::{Mem, Text};
-use serde_json::Value;
 use std::alloc::Global;
 
 impl Fault {
@@ -19,6 +21,7 @@ impl Fault {
             Fault::Line { .. } => 3,
             Fault::Plan(_) => 5,
             Fault::NotEnabled { .. } => 6,
+            Fault::ThirdSignal { .. } => 7,
             Fault::Unfinished => 8,
             Fault::Report => 9,
             Fault::Read => 10,
@@ -37,6 +40,7 @@ fn fault_name(fault: Fault) -> &'static str
         Fault::Line { .. } => "line",
         Fault::Plan(_) => "plan",
         Fault::NotEnabled { .. } => "not-enabled",
+        Fault::ThirdSignal { .. } => "third-signal",
         Fault::Unfinished => "unfinished",
         Fault::Report => "report",
         Fault::Read => "read",
@@ -46,47 +50,63 @@ fn fault_name(fault: Fault) -> &'static str
 }
 
 #[tactic(auto, unfolding(crate::specs::Faults::plan_fields))]
-fn plan_parts(alloc: Global, plan: PlanFault) -> Mem<Fields>
-    ensures { IfOk result (λ v. seen v.items ≡ plan_fields plan) }
+fn plan_place(plan: PlanFault) -> [(&'static str, Leaf<'static>); 2]
+    ensures { rows leaf_data result ≡ plan_fields plan }
 {
     match plan {
-        PlanFault::DuplicateTest { test } => Ok(vec![in alloc;
-            ("kind", Some(Value::try_from_str(alloc, "duplicate-test")?)),
-            ("test", Some(Value::from(test))),
-        ]?),
+        PlanFault::ZeroLimit { group } => [
+            ("group", Leaf::count_of(group)),
+            ("kind", Leaf::Word("zero-limit")),
+        ],
+        PlanFault::DuplicateTest { test } => [
+            ("kind", Leaf::Word("duplicate-test")),
+            ("test", Leaf::Count(test)),
+        ],
+        PlanFault::UnknownGroup { test } => [
+            ("kind", Leaf::Word("unknown-group")),
+            ("test", Leaf::Count(test)),
+        ],
+        PlanFault::ZeroWeight { test } => [
+            ("kind", Leaf::Word("zero-weight")),
+            ("test", Leaf::Count(test)),
+        ],
+        PlanFault::TooManyRetries { test } => [
+            ("kind", Leaf::Word("too-many-retries")),
+            ("test", Leaf::Count(test)),
+        ],
     }
 }
 
-#[tactic(auto, unfolding(crate::specs::Faults::place_fields))]
-fn place_parts(alloc: Global, fault: Fault) -> Mem<Fields>
-    ensures { IfOk result (λ v. seen v.items ≡ place_fields fault) }
+// Where a fault is.
+fn with_place(alloc: Global, object: Object, fault: Fault) -> Mem<Object>
+    ensures { IfOk result
+        (λ o. members_of o ≡ put_all (place_fields fault) (members_of object)) }
 {
     match fault {
-        Fault::Line { line } => Ok(vec![in alloc; ("line", Some(Value::from(line)))]?),
-        Fault::Plan(plan) => plan_parts(alloc, plan),
-        Fault::NotEnabled { turn } => Ok(vec![in alloc; ("turn", Some(Value::from(turn)))]?),
-        _ => Ok(Vec::new(alloc)),
+        Fault::Line { line } => object.with(alloc, &[("line", Leaf::Number(line))]),
+        Fault::Plan(plan) => object.with(alloc, &plan_place(plan)),
+        Fault::NotEnabled { turn } | Fault::ThirdSignal { turn } => {
+            object.with(alloc, &[("turn", Leaf::Number(turn))])
+        }
+        Fault::Words
+        | Fault::Unfinished
+        | Fault::Report
+        | Fault::Read
+        | Fault::Memory
+        | Fault::TooLong => Ok(object),
     }
-}
-
-#[tactic(auto, unfolding(crate::specs::Faults::fault_fields))]
-fn fault_parts(alloc: Global, fault: Fault) -> Mem<Fields>
-    ensures { IfOk result (λ v. seen v.items ≡ fault_fields fault) }
-{
-    let name = Value::try_from_str(alloc, fault_name(fault))?;
-    let mut fields = vec![in alloc;
-        ("fault", Some(name)),
-        ("status", Some(Value::from(fault.status()))),
-    ]?;
-    let mut place = place_parts(alloc, fault)?;
-    fields.append(&mut place)?;
-    Ok(fields)
 }
 
 /// The line of a fault, without its line feed.
-#[tactic(auto, using(crate::proofs::Floats::fault_no_float))]
+#[tactic(auto, unfolding(crate::specs::Faults::fault_fields))]
 pub fn fault_line(alloc: Global, fault: Fault) -> Mem<Text>
     ensures { IfOk result (λ t. t ≡ fault_text fault) }
 {
-    object_line(alloc, fault_parts(alloc, fault)?)
+    let head = [
+        ("fault", Leaf::Word(fault_name(fault))),
+        ("status", Leaf::Count(fault.status() as u32)),
+    ];
+    let object = Object::new(alloc).with(alloc, &head)?;
+    let object = with_place(alloc, object, fault)?;
+    object.text(alloc)
 }

@@ -4,17 +4,28 @@
 #![tactic(auto)]
 
 mod asks;
+mod errors;
 mod events;
+mod events_of_run;
+mod events_of_scripts;
+mod events_of_tests;
 mod fault;
 mod faults;
+mod field;
 mod fields;
+mod info;
+mod items;
+mod leaf;
 mod line_reporter;
+mod lists;
+mod object;
 mod outcomes;
-mod output;
-mod results;
+mod plain;
+mod slots;
 mod stats;
-#[cfg(test)]
-mod tests;
+mod statuses;
+mod stress;
+mod texts;
 
 pub use asks::ask_line;
 pub use events::event_line;

@@ -1,13 +1,13 @@
 // The lines of outcomes.
-ghost use Rattle.std.specs.Prelude.{◌≡◌, map, option_map, IfOk};
-ghost use Rattle.serde_json.specs.View.{view};
-ghost use Rattle.run_output.specs.Seen.{seen};
-ghost use Rattle.run_output.specs.Outcomes.{step_word, outcome_fields, outcome_text};
+ghost use Rattle.std.specs.Prelude.{◌≡◌, option_map, IfOk};
+ghost use Rattle.serde_json.specs.Data.{string};
+ghost use Rattle.run_output.specs.Leaf.{leaf_data};
+ghost use Rattle.run_output.specs.Outcomes.{step_word, outcome_word, step_of, outcome_text};
 
-use crate::fields::{Fields, object_line};
+use crate::leaf::Leaf;
+use crate::object::Object;
 use run_capture::{Mem, Text};
 use run_events::{RunOutcome, RunStep};
-use serde_json::Value;
 use std::alloc::Global;
 
 #[tactic(auto, unfolding(crate::specs::Outcomes::step_word))]
@@ -20,32 +20,40 @@ fn step_name(step: RunStep) -> &'static str
     }
 }
 
-#[tactic(auto, unfolding(crate::specs::Outcomes::outcome_fields))]
-fn outcome_parts(alloc: Global, outcome: RunOutcome) -> Mem<Fields>
-    ensures { IfOk result (λ v. seen v.items ≡ outcome_fields outcome) }
+#[tactic(auto, unfolding(crate::specs::Outcomes::outcome_word))]
+fn outcome_name(outcome: RunOutcome) -> &'static str
+    ensures { result.now ≡ outcome_word outcome }
 {
-    Ok(match outcome {
-        RunOutcome::Success => vec![in alloc;
-            ("outcome", Some(Value::try_from_str(alloc, "success")?)),
-        ]?,
-        RunOutcome::NoTestsRun => vec![in alloc;
-            ("outcome", Some(Value::try_from_str(alloc, "no-tests-run")?)),
-        ]?,
-        RunOutcome::Failed { step } => vec![in alloc;
-            ("outcome", Some(Value::try_from_str(alloc, "failed")?)),
-            ("step", Some(Value::try_from_str(alloc, step_name(step))?)),
-        ]?,
-        RunOutcome::Cancelled { step } => vec![in alloc;
-            ("outcome", Some(Value::try_from_str(alloc, "cancelled")?)),
-            ("step", Some(Value::try_from_str(alloc, step_name(step))?)),
-        ]?,
-    })
+    match outcome {
+        RunOutcome::Success => "success",
+        RunOutcome::NoTestsRun => "no-tests-run",
+        RunOutcome::Failed { .. } => "failed",
+        RunOutcome::Cancelled { .. } => "cancelled",
+    }
+}
+
+// The step at which the run failed or was cancelled.
+fn step_leaf(outcome: RunOutcome) -> Leaf<'static>
+    ensures { leaf_data result ≡ option_map (λ step. string (step_word step)) (step_of outcome) }
+{
+    match outcome {
+        RunOutcome::Success | RunOutcome::NoTestsRun => Leaf::Absent,
+        RunOutcome::Failed { step } | RunOutcome::Cancelled { step } => {
+            Leaf::Word(step_name(step))
+        }
+    }
 }
 
 /// The line of an outcome, without its line feed.
-#[tactic(auto, using(crate::proofs::Floats::outcome_no_float))]
+#[tactic(auto, unfolding(crate::specs::Outcomes::outcome_fields))]
 pub fn outcome_line(alloc: Global, outcome: RunOutcome) -> Mem<Text>
     ensures { IfOk result (λ t. t ≡ outcome_text outcome) }
 {
-    object_line(alloc, outcome_parts(alloc, outcome)?)
+    Object::line(
+        alloc,
+        &[
+            ("outcome", Leaf::Word(outcome_name(outcome))),
+            ("step", step_leaf(outcome)),
+        ],
+    )
 }

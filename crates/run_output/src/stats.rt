@@ -1,18 +1,20 @@
 // The statistics of a run as an object.
-ghost use Rattle.std.specs.Prelude.{◌≡◌, map, option_map, IfOk};
+ghost use Rattle.std.specs.Prelude.{◌≡◌, option_map, IfOk};
 ghost use Rattle.serde_json.specs.Data.{string};
-ghost use Rattle.serde_json.specs.View.{view};
-ghost use Rattle.run_output.specs.Seen.{seen};
+ghost use Rattle.run_output.specs.Fields.{rows};
+ghost use Rattle.run_output.specs.Leaf.{leaf_data};
+ghost use Rattle.run_output.specs.Plain.{data_of};
 ghost use Rattle.run_output.specs.Stats.{reason_word, script_fields, test_fields, stats_data};
 
-use crate::fields::{Fields, nonzero_field, object_value};
+use crate::leaf::Leaf;
+use crate::object::Object;
+use crate::plain::Plain;
 use run_capture::Mem;
 use run_events::{CancelReason, RunStats};
-use serde_json::Value;
 use std::alloc::Global;
 
 #[tactic(auto, unfolding(crate::specs::Stats::reason_word))]
-fn reason(reason: CancelReason) -> &'static str
+fn reason_name(reason: CancelReason) -> &'static str
     ensures { result.now ≡ reason_word reason }
 {
     match reason {
@@ -27,79 +29,77 @@ fn reason(reason: CancelReason) -> &'static str
     }
 }
 
-fn reason_field(alloc: Global, why: Option<CancelReason>) -> Mem<Option<Value>>
-    ensures { IfOk result
-        (λ field. option_map view field ≡ option_map (λ r. string (reason_word r)) why) }
+fn reason_leaf(reason: Option<CancelReason>) -> Leaf<'static>
+    ensures { leaf_data result ≡ option_map (λ r. string (reason_word r)) reason }
 {
-    match why {
-        Some(why) => Ok(Some(Value::try_from_str(alloc, reason(why))?)),
-        None => Ok(None),
+    match reason {
+        Some(reason) => Leaf::Word(reason_name(reason)),
+        None => Leaf::Absent,
     }
 }
 
 // The counts of the run and of its setup scripts.
 #[tactic(auto, unfolding(crate::specs::Stats::script_fields))]
-fn script_counts(alloc: Global, stats: &RunStats) -> Mem<Fields>
-    ensures { IfOk result (λ v. seen v.items ≡ script_fields stats.now) }
+fn script_counts(stats: &RunStats) -> [(&'static str, Leaf<'static>); 8]
+    ensures { rows leaf_data result ≡ script_fields stats.now }
 {
-    Ok(vec![in alloc;
-        ("initial_run_count", nonzero_field(stats.initial_run_count)),
-        ("finished_count", nonzero_field(stats.finished_count)),
+    [
+        ("initial_run_count", Leaf::Nonzero(stats.initial_run_count)),
+        ("finished_count", Leaf::Nonzero(stats.finished_count)),
         (
             "setup_scripts_initial_count",
-            nonzero_field(stats.setup_scripts_initial_count)
+            Leaf::Nonzero(stats.setup_scripts_initial_count),
         ),
         (
             "setup_scripts_finished_count",
-            nonzero_field(stats.setup_scripts_finished_count)
+            Leaf::Nonzero(stats.setup_scripts_finished_count),
         ),
         (
             "setup_scripts_passed",
-            nonzero_field(stats.setup_scripts_passed)
+            Leaf::Nonzero(stats.setup_scripts_passed),
         ),
         (
             "setup_scripts_failed",
-            nonzero_field(stats.setup_scripts_failed)
+            Leaf::Nonzero(stats.setup_scripts_failed),
         ),
         (
             "setup_scripts_exec_failed",
-            nonzero_field(stats.setup_scripts_exec_failed)
+            Leaf::Nonzero(stats.setup_scripts_exec_failed),
         ),
         (
             "setup_scripts_timed_out",
-            nonzero_field(stats.setup_scripts_timed_out)
+            Leaf::Nonzero(stats.setup_scripts_timed_out),
         ),
-    ]?)
+    ]
 }
 
 // The counts of its tests, and why it is cancelled.
 #[tactic(auto, unfolding(crate::specs::Stats::test_fields))]
-fn test_counts(alloc: Global, stats: &RunStats) -> Mem<Fields>
-    ensures { IfOk result (λ v. seen v.items ≡ test_fields stats.now) }
+fn test_counts(stats: &RunStats) -> [(&'static str, Leaf<'static>); 12]
+    ensures { rows leaf_data result ≡ test_fields stats.now }
 {
-    let reason = reason_field(alloc, stats.cancel_reason)?;
-    Ok(vec![in alloc;
-        ("passed", nonzero_field(stats.passed)),
-        ("passed_slow", nonzero_field(stats.passed_slow)),
-        ("passed_timed_out", nonzero_field(stats.passed_timed_out)),
-        ("flaky", nonzero_field(stats.flaky)),
-        ("failed", nonzero_field(stats.failed)),
-        ("failed_slow", nonzero_field(stats.failed_slow)),
-        ("failed_timed_out", nonzero_field(stats.failed_timed_out)),
-        ("leaky", nonzero_field(stats.leaky)),
-        ("leaky_failed", nonzero_field(stats.leaky_failed)),
-        ("exec_failed", nonzero_field(stats.exec_failed)),
-        ("skipped", nonzero_field(stats.skipped)),
-        ("cancel_reason", reason),
-    ]?)
+    [
+        ("passed", Leaf::Nonzero(stats.passed)),
+        ("passed_slow", Leaf::Nonzero(stats.passed_slow)),
+        ("passed_timed_out", Leaf::Nonzero(stats.passed_timed_out)),
+        ("flaky", Leaf::Nonzero(stats.flaky)),
+        ("failed", Leaf::Nonzero(stats.failed)),
+        ("failed_slow", Leaf::Nonzero(stats.failed_slow)),
+        ("failed_timed_out", Leaf::Nonzero(stats.failed_timed_out)),
+        ("leaky", Leaf::Nonzero(stats.leaky)),
+        ("leaky_failed", Leaf::Nonzero(stats.leaky_failed)),
+        ("exec_failed", Leaf::Nonzero(stats.exec_failed)),
+        ("skipped", Leaf::Nonzero(stats.skipped)),
+        ("cancel_reason", reason_leaf(stats.cancel_reason)),
+    ]
 }
 
 /// The statistics, each count left out where it is 0.
-pub(crate) fn stats_value(alloc: Global, stats: &RunStats) -> Mem<Value>
-    ensures { IfOk result (λ v. view v ≡ stats_data stats.now) }
+#[tactic(auto, using(crate::proofs::FieldLemmas::put_all_more))]
+pub(crate) fn stats_plain(alloc: Global, stats: &RunStats) -> Mem<Plain>
+    ensures { IfOk result (λ p. data_of p ≡ stats_data stats.now) }
 {
-    let mut fields = script_counts(alloc, stats)?;
-    let mut tests = test_counts(alloc, stats)?;
-    fields.append(&mut tests)?;
-    object_value(alloc, fields)
+    let object = Object::new(alloc).with(alloc, &script_counts(stats))?;
+    let object = object.with(alloc, &test_counts(stats))?;
+    Ok(object.done())
 }

@@ -65,8 +65,13 @@ fn identity_variables(alloc: Global, unit: &UnitView) -> Mem<Vec<(Text, Text)>>
     let list = Vec::new(alloc);
     let list = with_id(alloc, list, "NEXTEST_RUN_ID", unit.run_id)?;
     let list = with_text(alloc, list, "NEXTEST_RUN_MODE", "test")?;
-    let list = with_text(alloc, list, "NEXTEST_BINARY_ID", unit.id.binary.as_str())?;
-    let list = with_text(alloc, list, "NEXTEST_TEST_NAME", unit.id.name.as_str())?;
+    let list = with_text(
+        alloc,
+        list,
+        "NEXTEST_BINARY_ID",
+        unit.test.id.binary.as_str(),
+    )?;
+    let list = with_text(alloc, list, "NEXTEST_TEST_NAME", unit.test.id.name.as_str())?;
     let list = with_number(alloc, list, "NEXTEST_ATTEMPT", unit.attempt)?;
     let list = with_number(alloc, list, "NEXTEST_TOTAL_ATTEMPTS", ATTEMPTS)?;
     Ok(list)
@@ -115,12 +120,16 @@ fn environment(alloc: Global, unit: &UnitView) -> Mem<List<(Text, Text)>>
 pub fn start_of(alloc: Global, unit: &UnitView) -> Mem<Ask>
     ensures { IfOk result (λ ask. ask ≡ start_ask unit.now) }
 {
+    let command = unit.command.copy(alloc)?;
+    let env = environment(alloc, unit)?;
     Ok(Ask::Start(StartAsk {
-        unit: unit.unit,
+        unit: unit.test.unit,
         attempt: unit.attempt,
-        command: unit.command.copy(alloc)?,
-        env: environment(alloc, unit)?,
+        command,
+        env,
         group: true,
         stdin: false,
+        streams: List::new(),
+        env_path: None,
     }))
 }

@@ -2,12 +2,14 @@
 //! the message that it sends and what it asks. The engine uses these contracts and nothing else.
 #![tactic(auto)]
 
+mod effects;
+mod ending;
 mod environment;
-#[cfg(test)]
-mod tests;
 mod unit;
 
+pub use effects::UnitEffects;
+// `start_of` has the environment in its contract, and the next two are the given surface of a unit.
 pub use environment::start_of;
 pub use run_events::create_execution_result;
 pub use run_model::{Phase, UnitTurn};
-pub use unit::{Unit, UnitEffects};
+pub use unit::Unit;

@@ -1,18 +1,19 @@
 // A unit: one test with its attempts.
-ghost use Rattle.std.specs.Prelude.{◌≡◌, ◌≤◌, ◌<◌, length, IfOk, OnOk, OnErr, IsTrue, Option, None, Some, option_map, option_to_list, slice_get, true};
-ghost use Rattle.run_capture.specs.Output.{uncaptured};
-ghost use Rattle.run_events.specs.Result.{execution_result};
-ghost use Rattle.run_events.specs.declared.result.ChildExecutionOutput.TheVariants.{Output};
-ghost use Rattle.run_model.specs.Unit.{row, takes, status_at, ended, exited};
-ghost use Rattle.run_model.specs.Admission.{first_view, skipped_view, is_last};
-ghost use Rattle.run_events.specs.declared.message.Message.TheVariants.{Start, Skip};
-ghost use Rattle.run_model.specs.declared.phase.Phase.TheVariants.{StartSent, Over};
+ghost use Rattle.std.specs.Prelude.{◌≡◌, ◌≤◌, ◌<◌, ◌^◌, length, IfOk, OnOk, OnErr, Some, option_map, slice_get, true, false};
+ghost use Rattle.run_model.specs.Unit.{row, row_at, takes, finish_message, decided};
+ghost use Rattle.run_model.specs.Admission.{first_view, skipped_view, start_message, skip_message, is_last, units_in, unit_of_test, flaky_of};
+ghost use Rattle.run_model.specs.declared.phase.Phase.TheVariants as phases;
+ghost use Rattle.run_model.specs.declared.unit_turn.UnitTurn.TheVariants as turns;
+ghost use Rattle.run_events.specs.declared.message.Message.TheVariants.{Finish};
+ghost use Rattle.run_unit.specs.Effects.{IsRow};
 
-use crate::environment::{ATTEMPTS, start_of};
-use run_capture::{ChildFdError, ChildOutput, Duplicate, List, Mem, Text};
+use crate::effects::{UnitEffects, quiet};
+use crate::ending::{end_child, end_wait, fail_start};
+use crate::environment::start_of;
+use run_capture::{Duplicate, List, Mem, Text};
 use run_events::{
-    Ask, ChildExecutionOutput, ChildExit, ExecuteStatus, ExecutionResult, LeakTimeoutResult,
-    Message, Settings, TestSlotAssignment, create_execution_result,
+    FlakyResult, Message, PlanTest, Settings, TestFinish, TestSkip, TestSlotAssignment, TestStart,
+    TestUnit,
 };
 use run_model::{Phase, UnitTurn, UnitView};
 use std::alloc::Global;
@@ -32,83 +33,104 @@ impl Model for Unit {
     ghost view = { λ u. u.view };
 }
 
-/// What a step of a unit gives to the run.
-#[derive(Drop)]
-pub struct UnitEffects {
-    /// The message that it sends.
-    pub sent: Option<Message>,
-    /// What it asks of the outside.
-    pub asked: Option<Ask>,
-    /// Whether it is over now.
-    pub over: bool,
+// What a pass after a failed attempt counts as: for all tests alike where that is set.
+fn flaky_of(settings: &Settings, test: &PlanTest) -> FlakyResult
+    ensures { result ≡ flaky_of settings.now test.now }
+{
+    match settings.flaky_result {
+        Some(flaky) => flaky,
+        None => test.flaky,
+    }
+}
+
+// A planned test as the unit of this number.
+fn first_view(
+    alloc: Global,
+    settings: &Settings,
+    unit: u32,
+    slot: TestSlotAssignment,
+    planned: &PlanTest,
+) -> Mem<UnitView>
+    ensures { IfOk result (λ u. u ≡ first_view settings.now unit slot planned.now) }
+{
+    let command = planned.command.copy(alloc)?;
+    let id = planned.id.copy(alloc)?;
+    Ok(UnitView {
+        test: TestUnit {
+            unit,
+            id,
+            stress_index: None,
+        },
+        command,
+        slot,
+        flaky: flaky_of(settings, planned),
+        run_id: settings.plan.head.run_id,
+        threads: settings.threads,
+        phase: Phase::StartSent,
+        attempt: 1,
+        start: 0,
+        statuses: List::new(),
+    })
 }
 
 impl Unit {
-    /// A test of the plan that is admitted in this slot.
+    /// The test at this place of the plan, admitted in this slot.
     pub fn test(
         alloc: Global,
         settings: &Settings,
         test: u32,
         slot: TestSlotAssignment,
     ) -> Mem<Unit>
-        requires { test < length settings.now.plan.tests }
-        ensures view { IfOk result (λ u. option_map (first_view settings.now test slot.global) (slice_get settings.now.plan.tests test) ≡ Some u) }
-        ensures phase { IfOk result (λ u. u.phase ≡ StartSent) }
+        requires planned { test < length settings.now.plan.tests }
+        requires few { units_in settings.now < 2 ^ 32 }
+        ensures view { IfOk result (λ u. option_map (first_view settings.now (unit_of_test settings.now test) slot)
+            (slice_get settings.now.plan.tests test) ≡ Some u) }
+        ensures phase { IfOk result (λ u. u.phase ≡ phases.StartSent) }
     {
         let planned = &settings.plan.tests.as_slice()[test as usize];
-        Ok(Unit {
-            view: UnitView {
-                unit: test,
-                id: planned.id.copy(alloc)?,
-                command: planned.command.copy(alloc)?,
-                slot,
-                run_id: settings.plan.run_id,
-                threads: settings.threads,
-                phase: Phase::StartSent,
-                attempt: 1,
-                start: 0,
-                statuses: List::new(),
-            },
-        })
+        let unit = settings.plan.scripts.len() as u32 + test;
+        let view = first_view(alloc, settings, unit, slot, planned)?;
+        Ok(Unit { view })
     }
 
-    /// A test of the plan that doesn't match: it is over from its admission.
+    /// The test at this place of the plan, which doesn't match: it is over from its admission.
     pub fn skipped(alloc: Global, settings: &Settings, test: u32) -> Mem<Unit>
-        requires { test < length settings.now.plan.tests }
-        ensures view { IfOk result (λ u. option_map (skipped_view settings.now test) (slice_get settings.now.plan.tests test) ≡ Some u) }
-        ensures phase { IfOk result (λ u. u.phase ≡ Over) }
+        requires planned { test < length settings.now.plan.tests }
+        requires few { units_in settings.now < 2 ^ 32 }
+        ensures view { IfOk result (λ u. option_map (skipped_view settings.now (unit_of_test settings.now test))
+            (slice_get settings.now.plan.tests test) ≡ Some u) }
+        ensures phase { IfOk result (λ u. u.phase ≡ phases.Over) }
     {
-        let slot = TestSlotAssignment { global: 0 };
-        let Unit { view } = Unit::test(alloc, settings, test, slot)?;
-        Ok(Unit {
-            view: UnitView {
-                phase: Phase::Over,
-                ..view
-            },
-        })
+        let slot = TestSlotAssignment {
+            global: 0,
+            group: None,
+        };
+        let mut unit = Unit::test(alloc, settings, test, slot)?;
+        unit.view.phase = Phase::Over;
+        Ok(unit)
     }
 
     /// The message that it sends when it is admitted.
     pub fn start_message(&self, alloc: Global) -> Mem<Message>
-        ensures { IfOk result (λ m. m ≡ Start self.now.unit self.now.id self.now.command self.now.slot) }
+        ensures { IfOk result (λ m. m ≡ start_message self.now) }
     {
-        Ok(Message::Start {
-            unit: self.view.unit,
-            test: self.view.id.copy(alloc)?,
-            command: self.view.command.copy(alloc)?,
-            slot: self.view.slot,
-        })
+        let command = self.view.command.copy(alloc)?;
+        let slot = self.view.slot.copy(alloc)?;
+        let test = self.view.test.copy(alloc)?;
+        Ok(Message::Start(TestStart {
+            test,
+            command,
+            slot,
+        }))
     }
 
     /// The message that it sends when it is admitted and skipped, for this reason.
     pub fn skip_message(&self, alloc: Global, reason: &Text) -> Mem<Message>
-        ensures { IfOk result (λ m. m ≡ Skip self.now.unit self.now.id reason.now) }
+        ensures { IfOk result (λ m. m ≡ skip_message self.now reason.now) }
     {
-        Ok(Message::Skip {
-            unit: self.view.unit,
-            test: self.view.id.copy(alloc)?,
-            reason: reason.copy(alloc)?,
-        })
+        let reason = reason.copy(alloc)?;
+        let test = self.view.test.copy(alloc)?;
+        Ok(Message::Skip(TestSkip { test, reason }))
     }
 
     pub fn phase(&self) -> Phase
@@ -118,10 +140,10 @@ impl Unit {
     }
 
     /// The slot that it holds until it is over.
-    pub fn slot(&self) -> TestSlotAssignment
-        ensures { result ≡ self.now.slot }
+    pub fn slot(&self) -> &TestSlotAssignment
+        ensures { result.now ≡ self.now.slot }
     {
-        self.view.slot
+        &self.view.slot
     }
 
     /// Whether the unit takes a turn.
@@ -143,23 +165,11 @@ impl Unit {
     pub fn step(&mut self, alloc: Global, turn: UnitTurn, now: u64) -> Mem<UnitEffects>
         requires enabled { takes self.old.phase turn ≡ true }
         requires later { self.old.start ≤ now }
-        ensures next { OnOk result (self.new ≡ (row now turn self.old).next) }
-        ensures sent { IfOk result (λ effects. effects.sent ≡ (row now turn self.old).sent) }
-        ensures asked { IfOk result (λ effects. effects.asked ≡ (row now turn self.old).asked) }
-        ensures over { IfOk result (λ effects. effects.over ≡ is_last self.new.phase) }
+        ensures row { IfOk result (IsRow (row now turn self.old) self.new) }
         ensures err { OnErr result (self.new ≡ self.old) }
     {
         match turn {
-            UnitTurn::Answered { go: true } => {
-                let ask = start_of(alloc, &self.view)?;
-                self.view.phase = Phase::Starting;
-                self.view.start = now;
-                Ok(UnitEffects {
-                    sent: None,
-                    asked: Some(ask),
-                    over: false,
-                })
-            }
+            UnitTurn::Answered { go: true } => self.let_go(alloc, now),
             UnitTurn::Answered { go: false } => {
                 self.view.phase = Phase::Over;
                 Ok(quiet(true))
@@ -168,110 +178,52 @@ impl Unit {
                 self.view.phase = Phase::Running;
                 Ok(quiet(false))
             }
-            UnitTurn::StartFailed { error } => {
-                let output = ChildExecutionOutput::StartError(error);
-                self.end_attempt(alloc, ExecutionResult::ExecFail, output, now)?;
-                Ok(quiet(false))
-            }
-            UnitTurn::Exit { exit } => {
-                self.end_child(alloc, Some(exit), List::new(), now)?;
-                Ok(quiet(false))
-            }
-            UnitTurn::WaitFailed { error } => {
-                let mut errors = List::new();
-                errors.push(alloc, ChildFdError::Wait(error))?;
-                self.end_child(alloc, None, errors, now)?;
-                Ok(quiet(false))
-            }
-            UnitTurn::Decide { .. } => {
-                let message = Message::Finish {
-                    unit: self.view.unit,
-                    test: self.view.id.copy(alloc)?,
-                    statuses: self.view.statuses.copy(alloc)?,
-                };
-                self.view.phase = Phase::Over;
-                Ok(UnitEffects {
-                    sent: Some(message),
-                    asked: None,
-                    over: true,
-                })
-            }
+            UnitTurn::StartFailed { error } => fail_start(alloc, &mut self.view, error, now),
+            UnitTurn::Exit { exit } => end_child(alloc, &mut self.view, exit, now),
+            UnitTurn::WaitFailed { error } => end_wait(alloc, &mut self.view, error, now),
+            UnitTurn::Decide { .. } => self.decide(alloc),
         }
     }
 
-    // Its child ended so, or the wait for it failed, with these faults. No output is captured yet.
-    fn end_child(
-        &mut self,
-        alloc: Global,
-        exit: Option<ChildExit>,
-        errors: List<ChildFdError>,
-        now: u64,
-    ) -> Mem<()>
-        requires { self.old.start ≤ now }
-        ensures ended { OnOk result (self.new ≡ exited now exit errors self.old) }
+    // It is let go: its attempt begins now, and its start is asked.
+    fn let_go(&mut self, alloc: Global, now: u64) -> Mem<UnitEffects>
+        ensures row { IfOk result (IsRow (row_at now phases.StartSent (turns.Answered true) self.old) self.new) }
         ensures err { OnErr result (self.new ≡ self.old) }
     {
-        let ended = create_execution_result(
-            exit,
-            errors.as_slice(),
-            false,
-            LeakTimeoutResult::Pass,
-        );
-        let output = ChildExecutionOutput::Output {
-            output: ChildOutput::uncaptured(),
-            errors,
-        };
-        self.end_attempt(alloc, ended, output, now)
+        let ask = start_of(alloc, &self.view)?;
+        self.view.phase = Phase::Starting;
+        self.view.start = now;
+        Ok(UnitEffects {
+            sent: None,
+            asked: Some(ask),
+            over: false,
+        })
     }
 
-    // Its attempt ends at this moment, with this result.
-    fn end_attempt(
-        &mut self,
-        alloc: Global,
-        outcome: ExecutionResult,
-        output: ChildExecutionOutput,
-        now: u64,
-    ) -> Mem<()>
-        requires { self.old.start ≤ now }
-        ensures ended { OnOk result (self.new ≡ ended now outcome output self.old) }
+    // It is done: its attempts are told.
+    fn decide(&mut self, alloc: Global) -> Mem<UnitEffects>
+        ensures row { IfOk result (IsRow (decided self.old) self.new) }
         ensures err { OnErr result (self.new ≡ self.old) }
     {
-        let status = status_at(&self.view, outcome, output, now);
-        self.view.statuses.push(alloc, status)?;
-        self.view.phase = Phase::Deciding;
-        Ok(())
+        let finish = finish_of(alloc, &self.view)?;
+        self.view.phase = Phase::Over;
+        Ok(UnitEffects {
+            sent: Some(Message::Finish(finish)),
+            asked: None,
+            over: true,
+        })
     }
 }
 
-// A step that sends and asks nothing.
-fn quiet(over: bool) -> UnitEffects
-    ensures { result ≡ record { sent = None; asked = None; over = over } }
+// What is told of a test that is done.
+fn finish_of(alloc: Global, view: &UnitView) -> Mem<TestFinish>
+    ensures { IfOk result (λ finish. Finish finish ≡ finish_message view.now) }
 {
-    UnitEffects {
-        sent: None,
-        asked: None,
-        over,
-    }
-}
-
-// The status of the current attempt, where it ends at this moment.
-fn status_at(
-    view: &UnitView,
-    outcome: ExecutionResult,
-    output: ChildExecutionOutput,
-    now: u64,
-) -> ExecuteStatus
-    requires { view.now.start ≤ now }
-    ensures { result ≡ status_at now outcome output view.now }
-{
-    ExecuteStatus {
-        attempt: view.attempt,
-        attempts: ATTEMPTS,
-        delay: 0,
-        result: outcome,
-        output,
-        slow: false,
-        start: view.start,
-        time: now - view.start,
-    }
+    let statuses = view.statuses.copy(alloc)?;
+    let test = view.test.copy(alloc)?;
+    Ok(TestFinish {
+        test,
+        statuses,
+        flaky: view.flaky,
+    })
 }

@@ -1,7 +1,8 @@
 use Rattle.std.proofs.Common.{◌≡◌, ◌+◌, ◌<◌, ◌^◌, length, ap, sym, subst, ◌∙◌, arith}
 use Rattle.run_engine.specs.World.{World, TakesTurn}
 use Rattle.run_engine.specs.Standing.{sound}
-use Rattle.run_engine.specs.Execution.{Takes, turns_of}
+use Rattle.run_laws.specs.Course.{turns_of}
+use Rattle.run_engine.specs.Execution.{Takes}
 use Rattle.run_engine.proofs.TakesLemmas.{takes-more, turns-push}
 use Rattle.run_engine.proofs.runner.take_all.Goals as goal
 

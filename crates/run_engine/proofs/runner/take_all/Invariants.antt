@@ -1,6 +1,7 @@
 use Rattle.std.proofs.Common.{◌≡◌, take}
 use Rattle.run_engine.specs.Standing.{sound}
-use Rattle.run_engine.specs.Execution.{Takes, turns_of}
+use Rattle.run_laws.specs.Course.{turns_of}
+use Rattle.run_engine.specs.Execution.{Takes}
 use Rattle.run_engine.proofs.runner.take_all.Given as goal
 
 abbrev pub invariant-loop-place : goal.invariant-loop-place

@@ -1,8 +1,14 @@
-use Rattle.std.proofs.Common.{◌≡◌, ◌+◌, ◌∷◌, ◌++◌, [], take, zip, length, sym, subst, arith, ap, ◌∙◌, length-append, is_some}
+use Rattle.std.proofs.Common.{◌≡◌, ◌+◌, ◌∷◌, ◌++◌, [], take, zip, length, refl, sym, subst, arith, ap, ◌∙◌, length-append, is_some, is_none, not, Option, Some, None}
+use Rattle.std.specs.List.{list_all}
+use Rattle.std.proofs.lemmas.List.Folds.{list_all-append}
 use Rattle.run_engine.specs.World.{TellsEvents, CountsErrors, earlier}
-use Rattle.run_engine.proofs.TakesLemmas.{tells_both, counts_both}
+use Rattle.run_engine.proofs.TakesLemmas.{tells_both, counts_both, none-earlier, marked_both}
 use Rattle.run_engine.proofs.TellLemmas.{zip-more}
 use Rattle.run_engine.proofs.tell.tell.Goals as goal
+
+one-mark : {E : Type 0} (o : Option E) → is_none o ≡ list_all not (is_some o ∷ [])
+one-mark None = refl
+one-mark (Some e) = refl
 
 pub loop-event-preserved : goal.loop-event-preserved
 loop-event-preserved g c =
@@ -15,6 +21,10 @@ loop-event-preserved g c =
     let pairs = zip-more events c.loop-event.refused i c.event-item.result (is_some error) c.loop-event-test.true inv.answered c.event-item.is in
     record {
       answered = ap length pushed ∙ omega (arith, length-append c.loop-event.refused (is_some error ∷ []));
+      marked = ap is_none c.first_of-refusal.ensures ∙ none-earlier c.loop-event.refusal error
+          ∙ marked_both _ _ _ _ inv.marked (one-mark error)
+          ∙ sym (list_all-append not c.loop-event.refused (is_some error ∷ []))
+          ∙ ap (list_all not) (sym pushed);
       told = subst (TellsEvents g.R.Reporter.told c.args.report.now c.tell_one.new.report (zip (take (i + 1) events) c.push.new.self))
           (sym c.first_of-refusal.ensures)
           (subst (λ bs. TellsEvents g.R.Reporter.told c.args.report.now c.tell_one.new.report (zip (take (i + 1) events) bs) (earlier c.loop-event.refusal error))

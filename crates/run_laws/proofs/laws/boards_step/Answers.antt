@@ -3,4 +3,4 @@ use Rattle.run_laws.proofs.Boards.{board-steps}
 use Rattle.run_laws.proofs.laws.boards_step.Goals as goal
 
 pub returns : goal.returns
-returns c = λ p journal e legal. board-steps p (reverse journal) e legal
+returns c = λ p journal e legal en. board-steps p (reverse journal) e legal en

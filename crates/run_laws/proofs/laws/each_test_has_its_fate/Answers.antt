@@ -1,6 +1,9 @@
 use Rattle.std.proofs.Common.{reverse}
-use Rattle.run_laws.proofs.FateLemmas.{fates}
+use Rattle.run_laws.proofs.FateLemmas.{ended_fates, over_ended}
 use Rattle.run_laws.proofs.laws.each_test_has_its_fate.Goals as goal
 
 pub returns : goal.returns
-returns c = λ p journal legal over k below. fates p (reverse journal) legal over k below
+returns c = record {
+  fates = λ p journal legal. ended_fates p (reverse journal) legal;
+  over = λ p journal legal over. over_ended p (reverse journal) legal over;
+}

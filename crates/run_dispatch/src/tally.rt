@@ -1,0 +1,93 @@
+// What the dispatcher counts.
+ghost use Rattle.std.specs.Prelude.{◌≡◌, ◌+◌, ◌<◌, ◌≤◌, ◌^◌, length, count_by, map, IfOk};
+ghost use Rattle.run_events.specs.Stats.{AreBelow};
+ghost use Rattle.run_model.specs.Admission.{is_matched};
+ghost use Rattle.run_model.specs.Words.{finished_test, last_slow};
+ghost use Rattle.run_model.specs.Dispatch.{with_start, with_finish, with_skip};
+
+use run_capture::Mem;
+use run_events::{ExecuteStatus, ExecutionResult, PlanTest, RunStats, TestFinish};
+use run_model::Tally;
+use std::alloc::Global;
+
+fn is_matched(test: &PlanTest) -> bool
+    ensures { result ≡ is_matched test.now }
+{
+    test.skip.is_none()
+}
+
+/// How many tests match, and so are to run.
+pub fn count_matched(tests: &[PlanTest]) -> usize
+    ensures counted { result ≡ count_by is_matched tests.now }
+    ensures few { result ≤ length tests.now }
+{
+    let mut count = 0;
+    for test in tests {
+        if is_matched(test) {
+            count += 1;
+        }
+    }
+    count
+}
+
+/// The counts after a test has started.
+pub fn with_start(tally: Tally) -> Tally
+    requires { tally.running + 1 < 2 ^ 32 }
+    ensures { result ≡ with_start tally }
+{
+    Tally {
+        running: tally.running + 1,
+        ..tally
+    }
+}
+
+/// The counts after one more test was skipped.
+pub fn with_skip(tally: Tally) -> Tally
+    requires { tally.stats.skipped < 2 ^ 32 }
+    ensures { result ≡ with_skip tally }
+{
+    let stats = RunStats {
+        skipped: tally.stats.skipped + 1,
+        ..tally.stats
+    };
+    Tally { stats, ..tally }
+}
+
+/// The counts after a test has finished.
+pub fn with_finish(alloc: Global, tally: Tally, finish: &TestFinish) -> Mem<Tally>
+    requires counts { AreBelow (2 ^ 32) tally.stats }
+    requires attempts { 0 < length finish.now.statuses }
+    requires runs { 0 < tally.running }
+    ensures { IfOk result (λ t. t ≡ with_finish tally (finished_test finish.now)) }
+{
+    let statuses = finish.statuses.as_slice();
+    let results = results_of(alloc, statuses)?;
+    let mut stats = tally.stats;
+    stats.on_test_finished(&results, is_last_slow(statuses), finish.flaky);
+    Ok(Tally {
+        running: tally.running - 1,
+        stats,
+    })
+}
+
+// The results of the attempts, in order.
+fn results_of(alloc: Global, statuses: &[ExecuteStatus]) -> Mem<Vec<ExecutionResult>>
+    ensures { IfOk result (λ v. v.items ≡ map (λ s. s.result) statuses.now) }
+{
+    let mut results = Vec::new(alloc);
+    for status in statuses {
+        results.push(status.result)?;
+    }
+    Ok(results)
+}
+
+// Whether the last attempt was slow.
+fn is_last_slow(statuses: &[ExecuteStatus]) -> bool
+    ensures { result ≡ last_slow statuses.now }
+{
+    let mut slow = false;
+    for status in statuses {
+        slow = status.slow;
+    }
+    slow
+}

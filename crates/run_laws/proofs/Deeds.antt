@@ -1,0 +1,267 @@
+-- What each enabled turn does fits the sub-run before it: the one place where the turns are gone through.
+use Rattle.std.proofs.Common.{◌≡◌, ◌≢◌, ℕ, ◌+◌, ◌<◌, ◌≤◌, ◌||◌, List, [], ◌∷◌, ◌++◌, length, drop, get_or, Bool, true, false, not, if◌then◌else◌, Option, Some, None, option_to_list, option_map, is_none, is_some, refl, ap, sym, ◌∙◌, arith}
+use Rattle.std.specs.Prelude.{⊤}
+use Rattle.std.specs.Cmp.{first_so, second_so}
+use Rattle.std.proofs.lemmas.List.{append-nil}
+use Rattle.run_events.specs.declared.settings.Settings.{Settings}
+use Rattle.run_events.specs.declared.turn.Turn.{Turn}
+use Rattle.run_events.specs.declared.turn.Turn.TheVariants.{Begin, End}
+use Rattle.run_events.specs.declared.message.Message.{Message}
+use Rattle.run_events.specs.declared.message.Message.TheVariants.{Start, Skip, Finish}
+use Rattle.run_events.specs.declared.message.TestStart.{TestStart}
+use Rattle.run_events.specs.declared.events.ReporterEvent.{ReporterEvent}
+use Rattle.run_events.specs.declared.events.ReporterEvent.TheVariants.{Test}
+use Rattle.run_events.specs.declared.events.TestEventKind.{TestEventKind}
+use Rattle.run_events.specs.declared.events.TestEventKind.TheVariants.{TestStarted, TestFinished}
+use Rattle.run_model.specs.declared.happening.Happening.{Happening}
+use Rattle.run_model.specs.declared.happening.Place.{Place}
+use Rattle.run_model.specs.declared.happening.Place.TheVariants.{Admitted, Took}
+use Rattle.run_model.specs.declared.unit_turn.UnitTurn.{UnitTurn}
+use Rattle.run_model.specs.declared.unit_turn.UnitTurn.TheVariants.{Answered}
+use Rattle.run_model.specs.declared.unit_view.UnitView.{UnitView}
+use Rattle.run_model.specs.Unit.{takes}
+use Rattle.run_model.specs.Words.{is_on, finished_test, sent, delivered, queue, told, unit_of, units, placed, tally}
+use Rattle.run_model.specs.Admission.{units_in, Newcomer, newcomer}
+use Rattle.run_model.specs.Dispatch.{lets_go, event, with_start, with_finish, started_event}
+use Rattle.run_model.specs.Board.{Board, Deed, deed_events}
+use Rattle.run_model.specs.Turns.{enabled_on, is_empty, is_complete, takes_turn, turn_of_unit, unit_takes, taken_by, admission, delivery, run_turn, done_by, deed_on}
+use Rattle.run_model.specs.Accounts.{started, HasAccount, is_mismatched, account_of, pending_of}
+use Rattle.run_laws.proofs.Holds.{Holds, place_of}
+use Rattle.run_laws.proofs.Queue.{lt-from_queue}
+use Rattle.run_laws.proofs.ByTurn.{is_answer, by_turn}
+use Rattle.run_laws.proofs.AccountLemmas.{of_row, of_start, of_finish, of_skip, begins, first_built, IsBuiltIf, row_sends_built}
+use Rattle.run_laws.proofs.OnBoard.{board_of, unit_in-is}
+use Rattle.run_laws.proofs.Newcomers.{IsNew, new_unit}
+use Rattle.run_laws.proofs.Facts.{start_waits, finish_follows, lets_go-is, oldest_built}
+
+-- a unit that takes a turn was admitted and takes it, and no start is refused
+pub record IsTaken (run : List Happening) (k : ℕ) (turn : UnitTurn) : Type 0 where
+  pub unit : UnitView
+  pub is : unit_of k run ≡ Some unit
+  pub takes : takes unit.phase turn ≡ true
+  pub goes : turn ≢ Answered false
+
+abbrev pub PlaceFits : Settings → List Happening → Option Place → Type 0
+PlaceFits p run None = ⊤
+PlaceFits p run (Some (Admitted first)) = (sent : Message) × IsNew p run first sent
+PlaceFits p run (Some (Took k turn)) = IsTaken run k turn
+
+-- a start is told of a test of which nothing was told, a finish of one that was told started
+abbrev pub ToldFitsIn : ℕ → List ReporterEvent → TestEventKind → Type 0
+ToldFitsIn n es (TestStarted e) = (e.start.test.unit < n) × (account_of e.start.test.unit es ≡ [])
+ToldFitsIn n es (TestFinished e) = (e.finish.test.unit < n) × (account_of e.finish.test.unit es ≡ started ∷ [])
+ToldFitsIn n es _ = ⊤
+
+abbrev pub ToldFits : ℕ → List ReporterEvent → Option ReporterEvent → Type 0
+ToldFits n es (Some (Test e)) = ToldFitsIn n es e.kind
+ToldFits n es _ = ⊤
+
+-- a deed cancels nothing; a sub-run begins with it where nothing has happened, and else one is on; it ends the run only
+-- as the end of a complete run does
+pub record Marks (p : Settings) (over : Bool) (now : ℕ) (run : List Happening) (d : Deed) : Type 0 where
+  pub cause : d.cause ≡ None
+  pub cancel : d.cancel ≡ None
+  pub begins : d.begins ≡ true → run ≡ []
+  pub on : (d.begins || is_on run) ≡ true
+  pub finishes : d.over ≡ d.ends
+  pub ends : d.ends ≡ true → (d ≡ run_turn p (board_of p over now run) End)
+      × (is_complete (board_of p over now run) ≡ true)
+
+-- what a deed does fits a sub-run
+pub record Does (p : Settings) (over : Bool) (now : ℕ) (run : List Happening) (d : Deed) : Type 0 where
+  pub place : PlaceFits p run d.place
+  pub room : delivered run + (if d.taken then 1 else 0) ≤ length (sent run)
+  pub sends : IsBuiltIf d.sent
+  pub tells : ToldFits (units_in p) (told run) d.told
+  pub accounts : (k : ℕ) → HasAccount (is_mismatched p (place_of p k)) (placed now k d.place (unit_of k run))
+      (account_of k (told run) ++ account_of k (deed_events d))
+      (pending_of k (drop (if d.taken then 1 else 0) (queue run) ++ option_to_list d.sent))
+  pub marks : Marks p over now run d
+
+-- a deed that neither cancels nor begins nor ends
+quiet : (p : Settings) (over : Bool) (now : ℕ) (run : List Happening) (d : Deed) → is_on run ≡ true
+    → d.cause ≡ None → d.cancel ≡ None → d.begins ≡ false → d.over ≡ false → d.ends ≡ false → Marks p over now run d
+quiet p over now run d on cause cancel begins over_not ends = record {
+  cause = cause;
+  cancel = cancel;
+  begins = λ h. cc;
+  on = ap (λ b. b || is_on run) begins ∙ on;
+  finishes = over_not ∙ sym ends;
+  ends = λ h. cc;
+}
+
+-- what an admission does
+admits : (p : Settings) (over : Bool) (now : ℕ) (run : List Happening) (o : Option Newcomer) → Holds p over now run
+    → is_on run ≡ true
+    → newcomer p (units p run) ≡ o → is_some o ≡ true → Does p over now run (admission o)
+admits p over now run None h on e en = cc
+admits p over now run (Some new) h on e en =
+    let it = new_unit p run new e in
+    record {
+      place = (new.sent, it);
+      room = omega (arith, h.fits);
+      sends = first_built _ new.unit new.sent it.first;
+      tells = tt;
+      accounts = λ k. begins (is_mismatched p (place_of p new.unit.test.unit)) (is_mismatched p (place_of p k)) k
+          new.unit new.sent (unit_of k run)
+          (account_of k (told run)) (queue run) it.first it.statuses
+          (λ same. let here : k ≡ new.unit.test.unit = grind arith in ap (λ k. is_mismatched p (place_of p k)) here)
+          (λ same. let here : k ≡ new.unit.test.unit = grind arith in ap (λ k. unit_of k run) here ∙ it.unknown)
+          (h.accounts k);
+      marks = quiet p over now run _ on refl refl refl refl refl;
+    }
+
+-- what a unit's own turn does
+unit_does : (p : Settings) (over : Bool) (now : ℕ) (run : List Happening) (j : ℕ) (turn : UnitTurn)
+    (v : Option UnitView) → Holds p over now run
+    → over ≡ false → unit_of j run ≡ v → unit_takes v turn ≡ true → is_answer turn ≡ false
+    → Does p over now run (taken_by now j turn v)
+unit_does p over now run j turn None h going e en other = cc
+unit_does p over now run j turn (Some u) h going e en other = record {
+  place = record {
+    unit = u;
+    is = e;
+    takes = en;
+    goes = λ is. let same : is_answer turn ≡ true = ap is_answer is in
+        cc;
+  };
+  room = omega (arith, h.fits);
+  sends = row_sends_built now u.phase turn u;
+  tells = tt;
+  accounts = λ k. rw append-nil (of_row (is_mismatched p (place_of p k)) now j k turn u (unit_of k run)
+      (account_of k (told run)) (queue run)
+      en other (h.named j u e).0 (λ same. let here : k ≡ j = grind arith in ap (λ k. unit_of k run) here ∙ e)
+      (h.accounts k));
+  marks = quiet p over now run _ (by_on (is_on run) refl) refl refl refl refl refl;
+}
+  where
+    by_on : (b : Bool) → is_on run ≡ b → is_on run ≡ true
+    by_on true is = is
+    by_on false is = let none : unit_of j run ≡ None = ap (unit_of j) (h.fresh is going) in
+        let never : None ≡ Some u = sym none ∙ e in cc
+
+-- what the delivery of a start does
+start_does : (p : Settings) (over : Bool) (now : ℕ) (run : List Happening) (start : TestStart) (rest : List Message)
+    (go : Bool) (w : Option UnitView)
+    → Holds p over now run → is_on run ≡ true → go ≡ true → queue run ≡ Start start ∷ rest
+    → unit_of start.test.unit run ≡ w
+    → Does p over now run (record (taken_by now start.test.unit (Answered go) w) {
+      taken = true;
+      told = option_map (event now) (if go then Some (started_event start (with_start (tally p run))) else None);
+    })
+start_does p over now run start rest go None h on goes eq ew =
+    let waits = start_waits p over now run start rest h eq in
+    let never : None ≡ Some waits.unit = sym ew ∙ waits.is in cc
+start_does p over now run start rest false (Some u) h on goes eq ew = cc
+start_does p over now run start rest true (Some u) h on goes eq ew =
+    let waits = start_waits p over now run start rest h eq in
+    let same : waits.unit ≡ u = cc (sym waits.is ∙ ew) in
+    record {
+      place = record {
+        unit = u;
+        is = ew;
+        takes = ap (λ (u : UnitView). takes u.phase (Answered true)) (sym same)
+            ∙ ap (λ ph. takes ph (Answered true)) waits.phase;
+        goes = λ is. cc;
+      };
+      room = lt-from_queue (delivered run) (sent run) rest _ eq;
+      sends = row_sends_built now u.phase (Answered true) u;
+      tells = (waits.below, waits.untold);
+      accounts = λ k. rw eq (of_start (is_mismatched p (place_of p k)) now k true u (unit_of k run)
+          (account_of k (told run)) rest start (with_start (tally p run))
+          (λ same. let here : k ≡ start.test.unit = grind arith in ap (λ k. unit_of k run) here ∙ ew)
+          (rw eq at (h.accounts k)));
+      marks = quiet p over now run _ on refl refl refl refl refl;
+    }
+
+-- what a delivery does
+delivers : (p : Settings) (over : Bool) (now : ℕ) (run : List Happening) (q : List Message) → Holds p over now run
+    → is_on run ≡ true
+    → queue run ≡ q → not (is_empty q) ≡ true → Does p over now run (delivery (board_of p over now run) q)
+delivers p over now run [] h on eq en = cc
+delivers p over now run (Start start ∷ rest) h on eq en =
+    start_does p over now run start rest (lets_go (tally p run)) (get_or (units p run) start.test.unit None) h on
+    (lets_go-is p run ∙ ap is_none h.calm) eq (sym (unit_in-is p over now run start.test.unit h))
+delivers p over now run (Skip skip ∷ rest) h on eq en = record {
+  place = tt;
+  room = lt-from_queue (delivered run) (sent run) rest _ eq;
+  sends = tt;
+  tells = tt;
+  accounts = λ k. rw eq (of_skip (is_mismatched p (place_of p k)) now k (unit_of k run) (account_of k (told run)) rest
+      skip (rw eq at (h.accounts k)));
+  marks = quiet p over now run _ on refl refl refl refl refl;
+}
+delivers p over now run (Finish finish ∷ rest) h on eq en =
+    let follows = finish_follows p over now run finish rest h eq in
+    record {
+      place = tt;
+      room = lt-from_queue (delivered run) (sent run) rest _ eq;
+      sends = tt;
+      tells = (follows.below, follows.told_started);
+      accounts = λ k. rw eq (of_finish (is_mismatched p (place_of p k)) now k (unit_of k run)
+          (account_of k (told run)) rest finish (with_finish (tally p run) (finished_test finish))
+          (rw eq at (h.accounts k)));
+      marks = quiet p over now run _ on refl refl refl refl refl;
+    }
+delivers p over now run (m ∷ rest) h on eq en = absurd (oldest_built p over now run m rest h eq)
+
+-- what each enabled turn does
+pub does : (p : Settings) (over : Bool) (now : ℕ) (run : List Happening) (turn : Turn) → Holds p over now run
+    → enabled_on p (board_of p over now run) turn ≡ true
+    → Does p over now run (deed_on p (board_of p over now run) turn)
+does p over now run turn h en =
+    by_turn (λ turn named. takes_turn p b turn named ≡ true → Does p over now run (done_by p b turn named))
+    (record {
+      begin = λ en. begun (h.fresh (not_true (is_on run) (first_so (not (is_on run)) (not over) en)) going);
+      admit = λ en. admits p over now run (newcomer p (units p run)) h
+          (first_so (is_on run) (is_some (newcomer p (units p run))) en) refl
+          (second_so (is_on run) (is_some (newcomer p (units p run))) en);
+      deliver = λ en. delivers p over now run (queue run) h (first_so (is_on run) (not (is_empty (queue run))) en) refl
+          (second_so (is_on run) (not (is_empty (queue run))) en);
+      named = λ turn k to other en. unit_does p over now run k to _ h going (sym (unit_in-is p over now run k h)) en
+          other;
+      end = λ en. record {
+        place = tt;
+        room = omega (arith, h.fits);
+        sends = tt;
+        tells = tt;
+        accounts = λ k. simp append-nil (h.accounts k);
+        marks = record {
+          cause = refl;
+          cancel = refl;
+          begins = λ h. cc;
+          on = first_so (is_on run) (is_complete b) en;
+          finishes = refl;
+          ends = λ _. (refl, second_so (is_on run) (is_complete b) en);
+        };
+      };
+      unbuilt = λ turn never en. let no : false ≡ true = sym (never p b) ∙ en in cc;
+    })
+    turn (second_so (not over) (takes_turn p b turn (turn_of_unit turn)) en)
+  where
+    b : Board
+    b = board_of p over now run
+
+    not_true : (b : Bool) → not b ≡ true → b ≡ false
+    not_true true h = cc
+    not_true false h = refl
+
+    going : over ≡ false
+    going = not_true over (first_so (not over) (takes_turn p b turn (turn_of_unit turn)) en)
+
+    begun : run ≡ [] → Does p over now run (run_turn p b Begin)
+    begun empty = record {
+      place = tt;
+      room = omega (arith, h.fits);
+      sends = tt;
+      tells = tt;
+      accounts = λ k. simp append-nil (h.accounts k);
+      marks = record {
+        cause = refl;
+        cancel = refl;
+        begins = λ _. empty;
+        on = refl;
+        finishes = refl;
+        ends = λ h. cc;
+      };
+    }

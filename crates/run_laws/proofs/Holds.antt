@@ -1,0 +1,58 @@
+-- What holds of the newest sub-run after every legal journal.
+use Rattle.std.specs.Prelude.{ℕ, ◌≡◌, ◌+◌, ◌-◌, ◌<◌, ◌≤◌, List, [], length, Bool, false, Option, Some, None, ⊤}
+use Rattle.std.specs.List.{All}
+use Rattle.run_events.specs.declared.message.Message.{Message}
+use Rattle.run_events.specs.declared.message.Message.TheVariants.{Start, Skip, Finish}
+use Rattle.run_events.specs.declared.settings.Settings.{Settings}
+use Rattle.run_events.specs.declared.result.ExecuteStatus.{ExecuteStatus}
+use Rattle.run_model.specs.declared.happening.Happening.{Happening}
+use Rattle.run_model.specs.declared.phase.Phase.{Phase}
+use Rattle.run_model.specs.declared.phase.Phase.TheVariants.{Over}
+use Rattle.run_model.specs.declared.unit_view.UnitView.{UnitView}
+use Rattle.run_model.specs.Admission.{scripts_in, units_in}
+use Rattle.run_model.specs.Words.{is_on, sent, delivered, skipped, finished, reason, unit_of}
+use Rattle.run_model.specs.Accounts.{is_mismatched, IsAccountedAs}
+use Rattle.run_model.specs.Attempts.{story_of}
+use Rattle.run_model.specs.Fates.{never_started, was_left}
+use Rattle.run_laws.proofs.AttemptLemmas.{IsMadeIf}
+
+-- the place of a unit among the tests of the plan, where it is a test
+abbrev pub place_of : Settings → ℕ → ℕ
+place_of p k = k - scripts_in p
+
+-- a unit is known by its number, that is one of the plan, and its attempt was not let go later than now
+abbrev pub IsNamed : ℕ → ℕ → ℕ → Option UnitView → Type 0
+IsNamed n now k v = (u : UnitView) → v ≡ Some u → (u.test.unit ≡ k) × (k < n) × (u.start ≤ now)
+
+-- a matched test that is over has made an attempt
+abbrev pub IsAttemptedIn : Bool → Phase → List ExecuteStatus → Type 0
+IsAttemptedIn false Over [] = ⊥
+IsAttemptedIn mm ph ss = ⊤
+
+abbrev pub IsAttempted : Bool → Option UnitView → Type 0
+IsAttempted mm None = ⊤
+IsAttempted mm (Some u) = IsAttemptedIn mm u.phase u.statuses
+
+-- a message that is sent yet: a start, a skip or a finish
+abbrev pub IsBuilt : Message → Type 0
+IsBuilt (Start start) = ⊤
+IsBuilt (Skip skip) = ⊤
+IsBuilt (Finish finish) = ⊤
+IsBuilt m = ⊥
+
+-- of a sub-run at this moment, by whether the run is over: no more messages are delivered than sent, no more skips and
+-- finishes are told than it has turns, units are named, each test has its account, and its attempts are its own turns. No
+-- script is a unit yet, so of a number that is no test's nothing is told
+pub record Holds (p : Settings) (over : Bool) (now : ℕ) (run : List Happening) : Type 0 where
+  pub fits : delivered run ≤ length (sent run)
+  pub counted : skipped run + length (finished run) ≤ length run
+  pub named : (k : ℕ) → IsNamed (units_in p) now k (unit_of k run)
+  pub accounts : (k : ℕ) → IsAccountedAs p (place_of p k) k run
+  pub made : (k : ℕ) → IsMadeIf (unit_of k run) (story_of k run)
+  -- before a sub-run is on, and the run not over, nothing has happened: no further sub-run begins yet
+  pub fresh : is_on run ≡ false → over ≡ false → run ≡ []
+  -- no other message is sent yet, and no turn is a cause, so no start is refused
+  pub built : All IsBuilt (sent run)
+  pub calm : reason run ≡ None
+  pub let_go : (k : ℕ) → (never_started k run ≡ false) × (was_left k run ≡ false)
+  pub attempted : (k : ℕ) → IsAttempted (is_mismatched p (place_of p k)) (unit_of k run)

@@ -1,0 +1,8 @@
+-- What a value of a line is.
+use Rattle.serde_json.specs.Data.{Data}
+use Rattle.serde_json.specs.View.{view}
+use Rattle.run_output.specs.declared.plain.Plain.{Plain}
+
+-- its data
+abbrev pub data_of : Plain → Data
+data_of plain = view plain.value

@@ -1,0 +1,91 @@
+// What stands at a key of an object, where it holds no object itself.
+ghost use Rattle.std.specs.Prelude.{◌≡◌, option_map};
+ghost use Rattle.run_output.specs.Fields.{count};
+
+use crate::errors::errors_plain;
+use crate::lists::{pairs_plain, test_plain, tests_plain, texts_plain};
+use crate::plain::{Plain, Printed};
+use crate::texts::{count_plain, hex_plain, id_plain, result_plain};
+use run_capture::{Blob, List, Mem, Text};
+use run_commands::{SetupScriptOutputError, StressCount};
+use run_events::{ChildExecutionOutput, ExecutionResult, TestInstanceId};
+use std::alloc::Global;
+use uuid::Uuid;
+
+/// What stands at a key. No variant holds a float.
+#[derive(Clone, Copy)]
+pub(crate) enum Leaf<'a> {
+    /// The key is left out.
+    Absent,
+    Count(u32),
+    Number(u64),
+    /// Left out where it is 0.
+    Nonzero(u64),
+    Truth(bool),
+    Word(&'a str),
+    Text(&'a Text),
+    Texts(&'a List<Text>),
+    /// Each as a list of two texts.
+    Pairs(&'a [(Text, Text)]),
+    /// Bytes, in hex.
+    Hex(&'a Blob),
+    Id(Uuid),
+    /// The binary and the name.
+    Test(&'a TestInstanceId),
+    Tests(&'a List<TestInstanceId>),
+    Result(ExecutionResult),
+    /// The errors of a child, and then that of its environment file; left out where there is none.
+    Errors(&'a ChildExecutionOutput, Option<SetupScriptOutputError>),
+    Runs(StressCount),
+}
+
+impl Printed for Leaf<'_> {
+    ghost use Rattle.run_output.specs.Leaf.{leaf_data};
+
+    ghost printed = { leaf_data };
+
+    #[tactic(auto, unfolding(crate::specs::Fields::nonzero))]
+    fn plain(&self, alloc: Global) -> Mem<Option<Plain>> {
+        match *self {
+            Leaf::Absent | Leaf::Nonzero(0) => Ok(None),
+            Leaf::Count(number) => Ok(Some(Plain::number(number as u64))),
+            Leaf::Number(number) | Leaf::Nonzero(number) => Ok(Some(Plain::number(number))),
+            Leaf::Truth(truth) => Ok(Some(Plain::truth(truth))),
+            Leaf::Word(word) => Plain::text(alloc, word).map(Some),
+            Leaf::Text(text) => Plain::text(alloc, text.as_str()).map(Some),
+            Leaf::Texts(list) => texts_plain(alloc, list.as_slice()).map(Some),
+            Leaf::Pairs(list) => pairs_plain(alloc, list).map(Some),
+            Leaf::Hex(bytes) => hex_plain(alloc, bytes).map(Some),
+            Leaf::Id(id) => id_plain(alloc, id).map(Some),
+            Leaf::Test(test) => test_plain(alloc, test).map(Some),
+            Leaf::Tests(list) => tests_plain(alloc, list.as_slice()).map(Some),
+            Leaf::Result(outcome) => result_plain(alloc, outcome).map(Some),
+            Leaf::Errors(child, fault) => errors_plain(alloc, child, fault),
+            Leaf::Runs(runs) => count_plain(alloc, runs).map(Some),
+        }
+    }
+}
+
+impl Leaf<'_> {
+    ghost use Rattle.run_output.specs.Leaf.{leaf_data};
+
+    /// A number, where there is one.
+    pub(crate) fn count_of(number: Option<u32>) -> Leaf<'static>
+        ensures { leaf_data result ≡ option_map count number }
+    {
+        match number {
+            Some(number) => Leaf::Count(number),
+            None => Leaf::Absent,
+        }
+    }
+
+    /// A number, where there is one.
+    pub(crate) fn number_of(number: Option<u64>) -> Leaf<'static>
+        ensures { leaf_data result ≡ option_map count number }
+    {
+        match number {
+            Some(number) => Leaf::Number(number),
+            None => Leaf::Absent,
+        }
+    }
+}

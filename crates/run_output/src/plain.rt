@@ -1,0 +1,101 @@
+// JSON values that hold no float.
+ghost use Rattle.std.specs.Prelude.{◌≡◌, false, string_bytes, IfOk};
+ghost use Rattle.serde_json.specs.View.{view};
+ghost use Rattle.serde_json.specs.Written.{has_float};
+
+use run_capture::Mem;
+use serde_json::{Map, Value};
+use std::alloc::Global;
+
+/// A JSON value that holds no float.
+#[derive(Drop)]
+pub(crate) struct Plain {
+    value: Value,
+    ghost float_free: { has_float (view value) ≡ false },
+}
+
+impl Plain {
+    ghost use Rattle.serde_json.specs.Data.{boolean, string, array, object};
+    ghost use Rattle.serde_json.specs.View.{items_view, members_view};
+    ghost use Rattle.serde_json.specs.Written.{items_have_float, members_have_float};
+    ghost use Rattle.run_output.specs.Fields.{count};
+    ghost use Rattle.run_output.specs.Plain.{data_of};
+
+    /// A number.
+    pub(crate) fn number(number: u64) -> Plain
+        ensures { data_of result ≡ count number }
+    {
+        Plain {
+            value: Value::from(number),
+        }
+    }
+
+    /// A truth value.
+    pub(crate) fn truth(truth: bool) -> Plain
+        ensures { data_of result ≡ boolean truth }
+    {
+        Plain {
+            value: Value::from(truth),
+        }
+    }
+
+    /// A copy of a text.
+    pub(crate) fn text(alloc: Global, text: &str) -> Mem<Plain>
+        ensures { IfOk result (λ p. data_of p ≡ string text.now) }
+    {
+        let value = Value::try_from_str(alloc, text)?;
+        Ok(Plain { value })
+    }
+
+    /// A text.
+    pub(crate) fn string(text: String) -> Plain
+        ensures { data_of result ≡ string (string_bytes text) }
+    {
+        Plain {
+            value: Value::from(text),
+        }
+    }
+
+    /// An array.
+    pub(crate) fn array(items: Vec<Value>) -> Plain
+        requires { items_have_float (items_view items.items) ≡ false }
+        ensures { data_of result ≡ array (items_view items.items) }
+    {
+        Plain {
+            value: Value::Array(items),
+        }
+    }
+
+    /// An object.
+    pub(crate) fn object(members: Map<String, Value>) -> Plain
+        requires { members_have_float (members_view members.entries) ≡ false }
+        ensures { data_of result ≡ object (members_view members.entries) }
+    {
+        Plain {
+            value: Value::Object(members),
+        }
+    }
+
+    /// The value itself.
+    pub(crate) fn into_value(self) -> Value
+        ensures same { view result ≡ data_of self }
+        ensures float_free { has_float (view result) ≡ false }
+    {
+        let Plain { value } = self;
+        value
+    }
+}
+
+/// What can stand at a key of an object.
+pub(crate) trait Printed {
+    ghost use Rattle.std.specs.Prelude.{Option, option_map};
+    ghost use Rattle.serde_json.specs.Data.{Data};
+    ghost use Rattle.run_output.specs.Plain.{data_of};
+
+    /// The value that stands there, or none where the key is left out.
+    ghost printed: { Self → Option Data };
+
+    /// Makes it.
+    fn plain(&self, alloc: Global) -> Mem<Option<Plain>>
+        ensures { IfOk result (λ p. option_map data_of p ≡ printed self.now) };
+}

@@ -1,0 +1,50 @@
+// Slots as objects.
+ghost use Rattle.std.specs.Prelude.{◌≡◌, option_map, IfOk};
+ghost use Rattle.serde_json.specs.Data.{string};
+ghost use Rattle.run_output.specs.Fields.{count, rows};
+ghost use Rattle.run_output.specs.Leaf.{leaf_data};
+ghost use Rattle.run_output.specs.Plain.{data_of};
+ghost use Rattle.run_output.specs.Slots.{slot_fields, slot_data};
+
+use crate::leaf::Leaf;
+use crate::object::Object;
+use crate::plain::Plain;
+use run_capture::Mem;
+use run_events::{GroupSlot, TestSlotAssignment};
+use std::alloc::Global;
+
+fn group_number(group: &Option<GroupSlot>) -> Leaf<'static>
+    ensures { leaf_data result ≡ option_map (λ g. count g.slot) group.now }
+{
+    match group {
+        Some(group) => Leaf::Count(group.slot),
+        None => Leaf::Absent,
+    }
+}
+
+fn group_name(group: &Option<GroupSlot>) -> Leaf<'_>
+    ensures { leaf_data result ≡ option_map (λ g. string g.name) group.now }
+{
+    match group {
+        Some(group) => Leaf::Text(&group.name),
+        None => Leaf::Absent,
+    }
+}
+
+#[tactic(auto, unfolding(crate::specs::Slots::slot_fields))]
+fn numbers(slot: &TestSlotAssignment) -> [(&'static str, Leaf<'_>); 3]
+    ensures { rows leaf_data result ≡ slot_fields slot.now }
+{
+    [
+        ("global", Leaf::Count(slot.global)),
+        ("group", group_number(&slot.group)),
+        ("name", group_name(&slot.group)),
+    ]
+}
+
+/// A slot: its number, and in a group the number there and the group's name.
+pub(crate) fn slot_plain(alloc: Global, slot: &TestSlotAssignment) -> Mem<Plain>
+    ensures { IfOk result (λ p. data_of p ≡ slot_data slot.now) }
+{
+    Object::of(alloc, &numbers(slot))
+}

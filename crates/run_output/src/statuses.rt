@@ -1,0 +1,139 @@
+// Attempts as objects.
+ghost use Rattle.std.specs.Prelude.{◌≡◌, option_map, IfOk};
+ghost use Rattle.run_output.specs.Fields.{array_of, put_all, rows};
+ghost use Rattle.run_output.specs.Leaf.{leaf_data};
+ghost use Rattle.run_output.specs.Object.{members_of};
+ghost use Rattle.run_output.specs.Plain.{data_of};
+ghost use Rattle.run_output.specs.Texts.{bytes_data};
+ghost use Rattle.run_output.specs.Statuses.{stream_fields, attempt_fields, status_data, env_data, fault_of, script_fields, script_status_data};
+
+use crate::items::Items;
+use crate::leaf::Leaf;
+use crate::object::Object;
+use crate::plain::Plain;
+use run_capture::{Blob, ChildOutput, Mem};
+use run_commands::SetupScriptOutputError;
+use run_events::{ChildExecutionOutput, ExecuteStatus, ScriptEnv, SetupScriptExecuteStatus};
+use std::alloc::Global;
+
+fn hex_leaf(bytes: &Option<Blob>) -> Leaf<'_>
+    ensures { leaf_data result ≡ option_map bytes_data bytes.now }
+{
+    match bytes {
+        Some(bytes) => Leaf::Hex(bytes),
+        None => Leaf::Absent,
+    }
+}
+
+/// What a child wrote, by each stream that was captured, or why it couldn't be started.
+#[tactic(auto, unfolding(crate::specs::Statuses::stream_fields))]
+pub(crate) fn with_streams(
+    alloc: Global,
+    object: Object,
+    child: &ChildExecutionOutput,
+) -> Mem<Object>
+    ensures { IfOk result
+        (λ o. members_of o ≡ put_all (stream_fields child.now) (members_of object)) }
+{
+    match child {
+        ChildExecutionOutput::Output {
+            output: ChildOutput::Split(split),
+            ..
+        } => object.with(
+            alloc,
+            &[
+                ("stderr", hex_leaf(&split.stderr)),
+                ("stdout", hex_leaf(&split.stdout)),
+            ],
+        ),
+        ChildExecutionOutput::Output {
+            output: ChildOutput::Combined { output },
+            ..
+        } => object.with(alloc, &[("combined", Leaf::Hex(output))]),
+        ChildExecutionOutput::StartError(error) => {
+            object.with(alloc, &[("start_error", Leaf::Text(error))])
+        }
+    }
+}
+
+#[tactic(auto, unfolding(crate::specs::Statuses::attempt_fields))]
+fn attempt(status: &ExecuteStatus) -> [(&'static str, Leaf<'_>); 8]
+    ensures { rows leaf_data result ≡ attempt_fields status.now }
+{
+    [
+        ("attempt", Leaf::Count(status.attempt)),
+        ("attempts", Leaf::Count(status.attempts)),
+        ("delay", Leaf::Number(status.delay)),
+        ("errors", Leaf::Errors(&status.output, None)),
+        ("result", Leaf::Result(status.result)),
+        ("slow", Leaf::Truth(status.slow)),
+        ("start", Leaf::Number(status.start)),
+        ("time", Leaf::Number(status.time)),
+    ]
+}
+
+/// An attempt of a test.
+#[tactic(auto, using(crate::proofs::FieldLemmas::put_all_more))]
+pub(crate) fn status_plain(alloc: Global, status: &ExecuteStatus) -> Mem<Plain>
+    ensures { IfOk result (λ p. data_of p ≡ status_data status.now) }
+{
+    let object = Object::new(alloc).with(alloc, &attempt(status))?;
+    let object = with_streams(alloc, object, &status.output)?;
+    Ok(object.done())
+}
+
+/// The attempts of a test, in order.
+pub(crate) fn statuses_plain(alloc: Global, statuses: &[ExecuteStatus]) -> Mem<Plain>
+    ensures { IfOk result (λ p. data_of p ≡ array_of status_data statuses.now) }
+{
+    let mut items = Items::new(alloc);
+    for status in statuses {
+        items = items.with(status_plain(alloc, status)?)?;
+    }
+    Ok(items.done())
+}
+
+fn env_leaf(env: &ScriptEnv) -> Leaf<'_>
+    ensures { leaf_data result ≡ env_data env.now }
+{
+    match env {
+        ScriptEnv::Variables(map) => Leaf::Pairs(map.pairs()),
+        ScriptEnv::Unread | ScriptEnv::Fault(_) => Leaf::Absent,
+    }
+}
+
+fn env_fault(env: &ScriptEnv) -> Option<SetupScriptOutputError>
+    ensures { result ≡ fault_of env.now }
+{
+    match env {
+        ScriptEnv::Fault(fault) => Some(*fault),
+        ScriptEnv::Unread | ScriptEnv::Variables(_) => None,
+    }
+}
+
+#[tactic(auto, unfolding(crate::specs::Statuses::script_fields))]
+fn script_attempt(status: &SetupScriptExecuteStatus) -> [(&'static str, Leaf<'_>); 6]
+    ensures { rows leaf_data result ≡ script_fields status.now }
+{
+    [
+        ("env", env_leaf(&status.env)),
+        (
+            "errors",
+            Leaf::Errors(&status.output, env_fault(&status.env)),
+        ),
+        ("result", Leaf::Result(status.result)),
+        ("slow", Leaf::Truth(status.slow)),
+        ("start", Leaf::Number(status.start)),
+        ("time", Leaf::Number(status.time)),
+    ]
+}
+
+/// The attempt of a setup script.
+#[tactic(auto, using(crate::proofs::FieldLemmas::put_all_more))]
+pub(crate) fn script_status_plain(alloc: Global, status: &SetupScriptExecuteStatus) -> Mem<Plain>
+    ensures { IfOk result (λ p. data_of p ≡ script_status_data status.now) }
+{
+    let object = Object::new(alloc).with(alloc, &script_attempt(status))?;
+    let object = with_streams(alloc, object, &status.output)?;
+    Ok(object.done())
+}

@@ -1,0 +1,26 @@
+// What a step of a unit gives to the run.
+ghost use Rattle.std.specs.Prelude.{◌≡◌, None};
+
+use run_events::{Ask, Message};
+
+/// What a step of a unit gives to the run.
+#[derive(Drop)]
+pub struct UnitEffects {
+    /// The message that it sends.
+    pub sent: Option<Message>,
+    /// What it asks of the outside.
+    pub asked: Option<Ask>,
+    /// Whether it is over now.
+    pub over: bool,
+}
+
+/// A step that sends and asks nothing.
+pub fn quiet(over: bool) -> UnitEffects
+    ensures { result ≡ record { sent = None; asked = None; over = over } }
+{
+    UnitEffects {
+        sent: None,
+        asked: None,
+        over,
+    }
+}
