@@ -1,8 +1,8 @@
 // Texts, lists, sources and sinks.
 use crate::rows::holds;
 use run_capture::{
-    Blob, ChildFdError, Duplicate, Failed, List, Mem, MemorySink, MemorySource, Sink, Source, Text,
-    write_all,
+    Blob, ChildFdError, Duplicate, Failed, List, Mem, MemorySink, MemorySource, ReadError, Sink,
+    Source, StdSink, StdSource, Text, read_to_end, write_all,
 };
 use std::alloc::Global;
 
@@ -114,9 +114,39 @@ fn fails_in_writing(alloc: Global) -> Mem<bool> {
     )
 }
 
+// What reading all of ten bytes of std gives, under a limit.
+fn reads_std(alloc: Global, limit: usize) -> Result<Blob, ReadError> {
+    let mut source = StdSource::new(b"0123456789".as_slice());
+    read_to_end(alloc, &mut source, limit)
+}
+
+fn std_is_read(alloc: Global) -> Mem<bool> {
+    match reads_std(alloc, 10) {
+        Ok(bytes) => Ok(bytes.as_slice() == b"0123456789".as_slice()),
+        Err(_) => Ok(false),
+    }
+}
+
+// The error of a source whose second read fails.
+fn read_error(alloc: Global) -> Mem<Option<ReadError>> {
+    let mut source = seven(alloc)?;
+    Ok(read_to_end(alloc, &mut source, 10).err())
+}
+
+// Two bytes go into a room of two, and the next write takes none, which is a fault.
+fn std_is_written() -> bool {
+    let mut room = [0; 2];
+    let mut sink = StdSink::new(room.as_mut_slice());
+    sink.write(b"abc") == Ok(2) && sink.write(b"") == Ok(0) && sink.write(b"c") == Err(Failed)
+}
+
 #[test]
 fn fails_in_mid_stream(rt: HostRuntime) {
     let alloc = rt.alloc();
     holds(&rt, "read", fails_in_reading(alloc));
     holds(&rt, "write", fails_in_writing(alloc));
+    holds(&rt, "all", std_is_read(alloc));
+    assert!(rt; reads_std(alloc, 9).err() == Some(ReadError::TooLong));
+    assert!(rt; read_error(alloc) == Ok(Some(ReadError::Failed)));
+    assert!(rt; std_is_written());
 }

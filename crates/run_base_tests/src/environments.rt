@@ -136,15 +136,35 @@ fn input_error(alloc: Global, input: &EnvInput) -> Mem<Option<SetupScriptOutputE
     Ok(env_outcome(alloc, &copied).err())
 }
 
+fn shows(alloc: Global, error: SetupScriptOutputError, text: &str) -> Mem<bool> {
+    let shown = format!(in alloc; "{error}")?;
+    Ok(shown.as_str() == text)
+}
+
+fn check_errors(rt: &impl Abort, alloc: Global) {
+    let failed = SetupScriptOutputError::EnvFileRead { line: None };
+    assert!(rt; input_error(alloc, &EnvInput::ReadFailed) == Ok(Some(failed)));
+    holds(
+        rt,
+        "failed",
+        shows(alloc, failed, "the environment file can't be read"),
+    );
+    let no_sign = SetupScriptOutputError::EnvFileParse { line: 3 };
+    holds(
+        rt,
+        "no sign",
+        shows(alloc, no_sign, "line 3 of the environment file has no `=`"),
+    );
+}
+
 #[test]
 fn reads_files(rt: HostRuntime) {
     let alloc = rt.alloc();
     holds(&rt, "failure", fails_once(alloc));
-    let failed = Some(SetupScriptOutputError::EnvFileRead { line: None });
-    assert!(rt; input_error(alloc, &EnvInput::ReadFailed) == Ok(failed));
-    let missing = Some(SetupScriptOutputError::EnvFileOpen);
-    assert!(rt; input_error(alloc, &EnvInput::OpenFailed) == Ok(missing));
-    let long = Some(SetupScriptOutputError::EnvFileTooLong);
+    check_errors(&rt, alloc);
+    let missing = SetupScriptOutputError::EnvFileOpen;
+    assert!(rt; input_error(alloc, &EnvInput::OpenFailed) == Ok(Some(missing)));
+    let long = SetupScriptOutputError::EnvFileTooLong;
     assert!(rt; long_file_error(alloc, 1_048_574) == Ok(None));
-    assert!(rt; long_file_error(alloc, 1_048_575) == Ok(long));
+    assert!(rt; long_file_error(alloc, 1_048_575) == Ok(Some(long)));
 }

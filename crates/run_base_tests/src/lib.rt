@@ -13,6 +13,8 @@ mod commands;
 #[cfg(test)]
 mod environments;
 #[cfg(test)]
+mod output;
+#[cfg(test)]
 mod rows;
 #[cfg(test)]
 mod runners;

@@ -32,7 +32,8 @@ data_of text = object (
 -- whether a key is one of the three
 abbrev pub is_key : List ℕ → Bool
 is_key key =
-    pointwise nat_eq key (codes "combined") || pointwise nat_eq key (codes "stderr") || pointwise nat_eq key (codes "stdout")
+    pointwise nat_eq key (codes "combined") || pointwise nat_eq key (codes "stderr") || pointwise nat_eq key
+    (codes "stdout")
 
 -- whether each member is a text under one of the three keys
 abbrev pub has_only_texts : Members → Bool

@@ -27,7 +27,14 @@ impl Model for MemorySink {
 
     ghost Value = { MemoryWritten };
 
-    ghost view = { λ s. record { taken = s.bytes.items; room = s.room; most = s.most; fail = s.fail; writes = s.writes; faults = s.faults } };
+    ghost view = { λ s. record {
+      taken = s.bytes.items;
+      room = s.room;
+      most = s.most;
+      fail = s.fail;
+      writes = s.writes;
+      faults = s.faults;
+    } };
 
     ghost invariant = { λ s. (s.room ≤ s.bytes.spare) × (0 < s.most) };
 }
@@ -36,7 +43,8 @@ impl MemorySink {
     /// A sink that has taken nothing, with room for so many bytes.
     pub fn new(alloc: Global, room: usize, most: usize, fail: List<u64>) -> Mem<Self>
         requires { 0 < most }
-        ensures { IfOk result (λ s. s ≡ record { taken = []; room = room; most = most; fail = fail; writes = 0; faults = 0 }) }
+        ensures { IfOk result (λ s. s ≡
+            record { taken = []; room = room; most = most; fail = fail; writes = 0; faults = 0 }) }
     {
         Ok(MemorySink {
             bytes: BytesMut::with_capacity(alloc, room)?,

@@ -24,7 +24,13 @@ impl Model for MemorySource {
 
     ghost Value = { MemoryRead };
 
-    ghost view = { λ s. record { left = drop s.at s.bytes; most = s.most; fail = s.fail; reads = s.reads; faults = s.faults } };
+    ghost view = { λ s. record {
+      left = drop s.at s.bytes;
+      most = s.most;
+      fail = s.fail;
+      reads = s.reads;
+      faults = s.faults;
+    } };
 
     ghost invariant = { λ s. (s.at ≤ length s.bytes) × (0 < s.most) };
 }

@@ -36,7 +36,8 @@ impl<R: Read> Source for StdSource<R> {
         ensures end { IfOk result (λ n. 0 < length buf.new → n ≡ 0 → AtEnd untold) }
         ensures err { OnErr result (untold ≡ untold) }
         ensures fault { CountsFault (source_faults self.old) (source_faults self.new) result }
-        ensures reader { ReadConsumes (reader_left R.remaining self.old) (reader_left R.remaining self.new) result buf.new }
+        ensures reader { ReadConsumes (reader_left R.remaining self.old) (reader_left R.remaining self.new)
+            result buf.new }
     {
         match self.inner.read(buf) {
             Ok(count) => Ok(count),

@@ -61,7 +61,8 @@ same_moment_counts_nothing = record {
 }
 
 -- a history in order is in order at a later moment
-pub later_order : (start : ℕ) (past : List Mark) (now later : ℕ) → IsInOrder start past now → now ≤ later → IsInOrder start past later
+pub later_order : (start : ℕ) (past : List Mark) (now later : ℕ) → IsInOrder start past now → now ≤ later
+    → IsInOrder start past later
 later_order start [] now later order le = omega arith
 later_order start (mark ∷ past) now later order le =
     let here : mark.moment ≤ now = order.0 in
@@ -82,6 +83,7 @@ idle_mark_needs_no_call = record {
     paused_is = keeps.paused_is ∙ sym same;
     remaining_is = λ now order.
         keeps.remaining_is now (later_order timer.set timer.past mark.moment now order.1 order.0)
-        ∙ ap (λ counted. timer.duration - counted) (sym (idle_mark_counts_nothing timer.set mark timer.past now same order));
+        ∙ ap (λ counted. timer.duration - counted)
+        (sym (idle_mark_counts_nothing timer.set mark timer.past now same order));
   };
 }

@@ -31,7 +31,8 @@ letter-high : (b : ℕ) → 128 ≤ b → letter_in_variable b ≡ b
 letter-high b high = grind (arith, nat_tests)
 
 -- and so do many
-letters-high : (bytes rest : List ℕ) → AreHigh bytes → map letter_in_variable (bytes ++ rest) ≡ bytes ++ map letter_in_variable rest
+letters-high : (bytes rest : List ℕ) → AreHigh bytes → map letter_in_variable (bytes ++ rest)
+    ≡ bytes ++ map letter_in_variable rest
 letters-high [] rest high = refl
 letters-high (b ∷ bytes) rest high = rw (letter-high b high.0, letters-high bytes rest high.1) refl
 
@@ -42,14 +43,18 @@ letter-low b low = grind (arith, nat_tests)
 -- the letters of a character and of the text after it
 letters-encode : (c : ℕ) (rest : List ℕ)
     → map letter_in_variable (encode_utf8 c ++ rest) ≡ encode_utf8 (letter_in_variable c) ++ map letter_in_variable rest
-letters-encode c rest = elim (ltb c 128) as (λ test. ltb c 128 ≡ test → map letter_in_variable (encode_utf8 c ++ rest) ≡ encode_utf8 (letter_in_variable c) ++ map letter_in_variable rest) [
-  | true ↦ λ e. let low = ltb-true c 128 e in rw (encode_ascii c low, encode_ascii (letter_in_variable c) (letter-low c low)) refl
-  | false ↦ λ e. let high : 128 ≤ c = grind (arith, nat_tests) in
-      rw (letter-high c high) (letters-high (encode c) rest (encode-high c high))
-] refl
+letters-encode c rest =
+    elim (ltb c 128) as (λ test. ltb c 128 ≡ test → map letter_in_variable (encode_utf8 c ++ rest)
+    ≡ encode_utf8 (letter_in_variable c) ++ map letter_in_variable rest) [
+      | true ↦ λ e. let low = ltb-true c 128 e in
+          rw (encode_ascii c low, encode_ascii (letter_in_variable c) (letter-low c low)) refl
+      | false ↦ λ e. let high : 128 ≤ c = grind (arith, nat_tests) in
+          rw (letter-high c high) (letters-high (encode c) rest (encode-high c high))
+    ] refl
 
 -- one character more in the name of a variable
-pub letters_more : (name whole left rest : List ℕ) (c : ℕ) → name ++ map letter_in_variable left ≡ whole → left ≡ encode_utf8 c ++ rest
+pub letters_more : (name whole left rest : List ℕ) (c : ℕ) → name ++ map letter_in_variable left ≡ whole
+    → left ≡ encode_utf8 c ++ rest
     → (name ++ encode_utf8 (letter_in_variable c)) ++ map letter_in_variable rest ≡ whole
 letters_more name whole left rest c so_far next =
     append_assoc name (encode_utf8 (letter_in_variable c)) (map letter_in_variable rest)

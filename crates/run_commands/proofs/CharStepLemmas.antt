@@ -18,24 +18,25 @@ kind-high : (b : ℕ) → 128 ≤ b → kind b ≡ kinds.Plain
 kind-high b high = grind (arith, nat_tests)
 
 -- such a byte is added, in a mode that stays as it is
-module _ (mode : Mode) (stays : (place b : ℕ) → step mode place (b ∷ []) kinds.Plain ≡ (mode, Effect.add (b ∷ []))) where
-  high_step : (place b : ℕ) (text : List ℕ) → 128 ≤ b
-      → reading mode place (b ∷ text) ≡ effects (Effect.add (b ∷ [])) (reading mode (suc place) text)
-  high_step place b text high =
-      reading-step mode place b text kinds.Plain (kind-high b high)
-      ∙ ap (λ (to : Mode × Effect). effects to.1 (reading to.0 (suc place) text)) (stays place b)
+module _ (mode : Mode) (stays : (place b : ℕ) → step mode place (b ∷ []) kinds.Plain ≡ (mode, Effect.add (b ∷ [])))
+  where
+    high_step : (place b : ℕ) (text : List ℕ) → 128 ≤ b
+        → reading mode place (b ∷ text) ≡ effects (Effect.add (b ∷ [])) (reading mode (suc place) text)
+    high_step place b text high =
+        reading-step mode place b text kinds.Plain (kind-high b high)
+        ∙ ap (λ (to : Mode × Effect). effects to.1 (reading to.0 (suc place) text)) (stays place b)
 
-  high_run : (bytes rest : List ℕ) (place : ℕ) → AreHigh bytes
-      → reading mode place (bytes ++ rest) ≡ effects (Effect.add bytes) (reading mode (place + length bytes) rest)
-  high_run [] rest place high =
-      let none : place ≡ place + 0 = omega arith in
-      ap (λ at. reading mode at rest) none ∙ sym (effects-add_nil (reading mode (place + 0) rest))
-  high_run (b ∷ bytes) rest place high =
-      let further : suc place + length bytes ≡ place + length (b ∷ bytes) = omega arith in
-      high_step place b (bytes ++ rest) high.0
-      ∙ ap (effects (Effect.add (b ∷ []))) (high_run bytes rest (suc place) high.1)
-      ∙ effects-add_add (b ∷ []) bytes (reading mode (suc place + length bytes) rest)
-      ∙ ap (λ at. effects (Effect.add (b ∷ bytes)) (reading mode at rest)) further
+    high_run : (bytes rest : List ℕ) (place : ℕ) → AreHigh bytes
+        → reading mode place (bytes ++ rest) ≡ effects (Effect.add bytes) (reading mode (place + length bytes) rest)
+    high_run [] rest place high =
+        let none : place ≡ place + 0 = omega arith in
+        ap (λ at. reading mode at rest) none ∙ sym (effects-add_nil (reading mode (place + 0) rest))
+    high_run (b ∷ bytes) rest place high =
+        let further : suc place + length bytes ≡ place + length (b ∷ bytes) = omega arith in
+        high_step place b (bytes ++ rest) high.0
+        ∙ ap (effects (Effect.add (b ∷ []))) (high_run bytes rest (suc place) high.1)
+        ∙ effects-add_add (b ∷ []) bytes (reading mode (suc place + length bytes) rest)
+        ∙ ap (λ at. effects (Effect.add (b ∷ bytes)) (reading mode at rest)) further
 
 -- such bytes of a comment are skipped
 comment_run : (bytes rest : List ℕ) (place : ℕ) → AreHigh bytes
@@ -53,53 +54,67 @@ comment_run (b ∷ bytes) rest place high =
 high_after : (mode next : Mode) (slash : List ℕ) (place b : ℕ) (bytes rest : List ℕ)
     → ((at c : ℕ) → step next at (c ∷ []) kinds.Plain ≡ (next, Effect.add (c ∷ [])))
     → step mode place (b ∷ []) kinds.Plain ≡ (next, Effect.add (slash ++ b ∷ [])) → AreHigh (b ∷ bytes)
-    → reading mode place ((b ∷ bytes) ++ rest) ≡ effects (Effect.add (slash ++ b ∷ bytes)) (reading next (place + length (b ∷ bytes)) rest)
+    → reading mode place ((b ∷ bytes) ++ rest)
+    ≡ effects (Effect.add (slash ++ b ∷ bytes)) (reading next (place + length (b ∷ bytes)) rest)
 high_after mode next slash place b bytes rest stays first high =
     let further : suc place + length bytes ≡ place + length (b ∷ bytes) = omega arith in
     reading-step mode place b (bytes ++ rest) kinds.Plain (kind-high b high.0)
     ∙ ap (λ (to : Mode × Effect). effects to.1 (reading to.0 (suc place) (bytes ++ rest))) first
     ∙ ap (effects (Effect.add (slash ++ b ∷ []))) (high_run next stays bytes rest (suc place) high.1)
     ∙ effects-add_add (slash ++ b ∷ []) bytes (reading next (suc place + length bytes) rest)
-    ∙ ap (λ said. effects (Effect.add said) (reading next (suc place + length bytes) rest)) (append_assoc slash (b ∷ []) bytes)
+    ∙ ap (λ said. effects (Effect.add said) (reading next (suc place + length bytes) rest))
+    (append_assoc slash (b ∷ []) bytes)
     ∙ ap (λ at. effects (Effect.add (slash ++ b ∷ bytes)) (reading next at rest)) further
 
 -- a character past ASCII
 high_char : (mode : Mode) (place : ℕ) (bytes rest : List ℕ) → AreHigh bytes → 0 < length bytes
     → reading mode place (bytes ++ rest)
-    ≡ effects (step mode place bytes kinds.Plain).1 (reading (step mode place bytes kinds.Plain).0 (place + length bytes) rest)
+    ≡ effects (step mode place bytes kinds.Plain).1
+    (reading (step mode place bytes kinds.Plain).0 (place + length bytes) rest)
 high_char mode place [] rest high some = absurd (omega arith)
 high_char (Mode.outside inside) place (b ∷ bytes) rest high some =
     high_after (Mode.outside inside) (Mode.outside true) [] place b bytes rest (λ at c. refl) refl high
 high_char (Mode.escape inside slash) place (b ∷ bytes) rest high some =
     high_after (Mode.escape inside slash) (Mode.outside true) [] place b bytes rest (λ at c. refl) refl high
 high_char Mode.comment place (b ∷ bytes) rest high some =
-    comment_run (b ∷ bytes) rest place high ∙ sym (effects-pass (reading Mode.comment (place + length (b ∷ bytes)) rest))
-high_char (Mode.single quote) place (b ∷ bytes) rest high some = high_run (Mode.single quote) (λ at c. refl) (b ∷ bytes) rest place high
-high_char (Mode.double quote) place (b ∷ bytes) rest high some = high_run (Mode.double quote) (λ at c. refl) (b ∷ bytes) rest place high
+    comment_run (b ∷ bytes) rest place high
+    ∙ sym (effects-pass (reading Mode.comment (place + length (b ∷ bytes)) rest))
+high_char (Mode.single quote) place (b ∷ bytes) rest high some =
+    high_run (Mode.single quote) (λ at c. refl) (b ∷ bytes) rest place high
+high_char (Mode.double quote) place (b ∷ bytes) rest high some =
+    high_run (Mode.double quote) (λ at c. refl) (b ∷ bytes) rest place high
 high_char (Mode.double_escape quote slash) place (b ∷ bytes) rest high some =
     high_after (Mode.double_escape quote slash) (Mode.double quote) slash place b bytes rest (λ at c. refl) refl high
 
 -- any character
 char_reads : (mode : Mode) (place c : ℕ) (rest : List ℕ)
     → reading mode place (encode_utf8 c ++ rest)
-    ≡ effects (step mode place (encode_utf8 c) (kind c)).1 (reading (step mode place (encode_utf8 c) (kind c)).0 (place + length (encode_utf8 c)) rest)
+    ≡ effects (step mode place (encode_utf8 c) (kind c)).1
+    (reading (step mode place (encode_utf8 c) (kind c)).0 (place + length (encode_utf8 c)) rest)
 char_reads mode place c rest =
     elim (ltb c 128) as (λ test. ltb c 128 ≡ test → reading mode place (encode_utf8 c ++ rest)
-    ≡ effects (step mode place (encode_utf8 c) (kind c)).1 (reading (step mode place (encode_utf8 c) (kind c)).0 (place + length (encode_utf8 c)) rest)) [
+    ≡ effects (step mode place (encode_utf8 c) (kind c)).1
+    (reading (step mode place (encode_utf8 c) (kind c)).0 (place + length (encode_utf8 c)) rest)) [
       | true ↦ λ e. low_char (encode_ascii c (ltb-true c 128 e))
       | false ↦ λ e. let high : 128 ≤ c = grind (arith, nat_tests) in
           let some : 0 < length (encode c) = omega (arith, length-encode c, (len_utf8_bounds c).0) in
-          subst (λ k. reading mode place (encode c ++ rest) ≡ effects (step mode place (encode c) k).1 (reading (step mode place (encode c) k).0 (place + length (encode c)) rest))
+          subst (λ k. reading mode place (encode c ++ rest)
+          ≡ effects (step mode place (encode c) k).1
+          (reading (step mode place (encode c) k).0 (place + length (encode c)) rest))
           (sym (kind-high c high)) (high_char mode place (encode c) rest (encode-high c high) some)
     ] refl
   where
     low_char : encode c ≡ c ∷ [] → reading mode place (encode c ++ rest)
-        ≡ effects (step mode place (encode c) (kind c)).1 (reading (step mode place (encode c) (kind c)).0 (place + length (encode c)) rest)
+        ≡ effects (step mode place (encode c) (kind c)).1
+        (reading (step mode place (encode c) (kind c)).0 (place + length (encode c)) rest)
     low_char one =
         let next : suc place ≡ place + 1 = omega arith in
-        subst (λ bytes. reading mode place (bytes ++ rest) ≡ effects (step mode place bytes (kind c)).1 (reading (step mode place bytes (kind c)).0 (place + length bytes) rest))
+        subst (λ bytes. reading mode place (bytes ++ rest)
+        ≡ effects (step mode place bytes (kind c)).1
+        (reading (step mode place bytes (kind c)).0 (place + length bytes) rest))
         (sym one) (reading-step mode place c rest (kind c) refl
-        ∙ ap (λ at. effects (step mode place (c ∷ []) (kind c)).1 (reading (step mode place (c ∷ []) (kind c)).0 at rest)) next)
+        ∙ ap (λ at. effects (step mode place (c ∷ []) (kind c)).1
+        (reading (step mode place (c ∷ []) (kind c)).0 at rest)) next)
 
 -- the words so far before what is left go on being those of the whole
 goes_on : (state next : State) (old new : Gathered) (place c at : ℕ) (left later : List ℕ) (whole : Read)
@@ -115,7 +130,8 @@ goes_on state next old new place c at left later whole takes is_left is_at so_fa
     ∙ so_far
 
 -- the same, from the offset at which the character begins
-pub goes_on_from : (state next : State) (old new : Gathered) (place c offset at : ℕ) (left later : List ℕ) (whole : Read)
+pub goes_on_from : (state next : State) (old new : Gathered) (place c offset at : ℕ) (left later : List ℕ)
+    (whole : Read)
     → Takes state next old new place c
     → (place ≡ offset) × (left ≡ encode_utf8 c ++ later) × (at ≡ offset + length (encode_utf8 c))
     → put old (reading (mode_of state (is_some old.open_word)) offset left) ≡ whole

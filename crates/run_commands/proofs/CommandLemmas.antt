@@ -25,17 +25,20 @@ pub ends_whole : (text left : List ℕ) (state : State) (words : Gathered) (plac
     → length left ≡ 0 → ended_by state words ≡ reading (Mode.outside false) 0 text
 ends_whole text left state words place so_far none =
     ap (put words) (sym (reading-end (mode_of state (is_some words.open_word)) place))
-    ∙ ap (λ bytes. put words (reading (mode_of state (is_some words.open_word)) place bytes)) (sym (none_left left none))
+    ∙ ap (λ bytes. put words (reading (mode_of state (is_some words.open_word)) place bytes))
+    (sym (none_left left none))
     ∙ so_far
 
 -- words that are read are the text's
-pub ok_words : (text : List ℕ) (read : Read) (result : Result (List (List ℕ)) WordsError) → read ≡ reading (Mode.outside false) 0 text
+pub ok_words : (text : List ℕ) (read : Read) (result : Result (List (List ℕ)) WordsError)
+    → read ≡ reading (Mode.outside false) 0 text
     → IfOk result (λ list. read ≡ Ok list) → IfOk result (HasWords text)
 ok_words text read (Ok list) whole is = read_stands text list (sym whole ∙ is)
 ok_words text read (Err e) whole is = tt
 
 -- a text that is refused has an open quote
-pub refused_words : (text : List ℕ) (read : Read) (result : Result (List (List ℕ)) WordsError) → read ≡ reading (Mode.outside false) 0 text
+pub refused_words : (text : List ℕ) (read : Read) (result : Result (List (List ℕ)) WordsError)
+    → read ≡ reading (Mode.outside false) 0 text
     → IfErr result (IsOpenAtEnd read) → IfErr result (IsRefusedWords text)
 refused_words text read (Ok list) whole is = tt
 refused_words text read (Err (errors.OpenQuote place)) whole is = read_open text place (sym whole ∙ is)
@@ -49,7 +52,8 @@ quote_within (b ∷ text) zero P some = omega arith
 quote_within (b ∷ text) (suc place) P some = let within = quote_within text place P some in omega arith
 
 -- a text with words has no open quote
-no_open_quote : (text : List ℕ) (words : List (List ℕ)) (place : ℕ) → HasWords text words → IsOpenQuote text place → place < length text → ⊥
+no_open_quote : (text : List ℕ) (words : List (List ℕ)) (place : ℕ) → HasWords text words → IsOpenQuote text place
+    → place < length text → ⊥
 no_open_quote text words place says open_at within =
     open_at.longest (length text) words within (omega arith) (rw (take-length text) says)
 

@@ -15,11 +15,13 @@ use Rattle.run_commands.specs.Pair.{Pair}
 use Rattle.run_commands.specs.EnvLine.{pair_of, cut_at_equals, is_key}
 
 -- the first place that passes
-position-some : (p : ℕ → Bool) (xs : List ℕ) (i : ℕ) → position p xs ≡ Some i → (position_or_len p xs ≡ i) × (i < length xs)
+position-some : (p : ℕ → Bool) (xs : List ℕ) (i : ℕ) → position p xs ≡ Some i → (position_or_len p xs ≡ i)
+    × (i < length xs)
 position-some p xs i found =
     elim (nat_lt (position_or_len p xs) (length xs)) as (λ test. nat_lt (position_or_len p xs) (length xs) ≡ test
     → cond test (Some (position_or_len p xs)) None ≡ Some i → (position_or_len p xs ≡ i) × (i < length xs)) [
-      | true ↦ λ e f. let same : position_or_len p xs ≡ i = same_Some _ _ f in (same, omega (arith, ltb-true (position_or_len p xs) (length xs) e, same))
+      | true ↦ λ e f. let same : position_or_len p xs ≡ i = same_Some _ _ f in
+          (same, omega (arith, ltb-true (position_or_len p xs) (length xs) e, same))
       | false ↦ λ e f. absurd (none-some i f)
     ] refl found
 
@@ -47,8 +49,10 @@ lines-more : (p : ℕ → Bool) (line rest : List ℕ)
     → lines_of_parts (line ∷ slice_split p rest) ≡ strip_carriage_return line ∷ lines_of_parts (slice_split p rest)
 lines-more p line [] = refl
 lines-more p line (b ∷ rest) =
-    elim (p b) as (λ test. lines_of_parts (line ∷ cond test ([] ∷ slice_split p rest) (onto_first b (slice_split p rest)))
-    ≡ strip_carriage_return line ∷ lines_of_parts (cond test ([] ∷ slice_split p rest) (onto_first b (slice_split p rest)))) [
+    elim (p b) as
+    (λ test. lines_of_parts (line ∷ cond test ([] ∷ slice_split p rest) (onto_first b (slice_split p rest)))
+    ≡ strip_carriage_return line ∷ lines_of_parts
+    (cond test ([] ∷ slice_split p rest) (onto_first b (slice_split p rest)))) [
       | true ↦ refl
       | false ↦ elim (slice_split p rest) as (λ parts. lines_of_parts (line ∷ onto_first b parts)
           ≡ strip_carriage_return line ∷ lines_of_parts (onto_first b parts)) [ [] ↦ refl | part ∷ parts ↦ refl ]
@@ -56,7 +60,8 @@ lines-more p line (b ∷ rest) =
 
 -- the bytes before the first LF are the first line
 pub lines-first : (bytes : List ℕ) (end : ℕ) → position (λ b. b == 10) bytes ≡ Some end
-    → lines bytes ≡ strip_carriage_return (take end bytes) ∷ lines (take (length bytes - (end + 1)) (drop (end + 1) bytes))
+    → lines bytes
+    ≡ strip_carriage_return (take end bytes) ∷ lines (take (length bytes - (end + 1)) (drop (end + 1) bytes))
 lines-first bytes end found =
     let (same, within) = position-some (λ b. b == 10) bytes end found in
     let split = slice_split_first (λ b. b == 10) bytes 0 (omega (arith, same, within)) in
@@ -89,9 +94,11 @@ pair-not_utf8 line not_text =
     rw e refl
 
 -- a line with no `=`
-pub pair-no_equals : (line : List ℕ) → IsUtf8 line → position_or_len (λ b. b == 61) line ≡ length line → pair_of line ≡ Err rule.EqualsSign
+pub pair-no_equals : (line : List ℕ) → IsUtf8 line → position_or_len (λ b. b == 61) line ≡ length line
+    → pair_of line ≡ Err rule.EqualsSign
 pair-no_equals line text none =
-    let any : list_any (λ b. b == 61) line ≡ false = any-position (λ b. b == 61) line ∙ (rw none (grind (arith, nat_tests))) in
+    let any : list_any (λ b. b == 61) line ≡ false = any-position (λ b. b == 61) line
+    ∙ (rw none (grind (arith, nat_tests))) in
     rw (is_utf8-from_IsUtf8 line text, any) refl
 
 -- the name before the first `=`
@@ -112,4 +119,5 @@ pub pair-sets : (line key value : List ℕ) → IsUtf8 line → position_or_len 
 pair-sets line key value text some cut tested =
     let any : list_any (λ b. b == 61) line ≡ true = any-position (λ b. b == 61) line ∙ lt-ltb _ _ some in
     let is : is_key (cut_at_equals line).0 ≡ true = ap is_key (sym (key_is line key value cut)) ∙ tested in
-    rw (is_utf8-from_IsUtf8 line text, any, is) (let sets : Pair → Result Pair BrokenRule = λ p. Ok p in ap sets (sym cut))
+    rw (is_utf8-from_IsUtf8 line text, any, is) (let sets : Pair → Result Pair BrokenRule =
+    λ p. Ok p in ap sets (sym cut))

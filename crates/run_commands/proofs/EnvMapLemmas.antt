@@ -19,7 +19,8 @@ all_below key [] all = all
 all_below key (entry ∷ entries) all = (all.0, all_below key entries all.1)
 
 -- entries whose keys ascend make pairs by name
-pub by_name : (entries : List (String Global × List ℕ)) → IsStrictlySortedBy string_cmp (keys_of entries) → IsByName (pairs_in entries)
+pub by_name : (entries : List (String Global × List ℕ)) → IsStrictlySortedBy string_cmp (keys_of entries)
+    → IsByName (pairs_in entries)
 unfolding IsStrictlySortedBy
 by_name [] sorted = sorted
 by_name (entry ∷ entries) sorted = (all_below entry.0 entries sorted.0, by_name entries sorted.1)

@@ -63,7 +63,8 @@ pub record ReadSoFar (bytes rest : List ℕ) (entries : BTreeMap (String Global)
   pub room : number + length rest ≤ length bytes + 1
 
 -- nothing is read at the start
-pub read_nothing : (bytes : List ℕ) (entries : BTreeMap (String Global) (List ℕ)) → entries.entries ≡ [] → IsOrdered string_cmp entries
+pub read_nothing : (bytes : List ℕ) (entries : BTreeMap (String Global) (List ℕ)) → entries.entries ≡ []
+    → IsOrdered string_cmp entries
     → ReadSoFar bytes bytes entries 1
 read_nothing bytes entries empty ordered = record {
   read = [];
@@ -82,7 +83,8 @@ pub read_more : (bytes rest after line name value : List ℕ) (old new : BTreeMa
     → pair_of line ≡ Ok (name, value) → SetsVariable old new name value → ReadSoFar bytes after new (number + 1)
 read_more bytes rest after line name value old new number so_far first shorter says change = record {
   read = so_far.read ++ line ∷ [];
-  split = so_far.split ∙ ap (λ lines'. so_far.read ++ lines') first ∙ sym (append_assoc so_far.read (line ∷ []) (lines after));
+  split = so_far.split ∙ ap (λ lines'. so_far.read ++ lines') first
+      ∙ sym (append_assoc so_far.read (line ∷ []) (lines after));
   given = so_far.given ++ (name, value) ∷ [];
   sets = set-push so_far.read line so_far.given (name, value) so_far.sets says;
   ordered = change.ordered;
@@ -103,7 +105,8 @@ pub read_all_lines : (bytes rest : List ℕ) (entries : BTreeMap (String Global)
     → ReadSoFar bytes rest entries number → rest ≡ [] → IsEnvOf bytes (pairs_in entries.entries)
 read_all_lines bytes rest entries number so_far done = record {
   given = so_far.given;
-  lines_set = ap (map pair_of) (so_far.split ∙ ap (λ left. so_far.read ++ lines left) done ∙ append-nil so_far.read) ∙ so_far.sets;
+  lines_set = ap (map pair_of) (so_far.split ∙ ap (λ left. so_far.read ++ lines left) done ∙ append-nil so_far.read)
+      ∙ so_far.sets;
   latest = record {
     by_name = by_name entries.entries so_far.ordered;
     latest = λ name. value-in entries.entries name ∙ so_far.latest name;
@@ -111,7 +114,8 @@ read_all_lines bytes rest entries number so_far done = record {
 }
 
 -- the next line is the first bad one where it breaks a rule
-pub read_bad : (bytes rest after line : List ℕ) (entries : BTreeMap (String Global) (List ℕ)) (number : ℕ) (broken : BrokenRule)
+pub read_bad : (bytes rest after line : List ℕ) (entries : BTreeMap (String Global) (List ℕ)) (number : ℕ)
+    (broken : BrokenRule)
     → ReadSoFar bytes rest entries number → lines rest ≡ line ∷ lines after → pair_of line ≡ Err broken
     → IsFirstBad (lines bytes) broken number
 read_bad bytes rest after line entries number broken so_far first breaks = record {

@@ -52,7 +52,8 @@ pub record OpensHere (mode : Mode) (place quote : ℕ) (k : CharKind) : Type 0 w
   pub ends : ending mode ≡ Ok words
 
 -- a quote that is open after a byte outside quotes opens there
-outside_opens : (k : CharKind) (inside : Bool) (place b quote : ℕ) → opened (step_outside k inside place (b ∷ [])).0 ≡ Some quote
+outside_opens : (k : CharKind) (inside : Bool) (place b quote : ℕ) → opened (step_outside k inside place (b ∷ [])).0
+    ≡ Some quote
     → OpensHere (Mode.outside inside) place quote k
 outside_opens kinds.Space inside place b quote e = absurd (cc)
 outside_opens kinds.Newline inside place b quote e = absurd (cc)
@@ -67,7 +68,8 @@ outside_opens kinds.Expansion inside place b quote e = absurd (cc)
 outside_opens kinds.Plain inside place b quote e = absurd (cc)
 
 -- none opens after a backslash or in a comment, and between quotes none but theirs is open
-escape_opens : (k : CharKind) (inside : Bool) (bytes : List ℕ) (quote : ℕ) → opened (step_escape k inside bytes).0 ≡ Some quote → ⊥
+escape_opens : (k : CharKind) (inside : Bool) (bytes : List ℕ) (quote : ℕ) → opened (step_escape k inside bytes).0
+    ≡ Some quote → ⊥
 escape_opens kinds.Newline inside bytes quote e = cc
 escape_opens _ inside bytes quote e = cc
 
@@ -75,15 +77,18 @@ comment_opens : (k : CharKind) (quote : ℕ) → opened (step_comment k).0 ≡ S
 comment_opens kinds.Newline quote e = cc
 comment_opens _ quote e = cc
 
-single_opens : (k : CharKind) (at : ℕ) (bytes : List ℕ) (quote : ℕ) → opened (step_single k at bytes).0 ≡ Some quote → Some at ≡ Some quote
+single_opens : (k : CharKind) (at : ℕ) (bytes : List ℕ) (quote : ℕ) → opened (step_single k at bytes).0 ≡ Some quote
+    → Some at ≡ Some quote
 single_opens kinds.SingleQuote at bytes quote e = absurd (cc)
 single_opens _ at bytes quote e = e
 
-double_opens : (k : CharKind) (at : ℕ) (bytes : List ℕ) (quote : ℕ) → opened (step_double k at bytes).0 ≡ Some quote → Some at ≡ Some quote
+double_opens : (k : CharKind) (at : ℕ) (bytes : List ℕ) (quote : ℕ) → opened (step_double k at bytes).0 ≡ Some quote
+    → Some at ≡ Some quote
 double_opens kinds.DoubleQuote at bytes quote e = absurd (cc)
 double_opens _ at bytes quote e = e
 
-double_escape_opens : (k : CharKind) (at : ℕ) (slash bytes : List ℕ) (quote : ℕ) → opened (step_double_escape k at slash bytes).0 ≡ Some quote
+double_escape_opens : (k : CharKind) (at : ℕ) (slash bytes : List ℕ) (quote : ℕ)
+    → opened (step_double_escape k at slash bytes).0 ≡ Some quote
     → Some at ≡ Some quote
 double_escape_opens kinds.Newline at slash bytes quote e = e
 double_escape_opens _ at slash bytes quote e = e
@@ -122,7 +127,8 @@ effects_err effect (Err place) quote e = e
 
 -- one byte before a front that is read as an error
 err_before : (mode : Mode) (place b quote : ℕ) (front : List ℕ)
-    → reading (step mode place (b ∷ []) (kind b)).0 (suc place) front ≡ Err quote → reading mode place (b ∷ front) ≡ Err quote
+    → reading (step mode place (b ∷ []) (kind b)).0 (suc place) front ≡ Err quote → reading mode place (b ∷ front)
+    ≡ Err quote
 err_before mode place b quote front e =
     reading-step mode place b front (kind b) refl ∙ ap (effects (step mode place (b ∷ []) (kind b)).1) e
 
@@ -169,8 +175,10 @@ opens_before mode place b quote text opens = record {
   is_quote = opens.is_quote;
   at = omega (arith, opens.at);
   words = with_effect (step mode place (b ∷ []) (kind b)).1 opens.words;
-  front = reading-step mode place b opens.before (kind b) refl ∙ ap (effects (step mode place (b ∷ []) (kind b)).1) opens.front;
-  longer = λ front rest e. err_before mode place b quote (opens.before ++ opens.byte ∷ front) (opens.longer front rest e);
+  front = reading-step mode place b opens.before (kind b) refl
+      ∙ ap (effects (step mode place (b ∷ []) (kind b)).1) opens.front;
+  longer = λ front rest e. err_before mode place b quote (opens.before ++ opens.byte ∷ front)
+      (opens.longer front rest e);
 }
 
 -- the error is the place of a quote that is open before the text, or opens in it
@@ -187,7 +195,8 @@ unclosed [] mode place quote e =
     no_front [] rest split = refl
     no_front (x ∷ front) rest split = absurd (cc)
 unclosed (b ∷ text) mode place quote e =
-    elim (unclosed text (step mode place (b ∷ []) (kind b)).0 (suc place) quote (effects_err _ _ quote (sym (reading-step mode place b text (kind b) refl) ∙ e))) [
+    elim (unclosed text (step mode place (b ∷ []) (kind b)).0 (suc place) quote
+    (effects_err _ _ quote (sym (reading-step mode place b text (kind b) refl) ∙ e))) [
       | inl stays ↦ elim (step_opens mode place b quote (kind b) stays.open_now) [
         | inl before ↦ inl (stays_before mode place b quote text before stays)
         | inr here ↦ inr (opens_at mode place b quote text here stays)
@@ -197,7 +206,8 @@ unclosed (b ∷ text) mode place quote e =
 
 -- a longer front goes on after the quote
 longer_front : (before : List ℕ) (byte : ℕ) (more : List ℕ) (n : ℕ) → length before < n
-    → (front : List ℕ) × (rest : List ℕ) × (more ≡ front ++ rest) × (take n (before ++ byte ∷ more) ≡ before ++ byte ∷ front)
+    → (front : List ℕ) × (rest : List ℕ) × (more ≡ front ++ rest)
+    × (take n (before ++ byte ∷ more) ≡ before ++ byte ∷ front)
 longer_front [] byte more zero longer = absurd (omega arith)
 longer_front [] byte more (suc n) longer = (take n more, drop n more, sym (take-append-drop n more), refl)
 longer_front (b ∷ before) byte more zero longer = absurd (omega arith)
@@ -206,7 +216,8 @@ longer_front (b ∷ before) byte more (suc n) longer =
     (front, rest, split, ap (λ bytes. b ∷ bytes) e)
 
 -- the byte after a front
-byte_after : (before : List ℕ) (byte : ℕ) (more : List ℕ) → slice_get (before ++ byte ∷ more) (length before) ≡ Some byte
+byte_after : (before : List ℕ) (byte : ℕ) (more : List ℕ) → slice_get (before ++ byte ∷ more) (length before)
+    ≡ Some byte
 byte_after [] byte more = refl
 byte_after (b ∷ before) byte more = byte_after before byte more
 
@@ -219,11 +230,13 @@ opens_quote : (text : List ℕ) (quote : ℕ) → OpensIn (Mode.outside false) 0
 opens_quote text quote opens =
     let at : length opens.before ≡ quote = omega (arith, opens.at) in
     subst (λ bytes. IsOpenQuote bytes quote) (sym opens.split) (record {
-      quote = subst (λ place. IsSomeAnd (slice_get (opens.before ++ opens.byte ∷ opens.more) place) (λ b. IsQuote (kind b))) at
+      quote = subst
+          (λ place. IsSomeAnd (slice_get (opens.before ++ opens.byte ∷ opens.more) place) (λ b. IsQuote (kind b))) at
           (rw (byte_after opens.before opens.byte opens.more) opens.is_quote);
       before = opens.words;
       front = subst (λ place. HasWords (take place (opens.before ++ opens.byte ∷ opens.more)) opens.words) at
-          (rw (take-append_seam opens.before (opens.byte ∷ opens.more)) (read_stands opens.before opens.words opens.front));
+          (rw (take-append_seam opens.before (opens.byte ∷ opens.more))
+          (read_stands opens.before opens.words opens.front));
       longest = λ n words longer within says.
           let (front, rest, split, e) = longer_front opens.before opens.byte opens.more n (omega (arith, at, longer)) in
           not_both (reading (Mode.outside false) 0 (take n (opens.before ++ opens.byte ∷ opens.more))) words quote

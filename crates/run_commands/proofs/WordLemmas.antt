@@ -30,7 +30,8 @@ effects-add_nil (Ok (word ∷ words)) = refl
 effects-add_nil (Err place) = refl
 
 -- bytes that are added one after another
-pub effects-add_add : (xs ys : List ℕ) (r : Read) → effects (Effect.add xs) (effects (Effect.add ys) r) ≡ effects (Effect.add (xs ++ ys)) r
+pub effects-add_add : (xs ys : List ℕ) (r : Read) → effects (Effect.add xs) (effects (Effect.add ys) r)
+    ≡ effects (Effect.add (xs ++ ys)) r
 effects-add_add [] [] (Ok []) = refl
 effects-add_add [] (y ∷ ys) (Ok []) = refl
 effects-add_add (x ∷ xs) [] (Ok []) = ap (λ bytes. Ok ((x ∷ bytes) ∷ [])) (sym (append-nil xs))
@@ -40,7 +41,8 @@ effects-add_add xs ys (Err place) = refl
 
 -- a blank between words
 after_blank : (k : CharKind) (b : ℕ) (text : List ℕ) (words : List (List ℕ)) (place : ℕ) → kind b ≡ k → IsBlank k
-    → reading (Mode.outside false) (suc place) text ≡ Ok words → reading (Mode.outside false) place (b ∷ text) ≡ Ok words
+    → reading (Mode.outside false) (suc place) text ≡ Ok words → reading (Mode.outside false) place (b ∷ text)
+    ≡ Ok words
 after_blank kinds.Space b text words place is blank rest =
     reading-step (Mode.outside false) place b text kinds.Space is ∙ ap (effects Effect.pass) rest
 after_blank kinds.Newline b text words place is blank rest =
@@ -49,7 +51,8 @@ after_blank _ b text words place is blank rest = absurd blank
 
 -- a blank after a word
 after_word : (k : CharKind) (b : ℕ) (text : List ℕ) (words : List (List ℕ)) (place : ℕ) → kind b ≡ k → IsBlank k
-    → reading (Mode.outside false) (suc place) text ≡ Ok words → reading (Mode.outside true) place (b ∷ text) ≡ Ok ([] ∷ words)
+    → reading (Mode.outside false) (suc place) text ≡ Ok words → reading (Mode.outside true) place (b ∷ text)
+    ≡ Ok ([] ∷ words)
 after_word kinds.Space b text words place is blank rest =
     reading-step (Mode.outside true) place b text kinds.Space is ∙ ap (effects Effect.close) rest
 after_word kinds.Newline b text words place is blank rest =
@@ -77,14 +80,17 @@ comment_skips (b ∷ remark) text place lacks =
     (after, comment_step (kind b) b (remark ++ text) place refl lacks.0 ∙ e)
 
 -- where a comment ends it is as between words
-comment_ends : (text : List ℕ) (place : ℕ) → EndsComment text → reading Mode.comment place text ≡ reading (Mode.outside false) place text
+comment_ends : (text : List ℕ) (place : ℕ) → EndsComment text → reading Mode.comment place text
+    ≡ reading (Mode.outside false) place text
 comment_ends [] place ends = reading-end Mode.comment place ∙ sym (reading-end (Mode.outside false) place)
 comment_ends (b ∷ text) place ends =
-    reading-step Mode.comment place b text kinds.Newline ends ∙ sym (reading-step (Mode.outside false) place b text kinds.Newline ends)
+    reading-step Mode.comment place b text kinds.Newline ends
+    ∙ sym (reading-step (Mode.outside false) place b text kinds.Newline ends)
 
 -- a byte between single quotes
 single_step : (k : CharKind) (quote b : ℕ) (text : List ℕ) (place : ℕ) → kind b ≡ k → k ≢ kinds.SingleQuote
-    → reading (Mode.single quote) place (b ∷ text) ≡ effects (Effect.add (b ∷ [])) (reading (Mode.single quote) (suc place) text)
+    → reading (Mode.single quote) place (b ∷ text)
+    ≡ effects (Effect.add (b ∷ [])) (reading (Mode.single quote) (suc place) text)
 single_step kinds.SingleQuote quote b text place is other = absurd (other refl)
 single_step kinds.Space quote b text place is other = reading-step (Mode.single quote) place b text _ is
 single_step kinds.Newline quote b text place is other = reading-step (Mode.single quote) place b text _ is
@@ -95,10 +101,16 @@ single_step kinds.Expansion quote b text place is other = reading-step (Mode.sin
 single_step kinds.Plain quote b text place is other = reading-step (Mode.single quote) place b text _ is
 
 -- bytes between single quotes are added
-single_reads : (inner : List ℕ) (c : ℕ) (text : List ℕ) (quote place : ℕ) → Lacks kinds.SingleQuote inner → kind c ≡ kinds.SingleQuote
-    → (after : ℕ) × (reading (Mode.single quote) place (inner ++ c ∷ text) ≡ effects (Effect.add inner) (reading (Mode.outside true) after text))
-single_reads [] c text quote place lacks closes =
-    (suc place, reading-step (Mode.single quote) place c text kinds.SingleQuote closes ∙ effects-pass _ ∙ sym (effects-add_nil _))
+single_reads : (inner : List ℕ) (c : ℕ) (text : List ℕ) (quote place : ℕ) → Lacks kinds.SingleQuote inner
+    → kind c ≡ kinds.SingleQuote
+    → (after : ℕ)
+    × (reading (Mode.single quote) place (inner ++ c ∷ text)
+    ≡ effects (Effect.add inner) (reading (Mode.outside true) after text))
+single_reads [] c text quote place lacks closes = (
+  suc place,
+  reading-step (Mode.single quote) place c text kinds.SingleQuote closes ∙ effects-pass _
+      ∙ sym (effects-add_nil _),
+)
 single_reads (b ∷ inner) c text quote place lacks closes =
     let (after, e) = single_reads inner c text quote (suc place) lacks.1 closes in (
       after,
@@ -108,7 +120,8 @@ single_reads (b ∷ inner) c text quote place lacks closes =
 
 -- a plain byte between double quotes
 double_step : (k : CharKind) (quote b : ℕ) (text : List ℕ) (place : ℕ) → kind b ≡ k → IsPlainInQuotes k
-    → reading (Mode.double quote) place (b ∷ text) ≡ effects (Effect.add (b ∷ [])) (reading (Mode.double quote) (suc place) text)
+    → reading (Mode.double quote) place (b ∷ text)
+    ≡ effects (Effect.add (b ∷ [])) (reading (Mode.double quote) (suc place) text)
 double_step kinds.Backslash quote b text place is plain = absurd plain
 double_step kinds.DoubleQuote quote b text place is plain = absurd plain
 double_step kinds.Space quote b text place is plain = reading-step (Mode.double quote) place b text _ is
@@ -125,26 +138,38 @@ slash_step quote b text place is = reading-step (Mode.double quote) place b text
 
 -- a byte before which the backslash goes
 escaped_step : (k : CharKind) (quote b c : ℕ) (text : List ℕ) (place : ℕ) → kind c ≡ k → IsEscaped k
-    → reading (Mode.double_escape quote (b ∷ [])) place (c ∷ text) ≡ effects (Effect.add (c ∷ [])) (reading (Mode.double quote) (suc place) text)
-escaped_step kinds.Backslash quote b c text place is escaped = reading-step (Mode.double_escape quote (b ∷ [])) place c text _ is
-escaped_step kinds.DoubleQuote quote b c text place is escaped = reading-step (Mode.double_escape quote (b ∷ [])) place c text _ is
-escaped_step kinds.Expansion quote b c text place is escaped = reading-step (Mode.double_escape quote (b ∷ [])) place c text _ is
+    → reading (Mode.double_escape quote (b ∷ [])) place (c ∷ text)
+    ≡ effects (Effect.add (c ∷ [])) (reading (Mode.double quote) (suc place) text)
+escaped_step kinds.Backslash quote b c text place is escaped =
+    reading-step (Mode.double_escape quote (b ∷ [])) place c text _ is
+escaped_step kinds.DoubleQuote quote b c text place is escaped =
+    reading-step (Mode.double_escape quote (b ∷ [])) place c text _ is
+escaped_step kinds.Expansion quote b c text place is escaped =
+    reading-step (Mode.double_escape quote (b ∷ [])) place c text _ is
 escaped_step _ quote b c text place is escaped = absurd escaped
 
 -- a byte before which the backslash stays
 kept_step : (k : CharKind) (quote b c : ℕ) (text : List ℕ) (place : ℕ) → kind c ≡ k → KeepsBackslash k
-    → reading (Mode.double_escape quote (b ∷ [])) place (c ∷ text) ≡ effects (Effect.add (b ∷ c ∷ [])) (reading (Mode.double quote) (suc place) text)
+    → reading (Mode.double_escape quote (b ∷ [])) place (c ∷ text)
+    ≡ effects (Effect.add (b ∷ c ∷ [])) (reading (Mode.double quote) (suc place) text)
 kept_step kinds.Space quote b c text place is keeps = reading-step (Mode.double_escape quote (b ∷ [])) place c text _ is
 kept_step kinds.Hash quote b c text place is keeps = reading-step (Mode.double_escape quote (b ∷ [])) place c text _ is
-kept_step kinds.SingleQuote quote b c text place is keeps = reading-step (Mode.double_escape quote (b ∷ [])) place c text _ is
+kept_step kinds.SingleQuote quote b c text place is keeps =
+    reading-step (Mode.double_escape quote (b ∷ [])) place c text _ is
 kept_step kinds.Plain quote b c text place is keeps = reading-step (Mode.double_escape quote (b ∷ [])) place c text _ is
 kept_step _ quote b c text place is keeps = absurd keeps
 
 -- bytes between double quotes are added
-double_reads : {source meaning : List ℕ} → IsQuoted source meaning → (c : ℕ) (text : List ℕ) (quote place : ℕ) → kind c ≡ kinds.DoubleQuote
-    → (after : ℕ) × (reading (Mode.double quote) place (source ++ c ∷ text) ≡ effects (Effect.add meaning) (reading (Mode.outside true) after text))
-double_reads IsQuoted.nothing c text quote place closes =
-    (suc place, reading-step (Mode.double quote) place c text kinds.DoubleQuote closes ∙ effects-pass _ ∙ sym (effects-add_nil _))
+double_reads : {source meaning : List ℕ} → IsQuoted source meaning → (c : ℕ) (text : List ℕ) (quote place : ℕ)
+    → kind c ≡ kinds.DoubleQuote
+    → (after : ℕ)
+    × (reading (Mode.double quote) place (source ++ c ∷ text)
+    ≡ effects (Effect.add meaning) (reading (Mode.outside true) after text))
+double_reads IsQuoted.nothing c text quote place closes = (
+  suc place,
+  reading-step (Mode.double quote) place c text kinds.DoubleQuote closes ∙ effects-pass _
+      ∙ sym (effects-add_nil _),
+)
 double_reads (IsQuoted.plain {b} {source} {meaning} plain more) c text quote place closes =
     let (after, e) = double_reads more c text quote (suc place) closes in (
       after,
@@ -155,26 +180,31 @@ double_reads (IsQuoted.escaped {b} {c = d} {source} {meaning} slash escaped more
     let (after, e) = double_reads more c text quote (suc (suc place)) closes in (
       after,
       slash_step quote b (d ∷ source ++ c ∷ text) place slash
-          ∙ escaped_step (kind d) quote b d (source ++ c ∷ text) (suc place) refl escaped ∙ ap (effects (Effect.add (d ∷ []))) e
+          ∙ escaped_step (kind d) quote b d (source ++ c ∷ text) (suc place) refl escaped
+          ∙ ap (effects (Effect.add (d ∷ []))) e
           ∙ effects-add_add (d ∷ []) meaning _,
     )
 double_reads (IsQuoted.joined {b} {c = d} {source} {meaning} slash newline more) c text quote place closes =
     let (after, e) = double_reads more c text quote (suc (suc place)) closes in (
       after,
       slash_step quote b (d ∷ source ++ c ∷ text) place slash
-          ∙ reading-step (Mode.double_escape quote (b ∷ [])) (suc place) d (source ++ c ∷ text) kinds.Newline newline ∙ effects-pass _ ∙ e,
+          ∙ reading-step (Mode.double_escape quote (b ∷ [])) (suc place) d (source ++ c ∷ text) kinds.Newline newline
+          ∙ effects-pass _ ∙ e,
     )
 double_reads (IsQuoted.kept {b} {c = d} {source} {meaning} slash keeps more) c text quote place closes =
     let (after, e) = double_reads more c text quote (suc (suc place)) closes in (
       after,
       slash_step quote b (d ∷ source ++ c ∷ text) place slash
-          ∙ kept_step (kind d) quote b d (source ++ c ∷ text) (suc place) refl keeps ∙ ap (effects (Effect.add (b ∷ d ∷ []))) e
+          ∙ kept_step (kind d) quote b d (source ++ c ∷ text) (suc place) refl keeps
+          ∙ ap (effects (Effect.add (b ∷ d ∷ []))) e
           ∙ effects-add_add (b ∷ d ∷ []) meaning _,
     )
 
 -- a plain byte of a word
-plain_step : (k : CharKind) (inside : Bool) (b : ℕ) (text : List ℕ) (place : ℕ) → kind b ≡ k → IsPlainInWord k → MayStand inside (b ∷ [])
-    → reading (Mode.outside inside) place (b ∷ text) ≡ effects (Effect.add (b ∷ [])) (reading (Mode.outside true) (suc place) text)
+plain_step : (k : CharKind) (inside : Bool) (b : ℕ) (text : List ℕ) (place : ℕ) → kind b ≡ k → IsPlainInWord k
+    → MayStand inside (b ∷ [])
+    → reading (Mode.outside inside) place (b ∷ text)
+    ≡ effects (Effect.add (b ∷ [])) (reading (Mode.outside true) (suc place) text)
 plain_step kinds.Hash true b text place is plain may = reading-step (Mode.outside true) place b text _ is
 plain_step kinds.Hash false b text place is plain may = absurd (may is)
 plain_step kinds.Expansion inside b text place is plain may = reading-step (Mode.outside inside) place b text _ is
@@ -182,15 +212,21 @@ plain_step kinds.Plain inside b text place is plain may = reading-step (Mode.out
 plain_step _ inside b text place is plain may = absurd plain
 
 -- a byte after a backslash outside quotes
-escape_step : (k : CharKind) (inside : Bool) (slash : List ℕ) (c : ℕ) (text : List ℕ) (place : ℕ) → kind c ≡ k → k ≢ kinds.Newline
-    → reading (Mode.escape inside slash) place (c ∷ text) ≡ effects (Effect.add (c ∷ [])) (reading (Mode.outside true) (suc place) text)
+escape_step : (k : CharKind) (inside : Bool) (slash : List ℕ) (c : ℕ) (text : List ℕ) (place : ℕ) → kind c ≡ k
+    → k ≢ kinds.Newline
+    → reading (Mode.escape inside slash) place (c ∷ text)
+    ≡ effects (Effect.add (c ∷ [])) (reading (Mode.outside true) (suc place) text)
 escape_step kinds.Newline inside slash c text place is other = absurd (other refl)
 escape_step kinds.Space inside slash c text place is other = reading-step (Mode.escape inside slash) place c text _ is
 escape_step kinds.Hash inside slash c text place is other = reading-step (Mode.escape inside slash) place c text _ is
-escape_step kinds.Backslash inside slash c text place is other = reading-step (Mode.escape inside slash) place c text _ is
-escape_step kinds.SingleQuote inside slash c text place is other = reading-step (Mode.escape inside slash) place c text _ is
-escape_step kinds.DoubleQuote inside slash c text place is other = reading-step (Mode.escape inside slash) place c text _ is
-escape_step kinds.Expansion inside slash c text place is other = reading-step (Mode.escape inside slash) place c text _ is
+escape_step kinds.Backslash inside slash c text place is other =
+    reading-step (Mode.escape inside slash) place c text _ is
+escape_step kinds.SingleQuote inside slash c text place is other =
+    reading-step (Mode.escape inside slash) place c text _ is
+escape_step kinds.DoubleQuote inside slash c text place is other =
+    reading-step (Mode.escape inside slash) place c text _ is
+escape_step kinds.Expansion inside slash c text place is other =
+    reading-step (Mode.escape inside slash) place c text _ is
 escape_step kinds.Plain inside slash c text place is other = reading-step (Mode.escape inside slash) place c text _ is
 
 -- a byte outside quotes that adds nothing
@@ -203,10 +239,15 @@ outside_pass k next inside b text place is passes =
     ∙ effects-pass _
 
 -- a piece of a word is added
-piece_reads : {source meaning : List ℕ} → IsPiece source meaning → (inside : Bool) (text : List ℕ) (place : ℕ) → MayStand inside source
-    → (after : ℕ) × (reading (Mode.outside inside) place (source ++ text) ≡ effects (Effect.add meaning) (reading (Mode.outside true) after text))
-piece_reads (IsPiece.plain {b} plain) true text place may = (suc place, plain_step (kind b) true b text place refl plain tt)
-piece_reads (IsPiece.plain {b} plain) false text place may = (suc place, plain_step (kind b) false b text place refl plain may)
+piece_reads : {source meaning : List ℕ} → IsPiece source meaning → (inside : Bool) (text : List ℕ) (place : ℕ)
+    → MayStand inside source
+    → (after : ℕ)
+    × (reading (Mode.outside inside) place (source ++ text)
+    ≡ effects (Effect.add meaning) (reading (Mode.outside true) after text))
+piece_reads (IsPiece.plain {b} plain) true text place may =
+    (suc place, plain_step (kind b) true b text place refl plain tt)
+piece_reads (IsPiece.plain {b} plain) false text place may =
+    (suc place, plain_step (kind b) false b text place refl plain may)
 piece_reads (IsPiece.escaped {b} {c} slash other) inside text place may = (
   suc (suc place),
   outside_pass kinds.Backslash (Mode.escape inside (b ∷ [])) inside b (c ∷ text) place slash refl
@@ -230,16 +271,21 @@ pub reads_all : {inside : Bool} {text : List ℕ} {words : List (List ℕ)} → 
     → (place : ℕ) → reading (Mode.outside inside) place text ≡ Ok words
 reads_all Reads.end place = reading-end (Mode.outside false) place
 reads_all Reads.end_of_word place = reading-end (Mode.outside true) place
-reads_all (Reads.blank {b} {text} {words} blank rest) place = after_blank (kind b) b text words place refl blank (reads_all rest (suc place))
-reads_all (Reads.blank_after_word {b} {text} {words} blank rest) place = after_word (kind b) b text words place refl blank (reads_all rest (suc place))
+reads_all (Reads.blank {b} {text} {words} blank rest) place =
+    after_blank (kind b) b text words place refl blank (reads_all rest (suc place))
+reads_all (Reads.blank_after_word {b} {text} {words} blank rest) place =
+    after_word (kind b) b text words place refl blank (reads_all rest (suc place))
 reads_all (Reads.comment {b} remark {text} {words} hash lacks ends rest) place =
     let (after, e) = comment_skips remark text (suc place) lacks in
-    outside_pass kinds.Hash Mode.comment false b (remark ++ text) place hash refl ∙ e ∙ comment_ends text after ends ∙ reads_all rest after
+    outside_pass kinds.Hash Mode.comment false b (remark ++ text) place hash refl ∙ e ∙ comment_ends text after ends
+    ∙ reads_all rest after
 reads_all (Reads.joined {inside} {b} {c} {text} {words} slash newline rest) place =
     outside_pass kinds.Backslash (Mode.escape inside (b ∷ [])) inside b (c ∷ text) place slash refl
-    ∙ reading-step (Mode.escape inside (b ∷ [])) (suc place) c text kinds.Newline newline ∙ effects-pass _ ∙ reads_all rest (suc (suc place))
+    ∙ reading-step (Mode.escape inside (b ∷ [])) (suc place) c text kinds.Newline newline ∙ effects-pass _
+    ∙ reads_all rest (suc (suc place))
 reads_all (Reads.last {inside} {b} slash) place =
-    outside_pass kinds.Backslash (Mode.escape inside (b ∷ [])) inside b [] place slash refl ∙ reading-end (Mode.escape inside (b ∷ [])) (suc place)
+    outside_pass kinds.Backslash (Mode.escape inside (b ∷ [])) inside b [] place slash refl
+    ∙ reading-end (Mode.escape inside (b ∷ [])) (suc place)
 reads_all (Reads.piece {inside} {source} {meaning} {text} {word} {words} piece may rest) place =
     let (after, e) = piece_reads piece inside text place may in
     e ∙ ap (effects (Effect.add meaning)) (reads_all rest after)
@@ -249,6 +295,7 @@ pub same_words : (r : Read) (words others : List (List ℕ)) → r ≡ Ok words 
 same_words r words others e f = cc
 
 -- a text has no two lists of words
-pub one_reading : (text : List ℕ) (words others : List (List ℕ)) → Reads false text words → Reads false text others → words ≡ others
+pub one_reading : (text : List ℕ) (words others : List (List ℕ)) → Reads false text words → Reads false text others
+    → words ≡ others
 one_reading text words others one other =
     same_words (reading (Mode.outside false) 0 text) words others (reads_all one 0) (reads_all other 0)

@@ -18,7 +18,8 @@ put-add ended (Some word) bytes (Ok more) = ap (λ words. Ok (ended ++ words)) (
 
 -- a word that is opened
 put-open : (ended : List (List ℕ)) (open_word : Option (List ℕ)) (r : Read)
-    → put (record { ended = ended; open_word = Some (begun open_word) }) r ≡ put (record { ended = ended; open_word = open_word }) r
+    → put (record { ended = ended; open_word = Some (begun open_word) }) r
+    ≡ put (record { ended = ended; open_word = open_word }) r
 put-open ended open_word (Err place) = refl
 put-open ended None (Ok more) = ap (λ words. Ok (ended ++ words)) (onto_none more)
 put-open ended (Some word) (Ok more) = refl
@@ -26,7 +27,8 @@ put-open ended (Some word) (Ok more) = refl
 -- a word that is ended
 put-end : (ended : List (List ℕ)) (open_word : Option (List ℕ)) (r : Read)
     → put (record { ended = ended ++ option_to_list open_word; open_word = None }) r
-    ≡ put (record { ended = ended; open_word = open_word }) (effects (if is_some open_word then Effect.close else Effect.pass) r)
+    ≡ put (record { ended = ended; open_word = open_word })
+    (effects (if is_some open_word then Effect.close else Effect.pass) r)
 put-end ended None (Err place) = refl
 put-end ended (Some word) (Err place) = refl
 put-end ended None (Ok more) = ap (λ words. Ok (words ++ more)) (append-nil ended)
@@ -45,7 +47,8 @@ pub takes_add : (state next : State) (old : Gathered) (bytes : List ℕ) (place 
     → Takes state next old (record old { open_word = Some (begun old.open_word ++ bytes) }) place c
 takes_add state next old bytes place c step' sound = record {
   mode = ap (λ (to : Mode × Effect). to.0) (sym step');
-  adds = λ r. put-add old.ended old.open_word bytes r ∙ ap (λ (to : Mode × Effect). put old (effects to.1 r)) (sym step');
+  adds = λ r. put-add old.ended old.open_word bytes r
+      ∙ ap (λ (to : Mode × Effect). put old (effects to.1 r)) (sym step');
   sound = sound;
 }
 
@@ -56,7 +59,8 @@ pub takes_open : (state next : State) (old : Gathered) (place c : ℕ)
     → Takes state next old (record old { open_word = Some (begun old.open_word) }) place c
 takes_open state next old place c step' sound = record {
   mode = ap (λ (to : Mode × Effect). to.0) (sym step');
-  adds = λ r. put-open old.ended old.open_word r ∙ put-pass old r ∙ ap (λ (to : Mode × Effect). put old (effects to.1 r)) (sym step');
+  adds = λ r. put-open old.ended old.open_word r ∙ put-pass old r
+      ∙ ap (λ (to : Mode × Effect). put old (effects to.1 r)) (sym step');
   sound = sound;
 }
 

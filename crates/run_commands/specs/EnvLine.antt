@@ -19,7 +19,8 @@ may_stand_in_key byte = may_begin_key byte || is_ascii_digit byte
 abbrev pub is_key : List ℕ → Bool
 is_key [] = false
 is_key (first ∷ others) =
-    may_begin_key first && list_all may_stand_in_key others && not (starts_with nat_eq (first ∷ others) (codes "NEXTEST"))
+    may_begin_key first && list_all may_stand_in_key others && not
+    (starts_with nat_eq (first ∷ others) (codes "NEXTEST"))
 
 -- the name before a line's first `=`, and the value after it
 abbrev pub cut_at_equals : List ℕ → Pair

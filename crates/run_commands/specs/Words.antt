@@ -60,13 +60,17 @@ pub data IsQuoted : List ℕ → List ℕ → Type 0 where
   -- nothing more
   nothing : IsQuoted [] []
   -- a byte for itself
-  plain : {b : ℕ} {source meaning : List ℕ} → IsPlainInQuotes (kind b) → IsQuoted source meaning → IsQuoted (b ∷ source) (b ∷ meaning)
+  plain : {b : ℕ} {source meaning : List ℕ} → IsPlainInQuotes (kind b) → IsQuoted source meaning
+      → IsQuoted (b ∷ source) (b ∷ meaning)
   -- a backslash before `$`, a backquote, `"` or a backslash gives that one
-  escaped : {b c : ℕ} {source meaning : List ℕ} → kind b ≡ kinds.Backslash → IsEscaped (kind c) → IsQuoted source meaning → IsQuoted (b ∷ c ∷ source) (c ∷ meaning)
+  escaped : {b c : ℕ} {source meaning : List ℕ} → kind b ≡ kinds.Backslash → IsEscaped (kind c)
+      → IsQuoted source meaning → IsQuoted (b ∷ c ∷ source) (c ∷ meaning)
   -- a backslash and an LF are nothing
-  joined : {b c : ℕ} {source meaning : List ℕ} → kind b ≡ kinds.Backslash → kind c ≡ kinds.Newline → IsQuoted source meaning → IsQuoted (b ∷ c ∷ source) meaning
+  joined : {b c : ℕ} {source meaning : List ℕ} → kind b ≡ kinds.Backslash → kind c ≡ kinds.Newline
+      → IsQuoted source meaning → IsQuoted (b ∷ c ∷ source) meaning
   -- a backslash before any other stands for itself, and so does the other
-  kept : {b c : ℕ} {source meaning : List ℕ} → kind b ≡ kinds.Backslash → KeepsBackslash (kind c) → IsQuoted source meaning → IsQuoted (b ∷ c ∷ source) (b ∷ c ∷ meaning)
+  kept : {b c : ℕ} {source meaning : List ℕ} → kind b ≡ kinds.Backslash → KeepsBackslash (kind c)
+      → IsQuoted source meaning → IsQuoted (b ∷ c ∷ source) (b ∷ c ∷ meaning)
 
 -- a part of a word, and the bytes that it means
 pub data IsPiece : List ℕ → List ℕ → Type 0 where
@@ -75,10 +79,12 @@ pub data IsPiece : List ℕ → List ℕ → Type 0 where
   -- a backslash makes the next byte plain
   escaped : {b c : ℕ} → kind b ≡ kinds.Backslash → kind c ≢ kinds.Newline → IsPiece (b ∷ c ∷ []) (c ∷ [])
   -- between two single quotes all is plain
-  single_quoted : {b : ℕ} (inner : List ℕ) (c : ℕ) → kind b ≡ kinds.SingleQuote → Lacks kinds.SingleQuote inner → kind c ≡ kinds.SingleQuote
+  single_quoted : {b : ℕ} (inner : List ℕ) (c : ℕ) → kind b ≡ kinds.SingleQuote → Lacks kinds.SingleQuote inner
+      → kind c ≡ kinds.SingleQuote
       → IsPiece (b ∷ inner ++ c ∷ []) inner
   -- between two double quotes stands what the rules above give
-  double_quoted : {b : ℕ} {inner meaning : List ℕ} (c : ℕ) → kind b ≡ kinds.DoubleQuote → IsQuoted inner meaning → kind c ≡ kinds.DoubleQuote
+  double_quoted : {b : ℕ} {inner meaning : List ℕ} (c : ℕ) → kind b ≡ kinds.DoubleQuote → IsQuoted inner meaning
+      → kind c ≡ kinds.DoubleQuote
       → IsPiece (b ∷ inner ++ c ∷ []) meaning
 
 -- a piece may stand here: a word doesn't begin with `#`
@@ -99,18 +105,23 @@ pub data Reads : Bool → List ℕ → List (List ℕ) → Type 0 where
   end : Reads false [] []
   end_of_word : Reads true [] ([] ∷ [])
   -- a blank
-  blank : {b : ℕ} {text : List ℕ} {words : List (List ℕ)} → IsBlank (kind b) → Reads false text words → Reads false (b ∷ text) words
-  blank_after_word : {b : ℕ} {text : List ℕ} {words : List (List ℕ)} → IsBlank (kind b) → Reads false text words → Reads true (b ∷ text) ([] ∷ words)
+  blank : {b : ℕ} {text : List ℕ} {words : List (List ℕ)} → IsBlank (kind b) → Reads false text words
+      → Reads false (b ∷ text) words
+  blank_after_word : {b : ℕ} {text : List ℕ} {words : List (List ℕ)} → IsBlank (kind b) → Reads false text words
+      → Reads true (b ∷ text) ([] ∷ words)
   -- a comment, up to an LF or the end
-  comment : {b : ℕ} (remark : List ℕ) {text : List ℕ} {words : List (List ℕ)} → kind b ≡ kinds.Hash → Lacks kinds.Newline remark → EndsComment text
+  comment : {b : ℕ} (remark : List ℕ) {text : List ℕ} {words : List (List ℕ)} → kind b ≡ kinds.Hash
+      → Lacks kinds.Newline remark → EndsComment text
       → Reads false text words → Reads false (b ∷ remark ++ text) words
   -- a backslash and an LF are nothing
-  joined : {inside : Bool} {b c : ℕ} {text : List ℕ} {words : List (List ℕ)} → kind b ≡ kinds.Backslash → kind c ≡ kinds.Newline
+  joined : {inside : Bool} {b c : ℕ} {text : List ℕ} {words : List (List ℕ)} → kind b ≡ kinds.Backslash
+      → kind c ≡ kinds.Newline
       → Reads inside text words → Reads inside (b ∷ c ∷ text) words
   -- a backslash at the end is itself
   last : {inside : Bool} {b : ℕ} → kind b ≡ kinds.Backslash → Reads inside (b ∷ []) ((b ∷ []) ∷ [])
   -- a piece of a word
-  piece : {inside : Bool} {source meaning text word : List ℕ} {words : List (List ℕ)} → IsPiece source meaning → MayStand inside source
+  piece : {inside : Bool} {source meaning text word : List ℕ} {words : List (List ℕ)} → IsPiece source meaning
+      → MayStand inside source
       → Reads true text (word ∷ words) → Reads inside (source ++ text) ((meaning ++ word) ∷ words)
 
 -- the text is in the grammar, and has these words
@@ -132,4 +143,5 @@ pub record IsOpenQuote (text : List ℕ) (place : ℕ) : Type 0 where
 
 -- a text has no two lists of words
 abbrev pub HasOneReading : Type 0
-HasOneReading = (text : List ℕ) (words others : List (List ℕ)) → HasWords text words → HasWords text others → words ≡ others
+HasOneReading = (text : List ℕ) (words others : List (List ℕ)) → HasWords text words → HasWords text others
+    → words ≡ others

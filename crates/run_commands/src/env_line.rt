@@ -78,7 +78,8 @@ fn may_be_set(name: &[u8]) -> bool
 // What stands before the first `=` of a text, and after it.
 fn cut_at_equals_sign(text: &str) -> Option<(&str, &str)>
     ensures { MatchOption result (position_or_len (λ b. b == 61) text.now ≡ length text.now)
-        (λ p. (position_or_len (λ b. b == 61) text.now < length text.now) × ((p.0.now, p.1.now) ≡ cut_at_equals text.now)) }
+        (λ p. (position_or_len (λ b. b == 61) text.now < length text.now)
+        × ((p.0.now, p.1.now) ≡ cut_at_equals text.now)) }
 {
     text.split_once('=')
 }

@@ -26,11 +26,9 @@ pub use interceptor::Interceptor;
 pub use laws::{a_text_has_one_reading, an_env_text_has_no_bad_line};
 pub use script_helpers::{EnvInput, env_outcome, parse_env_text};
 pub use stress_count::{StressCondition, StressCount, StressCountParseError};
+pub use target_runner::{BuildPlatform, PlatformRunner, TargetRunner};
 pub use version_env_vars::VersionEnvVars;
 
-// For callers of this library: a plan has the commands with their runners, so that no crate above calls these.
+// For callers of this library. No crate above names these.
 pub use handle_inheritance::{ConfigureHandleInheritanceError, configure_handle_inheritance};
-pub use target_runner::{
-    BuildPlatform, CargoConfigSource, PlatformRunner, PlatformRunnerSource, RunnerArgs,
-    TargetRunner,
-};
+pub use target_runner::{CargoConfigSource, PlatformRunnerSource, RunnerArgs};

@@ -60,7 +60,8 @@ fn version_text(alloc: Global, version: Option<&Version>) -> Mem<Text>
 
 // One variable: its name, and a version's text or `none`.
 fn pair(alloc: Global, name: &str, version: Option<&Version>) -> Mem<(Text, Text)>
-    ensures { IfOk result (λ p. p ≡ (name.now, version_or_none (option_map parts_of (option_copied version.entry)))) }
+    ensures { IfOk result (λ p. p ≡
+        (name.now, version_or_none (option_map parts_of (option_copied version.entry)))) }
 {
     let name = Text::from_str(alloc, name)?;
     let value = version_text(alloc, version)?;
@@ -74,7 +75,8 @@ fn with_pair(
     name: &str,
     version: Option<&Version>,
 ) -> Mem<List<(Text, Text)>>
-    ensures { IfOk result (λ new. new ≡ pairs ++ (name.now, version_or_none (option_map parts_of (option_copied version.entry))) ∷ []) }
+    ensures { IfOk result (λ new. new ≡
+        pairs ++ (name.now, version_or_none (option_map parts_of (option_copied version.entry))) ∷ []) }
 {
     let pair = pair(alloc, name, version)?;
     pairs.push(alloc, pair)?;
@@ -83,7 +85,8 @@ fn with_pair(
 
 // A copy of a version, where there is one.
 fn copy_version(version: Option<&Version>) -> Mem<Option<Version>>
-    ensures { IfOk result (λ copied. option_map parts_of copied ≡ option_map parts_of (option_copied version.entry)) }
+    ensures { IfOk result (λ copied. option_map parts_of copied
+        ≡ option_map parts_of (option_copied version.entry)) }
 {
     match version {
         Some(version) => Ok(Some(version.clone()?)),
@@ -96,8 +99,10 @@ fn copy_versions(
     first: Option<&Version>,
     second: Option<&Version>,
 ) -> Mem<(Option<Version>, Option<Version>)>
-    ensures first { IfOk result (λ copied. option_map parts_of copied.0 ≡ option_map parts_of (option_copied first.entry)) }
-    ensures second { IfOk result (λ copied. option_map parts_of copied.1 ≡ option_map parts_of (option_copied second.entry)) }
+    ensures first { IfOk result (λ copied. option_map parts_of copied.0
+        ≡ option_map parts_of (option_copied first.entry)) }
+    ensures second { IfOk result (λ copied. option_map parts_of copied.1
+        ≡ option_map parts_of (option_copied second.entry)) }
 {
     let first = copy_version(first)?;
     let second = copy_version(second)?;

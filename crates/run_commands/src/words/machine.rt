@@ -100,7 +100,8 @@ fn after_double(alloc: Global, words: &mut WordList, quote: usize, c: char) -> M
 
 // A character after a backslash between double quotes.
 fn after_double_escape(alloc: Global, words: &mut WordList, quote: usize, c: char) -> Mem<State>
-    ensures { (place : ℕ) → IfOk result (λ next. Takes (states.DoubleQuotesEscape quote) next words.old words.new place c) }
+    ensures { (place : ℕ) → IfOk result
+        (λ next. Takes (states.DoubleQuotesEscape quote) next words.old words.new place c) }
 {
     match kind_of(c) {
         CharKind::Newline => Ok(State::DoubleQuotes(quote)),
@@ -118,7 +119,8 @@ fn after_double_escape(alloc: Global, words: &mut WordList, quote: usize, c: cha
 
 // A character in a comment.
 fn after_comment(c: char) -> State
-    ensures { (words : Gathered) (place : ℕ) → IsSound states.Comment words → Takes states.Comment result words words place c }
+    ensures { (words : Gathered) (place : ℕ) → IsSound states.Comment words
+        → Takes states.Comment result words words place c }
 {
     match kind_of(c) {
         CharKind::Newline => State::Outside,

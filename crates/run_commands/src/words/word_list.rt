@@ -51,7 +51,8 @@ impl WordList {
 
     /// Adds a character to the word that is open; begins one where none is.
     pub fn push(&mut self, alloc: Global, c: char) -> Mem<()>
-        ensures { OnOk result (self.new ≡ record self.old { open_word = Some (begun self.old.open_word ++ encode_utf8 c) }) }
+        ensures { OnOk result (self.new ≡
+            record self.old { open_word = Some (begun self.old.open_word ++ encode_utf8 c) }) }
     {
         self.begin(alloc);
         push_char(&mut self.word, c)
@@ -59,7 +60,8 @@ impl WordList {
 
     /// Ends the word that is open, where one is.
     pub fn end(&mut self, alloc: Global) -> Mem<()>
-        ensures { OnOk result (self.new ≡ record { ended = self.old.ended ++ option_to_list self.old.open_word; open_word = None }) }
+        ensures { OnOk result (self.new ≡
+            record { ended = self.old.ended ++ option_to_list self.old.open_word; open_word = None }) }
     {
         if let Some(word) = self.word.take() {
             self.ended.push(alloc, Text::from_string(word))?;
@@ -77,7 +79,8 @@ impl WordList {
 
 // Adds a character to the text that is there.
 fn push_char(text: &mut Option<String>, c: char) -> Mem<()>
-    ensures { OnOk result (option_map string_bytes text.new ≡ option_map (λ t. string_bytes t ++ encode_utf8 c) text.old) }
+    ensures { OnOk result (option_map string_bytes text.new
+        ≡ option_map (λ t. string_bytes t ++ encode_utf8 c) text.old) }
 {
     if let Some(text) = text {
         text.push(c)?;

@@ -7,4 +7,5 @@ pub returns-in_ok-push-in_default : goal.returns-in_ok-push-in_default
 returns-in_ok-push-in_default c = λ place.
     rw c.in_ok-push-in_default.ensures (
     takes_add (states.DoubleQuotes c.args.quote) (states.DoubleQuotes c.args.quote) _ _ place c.args.c
-    (double_other _ _ _ (λ e. c.in_default.not-DoubleQuote (c.kind_of.ensures ∙ e)) (λ e. c.in_default.not-Backslash (c.kind_of.ensures ∙ e))) tt)
+    (double_other _ _ _ (λ e. c.in_default.not-DoubleQuote (c.kind_of.ensures ∙ e))
+    (λ e. c.in_default.not-Backslash (c.kind_of.ensures ∙ e))) tt)

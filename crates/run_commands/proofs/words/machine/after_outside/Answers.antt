@@ -9,5 +9,7 @@ returns-in_ok-push-in_default c =
     let other = c.in_default in
     rw c.in_ok-push-in_default.ensures (
     takes_add states.Outside states.Outside _ _ c.args.place c.args.c
-    (outside_other _ _ _ _ (λ e. other.not-Space (is ∙ e)) (λ e. other.not-Newline (is ∙ e)) (λ e. other.not-Backslash (is ∙ e))
-    (λ e. other.not-SingleQuote (is ∙ e)) (λ e. other.not-DoubleQuote (is ∙ e)) (λ e. absurd (other.not-Hash (is ∙ e)))) tt)
+    (outside_other _ _ _ _ (λ e. other.not-Space (is ∙ e)) (λ e. other.not-Newline (is ∙ e))
+    (λ e. other.not-Backslash (is ∙ e))
+    (λ e. other.not-SingleQuote (is ∙ e)) (λ e. other.not-DoubleQuote (is ∙ e))
+    (λ e. absurd (other.not-Hash (is ∙ e)))) tt)
