@@ -7,3 +7,4 @@ pub mod Hearing
 pub mod Stress
 pub mod Cancel
 pub mod Usual
+pub mod Parts

@@ -1,5 +1,6 @@
 // What a finished test or setup script adds to the statistics.
-ghost use Rattle.std.specs.Prelude.{◌≡◌};
+ghost use Rattle.std.specs.Prelude.{◌≡◌, Bool, true, false};
+ghost use Rattle.run_events.specs.Result.{is_success};
 ghost use Rattle.run_events.specs.Stats.{
   AreBelow,
   failed_adds,
@@ -10,7 +11,7 @@ ghost use Rattle.run_events.specs.Stats.{
 };
 ghost use Rattle.run_events.specs.declared.result.ExecutionResult.TheVariants.{ExecFail};
 
-use crate::{ExecutionResult, FlakyResult, LeakTimeoutResult, RunStats, SlowTimeoutResult};
+use crate::{ExecutionResult, FlakyResult, RunStats, SlowTimeoutResult};
 
 // The result of the last attempt.
 pub fn last_result(results: &[ExecutionResult]) -> ExecutionResult
@@ -51,50 +52,66 @@ fn last_adds(retried: bool, slow: bool, last: ExecutionResult) -> RunStats
     ensures counts { result ≡ last_adds retried slow last }
     ensures small { AreBelow 2 result }
 {
-    let finished = RunStats {
-        finished_count: 1,
-        ..RunStats::nothing()
-    };
+    if last.is_success() {
+        passed_adds(retried, slow, last)
+    } else {
+        unpassed_adds(slow, last)
+    }
+}
+
+// What a test adds whose last result is a success.
+fn passed_adds(retried: bool, slow: bool, last: ExecutionResult) -> RunStats
+    requires { is_success last ≡ true }
+    ensures counts { result ≡ last_adds retried slow last }
+    ensures small { AreBelow 2 result }
+{
     let passed = RunStats {
+        finished_count: 1,
         passed: 1,
         flaky: u64::from(retried),
-        ..finished
+        ..RunStats::nothing()
     };
     match last {
         ExecutionResult::Pass => RunStats {
             passed_slow: u64::from(slow),
             ..passed
         },
-        ExecutionResult::Leak {
-            result: LeakTimeoutResult::Pass,
-        } => RunStats {
+        ExecutionResult::Leak { .. } => RunStats {
             passed_slow: u64::from(slow),
             leaky: 1,
             ..passed
         },
-        ExecutionResult::Timeout {
-            result: SlowTimeoutResult::Pass,
-        } => RunStats {
+        ExecutionResult::Timeout { .. } => RunStats {
             passed_timed_out: 1,
             ..passed
         },
-        ExecutionResult::Leak {
-            result: LeakTimeoutResult::Fail,
-        } => RunStats {
+        _ => unreachable!(),
+    }
+}
+
+// What a test adds whose last result is no success.
+fn unpassed_adds(slow: bool, last: ExecutionResult) -> RunStats
+    requires { is_success last ≡ false }
+    ensures counts { (retried : Bool) → result ≡ last_adds retried slow last }
+    ensures small { AreBelow 2 result }
+{
+    match last {
+        ExecutionResult::Leak { .. } => RunStats {
             leaky_failed: 1,
             ..failed_adds(slow)
         },
         ExecutionResult::Fail { .. } => failed_adds(slow),
-        ExecutionResult::Timeout {
-            result: SlowTimeoutResult::Fail,
-        } => RunStats {
+        ExecutionResult::Timeout { .. } => RunStats {
+            finished_count: 1,
             failed_timed_out: 1,
-            ..finished
+            ..RunStats::nothing()
         },
         ExecutionResult::ExecFail => RunStats {
+            finished_count: 1,
             exec_failed: 1,
-            ..finished
+            ..RunStats::nothing()
         },
+        _ => unreachable!(),
     }
 }
 

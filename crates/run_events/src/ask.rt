@@ -1,5 +1,6 @@
 // What the outside is asked to do.
 use crate::ChildSignal;
+use crate::copies::both;
 use run_capture::{Duplicate, List, Mem, Stream, Text};
 use std::alloc::Global;
 
@@ -25,10 +26,9 @@ pub struct StartAsk {
 
 impl Duplicate for StartAsk {
     fn copy(&self, alloc: Global) -> Mem<StartAsk> {
-        let env_path = self.env_path.copy(alloc)?;
-        let streams = self.streams.copy(alloc)?;
-        let command = self.command.copy(alloc)?;
-        let env = self.env.copy(alloc)?;
+        let outside = both(self.env_path.copy(alloc), self.streams.copy(alloc));
+        let program = both(self.command.copy(alloc), self.env.copy(alloc));
+        let ((env_path, streams), (command, env)) = both(outside, program)?;
         Ok(StartAsk {
             unit: self.unit,
             attempt: self.attempt,

@@ -8,6 +8,7 @@ mod ask;
 mod ask_list;
 mod cancel;
 mod children;
+mod copies;
 mod event_log;
 mod events;
 mod info;

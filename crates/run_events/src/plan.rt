@@ -6,6 +6,7 @@ use crate::{
     SlowTimeoutResult,
 };
 use jiff::Timestamp;
+use crate::copies::both;
 use run_capture::{Duplicate, List, Mem, Text};
 use run_commands::{BuildPlatform, TargetRunner, VersionEnvVars};
 use std::alloc::Global;
@@ -161,10 +162,9 @@ fn texts_of(alloc: Global, test: &PlanTest) -> Mem<(Option<Text>, Option<Text>)>
 
 impl Duplicate for PlanTest {
     fn copy(&self, alloc: Global) -> Mem<PlanTest> {
-        let scripts = self.scripts.copy(alloc)?;
-        let command = self.command.copy(alloc)?;
-        let (skip, group) = texts_of(alloc, self)?;
-        let id = self.id.copy(alloc)?;
+        let lists = both(self.scripts.copy(alloc), self.command.copy(alloc));
+        let texts = both(texts_of(alloc, self), self.id.copy(alloc));
+        let ((scripts, command), ((skip, group), id)) = both(lists, texts)?;
         Ok(PlanTest {
             id,
             command,

@@ -2,6 +2,7 @@
 ghost use Rattle.std.specs.Prelude.{◌≡◌, IfOk};
 
 use crate::{FlakyResult, MaxFail, Plan, RetryPolicy, TestInstanceId};
+use crate::copies::both;
 use run_capture::{CaptureStrategy, Duplicate, List, Mem};
 use run_commands::{Interceptor, StressCondition};
 use std::alloc::Global;
@@ -50,12 +51,12 @@ fn extras_of(alloc: Global, settings: &Settings) -> Mem<Extras>
 
 impl Duplicate for Settings {
     fn copy(&self, alloc: Global) -> Mem<Settings> {
+        let (extras, plan) = both(extras_of(alloc, self), self.plan.copy(alloc))?;
         let Extras {
             stress,
             interceptor,
             expected,
-        } = extras_of(alloc, self)?;
-        let plan = self.plan.copy(alloc)?;
+        } = extras;
         Ok(Settings {
             plan,
             capture: self.capture,

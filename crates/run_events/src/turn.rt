@@ -1,5 +1,6 @@
 // One thing that happened outside.
-ghost use Rattle.std.specs.Prelude.{◌≡◌, IfOk};
+ghost use Rattle.std.specs.Prelude.{◌≡◌, IfOk, true, false};
+ghost use Rattle.run_events.specs.Parts.{has_bytes};
 ghost use Rattle.run_events.specs.declared.turn.Turn.TheVariants.{StartFailed, WaitFailed, Piece, ReadError, Env};
 
 use crate::{ChildExit, Key, Signal};
@@ -142,53 +143,90 @@ fn copy_wait_failed(alloc: Global, unit: u32, error: &Text) -> Mem<Turn>
     Ok(Turn::WaitFailed { unit, error })
 }
 
+// Whether a turn holds text or bytes.
+fn has_bytes(turn: &Turn) -> bool
+    ensures { result ≡ has_bytes turn.now }
+{
+    matches!(
+        turn,
+        Turn::StartFailed { .. }
+            | Turn::WaitFailed { .. }
+            | Turn::Piece { .. }
+            | Turn::ReadError { .. }
+            | Turn::Env { .. }
+    )
+}
+
+// A copy of a turn that holds text or bytes.
+fn copy_bytes(alloc: Global, turn: &Turn) -> Mem<Turn>
+    requires { has_bytes turn.now ≡ true }
+    ensures { IfOk result (λ t. t ≡ turn.now) }
+{
+    match turn {
+        Turn::StartFailed { unit, error } => copy_start_failed(alloc, *unit, error),
+        Turn::WaitFailed { unit, error } => copy_wait_failed(alloc, *unit, error),
+        Turn::Piece {
+            unit,
+            stream,
+            bytes,
+        } => copy_piece(alloc, *unit, *stream, bytes),
+        Turn::ReadError {
+            unit,
+            stream,
+            error,
+        } => copy_read_error(alloc, *unit, *stream, error),
+        Turn::Env { unit, input } => copy_env(alloc, *unit, input),
+        _ => unreachable!(),
+    }
+}
+
+// A copy of a turn that holds neither.
+fn copy_plain(turn: &Turn) -> Turn
+    requires { has_bytes turn.now ≡ false }
+    ensures { result ≡ turn.now }
+{
+    match turn {
+        Turn::Begin => Turn::Begin,
+        Turn::Admit => Turn::Admit,
+        Turn::Deliver => Turn::Deliver,
+        Turn::Started { unit, pid } => Turn::Started {
+            unit: *unit,
+            pid: *pid,
+        },
+        Turn::Exit { unit, exit } => Turn::Exit {
+            unit: *unit,
+            exit: *exit,
+        },
+        Turn::StreamEnd { unit, stream } => Turn::StreamEnd {
+            unit: *unit,
+            stream: *stream,
+        },
+        Turn::Decide { unit, word } => Turn::Decide {
+            unit: *unit,
+            word: *word,
+        },
+        Turn::UnitDue { unit } => Turn::UnitDue { unit: *unit },
+        Turn::GlobalDue => Turn::GlobalDue,
+        Turn::StopWaitDue => Turn::StopWaitDue,
+        Turn::InfoDue => Turn::InfoDue,
+        Turn::Answer => Turn::Answer,
+        Turn::Take { unit } => Turn::Take { unit: *unit },
+        Turn::Clock { ns } => Turn::Clock { ns: *ns },
+        Turn::Signal { signal } => Turn::Signal { signal: *signal },
+        Turn::Key { key } => Turn::Key { key: *key },
+        Turn::Tick => Turn::Tick,
+        Turn::ReportCancel => Turn::ReportCancel,
+        Turn::End => Turn::End,
+        _ => unreachable!(),
+    }
+}
+
 impl Duplicate for Turn {
     fn copy(&self, alloc: Global) -> Mem<Turn> {
-        match self {
-            Turn::Begin => Ok(Turn::Begin),
-            Turn::Admit => Ok(Turn::Admit),
-            Turn::Deliver => Ok(Turn::Deliver),
-            Turn::Started { unit, pid } => Ok(Turn::Started {
-                unit: *unit,
-                pid: *pid,
-            }),
-            Turn::StartFailed { unit, error } => copy_start_failed(alloc, *unit, error),
-            Turn::Exit { unit, exit } => Ok(Turn::Exit {
-                unit: *unit,
-                exit: *exit,
-            }),
-            Turn::WaitFailed { unit, error } => copy_wait_failed(alloc, *unit, error),
-            Turn::Piece {
-                unit,
-                stream,
-                bytes,
-            } => copy_piece(alloc, *unit, *stream, bytes),
-            Turn::StreamEnd { unit, stream } => Ok(Turn::StreamEnd {
-                unit: *unit,
-                stream: *stream,
-            }),
-            Turn::ReadError {
-                unit,
-                stream,
-                error,
-            } => copy_read_error(alloc, *unit, *stream, error),
-            Turn::Env { unit, input } => copy_env(alloc, *unit, input),
-            Turn::Decide { unit, word } => Ok(Turn::Decide {
-                unit: *unit,
-                word: *word,
-            }),
-            Turn::UnitDue { unit } => Ok(Turn::UnitDue { unit: *unit }),
-            Turn::GlobalDue => Ok(Turn::GlobalDue),
-            Turn::StopWaitDue => Ok(Turn::StopWaitDue),
-            Turn::InfoDue => Ok(Turn::InfoDue),
-            Turn::Answer => Ok(Turn::Answer),
-            Turn::Take { unit } => Ok(Turn::Take { unit: *unit }),
-            Turn::Clock { ns } => Ok(Turn::Clock { ns: *ns }),
-            Turn::Signal { signal } => Ok(Turn::Signal { signal: *signal }),
-            Turn::Key { key } => Ok(Turn::Key { key: *key }),
-            Turn::Tick => Ok(Turn::Tick),
-            Turn::ReportCancel => Ok(Turn::ReportCancel),
-            Turn::End => Ok(Turn::End),
+        if has_bytes(self) {
+            copy_bytes(alloc, self)
+        } else {
+            Ok(copy_plain(self))
         }
     }
 }
