@@ -152,10 +152,10 @@ stopped_gets c r place before =
     }
 
 unfinished_gets : (c : Call) (r : Replays c) → IsUnfinished r → GetsByCourse r.capture r.plan r.turns c.sink 8
-unfinished_gets c r open =
+unfinished_gets c r still =
     let p : Settings = settings_for r.capture r.plan in
     let one : HasOneCourse p r.turns (refuses_as_in r.journal) = one_course p r.turns (refuses_as_in r.journal) in
-    let goes : GoesOn p r.turns (refuses_as_in r.journal) = (r.journal, journal_of p r.turns r.journal r.legal open.all, open.goes_on) in
+    let goes : GoesOn p r.turns (refuses_as_in r.journal) = (r.journal, journal_of p r.turns r.journal r.legal still.all, still.goes_on) in
     record {
       refuses = refuses_as_in r.journal;
       tied = λ calm n. false_at (refusals r.journal) n (r.tied calm);

@@ -83,6 +83,7 @@ fault_writes p turns w v asks answer last on from x le writes calm =
 pub outcome_ends : (p : Settings) (turns : List Turn) (w v : Writing) (asks : List (ℕ × Ask)) (o : RunOutcome) (ending : Result RunOutcome Fault)
     → v.taken ≡ w.taken_after → v.faults ≡ w.faults_after → IsExecuted p turns w asks (Ok o) → EndsAtOutcome v asks o ending
     → v.faults ≤ v.faults_after → IsReplayEnding p turns (joined w v) ending
+unfolding replayed
 outcome_ends p turns w v asks o (Ok e) on from x h le = (
   replayed p turns w v asks (Ok o) (omega arith) x,
   x.says.0,
@@ -121,6 +122,7 @@ pub error_ends : (p : Settings) (turns : List Turn) (w v : Writing) (asks : List
     (error : TestRunnerExecuteErrors Failed) (ending : Result RunOutcome Fault) → v.taken ≡ w.taken_after → v.faults ≡ w.faults_after
     → UnlessMemory (Err error) (IsExecuted p turns w asks (Err error))
     → EndsAtFault v asks (fault_of_error error) ending → IsReplayEnding p turns (joined w v) ending
+unfolding replayed
 error_ends p turns w v asks (engine.Report d) ending on from x h =
     fault_ends p turns w v asks Report ending
     (λ le writes. (

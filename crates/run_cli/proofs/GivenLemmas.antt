@@ -16,9 +16,10 @@ use Rattle.run_laws.proofs.FateLemmas.{ended_fates, over_ended}
 use Rattle.run_engine.specs.Builder.{IsBuilt}
 use Rattle.run_engine.specs.declared.errors.TestRunnerBuildError.{TestRunnerBuildError}
 use Rattle.run_engine.specs.declared.errors.TestRunnerBuildError.TheVariants as build
+use Rattle.std.proofs.lemmas.Option.{same_Some}
 use Rattle.run_input.specs.Lines.{lines_of, at_front}
 use Rattle.run_input.specs.Input.{IsInput, turns_of, turn_line_of}
-use Rattle.run_input.specs.PlanLine.{plan_of, capture_of, run_id_of, tests_of}
+use Rattle.run_input.specs.PlanLine.{plan_tests_of, plan_of, capture_of, run_id_of, tests_of}
 use Rattle.run_input.specs.Fields.{when, is_object_of}
 use Rattle.run_input.specs.ValueOf.{value_of}
 use Rattle.serde_json.specs.Data.{Data}
@@ -66,20 +67,24 @@ when_is : (b : Bool) (u : Unit {0}) → when b ≡ Some u → b ≡ true
 when_is true u e = refl
 when_is false u e = cc
 
--- the end of a plan line
-abbrev last_step : CaptureStrategy → List ℕ → List PlanTest → Option (CaptureStrategy × Plan)
-last_step capture run_id tests =
-    option_and_then (λ _. Some (capture, usual_plan run_id tests)) (when (nat_lt (length tests) 4294967296))
+-- the tests of a plan are few
+few_plan_tests : (d : Option Data) (tests : List PlanTest) → plan_tests_of d ≡ Some tests → length tests < 2 ^ 32
+few_plan_tests d tests e =
+    let read = then_some (option_and_then tests_of d)
+    (λ ts. option_and_then (λ _. Some ts) (when (nat_lt (length ts) 4294967296))) tests e in
+    let last = then_some (when (nat_lt (length read.0) 4294967296)) (λ _. Some read.0) tests read.2 in
+    let fewer : length read.0 < 2 ^ 32 = grind (arith, when_is (nat_lt (length read.0) 4294967296) last.0 last.1) in
+    subst (λ (ts : List PlanTest). length ts < 2 ^ 32) (same_Some read.0 tests last.2) fewer
 
-last_few : (capture other : CaptureStrategy) (run_id : List ℕ) (tests : List PlanTest) (plan : Plan)
-    → last_step capture run_id tests ≡ Some (other, plan) → length plan.scripts + length plan.tests < 2 ^ 32
-last_few capture other run_id tests plan e =
-    let last = then_some (when (nat_lt (length tests) 4294967296)) (λ _. Some (capture, usual_plan run_id tests)) (other, plan) e in
-    let fewer : length tests < 2 ^ 32 = grind (arith, when_is (nat_lt (length tests) 4294967296) last.0 last.1) in
+-- the plan that a line says has these tests and no scripts
+few_units : (capture other : CaptureStrategy) (run_id : List ℕ) (tests : List PlanTest) (plan : Plan)
+    → length tests < 2 ^ 32 → Some (capture, usual_plan run_id tests) ≡ Some (other, plan)
+    → length plan.scripts + length plan.tests < 2 ^ 32
+few_units capture other run_id tests plan fewer e =
     let few : 0 + length tests < 2 ^ 32 = omega arith in
     let made : Plan = usual_plan run_id tests in
     let pair : CaptureStrategy × Plan = (capture, made) in
-    let both : pair ≡ (other, plan) = cc last.2 in
+    let both : pair ≡ (other, plan) = same_Some pair (other, plan) e in
     let same : made ≡ plan = ap (λ (q : CaptureStrategy × Plan). q.1) both in
     subst (λ (p : Plan). length p.scripts + length p.tests < 2 ^ 32) same few
 
@@ -88,15 +93,17 @@ few_tests : (d : Data) (capture : CaptureStrategy) (plan : Plan) → plan_of d �
     → length plan.scripts + length plan.tests < 2 ^ 32
 unfolding plan_of
 few_tests d capture plan e =
-    let tests : Option (List PlanTest) = option_and_then tests_of (get (codes "tests") d) in
+    let tests : Option (List PlanTest) = plan_tests_of (get (codes "tests") d) in
     let run_ids : Option (List ℕ) = option_and_then run_id_of (get (codes "run_id") d) in
     let captures : Option CaptureStrategy = option_and_then capture_of (get (codes "capture") d) in
     let a = then_some (when (is_object_of (codes "capture" ∷ codes "run_id" ∷ codes "tests" ∷ []) d))
-    (λ _. option_and_then (λ c. option_and_then (λ r. option_and_then (last_step c r) tests) run_ids) captures) (capture, plan) e in
-    let b = then_some captures (λ c. option_and_then (λ r. option_and_then (last_step c r) tests) run_ids) (capture, plan) a.2 in
-    let c = then_some run_ids (λ r. option_and_then (last_step b.0 r) tests) (capture, plan) b.2 in
-    let f = then_some tests (last_step b.0 c.0) (capture, plan) c.2 in
-    last_few b.0 capture c.0 f.0 plan f.2
+    (λ _. option_and_then (λ c. option_and_then (λ r. option_and_then (λ ts. Some (c, usual_plan r ts)) tests) run_ids) captures)
+    (capture, plan) e in
+    let b = then_some captures (λ c. option_and_then (λ r. option_and_then (λ ts. Some (c, usual_plan r ts)) tests) run_ids)
+    (capture, plan) a.2 in
+    let c = then_some run_ids (λ r. option_and_then (λ ts. Some (b.0, usual_plan r ts)) tests) (capture, plan) b.2 in
+    let f = then_some tests (λ ts. Some (b.0, usual_plan c.0 ts)) (capture, plan) c.2 in
+    few_units b.0 capture c.0 f.0 plan (few_plan_tests (get (codes "tests") d) f.0 f.1) f.2
 
 -- an input has few tests and few turns
 pub given_few : (r : Reading) (capture : CaptureStrategy) (plan : Plan) (turns : List Turn) → IsGiven r capture plan turns
@@ -151,6 +158,7 @@ replays c capture plan turns replay given accepted r = record {
 -- how a program ends whose input was good
 pub given_says : (c : Call) (capture : CaptureStrategy) (plan : Plan) (turns : List Turn) (ending : Result RunOutcome Fault)
     → IsReplay c.words → IsGiven c.source capture plan turns → IsInputEnding capture plan turns c.sink ending → IsEnding c ending
+unfolding replays
 given_says c capture plan turns (Ok o) replay given (accepted, h) =
     let r = replays c capture plan turns replay given accepted h.0 in
     (r, whole c r o h.1 h.2, h.3, h.4)

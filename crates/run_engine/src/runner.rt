@@ -4,7 +4,8 @@ ghost use Rattle.run_events.specs.Tell.{Adds};
 ghost use Rattle.run_model.specs.declared.entry.Entry.{Entry};
 ghost use Rattle.run_model.specs.Admission.{units_in};
 ghost use Rattle.run_model.specs.Turns.{enabled};
-ghost use Rattle.run_engine.specs.World.{history_of};
+ghost use Rattle.run_engine.specs.World.{TakesTurn, CountsErrors, history_of};
+ghost use Rattle.run_engine.specs.Refused.{IsRefused, IfNotMemory};
 ghost use Rattle.run_engine.specs.Standing.{sound};
 ghost use Rattle.run_engine.specs.Execution.{Takes, Carries, Executes, AnswersCourse, UnlessMemory, StopsAt, IsFinal};
 ghost use Rattle.run_capture.specs.Faults.{Rose};
@@ -49,12 +50,27 @@ pub enum Stop {
     OutOfMemory,
 }
 
-// A copy of a turn.
-fn copy_of(alloc: Global, turn: &Turn) -> Result<Turn, Stop>
-    ensures ok { IfOk result (λ t. t ≡ turn.now) }
-    ensures err { IfErr result (λ stop. stop ≡ Stop.OutOfMemory) }
+// Takes a copy of a turn.
+fn take_copy<C: Children, R: Reporter>(
+    alloc: Global,
+    run: &mut Run,
+    turn: &Turn,
+    children: &mut C,
+    report: &mut R,
+) -> Result<Option<R::Error>, StepError>
+    ensures takes { IfOk result (λ refusal.
+        TakesTurn R.told C.asked run.old turn.now report.old children.old run.new report.new children.new refusal) }
+    ensures faults { IfOk result (λ refusal. CountsErrors (R.faults report.old) (R.faults report.new) refusal) }
+    ensures room { OnOk result (length run.old.journal < 4294967295) }
+    ensures refused { IfErr result (IsRefused run.old turn.now) }
+    ensures unchanged { IfErr result (λ e. IfNotMemory e (run.new ≡ run.old)) }
+    ensures reporter { IfErr result (λ e. IfNotMemory e (report.new ≡ report.old)) }
+    ensures children { IfErr result (λ e. IfNotMemory e (children.new ≡ children.old)) }
 {
-    turn.copy(alloc).map_err(|_| Stop::OutOfMemory)
+    match turn.copy(alloc) {
+        Ok(turn) => run.take(alloc, turn, children, report),
+        Err(_) => Err(StepError::OutOfMemory),
+    }
 }
 
 // Takes all turns, and answers the reporter's first error.
@@ -77,8 +93,7 @@ fn take_all<C: Children, R: Reporter>(
 {
     let mut first = None;
     for (place, turn) in turns.iter().enumerate() {
-        let turn = copy_of(alloc, turn)?;
-        match run.take(alloc, turn, children, report) {
+        match take_copy(alloc, run, turn, children, report) {
             Ok(refusal) => first = first_of(first, refusal),
             Err(StepError::NotEnabled) => return Err(Stop::NotEnabled { turn: place as u64 }),
             Err(StepError::Full) => unreachable!(),

@@ -31,6 +31,23 @@ fn tell_one<R: Reporter>(
     }
 }
 
+// Tells one event, and adds whether it was refused to the marks.
+fn tell_marked<R: Reporter>(
+    alloc: Global,
+    report: &mut R,
+    event: &ReporterEvent,
+    refused: &mut List<bool>,
+) -> Mem<Option<R::Error>>
+    ensures marked { IfOk result (λ refusal. refused.new ≡ refused.old ++ is_some refusal ∷ []) }
+    ensures told { IfOk result (λ refusal.
+        TellsEvents R.told report.old report.new ((event.now, is_some refusal) ∷ []) refusal) }
+    ensures faults { IfOk result (λ refusal. CountsErrors (R.faults report.old) (R.faults report.new) refusal) }
+{
+    let refusal = tell_one(alloc, report, event)?;
+    refused.push(alloc, refusal.is_some())?;
+    Ok(refusal)
+}
+
 /// The first of two errors.
 pub fn first_of<E: Drop>(first: Option<E>, later: Option<E>) -> Option<E>
     ensures { result ≡ earlier first later }
@@ -55,8 +72,7 @@ pub fn tell<R: Reporter>(
     let mut refused = List::new();
     let mut refusal = None;
     for event in events {
-        let error = tell_one(alloc, report, event)?;
-        refused.push(alloc, error.is_some())?;
+        let error = tell_marked(alloc, report, event, &mut refused)?;
         refusal = first_of(refusal, error);
     }
     Ok(Told { refused, refusal })

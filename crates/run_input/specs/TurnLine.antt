@@ -26,13 +26,10 @@ use lib.Pointwise.{pointwise}
 abbrev pub is_word : List ℕ → List ℕ → Bool
 is_word text word = pointwise nat_eq text word
 
--- the turn that a name names
-abbrev pub turn_named : List ℕ → Option TurnName
-turn_named name =
-    if is_word name (codes "begin") then Some names.Begin
-    else if is_word name (codes "admit") then Some names.Admit
-    else if is_word name (codes "deliver") then Some names.Deliver
-    else if is_word name (codes "started") then Some names.Started
+-- the turn of a unit that a name names
+abbrev pub unit_turn_named : List ℕ → Option TurnName
+unit_turn_named name =
+    if is_word name (codes "started") then Some names.Started
     else if is_word name (codes "start-failed") then Some names.StartFailed
     else if is_word name (codes "exit") then Some names.Exit
     else if is_word name (codes "wait-failed") then Some names.WaitFailed
@@ -41,16 +38,24 @@ turn_named name =
     else if is_word name (codes "read-error") then Some names.ReadError
     else if is_word name (codes "env") then Some names.Env
     else if is_word name (codes "decide") then Some names.Decide
+    else if is_word name (codes "take") then Some names.Take
+    else None
+
+-- the turn that a name names
+abbrev pub turn_named : List ℕ → Option TurnName
+turn_named name =
+    if is_word name (codes "begin") then Some names.Begin
+    else if is_word name (codes "admit") then Some names.Admit
+    else if is_word name (codes "deliver") then Some names.Deliver
     else if is_word name (codes "due") then Some names.Due
     else if is_word name (codes "answer") then Some names.Answer
-    else if is_word name (codes "take") then Some names.Take
     else if is_word name (codes "clock") then Some names.Clock
     else if is_word name (codes "signal") then Some names.Signal
     else if is_word name (codes "key") then Some names.Key
     else if is_word name (codes "tick") then Some names.Tick
     else if is_word name (codes "report-cancel") then Some names.ReportCancel
     else if is_word name (codes "end") then Some names.End
-    else None
+    else unit_turn_named name
 
 -- the stream that a text names
 abbrev pub stream_named : List ℕ → Option Stream

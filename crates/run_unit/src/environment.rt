@@ -77,13 +77,22 @@ fn identity_variables(alloc: Global, unit: &UnitView) -> Mem<Vec<(Text, Text)>>
     Ok(list)
 }
 
-#[tactic(auto, unfolding(run_model::specs::Unit::place_variables))]
-fn place_variables(alloc: Global, unit: &UnitView) -> Mem<Vec<(Text, Text)>>
-    ensures { IfOk result (λ v. v.items ≡ place_variables unit.now) }
+// No test runs under stress yet.
+fn stress_variables(alloc: Global) -> Mem<Vec<(Text, Text)>>
+    ensures { IfOk result (λ v. v.items ≡ (codes "NEXTEST_STRESS_CURRENT", codes "none")
+        ∷ (codes "NEXTEST_STRESS_TOTAL", codes "none") ∷ []) }
 {
     let list = Vec::new(alloc);
     let list = with_text(alloc, list, "NEXTEST_STRESS_CURRENT", "none")?;
     let list = with_text(alloc, list, "NEXTEST_STRESS_TOTAL", "none")?;
+    Ok(list)
+}
+
+#[tactic(auto, unfolding(run_model::specs::Unit::place_variables))]
+fn place_variables(alloc: Global, unit: &UnitView) -> Mem<Vec<(Text, Text)>>
+    ensures { IfOk result (λ v. v.items ≡ place_variables unit.now) }
+{
+    let list = stress_variables(alloc)?;
     let list = with_number(alloc, list, "NEXTEST_TEST_GLOBAL_SLOT", unit.slot.global)?;
     let list = with_text(alloc, list, "NEXTEST_TEST_GROUP", "@global")?;
     let list = with_text(alloc, list, "NEXTEST_TEST_GROUP_SLOT", "none")?;

@@ -16,21 +16,21 @@ loop-place-preserved g c =
     let inv = c.loop-place.invariant in
     let journal = c.loop-place.run.journal in
     let step : TakesTurn g.R.Reporter.told g.C.Children.asked (sound p journal) c.in_ok-turn.turn c.loop-place.report c.loop-place.children
-    c.take.new.self c.take.new.report c.take.new.children c.in-Ok.refusal =
+    c.take_copy.new.self c.take_copy.new.report c.take_copy.new.children c.in-Ok.refusal =
     subst (λ (w : World). TakesTurn g.R.Reporter.told g.C.Children.asked w c.in_ok-turn.turn c.loop-place.report c.loop-place.children
-    c.take.new.self c.take.new.report c.take.new.children c.in-Ok.refusal) inv.run c.in-Ok.ensures.takes in
+    c.take_copy.new.self c.take_copy.new.report c.take_copy.new.children c.in-Ok.refusal) inv.run c.in-Ok.ensures.takes in
     let room : length journal < 4294967295 = c.in-Ok.ensures.room in
     let more : length journal + 1 < 2 ^ 32 = omega arith in
-    let runs : c.take.new.self ≡ sound p c.take.new.self.journal =
+    let runs : c.take_copy.new.self ≡ sound p c.take_copy.new.self.journal =
     step.grown ∙ ap (λ (w : World). sound p w.journal) (sym step.grown) in
     record {
-      takes = subst (λ o. Takes g.R.Reporter.told g.C.Children.asked p c.take.new.self.journal c.args.report.now c.take.new.report
-          c.args.children.now c.take.new.children (g.R.Reporter.faults c.args.report.now) (g.R.Reporter.faults c.take.new.report) o)
+      takes = subst (λ o. Takes g.R.Reporter.told g.C.Children.asked p c.take_copy.new.self.journal c.args.report.now c.take_copy.new.report
+          c.args.children.now c.take_copy.new.children (g.R.Reporter.faults c.args.report.now) (g.R.Reporter.faults c.take_copy.new.report) o)
           (sym c.first_of-first.ensures)
-          (takes-more g.R.Reporter.told g.C.Children.asked p journal c.args.report.now c.loop-place.report c.take.new.report
-          c.args.children.now c.loop-place.children c.take.new.children (g.R.Reporter.faults c.args.report.now)
-          (g.R.Reporter.faults c.loop-place.report) (g.R.Reporter.faults c.take.new.report) c.loop-place.first c.in-Ok.refusal
-          c.in_ok-turn.turn c.take.new.self inv.takes step c.in-Ok.ensures.faults more);
+          (takes-more g.R.Reporter.told g.C.Children.asked p journal c.args.report.now c.loop-place.report c.take_copy.new.report
+          c.args.children.now c.loop-place.children c.take_copy.new.children (g.R.Reporter.faults c.args.report.now)
+          (g.R.Reporter.faults c.loop-place.report) (g.R.Reporter.faults c.take_copy.new.report) c.loop-place.first c.in-Ok.refusal
+          c.in_ok-turn.turn c.take_copy.new.self inv.takes step c.in-Ok.ensures.faults more);
       all = ap (λ (w : World). turns_of w.journal) step.grown
           ∙ turns-push journal c.args.turns.now c.loop-place.place c.in_ok-turn.turn c.index-turns-place.result step.refused (omega arith) inv.all
           (c.in_ok-turn.ensures.ok ∙ c.index-turns-place.is);
@@ -44,20 +44,20 @@ returns-in-Err-NotEnabled-clause-stopped g c =
     let turns = c.args.turns.now in
     let turn = c.in_ok-turn.turn in
     let no = rw c.in-Err-NotEnabled.field-0-is at c.in-Err-NotEnabled.ensures.refused in
-    let stay : c.take.new.self ≡ c.loop-place.run = rw c.in-Err-NotEnabled.field-0-is at c.in-Err-NotEnabled.ensures.unchanged in
-    let report : c.take.new.report ≡ c.loop-place.report = rw c.in-Err-NotEnabled.field-0-is at c.in-Err-NotEnabled.ensures.reporter in
-    let children : c.take.new.children ≡ c.loop-place.children = rw c.in-Err-NotEnabled.field-0-is at c.in-Err-NotEnabled.ensures.children in
+    let stay : c.take_copy.new.self ≡ c.loop-place.run = rw c.in-Err-NotEnabled.field-0-is at c.in-Err-NotEnabled.ensures.unchanged in
+    let report : c.take_copy.new.report ≡ c.loop-place.report = rw c.in-Err-NotEnabled.field-0-is at c.in-Err-NotEnabled.ensures.reporter in
+    let children : c.take_copy.new.children ≡ c.loop-place.children = rw c.in-Err-NotEnabled.field-0-is at c.in-Err-NotEnabled.ensures.children in
     let refused : enabled p (past_of p c.loop-place.run.journal) turn ≡ false =
     subst (λ (w : World). enabled w.settings (history_of w) turn ≡ false) inv.run no.1 in
     let inside : c.loop-place.place < length turns = omega arith in
     let at : slice_get turns c.loop-place.place ≡ Some turn =
     slice_get-get_or turns c.loop-place.place c.index-turns-place.result inside
     ∙ ap Some (sym (c.in_ok-turn.ensures.ok ∙ c.index-turns-place.is)) in
-    subst (λ (w : World). StopsAt g.R.Reporter.told g.C.Children.asked p turns w.journal c.args.report.now c.take.new.report
-    c.args.children.now c.take.new.children (g.R.Reporter.faults c.args.report.now) (g.R.Reporter.faults c.take.new.report)
+    subst (λ (w : World). StopsAt g.R.Reporter.told g.C.Children.asked p turns w.journal c.args.report.now c.take_copy.new.report
+    c.args.children.now c.take_copy.new.children (g.R.Reporter.faults c.args.report.now) (g.R.Reporter.faults c.take_copy.new.report)
     (NotEnabled c.loop-place.place)) (sym stay)
     (subst (λ r. StopsAt g.R.Reporter.told g.C.Children.asked p turns c.loop-place.run.journal c.args.report.now r
-    c.args.children.now c.take.new.children (g.R.Reporter.faults c.args.report.now) (g.R.Reporter.faults r)
+    c.args.children.now c.take_copy.new.children (g.R.Reporter.faults c.args.report.now) (g.R.Reporter.faults r)
     (NotEnabled c.loop-place.place)) (sym report)
     (subst (λ d. StopsAt g.R.Reporter.told g.C.Children.asked p turns c.loop-place.run.journal c.args.report.now c.loop-place.report
     c.args.children.now d (g.R.Reporter.faults c.args.report.now) (g.R.Reporter.faults c.loop-place.report)

@@ -16,8 +16,7 @@ loop-event-preserved g c =
     let i = c.loop-event.event-index in
     let events = c.args.events.now in
     let error = c.in_ok-error.error in
-    let pushed : c.push.new.self ≡ c.loop-event.refused ++ is_some error ∷ [] =
-    c.in_ok-push.ensures.ok ∙ ap (λ b. c.loop-event.refused ++ b ∷ []) c.is_some.ensures in
+    let pushed : c.tell_marked.new.refused ≡ c.loop-event.refused ++ is_some error ∷ [] = c.in_ok-error.ensures.marked in
     let pairs = zip-more events c.loop-event.refused i c.event-item.result (is_some error) c.loop-event-test.true inv.answered c.event-item.is in
     record {
       answered = ap length pushed ∙ omega (arith, length-append c.loop-event.refused (is_some error ∷ []));
@@ -25,14 +24,14 @@ loop-event-preserved g c =
           ∙ marked_both _ _ _ _ inv.marked (one-mark error)
           ∙ sym (list_all-append not c.loop-event.refused (is_some error ∷ []))
           ∙ ap (list_all not) (sym pushed);
-      told = subst (TellsEvents g.R.Reporter.told c.args.report.now c.tell_one.new.report (zip (take (i + 1) events) c.push.new.self))
+      told = subst (TellsEvents g.R.Reporter.told c.args.report.now c.tell_marked.new.report (zip (take (i + 1) events) c.tell_marked.new.refused))
           (sym c.first_of-refusal.ensures)
-          (subst (λ bs. TellsEvents g.R.Reporter.told c.args.report.now c.tell_one.new.report (zip (take (i + 1) events) bs) (earlier c.loop-event.refusal error))
+          (subst (λ bs. TellsEvents g.R.Reporter.told c.args.report.now c.tell_marked.new.report (zip (take (i + 1) events) bs) (earlier c.loop-event.refusal error))
           (sym pushed)
-          (subst (λ ps. TellsEvents g.R.Reporter.told c.args.report.now c.tell_one.new.report ps (earlier c.loop-event.refusal error))
+          (subst (λ ps. TellsEvents g.R.Reporter.told c.args.report.now c.tell_marked.new.report ps (earlier c.loop-event.refusal error))
           (sym pairs)
-          (tells_both g.R.Reporter.told c.args.report.now c.loop-event.report c.tell_one.new.report (zip (take i events) c.loop-event.refused) _
+          (tells_both g.R.Reporter.told c.args.report.now c.loop-event.report c.tell_marked.new.report (zip (take i events) c.loop-event.refused) _
           c.loop-event.refusal error inv.told c.in_ok-error.ensures.told)));
-      faults = subst (CountsErrors (g.R.Reporter.faults c.args.report.now) (g.R.Reporter.faults c.tell_one.new.report)) (sym c.first_of-refusal.ensures)
+      faults = subst (CountsErrors (g.R.Reporter.faults c.args.report.now) (g.R.Reporter.faults c.tell_marked.new.report)) (sym c.first_of-refusal.ensures)
           (counts_both _ _ _ c.loop-event.refusal error inv.faults c.in_ok-error.ensures.faults);
     }
