@@ -1,6 +1,8 @@
 //! The lowest layer: texts, bytes and lists whose contracts see their contents alone, want of memory
 //! as an error, copies, and the outside as traits: a `Source` of bytes and a `Sink` for them, with
-//! implementations in memory. The layers above use these types in every signature.
+//! implementations in memory and over the streams of std, and `read_to_end`. On these stand the capture
+//! of a child's output (`ChildAccumulator`, which contracts see as `Captured`) and the kinds of results
+//! with what they say of an output. The layers above use these types in every signature.
 #![tactic(auto)]
 
 mod accumulator;

@@ -32,7 +32,7 @@ impl Duplicate for Stream {
 }
 
 /// A fault at a child's descriptors, or of the wait for it, with the text of its error.
-#[derive(Debug, Drop)]
+#[derive(Drop)]
 pub enum ChildFdError {
     /// Reading standard output failed.
     ReadStdout(Text),

@@ -1,7 +1,7 @@
 // Whether something is ready.
 
 /// A value that is ready, or none yet.
-#[derive(Clone, Copy, Debug, Drop, PartialEq, Eq)]
+#[derive(Clone, Copy, Drop, PartialEq, Eq)]
 pub enum Poll<T> {
     /// It is ready, with this value.
     Ready(T),

@@ -5,7 +5,7 @@ ghost use Rattle.std.specs.Str.Lines.{lines, strip_carriage_return};
 ghost use Rattle.run_commands.specs.EnvLine.{pair_of, cut_at_equals, is_key, may_begin_key, may_stand_in_key};
 
 /// The first rule that a line breaks.
-#[derive(Clone, Copy, Debug, PartialEq, Eq)]
+#[derive(Clone, Copy)]
 pub enum BrokenRule {
     /// It is UTF-8.
     Utf8,

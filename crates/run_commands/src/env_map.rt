@@ -7,8 +7,6 @@ ghost use Rattle.run_commands.specs.EnvMap.{IsByName, pairs_in};
 use run_capture::{Duplicate, List, Mem, Text};
 use std::alloc::Global;
 use std::collections::BTreeMap;
-use std::fmt;
-use std::fmt::{Debug, Write};
 use std::marker::Model;
 
 /// Variables with their values, by name. Contracts see the pairs in that order.
@@ -65,11 +63,5 @@ impl Duplicate for EnvMap {
         Ok(EnvMap {
             list: self.list.copy(alloc)?,
         })
-    }
-}
-
-impl Debug for EnvMap {
-    fn fmt<W: Write>(&self, f: &mut fmt::Formatter<W>) -> fmt::Result {
-        self.pairs().fmt(f)
     }
 }

@@ -14,7 +14,7 @@ use std::fmt;
 use std::fmt::{Display, Write};
 
 /// The platform that a binary was built for.
-#[derive(Clone, Copy, Debug, PartialEq, Eq)]
+#[derive(Clone, Copy, PartialEq, Eq)]
 pub enum BuildPlatform {
     /// The platform that the tests are for.
     Target,

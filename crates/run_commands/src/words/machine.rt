@@ -10,7 +10,7 @@ use run_capture::Mem;
 use std::alloc::Global;
 
 /// What stands before the next character.
-#[derive(Clone, Copy, Debug, PartialEq, Eq)]
+#[derive(Clone, Copy)]
 pub enum State {
     /// Nothing that changes what it means.
     Outside,

@@ -2,7 +2,7 @@
 use run_capture::OutOfMemory;
 
 /// Why a command has no words.
-#[derive(Clone, Copy, Debug, Drop, PartialEq, Eq)]
+#[derive(Clone, Copy, Drop)]
 pub enum WordsError {
     /// The quote at this byte isn't closed.
     OpenQuote {
