@@ -14,7 +14,7 @@ use crate::events_of_tests::{
     with_attempt_failed, with_retry_started, with_test_finished, with_test_skipped, with_test_slow,
     with_test_started,
 };
-use crate::fields::with_line_feed;
+use crate::line_feed::with_line_feed;
 use crate::leaf::Leaf;
 use crate::object::Object;
 use run_capture::{Mem, Text};
