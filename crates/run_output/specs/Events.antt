@@ -7,7 +7,8 @@ use Rattle.run_events.specs.declared.events.TestEvent.{TestEvent}
 use Rattle.run_events.specs.declared.events.TestEventKind.{TestEventKind}
 use Rattle.run_events.specs.declared.events.TestEventKind.TheVariants.{RunStarted, StressSubRunStarted, StressSubRunFinished, SetupScriptStarted, SetupScriptSlow, SetupScriptFinished, TestStarted, TestSlow, TestAttemptFailedWillRetry, TestRetryStarted, TestFinished, TestSkipped, InfoStarted, InfoResponse, InfoFinished, InputEnter, RunBeginCancel, RunBeginKill, RunPaused, RunContinued, RunFinished}
 use Rattle.run_output.specs.Fields.{count, object_text}
-use Rattle.run_output.specs.EventsOfRun.{run_started_fields, sub_run_started_fields, sub_run_finished_fields, info_started_fields, info_answered_fields, info_finished_fields, input_entered_fields, run_cancelled_fields, job_controlled_fields, run_finished_fields}
+use Rattle.run_output.specs.EventsOfInfo.{info_started_fields, info_answered_fields, info_finished_fields}
+use Rattle.run_output.specs.EventsOfRun.{run_started_fields, sub_run_started_fields, sub_run_finished_fields, input_entered_fields, run_cancelled_fields, job_controlled_fields, run_finished_fields}
 use Rattle.run_output.specs.EventsOfScripts.{script_started_fields, script_slow_fields, script_finished_fields}
 use Rattle.run_output.specs.EventsOfTests.{test_started_fields, test_slow_fields, attempt_failed_fields, retry_started_fields, test_finished_fields, test_skipped_fields}
 

@@ -6,6 +6,7 @@
 mod asks;
 mod errors;
 mod events;
+mod events_of_info;
 mod events_of_run;
 mod events_of_scripts;
 mod events_of_tests;
