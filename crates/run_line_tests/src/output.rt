@@ -18,15 +18,25 @@ const RUNS: [(runs::Sample, &str); 25] = [
     (runs::Sample::Tick, r#"{"event":"tick"}"#),
     (
         runs::Sample::Started,
-        r#"{"args":["-v"],"clock":3,"elapsed":2,"event":"run-started","profile":"ci","run_id":"00000000-0000-4000-8000-000000000001","tests":4}"#,
+        concat!(
+            r#"{"args":["-v"],"clock":3,"elapsed":2,"event":"run-started","profile":"ci","#,
+            r#""run_id":"00000000-0000-4000-8000-000000000001","tests":4}"#,
+        ),
     ),
     (
         runs::Sample::StartedForever,
-        r#"{"args":["-v"],"clock":3,"elapsed":2,"event":"run-started","profile":"ci","run_id":"00000000-0000-4000-8000-000000000001","stress":{"count":"infinite"},"tests":4}"#,
+        concat!(
+            r#"{"args":["-v"],"clock":3,"elapsed":2,"event":"run-started","profile":"ci","#,
+            r#""run_id":"00000000-0000-4000-8000-000000000001","stress":{"count":"infinite"},"#,
+            r#""tests":4}"#,
+        ),
     ),
     (
         runs::Sample::StartedFor(7),
-        r#"{"args":["-v"],"clock":3,"elapsed":2,"event":"run-started","profile":"ci","run_id":"00000000-0000-4000-8000-000000000001","stress":{"duration":7},"tests":4}"#,
+        concat!(
+            r#"{"args":["-v"],"clock":3,"elapsed":2,"event":"run-started","profile":"ci","#,
+            r#""run_id":"00000000-0000-4000-8000-000000000001","stress":{"duration":7},"tests":4}"#,
+        ),
     ),
     (
         runs::Sample::SubRunStarted,
@@ -34,11 +44,18 @@ const RUNS: [(runs::Sample, &str); 25] = [
     ),
     (
         runs::Sample::SubRunFinished,
-        r#"{"clock":3,"elapsed":2,"event":"sub-run-finished","progress":{"completed":6,"elapsed":2},"stats":{"finished_count":1,"initial_run_count":1,"passed":1},"sub_elapsed":9}"#,
+        concat!(
+            r#"{"clock":3,"elapsed":2,"event":"sub-run-finished","progress":{"completed":6,"#,
+            r#""elapsed":2},"stats":{"finished_count":1,"initial_run_count":1,"passed":1},"#,
+            r#""sub_elapsed":9}"#,
+        ),
     ),
     (
         runs::Sample::InfoStarted,
-        r#"{"clock":3,"elapsed":2,"event":"info-started","running":1,"stats":{"finished_count":1,"initial_run_count":1,"passed":1},"total":2}"#,
+        concat!(
+            r#"{"clock":3,"elapsed":2,"event":"info-started","running":1,"#,
+            r#""stats":{"finished_count":1,"initial_run_count":1,"passed":1},"total":2}"#,
+        ),
     ),
     (
         runs::Sample::InfoFinished,
@@ -46,35 +63,59 @@ const RUNS: [(runs::Sample, &str); 25] = [
     ),
     (
         runs::Sample::Entered,
-        r#"{"clock":3,"elapsed":2,"event":"input-enter","running":1,"stats":{"finished_count":1,"initial_run_count":1,"passed":1}}"#,
+        concat!(
+            r#"{"clock":3,"elapsed":2,"event":"input-enter","running":1,"#,
+            r#""stats":{"finished_count":1,"initial_run_count":1,"passed":1}}"#,
+        ),
     ),
     (
         runs::Sample::BeginCancel(CancelReason::SetupScriptFailure),
-        r#"{"clock":3,"elapsed":2,"event":"run-begin-cancel","running":2,"scripts_running":1,"stats":{"cancel_reason":"setup-script-failure"}}"#,
+        concat!(
+            r#"{"clock":3,"elapsed":2,"event":"run-begin-cancel","running":2,"scripts_running":1,"#,
+            r#""stats":{"cancel_reason":"setup-script-failure"}}"#,
+        ),
     ),
     (
         runs::Sample::BeginCancel(CancelReason::TestFailure),
-        r#"{"clock":3,"elapsed":2,"event":"run-begin-cancel","running":2,"scripts_running":1,"stats":{"cancel_reason":"test-failure"}}"#,
+        concat!(
+            r#"{"clock":3,"elapsed":2,"event":"run-begin-cancel","running":2,"scripts_running":1,"#,
+            r#""stats":{"cancel_reason":"test-failure"}}"#,
+        ),
     ),
     (
         runs::Sample::BeginCancel(CancelReason::ReportError),
-        r#"{"clock":3,"elapsed":2,"event":"run-begin-cancel","running":2,"scripts_running":1,"stats":{"cancel_reason":"report-error"}}"#,
+        concat!(
+            r#"{"clock":3,"elapsed":2,"event":"run-begin-cancel","running":2,"scripts_running":1,"#,
+            r#""stats":{"cancel_reason":"report-error"}}"#,
+        ),
     ),
     (
         runs::Sample::BeginCancel(CancelReason::GlobalTimeout),
-        r#"{"clock":3,"elapsed":2,"event":"run-begin-cancel","running":2,"scripts_running":1,"stats":{"cancel_reason":"global-timeout"}}"#,
+        concat!(
+            r#"{"clock":3,"elapsed":2,"event":"run-begin-cancel","running":2,"scripts_running":1,"#,
+            r#""stats":{"cancel_reason":"global-timeout"}}"#,
+        ),
     ),
     (
         runs::Sample::BeginCancel(CancelReason::TestFailureImmediate),
-        r#"{"clock":3,"elapsed":2,"event":"run-begin-cancel","running":2,"scripts_running":1,"stats":{"cancel_reason":"test-failure-immediate"}}"#,
+        concat!(
+            r#"{"clock":3,"elapsed":2,"event":"run-begin-cancel","running":2,"scripts_running":1,"#,
+            r#""stats":{"cancel_reason":"test-failure-immediate"}}"#,
+        ),
     ),
     (
         runs::Sample::BeginCancel(CancelReason::Signal),
-        r#"{"clock":3,"elapsed":2,"event":"run-begin-cancel","running":2,"scripts_running":1,"stats":{"cancel_reason":"signal"}}"#,
+        concat!(
+            r#"{"clock":3,"elapsed":2,"event":"run-begin-cancel","running":2,"scripts_running":1,"#,
+            r#""stats":{"cancel_reason":"signal"}}"#,
+        ),
     ),
     (
         runs::Sample::BeginKill,
-        r#"{"clock":3,"elapsed":2,"event":"run-begin-kill","running":2,"scripts_running":1,"stats":{"cancel_reason":"second-signal"}}"#,
+        concat!(
+            r#"{"clock":3,"elapsed":2,"event":"run-begin-kill","running":2,"scripts_running":1,"#,
+            r#""stats":{"cancel_reason":"second-signal"}}"#,
+        ),
     ),
     (
         runs::Sample::Paused,
@@ -90,27 +131,54 @@ const RUNS: [(runs::Sample, &str); 25] = [
     ),
     (
         runs::Sample::FinishedCounted,
-        r#"{"clock":3,"elapsed":2,"event":"run-finished","stats":{"cancel_reason":"interrupt","exec_failed":18,"failed":13,"failed_slow":14,"failed_timed_out":15,"finished_count":2,"flaky":12,"initial_run_count":1,"leaky":16,"leaky_failed":17,"passed":9,"passed_slow":10,"passed_timed_out":11,"setup_scripts_exec_failed":7,"setup_scripts_failed":6,"setup_scripts_finished_count":4,"setup_scripts_initial_count":3,"setup_scripts_passed":5,"setup_scripts_timed_out":8,"skipped":19}}"#,
+        concat!(
+            r#"{"clock":3,"elapsed":2,"event":"run-finished","stats":{"cancel_reason":"interrupt","#,
+            r#""exec_failed":18,"failed":13,"failed_slow":14,"failed_timed_out":15,"#,
+            r#""finished_count":2,"flaky":12,"initial_run_count":1,"leaky":16,"leaky_failed":17,"#,
+            r#""passed":9,"passed_slow":10,"passed_timed_out":11,"setup_scripts_exec_failed":7,"#,
+            r#""setup_scripts_failed":6,"setup_scripts_finished_count":4,"#,
+            r#""setup_scripts_initial_count":3,"setup_scripts_passed":5,"#,
+            r#""setup_scripts_timed_out":8,"skipped":19}}"#,
+        ),
     ),
     (
         runs::Sample::Stressed(Some(9), FinalRunStats::Success),
-        r#"{"clock":3,"elapsed":2,"event":"run-finished","stress_stats":{"completed":{"current":3,"total":9},"failed_count":2,"last":"success","success_count":1}}"#,
+        concat!(
+            r#"{"clock":3,"elapsed":2,"event":"run-finished","#,
+            r#""stress_stats":{"completed":{"current":3,"total":9},"failed_count":2,"#,
+            r#""last":"success","success_count":1}}"#,
+        ),
     ),
     (
         runs::Sample::Stressed(None, FinalRunStats::NoTestsRun),
-        r#"{"clock":3,"elapsed":2,"event":"run-finished","stress_stats":{"completed":{"current":3},"failed_count":2,"last":"no-tests-run","success_count":1}}"#,
+        concat!(
+            r#"{"clock":3,"elapsed":2,"event":"run-finished","#,
+            r#""stress_stats":{"completed":{"current":3},"failed_count":2,"last":"no-tests-run","#,
+            r#""success_count":1}}"#,
+        ),
     ),
     (
         runs::Sample::Stressed(None, FAILED),
-        r#"{"clock":3,"elapsed":2,"event":"run-finished","stress_stats":{"completed":{"current":3},"failed_count":2,"last":"failed","success_count":1}}"#,
+        concat!(
+            r#"{"clock":3,"elapsed":2,"event":"run-finished","#,
+            r#""stress_stats":{"completed":{"current":3},"failed_count":2,"last":"failed","#,
+            r#""success_count":1}}"#,
+        ),
     ),
     (
         runs::Sample::Stressed(None, CANCELLED),
-        r#"{"clock":3,"elapsed":2,"event":"run-finished","stress_stats":{"completed":{"current":3},"failed_count":2,"last":"cancelled","success_count":1}}"#,
+        concat!(
+            r#"{"clock":3,"elapsed":2,"event":"run-finished","#,
+            r#""stress_stats":{"completed":{"current":3},"failed_count":2,"last":"cancelled","#,
+            r#""success_count":1}}"#,
+        ),
     ),
     (
         runs::Sample::Rerun,
-        r#"{"clock":3,"elapsed":2,"event":"run-finished","not_seen":{"sample":[["b","s"],["b","t"]],"total":10},"stats":{}}"#,
+        concat!(
+            r#"{"clock":3,"elapsed":2,"event":"run-finished","not_seen":{"sample":[["b","s"],["b","#,
+            r#""t"]],"total":10},"stats":{}}"#,
+        ),
     ),
 ];
 
@@ -139,7 +207,10 @@ const SUB_RUN: StressIndex = StressIndex {
 const SCRIPTS: [(scripts::Sample, &str); 9] = [
     (
         scripts::Sample::Started(SUB_RUN),
-        r#"{"clock":3,"command":["true"],"elapsed":2,"event":"script-started","index":1,"no_capture":true,"script":"db","stress_index":{"current":1,"total":3},"total":2}"#,
+        concat!(
+            r#"{"clock":3,"command":["true"],"elapsed":2,"event":"script-started","index":1,"#,
+            r#""no_capture":true,"script":"db","stress_index":{"current":1,"total":3},"total":2}"#,
+        ),
     ),
     (
         scripts::Sample::Slow,
@@ -147,31 +218,59 @@ const SCRIPTS: [(scripts::Sample, &str); 9] = [
     ),
     (
         scripts::Sample::Passed,
-        r#"{"clock":3,"elapsed":2,"event":"script-finished","index":1,"no_capture":true,"script":"db","status":{"env":[["A","1"],["B","2"]],"result":"pass","slow":true,"start":1,"stderr":"","stdout":"6869","time":2},"total":2}"#,
+        concat!(
+            r#"{"clock":3,"elapsed":2,"event":"script-finished","index":1,"no_capture":true,"#,
+            r#""script":"db","status":{"env":[["A","1"],["B","2"]],"result":"pass","slow":true,"#,
+            r#""start":1,"stderr":"","stdout":"6869","time":2},"total":2}"#,
+        ),
     ),
     (
         scripts::Sample::PassedWithNone,
-        r#"{"clock":3,"elapsed":2,"event":"script-finished","index":1,"no_capture":true,"script":"db","status":{"env":[],"result":"pass","slow":true,"start":1,"stderr":"","stdout":"6869","time":2},"total":2}"#,
+        concat!(
+            r#"{"clock":3,"elapsed":2,"event":"script-finished","index":1,"no_capture":true,"#,
+            r#""script":"db","status":{"env":[],"result":"pass","slow":true,"start":1,"stderr":"","#,
+            r#""stdout":"6869","time":2},"total":2}"#,
+        ),
     ),
     (
         scripts::Sample::NoValue,
-        r#"{"clock":3,"elapsed":2,"event":"script-finished","index":1,"no_capture":true,"script":"db","status":{"errors":["env: parse"],"result":"pass","slow":true,"start":1,"stderr":"","stdout":"6869","time":2},"total":2}"#,
+        concat!(
+            r#"{"clock":3,"elapsed":2,"event":"script-finished","index":1,"no_capture":true,"#,
+            r#""script":"db","status":{"errors":["env: parse"],"result":"pass","slow":true,"#,
+            r#""start":1,"stderr":"","stdout":"6869","time":2},"total":2}"#,
+        ),
     ),
     (
         scripts::Sample::NoName,
-        r#"{"clock":3,"elapsed":2,"event":"script-finished","index":1,"no_capture":true,"script":"db","status":{"errors":["env: key"],"result":"pass","slow":true,"start":1,"stderr":"","stdout":"6869","time":2},"total":2}"#,
+        concat!(
+            r#"{"clock":3,"elapsed":2,"event":"script-finished","index":1,"no_capture":true,"#,
+            r#""script":"db","status":{"errors":["env: key"],"result":"pass","slow":true,"start":1,"#,
+            r#""stderr":"","stdout":"6869","time":2},"total":2}"#,
+        ),
     ),
     (
         scripts::Sample::AtFault(SetupScriptOutputError::EnvFileOpen),
-        r#"{"clock":3,"elapsed":2,"event":"script-finished","index":1,"no_capture":true,"script":"db","status":{"errors":["wait: x","env: open"],"result":"exec-fail","slow":true,"start":1,"stderr":"","stdout":"","time":2},"total":2}"#,
+        concat!(
+            r#"{"clock":3,"elapsed":2,"event":"script-finished","index":1,"no_capture":true,"#,
+            r#""script":"db","status":{"errors":["wait: x","env: open"],"result":"exec-fail","#,
+            r#""slow":true,"start":1,"stderr":"","stdout":"","time":2},"total":2}"#,
+        ),
     ),
     (
         scripts::Sample::AtFault(SetupScriptOutputError::EnvFileTooLong),
-        r#"{"clock":3,"elapsed":2,"event":"script-finished","index":1,"no_capture":true,"script":"db","status":{"errors":["wait: x","env: read"],"result":"exec-fail","slow":true,"start":1,"stderr":"","stdout":"","time":2},"total":2}"#,
+        concat!(
+            r#"{"clock":3,"elapsed":2,"event":"script-finished","index":1,"no_capture":true,"#,
+            r#""script":"db","status":{"errors":["wait: x","env: read"],"result":"exec-fail","#,
+            r#""slow":true,"start":1,"stderr":"","stdout":"","time":2},"total":2}"#,
+        ),
     ),
     (
         scripts::Sample::Unread,
-        r#"{"clock":3,"elapsed":2,"event":"script-finished","index":1,"no_capture":true,"script":"db","status":{"result":"exec-fail","slow":true,"start":1,"time":2},"total":2}"#,
+        concat!(
+            r#"{"clock":3,"elapsed":2,"event":"script-finished","index":1,"no_capture":true,"#,
+            r#""script":"db","status":{"result":"exec-fail","slow":true,"start":1,"time":2},"#,
+            r#""total":2}"#,
+        ),
     ),
 ];
 
@@ -207,51 +306,111 @@ const TIMEOUT_FAIL: ExecutionResult = ExecutionResult::Timeout {
 const TESTS: [(tests::Sample, &str); 13] = [
     (
         tests::Sample::Started(SUB_RUN),
-        r#"{"clock":3,"command":["true"],"elapsed":2,"event":"test-started","running":1,"slot":{"global":4,"group":2,"name":"g"},"stats":{"initial_run_count":1},"stress_index":{"current":1,"total":3},"test":["b","t"]}"#,
+        concat!(
+            r#"{"clock":3,"command":["true"],"elapsed":2,"event":"test-started","running":1,"#,
+            r#""slot":{"global":4,"group":2,"name":"g"},"stats":{"initial_run_count":1},"#,
+            r#""stress_index":{"current":1,"total":3},"test":["b","t"]}"#,
+        ),
     ),
     (
         tests::Sample::Slow,
-        r#"{"attempt":1,"attempts":2,"clock":3,"elapsed":2,"elapsed_slow":60,"event":"test-slow","terminates":true,"test":["b","t"]}"#,
+        concat!(
+            r#"{"attempt":1,"attempts":2,"clock":3,"elapsed":2,"elapsed_slow":60,"#,
+            r#""event":"test-slow","terminates":true,"test":["b","t"]}"#,
+        ),
     ),
     (
         tests::Sample::Faulty,
-        r#"{"clock":3,"delay_next":5,"elapsed":2,"event":"test-attempt-failed","running":1,"status":{"attempt":1,"attempts":2,"delay":6,"errors":["stdout: a","stderr: "],"result":"exec-fail","slow":true,"start":1,"stderr":"","stdout":"ff004a","time":7},"test":["b","t"]}"#,
+        concat!(
+            r#"{"clock":3,"delay_next":5,"elapsed":2,"event":"test-attempt-failed","running":1,"#,
+            r#""status":{"attempt":1,"attempts":2,"delay":6,"errors":["stdout: a","stderr: "],"#,
+            r#""result":"exec-fail","slow":true,"start":1,"stderr":"","stdout":"ff004a","time":7},"#,
+            r#""test":["b","t"]}"#,
+        ),
     ),
     (
         tests::Sample::Combined,
-        r#"{"clock":3,"delay_next":5,"elapsed":2,"event":"test-attempt-failed","running":1,"status":{"attempt":1,"attempts":2,"combined":"68690a","delay":6,"errors":["combined: b","wait: no child"],"result":"exec-fail","slow":true,"start":1,"time":7},"test":["b","t"]}"#,
+        concat!(
+            r#"{"clock":3,"delay_next":5,"elapsed":2,"event":"test-attempt-failed","running":1,"#,
+            r#""status":{"attempt":1,"attempts":2,"combined":"68690a","delay":6,"#,
+            r#""errors":["combined: b","wait: no child"],"result":"exec-fail","slow":true,"#,
+            r#""start":1,"time":7},"test":["b","t"]}"#,
+        ),
     ),
     (
         tests::Sample::Unstarted,
-        r#"{"clock":3,"delay_next":5,"elapsed":2,"event":"test-attempt-failed","running":1,"status":{"attempt":1,"attempts":2,"delay":6,"result":"exec-fail","slow":true,"start":1,"start_error":"x","time":7},"test":["b","t"]}"#,
+        concat!(
+            r#"{"clock":3,"delay_next":5,"elapsed":2,"event":"test-attempt-failed","running":1,"#,
+            r#""status":{"attempt":1,"attempts":2,"delay":6,"result":"exec-fail","slow":true,"#,
+            r#""start":1,"start_error":"x","time":7},"test":["b","t"]}"#,
+        ),
     ),
     (
         tests::Sample::Retried,
-        r#"{"attempt":2,"attempts":4,"clock":3,"command":["true"],"elapsed":2,"event":"test-retry-started","running":1,"slot":{"global":3},"test":["b","t"]}"#,
+        concat!(
+            r#"{"attempt":2,"attempts":4,"clock":3,"command":["true"],"elapsed":2,"#,
+            r#""event":"test-retry-started","running":1,"slot":{"global":3},"test":["b","t"]}"#,
+        ),
     ),
     (
         tests::Sample::Finished(ExecutionResult::Pass),
-        r#"{"clock":3,"elapsed":2,"event":"test-finished","running":0,"stats":{"finished_count":1,"initial_run_count":1,"passed":1},"statuses":[{"attempt":1,"attempts":2,"delay":6,"result":"fail code -1 leaked","slow":true,"start":1,"time":7},{"attempt":1,"attempts":2,"delay":6,"result":"pass","slow":true,"start":1,"time":7}],"test":["b","t"]}"#,
+        concat!(
+            r#"{"clock":3,"elapsed":2,"event":"test-finished","running":0,"#,
+            r#""stats":{"finished_count":1,"initial_run_count":1,"passed":1},"#,
+            r#""statuses":[{"attempt":1,"attempts":2,"delay":6,"result":"fail code -1 leaked","#,
+            r#""slow":true,"start":1,"time":7},{"attempt":1,"attempts":2,"delay":6,"result":"pass","#,
+            r#""slow":true,"start":1,"time":7}],"test":["b","t"]}"#,
+        ),
     ),
     (
         tests::Sample::Finished(SIGNALLED),
-        r#"{"clock":3,"elapsed":2,"event":"test-finished","running":0,"stats":{"finished_count":1,"initial_run_count":1,"passed":1},"statuses":[{"attempt":1,"attempts":2,"delay":6,"result":"fail code -1 leaked","slow":true,"start":1,"time":7},{"attempt":1,"attempts":2,"delay":6,"result":"fail signal 9","slow":true,"start":1,"time":7}],"test":["b","t"]}"#,
+        concat!(
+            r#"{"clock":3,"elapsed":2,"event":"test-finished","running":0,"#,
+            r#""stats":{"finished_count":1,"initial_run_count":1,"passed":1},"#,
+            r#""statuses":[{"attempt":1,"attempts":2,"delay":6,"result":"fail code -1 leaked","#,
+            r#""slow":true,"start":1,"time":7},{"attempt":1,"attempts":2,"delay":6,"#,
+            r#""result":"fail signal 9","slow":true,"start":1,"time":7}],"test":["b","t"]}"#,
+        ),
     ),
     (
         tests::Sample::Finished(LEAK_PASS),
-        r#"{"clock":3,"elapsed":2,"event":"test-finished","running":0,"stats":{"finished_count":1,"initial_run_count":1,"passed":1},"statuses":[{"attempt":1,"attempts":2,"delay":6,"result":"fail code -1 leaked","slow":true,"start":1,"time":7},{"attempt":1,"attempts":2,"delay":6,"result":"leak-pass","slow":true,"start":1,"time":7}],"test":["b","t"]}"#,
+        concat!(
+            r#"{"clock":3,"elapsed":2,"event":"test-finished","running":0,"#,
+            r#""stats":{"finished_count":1,"initial_run_count":1,"passed":1},"#,
+            r#""statuses":[{"attempt":1,"attempts":2,"delay":6,"result":"fail code -1 leaked","#,
+            r#""slow":true,"start":1,"time":7},{"attempt":1,"attempts":2,"delay":6,"#,
+            r#""result":"leak-pass","slow":true,"start":1,"time":7}],"test":["b","t"]}"#,
+        ),
     ),
     (
         tests::Sample::Finished(LEAK_FAIL),
-        r#"{"clock":3,"elapsed":2,"event":"test-finished","running":0,"stats":{"finished_count":1,"initial_run_count":1,"passed":1},"statuses":[{"attempt":1,"attempts":2,"delay":6,"result":"fail code -1 leaked","slow":true,"start":1,"time":7},{"attempt":1,"attempts":2,"delay":6,"result":"leak-fail","slow":true,"start":1,"time":7}],"test":["b","t"]}"#,
+        concat!(
+            r#"{"clock":3,"elapsed":2,"event":"test-finished","running":0,"#,
+            r#""stats":{"finished_count":1,"initial_run_count":1,"passed":1},"#,
+            r#""statuses":[{"attempt":1,"attempts":2,"delay":6,"result":"fail code -1 leaked","#,
+            r#""slow":true,"start":1,"time":7},{"attempt":1,"attempts":2,"delay":6,"#,
+            r#""result":"leak-fail","slow":true,"start":1,"time":7}],"test":["b","t"]}"#,
+        ),
     ),
     (
         tests::Sample::Finished(TIMEOUT_PASS),
-        r#"{"clock":3,"elapsed":2,"event":"test-finished","running":0,"stats":{"finished_count":1,"initial_run_count":1,"passed":1},"statuses":[{"attempt":1,"attempts":2,"delay":6,"result":"fail code -1 leaked","slow":true,"start":1,"time":7},{"attempt":1,"attempts":2,"delay":6,"result":"timeout-pass","slow":true,"start":1,"time":7}],"test":["b","t"]}"#,
+        concat!(
+            r#"{"clock":3,"elapsed":2,"event":"test-finished","running":0,"#,
+            r#""stats":{"finished_count":1,"initial_run_count":1,"passed":1},"#,
+            r#""statuses":[{"attempt":1,"attempts":2,"delay":6,"result":"fail code -1 leaked","#,
+            r#""slow":true,"start":1,"time":7},{"attempt":1,"attempts":2,"delay":6,"#,
+            r#""result":"timeout-pass","slow":true,"start":1,"time":7}],"test":["b","t"]}"#,
+        ),
     ),
     (
         tests::Sample::Finished(TIMEOUT_FAIL),
-        r#"{"clock":3,"elapsed":2,"event":"test-finished","running":0,"stats":{"finished_count":1,"initial_run_count":1,"passed":1},"statuses":[{"attempt":1,"attempts":2,"delay":6,"result":"fail code -1 leaked","slow":true,"start":1,"time":7},{"attempt":1,"attempts":2,"delay":6,"result":"timeout-fail","slow":true,"start":1,"time":7}],"test":["b","t"]}"#,
+        concat!(
+            r#"{"clock":3,"elapsed":2,"event":"test-finished","running":0,"#,
+            r#""stats":{"finished_count":1,"initial_run_count":1,"passed":1},"#,
+            r#""statuses":[{"attempt":1,"attempts":2,"delay":6,"result":"fail code -1 leaked","#,
+            r#""slow":true,"start":1,"time":7},{"attempt":1,"attempts":2,"delay":6,"#,
+            r#""result":"timeout-fail","slow":true,"start":1,"time":7}],"test":["b","t"]}"#,
+        ),
     ),
     (
         tests::Sample::Skipped,
@@ -332,39 +491,76 @@ const DELAY: UnitState = UnitState::Delay {
 const ANSWERS: [((Unit, UnitState), &str); 9] = [
     (
         (Unit::Test, RUNNING),
-        r#"{"attempt":1,"attempts":2,"clock":3,"elapsed":2,"event":"info-response","index":0,"output":{"stderr":"","stdout":"6869"},"state":{"kind":"running","pid":100,"time":8},"test":["b","t"],"total":2}"#,
+        concat!(
+            r#"{"attempt":1,"attempts":2,"clock":3,"elapsed":2,"event":"info-response","index":0,"#,
+            r#""output":{"stderr":"","stdout":"6869"},"state":{"kind":"running","pid":100,"#,
+            r#""time":8},"test":["b","t"],"total":2}"#,
+        ),
     ),
     (
         (Unit::Script, SLOW),
-        r#"{"clock":3,"elapsed":2,"event":"info-response","index":0,"output":{},"script":"db","state":{"kind":"running","pid":100,"slow_after":60,"time":8},"stress_index":{"current":1},"total":2}"#,
+        concat!(
+            r#"{"clock":3,"elapsed":2,"event":"info-response","index":0,"output":{},"script":"db","#,
+            r#""state":{"kind":"running","pid":100,"slow_after":60,"time":8},"#,
+            r#""stress_index":{"current":1},"total":2}"#,
+        ),
     ),
     (
         (Unit::Script, TIMED_OUT),
-        r#"{"clock":3,"elapsed":2,"event":"info-response","index":0,"output":{},"script":"db","state":{"kind":"terminating","method":"term","pid":100,"reason":"timeout","remaining":70,"time":8,"waiting":30},"stress_index":{"current":1},"total":2}"#,
+        concat!(
+            r#"{"clock":3,"elapsed":2,"event":"info-response","index":0,"output":{},"script":"db","#,
+            r#""state":{"kind":"terminating","method":"term","pid":100,"reason":"timeout","#,
+            r#""remaining":70,"time":8,"waiting":30},"stress_index":{"current":1},"total":2}"#,
+        ),
     ),
     (
         (Unit::Script, SHUT_DOWN),
-        r#"{"clock":3,"elapsed":2,"event":"info-response","index":0,"output":{},"script":"db","state":{"kind":"terminating","method":"kill","pid":100,"reason":"signal","remaining":70,"time":8,"waiting":30},"stress_index":{"current":1},"total":2}"#,
+        concat!(
+            r#"{"clock":3,"elapsed":2,"event":"info-response","index":0,"output":{},"script":"db","#,
+            r#""state":{"kind":"terminating","method":"kill","pid":100,"reason":"signal","#,
+            r#""remaining":70,"time":8,"waiting":30},"stress_index":{"current":1},"total":2}"#,
+        ),
     ),
     (
         (Unit::Test, EXITING),
-        r#"{"attempt":1,"attempts":2,"clock":3,"elapsed":2,"event":"info-response","index":0,"output":{"stderr":"","stdout":"6869"},"state":{"kind":"exiting","pid":100,"remaining":70,"result":"fail signal 9","slow_after":60,"time":8,"waiting":30},"test":["b","t"],"total":2}"#,
+        concat!(
+            r#"{"attempt":1,"attempts":2,"clock":3,"elapsed":2,"event":"info-response","index":0,"#,
+            r#""output":{"stderr":"","stdout":"6869"},"state":{"kind":"exiting","pid":100,"#,
+            r#""remaining":70,"result":"fail signal 9","slow_after":60,"time":8,"waiting":30},"#,
+            r#""test":["b","t"],"total":2}"#,
+        ),
     ),
     (
         (Unit::Test, NOT_WAITED_FOR),
-        r#"{"attempt":1,"attempts":2,"clock":3,"elapsed":2,"event":"info-response","index":0,"output":{"stderr":"","stdout":"6869"},"state":{"kind":"exiting","pid":100,"remaining":70,"time":8,"waiting":30},"test":["b","t"],"total":2}"#,
+        concat!(
+            r#"{"attempt":1,"attempts":2,"clock":3,"elapsed":2,"event":"info-response","index":0,"#,
+            r#""output":{"stderr":"","stdout":"6869"},"state":{"kind":"exiting","pid":100,"#,
+            r#""remaining":70,"time":8,"waiting":30},"test":["b","t"],"total":2}"#,
+        ),
     ),
     (
         (Unit::Test, EXITED),
-        r#"{"attempt":1,"attempts":2,"clock":3,"elapsed":2,"event":"info-response","index":0,"output":{"stderr":"","stdout":"6869"},"state":{"kind":"exited","result":"pass","slow_after":60,"time":8},"test":["b","t"],"total":2}"#,
+        concat!(
+            r#"{"attempt":1,"attempts":2,"clock":3,"elapsed":2,"event":"info-response","index":0,"#,
+            r#""output":{"stderr":"","stdout":"6869"},"state":{"kind":"exited","result":"pass","#,
+            r#""slow_after":60,"time":8},"test":["b","t"],"total":2}"#,
+        ),
     ),
     (
         (Unit::Test, DELAY),
-        r#"{"attempt":1,"attempts":2,"clock":3,"elapsed":2,"event":"info-response","index":0,"output":{},"state":{"kind":"delay","remaining":70,"result":"exec-fail","slow":true,"waiting":30},"test":["b","t"],"total":2}"#,
+        concat!(
+            r#"{"attempt":1,"attempts":2,"clock":3,"elapsed":2,"event":"info-response","index":0,"#,
+            r#""output":{},"state":{"kind":"delay","remaining":70,"result":"exec-fail","slow":true,"#,
+            r#""waiting":30},"test":["b","t"],"total":2}"#,
+        ),
     ),
     (
         (Unit::Unstarted, NEVER_RAN),
-        r#"{"attempt":2,"attempts":2,"clock":3,"elapsed":2,"event":"info-response","index":0,"output":{"start_error":"x"},"state":{"kind":"exited","result":"exec-fail","time":0},"test":["b","t"],"total":2}"#,
+        concat!(
+            r#"{"attempt":2,"attempts":2,"clock":3,"elapsed":2,"event":"info-response","index":0,"#,
+            r#""output":{"start_error":"x"},"state":{"kind":"exited","result":"exec-fail","#,
+            r#""time":0},"test":["b","t"],"total":2}"#,
+        ),
     ),
 ];
 
@@ -387,7 +583,10 @@ const CANCELLED_TEST: RunOutcome = RunOutcome::Cancelled {
 const ASKS_AND_ENDS: [(Sample, &str); 28] = [
     (
         Sample::Start,
-        r#"{"ask":"start","attempt":1,"command":["true"],"env":[["A","b"]],"group":true,"stdin":false,"turn":2,"unit":4}"#,
+        concat!(
+            r#"{"ask":"start","attempt":1,"command":["true"],"env":[["A","b"]],"group":true,"#,
+            r#""stdin":false,"turn":2,"unit":4}"#,
+        ),
     ),
     (
         Sample::Signal(ChildSignal::End(TermSignal::Interrupt)),

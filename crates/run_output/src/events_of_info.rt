@@ -3,7 +3,12 @@ ghost use Rattle.std.specs.Prelude.{◌≡◌, IfOk};
 ghost use Rattle.run_events.specs.declared.info.InfoSubject.TheVariants.{Test, Script};
 ghost use Rattle.run_output.specs.Fields.{put_all};
 ghost use Rattle.run_output.specs.Object.{members_of};
-ghost use Rattle.run_output.specs.EventsOfInfo.{info_started_fields, subject_fields, info_answered_fields, info_finished_fields};
+ghost use Rattle.run_output.specs.EventsOfInfo.{
+  info_started_fields,
+  subject_fields,
+  info_answered_fields,
+  info_finished_fields,
+};
 
 use crate::field::Field;
 use crate::leaf::Leaf;

@@ -3,7 +3,17 @@ ghost use Rattle.std.specs.Prelude.{◌≡◌, IfOk};
 ghost use Rattle.run_output.specs.Field.{field_data};
 ghost use Rattle.run_output.specs.Fields.{put_all};
 ghost use Rattle.run_output.specs.Object.{members_of};
-ghost use Rattle.run_output.specs.EventsOfRun.{run_started_fields, sub_run_started_fields, sub_run_finished_fields, input_entered_fields, run_cancelled_fields, job_controlled_fields, single_data, sub_runs_data, run_finished_fields};
+ghost use Rattle.run_output.specs.EventsOfRun.{
+  run_started_fields,
+  sub_run_started_fields,
+  sub_run_finished_fields,
+  input_entered_fields,
+  run_cancelled_fields,
+  job_controlled_fields,
+  single_data,
+  sub_runs_data,
+  run_finished_fields,
+};
 
 use crate::field::Field;
 use crate::leaf::Leaf;
