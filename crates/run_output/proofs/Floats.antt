@@ -1,5 +1,5 @@
 -- What is made of values that hold no float holds none.
-use Rattle.std.proofs.Common.{refl, ◌≡◌, ℕ, List, [], ◌∷◌, ◌++◌, false, map}
+use Rattle.std.proofs.Common.{refl, ◌≡◌, ℕ, List, [], ◌∷◌, ◌++◌, false}
 use Rattle.std.proofs.lemmas.Bool.{or_parts, or_from}
 use Rattle.std.specs.Ordering.{nat_cmp, match_ordering}
 use Rattle.std.specs.declared.cmp.Ordering.{Ordering}
@@ -11,7 +11,8 @@ use Rattle.serde_json.specs.Written.{has_float, items_have_float, members_have_f
 use Rattle.serde_json.specs.declared.value.Value.{Value}
 
 put_at : (o : Ordering) (k l : List ℕ) (d e : Data) (ms rest : Members)
-    → has_float d ≡ false → has_float e ≡ false → members_have_float ms ≡ false → members_have_float rest ≡ false
+    → has_float d ≡ false → has_float e ≡ false
+    → members_have_float ms ≡ false → members_have_float rest ≡ false
     → members_have_float (match_ordering o (member k d (member l e ms)) (member l d ms) (member l e rest)) ≡ false
 put_at Less k l d e ms rest p q r s = or_from (has_float d) _ p (or_from (has_float e) _ q r)
 put_at Equal k l d e ms rest p q r s = or_from (has_float d) _ p r

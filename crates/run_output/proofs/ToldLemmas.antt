@@ -7,7 +7,8 @@ use Rattle.run_events.specs.declared.events.ReporterEvent.{ReporterEvent}
 use Rattle.run_output.specs.Told.{IsLine, AreLines, TookLines}
 
 -- lines and one more line after them
-lines_more : {E : Type 0} (xs : List (ReporterEvent × Option E)) (event : ReporterEvent) (error : Option E) (bytes line : List ℕ)
+lines_more : {E : Type 0} (xs : List (ReporterEvent × Option E)) (event : ReporterEvent) (error : Option E)
+    (bytes line : List ℕ)
     → AreLines xs bytes → IsLine event error line → AreLines (xs ++ (event, error) ∷ []) (bytes ++ line)
 lines_more [] event error bytes line none last =
     (line, [], last, refl, ap (λ b. b ++ line) none ∙ sym (append-nil line))
@@ -25,4 +26,5 @@ pub took_more : {E : Type 0} (before between now : Option (List ℕ)) (xs : List
     → IsLine event error line → Takes between now line
     → TookLines before between xs → TookLines before now (xs ++ (event, error) ∷ [])
 took_more before between now xs event error line last taken told =
-    (told.0 ++ line, lines_more xs event error told.0 line told.1 last, takes_both before between now told.0 line told.2 taken)
+    let all = takes_both before between now told.0 line told.2 taken in
+    (told.0 ++ line, lines_more xs event error told.0 line told.1 last, all)

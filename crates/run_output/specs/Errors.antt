@@ -4,7 +4,9 @@ use Rattle.serde_json.specs.Data.{Data, string}
 use Rattle.run_capture.specs.declared.test_output.ChildFdError.{ChildFdError}
 use Rattle.run_capture.specs.declared.test_output.ChildFdError.TheVariants.{ReadStdout, ReadStderr, ReadCombined, Wait}
 use Rattle.run_commands.specs.declared.errors.SetupScriptOutputError.{SetupScriptOutputError}
-use Rattle.run_commands.specs.declared.errors.SetupScriptOutputError.TheVariants.{EnvFileRead, EnvFileParse, EnvFileInvalidKey, EnvFileTooLong, EnvFileOpen, OutOfMemory}
+use Rattle.run_commands.specs.declared.errors.SetupScriptOutputError.TheVariants.{EnvFileRead, EnvFileParse}
+use Rattle.run_commands.specs.declared.errors.SetupScriptOutputError.TheVariants.{EnvFileInvalidKey, EnvFileTooLong}
+use Rattle.run_commands.specs.declared.errors.SetupScriptOutputError.TheVariants.{EnvFileOpen, OutOfMemory}
 use Rattle.run_events.specs.declared.result.ChildExecutionOutput.{ChildExecutionOutput}
 use Rattle.run_events.specs.declared.result.ChildExecutionOutput.TheVariants.{Output, StartError}
 use Rattle.run_output.specs.Fields.{array_unless_empty}

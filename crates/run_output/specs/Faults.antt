@@ -2,9 +2,11 @@
 use Rattle.std.specs.Prelude.{ℕ, List, [], ◌∷◌, Option, Some, option_map, codes}
 use Rattle.serde_json.specs.Data.{Data, string}
 use Rattle.run_output.specs.declared.fault.Fault.{Fault}
-use Rattle.run_output.specs.declared.fault.Fault.TheVariants.{Words, Line, Plan, NotEnabled, ThirdSignal, Unfinished, Report, Read, Memory, TooLong}
+use Rattle.run_output.specs.declared.fault.Fault.TheVariants.{Words, Line, Plan, NotEnabled, ThirdSignal, Unfinished}
+use Rattle.run_output.specs.declared.fault.Fault.TheVariants.{Report, Read, Memory, TooLong}
 use Rattle.run_output.specs.declared.fault.PlanFault.{PlanFault}
-use Rattle.run_output.specs.declared.fault.PlanFault.TheVariants.{ZeroLimit, DuplicateTest, UnknownGroup, ZeroWeight, TooManyRetries}
+use Rattle.run_output.specs.declared.fault.PlanFault.TheVariants.{ZeroLimit, DuplicateTest, UnknownGroup, ZeroWeight}
+use Rattle.run_output.specs.declared.fault.PlanFault.TheVariants.{TooManyRetries}
 use Rattle.run_output.specs.Fields.{count, object_text}
 
 -- a fault by its word

@@ -3,7 +3,9 @@ use Rattle.std.specs.Prelude.{ℕ, List, [], ◌∷◌, Option, Some, option_map
 use Rattle.serde_json.specs.Data.{Data}
 use Rattle.run_events.specs.declared.events.TestsNotSeen.{TestsNotSeen}
 use Rattle.run_output.specs.declared.field.Field.{Field}
-use Rattle.run_output.specs.declared.field.Field.TheVariants.{Leaf, Stats, Slot, Status, Statuses, ScriptStatus, Stress, Index, Progress, StressStats, NotSeen, State, Output}
+use Rattle.run_output.specs.declared.field.Field.TheVariants.{Leaf, Stats, Slot, Status, Statuses, ScriptStatus}
+use Rattle.run_output.specs.declared.field.Field.TheVariants.{Stress, Index, Progress, StressStats, NotSeen, State}
+use Rattle.run_output.specs.declared.field.Field.TheVariants.{Output}
 use Rattle.run_output.specs.Fields.{count, array_of, object_of}
 use Rattle.run_output.specs.Info.{state_data, shown_data}
 use Rattle.run_output.specs.Leaf.{leaf_data}

@@ -1,9 +1,10 @@
 -- What stands at a key of an object, where it holds no object itself.
-use Rattle.std.specs.Prelude.{Option, Some, None, ◌++◌, map}
+use Rattle.std.specs.Prelude.{Option, Some, None, ◌++◌}
 use Rattle.serde_json.specs.Data.{Data, boolean, string}
 use Rattle.uuid.specs.Text.{hyphenated_text, lower}
 use Rattle.run_output.specs.declared.leaf.Leaf.{Leaf}
-use Rattle.run_output.specs.declared.leaf.Leaf.TheVariants.{Absent, Count, Number, Nonzero, Truth, Word, Text, Texts, Pairs, Hex, Id, Test, Tests, Result, Errors, Runs}
+use Rattle.run_output.specs.declared.leaf.Leaf.TheVariants.{Absent, Count, Number, Nonzero, Truth, Word, Text, Texts}
+use Rattle.run_output.specs.declared.leaf.Leaf.TheVariants.{Pairs, Hex, Id, Test, Tests, Result, Errors, Runs}
 use Rattle.run_output.specs.Fields.{count, nonzero, texts, pair, array_of}
 use Rattle.run_output.specs.Texts.{bytes_data, test_data, runs_text, result_text}
 use Rattle.run_output.specs.Errors.{child_errors, fault_errors, errors_data}

@@ -11,6 +11,7 @@ pub mod Stress
 pub mod Statuses
 pub mod Info
 pub mod Field
+pub mod EventsOfInfo
 pub mod EventsOfRun
 pub mod EventsOfScripts
 pub mod EventsOfTests

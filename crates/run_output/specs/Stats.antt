@@ -2,7 +2,9 @@
 use Rattle.std.specs.Prelude.{ℕ, List, [], ◌∷◌, ◌++◌, Option, option_map, codes}
 use Rattle.serde_json.specs.Data.{Data, string}
 use Rattle.run_events.specs.declared.cancel.CancelReason.{CancelReason}
-use Rattle.run_events.specs.declared.cancel.CancelReason.TheVariants.{SetupScriptFailure, TestFailure, ReportError, GlobalTimeout, TestFailureImmediate, Signal, Interrupt, SecondSignal}
+use Rattle.run_events.specs.declared.cancel.CancelReason.TheVariants.{SetupScriptFailure, TestFailure, ReportError}
+use Rattle.run_events.specs.declared.cancel.CancelReason.TheVariants.{GlobalTimeout, TestFailureImmediate, Signal}
+use Rattle.run_events.specs.declared.cancel.CancelReason.TheVariants.{Interrupt, SecondSignal}
 use Rattle.run_events.specs.declared.stats.RunStats.{RunStats}
 use Rattle.run_output.specs.Fields.{nonzero, object_of}
 

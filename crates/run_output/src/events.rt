@@ -4,18 +4,18 @@ ghost use Rattle.run_output.specs.Fields.{put_all, line_of};
 ghost use Rattle.run_output.specs.Object.{members_of};
 ghost use Rattle.run_output.specs.Events.{event_word, kind_fields, test_event_text, event_text};
 
+use crate::events_of_info::{with_info_answered, with_info_finished, with_info_started};
 use crate::events_of_run::{
-    with_info_answered, with_info_finished, with_info_started, with_input_entered,
-    with_job_controlled, with_run_cancelled, with_run_finished, with_run_started,
-    with_sub_run_finished, with_sub_run_started,
+    with_input_entered, with_job_controlled, with_run_cancelled, with_run_finished,
+    with_run_started, with_sub_run_finished, with_sub_run_started,
 };
 use crate::events_of_scripts::{with_script_finished, with_script_slow, with_script_started};
 use crate::events_of_tests::{
     with_attempt_failed, with_retry_started, with_test_finished, with_test_skipped, with_test_slow,
     with_test_started,
 };
-use crate::fields::with_line_feed;
 use crate::leaf::Leaf;
+use crate::line_feed::with_line_feed;
 use crate::object::Object;
 use run_capture::{Mem, Text};
 use run_events::{ReporterEvent, TestEvent, TestEventKind};

@@ -1,10 +1,19 @@
 // The fields of the events of a run.
 ghost use Rattle.std.specs.Prelude.{◌≡◌, IfOk};
-ghost use Rattle.run_events.specs.declared.info.InfoSubject.TheVariants.{Test, Script};
 ghost use Rattle.run_output.specs.Field.{field_data};
 ghost use Rattle.run_output.specs.Fields.{put_all};
 ghost use Rattle.run_output.specs.Object.{members_of};
-ghost use Rattle.run_output.specs.EventsOfRun.{run_started_fields, sub_run_started_fields, sub_run_finished_fields, info_started_fields, input_entered_fields, run_cancelled_fields, job_controlled_fields, single_data, sub_runs_data, run_finished_fields, subject_fields, info_answered_fields, info_finished_fields};
+ghost use Rattle.run_output.specs.EventsOfRun.{
+  run_started_fields,
+  sub_run_started_fields,
+  sub_run_finished_fields,
+  input_entered_fields,
+  run_cancelled_fields,
+  job_controlled_fields,
+  single_data,
+  sub_runs_data,
+  run_finished_fields,
+};
 
 use crate::field::Field;
 use crate::leaf::Leaf;
@@ -63,22 +72,6 @@ pub(crate) fn with_sub_run_finished(
             ("progress", Field::Progress(event.progress)),
             ("stats", Field::Stats(&event.stats)),
             ("sub_elapsed", Field::Leaf(Leaf::Number(event.sub_elapsed))),
-        ],
-    )
-}
-
-/// An information round started.
-#[tactic(auto, unfolding(crate::specs::EventsOfRun::info_started_fields))]
-pub(crate) fn with_info_started(alloc: Global, object: Object, event: &InfoStarted) -> Mem<Object>
-    ensures { IfOk result
-        (λ o. members_of o ≡ put_all (info_started_fields event.now) (members_of object)) }
-{
-    object.with(
-        alloc,
-        &[
-            ("running", Field::Leaf(Leaf::Count(event.running))),
-            ("stats", Field::Stats(&event.stats)),
-            ("total", Field::Leaf(Leaf::Count(event.total))),
         ],
     )
 }
@@ -171,79 +164,4 @@ pub(crate) fn with_run_finished(alloc: Global, object: Object, event: &RunFinish
             ("stress_stats", sub_runs(&event.stats)),
         ],
     )
-}
-
-#[tactic(auto, unfolding(crate::specs::EventsOfRun::subject_fields))]
-fn with_test(
-    alloc: Global,
-    object: Object,
-    test: &TestUnit,
-    attempt: u32,
-    attempts: u32,
-) -> Mem<Object>
-    ensures { IfOk result (λ o. members_of o
-        ≡ put_all (subject_fields (Test test.now attempt attempts)) (members_of object)) }
-{
-    object.with(
-        alloc,
-        &[
-            ("attempt", Field::Leaf(Leaf::Count(attempt))),
-            ("attempts", Field::Leaf(Leaf::Count(attempts))),
-            ("stress_index", Field::Index(test.stress_index)),
-            ("test", Field::Leaf(Leaf::Test(&test.id))),
-        ],
-    )
-}
-
-#[tactic(auto, unfolding(crate::specs::EventsOfRun::subject_fields))]
-fn with_script(alloc: Global, object: Object, script: &ScriptUnit) -> Mem<Object>
-    ensures { IfOk result (λ o. members_of o
-        ≡ put_all (subject_fields (Script script.now)) (members_of object)) }
-{
-    object.with(
-        alloc,
-        &[
-            ("script", Field::Leaf(Leaf::Text(&script.id))),
-            ("stress_index", Field::Index(script.stress_index)),
-        ],
-    )
-}
-
-fn with_subject(alloc: Global, object: Object, subject: &InfoSubject) -> Mem<Object>
-    ensures { IfOk result
-        (λ o. members_of o ≡ put_all (subject_fields subject.now) (members_of object)) }
-{
-    match subject {
-        InfoSubject::Test {
-            test,
-            attempt,
-            attempts,
-        } => with_test(alloc, object, test, *attempt, *attempts),
-        InfoSubject::Script(script) => with_script(alloc, object, script),
-    }
-}
-
-/// The fields of a unit's answer.
-#[tactic(auto, unfolding(crate::specs::EventsOfRun::info_answered_fields))]
-pub(crate) fn with_info_answered(alloc: Global, object: Object, event: &InfoAnswered) -> Mem<Object>
-    ensures { IfOk result
-        (λ o. members_of o ≡ put_all (info_answered_fields event.now) (members_of object)) }
-{
-    let answer = [
-        ("index", Field::Leaf(Leaf::Count(event.index))),
-        ("output", Field::Output(&event.response)),
-        ("state", Field::State(&event.response)),
-        ("total", Field::Leaf(Leaf::Count(event.total))),
-    ];
-    let object = object.with(alloc, &answer)?;
-    with_subject(alloc, object, &event.response.subject)
-}
-
-/// The information round ended, and so many units gave no answer.
-#[tactic(auto, unfolding(crate::specs::EventsOfRun::info_finished_fields))]
-pub(crate) fn with_info_finished(alloc: Global, object: Object, missing: u32) -> Mem<Object>
-    ensures { IfOk result
-        (λ o. members_of o ≡ put_all (info_finished_fields missing) (members_of object)) }
-{
-    object.with(alloc, &[("missing", Leaf::Count(missing))])
 }

@@ -2,7 +2,14 @@
 ghost use Rattle.std.specs.Prelude.{◌≡◌, IfOk};
 ghost use Rattle.run_output.specs.Fields.{put_all};
 ghost use Rattle.run_output.specs.Object.{members_of};
-ghost use Rattle.run_output.specs.EventsOfTests.{test_started_fields, test_slow_fields, attempt_failed_fields, retry_started_fields, test_finished_fields, test_skipped_fields};
+ghost use Rattle.run_output.specs.EventsOfTests.{
+  test_started_fields,
+  test_slow_fields,
+  attempt_failed_fields,
+  retry_started_fields,
+  test_finished_fields,
+  test_skipped_fields,
+};
 
 use crate::field::Field;
 use crate::leaf::Leaf;

@@ -1,7 +1,7 @@
 // Faults that end the program.
 
 /// What is wrong with a plan whose line is in its table. Places are counted from 0.
-#[derive(Clone, Copy, Debug, Drop, PartialEq, Eq)]
+#[derive(Clone, Copy, Drop)]
 pub enum PlanFault {
     /// The group at this place has the limit 0; without a group, the run has 0 threads.
     ZeroLimit { group: Option<u32> },
@@ -16,7 +16,7 @@ pub enum PlanFault {
 }
 
 /// A fault that ends the program.
-#[derive(Clone, Copy, Debug, Drop, PartialEq, Eq)]
+#[derive(Clone, Copy, Drop)]
 pub enum Fault {
     /// The words of the command line are wrong.
     Words,

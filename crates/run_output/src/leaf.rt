@@ -1,6 +1,7 @@
 // What stands at a key of an object, where it holds no object itself.
 ghost use Rattle.std.specs.Prelude.{◌≡◌, option_map};
-ghost use Rattle.run_output.specs.Fields.{count};
+ghost use Rattle.run_output.specs.Fields.{count, nonzero};
+ghost use Rattle.run_output.specs.Plain.{data_of};
 
 use crate::errors::errors_plain;
 use crate::lists::{pairs_plain, test_plain, tests_plain, texts_plain};
@@ -39,17 +40,28 @@ pub(crate) enum Leaf<'a> {
     Runs(StressCount),
 }
 
+#[tactic(auto, unfolding(crate::specs::Fields::nonzero))]
+fn nonzero_plain(number: u64) -> Option<Plain>
+    ensures { option_map data_of result ≡ nonzero number }
+{
+    if number == 0 {
+        None
+    } else {
+        Some(Plain::number(number))
+    }
+}
+
 impl Printed for Leaf<'_> {
     ghost use Rattle.run_output.specs.Leaf.{leaf_data};
 
     ghost printed = { leaf_data };
 
-    #[tactic(auto, unfolding(crate::specs::Fields::nonzero))]
     fn plain(&self, alloc: Global) -> Mem<Option<Plain>> {
         match *self {
-            Leaf::Absent | Leaf::Nonzero(0) => Ok(None),
+            Leaf::Absent => Ok(None),
             Leaf::Count(number) => Ok(Some(Plain::number(number as u64))),
-            Leaf::Number(number) | Leaf::Nonzero(number) => Ok(Some(Plain::number(number))),
+            Leaf::Number(number) => Ok(Some(Plain::number(number))),
+            Leaf::Nonzero(number) => Ok(nonzero_plain(number)),
             Leaf::Truth(truth) => Ok(Some(Plain::truth(truth))),
             Leaf::Word(word) => Plain::text(alloc, word).map(Some),
             Leaf::Text(text) => Plain::text(alloc, text.as_str()).map(Some),

@@ -5,7 +5,15 @@ ghost use Rattle.run_output.specs.Leaf.{leaf_data};
 ghost use Rattle.run_output.specs.Object.{members_of};
 ghost use Rattle.run_output.specs.Plain.{data_of};
 ghost use Rattle.run_output.specs.Texts.{bytes_data};
-ghost use Rattle.run_output.specs.Statuses.{stream_fields, attempt_fields, status_data, env_data, fault_of, script_fields, script_status_data};
+ghost use Rattle.run_output.specs.Statuses.{
+  stream_fields,
+  attempt_fields,
+  status_data,
+  env_data,
+  fault_of,
+  script_fields,
+  script_status_data,
+};
 
 use crate::items::Items;
 use crate::leaf::Leaf;

@@ -3,7 +3,16 @@ ghost use Rattle.std.specs.Prelude.{◌≡◌, option_map, IfOk};
 ghost use Rattle.run_output.specs.Fields.{rows};
 ghost use Rattle.run_output.specs.Leaf.{leaf_data};
 ghost use Rattle.run_output.specs.Plain.{data_of};
-ghost use Rattle.run_output.specs.Stress.{condition_data, index_fields, index_data, progress_fields, progress_data, last_word, ended_fields, stress_stats_data};
+ghost use Rattle.run_output.specs.Stress.{
+  condition_data,
+  index_fields,
+  index_data,
+  progress_fields,
+  progress_data,
+  last_word,
+  ended_fields,
+  stress_stats_data,
+};
 
 use crate::leaf::Leaf;
 use crate::object::Object;

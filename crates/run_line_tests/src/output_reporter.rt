@@ -1,0 +1,70 @@
+// The reporter of lines as the layers above call it: by its trait alone, and over a sink.
+ghost use Rattle.std.specs.Prelude.{◌≡◌, ◌<◌, [], ◌∷◌, ◌++◌, ℕ, IsOk, Option};
+ghost use Rattle.run_capture.specs.Faults.{Rose};
+ghost use Rattle.run_events.specs.Tell.{answered, Adds};
+ghost use Rattle.run_output.specs.Told.{TookLines};
+ghost use Rattle.run_output.specs.Refusals.{CountsSince};
+
+use run_capture::{Failed, List, Mem, MemorySink, Sink};
+use run_events::{ReportFault, Reporter, ReporterEvent};
+use run_output::{LineReporter, Origin};
+use std::alloc::Global;
+use std::marker::Brand;
+use std::test::Fail;
+
+// Stands for the engine: it knows any reporter by its trait alone.
+fn tells_one<R: Reporter>(
+    report: &mut R,
+    alloc: Global,
+    event: &ReporterEvent,
+) -> Result<(), ReportFault<R::Error>>
+    ensures told { Adds R.told report.old report.new (answered event.now result) }
+    ensures faults { R.faults report.old ≡ 0 → IsOk result → R.faults report.new ≡ 0 }
+{
+    report.report(alloc, event)
+}
+
+// Stands for the program: its contract is about the sink alone.
+fn written_at<K: Sink, O: Origin>(
+    alloc: Global,
+    sink: K,
+    event: &ReporterEvent,
+) -> (K, Result<(), ReportFault<Failed>>)
+    requires taken { O.taken_before ≡ K.taken sink }
+    requires faults { O.faults_before ≡ K.faults sink }
+    ensures written { TookLines (K.taken sink) (K.taken result.0) (answered event.now result.1) }
+    ensures no_fault { IsOk result.1 → K.faults result.0 ≡ K.faults sink }
+{
+    let mut reporter = LineReporter::<K, O>::new(sink);
+    let answer = tells_one(&mut reporter, alloc, event);
+    (reporter.into_sink(), answer)
+}
+
+fn written<K: Sink>(
+    alloc: Global,
+    sink: K,
+    event: &ReporterEvent,
+) -> (K, Result<(), ReportFault<Failed>>)
+    ensures written { TookLines (K.taken sink) (K.taken result.0) (answered event.now result.1) }
+    ensures no_fault { IsOk result.1 → K.faults result.0 ≡ K.faults sink }
+{
+    written_at::<K, Brand>(alloc, sink, event)
+}
+
+// What a sink with room for so many bytes took of two ticks, where the first was taken and the second refused.
+fn two_ticks(alloc: Global, room: usize) -> Mem<Option<MemorySink>> {
+    let sink = MemorySink::new(alloc, room, 7, List::new())?;
+    let (sink, first) = written(alloc, sink, &ReporterEvent::Tick);
+    let (sink, second) = written(alloc, sink, &ReporterEvent::Tick);
+    let as_wanted = first == Ok(()) && second == Err(ReportFault::Refused(Failed));
+    Ok(as_wanted.then_some(sink))
+}
+
+#[test]
+fn written_lines(rt: HostRuntime) -> Result<(), Fail> {
+    let sink = two_ticks(rt.alloc(), 20)?;
+    assert!(rt;
+        matches!(&sink, Some(sink) if sink.bytes() == b"{\"event\":\"tick\"}\n{\"e".as_slice())
+    );
+    Ok(())
+}
