@@ -1,5 +1,5 @@
 // The start of a test's child: its command and its variables.
-ghost use Rattle.std.specs.Prelude.{◌≡◌, ◌++◌, ◌∷◌, [], IfOk, decimal};
+ghost use Rattle.std.specs.Prelude.{◌≡◌, ◌++◌, ◌∷◌, [], IfOk, decimal, codes};
 ghost use Rattle.uuid.specs.Text.{hyphenated_text, lower};
 ghost use Rattle.run_model.specs.Unit.{start_ask, environment, identity_variables, place_variables, version_variables};
 

@@ -15,25 +15,25 @@ loop-place-preserved g c =
     let p = c.args.run.now.settings in
     let inv = c.loop-place.invariant in
     let journal = c.loop-place.run.journal in
-    let step : TakesTurn g.R.Reporter.told g.C.Children.asked (sound p journal) c.in_ok-turn.turn c.loop-place.report c.loop-place.children
-    c.take_copy.new.self c.take_copy.new.report c.take_copy.new.children c.in-Ok.refusal =
-    subst (λ (w : World). TakesTurn g.R.Reporter.told g.C.Children.asked w c.in_ok-turn.turn c.loop-place.report c.loop-place.children
-    c.take_copy.new.self c.take_copy.new.report c.take_copy.new.children c.in-Ok.refusal) inv.run c.in-Ok.ensures.takes in
+    let step : TakesTurn g.R.Reporter.told g.C.Children.asked (sound p journal) c.index-turns-place.result c.loop-place.report c.loop-place.children
+    c.take_copy.new.run c.take_copy.new.report c.take_copy.new.children c.in-Ok.refusal =
+    subst (λ (w : World). TakesTurn g.R.Reporter.told g.C.Children.asked w c.index-turns-place.result c.loop-place.report c.loop-place.children
+    c.take_copy.new.run c.take_copy.new.report c.take_copy.new.children c.in-Ok.refusal) inv.run c.in-Ok.ensures.takes in
     let room : length journal < 4294967295 = c.in-Ok.ensures.room in
     let more : length journal + 1 < 2 ^ 32 = omega arith in
-    let runs : c.take_copy.new.self ≡ sound p c.take_copy.new.self.journal =
+    let runs : c.take_copy.new.run ≡ sound p c.take_copy.new.run.journal =
     step.grown ∙ ap (λ (w : World). sound p w.journal) (sym step.grown) in
     record {
-      takes = subst (λ o. Takes g.R.Reporter.told g.C.Children.asked p c.take_copy.new.self.journal c.args.report.now c.take_copy.new.report
+      takes = subst (λ o. Takes g.R.Reporter.told g.C.Children.asked p c.take_copy.new.run.journal c.args.report.now c.take_copy.new.report
           c.args.children.now c.take_copy.new.children (g.R.Reporter.faults c.args.report.now) (g.R.Reporter.faults c.take_copy.new.report) o)
           (sym c.first_of-first.ensures)
           (takes-more g.R.Reporter.told g.C.Children.asked p journal c.args.report.now c.loop-place.report c.take_copy.new.report
           c.args.children.now c.loop-place.children c.take_copy.new.children (g.R.Reporter.faults c.args.report.now)
           (g.R.Reporter.faults c.loop-place.report) (g.R.Reporter.faults c.take_copy.new.report) c.loop-place.first c.in-Ok.refusal
-          c.in_ok-turn.turn c.take_copy.new.self inv.takes step c.in-Ok.ensures.faults more);
+          c.index-turns-place.result c.take_copy.new.run inv.takes step c.in-Ok.ensures.faults more);
       all = ap (λ (w : World). turns_of w.journal) step.grown
-          ∙ turns-push journal c.args.turns.now c.loop-place.place c.in_ok-turn.turn c.index-turns-place.result step.refused (omega arith) inv.all
-          (c.in_ok-turn.ensures.ok ∙ c.index-turns-place.is);
+          ∙ turns-push journal c.args.turns.now c.loop-place.place c.index-turns-place.result c.index-turns-place.result step.refused (omega arith) inv.all
+          c.index-turns-place.is;
       run = runs;
     }
 
@@ -42,9 +42,9 @@ returns-in-Err-NotEnabled-clause-stopped g c =
     let p = c.args.run.now.settings in
     let inv = c.loop-place.invariant in
     let turns = c.args.turns.now in
-    let turn = c.in_ok-turn.turn in
+    let turn = c.index-turns-place.result in
     let no = rw c.in-Err-NotEnabled.field-0-is at c.in-Err-NotEnabled.ensures.refused in
-    let stay : c.take_copy.new.self ≡ c.loop-place.run = rw c.in-Err-NotEnabled.field-0-is at c.in-Err-NotEnabled.ensures.unchanged in
+    let stay : c.take_copy.new.run ≡ c.loop-place.run = rw c.in-Err-NotEnabled.field-0-is at c.in-Err-NotEnabled.ensures.unchanged in
     let report : c.take_copy.new.report ≡ c.loop-place.report = rw c.in-Err-NotEnabled.field-0-is at c.in-Err-NotEnabled.ensures.reporter in
     let children : c.take_copy.new.children ≡ c.loop-place.children = rw c.in-Err-NotEnabled.field-0-is at c.in-Err-NotEnabled.ensures.children in
     let refused : enabled p (past_of p c.loop-place.run.journal) turn ≡ false =
@@ -52,7 +52,7 @@ returns-in-Err-NotEnabled-clause-stopped g c =
     let inside : c.loop-place.place < length turns = omega arith in
     let at : slice_get turns c.loop-place.place ≡ Some turn =
     slice_get-get_or turns c.loop-place.place c.index-turns-place.result inside
-    ∙ ap Some (sym (c.in_ok-turn.ensures.ok ∙ c.index-turns-place.is)) in
+    ∙ ap Some (sym c.index-turns-place.is) in
     subst (λ (w : World). StopsAt g.R.Reporter.told g.C.Children.asked p turns w.journal c.args.report.now c.take_copy.new.report
     c.args.children.now c.take_copy.new.children (g.R.Reporter.faults c.args.report.now) (g.R.Reporter.faults c.take_copy.new.report)
     (NotEnabled c.loop-place.place)) (sym stay)
