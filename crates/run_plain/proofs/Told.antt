@@ -15,7 +15,8 @@ use Rattle.run_model.specs.Words.{finish_of, skips, stats_after}
 use Rattle.run_plain.specs.Told.{stats_told, counted, with_finish, with_skip}
 
 -- what one more item gives
-given_last : {X Y : Type 0} (f : X → Option Y) (x : X) (o : Option Y) → f x ≡ o → filter_map f (x ∷ []) ≡ option_to_list o
+given_last : {X Y : Type 0} (f : X → Option Y) (x : X) (o : Option Y) → f x ≡ o
+    → filter_map f (x ∷ []) ≡ option_to_list o
 given_last f x None is = rw is refl
 given_last f x (Some y) is = rw is refl
 
@@ -29,7 +30,8 @@ pub account_more : (k : ℕ) (events : List ReporterEvent) (e : ReporterEvent)
 account_more k events e = given_more (news_of k) events e
 
 -- the statistics after one more event
-finish_more : (p : Settings) (why : Option CancelReason) (skips : ℕ) (finishes : List FinishedTest) (o : Option FinishedTest)
+finish_more : (p : Settings) (why : Option CancelReason) (skips : ℕ) (finishes : List FinishedTest)
+    (o : Option FinishedTest)
     → stats_after p why skips (finishes ++ option_to_list o) ≡ with_finish o (stats_after p why skips finishes)
 finish_more p why skips finishes None = ap (stats_after p why skips) (append-nil finishes)
 finish_more p why skips finishes (Some test) = total_push _ finishes test
@@ -40,15 +42,17 @@ unfolding total_by
 skip_more p why n m finishes false is =
     let same : m ≡ n = omega arith in ap (λ k. stats_after p why k finishes) same
 skip_more p why n m finishes true is =
-    let more : m + sum_by (λ x. (adds_of x).skipped) finishes ≡ n + sum_by (λ x. (adds_of x).skipped) finishes + 1 = omega arith in
+    let further : ℕ = sum_by (λ x. (adds_of x).skipped) finishes in
+    let more : m + further ≡ n + further + 1 = omega arith in
     ap (λ k. record (stats_after p why n finishes) { skipped = k }) more
 
 pub stats_more : (p : Settings) (why : Option CancelReason) (events : List ReporterEvent) (e : ReporterEvent)
     → stats_told p why (events ++ e ∷ []) ≡ counted (stats_told p why events) e
 stats_more p why events e =
     ap (stats_after p why (count_by skips (events ++ e ∷ []))) (given_more finish_of events e)
-    ∙ skip_more p why (count_by skips events) (count_by skips (events ++ e ∷ [])) (filter_map finish_of events ++ option_to_list (finish_of e))
-    (skips e) (sum_by_push (λ x. cond (skips x) 1 0) events e)
+    ∙ skip_more p why (count_by skips events) (count_by skips (events ++ e ∷ []))
+    (filter_map finish_of events ++ option_to_list (finish_of e)) (skips e)
+    (sum_by_push (λ x. cond (skips x) 1 0) events e)
     ∙ ap (with_skip (skips e)) (finish_more p why (count_by skips events) (filter_map finish_of events) (finish_of e))
 
 -- before the first event

@@ -1,6 +1,19 @@
 // What came of each attempt of a unit, by its own turns.
 ghost use Rattle.std.specs.Prelude.{◌≡◌, ◌+◌, ◌<◌, ◌^◌, ◌∷◌, ◌++◌, [], length, if◌then◌else◌, IfOk};
-ghost use Rattle.run_model.specs.Attempts.{begins_attempt, end_of, ended_statuses, errors_of, exit_of, first_said, has_ended, moment_if, output_by, pieces, start_error_of, status_of};
+ghost use Rattle.run_model.specs.Attempts.{
+  begins_attempt,
+  end_of,
+  ended_statuses,
+  errors_of,
+  exit_of,
+  first_said,
+  has_ended,
+  moment_if,
+  output_by,
+  pieces,
+  start_error_of,
+  status_of,
+};
 
 use crate::OwnTurn;
 use crate::results::result_by;

@@ -71,7 +71,7 @@ fn started(alloc: Global, was_left: bool, statuses: &List<ExecuteStatus>) -> Mem
     ahead(alloc, News::Started, told)
 }
 
-// The account of a test's fate: all that is told of it.
+/// The account of a test's fate: all that is told of it.
 pub fn account(
     alloc: Global,
     mismatched: bool,
@@ -90,7 +90,8 @@ pub fn account(
     }
 }
 
-// Whether attempts meet their law, with so many retries: each but the last failed, and the last passed or no retry was left.
+/// Whether attempts meet their law, with so many retries: each but the last failed, and the last passed or no retry
+/// was left.
 pub fn meets_attempt_law(retries: u32, statuses: &[ExecuteStatus]) -> bool
     ensures { IsTrue result ↔ MeetsAttemptLaw retries statuses.now }
 {

@@ -14,4 +14,5 @@ loop-slot-preserved c =
     below_more _ _ c.loop-slot.invariant here
 
 pub returns : goal.returns
-returns c = free_slot_is c.args.units.now _ (omega arith) (λ k h. c.loop-slot.invariant k (omega arith)) (λ h. absurd (omega arith))
+returns c =
+    free_slot_is c.args.units.now _ (omega arith) (λ k h. c.loop-slot.invariant k (omega arith)) (λ h. absurd (omega arith))
