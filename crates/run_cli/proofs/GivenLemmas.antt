@@ -1,36 +1,36 @@
 -- What the words and the source give, and how the program ends by it.
 use Rattle.std.proofs.Common.{◌≡◌, ℕ, nat_lt, suc, ◌+◌, ◌^◌, ◌<◌, ◌≤◌, ◌==◌, ◌⊎◌, inl, inr, List, [], ◌∷◌, ◌++◌, length, reverse, Bool, true, false, if◌then◌else◌, Option, Some, None, option_and_then, Result, Ok, Err, refl, ap, sym, subst, ◌∙◌, arith, codes}
-use Rattle.run_capture.specs.Faults.{Rose}
 use Rattle.run_capture.specs.declared.test_output.CaptureStrategy.{CaptureStrategy}
+use Rattle.run_events.specs.Usual.{usual_plan}
 use Rattle.run_events.specs.declared.plan.Plan.{Plan}
 use Rattle.run_events.specs.declared.plan.PlanTest.{PlanTest}
 use Rattle.run_events.specs.declared.settings.Settings.{Settings}
 use Rattle.run_events.specs.declared.turn.Turn.{Turn}
 use Rattle.run_events.specs.declared.outcome.RunOutcome.{RunOutcome}
 use Rattle.run_events.specs.Outcome.{outcome_of, summary}
-use Rattle.run_model.specs.declared.entry.Entry.{Entry}
 use Rattle.run_model.specs.declared.happening.Happening.{Happening}
-use Rattle.run_model.specs.Words.{is_over, stats, tests_in}
-use Rattle.run_model.specs.Journal.{past_of, IsLegal, outcome}
-use Rattle.run_laws.proofs.FateLemmas.{fates}
-use Rattle.run_engine.specs.Builder.{settings_of, first_repeat, IsBuilt}
+use Rattle.run_model.specs.Words.{is_over, sub_run, stats}
+use Rattle.run_model.specs.Journal.{past_of, outcome}
+use Rattle.run_laws.specs.Course.{turns_of as journal_turns}
+use Rattle.run_laws.proofs.FateLemmas.{ended_fates, over_ended}
+use Rattle.run_engine.specs.Builder.{IsBuilt}
 use Rattle.run_engine.specs.declared.errors.TestRunnerBuildError.{TestRunnerBuildError}
 use Rattle.run_engine.specs.declared.errors.TestRunnerBuildError.TheVariants as build
-use Rattle.run_engine.specs.Execution.{turns_of as engine_turns}
 use Rattle.run_input.specs.Lines.{lines_of, at_front}
-use Rattle.run_input.specs.Input.{IsInput, turns_of, turn_line_of, plan_line_of}
+use Rattle.run_input.specs.Input.{IsInput, turns_of, turn_line_of}
 use Rattle.run_input.specs.PlanLine.{plan_of, capture_of, run_id_of, tests_of}
 use Rattle.run_input.specs.Fields.{when, is_object_of}
 use Rattle.run_input.specs.ValueOf.{value_of}
 use Rattle.serde_json.specs.Data.{Data}
 use Rattle.serde_json.specs.Find.{get}
 use Rattle.run_output.specs.declared.fault.Fault.{Fault}
-use Rattle.run_output.specs.declared.fault.Fault.TheVariants.{Words, Line, Plan as BadPlan, NotEnabled, Unfinished, Report, Read, Memory, TooLong}
-use Rattle.run_output.specs.Fields.{line_of}
-use Rattle.run_output.specs.Faults.{fault_text}
+use Rattle.run_output.specs.declared.fault.Fault.TheVariants.{Words, Line, Plan as BadPlan, NotEnabled, ThirdSignal, Unfinished, Report, Read, Memory, TooLong}
+use Rattle.run_cli.specs.Call.{Call, Reading, Writing, HasReadFault, Writes}
+use Rattle.run_cli.specs.Plans.{builder_of, settings_for, refusal_for, fault_of_plan}
+use Rattle.run_cli.specs.Text.{fault_only}
 use Rattle.run_cli.specs.Given.{IsReplay, IsGiven, IsGivenFault, CountsRead, CountsReadAtEnd}
-use Rattle.run_cli.specs.Ending.{Writes, Replays, IsWhole, IsEnding}
-use Rattle.run_cli.specs.Finish.{EndsAtFault, IsReplayEnding, IsInputEnding, fault_of_plan}
+use Rattle.run_cli.specs.Ending.{Replays, IsWhole, IsEnding}
+use Rattle.run_cli.specs.Finish.{EndsAtFault, IsReplayed, IsReplayEnding, IsInputEnding}
 
 -- no more lines than bytes
 front_length : (byte : ℕ) (lines : List (List ℕ)) (n : ℕ) → length lines ≤ n → length (at_front byte lines) ≤ n + 1
@@ -69,21 +69,23 @@ when_is false u e = cc
 -- the end of a plan line
 abbrev last_step : CaptureStrategy → List ℕ → List PlanTest → Option (CaptureStrategy × Plan)
 last_step capture run_id tests =
-    option_and_then (λ _. Some (capture, record { run_id = run_id; tests = tests })) (when (nat_lt (length tests) 4294967296))
+    option_and_then (λ _. Some (capture, usual_plan run_id tests)) (when (nat_lt (length tests) 4294967296))
 
 last_few : (capture other : CaptureStrategy) (run_id : List ℕ) (tests : List PlanTest) (plan : Plan)
-    → last_step capture run_id tests ≡ Some (other, plan) → length plan.tests < 2 ^ 32
+    → last_step capture run_id tests ≡ Some (other, plan) → length plan.scripts + length plan.tests < 2 ^ 32
 last_few capture other run_id tests plan e =
-    let last = then_some (when (nat_lt (length tests) 4294967296)) (λ _. Some (capture, record { run_id = run_id; tests = tests })) (other, plan) e in
-    let few : length tests < 2 ^ 32 = grind (arith, when_is (nat_lt (length tests) 4294967296) last.0 last.1) in
-    let made : Plan = record { run_id = run_id; tests = tests } in
+    let last = then_some (when (nat_lt (length tests) 4294967296)) (λ _. Some (capture, usual_plan run_id tests)) (other, plan) e in
+    let fewer : length tests < 2 ^ 32 = grind (arith, when_is (nat_lt (length tests) 4294967296) last.0 last.1) in
+    let few : 0 + length tests < 2 ^ 32 = omega arith in
+    let made : Plan = usual_plan run_id tests in
     let pair : CaptureStrategy × Plan = (capture, made) in
     let both : pair ≡ (other, plan) = cc last.2 in
     let same : made ≡ plan = ap (λ (q : CaptureStrategy × Plan). q.1) both in
-    subst (λ (p : Plan). length p.tests < 2 ^ 32) same few
+    subst (λ (p : Plan). length p.scripts + length p.tests < 2 ^ 32) same few
 
 -- a plan line has few tests
-few_tests : (d : Data) (capture : CaptureStrategy) (plan : Plan) → plan_of d ≡ Some (capture, plan) → length plan.tests < 2 ^ 32
+few_tests : (d : Data) (capture : CaptureStrategy) (plan : Plan) → plan_of d ≡ Some (capture, plan)
+    → length plan.scripts + length plan.tests < 2 ^ 32
 unfolding plan_of
 few_tests d capture plan e =
     let tests : Option (List PlanTest) = option_and_then tests_of (get (codes "tests") d) in
@@ -97,15 +99,16 @@ few_tests d capture plan e =
     last_few b.0 capture c.0 f.0 plan f.2
 
 -- an input has few tests and few turns
-pub given_few : (left left_after : Option (List ℕ)) (capture : CaptureStrategy) (plan : Plan) (turns : List Turn) → IsGiven left left_after capture plan turns
-    → (length plan.tests < 2 ^ 32) × (length turns < 2 ^ 32)
-given_few left left_after capture plan turns g = by_lines (lines_of g.bytes) refl g.says
+pub given_few : (r : Reading) (capture : CaptureStrategy) (plan : Plan) (turns : List Turn) → IsGiven r capture plan turns
+    → (length plan.scripts + length plan.tests < 2 ^ 32) × (length turns < 2 ^ 32)
+given_few r capture plan turns g = by_lines (lines_of g.bytes) refl g.says
   where
-    by_lines : (lines : List (List ℕ)) → lines_of g.bytes ≡ lines → IsInput lines capture plan turns → (length plan.tests < 2 ^ 32) × (length turns < 2 ^ 32)
+    by_lines : (lines : List (List ℕ)) → lines_of g.bytes ≡ lines → IsInput lines capture plan turns
+        → (length plan.scripts + length plan.tests < 2 ^ 32) × (length turns < 2 ^ 32)
     by_lines [] e i = absurd i
     by_lines (first ∷ others) e i =
         let read = then_some (value_of first) plan_of (capture, plan) i.0 in
-        let few : length plan.tests < 2 ^ 32 = few_tests read.0 capture plan read.2 in
+        let few : length plan.scripts + length plan.tests < 2 ^ 32 = few_tests read.0 capture plan read.2 in
         let many : length turns ≡ length others = turns_length others turns i.1 in
         let same : length (lines_of g.bytes) ≡ length (first ∷ others) = ap length e in
         (few, omega (arith, lines_length g.bytes, g.within))
@@ -117,122 +120,139 @@ over_is p past o e = by_end (is_over past) refl
     by_end : (b : Bool) → is_over past ≡ b → is_over past ≡ true
     by_end true h = h
     by_end false h =
-        let none : None ≡ Some o = sym (ap (λ b. if b then Some (outcome_of (summary (stats p past))) else None) h) ∙ e in cc
+        let none : None ≡ Some o = sym (ap (λ b. if b then Some (outcome_of (summary (stats p (sub_run past)))) else None) h) ∙ e in cc
 
 -- a run that took every turn and has an outcome is whole
-whole : (words : List (List ℕ)) (left left_after : Option (List ℕ)) (r : Replays words left left_after) (o : RunOutcome)
-    → engine_turns r.journal ≡ r.turns → outcome (settings_of r.capture r.plan) (past_of (settings_of r.capture r.plan) r.journal) ≡ Some o
-    → IsWhole r o
-whole words left left_after r o all e = record {
+whole : (c : Call) (r : Replays c) (o : RunOutcome) → journal_turns r.journal ≡ r.turns
+    → outcome (settings_for r.capture r.plan) (past_of (settings_for r.capture r.plan) r.journal) ≡ Some o → IsWhole r o
+whole c r o all e = record {
   all = all;
   over = e;
-  accounts = λ k below. fates (settings_of r.capture r.plan) (reverse r.journal) r.legal
-      (over_is (settings_of r.capture r.plan) (past_of (settings_of r.capture r.plan) r.journal) o e) k below;
+  accounts = ended_fates (settings_for r.capture r.plan) (reverse r.journal) r.legal;
+  ended = over_ended (settings_for r.capture r.plan) (reverse r.journal) r.legal
+      (over_is (settings_for r.capture r.plan) (past_of (settings_for r.capture r.plan) r.journal) o e);
+}
+
+-- the call whose input was good, with what its run has taken
+replays : (c : Call) (capture : CaptureStrategy) (plan : Plan) (turns : List Turn) → IsReplay c.words → IsGiven c.source capture plan turns
+    → refusal_for capture plan ≡ None → IsReplayed (settings_for capture plan) c.sink → Replays c
+replays c capture plan turns replay given accepted r = record {
+  replay = replay;
+  capture = capture;
+  plan = plan;
+  turns = turns;
+  given = given;
+  accepted = accepted;
+  journal = r.journal;
+  legal = r.legal;
+  tied = r.tied;
 }
 
 -- how a program ends whose input was good
-pub given_says : (words : List (List ℕ)) (left left_after t0 t1 : Option (List ℕ)) (f0 f1 : ℕ) (capture : CaptureStrategy) (plan : Plan) (turns : List Turn)
-    (ending : Result RunOutcome Fault) → IsReplay words → IsGiven left left_after capture plan turns
-    → IsInputEnding capture plan turns t0 t1 f0 f1 ending → IsEnding words left left_after t0 t1 f0 f1 ending
-given_says words left left_after t0 t1 f0 f1 capture plan turns (Ok o) replay given (accepted, h) =
-    let r : Replays words left left_after = record { replay = replay; capture = capture; plan = plan; turns = turns; given = given; accepted = accepted; journal = h.0; legal = h.1 } in
-    (r, whole words left left_after r o h.2 h.3, h.4, h.5)
-given_says words left left_after t0 t1 f0 f1 capture plan turns (Err Report) replay given (accepted, h) =
-    let r : Replays words left left_after = record { replay = replay; capture = capture; plan = plan; turns = turns; given = given; accepted = accepted; journal = h.0; legal = h.1 } in
-    (r, h.3.0, whole words left left_after r h.3.0 h.2 h.3.1, h.4)
-given_says words left left_after t0 t1 f0 f1 capture plan turns (Err (NotEnabled place)) replay given (accepted, h) = (
-  record { replay = replay; capture = capture; plan = plan; turns = turns; given = given; accepted = accepted; journal = h.0; legal = h.1 },
-  record { before = h.2; turn = h.3.0; at = h.3.1; refused = h.3.2 },
-  h.4,
+pub given_says : (c : Call) (capture : CaptureStrategy) (plan : Plan) (turns : List Turn) (ending : Result RunOutcome Fault)
+    → IsReplay c.words → IsGiven c.source capture plan turns → IsInputEnding capture plan turns c.sink ending → IsEnding c ending
+given_says c capture plan turns (Ok o) replay given (accepted, h) =
+    let r = replays c capture plan turns replay given accepted h.0 in
+    (r, whole c r o h.1 h.2, h.3, h.4)
+given_says c capture plan turns (Err Report) replay given (accepted, h) =
+    let r = replays c capture plan turns replay given accepted h.0 in
+    (r, h.2.0, whole c r h.2.0 h.1 h.2.1, h.3)
+given_says c capture plan turns (Err (NotEnabled place)) replay given (accepted, h) = (
+  replays c capture plan turns replay given accepted h.0,
+  record { before = h.1; turn = h.2.0; at = h.2.1; refused = h.2.2 },
+  h.3,
 )
-given_says words left left_after t0 t1 f0 f1 capture plan turns (Err Unfinished) replay given (accepted, h) = (
-  record { replay = replay; capture = capture; plan = plan; turns = turns; given = given; accepted = accepted; journal = h.0; legal = h.1 },
-  record { all = h.2; goes_on = h.3 },
-  h.4,
+given_says c capture plan turns (Err Unfinished) replay given (accepted, h) = (
+  replays c capture plan turns replay given accepted h.0,
+  record { all = h.1; goes_on = h.2 },
+  h.3,
 )
-given_says words left left_after t0 t1 f0 f1 capture plan turns (Err (BadPlan f)) replay given h =
+given_says c capture plan turns (Err (BadPlan f)) replay given h =
     (replay, record { capture = capture; plan = plan; turns = turns; given = given; refused = h.0 }, h.1)
-given_says words left left_after t0 t1 f0 f1 capture plan turns (Err Memory) replay given h = tt
-given_says words left left_after t0 t1 f0 f1 capture plan turns (Err Words) replay given h = absurd h.1
-given_says words left left_after t0 t1 f0 f1 capture plan turns (Err (Line n)) replay given h = absurd h.1
-given_says words left left_after t0 t1 f0 f1 capture plan turns (Err Read) replay given h = absurd h.1
-given_says words left left_after t0 t1 f0 f1 capture plan turns (Err TooLong) replay given h = absurd h.1
+given_says c capture plan turns (Err Memory) replay given h = tt
+given_says c capture plan turns (Err Words) replay given h = absurd h.1
+given_says c capture plan turns (Err (Line n)) replay given h = absurd h.1
+given_says c capture plan turns (Err Read) replay given h = absurd h.1
+given_says c capture plan turns (Err TooLong) replay given h = absurd h.1
+given_says c capture plan turns (Err (ThirdSignal n)) replay given h = absurd h.1
 
 -- the end of the turns of a plan that was accepted
-pub accepted_ends : (capture : CaptureStrategy) (plan : Plan) (turns : List Turn) (t0 t1 : Option (List ℕ)) (f0 f1 : ℕ) (ending : Result RunOutcome Fault)
-    → first_repeat plan.tests ≡ None → IsReplayEnding (settings_of capture plan) turns t0 t1 f0 f1 ending
-    → IsInputEnding capture plan turns t0 t1 f0 f1 ending
-accepted_ends capture plan turns t0 t1 f0 f1 (Ok o) accepted h = (accepted, h)
-accepted_ends capture plan turns t0 t1 f0 f1 (Err Report) accepted h = (accepted, h)
-accepted_ends capture plan turns t0 t1 f0 f1 (Err (NotEnabled place)) accepted h = (accepted, h)
-accepted_ends capture plan turns t0 t1 f0 f1 (Err Unfinished) accepted h = (accepted, h)
-accepted_ends capture plan turns t0 t1 f0 f1 (Err (BadPlan f)) accepted h = absurd h
-accepted_ends capture plan turns t0 t1 f0 f1 (Err Memory) accepted h = tt
-accepted_ends capture plan turns t0 t1 f0 f1 (Err Words) accepted h = absurd h
-accepted_ends capture plan turns t0 t1 f0 f1 (Err (Line n)) accepted h = absurd h
-accepted_ends capture plan turns t0 t1 f0 f1 (Err Read) accepted h = absurd h
-accepted_ends capture plan turns t0 t1 f0 f1 (Err TooLong) accepted h = absurd h
+pub accepted_ends : (capture : CaptureStrategy) (plan : Plan) (turns : List Turn) (w : Writing) (ending : Result RunOutcome Fault)
+    → refusal_for capture plan ≡ None → IsReplayEnding (settings_for capture plan) turns w ending
+    → IsInputEnding capture plan turns w ending
+accepted_ends capture plan turns w (Ok o) accepted h = (accepted, h)
+accepted_ends capture plan turns w (Err Report) accepted h = (accepted, h)
+accepted_ends capture plan turns w (Err (NotEnabled place)) accepted h = (accepted, h)
+accepted_ends capture plan turns w (Err Unfinished) accepted h = (accepted, h)
+accepted_ends capture plan turns w (Err (BadPlan f)) accepted h = absurd h
+accepted_ends capture plan turns w (Err Memory) accepted h = tt
+accepted_ends capture plan turns w (Err Words) accepted h = absurd h
+accepted_ends capture plan turns w (Err (Line n)) accepted h = absurd h
+accepted_ends capture plan turns w (Err Read) accepted h = absurd h
+accepted_ends capture plan turns w (Err TooLong) accepted h = absurd h
+accepted_ends capture plan turns w (Err (ThirdSignal n)) accepted h = absurd h
 
 -- the end of a plan that is refused
-refusal_ends : (capture : CaptureStrategy) (plan : Plan) (turns : List Turn) (t0 t1 : Option (List ℕ)) (f0 f1 : ℕ) (error : TestRunnerBuildError)
-    → IsBuilt capture plan (Err error) → Writes t0 t1 f0 f1 (line_of (fault_text (fault_of_plan error)))
-    → IsInputEnding capture plan turns t0 t1 f0 f1 (Err (fault_of_plan error))
-refusal_ends capture plan turns t0 t1 f0 f1 (build.DuplicateTest k) h w = (h, w)
-refusal_ends capture plan turns t0 t1 f0 f1 build.OutOfMemory h w = tt
+refusal_ends : (capture : CaptureStrategy) (plan : Plan) (turns : List Turn) (w : Writing) (error : TestRunnerBuildError)
+    → IsBuilt (builder_of capture) plan (Err error) → Writes w (fault_only (fault_of_plan error))
+    → IsInputEnding capture plan turns w (Err (fault_of_plan error))
+refusal_ends capture plan turns w (build.DuplicateTest k) h writes = ((build.DuplicateTest k, h, refl), writes)
+refusal_ends capture plan turns w build.OutOfMemory h writes = tt
 
-pub refused_plan : (capture : CaptureStrategy) (plan : Plan) (turns : List Turn) (t0 t1 : Option (List ℕ)) (f0 f1 : ℕ) (error : TestRunnerBuildError)
-    (ending : Result RunOutcome Fault) → IsBuilt capture plan (Err error) → EndsAtFault t0 t1 f0 f1 [] (fault_of_plan error) ending
-    → IsInputEnding capture plan turns t0 t1 f0 f1 ending
-refused_plan capture plan turns t0 t1 f0 f1 error (Ok o) b e = absurd e
-refused_plan capture plan turns t0 t1 f0 f1 error (Err d) b (inl m) = subst (λ f. IsInputEnding capture plan turns t0 t1 f0 f1 (Err f)) (sym m) tt
-refused_plan capture plan turns t0 t1 f0 f1 error (Err d) b (inr w) =
-    subst (λ f. IsInputEnding capture plan turns t0 t1 f0 f1 (Err f)) (sym w.0) (refusal_ends capture plan turns t0 t1 f0 f1 error b w.2)
+pub refused_plan : (capture : CaptureStrategy) (plan : Plan) (turns : List Turn) (w : Writing) (error : TestRunnerBuildError)
+    (ending : Result RunOutcome Fault) → IsBuilt (builder_of capture) plan (Err error) → EndsAtFault w [] (fault_of_plan error) ending
+    → IsInputEnding capture plan turns w ending
+refused_plan capture plan turns w error (Ok o) b e = absurd e
+refused_plan capture plan turns w error (Err d) b (inl m) = subst (λ f. IsInputEnding capture plan turns w (Err f)) (sym m) tt
+refused_plan capture plan turns w error (Err d) b (inr h) =
+    subst (λ f. IsInputEnding capture plan turns w (Err f)) (sym h.0) (refusal_ends capture plan turns w error b h.2)
 
 -- how a program ends whose words or input were not
-fault_says : (words : List (List ℕ)) (left left_after t0 t1 : Option (List ℕ)) (f0 f1 : ℕ) (fault : Fault)
-    → IsGivenFault words left left_after fault → Writes t0 t1 f0 f1 (line_of (fault_text fault)) → IsEnding words left left_after t0 t1 f0 f1 (Err fault)
-fault_says words left left_after t0 t1 f0 f1 Words h w = (h, w)
-fault_says words left left_after t0 t1 f0 f1 Read h w = (h, w)
-fault_says words left left_after t0 t1 f0 f1 TooLong h w = (h.0, h.1, w)
-fault_says words left left_after t0 t1 f0 f1 (Line n) h w = (h.0, h.1, w)
-fault_says words left left_after t0 t1 f0 f1 (BadPlan f) h w = absurd h
-fault_says words left left_after t0 t1 f0 f1 Memory h w = tt
-fault_says words left left_after t0 t1 f0 f1 (NotEnabled n) h w = absurd h
-fault_says words left left_after t0 t1 f0 f1 Unfinished h w = absurd h
-fault_says words left left_after t0 t1 f0 f1 Report h w = absurd h
+fault_says : (c : Call) (fault : Fault) → IsGivenFault c.words c.source fault → Writes c.sink (fault_only fault) → IsEnding c (Err fault)
+fault_says c Words h w = (h, w)
+fault_says c Read h w = (h.0, h.1, w)
+fault_says c TooLong h w = (h.0, h.1, w)
+fault_says c (Line n) h w = (h.0, h.1, w)
+fault_says c (BadPlan f) h w = absurd h
+fault_says c Memory h w = tt
+fault_says c (NotEnabled n) h w = absurd h
+fault_says c (ThirdSignal n) h w = absurd h
+fault_says c Unfinished h w = absurd h
+fault_says c Report h w = absurd h
 
-pub refused_says : (words : List (List ℕ)) (left left_after t0 t1 : Option (List ℕ)) (f0 f1 : ℕ) (fault : Fault) (ending : Result RunOutcome Fault)
-    → IsGivenFault words left left_after fault → EndsAtFault t0 t1 f0 f1 [] fault ending → IsEnding words left left_after t0 t1 f0 f1 ending
-refused_says words left left_after t0 t1 f0 f1 fault (Ok o) h e = absurd e
-refused_says words left left_after t0 t1 f0 f1 fault (Err d) h (inl m) = subst (λ f. IsEnding words left left_after t0 t1 f0 f1 (Err f)) (sym m) tt
-refused_says words left left_after t0 t1 f0 f1 fault (Err d) h (inr w) =
-    subst (λ f. IsEnding words left left_after t0 t1 f0 f1 (Err f)) (sym w.0) (fault_says words left left_after t0 t1 f0 f1 fault h w.2)
+pub refused_says : (c : Call) (fault : Fault) (ending : Result RunOutcome Fault) → IsGivenFault c.words c.source fault
+    → EndsAtFault c.sink [] fault ending → IsEnding c ending
+refused_says c fault (Ok o) h e = absurd e
+refused_says c fault (Err d) h (inl m) = subst (λ f. IsEnding c (Err f)) (sym m) tt
+refused_says c fault (Err d) h (inr w) = subst (λ f. IsEnding c (Err f)) (sym w.0) (fault_says c fault h w.2)
 
 -- the source's count at the end, where the words or the input were not good
-fault_counts : (a b : ℕ) (fault : Fault) → CountsRead {T = RunOutcome} a b (Err fault) → CountsReadAtEnd {T = RunOutcome} a b (Err fault)
-fault_counts a b Words h = h
-fault_counts a b Read h = h.1
-fault_counts a b TooLong h = h
-fault_counts a b (Line n) h = h
-fault_counts a b (BadPlan f) h = h
-fault_counts a b Memory h = omega arith
-fault_counts a b (NotEnabled n) h = h
-fault_counts a b Unfinished h = h
-fault_counts a b Report h = h
+fault_counts : (r : Reading) (fault : Fault) → CountsRead {T = RunOutcome} r (Err fault) → CountsReadAtEnd {T = RunOutcome} r (Err fault)
+fault_counts r Words h = h
+fault_counts r Read h = h.1
+fault_counts r TooLong h = h
+fault_counts r (Line n) h = h
+fault_counts r (BadPlan f) h = h
+fault_counts r Memory h = omega arith
+fault_counts r (NotEnabled n) h = h
+fault_counts r (ThirdSignal n) h = h
+fault_counts r Unfinished h = h
+fault_counts r Report h = h
 
-fault_later : (a b : ℕ) (fault : Fault) → CountsRead {T = RunOutcome} a b (Err fault) → a ≤ b
-fault_later a b Words h = omega arith
-fault_later a b Read h = h.0
-fault_later a b TooLong h = omega arith
-fault_later a b (Line n) h = omega arith
-fault_later a b (BadPlan f) h = omega arith
-fault_later a b Memory h = omega arith
-fault_later a b (NotEnabled n) h = omega arith
-fault_later a b Unfinished h = omega arith
-fault_later a b Report h = omega arith
+fault_later : (r : Reading) (fault : Fault) → CountsRead {T = RunOutcome} r (Err fault) → r.faults ≤ r.faults_after
+fault_later r Words h = omega arith
+fault_later r Read h = h.0
+fault_later r TooLong h = omega arith
+fault_later r (Line n) h = omega arith
+fault_later r (BadPlan f) h = omega arith
+fault_later r Memory h = omega arith
+fault_later r (NotEnabled n) h = omega arith
+fault_later r (ThirdSignal n) h = omega arith
+fault_later r Unfinished h = omega arith
+fault_later r Report h = omega arith
 
-pub refused_counts : (a b : ℕ) (t0 t1 : Option (List ℕ)) (f0 f1 : ℕ) (fault : Fault) (ending : Result RunOutcome Fault)
-    → CountsRead {T = RunOutcome} a b (Err fault) → EndsAtFault t0 t1 f0 f1 [] fault ending → CountsReadAtEnd a b ending
-refused_counts a b t0 t1 f0 f1 fault (Ok o) h e = absurd e
-refused_counts a b t0 t1 f0 f1 fault (Err d) h (inl m) = subst (λ f. CountsReadAtEnd {T = RunOutcome} a b (Err f)) (sym m) (fault_later a b fault h)
-refused_counts a b t0 t1 f0 f1 fault (Err d) h (inr w) = subst (λ f. CountsReadAtEnd {T = RunOutcome} a b (Err f)) (sym w.0) (fault_counts a b fault h)
+pub refused_counts : (r : Reading) (w : Writing) (fault : Fault) (ending : Result RunOutcome Fault)
+    → CountsRead {T = RunOutcome} r (Err fault) → EndsAtFault w [] fault ending → CountsReadAtEnd r ending
+refused_counts r w fault (Ok o) h e = absurd e
+refused_counts r w fault (Err d) h (inl m) = subst (λ f. CountsReadAtEnd {T = RunOutcome} r (Err f)) (sym m) (fault_later r fault h)
+refused_counts r w fault (Err d) h (inr e) = subst (λ f. CountsReadAtEnd {T = RunOutcome} r (Err f)) (sym e.0) (fault_counts r fault h)

@@ -1,16 +1,16 @@
 -- What each status says, by how the program ended.
 use Rattle.std.proofs.Common.{◌≡◌, ℕ, ◌<◌, ◌≤◌, ◌==◌, ◌⊎◌, inl, inr, List, [], ◌∷◌, Bool, true, false, Option, Result, Ok, Err, refl, ap, sym, subst, ◌∙◌, arith}
-use Rattle.run_capture.specs.Bytes.{Takes}
-use Rattle.run_capture.specs.Faults.{Rose}
 use Rattle.run_events.specs.declared.outcome.RunOutcome.{RunOutcome}
 use Rattle.run_events.specs.declared.outcome.RunOutcome.TheVariants as outcomes
 use Rattle.run_events.specs.declared.outcome.RunStep.TheVariants as steps
 use Rattle.run_output.specs.declared.fault.Fault.{Fault}
-use Rattle.run_output.specs.declared.fault.Fault.TheVariants.{Words, Line, Plan as BadPlan, NotEnabled, Unfinished, Report, Read, Memory, TooLong}
-use Rattle.run_cli.specs.Text.{history_text, outcome_status, status_of}
-use Rattle.run_cli.specs.Given.{IsReplay, IsTooLong, HasBadLine, CountsReadAtEnd}
-use Rattle.run_cli.specs.Ending.{Writes, Replays, IsWhole, StopsBefore, IsUnfinished, IsEnding, history_in}
-use Rattle.run_cli.specs.Status.{IsOutcomeStatus, is_status, Headline, SaysBadLine, SaysBadPlan, SaysNotEnabled, SaysUnfinished, SaysReport}
+use Rattle.run_output.specs.declared.fault.Fault.TheVariants.{Words, Line, Plan as BadPlan, NotEnabled, ThirdSignal, Unfinished, Report, Read, Memory, TooLong}
+use Rattle.run_cli.specs.Call.{Call, Reading, HasReadFault, Writes}
+use Rattle.run_cli.specs.Text.{fault_only, outcome_status, status_of}
+use Rattle.run_cli.specs.Given.{IsReplay, IsTooLong, IsWithin, CountsReadAtEnd}
+use Rattle.run_cli.specs.Ending.{IsEnding}
+use Rattle.run_cli.specs.Status.{IsOutcomeStatus, is_status, Headline, SaysBadLine, SaysBadPlan, SaysNotEnabled, SaysUnfinished, SaysReport, Answers}
+use Rattle.run_cli.proofs.CauseLemmas.{unread_gets, too_much_gets, bad_line_gets, course_gets}
 
 -- an outcome's status is one
 pub outcome_is : (o : RunOutcome) → IsOutcomeStatus (outcome_status o)
@@ -38,187 +38,223 @@ no_outcome_above n (inr (inr (inl a))) low high = omega arith
 no_outcome_above n (inr (inr (inr a))) low high = omega arith
 
 -- every status is one of those known
-pub status_known : (ending : Result RunOutcome Fault) → is_status (status_of ending) ≡ true
-status_known (Ok outcomes.Success) = refl
-status_known (Ok outcomes.NoTestsRun) = refl
-status_known (Ok (outcomes.Failed steps.Test)) = refl
-status_known (Ok (outcomes.Failed steps.SetupScript)) = refl
-status_known (Ok (outcomes.Cancelled steps.Test)) = refl
-status_known (Ok (outcomes.Cancelled steps.SetupScript)) = refl
-status_known (Err Words) = refl
-status_known (Err (Line n)) = refl
-status_known (Err (BadPlan f)) = refl
-status_known (Err (NotEnabled n)) = refl
-status_known (Err Unfinished) = refl
-status_known (Err Report) = refl
-status_known (Err Read) = refl
-status_known (Err Memory) = refl
-status_known (Err TooLong) = refl
+pub status_known : (c : Call) (ending : Result RunOutcome Fault) → IsEnding c ending → is_status (status_of ending) ≡ true
+status_known c (Ok outcomes.Success) h = refl
+status_known c (Ok outcomes.NoTestsRun) h = refl
+status_known c (Ok (outcomes.Failed steps.Test)) h = refl
+status_known c (Ok (outcomes.Failed steps.SetupScript)) h = refl
+status_known c (Ok (outcomes.Cancelled steps.Test)) h = refl
+status_known c (Ok (outcomes.Cancelled steps.SetupScript)) h = refl
+status_known c (Err Words) h = refl
+status_known c (Err (Line n)) h = refl
+status_known c (Err (BadPlan f)) h = refl
+status_known c (Err (NotEnabled n)) h = refl
+status_known c (Err Unfinished) h = refl
+status_known c (Err Report) h = refl
+status_known c (Err Read) h = refl
+status_known c (Err Memory) h = refl
+status_known c (Err TooLong) h = refl
+status_known c (Err (ThirdSignal n)) h = absurd h
 
 -- an outcome's status comes from an outcome
-pub headline_says : (words : List (List ℕ)) (left left_after t0 t1 : Option (List ℕ)) (f0 f1 : ℕ) (ending : Result RunOutcome Fault)
-    → IsEnding words left left_after t0 t1 f0 f1 ending → IsOutcomeStatus (status_of ending)
-    → Headline words left left_after t0 t1 (status_of ending) × (f1 ≡ f0)
-headline_says words left left_after t0 t1 f0 f1 (Ok o) h s =
+pub headline_says : (c : Call) (ending : Result RunOutcome Fault)
+    → IsEnding c ending → IsOutcomeStatus (status_of ending)
+    → Headline c (status_of ending) × (c.sink.faults_after ≡ c.sink.faults)
+headline_says c (Ok o) h s =
     (record { run = h.0; outcome = o; whole = h.1; written = h.2; status_is = refl }, h.3)
-headline_says words left left_after t0 t1 f0 f1 (Err Words) h s = absurd (no_outcome 2 s (omega arith) (omega arith))
-headline_says words left left_after t0 t1 f0 f1 (Err (Line n)) h s = absurd (no_outcome 3 s (omega arith) (omega arith))
-headline_says words left left_after t0 t1 f0 f1 (Err (BadPlan f)) h s = absurd (no_outcome_above 5 s (omega arith) (omega arith))
-headline_says words left left_after t0 t1 f0 f1 (Err (NotEnabled n)) h s = absurd (no_outcome_above 6 s (omega arith) (omega arith))
-headline_says words left left_after t0 t1 f0 f1 (Err Unfinished) h s = absurd (no_outcome_above 8 s (omega arith) (omega arith))
-headline_says words left left_after t0 t1 f0 f1 (Err Report) h s = absurd (no_outcome_above 9 s (omega arith) (omega arith))
-headline_says words left left_after t0 t1 f0 f1 (Err Read) h s = absurd (no_outcome_above 10 s (omega arith) (omega arith))
-headline_says words left left_after t0 t1 f0 f1 (Err Memory) h s = absurd (no_outcome_above 11 s (omega arith) (omega arith))
-headline_says words left left_after t0 t1 f0 f1 (Err TooLong) h s = absurd (no_outcome_above 12 s (omega arith) (omega arith))
+headline_says c (Err Words) h s = absurd (no_outcome 2 s (omega arith) (omega arith))
+headline_says c (Err (Line n)) h s = absurd (no_outcome 3 s (omega arith) (omega arith))
+headline_says c (Err (BadPlan f)) h s = absurd (no_outcome_above 5 s (omega arith) (omega arith))
+headline_says c (Err (NotEnabled n)) h s = absurd (no_outcome_above 6 s (omega arith) (omega arith))
+headline_says c (Err Unfinished) h s = absurd (no_outcome_above 8 s (omega arith) (omega arith))
+headline_says c (Err Report) h s = absurd (no_outcome_above 9 s (omega arith) (omega arith))
+headline_says c (Err Read) h s = absurd (no_outcome_above 10 s (omega arith) (omega arith))
+headline_says c (Err Memory) h s = absurd (no_outcome_above 11 s (omega arith) (omega arith))
+headline_says c (Err TooLong) h s = absurd (no_outcome_above 12 s (omega arith) (omega arith))
+headline_says c (Err (ThirdSignal n)) h s = absurd h
 
 -- 2: the words
-pub words_say : (words : List (List ℕ)) (left left_after t0 t1 : Option (List ℕ)) (f0 f1 : ℕ) (ending : Result RunOutcome Fault)
-    → IsEnding words left left_after t0 t1 f0 f1 ending → status_of ending ≡ 2 → ¬ IsReplay words
-words_say words left left_after t0 t1 f0 f1 (Ok o) h s = absurd (no_outcome 2 (apart _ 2 (outcome_is o) s) (omega arith) (omega arith))
-words_say words left left_after t0 t1 f0 f1 (Err Words) h s = h.0
-words_say words left left_after t0 t1 f0 f1 (Err (Line n)) h s = absurd (omega arith)
-words_say words left left_after t0 t1 f0 f1 (Err (BadPlan f)) h s = absurd (omega arith)
-words_say words left left_after t0 t1 f0 f1 (Err (NotEnabled n)) h s = absurd (omega arith)
-words_say words left left_after t0 t1 f0 f1 (Err Unfinished) h s = absurd (omega arith)
-words_say words left left_after t0 t1 f0 f1 (Err Report) h s = absurd (omega arith)
-words_say words left left_after t0 t1 f0 f1 (Err Read) h s = absurd (omega arith)
-words_say words left left_after t0 t1 f0 f1 (Err Memory) h s = absurd (omega arith)
-words_say words left left_after t0 t1 f0 f1 (Err TooLong) h s = absurd (omega arith)
+pub words_say : (c : Call) (ending : Result RunOutcome Fault)
+    → IsEnding c ending → status_of ending ≡ 2 → (¬ IsReplay c.words) × Writes c.sink (fault_only Words)
+words_say c (Ok o) h s = absurd (no_outcome 2 (apart _ 2 (outcome_is o) s) (omega arith) (omega arith))
+words_say c (Err Words) h s = h
+words_say c (Err (Line n)) h s = absurd (omega arith)
+words_say c (Err (BadPlan f)) h s = absurd (omega arith)
+words_say c (Err (NotEnabled n)) h s = absurd (omega arith)
+words_say c (Err Unfinished) h s = absurd (omega arith)
+words_say c (Err Report) h s = absurd (omega arith)
+words_say c (Err Read) h s = absurd (omega arith)
+words_say c (Err Memory) h s = absurd (omega arith)
+words_say c (Err TooLong) h s = absurd (omega arith)
+words_say c (Err (ThirdSignal n)) h s = absurd h
 
 -- and other words give no other status but that of wanting memory
-pub no_words : (words : List (List ℕ)) (left left_after t0 t1 : Option (List ℕ)) (f0 f1 : ℕ) (ending : Result RunOutcome Fault)
-    → IsEnding words left left_after t0 t1 f0 f1 ending → ¬ IsReplay words → (status_of ending ≡ 2) ⊎ (status_of ending ≡ 11)
-no_words words left left_after t0 t1 f0 f1 (Ok o) h bad = absurd (bad h.0.replay)
-no_words words left left_after t0 t1 f0 f1 (Err Words) h bad = inl refl
-no_words words left left_after t0 t1 f0 f1 (Err (Line n)) h bad = absurd (bad h.0)
-no_words words left left_after t0 t1 f0 f1 (Err (BadPlan f)) h bad = absurd (bad h.0)
-no_words words left left_after t0 t1 f0 f1 (Err (NotEnabled n)) h bad = absurd (bad h.0.replay)
-no_words words left left_after t0 t1 f0 f1 (Err Unfinished) h bad = absurd (bad h.0.replay)
-no_words words left left_after t0 t1 f0 f1 (Err Report) h bad = absurd (bad h.0.replay)
-no_words words left left_after t0 t1 f0 f1 (Err Read) h bad = absurd (bad h.0)
-no_words words left left_after t0 t1 f0 f1 (Err Memory) h bad = inr refl
-no_words words left left_after t0 t1 f0 f1 (Err TooLong) h bad = absurd (bad h.0)
+pub no_words : (c : Call) (ending : Result RunOutcome Fault)
+    → IsEnding c ending → ¬ IsReplay c.words → (status_of ending ≡ 2) ⊎ (status_of ending ≡ 11)
+no_words c (Ok o) h bad = absurd (bad h.0.replay)
+no_words c (Err Words) h bad = inl refl
+no_words c (Err (Line n)) h bad = absurd (bad h.0)
+no_words c (Err (BadPlan f)) h bad = absurd (bad h.0)
+no_words c (Err (NotEnabled n)) h bad = absurd (bad h.0.replay)
+no_words c (Err Unfinished) h bad = absurd (bad h.0.replay)
+no_words c (Err Report) h bad = absurd (bad h.0.replay)
+no_words c (Err Read) h bad = absurd (bad h.0)
+no_words c (Err Memory) h bad = inr refl
+no_words c (Err TooLong) h bad = absurd (bad h.0)
+no_words c (Err (ThirdSignal n)) h bad = absurd h
 
 -- 3: a bad line
-pub line_says : (words : List (List ℕ)) (left left_after t0 t1 : Option (List ℕ)) (f0 f1 : ℕ) (ending : Result RunOutcome Fault)
-    → IsEnding words left left_after t0 t1 f0 f1 ending → status_of ending ≡ 3 → SaysBadLine words left left_after t0 t1 f0 f1
-line_says words left left_after t0 t1 f0 f1 (Ok o) h s = absurd (no_outcome 3 (apart _ 3 (outcome_is o) s) (omega arith) (omega arith))
-line_says words left left_after t0 t1 f0 f1 (Err Words) h s = absurd (omega arith)
-line_says words left left_after t0 t1 f0 f1 (Err (Line n)) h s = (h.0, (n, h.1, h.2))
-line_says words left left_after t0 t1 f0 f1 (Err (BadPlan f)) h s = absurd (omega arith)
-line_says words left left_after t0 t1 f0 f1 (Err (NotEnabled n)) h s = absurd (omega arith)
-line_says words left left_after t0 t1 f0 f1 (Err Unfinished) h s = absurd (omega arith)
-line_says words left left_after t0 t1 f0 f1 (Err Report) h s = absurd (omega arith)
-line_says words left left_after t0 t1 f0 f1 (Err Read) h s = absurd (omega arith)
-line_says words left left_after t0 t1 f0 f1 (Err Memory) h s = absurd (omega arith)
-line_says words left left_after t0 t1 f0 f1 (Err TooLong) h s = absurd (omega arith)
+pub line_says : (c : Call) (ending : Result RunOutcome Fault)
+    → IsEnding c ending → status_of ending ≡ 3 → SaysBadLine c
+line_says c (Ok o) h s = absurd (no_outcome 3 (apart _ 3 (outcome_is o) s) (omega arith) (omega arith))
+line_says c (Err Words) h s = absurd (omega arith)
+line_says c (Err (Line n)) h s = (h.0, (n, h.1, h.2))
+line_says c (Err (BadPlan f)) h s = absurd (omega arith)
+line_says c (Err (NotEnabled n)) h s = absurd (omega arith)
+line_says c (Err Unfinished) h s = absurd (omega arith)
+line_says c (Err Report) h s = absurd (omega arith)
+line_says c (Err Read) h s = absurd (omega arith)
+line_says c (Err Memory) h s = absurd (omega arith)
+line_says c (Err TooLong) h s = absurd (omega arith)
+line_says c (Err (ThirdSignal n)) h s = absurd h
 
 -- 5: a plan that is refused
-pub plan_says : (words : List (List ℕ)) (left left_after t0 t1 : Option (List ℕ)) (f0 f1 : ℕ) (ending : Result RunOutcome Fault)
-    → IsEnding words left left_after t0 t1 f0 f1 ending → status_of ending ≡ 5 → SaysBadPlan words left left_after t0 t1 f0 f1
-plan_says words left left_after t0 t1 f0 f1 (Ok o) h s = absurd (no_outcome_above 5 (apart _ 5 (outcome_is o) s) (omega arith) (omega arith))
-plan_says words left left_after t0 t1 f0 f1 (Err Words) h s = absurd (omega arith)
-plan_says words left left_after t0 t1 f0 f1 (Err (Line n)) h s = absurd (omega arith)
-plan_says words left left_after t0 t1 f0 f1 (Err (BadPlan f)) h s = (h.0, (f, h.1, h.2))
-plan_says words left left_after t0 t1 f0 f1 (Err (NotEnabled n)) h s = absurd (omega arith)
-plan_says words left left_after t0 t1 f0 f1 (Err Unfinished) h s = absurd (omega arith)
-plan_says words left left_after t0 t1 f0 f1 (Err Report) h s = absurd (omega arith)
-plan_says words left left_after t0 t1 f0 f1 (Err Read) h s = absurd (omega arith)
-plan_says words left left_after t0 t1 f0 f1 (Err Memory) h s = absurd (omega arith)
-plan_says words left left_after t0 t1 f0 f1 (Err TooLong) h s = absurd (omega arith)
+pub plan_says : (c : Call) (ending : Result RunOutcome Fault)
+    → IsEnding c ending → status_of ending ≡ 5 → SaysBadPlan c
+plan_says c (Ok o) h s = absurd (no_outcome_above 5 (apart _ 5 (outcome_is o) s) (omega arith) (omega arith))
+plan_says c (Err Words) h s = absurd (omega arith)
+plan_says c (Err (Line n)) h s = absurd (omega arith)
+plan_says c (Err (BadPlan f)) h s = (h.0, (f, h.1, h.2))
+plan_says c (Err (NotEnabled n)) h s = absurd (omega arith)
+plan_says c (Err Unfinished) h s = absurd (omega arith)
+plan_says c (Err Report) h s = absurd (omega arith)
+plan_says c (Err Read) h s = absurd (omega arith)
+plan_says c (Err Memory) h s = absurd (omega arith)
+plan_says c (Err TooLong) h s = absurd (omega arith)
+plan_says c (Err (ThirdSignal n)) h s = absurd h
 
 -- 6: a turn that isn't enabled
-pub not_enabled_says : (words : List (List ℕ)) (left left_after t0 t1 : Option (List ℕ)) (f0 f1 : ℕ) (ending : Result RunOutcome Fault)
-    → IsEnding words left left_after t0 t1 f0 f1 ending → status_of ending ≡ 6 → SaysNotEnabled words left left_after t0 t1 f0 f1
-not_enabled_says words left left_after t0 t1 f0 f1 (Ok o) h s = absurd (no_outcome_above 6 (apart _ 6 (outcome_is o) s) (omega arith) (omega arith))
-not_enabled_says words left left_after t0 t1 f0 f1 (Err Words) h s = absurd (omega arith)
-not_enabled_says words left left_after t0 t1 f0 f1 (Err (Line n)) h s = absurd (omega arith)
-not_enabled_says words left left_after t0 t1 f0 f1 (Err (BadPlan f)) h s = absurd (omega arith)
-not_enabled_says words left left_after t0 t1 f0 f1 (Err (NotEnabled n)) h s = (n, h.0, h.1, h.2)
-not_enabled_says words left left_after t0 t1 f0 f1 (Err Unfinished) h s = absurd (omega arith)
-not_enabled_says words left left_after t0 t1 f0 f1 (Err Report) h s = absurd (omega arith)
-not_enabled_says words left left_after t0 t1 f0 f1 (Err Read) h s = absurd (omega arith)
-not_enabled_says words left left_after t0 t1 f0 f1 (Err Memory) h s = absurd (omega arith)
-not_enabled_says words left left_after t0 t1 f0 f1 (Err TooLong) h s = absurd (omega arith)
+pub not_enabled_says : (c : Call) (ending : Result RunOutcome Fault)
+    → IsEnding c ending → status_of ending ≡ 6 → SaysNotEnabled c
+not_enabled_says c (Ok o) h s = absurd (no_outcome_above 6 (apart _ 6 (outcome_is o) s) (omega arith) (omega arith))
+not_enabled_says c (Err Words) h s = absurd (omega arith)
+not_enabled_says c (Err (Line n)) h s = absurd (omega arith)
+not_enabled_says c (Err (BadPlan f)) h s = absurd (omega arith)
+not_enabled_says c (Err (NotEnabled n)) h s = (n, h.0, h.1, h.2)
+not_enabled_says c (Err Unfinished) h s = absurd (omega arith)
+not_enabled_says c (Err Report) h s = absurd (omega arith)
+not_enabled_says c (Err Read) h s = absurd (omega arith)
+not_enabled_says c (Err Memory) h s = absurd (omega arith)
+not_enabled_says c (Err TooLong) h s = absurd (omega arith)
+not_enabled_says c (Err (ThirdSignal n)) h s = absurd h
 
 -- 8: a run that isn't over
-pub unfinished_says : (words : List (List ℕ)) (left left_after t0 t1 : Option (List ℕ)) (f0 f1 : ℕ) (ending : Result RunOutcome Fault)
-    → IsEnding words left left_after t0 t1 f0 f1 ending → status_of ending ≡ 8 → SaysUnfinished words left left_after t0 t1 f0 f1
-unfinished_says words left left_after t0 t1 f0 f1 (Ok o) h s = absurd (no_outcome_above 8 (apart _ 8 (outcome_is o) s) (omega arith) (omega arith))
-unfinished_says words left left_after t0 t1 f0 f1 (Err Words) h s = absurd (omega arith)
-unfinished_says words left left_after t0 t1 f0 f1 (Err (Line n)) h s = absurd (omega arith)
-unfinished_says words left left_after t0 t1 f0 f1 (Err (BadPlan f)) h s = absurd (omega arith)
-unfinished_says words left left_after t0 t1 f0 f1 (Err (NotEnabled n)) h s = absurd (omega arith)
-unfinished_says words left left_after t0 t1 f0 f1 (Err Unfinished) h s = h
-unfinished_says words left left_after t0 t1 f0 f1 (Err Report) h s = absurd (omega arith)
-unfinished_says words left left_after t0 t1 f0 f1 (Err Read) h s = absurd (omega arith)
-unfinished_says words left left_after t0 t1 f0 f1 (Err Memory) h s = absurd (omega arith)
-unfinished_says words left left_after t0 t1 f0 f1 (Err TooLong) h s = absurd (omega arith)
+pub unfinished_says : (c : Call) (ending : Result RunOutcome Fault)
+    → IsEnding c ending → status_of ending ≡ 8 → SaysUnfinished c
+unfinished_says c (Ok o) h s = absurd (no_outcome_above 8 (apart _ 8 (outcome_is o) s) (omega arith) (omega arith))
+unfinished_says c (Err Words) h s = absurd (omega arith)
+unfinished_says c (Err (Line n)) h s = absurd (omega arith)
+unfinished_says c (Err (BadPlan f)) h s = absurd (omega arith)
+unfinished_says c (Err (NotEnabled n)) h s = absurd (omega arith)
+unfinished_says c (Err Unfinished) h s = h
+unfinished_says c (Err Report) h s = absurd (omega arith)
+unfinished_says c (Err Read) h s = absurd (omega arith)
+unfinished_says c (Err Memory) h s = absurd (omega arith)
+unfinished_says c (Err TooLong) h s = absurd (omega arith)
+unfinished_says c (Err (ThirdSignal n)) h s = absurd h
 
 -- 9: a sink that failed
-pub report_says : (words : List (List ℕ)) (left left_after t0 t1 : Option (List ℕ)) (f0 f1 : ℕ) (ending : Result RunOutcome Fault)
-    → IsEnding words left left_after t0 t1 f0 f1 ending → status_of ending ≡ 9 → SaysReport words left left_after f0 f1
-report_says words left left_after t0 t1 f0 f1 (Ok o) h s = absurd (no_outcome_above 9 (apart _ 9 (outcome_is o) s) (omega arith) (omega arith))
-report_says words left left_after t0 t1 f0 f1 (Err Words) h s = absurd (omega arith)
-report_says words left left_after t0 t1 f0 f1 (Err (Line n)) h s = absurd (omega arith)
-report_says words left left_after t0 t1 f0 f1 (Err (BadPlan f)) h s = absurd (omega arith)
-report_says words left left_after t0 t1 f0 f1 (Err (NotEnabled n)) h s = absurd (omega arith)
-report_says words left left_after t0 t1 f0 f1 (Err Unfinished) h s = absurd (omega arith)
-report_says words left left_after t0 t1 f0 f1 (Err Report) h s = h
-report_says words left left_after t0 t1 f0 f1 (Err Read) h s = absurd (omega arith)
-report_says words left left_after t0 t1 f0 f1 (Err Memory) h s = absurd (omega arith)
-report_says words left left_after t0 t1 f0 f1 (Err TooLong) h s = absurd (omega arith)
+pub report_says : (c : Call) (ending : Result RunOutcome Fault)
+    → IsEnding c ending → status_of ending ≡ 9 → SaysReport c
+report_says c (Ok o) h s = absurd (no_outcome_above 9 (apart _ 9 (outcome_is o) s) (omega arith) (omega arith))
+report_says c (Err Words) h s = absurd (omega arith)
+report_says c (Err (Line n)) h s = absurd (omega arith)
+report_says c (Err (BadPlan f)) h s = absurd (omega arith)
+report_says c (Err (NotEnabled n)) h s = absurd (omega arith)
+report_says c (Err Unfinished) h s = absurd (omega arith)
+report_says c (Err Report) h s = h
+report_says c (Err Read) h s = absurd (omega arith)
+report_says c (Err Memory) h s = absurd (omega arith)
+report_says c (Err TooLong) h s = absurd (omega arith)
+report_says c (Err (ThirdSignal n)) h s = absurd h
 
 -- 10: a source that failed
-pub read_says : (words : List (List ℕ)) (left left_after t0 t1 : Option (List ℕ)) (f0 f1 : ℕ) (ending : Result RunOutcome Fault)
-    → IsEnding words left left_after t0 t1 f0 f1 ending → status_of ending ≡ 10 → IsReplay words
-read_says words left left_after t0 t1 f0 f1 (Ok o) h s = absurd (no_outcome_above 10 (apart _ 10 (outcome_is o) s) (omega arith) (omega arith))
-read_says words left left_after t0 t1 f0 f1 (Err Words) h s = absurd (omega arith)
-read_says words left left_after t0 t1 f0 f1 (Err (Line n)) h s = absurd (omega arith)
-read_says words left left_after t0 t1 f0 f1 (Err (BadPlan f)) h s = absurd (omega arith)
-read_says words left left_after t0 t1 f0 f1 (Err (NotEnabled n)) h s = absurd (omega arith)
-read_says words left left_after t0 t1 f0 f1 (Err Unfinished) h s = absurd (omega arith)
-read_says words left left_after t0 t1 f0 f1 (Err Report) h s = absurd (omega arith)
-read_says words left left_after t0 t1 f0 f1 (Err Read) h s = h.0
-read_says words left left_after t0 t1 f0 f1 (Err Memory) h s = absurd (omega arith)
-read_says words left left_after t0 t1 f0 f1 (Err TooLong) h s = absurd (omega arith)
+pub read_says : (c : Call) (ending : Result RunOutcome Fault)
+    → IsEnding c ending → status_of ending ≡ 10 → IsReplay c.words × IsWithin c.source × Writes c.sink (fault_only Read)
+read_says c (Ok o) h s = absurd (no_outcome_above 10 (apart _ 10 (outcome_is o) s) (omega arith) (omega arith))
+read_says c (Err Words) h s = absurd (omega arith)
+read_says c (Err (Line n)) h s = absurd (omega arith)
+read_says c (Err (BadPlan f)) h s = absurd (omega arith)
+read_says c (Err (NotEnabled n)) h s = absurd (omega arith)
+read_says c (Err Unfinished) h s = absurd (omega arith)
+read_says c (Err Report) h s = absurd (omega arith)
+read_says c (Err Read) h s = h
+read_says c (Err Memory) h s = absurd (omega arith)
+read_says c (Err TooLong) h s = absurd (omega arith)
+read_says c (Err (ThirdSignal n)) h s = absurd h
 
 -- 12: an input that is too long
-pub too_long_says : (words : List (List ℕ)) (left left_after t0 t1 : Option (List ℕ)) (f0 f1 : ℕ) (ending : Result RunOutcome Fault)
-    → IsEnding words left left_after t0 t1 f0 f1 ending → status_of ending ≡ 12 → IsReplay words × IsTooLong left left_after
-too_long_says words left left_after t0 t1 f0 f1 (Ok o) h s = absurd (no_outcome_above 12 (apart _ 12 (outcome_is o) s) (omega arith) (omega arith))
-too_long_says words left left_after t0 t1 f0 f1 (Err Words) h s = absurd (omega arith)
-too_long_says words left left_after t0 t1 f0 f1 (Err (Line n)) h s = absurd (omega arith)
-too_long_says words left left_after t0 t1 f0 f1 (Err (BadPlan f)) h s = absurd (omega arith)
-too_long_says words left left_after t0 t1 f0 f1 (Err (NotEnabled n)) h s = absurd (omega arith)
-too_long_says words left left_after t0 t1 f0 f1 (Err Unfinished) h s = absurd (omega arith)
-too_long_says words left left_after t0 t1 f0 f1 (Err Report) h s = absurd (omega arith)
-too_long_says words left left_after t0 t1 f0 f1 (Err Read) h s = absurd (omega arith)
-too_long_says words left left_after t0 t1 f0 f1 (Err Memory) h s = absurd (omega arith)
-too_long_says words left left_after t0 t1 f0 f1 (Err TooLong) h s = (h.0, h.1)
+pub too_long_says : (c : Call) (ending : Result RunOutcome Fault)
+    → IsEnding c ending → status_of ending ≡ 12 → IsReplay c.words × IsTooLong c.source × Writes c.sink (fault_only TooLong)
+too_long_says c (Ok o) h s = absurd (no_outcome_above 12 (apart _ 12 (outcome_is o) s) (omega arith) (omega arith))
+too_long_says c (Err Words) h s = absurd (omega arith)
+too_long_says c (Err (Line n)) h s = absurd (omega arith)
+too_long_says c (Err (BadPlan f)) h s = absurd (omega arith)
+too_long_says c (Err (NotEnabled n)) h s = absurd (omega arith)
+too_long_says c (Err Unfinished) h s = absurd (omega arith)
+too_long_says c (Err Report) h s = absurd (omega arith)
+too_long_says c (Err Read) h s = absurd (omega arith)
+too_long_says c (Err Memory) h s = absurd (omega arith)
+too_long_says c (Err TooLong) h s = h
+too_long_says c (Err (ThirdSignal n)) h s = absurd h
 
 -- the source's count rose where the status is 10
-pub read_rose : (a b : ℕ) (ending : Result RunOutcome Fault) → CountsReadAtEnd a b ending → status_of ending ≡ 10 → Rose a b
-read_rose a b (Ok o) h s = absurd (no_outcome_above 10 (apart _ 10 (outcome_is o) s) (omega arith) (omega arith))
-read_rose a b (Err Words) h s = absurd (omega arith)
-read_rose a b (Err (Line n)) h s = absurd (omega arith)
-read_rose a b (Err (BadPlan f)) h s = absurd (omega arith)
-read_rose a b (Err (NotEnabled n)) h s = absurd (omega arith)
-read_rose a b (Err Unfinished) h s = absurd (omega arith)
-read_rose a b (Err Report) h s = absurd (omega arith)
-read_rose a b (Err Read) h s = h
-read_rose a b (Err Memory) h s = absurd (omega arith)
-read_rose a b (Err TooLong) h s = absurd (omega arith)
+pub read_rose : (r : Reading) (ending : Result RunOutcome Fault) → CountsReadAtEnd r ending → status_of ending ≡ 10 → HasReadFault r
+read_rose r (Ok o) h s = absurd (no_outcome_above 10 (apart _ 10 (outcome_is o) s) (omega arith) (omega arith))
+read_rose r (Err Words) h s = absurd (omega arith)
+read_rose r (Err (Line n)) h s = absurd (omega arith)
+read_rose r (Err (BadPlan f)) h s = absurd (omega arith)
+read_rose r (Err (NotEnabled n)) h s = absurd (omega arith)
+read_rose r (Err Unfinished) h s = absurd (omega arith)
+read_rose r (Err Report) h s = absurd (omega arith)
+read_rose r (Err Read) h s = h
+read_rose r (Err Memory) h s = absurd (omega arith)
+read_rose r (Err TooLong) h s = absurd (omega arith)
+read_rose r (Err (ThirdSignal n)) h s = absurd (omega arith)
 
 -- and stayed where it is neither 10 nor 11
-pub read_stayed : (a b : ℕ) (ending : Result RunOutcome Fault) → CountsReadAtEnd a b ending → (status_of ending ≡ 10 → ⊥) → (status_of ending ≡ 11 → ⊥) → b ≡ a
-read_stayed a b (Ok o) h r m = h
-read_stayed a b (Err Words) h r m = h
-read_stayed a b (Err (Line n)) h r m = h
-read_stayed a b (Err (BadPlan f)) h r m = h
-read_stayed a b (Err (NotEnabled n)) h r m = h
-read_stayed a b (Err Unfinished) h r m = h
-read_stayed a b (Err Report) h r m = h
-read_stayed a b (Err Read) h r m = absurd (r refl)
-read_stayed a b (Err Memory) h r m = absurd (m refl)
-read_stayed a b (Err TooLong) h r m = h
+pub read_stayed : (r : Reading) (ending : Result RunOutcome Fault) → CountsReadAtEnd r ending → (status_of ending ≡ 10 → ⊥)
+    → (status_of ending ≡ 11 → ⊥) → r.faults_after ≡ r.faults
+read_stayed r (Ok o) h t m = h
+read_stayed r (Err Words) h t m = h
+read_stayed r (Err (Line n)) h t m = h
+read_stayed r (Err (BadPlan f)) h t m = h
+read_stayed r (Err (NotEnabled n)) h t m = h
+read_stayed r (Err Unfinished) h t m = h
+read_stayed r (Err Report) h t m = h
+read_stayed r (Err Read) h t m = absurd (t refl)
+read_stayed r (Err Memory) h t m = absurd (m refl)
+read_stayed r (Err TooLong) h t m = h
+read_stayed r (Err (ThirdSignal n)) h t m = h
+
+-- so each end of the program has its answer
+pub answers : (c : Call) (ending : Result RunOutcome Fault) → IsEnding c ending → CountsReadAtEnd c.source ending → Answers c (status_of ending)
+answers c ending h n = record {
+  headline = λ s. (headline_says c ending h s).0;
+  sound_sink = λ s. (headline_says c ending h s).1;
+  words = words_say c ending h;
+  no_words = no_words c ending h;
+  line = line_says c ending h;
+  plan = plan_says c ending h;
+  not_enabled = not_enabled_says c ending h;
+  unfinished = unfinished_says c ending h;
+  report = report_says c ending h;
+  read = λ s. (read_says c ending h s, read_rose c.source ending n s);
+  sound_source = read_stayed c.source ending n;
+  too_long = too_long_says c ending h;
+  known = status_known c ending h;
+  unread = unread_gets c.source ending n;
+  too_much = too_much_gets c ending h n;
+  bad_line = bad_line_gets c ending h n;
+  course = course_gets c ending h n;
+}

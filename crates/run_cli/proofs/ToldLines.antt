@@ -1,18 +1,19 @@
 -- The lines that a reporter wrote are those of the events that the journal told.
-use Rattle.std.proofs.Common.{◌≡◌, ℕ, suc, List, [], ◌∷◌, ◌++◌, length, map, zip, Bool, Option, Some, None, option_to_list, reverse, Result, Ok, Err, IsSome, ◌<◌, refl, ap, sym, subst, ◌∙◌, arith}
+use Rattle.std.proofs.Common.{◌≡◌, ℕ, suc, List, [], ◌∷◌, ◌++◌, length, map, zip, Bool, Option, Some, None, is_none, reverse, Result, Ok, Err, IsSome, ◌<◌, refl, ap, sym, subst, ◌∙◌, arith}
 use Rattle.std.proofs.lemmas.List.{map-append}
-use Rattle.run_capture.specs.Bytes.{Takes}
 use Rattle.run_events.specs.declared.settings.Settings.{Settings}
 use Rattle.run_events.specs.declared.events.ReporterEvent.{ReporterEvent}
 use Rattle.run_model.specs.declared.entry.Entry.{Entry}
 use Rattle.run_model.specs.declared.happening.Happening.{Happening}
-use Rattle.run_model.specs.Words.{told, asked, answers}
+use Rattle.run_model.specs.Words.{told, asked, answers, events_in}
 use Rattle.run_model.specs.Turns.{happening}
 use Rattle.run_model.specs.Journal.{history, past_of, IsLegalBackward}
 use Rattle.run_engine.specs.World.{flagged, earlier, first_error, CountsErrors}
 use Rattle.run_output.specs.Fields.{line_of}
 use Rattle.run_output.specs.Events.{event_text}
 use Rattle.run_output.specs.Told.{IsLine, AreLines, TookLines}
+use Rattle.run_laws.specs.Course.{none_refused}
+use Rattle.run_cli.specs.Call.{Writing, HasTaken}
 use Rattle.run_cli.specs.Text.{event_lines}
 use Rattle.run_cli.specs.Executed.{IsExecuted}
 use Rattle.run_capture.specs.declared.source.Failed.{Failed}
@@ -25,11 +26,11 @@ use Rattle.run_engine.specs.declared.errors.TestRunnerExecuteErrors.{TestRunnerE
 use Rattle.run_engine.specs.declared.errors.TestRunnerExecuteErrors.TheVariants.{Report, NotEnabled, Unfinished, OutOfMemory}
 use Rattle.run_output.specs.Refusals.{CountsSince}
 
--- an event beside its one answer is the event
-zip_first : {X : Type 0} (o : Option X) (bs : List Bool) → length bs ≡ length (option_to_list o) → map (λ x. x.0) (zip (option_to_list o) bs) ≡ option_to_list o
-zip_first None bs e = refl
-zip_first (Some x) [] e = cc
-zip_first (Some x) (b ∷ bs) e = refl
+-- events beside as many answers are the events
+zip_first : {X Y : Type 0} (xs : List X) (ys : List Y) → length ys ≡ length xs → map (λ x. x.0) (zip xs ys) ≡ xs
+zip_first [] ys e = refl
+zip_first (x ∷ xs) [] e = absurd (omega arith)
+zip_first (x ∷ xs) (y ∷ ys) e = ap (λ zs. x ∷ zs) (zip_first xs ys (omega arith))
 
 -- the answers of a legal journal are to the events that it told
 pub answers-told : (p : Settings) (backward : List Entry) → IsLegalBackward p backward
@@ -37,10 +38,9 @@ pub answers-told : (p : Settings) (backward : List Entry) → IsLegalBackward p 
 answers-told p [] legal = refl
 answers-told p (e ∷ before) legal =
     let x : Happening = happening p (history p before) e in
-    map-append (λ x. x.0) (answers (history p before)) (zip (option_to_list x.told) x.refused)
-    ∙ ap (λ es. es ++ map (λ x. x.0) (zip (option_to_list x.told) x.refused)) (answers-told p before legal.2)
-    ∙ ap (λ es. told (history p before) ++ es)
-    (zip_first x.told e.refused legal.1)
+    map-append (λ x. x.0) (answers (history p before)) (zip (events_in x) x.refused)
+    ∙ ap (λ es. es ++ map (λ x. x.0) (zip (events_in x) x.refused)) (answers-told p before legal.2)
+    ∙ ap (λ es. told (history p before) ++ es) (zip_first (events_in x) e.refused legal.1)
 
 -- a line of an event that wasn't refused, and then those of the others
 one_whole : {E : Type 0} (event : ReporterEvent) (error later : Option E) (bytes line rest others : List ℕ)
@@ -63,19 +63,22 @@ flags_first [] = refl
 flags_first (y ∷ ys) = ap (λ zs. y.0 ∷ zs) (flags_first ys)
 
 -- a run whose events the sink took, from what the reporter told and counted
-pub executed_from : (p : Settings) (turns : List Turn) (before now : Option (List ℕ)) (faults faults_after refusals : ℕ) (asks : List (ℕ × Ask))
+pub executed_from : (p : Settings) (turns : List Turn) (w : Writing) (refusals : ℕ) (asks : List (ℕ × Ask))
     (answer : Result RunOutcome (TestRunnerExecuteErrors Failed)) (journal : List Entry) (refusal : Option Failed) (ys : List (ReporterEvent × Option Failed))
-    → IsRunnable p journal → IsAnswerOf p turns journal refusal answer → asks ≡ asked (past_of p journal)
-    → TookLines before now ys → map flagged ys ≡ answers (past_of p journal) → first_error ys ≡ refusal
-    → CountsErrors 0 refusals refusal → CountsSince faults faults_after refusals
-    → IsExecuted p turns before now faults faults_after asks answer
-executed_from p turns before now faults faults_after refusals asks answer journal refusal ys runnable says asked_is took flags first counted since = record {
+    → IsRunnable p journal → IsAnswerOf p turns journal refusal answer → is_none refusal ≡ none_refused journal
+    → asks ≡ asked (past_of p journal)
+    → TookLines w.taken w.taken_after ys → map flagged ys ≡ answers (past_of p journal) → first_error ys ≡ refusal
+    → CountsErrors 0 refusals refusal → CountsSince w.faults w.faults_after refusals
+    → IsExecuted p turns w asks answer
+executed_from p turns w refusals asks answer journal refusal ys runnable says marked asked_is took flags first counted since = record {
   journal = journal;
   refusal = refusal;
   runnable = runnable;
   says = says;
+  marked = marked;
   asked = asked_is;
-  told = λ none. subst (Takes before now)
+  took = (ys, flags, took);
+  told = λ none. subst (HasTaken w)
       (lines_whole ys took.0 (first ∙ none) took.1
       ∙ ap event_lines (sym (flags_first ys) ∙ ap (map (λ x. x.0)) flags ∙ answers-told p (reverse journal) runnable.legal))
       took.2;

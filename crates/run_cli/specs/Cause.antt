@@ -1,14 +1,16 @@
 -- What status each cause gives, where the source's bytes are told and its count of faults didn't rise.
-use Rattle.std.specs.Prelude.{ℕ, ◌≡◌, ◌⊎◌, ◌≤◌, ◌<◌, List, length, Option, Some, None}
-use Rattle.run_capture.specs.Faults.{Rose}
+use Rattle.std.specs.Prelude.{ℕ, ◌≡◌, ◌⊎◌, ◌≤◌, ◌<◌, List, length, Bool, false, Option, Some, None}
 use Rattle.run_capture.specs.declared.test_output.CaptureStrategy.{CaptureStrategy}
 use Rattle.run_events.specs.declared.plan.Plan.{Plan}
 use Rattle.run_events.specs.declared.turn.Turn.{Turn}
 use Rattle.run_events.specs.declared.outcome.RunOutcome.{RunOutcome}
 use Rattle.run_laws.specs.Course.{Stops, GoesOn, Ends}
-use Rattle.run_engine.specs.Builder.{settings_of, first_repeat}
+use Rattle.run_engine.specs.declared.errors.TestRunnerBuildError.{TestRunnerBuildError}
 use Rattle.run_input.specs.Lines.{lines_of}
 use Rattle.run_input.specs.Input.{IsInput, IsFirstBad}
+use Rattle.run_cli.specs.Call.{Writing, HasWriteFault}
+use Rattle.run_cli.specs.Plans.{settings_for, refusal_for}
+use Rattle.run_cli.specs.Given.{input_limit}
 use Rattle.run_cli.specs.Text.{outcome_status}
 
 -- a status, unless memory was wanting
@@ -19,29 +21,33 @@ Gets status expected = (status ≡ expected) ⊎ (status ≡ 11)
 pub record HasInput (left : Option (List ℕ)) (capture : CaptureStrategy) (plan : Plan) (turns : List Turn) : Type 0 where
   pub bytes : List ℕ
   pub told : left ≡ Some bytes
-  pub within : length bytes ≤ 16777216
+  pub within : length bytes ≤ input_limit
   pub says : IsInput (lines_of bytes) capture plan turns
 
 -- the source has an input whose line of this number is the first bad one
 pub record HasBadInput (left : Option (List ℕ)) (number : ℕ) : Type 0 where
   pub bytes : List ℕ
   pub told : left ≡ Some bytes
-  pub within : length bytes ≤ 16777216
+  pub within : length bytes ≤ input_limit
   pub bad : IsFirstBad (lines_of bytes) number
 
 -- the source has more than an input may have
 pub record HasTooMuch (left : Option (List ℕ)) : Type 0 where
   pub bytes : List ℕ
   pub told : left ≡ Some bytes
-  pub above : 16777216 < length bytes
+  pub above : input_limit < length bytes
 
--- the status that each course of a plan and its turns gets: the plan is refused, or its turns stop at one that isn't
--- enabled, or leave the run unfinished, or end it, where the sink's count of faults stayed or rose
-pub record GetsByCourse (capture : CaptureStrategy) (plan : Plan) (turns : List Turn) (faults faults_after status : ℕ) : Type 0 where
-  pub refused : (test : ℕ) → first_repeat plan.tests ≡ Some test → Gets status 5
-  pub stops : first_repeat plan.tests ≡ None → (place : ℕ) → Stops (settings_of capture plan) turns place → Gets status 6
-  pub unfinished : first_repeat plan.tests ≡ None → GoesOn (settings_of capture plan) turns → Gets status 8
-  pub ended : first_repeat plan.tests ≡ None → (o : RunOutcome) → Ends (settings_of capture plan) turns o
-      → ¬ Rose faults faults_after → Gets status (outcome_status o)
-  pub unreported : first_repeat plan.tests ≡ None → (o : RunOutcome) → Ends (settings_of capture plan) turns o
-      → faults < faults_after → Gets status 9
+-- the status that a plan and its turns get: the plan is refused; or with the answers that the sink gave, which refused
+-- no event where it didn't fail, the turns stop at one that isn't enabled, or leave the run unfinished, or end it, where
+-- the sink's count of faults stayed or rose
+pub record GetsByCourse (capture : CaptureStrategy) (plan : Plan) (turns : List Turn) (w : Writing) (status : ℕ) : Type 0 where
+  pub refuses : ℕ → Bool
+  pub tied : ¬ HasWriteFault w → (n : ℕ) → refuses n ≡ false
+  pub refused : (error : TestRunnerBuildError) → refusal_for capture plan ≡ Some error → Gets status 5
+  pub stops : refusal_for capture plan ≡ None → (place : ℕ) → Stops (settings_for capture plan) turns refuses place
+      → Gets status 6
+  pub unfinished : refusal_for capture plan ≡ None → GoesOn (settings_for capture plan) turns refuses → Gets status 8
+  pub ended : refusal_for capture plan ≡ None → (o : RunOutcome) → Ends (settings_for capture plan) turns refuses o
+      → ¬ HasWriteFault w → Gets status (outcome_status o)
+  pub unreported : refusal_for capture plan ≡ None → (o : RunOutcome) → Ends (settings_for capture plan) turns refuses o
+      → w.faults < w.faults_after → Gets status 9

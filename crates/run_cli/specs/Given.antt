@@ -1,55 +1,62 @@
 -- What the words and the source give.
-use Rattle.std.specs.Prelude.{ℕ, ◌≡◌, ◌≤◌, ◌<◌, List, [], ◌∷◌, length, Option, Result, Ok, Err, codes, ⊤}
-use Rattle.run_capture.specs.Bytes.{Gives, AtEnd}
-use Rattle.run_capture.specs.Faults.{Rose}
+use Rattle.std.specs.Prelude.{ℕ, ◌≡◌, ◌≤◌, ◌<◌, List, [], ◌∷◌, length, Option, Result, Ok, Err, codes}
+use Rattle.run_capture.specs.Bytes.{AtEnd}
 use Rattle.run_capture.specs.declared.test_output.CaptureStrategy.{CaptureStrategy}
 use Rattle.run_events.specs.declared.plan.Plan.{Plan}
 use Rattle.run_events.specs.declared.turn.Turn.{Turn}
 use Rattle.run_input.specs.Lines.{lines_of}
 use Rattle.run_input.specs.Input.{IsInput, IsFirstBad}
 use Rattle.run_output.specs.declared.fault.Fault.{Fault}
-use Rattle.run_output.specs.declared.fault.Fault.TheVariants.{Words, Line, NotEnabled, Unfinished, Report, Read, Memory, TooLong}
+use Rattle.run_output.specs.declared.fault.Fault.TheVariants.{Words, Line, Read, Memory, TooLong}
+use Rattle.run_cli.specs.Call.{Reading, HasGiven, HasReadFault}
 
 -- the words are the one that names the command
 abbrev pub IsReplay : List (List ℕ) → Type 0
 IsReplay words = words ≡ codes "replay" ∷ []
 
+-- the most bytes that an input may have
+abbrev pub input_limit : ℕ
+input_limit = 16777216
+
 -- the source was read to its end, and its lines say a plan and its turns
-pub record IsGiven (left left_after : Option (List ℕ)) (capture : CaptureStrategy) (plan : Plan) (turns : List Turn) : Type 0 where
+pub record IsGiven (r : Reading) (capture : CaptureStrategy) (plan : Plan) (turns : List Turn) : Type 0 where
   pub bytes : List ℕ
-  pub given : Gives left left_after bytes
-  pub end : AtEnd left_after
-  pub within : length bytes ≤ 16777216
+  pub given : HasGiven r bytes
+  pub end : AtEnd r.left_after
+  pub within : length bytes ≤ input_limit
   pub says : IsInput (lines_of bytes) capture plan turns
 
--- the source gave more than an input may have
-abbrev pub IsTooLong : Option (List ℕ) → Option (List ℕ) → Type 0
-IsTooLong left left_after = (bytes : List ℕ) × Gives left left_after bytes × (16777216 < length bytes)
+-- the source gave more than an input may have; it gave no more
+abbrev pub IsTooLong : Reading → Type 0
+IsTooLong r = (bytes : List ℕ) × HasGiven r bytes × (input_limit < length bytes)
+
+abbrev pub IsWithin : Reading → Type 0
+IsWithin r = (bytes : List ℕ) × HasGiven r bytes × (length bytes ≤ input_limit)
 
 -- the source was read to its end, and the line of this number is the first bad one
-abbrev pub HasBadLine : Option (List ℕ) → Option (List ℕ) → ℕ → Type 0
-HasBadLine left left_after number =
-    (bytes : List ℕ) × Gives left left_after bytes × AtEnd left_after × (length bytes ≤ 16777216) × IsFirstBad (lines_of bytes) number
+abbrev pub HasBadLine : Reading → ℕ → Type 0
+HasBadLine r number =
+    (bytes : List ℕ) × HasGiven r bytes × AtEnd r.left_after × (length bytes ≤ input_limit) × IsFirstBad (lines_of bytes) number
 
 -- what each fault before the run says of the words and the source
-abbrev pub IsGivenFault : List (List ℕ) → Option (List ℕ) → Option (List ℕ) → Fault → Type 0
-IsGivenFault words left left_after Words = ¬ IsReplay words
-IsGivenFault words left left_after Read = IsReplay words
-IsGivenFault words left left_after TooLong = IsReplay words × IsTooLong left left_after
-IsGivenFault words left left_after (Line number) = IsReplay words × HasBadLine left left_after number
-IsGivenFault words left left_after Memory = IsReplay words
-IsGivenFault words left left_after _ = ⊥
+abbrev pub IsGivenFault : List (List ℕ) → Reading → Fault → Type 0
+IsGivenFault words r Words = ¬ IsReplay words
+IsGivenFault words r Read = IsReplay words × IsWithin r
+IsGivenFault words r TooLong = IsReplay words × IsTooLong r
+IsGivenFault words r (Line number) = IsReplay words × HasBadLine r number
+IsGivenFault words r Memory = IsReplay words
+IsGivenFault words r _ = ⊥
 
 -- the source's count of faults rose exactly where reading failed
-abbrev pub CountsRead : {T : Type 0} → ℕ → ℕ → Result T Fault → Type 0
-CountsRead before now (Err Read) = (before ≤ now) × Rose before now
-CountsRead before now (Err _) = now ≡ before
-CountsRead before now (Ok _) = now ≡ before
+abbrev pub CountsRead : {T : Type 0} → Reading → Result T Fault → Type 0
+CountsRead r (Err Read) = (r.faults ≤ r.faults_after) × HasReadFault r
+CountsRead r (Err _) = r.faults_after ≡ r.faults
+CountsRead r (Ok _) = r.faults_after ≡ r.faults
 
 -- at the end of the program the source's count of faults rose exactly where the answer is that reading failed; where
 -- memory was wanting it may have risen
-abbrev pub CountsReadAtEnd : {T : Type 0} → ℕ → ℕ → Result T Fault → Type 0
-CountsReadAtEnd before now (Ok _) = now ≡ before
-CountsReadAtEnd before now (Err Read) = Rose before now
-CountsReadAtEnd before now (Err Memory) = before ≤ now
-CountsReadAtEnd before now (Err _) = now ≡ before
+abbrev pub CountsReadAtEnd : {T : Type 0} → Reading → Result T Fault → Type 0
+CountsReadAtEnd r (Ok _) = r.faults_after ≡ r.faults
+CountsReadAtEnd r (Err Read) = HasReadFault r
+CountsReadAtEnd r (Err Memory) = r.faults ≤ r.faults_after
+CountsReadAtEnd r (Err _) = r.faults_after ≡ r.faults

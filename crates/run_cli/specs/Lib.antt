@@ -1,4 +1,6 @@
 pub mod Text
+pub mod Call
+pub mod Plans
 pub mod Given
 pub mod Write
 pub mod Executed

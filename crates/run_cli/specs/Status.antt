@@ -1,16 +1,17 @@
 -- What each status of the program says.
-use Rattle.std.specs.Prelude.{ℕ, ◌≡◌, ◌⊎◌, List, [], ◌∷◌, ◌==◌, ◌||◌, Option, Result, Ok, Err, true, Bool}
+use Rattle.std.specs.Prelude.{ℕ, ◌≡◌, ◌⊎◌, ◌<◌, List, [], ◌∷◌, ◌==◌, Ok, Err, true, Bool}
 use Rattle.std.specs.List.{list_any}
-use Rattle.run_capture.specs.Bytes.{Takes}
-use Rattle.run_capture.specs.Faults.{Rose}
+use Rattle.run_capture.specs.declared.test_output.CaptureStrategy.{CaptureStrategy}
+use Rattle.run_events.specs.declared.plan.Plan.{Plan}
+use Rattle.run_events.specs.declared.turn.Turn.{Turn}
 use Rattle.run_events.specs.declared.outcome.RunOutcome.{RunOutcome}
-use Rattle.run_output.specs.declared.fault.Fault.TheVariants.{Words, Line, Plan, NotEnabled, Unfinished, Report, Read, Memory, TooLong}
-use Rattle.run_output.specs.Fields.{line_of}
-use Rattle.run_output.specs.Faults.{fault_text}
-use Rattle.run_cli.specs.Text.{history_text, outcome_status}
-use Rattle.run_cli.specs.Given.{IsReplay, HasBadLine}
+use Rattle.run_output.specs.declared.fault.Fault.TheVariants.{Words, Line, Plan as BadPlan, NotEnabled, Unfinished, Read, TooLong}
 use Rattle.run_output.specs.declared.fault.PlanFault.{PlanFault}
-use Rattle.run_cli.specs.Ending.{Writes, Replays, IsWhole, StopsBefore, IsUnfinished, HasBadPlan, history_in}
+use Rattle.run_cli.specs.Call.{Call, HasTaken, HasReadFault, HasWriteFault, Writes}
+use Rattle.run_cli.specs.Text.{fault_only, history_text, outcome_status}
+use Rattle.run_cli.specs.Given.{IsReplay, IsTooLong, IsWithin, HasBadLine}
+use Rattle.run_cli.specs.Ending.{Replays, IsWhole, StopsBefore, IsUnfinished, HasBadPlan, history_in}
+use Rattle.run_cli.specs.Cause.{Gets, HasInput, HasBadInput, HasTooMuch, GetsByCourse}
 
 -- the statuses of outcomes: success, no tests run, failed or cancelled in tests, failed or cancelled in scripts
 abbrev pub IsOutcomeStatus : ℕ → Type 0
@@ -23,38 +24,54 @@ is_status status = list_any (λ known. known == status) (0 ∷ 2 ∷ 3 ∷ 4 ∷
 -- every turn of the input was enabled and the run is over after the last, the bytes that the sink took are the lines of
 -- what the journal told and asked and of the outcome, and nothing else, each test has its fate, by its own turns'
 -- results, and the status is that of the outcome
-pub record Headline (words : List (List ℕ)) (left left_after taken taken_after : Option (List ℕ)) (status : ℕ) : Type 0 where
-  pub run : Replays words left left_after
+pub record Headline (c : Call) (status : ℕ) : Type 0 where
+  pub run : Replays c
   pub outcome : RunOutcome
   pub whole : IsWhole run outcome
-  pub written : Takes taken taken_after (history_text (history_in run) (Ok outcome))
+  pub written : HasTaken c.sink (history_text (history_in run) (Ok outcome))
   pub status_is : status ≡ outcome_status outcome
 
 -- the input has a first bad line, and the fault line names it
-abbrev pub SaysBadLine : List (List ℕ) → Option (List ℕ) → Option (List ℕ) → Option (List ℕ) → Option (List ℕ) → ℕ → ℕ → Type 0
-SaysBadLine words left left_after taken taken_after faults faults_after =
-    IsReplay words × ((number : ℕ) × HasBadLine left left_after number
-    × Writes taken taken_after faults faults_after (line_of (fault_text (Line number))))
+abbrev pub SaysBadLine : Call → Type 0
+SaysBadLine c = IsReplay c.words × ((number : ℕ) × HasBadLine c.source number × Writes c.sink (fault_only (Line number)))
 
 -- the plan of the input is refused, and the fault line says why
-abbrev pub SaysBadPlan : List (List ℕ) → Option (List ℕ) → Option (List ℕ) → Option (List ℕ) → Option (List ℕ) → ℕ → ℕ → Type 0
-SaysBadPlan words left left_after taken taken_after faults faults_after =
-    IsReplay words × ((fault : PlanFault) × HasBadPlan left left_after fault
-    × Writes taken taken_after faults faults_after (line_of (fault_text (Plan fault))))
+abbrev pub SaysBadPlan : Call → Type 0
+SaysBadPlan c = IsReplay c.words × ((fault : PlanFault) × HasBadPlan c.source fault × Writes c.sink (fault_only (BadPlan fault)))
 
 -- the turns up to a first one that isn't enabled were taken, and the lines are theirs and a fault line that names its place
-abbrev pub SaysNotEnabled : List (List ℕ) → Option (List ℕ) → Option (List ℕ) → Option (List ℕ) → Option (List ℕ) → ℕ → ℕ → Type 0
-SaysNotEnabled words left left_after taken taken_after faults faults_after =
-    (place : ℕ) × (r : Replays words left left_after) × StopsBefore r place
-    × Writes taken taken_after faults faults_after (history_text (history_in r) (Err (NotEnabled place)))
+abbrev pub SaysNotEnabled : Call → Type 0
+SaysNotEnabled c =
+    (place : ℕ) × (r : Replays c) × StopsBefore r place × Writes c.sink (history_text (history_in r) (Err (NotEnabled place)))
 
 -- all turns were taken, the run isn't over, and the lines are theirs and the fault line
-abbrev pub SaysUnfinished : List (List ℕ) → Option (List ℕ) → Option (List ℕ) → Option (List ℕ) → Option (List ℕ) → ℕ → ℕ → Type 0
-SaysUnfinished words left left_after taken taken_after faults faults_after =
-    (r : Replays words left left_after) × IsUnfinished r
-    × Writes taken taken_after faults faults_after (history_text (history_in r) (Err Unfinished))
+abbrev pub SaysUnfinished : Call → Type 0
+SaysUnfinished c = (r : Replays c) × IsUnfinished r × Writes c.sink (history_text (history_in r) (Err Unfinished))
 
 -- all is as for an outcome's status, but for the sink, whose count of faults rose
-abbrev pub SaysReport : List (List ℕ) → Option (List ℕ) → Option (List ℕ) → ℕ → ℕ → Type 0
-SaysReport words left left_after faults faults_after =
-    (r : Replays words left left_after) × (o : RunOutcome) × IsWhole r o × Rose faults faults_after
+abbrev pub SaysReport : Call → Type 0
+SaysReport c = (r : Replays c) × (o : RunOutcome) × IsWhole r o × HasWriteFault c.sink
+
+-- what each status says, and what status each cause gives
+pub record Answers (c : Call) (status : ℕ) : Type 0 where
+  -- the headline
+  pub headline : IsOutcomeStatus status → Headline c status
+  pub sound_sink : IsOutcomeStatus status → c.sink.faults_after ≡ c.sink.faults
+  -- each refusal by its cause, with all that was written where the sink didn't fail
+  pub words : status ≡ 2 → (¬ IsReplay c.words) × Writes c.sink (fault_only Words)
+  pub no_words : ¬ IsReplay c.words → (status ≡ 2) ⊎ (status ≡ 11)
+  pub line : status ≡ 3 → SaysBadLine c
+  pub plan : status ≡ 5 → SaysBadPlan c
+  pub not_enabled : status ≡ 6 → SaysNotEnabled c
+  pub unfinished : status ≡ 8 → SaysUnfinished c
+  pub report : status ≡ 9 → SaysReport c
+  pub read : status ≡ 10 → (IsReplay c.words × IsWithin c.source × Writes c.sink (fault_only Read)) × HasReadFault c.source
+  pub sound_source : (status ≡ 10 → ⊥) → (status ≡ 11 → ⊥) → c.source.faults_after ≡ c.source.faults
+  pub too_long : status ≡ 12 → IsReplay c.words × IsTooLong c.source × Writes c.sink (fault_only TooLong)
+  pub known : is_status status ≡ true
+  -- each cause, and its status
+  pub unread : c.source.faults < c.source.faults_after → Gets status 10
+  pub too_much : IsReplay c.words → ¬ HasReadFault c.source → HasTooMuch c.source.left → Gets status 12
+  pub bad_line : IsReplay c.words → ¬ HasReadFault c.source → (number : ℕ) → HasBadInput c.source.left number → Gets status 3
+  pub course : IsReplay c.words → ¬ HasReadFault c.source → (capture : CaptureStrategy) (plan : Plan) (turns : List Turn)
+      → HasInput c.source.left capture plan turns → GetsByCourse capture plan turns c.sink status

@@ -30,6 +30,10 @@ abbrev pub last_text : Result RunOutcome Fault → List ℕ
 last_text (Ok outcome) = outcome_text outcome
 last_text (Err fault) = fault_text fault
 
+-- the line of a fault alone
+abbrev pub fault_only : Fault → List ℕ
+fault_only fault = line_of (fault_text fault)
+
 -- the lines of a history: what it told, then what it asked, then the last line
 abbrev pub history_text : List Happening → Result RunOutcome Fault → List ℕ
 history_text past ending = event_lines (told past) ++ (ask_lines (asked past) ++ line_of (last_text ending))

@@ -1,5 +1,6 @@
 // What the words and the source give.
 ghost use Rattle.std.specs.Prelude.{◌≡◌, ◌↔◌, ◌∷◌, [], map, IfOk, IfErr, IsTrue, string_bytes};
+ghost use Rattle.run_cli.specs.Call.{reading};
 ghost use Rattle.run_cli.specs.Given.{IsReplay, IsGiven, IsGivenFault, CountsRead};
 
 use run_capture::Source;
@@ -24,9 +25,9 @@ pub fn read_given<S: Source>(
     source: &mut S,
 ) -> Result<Input, Fault>
     ensures replay { IfOk result (λ _. IsReplay (map (λ w. string_bytes w) words.now)) }
-    ensures given { IfOk result (λ i. IsGiven (S.left source.old) (S.left source.new) i.capture i.plan i.turns) }
-    ensures refused { IfErr result (IsGivenFault (map (λ w. string_bytes w) words.now) (S.left source.old) (S.left source.new)) }
-    ensures counted { CountsRead (S.faults source.old) (S.faults source.new) result }
+    ensures given { IfOk result (λ i. IsGiven (reading S.left S.faults source.old source.new) i.capture i.plan i.turns) }
+    ensures refused { IfErr result (IsGivenFault (map (λ w. string_bytes w) words.now) (reading S.left S.faults source.old source.new)) }
+    ensures counted { CountsRead (reading S.left S.faults source.old source.new) result }
 {
     if !is_replay(words) {
         return Err(Fault::Words);

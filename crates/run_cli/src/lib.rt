@@ -6,12 +6,13 @@
 mod ended;
 mod execution;
 mod given;
+mod plan_line;
 mod top;
 mod write;
 
-pub use run_input::{InputError, LineError, StdSink, StdSource, read_plan_line, read_turn_line};
+pub use plan_line::read_plan_line;
+// The rest of the given surface stands in the crates below.
+pub use run_capture::{StdSink, StdSource};
+pub use run_input::{InputError, LineError, read_turn_line};
 pub use run_output::{Fault, LineReporter, ask_line, event_line, fault_line, outcome_line};
 pub use top::{Ran, run};
-
-#[cfg(test)]
-mod tests;

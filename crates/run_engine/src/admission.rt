@@ -1,5 +1,5 @@
 // The admission rule, by plain scans over all units.
-ghost use Rattle.std.specs.Prelude.{◌≡◌, ◌<◌, ◌≤◌, ◌^◌, length, IfOk, Some, option_map, is_some, slice_get, nat_lt, true};
+ghost use Rattle.std.specs.Prelude.{◌≡◌, ◌<◌, ◌≤◌, ◌^◌, length, IfOk, Some, option_map, is_some, is_none, position, slice_get, nat_lt, true};
 ghost use Rattle.std.specs.List.{list_all, list_any};
 ghost use Rattle.run_model.specs.Admission.{is_done, is_in_use, in_use, holds_slot, free_slot, candidate, scripts_over, newcomer, newcomer_at, first_view, skipped_view, start_message, skip_message, global_slot, units_in, unit_of_test};
 
@@ -74,14 +74,19 @@ fn least_free_slot(units: &[Option<Unit>]) -> usize
     units.len()
 }
 
+// The place of the first unit that wasn't admitted.
+fn first_absent(units: &[Option<Unit>]) -> Option<usize>
+    ensures { result ≡ position is_none units.now }
+{
+    units.iter().position(|unit| unit.is_none())
+}
+
 /// The candidate: the place of the first test that wasn't admitted.
 pub fn first_waiting(settings: &Settings, units: &[Option<Unit>]) -> Option<usize>
     requires { length units.now ≡ units_in settings.now }
     ensures { result ≡ candidate settings.now units.now }
 {
-    units[settings.plan.scripts.len()..]
-        .iter()
-        .position(|unit| unit.is_none())
+    first_absent(&units[settings.plan.scripts.len()..])
 }
 
 // Whether all setup scripts are over.

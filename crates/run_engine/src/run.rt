@@ -5,12 +5,12 @@ ghost use Rattle.run_events.specs.Tell.{Adds};
 ghost use Rattle.run_laws.specs.Ready.{CanAdvance};
 ghost use Rattle.run_model.specs.Journal.{past_of, IsLegal, outcome};
 ghost use Rattle.run_model.specs.Admission.{units_in};
-ghost use Rattle.run_model.specs.Turns.{enabled, turn_of_unit, deed_on};
+ghost use Rattle.run_model.specs.Turns.{enabled, enabled_on, turn_of_unit, deed_on};
 ghost use Rattle.run_model.specs.Words.{is_over};
 ghost use Rattle.run_model.specs.Board.{board, step, deed_events};
 ghost use Rattle.run_engine.specs.World.{TakesTurn, TellsEvents, CountsErrors, history_of};
 ghost use Rattle.run_engine.specs.Standing.{IsRunnable, sound};
-ghost use Rattle.run_engine.specs.Refused.{IsRefused, IfNotMemory};
+ghost use Rattle.run_engine.specs.Refused.{IsRefused, IsNotNamed, IfNotMemory};
 
 use crate::enabled::{is_enabled, turn_of_unit};
 use crate::errors::StepError;
@@ -114,6 +114,30 @@ fn carry_out<C: Children, R: Reporter>(
     }
 }
 
+// The unit that a turn names, with what the turn is to it, where the turn is enabled.
+fn named_if_enabled(
+    alloc: Global,
+    settings: &Settings,
+    state: &State,
+    turn: &Turn,
+) -> Result<Option<(u32, UnitTurn)>, StepError>
+    requires { length state.now.units ≡ units_in settings.now }
+    ensures named { IfOk result (λ named. named ≡ turn_of_unit turn.now) }
+    ensures enabled { OnOk result (enabled_on settings.now state.now turn.now ≡ true) }
+    ensures refused { IfErr result (IsNotNamed settings.now state.now turn.now) }
+{
+    if state.dispatcher.is_over() {
+        return Err(StepError::NotEnabled);
+    }
+    let Ok(named) = turn_of_unit(alloc, turn) else {
+        return Err(StepError::OutOfMemory);
+    };
+    if !is_enabled(settings, state, turn, &named) {
+        return Err(StepError::NotEnabled);
+    }
+    Ok(named)
+}
+
 impl Run {
     // A run that has taken no turn.
     pub(crate) fn begin(alloc: Global, settings: Whole<Settings>, state: State) -> Self
@@ -155,16 +179,36 @@ impl Run {
         if self.journal.len() >= MOST_TURNS {
             return Err(StepError::Full);
         }
-        if self.state.dispatcher.is_over() {
-            return Err(StepError::NotEnabled);
+        match named_if_enabled(alloc, self.settings.get(), &self.state, &turn) {
+            Ok(named) => self.take_named(alloc, turn, named, children, report),
+            Err(StepError::OutOfMemory) => {
+                self.broken = true;
+                Err(StepError::OutOfMemory)
+            }
+            Err(error) => Err(error),
         }
-        let Ok(named) = turn_of_unit(alloc, &turn) else {
-            self.broken = true;
-            return Err(StepError::OutOfMemory);
-        };
-        if !is_enabled(self.settings.get(), &self.state, &turn, &named) {
-            return Err(StepError::NotEnabled);
-        }
+    }
+
+    // Takes an enabled turn, by the unit that it names.
+    fn take_named<C: Children, R: Reporter>(
+        &mut self,
+        alloc: Global,
+        turn: Turn,
+        named: Option<(u32, UnitTurn)>,
+        children: &mut C,
+        report: &mut R,
+    ) -> Result<Option<R::Error>, StepError>
+        requires named { named ≡ turn_of_unit turn }
+        requires enabled { enabled self.old.settings (history_of self.old) turn ≡ true }
+        requires room { length self.old.journal < 4294967295 }
+        requires sound { self.old.broken ≡ false }
+        ensures takes { IfOk result (λ refusal.
+            TakesTurn R.told C.asked self.old turn report.old children.old self.new report.new children.new refusal) }
+        ensures faults { IfOk result (λ refusal. CountsErrors (R.faults report.old) (R.faults report.new) refusal) }
+        ensures memory { IfErr result (λ e. e ≡ StepError.OutOfMemory) }
+        ensures broken { IsErrOf result StepError.OutOfMemory → self.new ≡ record self.old { broken = true } }
+        ensures over { IsErrOf result StepError.OutOfMemory → is_over (history_of self.old) ≡ false }
+    {
         let settings = self.settings.get();
         match carry_out(
             alloc,

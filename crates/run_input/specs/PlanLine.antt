@@ -55,12 +55,18 @@ tests_from (item d ds) = do
 abbrev pub tests_of : Data → Option (List PlanTest)
 tests_of d = option_and_then tests_from (as_array d)
 
+-- the tests of a plan are fewer than 2^32
+abbrev pub plan_tests_of : Option Data → Option (List PlanTest)
+plan_tests_of d = do
+  tests ← option_and_then tests_of d
+  _ ← when (nat_lt (length tests) 4294967296)
+  Some tests
+
 -- a plan of any number of tests below 2^32, with its way of capture
 unfoldable pub plan_of : Data → Option (CaptureStrategy × Plan)
 plan_of d = do
   _ ← when (is_object_of (codes "capture" ∷ codes "run_id" ∷ codes "tests" ∷ []) d)
   capture ← option_and_then capture_of (get (codes "capture") d)
   run_id ← option_and_then run_id_of (get (codes "run_id") d)
-  tests ← option_and_then tests_of (get (codes "tests") d)
-  _ ← when (nat_lt (length tests) 4294967296)
+  tests ← plan_tests_of (get (codes "tests") d)
   Some (capture, usual_plan run_id tests)

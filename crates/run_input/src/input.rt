@@ -1,5 +1,5 @@
 // A whole input: a plan line, and a turn line for each turn.
-ghost use Rattle.std.specs.Prelude.{◌≡◌, Some, IfOk, IfErr};
+ghost use Rattle.std.specs.Prelude.{◌≡◌, Some, IfOk, IfErr, Ok, Err};
 ghost use Rattle.run_input.specs.Lines.{lines_of};
 ghost use Rattle.run_input.specs.Input.{turns_of, IsInput, IsFirstBadTurn};
 ghost use Rattle.run_input.specs.Refused.{error_at, IsRefusedInput, IsRefusedTurns};
@@ -50,6 +50,18 @@ fn read_turns(alloc: Global, bytes: &[u8]) -> Result<List<Turn>, InputError>
     Ok(turns)
 }
 
+// Both, where the second is there.
+fn both<A: Drop, B>(first: A, second: Result<B, InputError>) -> Result<(A, B), InputError>
+    ensures first { IfOk result (λ pair. pair.0 ≡ first) }
+    ensures second { IfOk result (λ pair. second ≡ Ok pair.1) }
+    ensures refused { IfErr result (λ e. second ≡ Err e) }
+{
+    match second {
+        Ok(second) => Ok((first, second)),
+        Err(e) => Err(e),
+    }
+}
+
 /// Reads an input: its first line is the plan line, each later one a turn line.
 ///
 /// A line ends at its LF, and the last one needs none.
@@ -61,11 +73,11 @@ pub fn read_input(alloc: Global, bytes: &[u8]) -> Result<Input, InputError>
         return Err(InputError::Line { line: 1 });
     }
     let (line, after) = split_line(bytes);
-    let (capture, plan) = match read_plan_line(alloc, line) {
+    let first = match read_plan_line(alloc, line) {
         Ok(first) => first,
         Err(e) => return Err(at_line(1, e)),
     };
-    let turns = read_turns(alloc, after)?;
+    let ((capture, plan), turns) = both(first, read_turns(alloc, after))?;
     Ok(Input {
         capture,
         plan,

@@ -5,7 +5,7 @@ ghost use Rattle.serde_json.specs.View.{view, items_view};
 ghost use Rattle.run_input.specs.Reads.{Reads};
 ghost use Rattle.run_input.specs.ValueOf.{value_of};
 ghost use Rattle.uuid.specs.Text.{parsed};
-ghost use Rattle.run_input.specs.PlanLine.{uuid_of, capture_of, run_id_of, id_of, test_of, tests_of, tests_from, plan_of};
+ghost use Rattle.run_input.specs.PlanLine.{uuid_of, capture_of, run_id_of, id_of, test_of, tests_of, tests_from, plan_tests_of, plan_of};
 
 use crate::LineError;
 use crate::fields::{optional_text_at, str_at, text_at, texts_at};
@@ -43,10 +43,7 @@ fn plan_from(alloc: Global, value: &Value) -> Result<(CaptureStrategy, Plan), Li
     }
     let capture = capture_at(value.get("capture")).ok_or(LineError::NotInTable)?;
     let run_id = run_id_at(value.get("run_id")).ok_or(LineError::NotInTable)?;
-    let tests = tests_at(alloc, value.get("tests"))?;
-    if tests.len() > MOST_TESTS {
-        return Err(LineError::NotInTable);
-    }
+    let tests = tests_of_plan(alloc, value.get("tests"))?;
     let plan = Plan::usual(alloc, run_id, tests)?;
     Ok((capture, plan))
 }
@@ -127,5 +124,17 @@ fn tests_at(alloc: Global, value: Option<&Value>) -> Result<List<PlanTest>, Line
     match value.and_then(Value::as_array) {
         Some(items) => tests_in(alloc, items.as_slice()),
         None => Err(LineError::NotInTable),
+    }
+}
+
+// The tests of a plan, which are fewer than 2^32.
+fn tests_of_plan(alloc: Global, value: Option<&Value>) -> Result<List<PlanTest>, LineError>
+    ensures { Reads result (plan_tests_of (option_map (λ v. view v.now) value.entry)) }
+{
+    let tests = tests_at(alloc, value)?;
+    if tests.len() > MOST_TESTS {
+        Err(LineError::NotInTable)
+    } else {
+        Ok(tests)
     }
 }

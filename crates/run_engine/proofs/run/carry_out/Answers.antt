@@ -1,4 +1,4 @@
-use Rattle.std.proofs.Common.{◌≡◌, ◌∷◌, ◌++◌, [], length, ap, sym, subst, ◌∙◌, arith}
+use Rattle.std.proofs.Common.{◌≡◌, ◌∷◌, ◌++◌, [], length, refl, ap, sym, subst, ◌∙◌, arith}
 use Rattle.run_model.specs.Board.{Board, board, deed_events}
 use Rattle.run_model.specs.Turns.{deed_on}
 use Rattle.run_model.specs.Journal.{past_of}
@@ -15,12 +15,12 @@ pub returns-in-Ok-clause-takes : goal.returns-in-Ok-clause-takes
 returns-in-Ok-clause-takes g c =
     let p = c.args.settings.now in
     let journal = c.args.journal.now.items in
-    let refused = c.in-Ok.refused in
+    let refused = c.in-Ok.field-0.refused in
     let told = c.in-Ok.ensures in
     takes_from g.R.Reporter.told g.C.Children.asked p journal c.push_reserved.new.self.items c.args.state.now
     c.args.turn c.args.report.now c.act.new.report c.args.children.now c.act.new.children
-    refused (deed_events (deed_on p c.args.state.now c.args.turn)) (deed_on p c.args.state.now c.args.turn).asked c.in-Ok.refusal
-    c.requires.stands c.requires.enabled (search rules) (search rules)
+    refused (deed_events (deed_on p c.args.state.now c.args.turn)) (deed_on p c.args.state.now c.args.turn).asked c.in-Ok.field-0.refusal
+    c.requires.stands c.requires.enabled refl refl
     told.answered told.marked told.told told.asked
     (c.push_reserved.ensures.items ∙ ap (λ j. j ++ entry_of c.args.turn refused ∷ []) c.act.ensures.same)
 
@@ -28,7 +28,7 @@ pub returns-in-Ok-clause-runnable : goal.returns-in-Ok-clause-runnable
 returns-in-Ok-clause-runnable g c =
     let p = c.args.settings.now in
     let journal = c.args.journal.now.items in
-    let refused = c.in-Ok.refused in
+    let refused = c.in-Ok.field-0.refused in
     subst (IsRunnable p)
     (sym (c.push_reserved.ensures.items ∙ ap (λ j. j ++ entry_of c.args.turn refused ∷ []) c.act.ensures.same))
     (runnable_next p journal c.args.turn refused c.requires.runnable c.requires.room c.requires.enabled
@@ -38,7 +38,7 @@ pub returns-in-Ok-clause-stands : goal.returns-in-Ok-clause-stands
 returns-in-Ok-clause-stands g c =
     let p = c.args.settings.now in
     let journal = c.args.journal.now.items in
-    let refused = c.in-Ok.refused in
+    let refused = c.in-Ok.field-0.refused in
     subst (λ journal. c.act.new.state ≡ board p (past_of p journal))
     (sym (c.push_reserved.ensures.items ∙ ap (λ j. j ++ entry_of c.args.turn refused ∷ []) c.act.ensures.same))
     (stands_next p journal c.args.state.now c.act.new.state c.args.turn refused

@@ -1,8 +1,12 @@
-use Rattle.std.proofs.Common.{◌≡◌, ◌+◌, ◌<◌, ◌^◌, length, ap, sym, subst, ◌∙◌, arith}
-use Rattle.run_engine.specs.World.{World, TakesTurn}
+use Rattle.std.proofs.Common.{rules, false, Some, slice_get, ◌≡◌, ◌+◌, ◌<◌, ◌^◌, length, ap, sym, subst, ◌∙◌, arith}
+use Rattle.std.proofs.lemmas.Option.{slice_get-get_or}
+use Rattle.run_model.specs.Turns.{enabled}
+use Rattle.run_engine.specs.World.{World, TakesTurn, history_of}
 use Rattle.run_engine.specs.Standing.{sound}
 use Rattle.run_laws.specs.Course.{turns_of}
-use Rattle.run_engine.specs.Execution.{Takes}
+use Rattle.run_model.specs.Journal.{past_of}
+use Rattle.run_engine.specs.declared.runner.Stop.TheVariants.{NotEnabled}
+use Rattle.run_engine.specs.Execution.{Takes, StopsAt}
 use Rattle.run_engine.proofs.TakesLemmas.{takes-more, turns-push}
 use Rattle.run_engine.proofs.runner.take_all.Goals as goal
 
@@ -32,3 +36,30 @@ loop-place-preserved g c =
           (c.in_ok-turn.ensures.ok ∙ c.index-turns-place.is);
       run = runs;
     }
+
+pub returns-in-Err-NotEnabled-clause-stopped : goal.returns-in-Err-NotEnabled-clause-stopped
+returns-in-Err-NotEnabled-clause-stopped g c =
+    let p = c.args.run.now.settings in
+    let inv = c.loop-place.invariant in
+    let turns = c.args.turns.now in
+    let turn = c.in_ok-turn.turn in
+    let no = rw c.in-Err-NotEnabled.field-0-is at c.in-Err-NotEnabled.ensures.refused in
+    let stay : c.take.new.self ≡ c.loop-place.run = rw c.in-Err-NotEnabled.field-0-is at c.in-Err-NotEnabled.ensures.unchanged in
+    let report : c.take.new.report ≡ c.loop-place.report = rw c.in-Err-NotEnabled.field-0-is at c.in-Err-NotEnabled.ensures.reporter in
+    let children : c.take.new.children ≡ c.loop-place.children = rw c.in-Err-NotEnabled.field-0-is at c.in-Err-NotEnabled.ensures.children in
+    let refused : enabled p (past_of p c.loop-place.run.journal) turn ≡ false =
+    subst (λ (w : World). enabled w.settings (history_of w) turn ≡ false) inv.run no.1 in
+    let inside : c.loop-place.place < length turns = omega arith in
+    let at : slice_get turns c.loop-place.place ≡ Some turn =
+    slice_get-get_or turns c.loop-place.place c.index-turns-place.result inside
+    ∙ ap Some (sym (c.in_ok-turn.ensures.ok ∙ c.index-turns-place.is)) in
+    subst (λ (w : World). StopsAt g.R.Reporter.told g.C.Children.asked p turns w.journal c.args.report.now c.take.new.report
+    c.args.children.now c.take.new.children (g.R.Reporter.faults c.args.report.now) (g.R.Reporter.faults c.take.new.report)
+    (NotEnabled c.loop-place.place)) (sym stay)
+    (subst (λ r. StopsAt g.R.Reporter.told g.C.Children.asked p turns c.loop-place.run.journal c.args.report.now r
+    c.args.children.now c.take.new.children (g.R.Reporter.faults c.args.report.now) (g.R.Reporter.faults r)
+    (NotEnabled c.loop-place.place)) (sym report)
+    (subst (λ d. StopsAt g.R.Reporter.told g.C.Children.asked p turns c.loop-place.run.journal c.args.report.now c.loop-place.report
+    c.args.children.now d (g.R.Reporter.faults c.args.report.now) (g.R.Reporter.faults c.loop-place.report)
+    (NotEnabled c.loop-place.place)) (sym children)
+    ((c.loop-place.first, inv.takes), inv.all, (turn, at, refused))))

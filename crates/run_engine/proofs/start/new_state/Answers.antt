@@ -4,5 +4,5 @@ use Rattle.run_engine.proofs.start.new_state.Goals as goal
 
 pub returns : goal.returns
 returns c =
-    let units = units-nil c.args.settings.now c.in_ok-unadmitted.field-0.items (grind arith) c.in_ok-unadmitted.ensures.none in
+    let units = units-nil c.args.settings.now c.in_ok-units.units.items (grind arith) c.in_ok-units.ensures.none in
     rw units (grind (arith, running-nil c.args.settings.now, total-nil))

@@ -1,0 +1,56 @@
+-- What the program was given and what it left: its words, and its source and its sink before and after.
+use Rattle.std.specs.Prelude.{ℕ, ◌≡◌, List, Option}
+use Rattle.run_capture.specs.Bytes.{Gives, Takes}
+use Rattle.run_capture.specs.Faults.{Rose}
+
+-- a source before and after: the bytes left, where they are told, and how often it has failed
+pub record Reading : Type 0 where
+  pub left : Option (List ℕ)
+  pub left_after : Option (List ℕ)
+  pub faults : ℕ
+  pub faults_after : ℕ
+
+-- a sink before and after: the bytes taken, where they are told, and how often it has failed
+pub record Writing : Type 0 where
+  pub taken : Option (List ℕ)
+  pub taken_after : Option (List ℕ)
+  pub faults : ℕ
+  pub faults_after : ℕ
+
+pub record Call : Type 0 where
+  pub words : List (List ℕ)
+  pub source : Reading
+  pub sink : Writing
+
+abbrev pub reading : {S : Type 0} → (S → Option (List ℕ)) → (S → ℕ) → S → S → Reading
+reading left faults old new =
+    record { left = left old; left_after = left new; faults = faults old; faults_after = faults new }
+
+abbrev pub writing : {K : Type 0} → (K → Option (List ℕ)) → (K → ℕ) → K → K → Writing
+writing taken faults old new =
+    record { taken = taken old; taken_after = taken new; faults = faults old; faults_after = faults new }
+
+abbrev pub call_of : List (List ℕ) → Reading → Writing → Call
+call_of words source sink = record { words = words; source = source; sink = sink }
+
+-- one write, and then another
+abbrev pub joined : Writing → Writing → Writing
+joined a b = record { taken = a.taken; taken_after = b.taken_after; faults = a.faults; faults_after = b.faults_after }
+
+-- the source gave these bytes; the sink took these bytes
+abbrev pub HasGiven : Reading → List ℕ → Type 0
+HasGiven r bytes = Gives r.left r.left_after bytes
+
+abbrev pub HasTaken : Writing → List ℕ → Type 0
+HasTaken w bytes = Takes w.taken w.taken_after bytes
+
+-- the source, or the sink, failed in between
+abbrev pub HasReadFault : Reading → Type 0
+HasReadFault r = Rose r.faults r.faults_after
+
+abbrev pub HasWriteFault : Writing → Type 0
+HasWriteFault w = Rose w.faults w.faults_after
+
+-- the bytes that went out, where the sink didn't fail
+abbrev pub Writes : Writing → List ℕ → Type 0
+Writes w text = ¬ HasWriteFault w → HasTaken w text

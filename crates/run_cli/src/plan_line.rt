@@ -1,0 +1,32 @@
+// The plan line as a builder and its plan.
+ghost use Rattle.std.specs.Prelude.{◌≡◌, option_map, option_and_then};
+ghost use Rattle.run_input.specs.Reads.{Reads};
+ghost use Rattle.run_input.specs.ValueOf.{value_of};
+ghost use Rattle.run_input.specs.PlanLine.{plan_of};
+ghost use Rattle.run_cli.specs.Plans.{builder_of};
+
+use run_capture::CaptureStrategy;
+use run_engine::TestRunnerBuilder;
+use run_events::Plan;
+use run_input::LineError;
+use std::alloc::Global;
+
+/// The builder that a plan line sets.
+pub fn builder_of(capture: CaptureStrategy) -> TestRunnerBuilder
+    ensures { result ≡ builder_of capture }
+{
+    let mut builder = TestRunnerBuilder::default();
+    builder.set_capture_strategy(capture);
+    builder
+}
+
+/// Reads a plan line: the builder that its keys set, and the plan that it says. A line is refused exactly where it is
+/// not in its table.
+pub fn read_plan_line(alloc: Global, line: &[u8]) -> Result<(TestRunnerBuilder, Plan), LineError>
+    ensures { Reads result (option_map (λ said. (builder_of said.0, said.1)) (option_and_then plan_of (value_of line.now))) }
+{
+    match run_input::read_plan_line(alloc, line) {
+        Ok((capture, plan)) => Ok((builder_of(capture), plan)),
+        Err(error) => Err(error),
+    }
+}
