@@ -1,2 +1,2 @@
-pub mod StatisticsLemmas
-pub mod JournalLemmas
+mod Told
+mod Cuts

@@ -1,7 +1,7 @@
 // What is told of one test.
-ghost use Rattle.std.specs.Prelude.{◌≡◌, map, option_map, IfOk};
+ghost use Rattle.std.specs.Prelude.{◌≡◌, ◌++◌, map, option_map, option_to_list, IfOk};
 ghost use Rattle.run_model.specs.Accounts.{account_of, news_in, news_of};
-ghost use Rattle.run_plain.specs.Parts.{defined};
+ghost use Rattle.run_plain.specs.News.{defined};
 
 use run_capture::{Duplicate, List, Mem};
 use run_events::{ExecuteStatus, ReporterEvent, TestEventKind};
@@ -20,47 +20,54 @@ pub enum News {
     Skipped,
 }
 
-// What an event tells of a test.
-fn news_in(alloc: Global, k: usize, kind: &TestEventKind) -> Mem<Option<News>>
+// What an event tells of unit k.
+fn news_in(alloc: Global, k: u32, kind: &TestEventKind) -> Mem<Option<News>>
     ensures { IfOk result (λ n. option_map defined n ≡ news_in k kind.now) }
 {
     match kind {
-        TestEventKind::TestStarted { unit, .. } if *unit as usize == k => Ok(Some(News::Started)),
-        TestEventKind::TestAttemptFailedWillRetry { unit, status, .. } if *unit as usize == k => {
-            Ok(Some(News::Failed(status.copy(alloc)?)))
+        TestEventKind::TestStarted(event) if event.start.test.unit == k => Ok(Some(News::Started)),
+        TestEventKind::TestAttemptFailedWillRetry(event) if event.failed.test.unit == k => {
+            Ok(Some(News::Failed(event.failed.status.copy(alloc)?)))
         }
-        TestEventKind::TestRetryStarted { unit, .. } if *unit as usize == k => {
+        TestEventKind::TestRetryStarted(event) if event.retry.start.test.unit == k => {
             Ok(Some(News::Retried))
         }
-        TestEventKind::TestFinished { unit, statuses, .. } if *unit as usize == k => {
-            Ok(Some(News::Finished(statuses.copy(alloc)?)))
+        TestEventKind::TestFinished(event) if event.finish.test.unit == k => {
+            Ok(Some(News::Finished(event.finish.statuses.copy(alloc)?)))
         }
-        TestEventKind::TestSkipped { unit, .. } if *unit as usize == k => Ok(Some(News::Skipped)),
+        TestEventKind::TestSkipped(skip) if skip.test.unit == k => Ok(Some(News::Skipped)),
         _ => Ok(None),
     }
 }
 
-fn news_of(alloc: Global, k: usize, event: &ReporterEvent) -> Mem<Option<News>>
+fn news_of(alloc: Global, k: u32, event: &ReporterEvent) -> Mem<Option<News>>
     ensures { IfOk result (λ n. option_map defined n ≡ news_of k event.now) }
 {
     match event {
         ReporterEvent::Test(event) => news_in(alloc, k, &event.kind),
+        ReporterEvent::Tick => Ok(None),
     }
 }
 
-/// What is told of a test, in order: its account.
-pub fn account_of(alloc: Global, k: usize, events: &[ReporterEvent]) -> Mem<Vec<News>>
-    ensures { IfOk result (λ v. map defined v.items ≡ account_of k events.now) }
+// An account with what one more event told.
+fn with_news(alloc: Global, account: List<News>, news: Option<News>) -> Mem<List<News>>
+    ensures { IfOk result (λ l. map defined l ≡ map defined account ++ option_to_list (option_map defined news)) }
 {
-    match events {
-        [] => Ok(Vec::new(alloc)),
-        [event, rest @ ..] => {
-            let news = news_of(alloc, k, event)?;
-            let mut account = account_of(alloc, k, rest)?;
-            if let Some(news) = news {
-                account.insert(0, news)?;
-            }
-            Ok(account)
-        }
+    let mut account = account;
+    if let Some(news) = news {
+        account.push(alloc, news)?;
     }
+    Ok(account)
+}
+
+/// What is told of unit k, in order: its account.
+pub fn account_of(alloc: Global, k: u32, events: &[ReporterEvent]) -> Mem<List<News>>
+    ensures { IfOk result (λ l. map defined l ≡ account_of k events.now) }
+{
+    let mut account = List::new();
+    for event in events {
+        let news = news_of(alloc, k, event)?;
+        account = with_news(alloc, account, news)?;
+    }
+    Ok(account)
 }

@@ -1,25 +1,21 @@
-//! The definitions of a run as plain, slow functions: each word over a history and each table of
-//! `run_model` is computed as it is defined, so that tests can compare the engine with it.
+//! Definitions of a run that a reader could doubt, as plain, slow functions over plain data: the statistics and the
+//! account that a list of told events comes to, a fate's account and the attempt law, the admission's candidate and
+//! its slot, and the attempts of a unit by its own turns. Each answers the defined value. None calls the code that it
+//! is compared with, so that tests and readers can run the definitions beside the engine.
 #![tactic(auto)]
 
 mod accounts;
 mod admission;
-mod deliveries;
-mod happenings;
-mod journal;
-mod places;
+mod attempts;
+mod fates;
+mod front;
+mod results;
 mod statistics;
-#[cfg(test)]
-mod tests;
-mod turns;
-mod unit;
-mod words;
+mod story;
 
 pub use accounts::{News, account_of};
-pub use admission::{Admitted, candidate, free_slot, in_use, is_done, newcomer};
-pub use journal::{happening, history, outcome};
-pub use places::{unit_of, units};
-pub use statistics::{matched_in, reason, running, skipped, stats};
-pub use turns::enabled;
-pub use unit::{UnitRow, row, takes};
-pub use words::{answers, asked, clock, delivered, elapsed, has_begun, is_over, queue, sent, told};
+pub use admission::{candidate, free_slot, in_use};
+pub use attempts::statuses_of;
+pub use fates::{account, meets_attempt_law};
+pub use statistics::{stats_are_of_told_events, stats_told};
+pub use story::OwnTurn;

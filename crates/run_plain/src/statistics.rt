@@ -1,90 +1,113 @@
-// What a history counts.
-ghost use Rattle.std.specs.Prelude.{◌≡◌, ◌+◌, ◌<◌, ◌≤◌, ◌^◌, [], length, map, IfOk, filter_map, count_by};
-ghost use Rattle.std.specs.List.{list_any, range_with_len};
-ghost use Rattle.run_events.specs.Stats.{AreBelow, adds_of, plus};
-ghost use Rattle.run_model.specs.Words.{
-  finish_of,
-  finished_test,
-  finishes,
-  greater,
-  is_running,
-  last_slow,
-  matched_in,
-  rank,
-  reason,
-  running,
-  skipped,
-  skips,
-  starts,
-  stats,
-  stats_after,
-};
-ghost use Rattle.run_plain.specs.Parts.{counted};
+// The statistics that a list of told events comes to.
+ghost use Rattle.std.specs.Prelude.{◌≡◌, ◌+◌, ◌<◌, ◌≤◌, ◌^◌, [], length, map, filter_map, count_by, true};
+ghost use Rattle.run_events.specs.Stats.{AreBelow, adds_of, failed_adds, last_adds, last_or, nothing, plus, test_adds};
+ghost use Rattle.run_events.specs.declared.result.ExecutionResult.TheVariants.{ExecFail, Pass};
+ghost use Rattle.run_model.specs.Admission.{is_matched, matched_in, tests_in};
+ghost use Rattle.run_model.specs.Words.{finished_test, last_slow, stats_after};
+ghost use Rattle.run_plain.specs.Told.{StatsAreOfToldEvents, counted, stats_told, with_skip};
 
-use crate::admission::is_matched;
-use crate::told;
-use run_capture::Mem;
+use crate::results::passes;
 use run_events::{
-    CancelReason, ExecuteStatus, ExecutionResult, FlakyResult, ReporterEvent, RunStats, Settings,
-    TestEventKind,
+    CancelReason, ExecuteStatus, ExecutionResult, FlakyResult, LeakTimeoutResult, ReporterEvent,
+    RunStats, Settings, SlowTimeoutResult, TestEventKind, TestFinish,
 };
-use run_model::Happening;
-use std::alloc::Global;
 
-fn rank(reason: CancelReason) -> u8
-    ensures { result ≡ rank reason }
+// What each finished test adds.
+fn finished_adds() -> RunStats
+    ensures { result ≡ record nothing { finished_count = 1 } }
 {
-    match reason {
-        CancelReason::SetupScriptFailure => 0,
-        CancelReason::TestFailure => 1,
-        CancelReason::ReportError => 2,
-        CancelReason::GlobalTimeout => 3,
-        CancelReason::TestFailureImmediate => 4,
-        CancelReason::Signal => 5,
-        CancelReason::Interrupt => 6,
-        CancelReason::SecondSignal => 7,
+    RunStats {
+        finished_count: 1,
+        ..RunStats::nothing()
     }
 }
 
-// The greater of two reasons.
-fn greater(reason: Option<CancelReason>, cause: Option<CancelReason>) -> Option<CancelReason>
-    ensures { result ≡ greater reason cause }
+// What a test adds that passed, or failed, in time and with no leak.
+fn passed_adds(retried: bool, slow: bool) -> RunStats
+    ensures { result ≡ last_adds retried slow Pass }
 {
-    match (reason, cause) {
-        (None, cause) => cause,
-        (Some(reason), None) => Some(reason),
-        (Some(reason), Some(cause)) => {
-            if rank(reason) < rank(cause) {
-                Some(cause)
-            } else {
-                Some(reason)
-            }
-        }
+    RunStats {
+        passed: 1,
+        passed_slow: u64::from(slow),
+        flaky: u64::from(retried),
+        ..finished_adds()
     }
 }
 
-/// The reason for which a run is cancelled: the greatest of its causes.
-pub fn reason(past: &[Happening]) -> Option<CancelReason>
-    ensures { result ≡ reason past.now }
+fn failed_adds(slow: bool) -> RunStats
+    ensures { result ≡ failed_adds slow }
 {
-    match past {
-        [] => None,
-        [x, before @ ..] => greater(reason(before), x.cause),
+    RunStats {
+        failed: 1,
+        failed_slow: u64::from(slow),
+        ..finished_adds()
     }
 }
 
-fn results_of(alloc: Global, statuses: &[ExecuteStatus]) -> Mem<Vec<ExecutionResult>>
-    ensures { IfOk result (λ v. v.items ≡ map (λ s. s.result) statuses.now) }
+// What a test adds that is no flaky failure, by its last result.
+fn last_adds(retried: bool, slow: bool, last: ExecutionResult) -> RunStats
+    ensures counts { result ≡ last_adds retried slow last }
+    ensures small { AreBelow 2 result }
 {
-    let mut results = Vec::new(alloc);
+    match last {
+        ExecutionResult::Pass => passed_adds(retried, slow),
+        ExecutionResult::Leak {
+            result: LeakTimeoutResult::Pass,
+        } => RunStats {
+            leaky: 1,
+            ..passed_adds(retried, slow)
+        },
+        ExecutionResult::Timeout {
+            result: SlowTimeoutResult::Pass,
+        } => RunStats {
+            passed_timed_out: 1,
+            ..passed_adds(retried, false)
+        },
+        ExecutionResult::Leak {
+            result: LeakTimeoutResult::Fail,
+        } => RunStats {
+            leaky_failed: 1,
+            ..failed_adds(slow)
+        },
+        ExecutionResult::Timeout {
+            result: SlowTimeoutResult::Fail,
+        } => RunStats {
+            failed_timed_out: 1,
+            ..finished_adds()
+        },
+        ExecutionResult::Fail { .. } => failed_adds(slow),
+        ExecutionResult::ExecFail => RunStats {
+            exec_failed: 1,
+            ..finished_adds()
+        },
+    }
+}
+
+// What a test adds by its last result: a pass after a retry may count as a failure.
+fn test_adds(flaky: FlakyResult, retried: bool, slow: bool, last: ExecutionResult) -> RunStats
+    ensures counts { result ≡ test_adds flaky retried slow last }
+    ensures small { AreBelow 2 result }
+{
+    if matches!(flaky, FlakyResult::Fail) && retried && passes(last) {
+        failed_adds(slow)
+    } else {
+        last_adds(retried, slow, last)
+    }
+}
+
+// The result of the last attempt.
+fn last_result(statuses: &[ExecuteStatus]) -> ExecutionResult
+    ensures { result ≡ last_or ExecFail (map (λ s. s.result) statuses.now) }
+{
+    let mut last = ExecutionResult::ExecFail;
     for status in statuses {
-        results.push(status.result)?;
+        last = status.result;
     }
-    Ok(results)
+    last
 }
 
 // Whether the last attempt was slow.
-fn last_slow(statuses: &[ExecuteStatus]) -> bool
+fn is_last_slow(statuses: &[ExecuteStatus]) -> bool
     ensures { result ≡ last_slow statuses.now }
 {
     let mut slow = false;
@@ -94,192 +117,118 @@ fn last_slow(statuses: &[ExecuteStatus]) -> bool
     slow
 }
 
-// A test with no attempt counts as one that failed to run.
+// What a finished test adds.
 #[tactic(auto, unfolding(run_events::specs::Stats::adds_of))]
-fn plus_no_attempt(stats: RunStats) -> RunStats
-    requires { AreBelow (2 ^ 32) stats }
-    ensures { result ≡ plus stats (adds_of (finished_test [])) }
+fn adds_of(finish: &TestFinish) -> RunStats
+    ensures counts { result ≡ adds_of (finished_test finish.now) }
+    ensures small { AreBelow 2 result }
 {
-    let mut stats = stats;
-    stats.on_test_finished(&[ExecutionResult::ExecFail], false, FlakyResult::Pass);
-    stats
+    let statuses = finish.statuses.as_slice();
+    let retried = statuses.len() > 1;
+    let last = last_result(statuses);
+    test_adds(finish.flaky, retried, is_last_slow(statuses), last)
 }
 
-// The statistics after one more test that finished, after these attempts.
-pub fn plus_finished(alloc: Global, stats: RunStats, statuses: &[ExecuteStatus]) -> Mem<RunStats>
-    requires { AreBelow (2 ^ 32) stats }
-    ensures { IfOk result (λ s. s ≡ plus stats (adds_of (finished_test statuses.now))) }
+// The sum of statistics that are small, with the cancel reason of the first.
+#[tactic(auto, unfolding(run_events::specs::Stats::plus))]
+fn plus(a: RunStats, b: RunStats) -> RunStats
+    requires below { AreBelow (2 ^ 32) a }
+    requires small { AreBelow 2 b }
+    ensures { result ≡ plus a b }
 {
-    if statuses.is_empty() {
-        return Ok(plus_no_attempt(stats));
+    RunStats {
+        initial_run_count: a.initial_run_count + b.initial_run_count,
+        finished_count: a.finished_count + b.finished_count,
+        setup_scripts_initial_count: a.setup_scripts_initial_count + b.setup_scripts_initial_count,
+        setup_scripts_finished_count: a.setup_scripts_finished_count
+            + b.setup_scripts_finished_count,
+        setup_scripts_passed: a.setup_scripts_passed + b.setup_scripts_passed,
+        setup_scripts_failed: a.setup_scripts_failed + b.setup_scripts_failed,
+        setup_scripts_exec_failed: a.setup_scripts_exec_failed + b.setup_scripts_exec_failed,
+        setup_scripts_timed_out: a.setup_scripts_timed_out + b.setup_scripts_timed_out,
+        passed: a.passed + b.passed,
+        passed_slow: a.passed_slow + b.passed_slow,
+        passed_timed_out: a.passed_timed_out + b.passed_timed_out,
+        flaky: a.flaky + b.flaky,
+        failed: a.failed + b.failed,
+        failed_slow: a.failed_slow + b.failed_slow,
+        failed_timed_out: a.failed_timed_out + b.failed_timed_out,
+        leaky: a.leaky + b.leaky,
+        leaky_failed: a.leaky_failed + b.leaky_failed,
+        exec_failed: a.exec_failed + b.exec_failed,
+        skipped: a.skipped + b.skipped,
+        cancel_reason: a.cancel_reason,
     }
-    let mut stats = stats;
-    let results = results_of(alloc, statuses)?;
-    stats.on_test_finished(&results, last_slow(statuses), FlakyResult::Pass);
-    Ok(stats)
+}
+
+// The statistics after one more skip.
+fn with_skip(stats: RunStats) -> RunStats
+    requires { AreBelow (2 ^ 32) stats }
+    ensures { result ≡ with_skip true stats }
+{
+    RunStats {
+        skipped: stats.skipped + 1,
+        ..stats
+    }
 }
 
 // The statistics after one more event.
-fn counted(alloc: Global, stats: RunStats, event: &ReporterEvent) -> Mem<RunStats>
+fn counted(stats: RunStats, event: &ReporterEvent) -> RunStats
     requires { AreBelow (2 ^ 32) stats }
-    ensures { IfOk result (λ s. s ≡ counted stats (finish_of event.now)) }
+    ensures { result ≡ counted stats event.now }
 {
     match event {
         ReporterEvent::Test(event) => match &event.kind {
-            TestEventKind::TestFinished { statuses, .. } => {
-                plus_finished(alloc, stats, statuses.as_slice())
-            }
-            _ => Ok(stats),
+            TestEventKind::TestFinished(event) => plus(stats, adds_of(&event.finish)),
+            TestEventKind::TestSkipped(_) => with_skip(stats),
+            _ => stats,
         },
+        ReporterEvent::Tick => stats,
     }
 }
 
-/// How many tests of the plan match, and so are to run.
-pub fn matched_in(settings: &Settings) -> usize
-    ensures matched { result ≡ matched_in settings.now }
-    ensures within { result ≤ length settings.now.plan.tests }
+// How many tests of the plan match, and so are to run.
+fn matched_in(settings: &Settings) -> usize
+    ensures { result ≡ matched_in settings.now }
 {
     let mut count = 0;
     for test in settings.plan.tests.as_slice() {
-        if is_matched(test) {
+        if test.skip.is_none() {
             count += 1;
         }
     }
     count
 }
 
-// The statistics after so many skips, where no test has finished.
-#[tactic(auto, using(crate::proofs::StatisticsLemmas::total_none))]
-fn stats_at_first(settings: &Settings, why: Option<CancelReason>, skips: usize) -> RunStats
-    ensures { result ≡ stats_after settings.now why skips [] }
+// The statistics before the first event.
+#[tactic(auto, using(crate::proofs::Told::stats_first))]
+fn stats_at_first(settings: &Settings, reason: Option<CancelReason>) -> RunStats
+    ensures { result ≡ stats_told settings.now reason [] }
 {
-    let mut stats = RunStats::started(0, matched_in(settings) as u64);
-    stats.skipped = skips as u64;
-    stats.cancel_reason = why;
+    RunStats {
+        initial_run_count: matched_in(settings) as u64,
+        cancel_reason: reason,
+        ..RunStats::nothing()
+    }
+}
+
+/// The statistics that these told events come to, in a run that is cancelled for this reason or for none.
+pub fn stats_told(
+    settings: &Settings,
+    reason: Option<CancelReason>,
+    events: &[ReporterEvent],
+) -> RunStats
+    requires few { tests_in settings.now + length events.now < 2 ^ 31 }
+    ensures { result ≡ stats_told settings.now reason events.now }
+{
+    let mut stats = stats_at_first(settings, reason);
+    for event in events {
+        stats = counted(stats, event);
+    }
     stats
 }
 
-// The statistics after so many skips and these events, of a run that is cancelled for this reason.
-pub fn stats_after(
-    alloc: Global,
-    settings: &Settings,
-    why: Option<CancelReason>,
-    skips: usize,
-    events: &[ReporterEvent],
-) -> Mem<RunStats>
-    requires { length settings.now.plan.tests + skips + length (filter_map finish_of events.now) < 2 ^ 32 }
-    ensures stats { IfOk result (λ s. s ≡ stats_after settings.now why skips (filter_map finish_of events.now)) }
-    ensures below { IfOk result (AreBelow (2 ^ 32)) }
-{
-    let mut stats = stats_at_first(settings, why, skips);
-    for event in events {
-        stats = counted(alloc, stats, event)?;
-    }
-    Ok(stats)
-}
-
-// Whether an event tells a skipped test.
-fn skips(event: &ReporterEvent) -> bool
-    ensures { result ≡ skips event.now }
-{
-    match event {
-        ReporterEvent::Test(event) => matches!(event.kind, TestEventKind::TestSkipped { .. }),
-    }
-}
-
-// How many of these events tell a skipped test.
-fn count_skips(events: &[ReporterEvent]) -> usize
-    ensures { result ≡ count_by skips events.now }
-{
-    let mut count = 0;
-    for event in events {
-        if skips(event) {
-            count += 1;
-        }
-    }
-    count
-}
-
-/// How many tests were told skipped.
-pub fn skipped(alloc: Global, past: &[Happening]) -> Mem<usize>
-    ensures { IfOk result (λ n. n ≡ skipped past.now) }
-{
-    let events = told(alloc, past)?;
-    Ok(count_skips(&events))
-}
-
-/// The statistics of a run.
-pub fn stats(alloc: Global, settings: &Settings, past: &[Happening]) -> Mem<RunStats>
-    requires { length settings.now.plan.tests + length past.now < 2 ^ 32 }
-    ensures stats { IfOk result (λ s. s ≡ stats settings.now past.now) }
-    ensures below { IfOk result (AreBelow (2 ^ 32)) }
-{
-    let skips = skipped(alloc, past)?;
-    let events = told(alloc, past)?;
-    stats_after(alloc, settings, reason(past), skips, &events)
-}
-
-// Whether an event tells the start of a test.
-fn starts(k: usize, event: &ReporterEvent) -> bool
-    ensures { result ≡ starts k event.now }
-{
-    match event {
-        ReporterEvent::Test(event) => match &event.kind {
-            TestEventKind::TestStarted { unit, .. } => *unit as usize == k,
-            _ => false,
-        },
-    }
-}
-
-// Whether an event tells the finish of a test.
-fn finishes(k: usize, event: &ReporterEvent) -> bool
-    ensures { result ≡ finishes k event.now }
-{
-    match event {
-        ReporterEvent::Test(event) => match &event.kind {
-            TestEventKind::TestFinished { unit, .. } => *unit as usize == k,
-            _ => false,
-        },
-    }
-}
-
-fn was_started(events: &[ReporterEvent], k: usize) -> bool
-    ensures { result ≡ list_any (starts k) events.now }
-{
-    events.iter().any(|event| starts(k, event))
-}
-
-fn was_finished(events: &[ReporterEvent], k: usize) -> bool
-    ensures { result ≡ list_any (finishes k) events.now }
-{
-    events.iter().any(|event| finishes(k, event))
-}
-
-fn is_running(events: &[ReporterEvent], k: usize) -> bool
-    ensures { result ≡ is_running events.now k }
-{
-    was_started(events, k) && !was_finished(events, k)
-}
-
-// How many of the first tests run, by these events.
-fn running_in(events: &[ReporterEvent], tests: usize) -> usize
-    ensures count { result ≡ count_by (is_running events.now) (range_with_len 0 tests) }
-    ensures within { result ≤ tests }
-{
-    let mut count = 0;
-    for k in 0..tests {
-        if is_running(events, k) {
-            count += 1;
-        }
-    }
-    count
-}
-
-/// How many tests run.
-pub fn running(alloc: Global, settings: &Settings, past: &[Happening]) -> Mem<usize>
-    ensures count { IfOk result (λ n. n ≡ running settings.now past.now) }
-    ensures within { IfOk result (λ n. n ≤ length settings.now.plan.tests) }
-{
-    let events = told(alloc, past)?;
-    Ok(running_in(&events, settings.plan.tests.len()))
-}
+/// The statistics of a run are those of all events told in it.
+pub fn stats_are_of_told_events()
+    ensures { StatsAreOfToldEvents }
+{}

@@ -1,0 +1,81 @@
+-- What one more event adds.
+use Rattle.std.proofs.Common.{◌≡◌, ℕ, ◌+◌, ◌<◌, ◌≤◌, ◌^◌, List, [], ◌∷◌, ◌++◌, length, Bool, true, false, add-zero, cond, count_by, filter_map, Option, Some, None, refl, ap, ◌∙◌, arith, option_to_list}
+use Rattle.std.proofs.lemmas.List.{append-nil}
+use Rattle.std.proofs.lemmas.List.Elements.{filter_map-append}
+use Rattle.std.proofs.lemmas.List.Sums.{sum_by_push, count_by-le-length}
+use Rattle.std.specs.List.{sum_by, cons_option}
+use Rattle.run_events.specs.Stats.{total_by, FinishedTest, AreBelow, nothing, adds_of}
+use Rattle.run_events.proofs.StatsLemmas.{total_push, total_below}
+use Rattle.run_events.specs.declared.settings.Settings.{Settings}
+use Rattle.run_events.specs.declared.cancel.CancelReason.{CancelReason}
+use Rattle.run_events.specs.declared.events.ReporterEvent.{ReporterEvent}
+use Rattle.run_model.specs.Accounts.{account_of, news_of}
+use Rattle.run_model.specs.Admission.{is_matched, matched_in, tests_in}
+use Rattle.run_model.specs.Words.{finish_of, skips, stats_after}
+use Rattle.run_plain.specs.Told.{stats_told, counted, with_finish, with_skip}
+
+-- what one more item gives
+given_last : {X Y : Type 0} (f : X → Option Y) (x : X) (o : Option Y) → f x ≡ o
+    → filter_map f (x ∷ []) ≡ option_to_list o
+given_last f x None is = rw is refl
+given_last f x (Some y) is = rw is refl
+
+given_more : {X Y : Type 0} (f : X → Option Y) (xs : List X) (x : X)
+    → filter_map f (xs ++ x ∷ []) ≡ filter_map f xs ++ option_to_list (f x)
+given_more f xs x = filter_map-append f xs (x ∷ []) ∙ ap (λ ys. filter_map f xs ++ ys) (given_last f x (f x) refl)
+
+-- the account after one more event
+pub account_more : (k : ℕ) (events : List ReporterEvent) (e : ReporterEvent)
+    → account_of k (events ++ e ∷ []) ≡ account_of k events ++ option_to_list (news_of k e)
+account_more k events e = given_more (news_of k) events e
+
+-- the statistics after one more event
+finish_more : (p : Settings) (why : Option CancelReason) (skips : ℕ) (finishes : List FinishedTest)
+    (o : Option FinishedTest)
+    → stats_after p why skips (finishes ++ option_to_list o) ≡ with_finish o (stats_after p why skips finishes)
+finish_more p why skips finishes None = ap (stats_after p why skips) (append-nil finishes)
+finish_more p why skips finishes (Some test) = total_push _ finishes test
+
+skip_more : (p : Settings) (why : Option CancelReason) (n m : ℕ) (finishes : List FinishedTest) (b : Bool)
+    → m ≡ n + cond b 1 0 → stats_after p why m finishes ≡ with_skip b (stats_after p why n finishes)
+unfolding total_by
+skip_more p why n m finishes false is =
+    let same : m ≡ n = omega arith in ap (λ k. stats_after p why k finishes) same
+skip_more p why n m finishes true is =
+    let further : ℕ = sum_by (λ x. (adds_of x).skipped) finishes in
+    let more : m + further ≡ n + further + 1 = omega arith in
+    ap (λ k. record (stats_after p why n finishes) { skipped = k }) more
+
+pub stats_more : (p : Settings) (why : Option CancelReason) (events : List ReporterEvent) (e : ReporterEvent)
+    → stats_told p why (events ++ e ∷ []) ≡ counted (stats_told p why events) e
+stats_more p why events e =
+    ap (stats_after p why (count_by skips (events ++ e ∷ []))) (given_more finish_of events e)
+    ∙ skip_more p why (count_by skips events) (count_by skips (events ++ e ∷ []))
+    (filter_map finish_of events ++ option_to_list (finish_of e)) (skips e)
+    (sum_by_push (λ x. cond (skips x) 1 0) events e)
+    ∙ ap (with_skip (skips e)) (finish_more p why (count_by skips events) (filter_map finish_of events) (finish_of e))
+
+-- before the first event
+pub stats_first : (p : Settings) (why : Option CancelReason)
+    → record nothing { initial_run_count = matched_in p; cancel_reason = why } ≡ stats_told p why []
+unfolding total_by
+stats_first p why = simp add-zero refl
+
+-- the counts of few events are small
+fewer_more : {Y : Type 0} (o : Option Y) (ys : List Y) (n : ℕ) → length ys ≤ n → length (cons_option o ys) ≤ n + 1
+fewer_more None ys n few = omega arith
+fewer_more (Some y) ys n few = omega arith
+
+given_fewer : {X Y : Type 0} (f : X → Option Y) (xs : List X) → length (filter_map f xs) ≤ length xs
+given_fewer f [] = omega arith
+given_fewer f (x ∷ xs) = let more = fewer_more (f x) (filter_map f xs) (length xs) (given_fewer f xs) in omega arith
+
+pub stats_below : (p : Settings) (why : Option CancelReason) (events : List ReporterEvent)
+    → tests_in p + length events < 2 ^ 31 → AreBelow (2 ^ 32) (stats_told p why events)
+stats_below p why events few =
+    let matched : matched_in p ≤ tests_in p = count_by-le-length is_matched p.plan.tests in
+    let skipped : count_by skips events ≤ length events = count_by-le-length skips events in
+    let finished : length (filter_map finish_of events) ≤ length events = given_fewer finish_of events in
+    total_below (2 ^ 32) (tests_in p + length events + 1)
+    (record nothing { initial_run_count = matched_in p; skipped = count_by skips events; cancel_reason = why })
+    (filter_map finish_of events) (search (arith, matched, skipped)) (omega arith)

@@ -1,5 +1,0 @@
-use Rattle.std.proofs.Common.{length}
-use Rattle.run_plain.proofs.words.+has_begun.Given as goal
-
-abbrev pub decreases-has_begun : goal.decreases-has_begun
-decreases-has_begun l = length l.past.now

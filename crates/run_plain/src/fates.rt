@@ -1,0 +1,105 @@
+// What becomes of a test in a run that is over.
+ghost use Rattle.std.specs.Prelude.{◌≡◌, ◌↔◌, ◌∷◌, ◌++◌, [], false, map, IfOk, IsTrue};
+ghost use Rattle.run_model.specs.Accounts.{finished};
+ghost use Rattle.run_plain.specs.declared.accounts.News.TheVariants.{Failed};
+ghost use Rattle.run_model.specs.Fates.{MeetsAttemptLaw, account, failures, retries};
+ghost use Rattle.run_plain.specs.News.{defined};
+
+use crate::News;
+use crate::front::ahead;
+use crate::results::passes;
+use run_capture::{Duplicate, List, Mem};
+use run_events::ExecuteStatus;
+use std::alloc::Global;
+
+// What is told of a failed attempt, before what is told after it.
+fn with_failure(alloc: Global, status: &ExecuteStatus, after: List<News>) -> Mem<List<News>>
+    ensures { IfOk result (λ l. l ≡ Failed status.now ∷ after) }
+{
+    let status = status.copy(alloc)?;
+    ahead(alloc, News::Failed(status), after)
+}
+
+// What is told of attempts each of which a further one follows, but the last, before what is told after them.
+fn with_retries(alloc: Global, statuses: &[ExecuteStatus], after: List<News>) -> Mem<List<News>>
+    ensures { IfOk result (λ l. map defined l ≡ retries statuses.now ++ map defined after) }
+{
+    match statuses {
+        [] => Ok(after),
+        [_last] => Ok(after),
+        [status, rest @ ..] => {
+            let after = with_retries(alloc, rest, after)?;
+            let after = ahead(alloc, News::Retried, after)?;
+            with_failure(alloc, status, after)
+        }
+    }
+}
+
+// What is told of attempts the last of which failed too, and none followed.
+fn failures(alloc: Global, statuses: &[ExecuteStatus]) -> Mem<List<News>>
+    ensures { IfOk result (λ l. map defined l ≡ failures statuses.now) }
+{
+    match statuses {
+        [] => Ok(List::new()),
+        [status] => with_failure(alloc, status, List::new()),
+        [status, rest @ ..] => {
+            let after = failures(alloc, rest)?;
+            let after = ahead(alloc, News::Retried, after)?;
+            with_failure(alloc, status, after)
+        }
+    }
+}
+
+// What is told of attempts the last of which ended the test.
+fn finished(alloc: Global, statuses: &List<ExecuteStatus>) -> Mem<List<News>>
+    ensures { IfOk result (λ l. map defined l ≡ retries statuses.now ++ finished statuses.now ∷ []) }
+{
+    let attempts = statuses.copy(alloc)?;
+    let last = ahead(alloc, News::Finished(attempts), List::new())?;
+    with_retries(alloc, statuses.as_slice(), last)
+}
+
+// What is told of a test that was let go: it was left after its attempts, or it finished with them.
+fn started(alloc: Global, was_left: bool, statuses: &List<ExecuteStatus>) -> Mem<List<News>>
+    ensures { IfOk result (λ l. map defined l ≡ account false false was_left statuses.now) }
+{
+    let told = if was_left {
+        failures(alloc, statuses.as_slice())?
+    } else {
+        finished(alloc, statuses)?
+    };
+    ahead(alloc, News::Started, told)
+}
+
+/// The account of a test's fate: all that is told of it.
+pub fn account(
+    alloc: Global,
+    mismatched: bool,
+    never_started: bool,
+    was_left: bool,
+    statuses: &List<ExecuteStatus>,
+) -> Mem<List<News>>
+    ensures { IfOk result (λ l. map defined l ≡ account mismatched never_started was_left statuses.now) }
+{
+    if mismatched {
+        ahead(alloc, News::Skipped, List::new())
+    } else if never_started {
+        Ok(List::new())
+    } else {
+        started(alloc, was_left, statuses)
+    }
+}
+
+/// Whether attempts meet their law, with so many retries: each but the last failed, and the last passed or no retry
+/// was left.
+pub fn meets_attempt_law(retries: u32, statuses: &[ExecuteStatus]) -> bool
+    ensures { IsTrue result ↔ MeetsAttemptLaw retries statuses.now }
+{
+    match statuses {
+        [] => false,
+        [last] => passes(last.result) || retries == 0,
+        [status, rest @ ..] => {
+            !passes(status.result) && retries > 0 && meets_attempt_law(retries - 1, rest)
+        }
+    }
+}
