@@ -78,7 +78,7 @@ few_plan_tests d tests e =
 
 -- the plan that a line says has these tests and no scripts
 few_units : (capture other : CaptureStrategy) (run_id : List ℕ) (tests : List PlanTest) (plan : Plan)
-    → length tests < 2 ^ 32 → Some (capture, usual_plan run_id tests) ≡ Some (other, plan)
+    → length tests < 2 ^ 32 → ◌≡◌ {A = Option (CaptureStrategy × Plan)} (Some (capture, usual_plan run_id tests)) (Some (other, plan))
     → length plan.scripts + length plan.tests < 2 ^ 32
 few_units capture other run_id tests plan fewer e =
     let few : 0 + length tests < 2 ^ 32 = omega arith in
