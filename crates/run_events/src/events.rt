@@ -279,9 +279,7 @@ fn copy_of_unit(alloc: Global, kind: &TestEventKind) -> Mem<TestEventKind>
         TestEventKind::TestRetryStarted(event) => event
             .copy(alloc)
             .map(TestEventKind::TestRetryStarted),
-        TestEventKind::TestFinished(event) => event
-            .copy(alloc)
-            .map(TestEventKind::TestFinished),
+        TestEventKind::TestFinished(event) => event.copy(alloc).map(TestEventKind::TestFinished),
         TestEventKind::TestSkipped(event) => event.copy(alloc).map(TestEventKind::TestSkipped),
         _ => unreachable!(),
     }
@@ -294,16 +292,12 @@ fn copy_of_run(alloc: Global, kind: &TestEventKind) -> Mem<TestEventKind>
 {
     match kind {
         TestEventKind::RunStarted(event) => event.copy(alloc).map(TestEventKind::RunStarted),
-        TestEventKind::StressSubRunStarted(event) => Ok(TestEventKind::StressSubRunStarted(
-            *event,
-        )),
+        TestEventKind::StressSubRunStarted(event) => Ok(TestEventKind::StressSubRunStarted(*event)),
         TestEventKind::StressSubRunFinished(event) => Ok(TestEventKind::StressSubRunFinished(
             *event,
         )),
         TestEventKind::InfoStarted(event) => Ok(TestEventKind::InfoStarted(*event)),
-        TestEventKind::InfoResponse(event) => event
-            .copy(alloc)
-            .map(TestEventKind::InfoResponse),
+        TestEventKind::InfoResponse(event) => event.copy(alloc).map(TestEventKind::InfoResponse),
         TestEventKind::InfoFinished { missing } => Ok(TestEventKind::InfoFinished {
             missing: *missing,
         }),

@@ -1,12 +1,12 @@
 // What is to be run.
 ghost use Rattle.std.specs.Prelude.{◌≡◌, IfOk};
 
+use crate::copies::both;
 use crate::{
     FlakyResult, InputHandlerKind, LeakTimeoutResult, RetryPolicy, RunMode, SignalHandlerKind,
     SlowTimeoutResult,
 };
 use jiff::Timestamp;
-use crate::copies::both;
 use run_capture::{Duplicate, List, Mem, Text};
 use run_commands::{BuildPlatform, TargetRunner, VersionEnvVars};
 use std::alloc::Global;

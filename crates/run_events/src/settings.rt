@@ -1,8 +1,8 @@
 // What a run goes by.
 ghost use Rattle.std.specs.Prelude.{◌≡◌, IfOk};
 
-use crate::{FlakyResult, MaxFail, Plan, RetryPolicy, TestInstanceId};
 use crate::copies::both;
+use crate::{FlakyResult, MaxFail, Plan, RetryPolicy, TestInstanceId};
 use run_capture::{CaptureStrategy, Duplicate, List, Mem};
 use run_commands::{Interceptor, StressCondition};
 use std::alloc::Global;
