@@ -1,5 +1,5 @@
 -- Which signals and keys a run hears, and what they are to it.
-use Rattle.std.specs.Prelude.{Bool, true, false, ◌&&◌, ◌==◌, not, if◌then◌else◌, Option, Some, None, ℕ}
+use Rattle.std.specs.Prelude.{Bool, true, false, ◌&&◌, ◌==◌, not, if◌then◌else◌, Option, Some, None}
 use Rattle.run_events.specs.declared.signal.Signal.{Signal}
 use Rattle.run_events.specs.declared.signal.Signal.TheVariants.{Int, Hup, Term, Quit, Tstp, Cont, Usr1}
 use Rattle.run_events.specs.declared.signal.SignalHandlerKind.{SignalHandlerKind}
