@@ -18,7 +18,8 @@ abbrev pub Gets : ℕ → ℕ → Type 0
 Gets status expected = (status ≡ expected) ⊎ (status ≡ 11)
 
 -- the source has an input, whose lines say a plan and turns
-pub record HasInput (left : Option (List ℕ)) (capture : CaptureStrategy) (plan : Plan) (turns : List Turn) : Type 0 where
+pub record HasInput (left : Option (List ℕ)) (capture : CaptureStrategy) (plan : Plan) (turns : List Turn) : Type 0
+    where
   pub bytes : List ℕ
   pub told : left ≡ Some bytes
   pub within : length bytes ≤ input_limit
@@ -40,7 +41,8 @@ pub record HasTooMuch (left : Option (List ℕ)) : Type 0 where
 -- the status that a plan and its turns get: the plan is refused; or with the answers that the sink gave, which refused
 -- no event where it didn't fail, the turns stop at one that isn't enabled, or leave the run unfinished, or end it, where
 -- the sink's count of faults stayed or rose
-pub record GetsByCourse (capture : CaptureStrategy) (plan : Plan) (turns : List Turn) (w : Writing) (status : ℕ) : Type 0 where
+pub record GetsByCourse (capture : CaptureStrategy) (plan : Plan) (turns : List Turn) (w : Writing)
+    (status : ℕ) : Type 0 where
   pub refuses : ℕ → Bool
   pub tied : ¬ HasWriteFault w → (n : ℕ) → refuses n ≡ false
   pub refused : (error : TestRunnerBuildError) → refusal_for capture plan ≡ Some error → Gets status 5

@@ -73,15 +73,19 @@ pub record HasBadPlan (source : Reading) (fault : PlanFault) : Type 0 where
 -- what each end says
 abbrev pub IsEnding : Call → Result RunOutcome Fault → Type 0
 IsEnding c (Ok o) =
-    (r : Replays c) × IsWhole r o × HasTaken c.sink (history_text (history_in r) (Ok o)) × (c.sink.faults_after ≡ c.sink.faults)
+    (r : Replays c) × IsWhole r o × HasTaken c.sink (history_text (history_in r) (Ok o))
+        × (c.sink.faults_after ≡ c.sink.faults)
 IsEnding c (Err Report) = (r : Replays c) × (o : RunOutcome) × IsWhole r o × HasWriteFault c.sink
 IsEnding c (Err (NotEnabled place)) =
     (r : Replays c) × StopsBefore r place × Writes c.sink (history_text (history_in r) (Err (NotEnabled place)))
-IsEnding c (Err Unfinished) = (r : Replays c) × IsUnfinished r × Writes c.sink (history_text (history_in r) (Err Unfinished))
+IsEnding c (Err Unfinished) = (r : Replays c) × IsUnfinished r
+    × Writes c.sink (history_text (history_in r) (Err Unfinished))
 IsEnding c (Err Words) = (¬ IsReplay c.words) × Writes c.sink (fault_only Words)
 IsEnding c (Err Read) = IsReplay c.words × IsWithin c.source × Writes c.sink (fault_only Read)
 IsEnding c (Err TooLong) = IsReplay c.words × IsTooLong c.source × Writes c.sink (fault_only TooLong)
-IsEnding c (Err (Line number)) = IsReplay c.words × HasBadLine c.source number × Writes c.sink (fault_only (Line number))
-IsEnding c (Err (BadPlan fault)) = IsReplay c.words × HasBadPlan c.source fault × Writes c.sink (fault_only (BadPlan fault))
+IsEnding c (Err (Line number)) = IsReplay c.words × HasBadLine c.source number
+    × Writes c.sink (fault_only (Line number))
+IsEnding c (Err (BadPlan fault)) = IsReplay c.words × HasBadPlan c.source fault
+    × Writes c.sink (fault_only (BadPlan fault))
 IsEnding c (Err (ThirdSignal place)) = ⊥
 IsEnding c (Err Memory) = ⊤

@@ -47,7 +47,8 @@ IsReplayEnding p turns w (Ok o) =
     (r : IsReplayed p w) × (turns_of r.journal ≡ turns) × (outcome p (past_of p r.journal) ≡ Some o)
     × HasTaken w (history_text (past_of p r.journal) (Ok o)) × (w.faults_after ≡ w.faults)
 IsReplayEnding p turns w (Err Report) =
-    (r : IsReplayed p w) × (turns_of r.journal ≡ turns) × ((o : RunOutcome) × (outcome p (past_of p r.journal) ≡ Some o))
+    (r : IsReplayed p w) × (turns_of r.journal ≡ turns)
+        × ((o : RunOutcome) × (outcome p (past_of p r.journal) ≡ Some o))
     × HasWriteFault w
 IsReplayEnding p turns w (Err (NotEnabled place)) =
     (r : IsReplayed p w) × (turns_of r.journal ≡ take place turns)
@@ -68,7 +69,8 @@ fault_of_error engine.OutOfMemory = Memory
 
 -- how a plan and its turns end: the plan is refused, or its turns end so
 abbrev pub IsInputEnding : CaptureStrategy → Plan → List Turn → Writing → Result RunOutcome Fault → Type 0
-IsInputEnding capture plan turns w (Err (BadPlan fault)) = IsPlanFault capture plan fault × Writes w (fault_only (BadPlan fault))
+IsInputEnding capture plan turns w (Err (BadPlan fault)) = IsPlanFault capture plan fault
+    × Writes w (fault_only (BadPlan fault))
 IsInputEnding capture plan turns w (Err Memory) = ⊤
 IsInputEnding capture plan turns w (Err fault) =
     (refusal_for capture plan ≡ None) × IsReplayEnding (settings_for capture plan) turns w (Err fault)

@@ -33,16 +33,19 @@ pub record Headline (c : Call) (status : ℕ) : Type 0 where
 
 -- the input has a first bad line, and the fault line names it
 abbrev pub SaysBadLine : Call → Type 0
-SaysBadLine c = IsReplay c.words × ((number : ℕ) × HasBadLine c.source number × Writes c.sink (fault_only (Line number)))
+SaysBadLine c = IsReplay c.words × ((number : ℕ) × HasBadLine c.source number
+    × Writes c.sink (fault_only (Line number)))
 
 -- the plan of the input is refused, and the fault line says why
 abbrev pub SaysBadPlan : Call → Type 0
-SaysBadPlan c = IsReplay c.words × ((fault : PlanFault) × HasBadPlan c.source fault × Writes c.sink (fault_only (BadPlan fault)))
+SaysBadPlan c = IsReplay c.words × ((fault : PlanFault) × HasBadPlan c.source fault
+    × Writes c.sink (fault_only (BadPlan fault)))
 
 -- the turns up to a first one that isn't enabled were taken, and the lines are theirs and a fault line that names its place
 abbrev pub SaysNotEnabled : Call → Type 0
 SaysNotEnabled c =
-    (place : ℕ) × (r : Replays c) × StopsBefore r place × Writes c.sink (history_text (history_in r) (Err (NotEnabled place)))
+    (place : ℕ) × (r : Replays c) × StopsBefore r place
+        × Writes c.sink (history_text (history_in r) (Err (NotEnabled place)))
 
 -- all turns were taken, the run isn't over, and the lines are theirs and the fault line
 abbrev pub SaysUnfinished : Call → Type 0
@@ -65,13 +68,16 @@ pub record Answers (c : Call) (status : ℕ) : Type 0 where
   pub not_enabled : status ≡ 6 → SaysNotEnabled c
   pub unfinished : status ≡ 8 → SaysUnfinished c
   pub report : status ≡ 9 → SaysReport c
-  pub read : status ≡ 10 → (IsReplay c.words × IsWithin c.source × Writes c.sink (fault_only Read)) × HasReadFault c.source
+  pub read : status ≡ 10 → (IsReplay c.words × IsWithin c.source × Writes c.sink (fault_only Read))
+      × HasReadFault c.source
   pub sound_source : (status ≡ 10 → ⊥) → (status ≡ 11 → ⊥) → c.source.faults_after ≡ c.source.faults
   pub too_long : status ≡ 12 → IsReplay c.words × IsTooLong c.source × Writes c.sink (fault_only TooLong)
   pub known : is_status status ≡ true
   -- each cause, and its status
   pub unread : c.source.faults < c.source.faults_after → Gets status 10
   pub too_much : IsReplay c.words → ¬ HasReadFault c.source → HasTooMuch c.source.left → Gets status 12
-  pub bad_line : IsReplay c.words → ¬ HasReadFault c.source → (number : ℕ) → HasBadInput c.source.left number → Gets status 3
-  pub course : IsReplay c.words → ¬ HasReadFault c.source → (capture : CaptureStrategy) (plan : Plan) (turns : List Turn)
+  pub bad_line : IsReplay c.words → ¬ HasReadFault c.source → (number : ℕ) → HasBadInput c.source.left number
+      → Gets status 3
+  pub course : IsReplay c.words → ¬ HasReadFault c.source
+      → (capture : CaptureStrategy) (plan : Plan) (turns : List Turn)
       → HasInput c.source.left capture plan turns → GetsByCourse capture plan turns c.sink status

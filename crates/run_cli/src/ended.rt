@@ -72,7 +72,8 @@ fn finish<K: Sink>(
     asks: &[(u64, Ask)],
     answer: Result<RunOutcome, TestRunnerExecuteErrors<Failed>>,
 ) -> Ended<K>
-    ensures { (p : Settings) (turns : List Turn) (w : Writing) → K.taken sink ≡ w.taken_after → K.faults sink ≡ w.faults_after
+    ensures { (p : Settings) (turns : List Turn) (w : Writing) → K.taken sink ≡ w.taken_after → K.faults sink
+        ≡ w.faults_after
         → UnlessMemory answer (IsExecuted p turns w asks.now answer)
         → IsReplayEnding p turns (joined w (writing K.taken K.faults sink result.sink)) result.ending }
 {

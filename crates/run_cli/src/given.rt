@@ -25,8 +25,10 @@ pub fn read_given<S: Source>(
     source: &mut S,
 ) -> Result<Input, Fault>
     ensures replay { IfOk result (λ _. IsReplay (map (λ w. string_bytes w) words.now)) }
-    ensures given { IfOk result (λ i. IsGiven (reading S.left S.faults source.old source.new) i.capture i.plan i.turns) }
-    ensures refused { IfErr result (IsGivenFault (map (λ w. string_bytes w) words.now) (reading S.left S.faults source.old source.new)) }
+    ensures given { IfOk result (λ i. IsGiven (reading S.left S.faults source.old source.new) i.capture i.plan
+        i.turns) }
+    ensures refused { IfErr result (IsGivenFault (map (λ w. string_bytes w) words.now)
+        (reading S.left S.faults source.old source.new)) }
     ensures counted { CountsRead (reading S.left S.faults source.old source.new) result }
 {
     if !is_replay(words) {

@@ -23,7 +23,8 @@ pub fn builder_of(capture: CaptureStrategy) -> TestRunnerBuilder
 /// Reads a plan line: the builder that its keys set, and the plan that it says. A line is refused exactly where it is
 /// not in its table.
 pub fn read_plan_line(alloc: Global, line: &[u8]) -> Result<(TestRunnerBuilder, Plan), LineError>
-    ensures { Reads result (option_map (λ said. (builder_of said.0, said.1)) (option_and_then plan_of (value_of line.now))) }
+    ensures { Reads result (option_map (λ said. (builder_of said.0, said.1))
+        (option_and_then plan_of (value_of line.now))) }
 {
     match run_input::read_plan_line(alloc, line) {
         Ok((capture, plan)) => Ok((builder_of(capture), plan)),

@@ -70,7 +70,8 @@ fn fault_of_plan(error: TestRunnerBuildError) -> Fault
 fn replay_input<K: Sink>(alloc: Global, input: Input, sink: K) -> Ended<K>
     requires units { length input.plan.scripts + length input.plan.tests < 2 ^ 32 }
     requires turns { length input.turns < 2 ^ 32 }
-    ensures { IsInputEnding input.capture input.plan input.turns (writing K.taken K.faults sink result.sink) result.ending }
+    ensures { IsInputEnding input.capture input.plan input.turns (writing K.taken K.faults sink result.sink)
+        result.ending }
 {
     let Input {
         capture,
@@ -90,7 +91,8 @@ fn run_to_end<S: Source, K: Sink>(
     source: &mut S,
     sink: K,
 ) -> Ended<K>
-    ensures says { IsEnding (call_of (map (λ w. string_bytes w) words.now) (reading S.left S.faults source.old source.new)
+    ensures says { IsEnding (call_of (map (λ w. string_bytes w) words.now)
+        (reading S.left S.faults source.old source.new)
         (writing K.taken K.faults sink result.sink)) result.ending }
     ensures counted { CountsReadAtEnd (reading S.left S.faults source.old source.new) result.ending }
 {

@@ -86,7 +86,8 @@ pub fn write_outcome<K: Sink>(
     asks: &[(u64, Ask)],
     outcome: RunOutcome,
 ) -> Result<(), WriteError>
-    ensures ok { OnOk result (Takes (K.taken sink.old) (K.taken sink.new) (ask_lines asks.now ++ line_of (outcome_text outcome))) }
+    ensures ok { OnOk result (Takes (K.taken sink.old) (K.taken sink.new)
+        (ask_lines asks.now ++ line_of (outcome_text outcome))) }
     ensures counted { CountsWrite (K.faults sink.old) (K.faults sink.new) result }
 {
     let last = outcome_line(alloc, outcome)?;
@@ -100,7 +101,8 @@ pub fn write_fault<K: Sink>(
     asks: &[(u64, Ask)],
     fault: Fault,
 ) -> Result<(), WriteError>
-    ensures ok { OnOk result (Takes (K.taken sink.old) (K.taken sink.new) (ask_lines asks.now ++ line_of (fault_text fault))) }
+    ensures ok { OnOk result (Takes (K.taken sink.old) (K.taken sink.new)
+        (ask_lines asks.now ++ line_of (fault_text fault))) }
     ensures counted { CountsWrite (K.faults sink.old) (K.faults sink.new) result }
 {
     let last = fault_line(alloc, fault)?;

@@ -129,7 +129,8 @@ impl Dispatcher {
     /// Begins the run: run-started is told.
     pub fn begin(&mut self, alloc: Global, now: u64) -> Fx
         requires idle { self.old.on ≡ false }
-        ensures told { IfOk result (λ fx. fx ≡ record { events = event now (kinds.RunStarted self.old.head) ∷ []; go = None }) }
+        ensures told { IfOk result (λ fx. fx ≡ record
+            { events = event now (kinds.RunStarted self.old.head) ∷ []; go = None }) }
         ensures begun { OnOk result (self.new ≡ record self.old { on = true }) }
         ensures err { OnErr result (self.new ≡ self.old) }
     {
@@ -205,7 +206,8 @@ impl Dispatcher {
     /// Ends the run: run-finished is told, with the statistics.
     pub fn end(&mut self, alloc: Global, now: u64) -> Fx
         requires on { self.old.on ≡ true }
-        ensures told { IfOk result (λ fx. fx ≡ record { events = event now (finale self.old.tally.stats) ∷ []; go = None }) }
+        ensures told { IfOk result (λ fx. fx ≡ record
+            { events = event now (finale self.old.tally.stats) ∷ []; go = None }) }
         ensures over { OnOk result (self.new ≡ record self.old { on = false; over = true }) }
         ensures err { OnErr result (self.new ≡ self.old) }
     {

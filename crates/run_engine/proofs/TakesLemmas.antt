@@ -9,7 +9,6 @@ use Rattle.run_events.specs.declared.turn.Turn.{Turn}
 use Rattle.run_events.specs.declared.ask.Ask.{Ask}
 use Rattle.run_events.specs.declared.events.ReporterEvent.{ReporterEvent}
 use Rattle.run_model.specs.declared.entry.Entry.{Entry}
-use Rattle.run_model.specs.Admission.{units_in}
 use Rattle.run_model.specs.Words.{answers, asked, events_in}
 use Rattle.run_model.specs.Turns.{happening}
 use Rattle.run_model.specs.Journal.{past_of}
@@ -77,18 +76,6 @@ none_refused-push : (journal : List Entry) (e : Entry) → none_refused (journal
 none_refused-push journal e =
     ap (list_all not) (refusals-append journal (e ∷ []) ∙ ap (λ rs. refusals journal ++ rs) (append-nil e.refused))
     ∙ list_all-append not (refusals journal) e.refused
-
--- no turn taken
-pub takes-nil : {R E C : Type 0} (tells : R → List (ReporterEvent × Option E) → Type 0) (asks : C → List (ℕ × Ask) → Type 0)
-    (p : Settings) (report : R) (children : C) (faults : ℕ) → units_in p < 2 ^ 32
-    → Takes {R = R} {E = E} {C = C} tells asks p [] report report children children faults faults None
-takes-nil tells asks p report children faults few = record {
-  runnable = record { few = few; short = omega arith; legal = tt };
-  marked = refl;
-  told = λ xs t. ([], subst (tells report) (sym (append-nil xs)) t, refl, refl);
-  asked = λ xs t. subst (asks children) (sym (append-nil xs)) t;
-  counted = refl;
-}
 
 -- one more turn taken
 pub takes-more : {R E C : Type 0} (tells : R → List (ReporterEvent × Option E) → Type 0) (asks : C → List (ℕ × Ask) → Type 0)

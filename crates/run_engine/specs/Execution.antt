@@ -1,5 +1,5 @@
 -- What carrying out a list of turns does, and what each answer says of it.
-use Rattle.std.specs.Prelude.{ℕ, ◌≡◌, ◌⊎◌, ◌<◌, List, map, take, slice_get, Bool, true, false, Option, Some, None, is_none, Result, Ok, Err, ⊤}
+use Rattle.std.specs.Prelude.{ℕ, ◌≡◌, ◌⊎◌, ◌<◌, List, take, slice_get, Bool, true, false, Option, Some, None, is_none, Result, Ok, Err, ⊤}
 use Rattle.std.specs.List.{All, Contains}
 use Rattle.run_events.specs.Tell.{Adds}
 use Rattle.run_events.specs.declared.settings.Settings.{Settings}
@@ -24,8 +24,10 @@ use Rattle.run_engine.specs.declared.errors.TestRunnerExecuteErrors.TheVariants.
 -- a run of this plan has taken the turns of a journal: the reporter has told its events and the children were asked
 -- its asks, in order, and nothing else; the refusal is the reporter's first error, and there is one where an event was
 -- refused
-pub record Takes {R E C : Type 0} (tells : R → List (ReporterEvent × Option E) → Type 0) (asks : C → List (ℕ × Ask) → Type 0)
-    (p : Settings) (journal : List Entry) (report report_after : R) (children children_after : C) (faults faults_after : ℕ) (refusal : Option E)
+pub record Takes {R E C : Type 0} (tells : R → List (ReporterEvent × Option E) → Type 0)
+    (asks : C → List (ℕ × Ask) → Type 0)
+    (p : Settings) (journal : List Entry) (report report_after : R) (children children_after : C)
+        (faults faults_after : ℕ) (refusal : Option E)
     : Type 0 where
   pub runnable : IsRunnable p journal
   pub marked : is_none refusal ≡ none_refused journal
@@ -34,13 +36,15 @@ pub record Takes {R E C : Type 0} (tells : R → List (ReporterEvent × Option E
   pub counted : CountsErrors faults faults_after refusal
 
 -- what each answer says of the turns given, the journal of the call and the reporter's first error
-abbrev pub IsAnswerOf : {E : Type 0} → Settings → List Turn → List Entry → Option E → Result RunOutcome (TestRunnerExecuteErrors E) → Type 0
+abbrev pub IsAnswerOf : {E : Type 0} → Settings → List Turn → List Entry → Option E
+    → Result RunOutcome (TestRunnerExecuteErrors E) → Type 0
 IsAnswerOf p turns journal refusal (Ok o) =
     (turns_of journal ≡ turns) × (outcome p (past_of p journal) ≡ Some o) × (refusal ≡ None)
 IsAnswerOf p turns journal refusal (Err (Report e)) =
     (turns_of journal ≡ turns) × (is_over (past_of p journal) ≡ true) × (refusal ≡ Some e)
 IsAnswerOf p turns journal refusal (Err (NotEnabled i)) =
-    (turns_of journal ≡ take i turns) × ((turn : Turn) × (slice_get turns i ≡ Some turn) × (enabled p (past_of p journal) turn ≡ false))
+    (turns_of journal ≡ take i turns) × ((turn : Turn) × (slice_get turns i ≡ Some turn)
+        × (enabled p (past_of p journal) turn ≡ false))
 IsAnswerOf p turns journal refusal (Err Unfinished) =
     (turns_of journal ≡ turns) × (is_over (past_of p journal) ≡ false)
 IsAnswerOf p turns journal refusal (Err OutOfMemory) = ⊤
@@ -59,12 +63,14 @@ pub record AnswersCourse {E : Type 0} (p : Settings) (turns : List Turn) (refuse
     (answer : Result RunOutcome (TestRunnerExecuteErrors E)) : Type 0 where
   pub stops : (place : ℕ) → Stops p turns refuses place → (answer ≡ Err (NotEnabled place)) ⊎ (answer ≡ Err OutOfMemory)
   pub unfinished : GoesOn p turns refuses → (answer ≡ Err Unfinished) ⊎ (answer ≡ Err OutOfMemory)
-  pub ended : (o : RunOutcome) → Ends p turns refuses o → ¬ Rose faults faults_after → (answer ≡ Ok o) ⊎ (answer ≡ Err OutOfMemory)
+  pub ended : (o : RunOutcome) → Ends p turns refuses o → ¬ Rose faults faults_after → (answer ≡ Ok o)
+      ⊎ (answer ≡ Err OutOfMemory)
   pub refused : (o : RunOutcome) → Ends p turns refuses o → faults < faults_after
       → ((e : E) × (answer ≡ Err (Report e))) ⊎ (answer ≡ Err OutOfMemory)
 
 -- the journal of a call that carries out turns, and what its answer says of it
-pub record Carries {R E C : Type 0} (tells : R → List (ReporterEvent × Option E) → Type 0) (asks : C → List (ℕ × Ask) → Type 0)
+pub record Carries {R E C : Type 0} (tells : R → List (ReporterEvent × Option E) → Type 0)
+    (asks : C → List (ℕ × Ask) → Type 0)
     (p : Settings) (turns : List Turn) (report report_after : R) (children children_after : C) (faults faults_after : ℕ)
     (answer : Result RunOutcome (TestRunnerExecuteErrors E)) : Type 0 where
   pub journal : List Entry
@@ -74,7 +80,8 @@ pub record Carries {R E C : Type 0} (tells : R → List (ReporterEvent × Option
 
 -- the same, and each test has its fate in each sub-run that has ended, which the newest is of a run that is over; and
 -- with any reporter that answers so, the turns have the course that is answered
-pub record Executes {R E C : Type 0} (tells : R → List (ReporterEvent × Option E) → Type 0) (asks : C → List (ℕ × Ask) → Type 0)
+pub record Executes {R E C : Type 0} (tells : R → List (ReporterEvent × Option E) → Type 0)
+    (asks : C → List (ℕ × Ask) → Type 0)
     (p : Settings) (turns : List Turn) (report report_after : R) (children children_after : C) (faults faults_after : ℕ)
     (answer : Result RunOutcome (TestRunnerExecuteErrors E)) : Type 0 where
   pub journal : List Entry
@@ -82,20 +89,25 @@ pub record Executes {R E C : Type 0} (tells : R → List (ReporterEvent × Optio
   pub takes : Takes tells asks p journal report report_after children children_after faults faults_after refusal
   pub says : IsAnswerOf p turns journal refusal answer
   pub fates : All (HaveFates p) (ended_runs (past_of p journal))
-  pub over : is_over (past_of p journal) ≡ true → Contains (ended_runs (past_of p journal)) (sub_run (past_of p journal))
-  pub course : (refuses : ℕ → Bool) → AreAnswersOf refuses journal → AnswersCourse p turns refuses faults faults_after answer
+  pub over : is_over (past_of p journal) ≡ true → Contains (ended_runs (past_of p journal))
+      (sub_run (past_of p journal))
+  pub course : (refuses : ℕ → Bool) → AreAnswersOf refuses journal
+      → AnswersCourse p turns refuses faults faults_after answer
 
 -- a list of turns stops where the turn at that place isn't enabled after the turns before it
 abbrev pub StopsAt : {R E C : Type 0} → (R → List (ReporterEvent × Option E) → Type 0) → (C → List (ℕ × Ask) → Type 0)
     → Settings → List Turn → List Entry → R → R → C → C → ℕ → ℕ → Stop → Type 0
-StopsAt {R} {E} tells asks p turns journal report report_after children children_after faults faults_after (stops.NotEnabled i) =
-    ((refusal : Option E) × Takes tells asks p journal report report_after children children_after faults faults_after refusal)
+StopsAt {R} {E} tells asks p turns journal report report_after children children_after faults faults_after
+    (stops.NotEnabled i) =
+    ((refusal : Option E) × Takes tells asks p journal report report_after children children_after faults
+        faults_after refusal)
     × (turns_of journal ≡ take i turns)
     × ((turn : Turn) × (slice_get turns i ≡ Some turn) × (enabled p (past_of p journal) turn ≡ false))
 StopsAt tells asks p turns journal report report_after children children_after faults faults_after stops.OutOfMemory = ⊤
 
 -- what is answered at the end of all turns, by the run's outcome and the reporter's first error
-abbrev pub IsFinal : {E : Type 0} → Option RunOutcome → Option E → Result RunOutcome (TestRunnerExecuteErrors E) → Type 0
+abbrev pub IsFinal : {E : Type 0} → Option RunOutcome → Option E → Result RunOutcome (TestRunnerExecuteErrors E)
+    → Type 0
 IsFinal ended refusal (Ok o) = (ended ≡ Some o) × (refusal ≡ None)
 IsFinal ended refusal (Err (Report e)) = ((o : RunOutcome) × (ended ≡ Some o)) × (refusal ≡ Some e)
 IsFinal ended refusal (Err Unfinished) = ended ≡ None

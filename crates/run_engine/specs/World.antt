@@ -38,10 +38,12 @@ first_error [] = None
 first_error (x ∷ xs) = earlier x.1 (first_error xs)
 
 -- a reporter that had told a list has told these events after it, refused as marked, with this first error
-abbrev pub TellsEvents : {R E : Type 0} → (R → List (ReporterEvent × Option E) → Type 0) → R → R → List (ReporterEvent × Bool) → Option E → Type 0
+abbrev pub TellsEvents : {R E : Type 0} → (R → List (ReporterEvent × Option E) → Type 0) → R → R
+    → List (ReporterEvent × Bool) → Option E → Type 0
 TellsEvents {R} {E} told before after events refusal =
     (xs : List (ReporterEvent × Option E)) → told before xs
-    → (ys : List (ReporterEvent × Option E)) × told after (xs ++ ys) × (map flagged ys ≡ events) × (first_error ys ≡ refusal)
+    → (ys : List (ReporterEvent × Option E)) × told after (xs ++ ys) × (map flagged ys ≡ events)
+        × (first_error ys ≡ refusal)
 
 -- a reporter's count of faults rose where it refused an event, and else stayed
 abbrev pub CountsErrors : {E : Type 0} → ℕ → ℕ → Option E → Type 0
@@ -58,8 +60,10 @@ next_of w turn refused = happening w.settings (history_of w) (entry_of turn refu
 
 -- a run takes a turn: it was enabled, the journal grows by it and the reporter's answers, and the reporter and the
 -- children are told and asked what the tables say
-pub record TakesTurn {R E C : Type 0} (tells : R → List (ReporterEvent × Option E) → Type 0) (asks : C → List (ℕ × Ask) → Type 0)
-    (old : World) (turn : Turn) (report : R) (children : C) (new : World) (report_after : R) (children_after : C) (refusal : Option E)
+pub record TakesTurn {R E C : Type 0} (tells : R → List (ReporterEvent × Option E) → Type 0)
+    (asks : C → List (ℕ × Ask) → Type 0)
+    (old : World) (turn : Turn) (report : R) (children : C) (new : World) (report_after : R) (children_after : C)
+        (refusal : Option E)
     : Type 0 where
   pub is_enabled : IsTrue (enabled old.settings (history_of old) turn)
   pub refused : List Bool
@@ -67,4 +71,5 @@ pub record TakesTurn {R E C : Type 0} (tells : R → List (ReporterEvent × Opti
   pub grown : new ≡ record old { journal = old.journal ++ entry_of turn refused ∷ [] }
   pub marked : is_none refusal ≡ list_all not refused
   pub told : TellsEvents tells report report_after (zip (events_in (next_of old turn refused)) refused) refusal
-  pub asked : Adds asks children children_after (map (λ ask. (length old.journal, ask)) (option_to_list (next_of old turn refused).asked))
+  pub asked : Adds asks children children_after (map (λ ask. (length old.journal, ask))
+      (option_to_list (next_of old turn refused).asked))

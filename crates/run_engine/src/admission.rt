@@ -158,7 +158,8 @@ fn start_test(
     requires planned { test < length settings.now.plan.tests }
     requires few { units_in settings.now < 2 ^ 32 }
     requires whole { length units.now ≡ units_in settings.now }
-    ensures unit { IfOk result (λ a. option_map (first_view settings.now (unit_of_test settings.now test) (global_slot (free_slot units.now)))
+    ensures unit { IfOk result (λ a. option_map (first_view settings.now (unit_of_test settings.now test)
+        (global_slot (free_slot units.now)))
         (slice_get settings.now.plan.tests test) ≡ Some a.unit) }
     ensures sent { IfOk result (λ a. a.sent ≡ start_message a.unit) }
 {

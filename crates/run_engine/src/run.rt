@@ -58,7 +58,8 @@ fn send<C: Children, R: Reporter>(
         (map (λ ask. (place, ask)) (option_to_list effects.asked))) }
     ensures answered { IfOk result (λ t. length t.refused ≡ length effects.events) }
     ensures marked { IfOk result (λ t. is_none t.refusal ≡ list_all not t.refused) }
-    ensures told { IfOk result (λ t. TellsEvents R.told report.old report.new (zip effects.events t.refused) t.refusal) }
+    ensures told { IfOk result (λ t. TellsEvents R.told report.old report.new (zip effects.events t.refused)
+        t.refusal) }
     ensures faults { IfOk result (λ t. CountsErrors (R.faults report.old) (R.faults report.new) t.refusal) }
 {
     let Effects { events, asked } = effects;
@@ -95,8 +96,10 @@ fn act<C: Children, R: Reporter>(
     requires short { length journal.old.items < 2 ^ 32 }
     ensures after { OnOk result (state.new ≡ step state.old turn.now (deed_on settings.now state.old turn.now)) }
     ensures asked { OnOk result (Adds C.asked children.old children.new
-        (map (λ ask. (length journal.old.items, ask)) (option_to_list (deed_on settings.now state.old turn.now).asked))) }
-    ensures answered { IfOk result (λ t. length t.refused ≡ length (deed_events (deed_on settings.now state.old turn.now))) }
+        (map (λ ask. (length journal.old.items, ask))
+            (option_to_list (deed_on settings.now state.old turn.now).asked))) }
+    ensures answered { IfOk result (λ t. length t.refused
+        ≡ length (deed_events (deed_on settings.now state.old turn.now))) }
     ensures marked { IfOk result (λ t. is_none t.refusal ≡ list_all not t.refused) }
     ensures told { IfOk result (λ t. TellsEvents R.told report.old report.new
         (zip (deed_events (deed_on settings.now state.old turn.now)) t.refused) t.refusal) }

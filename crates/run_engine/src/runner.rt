@@ -88,7 +88,8 @@ fn take_all<C: Children, R: Reporter>(
         children.old children.new (R.faults report.old) (R.faults report.new) refusal) }
     ensures all { OnOk result (turns_of run.new.journal ≡ turns.now) }
     ensures run { OnOk result (run.new ≡ sound run.old.settings run.new.journal) }
-    ensures stopped { IfErr result (StopsAt R.told C.asked run.old.settings turns.now run.new.journal report.old report.new
+    ensures stopped { IfErr result (StopsAt R.told C.asked run.old.settings turns.now run.new.journal report.old
+        report.new
         children.old children.new (R.faults report.old) (R.faults report.new)) }
 {
     let mut first = None;
@@ -126,7 +127,8 @@ fn run_all<C: Children, R: Reporter>(
     requires fresh { run.old ≡ sound run.old.settings [] }
     requires units { units_in run.old.settings < 2 ^ 32 }
     requires few { length turns.now < 2 ^ 32 }
-    ensures { UnlessMemory result (Carries R.told C.asked run.old.settings turns.now report.old report.new children.old children.new
+    ensures { UnlessMemory result (Carries R.told C.asked run.old.settings turns.now report.old report.new
+        children.old children.new
         (R.faults report.old) (R.faults report.new) result) }
 {
     match take_all(alloc, run, turns, children, report) {
@@ -193,7 +195,8 @@ impl TestRunner {
         report: &mut R,
     ) -> Result<RunOutcome, TestRunnerExecuteErrors<R::Error>>
         requires { length turns.now < 2 ^ 32 }
-        ensures executes { UnlessMemory result (Executes R.told C.asked self turns.now report.old report.new children.old children.new
+        ensures executes { UnlessMemory result (Executes R.told C.asked self turns.now report.old report.new
+            children.old children.new
             (R.faults report.old) (R.faults report.new) result) }
         ensures course { ¬ Rose (R.faults report.old) (R.faults report.new)
             → AnswersCourse self turns.now refuses_none (R.faults report.old) (R.faults report.new) result }
@@ -210,7 +213,8 @@ impl TestRunner {
         report: &mut R,
     ) -> Result<RunOutcome, TestRunnerExecuteErrors<R::Error>>
         requires { length turns.now < 2 ^ 32 }
-        ensures { UnlessMemory result (Carries R.told C.asked self turns.now report.old report.new children.old children.new
+        ensures { UnlessMemory result (Carries R.told C.asked self turns.now report.old report.new children.old
+            children.new
             (R.faults report.old) (R.faults report.new) result) }
     {
         match self.into_run(alloc) {
@@ -232,7 +236,8 @@ impl TestRunner {
         log: &mut EventLog,
     ) -> Result<RunOutcome, TestRunnerExecuteErrors<Infallible>>
         requires { length turns.now < 2 ^ 32 }
-        ensures executes { UnlessMemory result (Executes ⟦<EventLog as Reporter>⟧.told C.asked self turns.now log.old log.new children.old children.new 0 0 result) }
+        ensures executes { UnlessMemory result (Executes ⟦<EventLog as Reporter>⟧.told C.asked self turns.now log.old
+            log.new children.old children.new 0 0 result) }
         ensures course { AnswersCourse self turns.now refuses_none 0 0 result }
     {
         self.try_execute(alloc, turns, children, log)

@@ -22,5 +22,6 @@ impl Model for State {
 
     ghost Value = { Board };
 
-    ghost view = { λ s. record { units = s.units.items; queue = s.queue.items; dispatcher = s.dispatcher; clock = s.clock } };
+    ghost view = { λ s. record { units = s.units.items; queue = s.queue.items; dispatcher = s.dispatcher;
+        clock = s.clock } };
 }

@@ -46,7 +46,8 @@ fn send(queue: &mut VecDeque<Message>, sent: Option<Message>)
 /// A unit takes a turn of its own.
 pub fn take_turn(alloc: Global, state: &mut State, unit: u32, turn: UnitTurn) -> Mem<Option<Ask>>
     requires { CanTake state.old unit turn }
-    ensures after { OnOk result (state.new ≡ moved state.old (taken_by state.old.clock unit turn (unit_in state.old unit))) }
+    ensures after { OnOk result (state.new ≡ moved state.old
+        (taken_by state.old.clock unit turn (unit_in state.old unit))) }
     ensures asked { IfOk result (λ asked. asked ≡ (taken_by state.old.clock unit turn (unit_in state.old unit)).asked) }
 {
     state.queue.reserve(1)?;

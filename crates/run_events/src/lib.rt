@@ -1,6 +1,6 @@
 //! The plain data of a run: plan and settings, turns, messages, events and asks; results, statistics
 //! and outcomes with their rules; and the two ends that a run speaks to, a `Reporter` that is told its
-//! events and the `Children` that it asks for starts. Every layer above speaks in these types.
+//! events and the `Children` that it asks for starts and signals. Every layer above speaks in these types.
 #![tactic(auto)]
 
 mod adds;

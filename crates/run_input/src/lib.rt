@@ -1,6 +1,6 @@
 //! The input of a run: all bytes of a source, its lines, and what each line means. The first line is
-//! the plan, each later one a turn. A line is a JSON object with known keys and whole numbers; the
-//! first line that is anything else is named by its number.
+//! the plan, each later one a turn. A line is a JSON object with the keys of its table, and no float;
+//! the first line that is anything else is named by its number.
 #![tactic(auto)]
 
 mod errors;

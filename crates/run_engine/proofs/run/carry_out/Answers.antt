@@ -1,4 +1,4 @@
-use Rattle.std.proofs.Common.{◌≡◌, ◌∷◌, ◌++◌, [], length, refl, ap, sym, subst, ◌∙◌, arith}
+use Rattle.std.proofs.Common.{◌≡◌, ◌∷◌, ◌++◌, [], length, refl, ap, sym, subst, ◌∙◌}
 use Rattle.run_model.specs.Board.{Board, board, deed_events}
 use Rattle.run_model.specs.Turns.{deed_on}
 use Rattle.run_model.specs.Journal.{past_of}

@@ -1,4 +1,4 @@
-use Rattle.std.proofs.Common.{rules, false, Some, slice_get, ◌≡◌, ◌+◌, ◌<◌, ◌^◌, length, ap, sym, subst, ◌∙◌, arith}
+use Rattle.std.proofs.Common.{false, Some, slice_get, ◌≡◌, ◌+◌, ◌<◌, ◌^◌, length, ap, sym, subst, ◌∙◌, arith}
 use Rattle.std.proofs.lemmas.Option.{slice_get-get_or}
 use Rattle.run_model.specs.Turns.{enabled}
 use Rattle.run_engine.specs.World.{World, TakesTurn, history_of}

@@ -1,4 +1,4 @@
-use Rattle.std.proofs.Common.{[], false, sym, subst, arith}
+use Rattle.std.proofs.Common.{false, sym, subst, arith}
 use Rattle.run_engine.specs.Standing.{IsStanding}
 use Rattle.run_engine.proofs.run.Run.begin.Goals as goal
 
