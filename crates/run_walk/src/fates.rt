@@ -1,107 +1,146 @@
 // What was told of a test, beside its own turns and the account of its fate.
-use crate::lines::are_alike;
 use crate::plan::Tests;
-use crate::steps::Walked;
-use run_capture::{Duplicate, List, Mem, Text};
-use run_events::{
-    ExecuteStatus, ReporterEvent, TestEvent, TestEventKind, TestFinish, TestFinished,
-};
-use run_plain::{News, account, account_of, meets_attempt_law, statuses_of};
+use crate::steps::Walk;
+use run_capture::{ChildFdError, List, Mem, Text};
+use run_events::{ChildExecutionOutput, ExecuteStatus, ReporterEvent, TestEventKind};
+use run_plain::{News, OwnTurn, account, account_of, meets_attempt_law, statuses_of};
 use std::alloc::Global;
 
 // The attempts of the first unit, by its own turns.
-fn attempts(alloc: Global, walked: &Walked) -> Mem<List<ExecuteStatus>> {
-    if walked.story.len() > 100 {
+fn attempts(alloc: Global, story: &[OwnTurn]) -> Mem<List<ExecuteStatus>> {
+    if story.len() > 100 {
         return Ok(List::new());
     }
-    statuses_of(alloc, 1, walked.story.as_slice())
+    statuses_of(alloc, 2, story)
 }
 
-// The event that a test finished, had it finished with these attempts.
-fn finished_with(
-    alloc: Global,
-    event: &TestEvent,
-    finished: &TestFinished,
-    statuses: List<ExecuteStatus>,
-) -> Mem<ReporterEvent> {
-    let test = finished.finish.test.copy(alloc)?;
-    Ok(ReporterEvent::Test(TestEvent {
-        clock: event.clock,
-        elapsed: event.elapsed,
-        kind: TestEventKind::TestFinished(TestFinished {
-            finish: TestFinish {
-                test,
-                statuses,
-                flaky: finished.finish.flaky,
-            },
-            running: finished.running,
-            stats: finished.stats,
-        }),
-    }))
+// Whether errors are the same; only those of waits come here.
+fn are_same_errors(one: &[ChildFdError], other: &[ChildFdError]) -> bool {
+    match (one, other) {
+        ([], []) => true,
+        ([ChildFdError::Wait(one)], [ChildFdError::Wait(other)]) => one.as_str() == other.as_str(),
+        _ => false,
+    }
 }
 
-// Whether the last event, where it tells that a test finished, tells the attempts of the first unit's own turns.
-pub fn has_own_attempts(alloc: Global, walked: &Walked) -> Mem<bool> {
-    let Some(told) = walked.ends.log.events().last() else {
+// Whether the same came of two children, of which no output is captured.
+fn is_same_output(one: &ChildExecutionOutput, other: &ChildExecutionOutput) -> bool {
+    match (one, other) {
+        (ChildExecutionOutput::StartError(one), ChildExecutionOutput::StartError(other)) => {
+            one.as_str() == other.as_str()
+        }
+        (
+            ChildExecutionOutput::Output { errors: one, .. },
+            ChildExecutionOutput::Output { errors: other, .. },
+        ) => are_same_errors(one.as_slice(), other.as_slice()),
+        _ => false,
+    }
+}
+
+fn is_same_status(one: &ExecuteStatus, other: &ExecuteStatus) -> bool {
+    one.attempt == other.attempt
+        && one.attempts == other.attempts
+        && one.delay == other.delay
+        && one.result == other.result
+        && one.slow == other.slow
+        && one.start == other.start
+        && one.time == other.time
+        && is_same_output(&one.output, &other.output)
+}
+
+fn are_same_attempts(one: &[ExecuteStatus], other: &[ExecuteStatus]) -> bool {
+    one.len() == other.len()
+        && one
+            .iter()
+            .zip(other)
+            .all(|(one, other)| is_same_status(one, other))
+}
+
+// The attempts that an event tells, where it tells that a test finished.
+fn finished_in(event: &ReporterEvent) -> Option<&[ExecuteStatus]> {
+    match event {
+        ReporterEvent::Test(event) => match &event.kind {
+            TestEventKind::TestFinished(event) => Some(event.finish.statuses.as_slice()),
+            _ => None,
+        },
+        ReporterEvent::Tick => None,
+    }
+}
+
+fn last_finished(events: &[ReporterEvent]) -> Option<&[ExecuteStatus]> {
+    match events.last() {
+        Some(event) => finished_in(event),
+        None => None,
+    }
+}
+
+// Whether the attempts that the last event tells, where it tells that a test finished, are the first unit's own turns.
+pub fn has_own_attempts(alloc: Global, walk: &Walk) -> Mem<bool> {
+    let Some(told) = last_finished(walk.events()) else {
         return Ok(true);
     };
-    let ReporterEvent::Test(event) = told else {
-        return Ok(false);
-    };
-    let TestEventKind::TestFinished(finished) = &event.kind else {
-        return Ok(true);
-    };
-    let statuses = attempts(alloc, walked)?;
-    let expected = finished_with(alloc, event, finished, statuses)?;
-    are_alike(alloc, told, &expected)
+    let attempts = attempts(alloc, walk.story.as_slice())?;
+    Ok(are_same_attempts(told, attempts.as_slice()))
 }
 
-// An account in letters: what was told, with the number of attempts of a finish.
-fn letters(alloc: Global, account: &List<News>) -> Mem<Text> {
+fn letter(news: &News) -> &'static str {
+    match news {
+        News::Started => "s",
+        News::Failed(_) => "f",
+        News::Retried => "r",
+        News::Finished(statuses) if statuses.len() == 1 => "1",
+        News::Finished(_) => "n",
+        News::Skipped => "k",
+    }
+}
+
+// An account in letters, one for each thing told.
+fn letters(alloc: Global, account: &[News]) -> Mem<Text> {
     let mut letters = Text::from_str(alloc, "")?;
-    for news in account.as_slice() {
-        let letter = match news {
-            News::Started => "s",
-            News::Failed(_) => "f",
-            News::Retried => "r",
-            News::Finished(statuses) if statuses.len() == 1 => "1",
-            News::Finished(_) => "n",
-            News::Skipped => "k",
-        };
-        letters.push_str(alloc, letter)?;
+    for news in account {
+        letters.push_str(alloc, letter(news))?;
     }
     Ok(letters)
 }
 
-fn is_account(alloc: Global, events: &[ReporterEvent], unit: u32, fate: &List<News>) -> Mem<bool> {
-    let told = account_of(alloc, unit, events)?;
-    let told = letters(alloc, &told)?;
-    let fate = letters(alloc, fate)?;
+fn told_letters(alloc: Global, walk: &Walk, unit: u32) -> Mem<Text> {
+    let account = account_of(alloc, unit, walk.events())?;
+    letters(alloc, account.as_slice())
+}
+
+fn fate_letters(alloc: Global, mismatched: bool, statuses: &List<ExecuteStatus>) -> Mem<Text> {
+    let account = account(alloc, mismatched, false, false, statuses)?;
+    letters(alloc, account.as_slice())
+}
+
+// Whether what was told of a unit is the account of its fate, with these attempts.
+fn has_fate(
+    alloc: Global,
+    walk: &Walk,
+    unit: u32,
+    mismatched: bool,
+    statuses: &List<ExecuteStatus>,
+) -> Mem<bool> {
+    let told = told_letters(alloc, walk, unit)?;
+    let fate = fate_letters(alloc, mismatched, statuses)?;
     Ok(told.as_str() == fate.as_str())
 }
 
-// Whether what was told of the first unit in a run that is over is the account of its fate, with attempts that meet
-// their law.
-fn has_first_fate(alloc: Global, walked: &Walked) -> Mem<bool> {
-    let statuses = attempts(alloc, walked)?;
-    let fate = account(alloc, false, false, false, &statuses)?;
-    let told = is_account(alloc, walked.ends.log.events(), 0, &fate)?;
+// The same of the first unit, whose attempts meet their law.
+fn has_first_fate(alloc: Global, walk: &Walk) -> Mem<bool> {
+    let statuses = attempts(alloc, walk.story.as_slice())?;
+    let told = has_fate(alloc, walk, 0, false, &statuses)?;
     Ok(told && meets_attempt_law(0, statuses.as_slice()))
 }
 
-// The same of a second unit, which doesn't match.
-fn has_second_fate(alloc: Global, walked: &Walked) -> Mem<bool> {
-    let fate = account(alloc, true, false, false, &List::new())?;
-    is_account(alloc, walked.ends.log.events(), 1, &fate)
-}
-
-pub fn have_fates(alloc: Global, of: Tests, walked: &Walked) -> Mem<bool> {
-    if walked.outcome.is_none() {
+// Whether each test has its fate in a run that is over: the second doesn't match.
+pub fn have_fates(alloc: Global, of: Tests, walk: &Walk) -> Mem<bool> {
+    if walk.outcome.is_none() {
         return Ok(true);
     }
-    let first = has_first_fate(alloc, walked)?;
+    let first = has_first_fate(alloc, walk)?;
     match of {
         Tests::One => Ok(first),
-        Tests::OneAndSkipped => Ok(first && has_second_fate(alloc, walked)?),
+        Tests::OneAndSkipped => Ok(first && has_fate(alloc, walk, 1, true, &List::new())?),
     }
 }
