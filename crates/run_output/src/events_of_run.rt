@@ -20,8 +20,8 @@ use crate::leaf::Leaf;
 use crate::object::Object;
 use run_capture::Mem;
 use run_events::{
-    InfoAnswered, InfoStarted, InfoSubject, InputEntered, JobControlled, RunCancelled, RunFinished,
-    RunFinishedStats, RunStarted, ScriptUnit, StressProgress, SubRunFinished, TestUnit,
+    InputEntered, JobControlled, RunCancelled, RunFinished, RunFinishedStats, RunStarted,
+    StressProgress, SubRunFinished,
 };
 use std::alloc::Global;
 

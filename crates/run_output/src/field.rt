@@ -22,21 +22,34 @@ use run_events::{
 };
 use std::alloc::Global;
 
-/// What stands at a key of an event's line: something plain, or one object or more.
+/// What stands at a key of an event's line: something plain, an object, or a list of objects.
 #[derive(Clone, Copy)]
 pub(crate) enum Field<'a> {
+    /// No object.
     Leaf(Leaf<'a>),
+    /// The statistics of a run.
     Stats(&'a RunStats),
+    /// A test's slot.
     Slot(&'a TestSlotAssignment),
+    /// An attempt of a test.
     Status(&'a ExecuteStatus),
+    /// The attempts of a test.
     Statuses(&'a List<ExecuteStatus>),
+    /// The attempt of a setup script.
     ScriptStatus(&'a SetupScriptExecuteStatus),
+    /// When a stress run ends; left out where it is none.
     Stress(&'a Option<StressCondition>),
+    /// Which sub-run it is; left out where there is none.
     Index(Option<StressIndex>),
+    /// How far a stress run is.
     Progress(StressProgress),
+    /// What came of the sub-runs of a stress run.
     StressStats(&'a StressRunStats),
+    /// The tests that were expected and not seen; left out but in a rerun.
     NotSeen(&'a Option<TestsNotSeen>),
+    /// What a unit is doing.
     State(&'a InfoResponse),
+    /// What its child wrote so far.
     Output(&'a InfoResponse),
 }
 

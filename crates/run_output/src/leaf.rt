@@ -16,27 +16,38 @@ use uuid::Uuid;
 /// What stands at a key. No variant holds a float.
 #[derive(Clone, Copy)]
 pub(crate) enum Leaf<'a> {
-    /// The key is left out.
+    /// Nothing: the key is left out.
     Absent,
+    /// A number.
     Count(u32),
+    /// A number.
     Number(u64),
-    /// Left out where it is 0.
+    /// A number, left out where it is 0.
     Nonzero(u64),
+    /// A truth value.
     Truth(bool),
+    /// A text of this crate's own.
     Word(&'a str),
+    /// A text.
     Text(&'a Text),
+    /// A list of texts.
     Texts(&'a List<Text>),
-    /// Each as a list of two texts.
+    /// A list of pairs of texts, each as a list of two.
     Pairs(&'a [(Text, Text)]),
-    /// Bytes, in hex.
+    /// Bytes, as a text in hex.
     Hex(&'a Blob),
+    /// An id, as a text.
     Id(Uuid),
-    /// The binary and the name.
+    /// A test, as a list of its binary and its name.
     Test(&'a TestInstanceId),
+    /// A list of tests.
     Tests(&'a List<TestInstanceId>),
+    /// A result, as a text.
     Result(ExecutionResult),
-    /// The errors of a child, and then that of its environment file; left out where there is none.
+    /// The errors of a child and then that of its environment file, as a list of texts; left out where
+    /// there is none.
     Errors(&'a ChildExecutionOutput, Option<SetupScriptOutputError>),
+    /// How often a stress run repeats, as a text.
     Runs(StressCount),
 }
 
