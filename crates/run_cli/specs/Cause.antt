@@ -19,11 +19,11 @@ Gets status expected = (status ≡ expected) ⊎ (status ≡ 11)
 
 -- the source has an input, whose lines say a plan and turns
 pub record HasInput (left : Option (List ℕ)) (capture : CaptureStrategy) (plan : Plan) (turns : List Turn) : Type 0
-    where
-  pub bytes : List ℕ
-  pub told : left ≡ Some bytes
-  pub within : length bytes ≤ input_limit
-  pub says : IsInput (lines_of bytes) capture plan turns
+  where
+    pub bytes : List ℕ
+    pub told : left ≡ Some bytes
+    pub within : length bytes ≤ input_limit
+    pub says : IsInput (lines_of bytes) capture plan turns
 
 -- the source has an input whose line of this number is the first bad one
 pub record HasBadInput (left : Option (List ℕ)) (number : ℕ) : Type 0 where

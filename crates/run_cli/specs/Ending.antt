@@ -74,7 +74,7 @@ pub record HasBadPlan (source : Reading) (fault : PlanFault) : Type 0 where
 abbrev pub IsEnding : Call → Result RunOutcome Fault → Type 0
 IsEnding c (Ok o) =
     (r : Replays c) × IsWhole r o × HasTaken c.sink (history_text (history_in r) (Ok o))
-        × (c.sink.faults_after ≡ c.sink.faults)
+    × (c.sink.faults_after ≡ c.sink.faults)
 IsEnding c (Err Report) = (r : Replays c) × (o : RunOutcome) × IsWhole r o × HasWriteFault c.sink
 IsEnding c (Err (NotEnabled place)) =
     (r : Replays c) × StopsBefore r place × Writes c.sink (history_text (history_in r) (Err (NotEnabled place)))

@@ -22,7 +22,7 @@ use Rattle.run_cli.specs.Text.{event_lines}
 abbrev pub TookEvents : Settings → List Entry → Writing → Type 0
 TookEvents p journal w =
     (ys : List (ReporterEvent × Option Failed)) × (map flagged ys ≡ answers (past_of p journal))
-        × TookLines w.taken w.taken_after ys
+    × TookLines w.taken w.taken_after ys
 
 -- the journal of the call says the answer and the asks. Where no event was refused, which its answers say, the sink has
 -- taken the lines of the events whole and its count of faults stayed; else the count rose

@@ -48,7 +48,7 @@ IsReplayEnding p turns w (Ok o) =
     × HasTaken w (history_text (past_of p r.journal) (Ok o)) × (w.faults_after ≡ w.faults)
 IsReplayEnding p turns w (Err Report) =
     (r : IsReplayed p w) × (turns_of r.journal ≡ turns)
-        × ((o : RunOutcome) × (outcome p (past_of p r.journal) ≡ Some o))
+    × ((o : RunOutcome) × (outcome p (past_of p r.journal) ≡ Some o))
     × HasWriteFault w
 IsReplayEnding p turns w (Err (NotEnabled place)) =
     (r : IsReplayed p w) × (turns_of r.journal ≡ take place turns)

@@ -37,7 +37,7 @@ IsWithin r = (bytes : List ℕ) × HasGiven r bytes × (length bytes ≤ input_l
 abbrev pub HasBadLine : Reading → ℕ → Type 0
 HasBadLine r number =
     (bytes : List ℕ) × HasGiven r bytes × AtEnd r.left_after × (length bytes ≤ input_limit)
-        × IsFirstBad (lines_of bytes) number
+    × IsFirstBad (lines_of bytes) number
 
 -- what each fault before the run says of the words and the source
 abbrev pub IsGivenFault : List (List ℕ) → Reading → Fault → Type 0

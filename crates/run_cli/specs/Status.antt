@@ -45,7 +45,7 @@ SaysBadPlan c = IsReplay c.words × ((fault : PlanFault) × HasBadPlan c.source 
 abbrev pub SaysNotEnabled : Call → Type 0
 SaysNotEnabled c =
     (place : ℕ) × (r : Replays c) × StopsBefore r place
-        × Writes c.sink (history_text (history_in r) (Err (NotEnabled place)))
+    × Writes c.sink (history_text (history_in r) (Err (NotEnabled place)))
 
 -- all turns were taken, the run isn't over, and the lines are theirs and the fault line
 abbrev pub SaysUnfinished : Call → Type 0

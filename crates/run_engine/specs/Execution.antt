@@ -27,7 +27,7 @@ use Rattle.run_engine.specs.declared.errors.TestRunnerExecuteErrors.TheVariants.
 pub record Takes {R E C : Type 0} (tells : R → List (ReporterEvent × Option E) → Type 0)
     (asks : C → List (ℕ × Ask) → Type 0)
     (p : Settings) (journal : List Entry) (report report_after : R) (children children_after : C)
-        (faults faults_after : ℕ) (refusal : Option E)
+    (faults faults_after : ℕ) (refusal : Option E)
     : Type 0 where
   pub runnable : IsRunnable p journal
   pub marked : is_none refusal ≡ none_refused journal
@@ -44,7 +44,7 @@ IsAnswerOf p turns journal refusal (Err (Report e)) =
     (turns_of journal ≡ turns) × (is_over (past_of p journal) ≡ true) × (refusal ≡ Some e)
 IsAnswerOf p turns journal refusal (Err (NotEnabled i)) =
     (turns_of journal ≡ take i turns) × ((turn : Turn) × (slice_get turns i ≡ Some turn)
-        × (enabled p (past_of p journal) turn ≡ false))
+    × (enabled p (past_of p journal) turn ≡ false))
 IsAnswerOf p turns journal refusal (Err Unfinished) =
     (turns_of journal ≡ turns) × (is_over (past_of p journal) ≡ false)
 IsAnswerOf p turns journal refusal (Err OutOfMemory) = ⊤
@@ -100,7 +100,7 @@ abbrev pub StopsAt : {R E C : Type 0} → (R → List (ReporterEvent × Option E
 StopsAt {R} {E} tells asks p turns journal report report_after children children_after faults faults_after
     (stops.NotEnabled i) =
     ((refusal : Option E) × Takes tells asks p journal report report_after children children_after faults
-        faults_after refusal)
+    faults_after refusal)
     × (turns_of journal ≡ take i turns)
     × ((turn : Turn) × (slice_get turns i ≡ Some turn) × (enabled p (past_of p journal) turn ≡ false))
 StopsAt tells asks p turns journal report report_after children children_after faults faults_after stops.OutOfMemory = ⊤

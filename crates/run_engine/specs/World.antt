@@ -43,7 +43,7 @@ abbrev pub TellsEvents : {R E : Type 0} → (R → List (ReporterEvent × Option
 TellsEvents {R} {E} told before after events refusal =
     (xs : List (ReporterEvent × Option E)) → told before xs
     → (ys : List (ReporterEvent × Option E)) × told after (xs ++ ys) × (map flagged ys ≡ events)
-        × (first_error ys ≡ refusal)
+    × (first_error ys ≡ refusal)
 
 -- a reporter's count of faults rose where it refused an event, and else stayed
 abbrev pub CountsErrors : {E : Type 0} → ℕ → ℕ → Option E → Type 0
@@ -63,7 +63,7 @@ next_of w turn refused = happening w.settings (history_of w) (entry_of turn refu
 pub record TakesTurn {R E C : Type 0} (tells : R → List (ReporterEvent × Option E) → Type 0)
     (asks : C → List (ℕ × Ask) → Type 0)
     (old : World) (turn : Turn) (report : R) (children : C) (new : World) (report_after : R) (children_after : C)
-        (refusal : Option E)
+    (refusal : Option E)
     : Type 0 where
   pub is_enabled : IsTrue (enabled old.settings (history_of old) turn)
   pub refused : List Bool

@@ -97,7 +97,7 @@ fn act<C: Children, R: Reporter>(
     ensures after { OnOk result (state.new ≡ step state.old turn.now (deed_on settings.now state.old turn.now)) }
     ensures asked { OnOk result (Adds C.asked children.old children.new
         (map (λ ask. (length journal.old.items, ask))
-            (option_to_list (deed_on settings.now state.old turn.now).asked))) }
+        (option_to_list (deed_on settings.now state.old turn.now).asked))) }
     ensures answered { IfOk result (λ t. length t.refused
         ≡ length (deed_events (deed_on settings.now state.old turn.now))) }
     ensures marked { IfOk result (λ t. is_none t.refusal ≡ list_all not t.refused) }

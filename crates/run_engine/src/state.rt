@@ -22,6 +22,10 @@ impl Model for State {
 
     ghost Value = { Board };
 
-    ghost view = { λ s. record { units = s.units.items; queue = s.queue.items; dispatcher = s.dispatcher;
-        clock = s.clock } };
+    ghost view = { λ s. record {
+      units = s.units.items;
+      queue = s.queue.items;
+      dispatcher = s.dispatcher;
+      clock = s.clock;
+    } };
 }
