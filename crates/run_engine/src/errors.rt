@@ -20,7 +20,7 @@ pub enum StepError {
 #[derive(Debug, Drop, PartialEq, Eq, Error)]
 pub enum TestRunnerBuildError {
     /// The test at this place is the first that has the id of an earlier one.
-    #[error("test {test} has the id of an earlier test")]
+    #[error("two tests of the plan have one id")]
     DuplicateTest { test: u32 },
     #[error("out of memory")]
     OutOfMemory,

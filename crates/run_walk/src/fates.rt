@@ -11,7 +11,7 @@ fn attempts(alloc: Global, story: &[OwnTurn]) -> Mem<List<ExecuteStatus>> {
     if story.len() > 100 {
         return Ok(List::new());
     }
-    statuses_of(alloc, 2, story)
+    statuses_of(alloc, 1, story)
 }
 
 // Whether errors are the same; only those of waits come here.
