@@ -1,5 +1,6 @@
 -- Pieces that a sink takes, and a source gives, one after another.
-use Rattle.std.proofs.Common.{◌≡◌, ℕ, ◌+◌, ◌-◌, List, ◌++◌, length, take, drop, Option, Some, None, option_map, ap, ◌∙◌, append_assoc, sym, arith, length-drop}
+use Rattle.std.proofs.Common.{◌≡◌, ℕ, ◌+◌, ◌-◌, List, ◌++◌, length, take, drop, Option, Some, None, option_map, ap, ◌∙◌}
+use Rattle.std.proofs.Common.{append_assoc, sym, arith, length-drop}
 use Rattle.std.proofs.Math.Seq.{take-add}
 use Rattle.std.proofs.lemmas.List.{take_all, drop-drop, take-append-drop}
 use Rattle.run_capture.specs.Bytes.{Takes, Gives}

@@ -1,5 +1,6 @@
 -- What was captured after a history.
-use Rattle.std.proofs.Common.{◌≡◌, ℕ, ◌||◌, List, [], ◌∷◌, ◌++◌, Option, Some, None, refl, sym, ap, ◌∙◌, append_assoc, append-nil}
+use Rattle.std.proofs.Common.{◌≡◌, ℕ, ◌||◌, List, [], ◌∷◌, ◌++◌, Option, Some, None, refl, sym, ap, ◌∙◌, append_assoc}
+use Rattle.std.proofs.Common.{append-nil}
 use Rattle.run_capture.specs.declared.test_output.Stream.{Stream}
 use Rattle.run_capture.specs.declared.test_output.Stream.TheVariants as streams
 use Rattle.run_capture.specs.declared.test_output.ChildOutput.{ChildOutput}
@@ -7,7 +8,8 @@ use Rattle.run_capture.specs.declared.test_output.ChildOutput.TheVariants.{Split
 use Rattle.run_capture.specs.declared.ended.Ended.{Ended}
 use Rattle.run_capture.specs.Output.{bytes_of, joined, with_bytes}
 use Rattle.run_capture.specs.Captured.{has_ended, with_ended, read_error}
-use Rattle.run_capture.specs.Heard.{Heard, piece, end, error, captured, is_stream, pieces_of, is_over, errors_of, OutputIsWhatWasHeard}
+use Rattle.run_capture.specs.Heard.{Heard, piece, end, error, captured, is_stream, pieces_of, is_over, errors_of}
+use Rattle.run_capture.specs.Heard.{OutputIsWhatWasHeard}
 
 -- no bytes change nothing
 joined-nil : (front : Option (List ℕ)) → front ≡ joined front []

@@ -1,5 +1,6 @@
 -- What a source and a sink in memory hold, and what one call on them does.
-use Rattle.std.specs.Prelude.{ℕ, ◌+◌, ◌-◌, ◌^◌, ◌<◌, ◌≡◌, ◌⊎◌, ◌++◌, take, min, List, length, drop, Result, Ok, Err, Contains}
+use Rattle.std.specs.Prelude.{ℕ, ◌+◌, ◌-◌, ◌^◌, ◌<◌, ◌≡◌, ◌⊎◌, ◌++◌, take, min, List, length, drop, Result, Ok, Err}
+use Rattle.std.specs.Prelude.{Contains}
 use Rattle.run_capture.specs.declared.source.Failed.{Failed}
 
 -- the bytes left, the most that one read moves, the reads that fail, the reads made and failed so far

@@ -1,5 +1,6 @@
 -- The description of a child's output as texts, and as a value of JSON.
-use Rattle.std.specs.Prelude.{ℕ, ◌≡◌, refl, Bool, true, false, ◌&&◌, ◌||◌, if◌then◌else◌, List, nat_eq, Option, Some, None, option_map, option_and_then, unwrap_or, is_some, codes}
+use Rattle.std.specs.Prelude.{ℕ, ◌≡◌, refl, Bool, true, false, ◌&&◌, ◌||◌, if◌then◌else◌, List, nat_eq, Option, Some}
+use Rattle.std.specs.Prelude.{None, option_map, option_and_then, unwrap_or, is_some, codes}
 use lib.Pointwise.{pointwise}
 use Rattle.hex.specs.Hex.{encode_lower}
 use Rattle.serde_json.specs.Data.{Data, string, object, Members, no_members, member, put}

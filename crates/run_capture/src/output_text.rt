@@ -3,7 +3,8 @@ ghost use Rattle.std.specs.Prelude.{◌≡◌, IfOk, option_map, codes};
 ghost use Rattle.run_capture.specs.declared.test_output.ChildOutput.TheVariants.{Split};
 ghost use Rattle.hex.specs.Hex.{encode_lower};
 ghost use Rattle.serde_json.specs.View.{view, members_view};
-ghost use Rattle.run_capture.specs.OutputText.{described, put_text, data_of, is_key, has_only_texts, is_description, text_at, of_data};
+ghost use Rattle.run_capture.specs.OutputText.{described, put_text, data_of, is_key, has_only_texts, is_description};
+ghost use Rattle.run_capture.specs.OutputText.{text_at, of_data};
 
 use crate::{Blob, ChildOutput, ChildSplitOutput, Duplicate, Mem, Text};
 use serde_json::{Map, Value};

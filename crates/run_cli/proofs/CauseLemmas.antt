@@ -1,5 +1,7 @@
 -- Each cause gives its status.
-use Rattle.std.proofs.Common.{◌≡◌, ℕ, zero, suc, ◌+◌, ◌<◌, ◌≤◌, ◌⊎◌, inl, inr, List, [], ◌∷◌, ◌++◌, length, take, slice_index_or, Bool, true, false, not, Option, Some, None, option_map, Result, Ok, Err, refl, ap, sym, subst, ◌∙◌, arith, length-append}
+use Rattle.std.proofs.Common.{◌≡◌, ℕ, zero, suc, ◌+◌, ◌<◌, ◌≤◌, ◌⊎◌, inl, inr, List, [], ◌∷◌, ◌++◌, length, take}
+use Rattle.std.proofs.Common.{slice_index_or, Bool, true, false, not, Option, Some, None, option_map, Result, Ok, Err}
+use Rattle.std.proofs.Common.{refl, ap, sym, subst, ◌∙◌, arith, length-append}
 use Rattle.std.specs.List.{list_all}
 use Rattle.std.proofs.lemmas.List.{append-nil}
 use Rattle.run_capture.specs.Bytes.{Gives, AtEnd}
@@ -10,14 +12,16 @@ use Rattle.run_events.specs.declared.turn.Turn.{Turn}
 use Rattle.run_events.specs.declared.outcome.RunOutcome.{RunOutcome}
 use Rattle.run_model.specs.declared.entry.Entry.{Entry}
 use Rattle.run_model.specs.Journal.{IsLegal}
-use Rattle.run_laws.specs.Course.{turns_of, refusals, refuses_none, refuses_as_in, IsJournalOf, Stops, GoesOn, Ends, HasOneCourse}
+use Rattle.run_laws.specs.Course.{turns_of, refusals, refuses_none, refuses_as_in, IsJournalOf, Stops, GoesOn, Ends}
+use Rattle.run_laws.specs.Course.{HasOneCourse}
 use Rattle.run_laws.proofs.Courses.{one_course}
 use Rattle.run_engine.specs.declared.errors.TestRunnerBuildError.{TestRunnerBuildError}
 use Rattle.run_input.specs.Lines.{lines_of}
 use Rattle.run_input.specs.Input.{IsInput, IsFirstBad}
 use Rattle.run_input.proofs.InputLemmas.{has_no_bad_line}
 use Rattle.run_output.specs.declared.fault.Fault.{Fault}
-use Rattle.run_output.specs.declared.fault.Fault.TheVariants.{Words, Line, Plan as BadPlan, NotEnabled, ThirdSignal, Unfinished, Report, Read, Memory, TooLong}
+use Rattle.run_output.specs.declared.fault.Fault.TheVariants.{Words, Line, Plan as BadPlan, NotEnabled, ThirdSignal}
+use Rattle.run_output.specs.declared.fault.Fault.TheVariants.{Unfinished, Report, Read, Memory, TooLong}
 use Rattle.run_cli.specs.Call.{Call, Reading, Writing, HasGiven, HasReadFault, HasWriteFault}
 use Rattle.run_cli.specs.Plans.{settings_for, refusal_for}
 use Rattle.run_cli.specs.Text.{outcome_status, status_of}
@@ -36,7 +40,8 @@ all_given left (Some rest) held bytes told given end =
     whole ∙ ap (λ r. bytes ++ r) none ∙ append-nil bytes
 
 -- what a source has given is no longer than what it had
-given_within : (left left_after : Option (List ℕ)) (held bytes : List ℕ) → left ≡ Some held → Gives left left_after bytes → length bytes ≤ length held
+given_within : (left left_after : Option (List ℕ)) (held bytes : List ℕ) → left ≡ Some held
+    → Gives left left_after bytes → length bytes ≤ length held
 given_within left None held bytes told given = cc
 given_within left (Some rest) held bytes told given =
     let all : Some held ≡ Some (bytes ++ rest) = sym told ∙ given in
@@ -45,7 +50,8 @@ given_within left (Some rest) held bytes told given =
     omega (arith, length-append bytes rest)
 
 -- lines say one plan and one list of turns
-one_input : (lines : List (List ℕ)) (c d : CaptureStrategy) (p q : Plan) (ts us : List Turn) → IsInput lines c p ts → IsInput lines d q us
+one_input : (lines : List (List ℕ)) (c d : CaptureStrategy) (p q : Plan) (ts us : List Turn) → IsInput lines c p ts
+    → IsInput lines d q us
     → (d ≡ c) × (q ≡ p) × (us ≡ ts)
 one_input [] c d p q ts us i j = absurd i
 one_input (first ∷ others) c d p q ts us i j =
@@ -60,8 +66,10 @@ one_input (first ∷ others) c d p q ts us i j =
 same_input : (r : Reading) (c d : CaptureStrategy) (p q : Plan) (ts us : List Turn)
     → HasInput r.left c p ts → IsGiven r d q us → (d ≡ c) × (q ≡ p) × (us ≡ ts)
 same_input r c d p q ts us has given =
-    let same : has.bytes ≡ given.bytes = all_given r.left r.left_after has.bytes given.bytes has.told given.given given.end in
-    one_input (lines_of has.bytes) c d p q ts us has.says (subst (λ bytes. IsInput (lines_of bytes) d q us) (sym same) given.says)
+    let same : has.bytes ≡ given.bytes =
+        all_given r.left r.left_after has.bytes given.bytes has.told given.given given.end in
+    one_input (lines_of has.bytes) c d p q ts us has.says
+        (subst (λ bytes. IsInput (lines_of bytes) d q us) (sym same) given.says)
 
 -- and an input within its limit isn't too long, and has no bad line
 not_too_long : (r : Reading) (held : List ℕ) → r.left ≡ Some held → length held ≤ 16777216 → IsTooLong r → ⊥
@@ -72,7 +80,8 @@ no_bad_line : (r : Reading) (c : CaptureStrategy) (p : Plan) (ts : List Turn) (n
     → HasInput r.left c p ts → HasBadLine r n → ⊥
 no_bad_line r c p ts n has (bytes, given, end, within, bad) =
     let same : has.bytes ≡ bytes = all_given r.left r.left_after has.bytes bytes has.told given end in
-    has_no_bad_line (lines_of has.bytes) c p ts n has.says (subst (λ bytes. IsFirstBad (lines_of bytes) n) (sym same) bad)
+    has_no_bad_line (lines_of has.bytes) c p ts n has.says
+        (subst (λ bytes. IsFirstBad (lines_of bytes) n) (sym same) bad)
 
 -- an accepted plan isn't refused
 never_refused : {X E : Type 0} (o : Option E) (e : E) → o ≡ None → o ≡ Some e → X
@@ -108,7 +117,8 @@ ended_gets : (c : Call) (r : Replays c) (o : RunOutcome) → IsWhole r o → c.s
 ended_gets c r o whole stayed =
     let p : Settings = settings_for r.capture r.plan in
     let one : HasOneCourse p r.turns (refuses_as_in r.journal) = one_course p r.turns (refuses_as_in r.journal) in
-    let ends : Ends p r.turns (refuses_as_in r.journal) o = (r.journal, journal_of p r.turns r.journal r.legal whole.all, whole.over) in
+    let ends : Ends p r.turns (refuses_as_in r.journal) o =
+        (r.journal, journal_of p r.turns r.journal r.legal whole.all, whole.over) in
     record {
       refuses = refuses_as_in r.journal;
       tied = λ calm n. false_at (refusals r.journal) n (r.tied calm);
@@ -124,7 +134,8 @@ unreported_gets : (c : Call) (r : Replays c) (o : RunOutcome) → IsWhole r o �
 unreported_gets c r o whole rose =
     let p : Settings = settings_for r.capture r.plan in
     let one : HasOneCourse p r.turns (refuses_as_in r.journal) = one_course p r.turns (refuses_as_in r.journal) in
-    let ends : Ends p r.turns (refuses_as_in r.journal) o = (r.journal, journal_of p r.turns r.journal r.legal whole.all, whole.over) in
+    let ends : Ends p r.turns (refuses_as_in r.journal) o =
+        (r.journal, journal_of p r.turns r.journal r.legal whole.all, whole.over) in
     record {
       refuses = refuses_as_in r.journal;
       tied = λ calm n. false_at (refusals r.journal) n (r.tied calm);
@@ -135,12 +146,14 @@ unreported_gets c r o whole rose =
       unreported = λ a u e lt. inl refl;
     }
 
-stopped_gets : (c : Call) (r : Replays c) (place : ℕ) → StopsBefore r place → GetsByCourse r.capture r.plan r.turns c.sink 6
+stopped_gets : (c : Call) (r : Replays c) (place : ℕ) → StopsBefore r place
+    → GetsByCourse r.capture r.plan r.turns c.sink 6
 stopped_gets c r place before =
     let p : Settings = settings_for r.capture r.plan in
     let one : HasOneCourse p r.turns (refuses_as_in r.journal) = one_course p r.turns (refuses_as_in r.journal) in
     let stops : Stops p r.turns (refuses_as_in r.journal) place =
-    (r.journal, journal_of p (take place r.turns) r.journal r.legal before.before, (before.turn, before.at, before.refused)) in
+    (r.journal, journal_of p (take place r.turns) r.journal r.legal before.before,
+        (before.turn, before.at, before.refused)) in
     record {
       refuses = refuses_as_in r.journal;
       tied = λ calm n. false_at (refusals r.journal) n (r.tied calm);
@@ -155,7 +168,8 @@ unfinished_gets : (c : Call) (r : Replays c) → IsUnfinished r → GetsByCourse
 unfinished_gets c r still =
     let p : Settings = settings_for r.capture r.plan in
     let one : HasOneCourse p r.turns (refuses_as_in r.journal) = one_course p r.turns (refuses_as_in r.journal) in
-    let goes : GoesOn p r.turns (refuses_as_in r.journal) = (r.journal, journal_of p r.turns r.journal r.legal still.all, still.goes_on) in
+    let goes : GoesOn p r.turns (refuses_as_in r.journal) =
+        (r.journal, journal_of p r.turns r.journal r.legal still.all, still.goes_on) in
     record {
       refuses = refuses_as_in r.journal;
       tied = λ calm n. false_at (refusals r.journal) n (r.tied calm);
@@ -179,14 +193,16 @@ refused_gets c p ts w error refused = record {
 }
 
 -- the same of the input that the source had
-moved : (c d : CaptureStrategy) (p q : Plan) (ts us : List Turn) (w : Writing) (status : ℕ) → (d ≡ c) × (q ≡ p) × (us ≡ ts)
+moved : (c d : CaptureStrategy) (p q : Plan) (ts us : List Turn) (w : Writing) (status : ℕ)
+    → (d ≡ c) × (q ≡ p) × (us ≡ ts)
     → GetsByCourse d q us w status → GetsByCourse c p ts w status
 moved c d p q ts us w status same gets =
     subst (λ c. GetsByCourse c p ts w status) same.0
     (subst (λ p. GetsByCourse d p ts w status) same.1 (subst (λ ts. GetsByCourse d q ts w status) same.2 gets))
 
 -- each course gets its status
-pub course_gets : (c : Call) (ending : Result RunOutcome Fault) → IsEnding c ending → CountsReadAtEnd c.source ending → IsReplay c.words
+pub course_gets : (c : Call) (ending : Result RunOutcome Fault) → IsEnding c ending → CountsReadAtEnd c.source ending
+    → IsReplay c.words
     → ¬ HasReadFault c.source → (b : CaptureStrategy) (p : Plan) (ts : List Turn) → HasInput c.source.left b p ts
     → GetsByCourse b p ts c.sink (status_of ending)
 course_gets c (Ok o) h n replay calm b p ts has =
@@ -194,7 +210,7 @@ course_gets c (Ok o) h n replay calm b p ts has =
     (same_input c.source b h.0.capture p h.0.plan ts h.0.turns has h.0.given) (ended_gets c h.0 o h.1 h.3)
 course_gets c (Err Report) h n replay calm b p ts has =
     moved b h.0.capture p h.0.plan ts h.0.turns c.sink 9
-    (same_input c.source b h.0.capture p h.0.plan ts h.0.turns has h.0.given) (unreported_gets c h.0 h.1 h.2 h.3)
+    (same_input c.source b h.0.capture p h.0.plan ts h.0.turns has h.0.given) (unreported_gets c h.0 h.1 h.2 h.4)
 course_gets c (Err (NotEnabled place)) h n replay calm b p ts has =
     moved b h.0.capture p h.0.plan ts h.0.turns c.sink 6
     (same_input c.source b h.0.capture p h.0.plan ts h.0.turns has h.0.given) (stopped_gets c h.0 place h.1)
@@ -208,28 +224,35 @@ course_gets c (Err (BadPlan f)) h n replay calm b p ts has =
 course_gets c (Err Memory) h n replay calm b p ts has = memory_gets b p ts c.sink
 course_gets c (Err Words) h n replay calm b p ts has = absurd (h.0 replay)
 course_gets c (Err Read) h n replay calm b p ts has = absurd (calm n)
-course_gets c (Err TooLong) h n replay calm b p ts has = absurd (not_too_long c.source has.bytes has.told has.within h.1)
+course_gets c (Err TooLong) h n replay calm b p ts has =
+    absurd (not_too_long c.source has.bytes has.told has.within h.1)
 course_gets c (Err (Line number)) h n replay calm b p ts has = absurd (no_bad_line c.source b p ts number has h.1)
 course_gets c (Err (ThirdSignal place)) h n replay calm b p ts has = absurd h
 
 -- an input with a bad line says nothing else
-bad_excludes : (r : Reading) (c : CaptureStrategy) (p : Plan) (ts : List Turn) (n : ℕ) → HasBadInput r.left n → IsGiven r c p ts → ⊥
+bad_excludes : (r : Reading) (c : CaptureStrategy) (p : Plan) (ts : List Turn) (n : ℕ) → HasBadInput r.left n
+    → IsGiven r c p ts → ⊥
 bad_excludes r c p ts n has given =
-    let same : has.bytes ≡ given.bytes = all_given r.left r.left_after has.bytes given.bytes has.told given.given given.end in
-    has_no_bad_line (lines_of given.bytes) c p ts n given.says (subst (λ bytes. IsFirstBad (lines_of bytes) n) same has.bad)
+    let same : has.bytes ≡ given.bytes =
+        all_given r.left r.left_after has.bytes given.bytes has.told given.given given.end in
+    has_no_bad_line (lines_of given.bytes) c p ts n given.says
+        (subst (λ bytes. IsFirstBad (lines_of bytes) n) same has.bad)
 
 -- 3
-pub bad_line_gets : (c : Call) (ending : Result RunOutcome Fault) → IsEnding c ending → CountsReadAtEnd c.source ending → IsReplay c.words
+pub bad_line_gets : (c : Call) (ending : Result RunOutcome Fault) → IsEnding c ending → CountsReadAtEnd c.source ending
+    → IsReplay c.words
     → ¬ HasReadFault c.source → (number : ℕ) → HasBadInput c.source.left number → Gets (status_of ending) 3
 bad_line_gets c (Ok o) h n replay calm number has = absurd (bad_excludes c.source _ _ _ number has h.0.given)
 bad_line_gets c (Err Report) h n replay calm number has = absurd (bad_excludes c.source _ _ _ number has h.0.given)
-bad_line_gets c (Err (NotEnabled place)) h n replay calm number has = absurd (bad_excludes c.source _ _ _ number has h.0.given)
+bad_line_gets c (Err (NotEnabled place)) h n replay calm number has =
+    absurd (bad_excludes c.source _ _ _ number has h.0.given)
 bad_line_gets c (Err Unfinished) h n replay calm number has = absurd (bad_excludes c.source _ _ _ number has h.0.given)
 bad_line_gets c (Err (BadPlan f)) h n replay calm number has = absurd (bad_excludes c.source _ _ _ number has h.1.given)
 bad_line_gets c (Err Memory) h n replay calm number has = inr refl
 bad_line_gets c (Err Words) h n replay calm number has = absurd (h.0 replay)
 bad_line_gets c (Err Read) h n replay calm number has = absurd (calm n)
-bad_line_gets c (Err TooLong) h n replay calm number has = absurd (not_too_long c.source has.bytes has.told has.within h.1)
+bad_line_gets c (Err TooLong) h n replay calm number has =
+    absurd (not_too_long c.source has.bytes has.told has.within h.1)
 bad_line_gets c (Err (Line m)) h n replay calm number has = inl refl
 bad_line_gets c (Err (ThirdSignal m)) h n replay calm number has = absurd h
 
@@ -237,15 +260,18 @@ bad_line_gets c (Err (ThirdSignal m)) h n replay calm number has = absurd h
 too_much_excludes : (r : Reading) (bytes : List ℕ) → HasTooMuch r.left → HasGiven r bytes → AtEnd r.left_after
     → length bytes ≤ 16777216 → ⊥
 too_much_excludes r bytes has given end within =
-    let same : length has.bytes ≡ length bytes = ap length (all_given r.left r.left_after has.bytes bytes has.told given end) in
+    let same : length has.bytes ≡ length bytes =
+        ap length (all_given r.left r.left_after has.bytes bytes has.told given end) in
     let above : 16777216 < length has.bytes = has.above in
     omega arith
 
-given_excludes : (r : Reading) (c : CaptureStrategy) (p : Plan) (ts : List Turn) → HasTooMuch r.left → IsGiven r c p ts → ⊥
+given_excludes : (r : Reading) (c : CaptureStrategy) (p : Plan) (ts : List Turn) → HasTooMuch r.left → IsGiven r c p ts
+    → ⊥
 given_excludes r c p ts has given = too_much_excludes r given.bytes has given.given given.end given.within
 
 -- 12
-pub too_much_gets : (c : Call) (ending : Result RunOutcome Fault) → IsEnding c ending → CountsReadAtEnd c.source ending → IsReplay c.words
+pub too_much_gets : (c : Call) (ending : Result RunOutcome Fault) → IsEnding c ending → CountsReadAtEnd c.source ending
+    → IsReplay c.words
     → ¬ HasReadFault c.source → HasTooMuch c.source.left → Gets (status_of ending) 12
 too_much_gets c (Ok o) h n replay calm has = absurd (given_excludes c.source _ _ _ has h.0.given)
 too_much_gets c (Err Report) h n replay calm has = absurd (given_excludes c.source _ _ _ has h.0.given)
@@ -260,7 +286,8 @@ too_much_gets c (Err (Line m)) h n replay calm has = absurd (too_much_excludes c
 too_much_gets c (Err (ThirdSignal m)) h n replay calm has = absurd h
 
 -- 10
-pub unread_gets : (r : Reading) (ending : Result RunOutcome Fault) → CountsReadAtEnd r ending → r.faults < r.faults_after
+pub unread_gets : (r : Reading) (ending : Result RunOutcome Fault) → CountsReadAtEnd r ending
+    → r.faults < r.faults_after
     → Gets (status_of ending) 10
 unread_gets r (Ok o) n lt = absurd (omega arith)
 unread_gets r (Err Report) n lt = absurd (omega arith)

@@ -1,5 +1,7 @@
 -- The run, and then its last lines.
-use Rattle.std.proofs.Common.{◌≡◌, ℕ, ◌+◌, ◌<◌, ◌≤◌, ◌⊎◌, inl, inr, List, [], ◌∷◌, ◌++◌, if◌then◌else◌, true, false, Bool, Option, Some, None, is_none, IsSome, Result, Ok, Err, refl, ap, sym, subst, ◌∙◌, arith}
+use Rattle.std.proofs.Common.{◌≡◌, ℕ, ◌+◌, ◌<◌, ◌≤◌, ◌⊎◌, inl, inr, List, [], ◌∷◌, ◌++◌, if◌then◌else◌, true, false}
+use Rattle.std.proofs.Common.{Bool, Option, Some, None, is_none, IsSome, Result, Ok, Err, refl, ap, sym, subst, ◌∙◌}
+use Rattle.std.proofs.Common.{arith}
 use Rattle.run_capture.specs.Faults.{Rose}
 use Rattle.run_capture.specs.declared.source.Failed.{Failed}
 use Rattle.run_capture.proofs.BytesLemmas.{takes_both}
@@ -16,13 +18,14 @@ use Rattle.run_engine.specs.Execution.{UnlessMemory}
 use Rattle.run_engine.specs.declared.errors.TestRunnerExecuteErrors.{TestRunnerExecuteErrors}
 use Rattle.run_engine.specs.declared.errors.TestRunnerExecuteErrors.TheVariants as engine
 use Rattle.run_output.specs.declared.fault.Fault.{Fault}
-use Rattle.run_output.specs.declared.fault.Fault.TheVariants.{Words, Line, Plan as BadPlan, NotEnabled, ThirdSignal, Unfinished, Report, Read, Memory, TooLong}
+use Rattle.run_output.specs.declared.fault.Fault.TheVariants.{Words, Line, Plan as BadPlan, NotEnabled, ThirdSignal}
+use Rattle.run_output.specs.declared.fault.Fault.TheVariants.{Unfinished, Report, Read, Memory, TooLong}
 use Rattle.run_output.specs.Fields.{line_of}
 use Rattle.run_output.specs.Outcomes.{outcome_text}
 use Rattle.run_output.specs.Faults.{fault_text}
-use Rattle.run_cli.specs.Call.{Writing, joined, HasTaken, HasWriteFault, Writes}
-use Rattle.run_cli.specs.Text.{event_lines, ask_lines, fault_only, history_text}
-use Rattle.run_cli.specs.Executed.{IsExecuted}
+use Rattle.run_cli.specs.Call.{Writing, joined, TakesFront, HasTaken, HasTakenFront, HasWriteFault, Writes}
+use Rattle.run_cli.specs.Text.{event_lines, ask_lines, fault_only, rest_text, history_text}
+use Rattle.run_cli.specs.Executed.{IsExecuted, TookParts, WritesRun, report_ending}
 use Rattle.run_cli.specs.Finish.{fault_of_error, EndsAtFault, EndsAtOutcome, IsReplayed, IsReplayEnding}
 
 -- a count that rose before it stayed or rose has risen
@@ -34,55 +37,92 @@ some_is None d e = cc
 some_is (Some x) d e = refl
 
 -- a run that is over has an outcome
-over_outcome : (p : Settings) (past : List Happening) → is_over past ≡ true → (o : RunOutcome) × (outcome p past ≡ Some o)
+over_outcome : (p : Settings) (past : List Happening) → is_over past ≡ true
+    → (o : RunOutcome) × (outcome p past ≡ Some o)
 over_outcome p past over = (
   outcome_of (summary (stats p (sub_run past))),
   ap (λ b. if b then Some (outcome_of (summary (stats p (sub_run past)))) else None) over,
 )
 
--- the lines of a run whose events were all taken, and then those of its asks and its end; w is the run, v its last lines,
+-- the lines of a run whose events were all taken, and then those of its asks and its end; w is the run, v its last
+-- lines,
 -- which begin where it ended
-whole_text : (p : Settings) (turns : List Turn) (w v : Writing) (asks : List (ℕ × Ask)) (answer : Result RunOutcome (TestRunnerExecuteErrors Failed))
-    (last : List ℕ) → v.taken ≡ w.taken_after → (x : IsExecuted p turns w asks answer) → x.refusal ≡ None → HasTaken v (ask_lines asks ++ last)
-    → HasTaken (joined w v) (event_lines (told (past_of p x.journal)) ++ (ask_lines (asked (past_of p x.journal)) ++ last))
+whole_text : (p : Settings) (turns : List Turn) (w v : Writing) (asks : List (ℕ × Ask))
+    (answer : Result RunOutcome (TestRunnerExecuteErrors Failed)) (last : List ℕ) → v.taken ≡ w.taken_after
+    → (x : IsExecuted p turns w asks answer) → x.refusal ≡ None → HasTaken v (ask_lines asks ++ last)
+    → HasTaken (joined w v)
+    (event_lines (told (past_of p x.journal)) ++ (ask_lines (asked (past_of p x.journal)) ++ last))
 whole_text p turns w v asks answer last on x none rest =
-    takes_both w.taken w.taken_after v.taken_after (event_lines (told (past_of p x.journal))) (ask_lines (asked (past_of p x.journal)) ++ last)
+    let past : List Happening = past_of p x.journal in
+    takes_both w.taken w.taken_after v.taken_after (event_lines (told past)) (ask_lines (asked past) ++ last)
     (x.told none)
     (subst (λ told_asks. HasTaken (record v { taken = w.taken_after }) (ask_lines told_asks ++ last)) x.asked
     (subst (λ t. HasTaken (record v { taken = t }) (ask_lines asks ++ last)) on rest))
 
+-- the lines of its events, each as it was taken, and then a front part of those of its asks and its end
+took_parts : (p : Settings) (turns : List Turn) (w v : Writing) (asks : List (ℕ × Ask))
+    (answer : Result RunOutcome (TestRunnerExecuteErrors Failed)) (last : List ℕ) → v.taken ≡ w.taken_after
+    → (x : IsExecuted p turns w asks answer) → HasTakenFront v (ask_lines asks ++ last)
+    → TookParts (past_of p x.journal) (ask_lines (asked (past_of p x.journal)) ++ last) (joined w v)
+took_parts p turns w v asks answer last on x front = record {
+  between = w.taken_after;
+  events = x.took;
+  last = subst (λ told_asks. TakesFront w.taken_after v.taken_after (ask_lines told_asks ++ last)) x.asked
+      (subst (λ t. TakesFront t v.taken_after (ask_lines asks ++ last)) on front);
+}
+
 -- where the sink failed neither in the run nor after it, no event was refused
-calm_run : (p : Settings) (turns : List Turn) (w v : Writing) (asks : List (ℕ × Ask)) (answer : Result RunOutcome (TestRunnerExecuteErrors Failed))
-    → w.faults_after ≤ v.faults_after → (x : IsExecuted p turns w asks answer) → ¬ HasWriteFault (joined w v) → x.refusal ≡ None
+calm_run : (p : Settings) (turns : List Turn) (w v : Writing) (asks : List (ℕ × Ask))
+    (answer : Result RunOutcome (TestRunnerExecuteErrors Failed)) → w.faults_after ≤ v.faults_after
+    → (x : IsExecuted p turns w asks answer) → ¬ HasWriteFault (joined w v) → x.refusal ≡ None
 calm_run p turns w v asks answer le x calm = by_refusal x.refusal refl
   where
     by_refusal : (o : Option Failed) → x.refusal ≡ o → o ≡ None
     by_refusal None e = refl
-    by_refusal (Some d) e = absurd (calm (rose_then w.faults w.faults_after v.faults_after (x.risen (some_is x.refusal d e)) le))
+    by_refusal (Some d) e =
+        absurd (calm (rose_then w.faults w.faults_after v.faults_after (x.risen (some_is x.refusal d e)) le))
 
 -- the run so far: its journal is legal, and tied to the sink
-replayed : (p : Settings) (turns : List Turn) (w v : Writing) (asks : List (ℕ × Ask)) (answer : Result RunOutcome (TestRunnerExecuteErrors Failed))
-    → w.faults_after ≤ v.faults_after → IsExecuted p turns w asks answer → IsReplayed p (joined w v)
+replayed : (p : Settings) (turns : List Turn) (w v : Writing) (asks : List (ℕ × Ask))
+    (answer : Result RunOutcome (TestRunnerExecuteErrors Failed)) → w.faults_after ≤ v.faults_after
+    → IsExecuted p turns w asks answer → IsReplayed p (joined w v)
 replayed p turns w v asks answer le x = record {
   journal = x.journal;
   legal = x.runnable.legal;
   tied = λ calm. sym x.marked ∙ ap is_none (calm_run p turns w v asks answer le x calm);
 }
 
--- the lines of a run that ends at a fault, where the sink didn't fail
-fault_writes : (p : Settings) (turns : List Turn) (w v : Writing) (asks : List (ℕ × Ask)) (answer : Result RunOutcome (TestRunnerExecuteErrors Failed))
-    (last : List ℕ) → v.taken ≡ w.taken_after → v.faults ≡ w.faults_after → (x : IsExecuted p turns w asks answer)
-    → v.faults ≤ v.faults_after → Writes v (ask_lines asks ++ last)
-    → Writes (joined w v) (event_lines (told (past_of p x.journal)) ++ (ask_lines (asked (past_of p x.journal)) ++ last))
-fault_writes p turns w v asks answer last on from x le writes calm =
-    let none = calm_run p turns w v asks answer (omega arith) x calm in
-    let stayed : v.faults ≡ w.faults = from ∙ x.quiet none in
-    whole_text p turns w v asks answer last on x none (writes (λ rose. calm (subst (λ n. Rose n v.faults_after) stayed rose)))
+-- the lines of a run that ends at a fault
+fault_writes : (p : Settings) (turns : List Turn) (w v : Writing) (asks : List (ℕ × Ask))
+    (answer : Result RunOutcome (TestRunnerExecuteErrors Failed)) (fault : Fault) → v.taken ≡ w.taken_after
+    → v.faults ≡ w.faults_after → (x : IsExecuted p turns w asks answer) → v.faults ≤ v.faults_after
+    → Writes v (ask_lines asks ++ fault_only fault) → WritesRun (past_of p x.journal) (Err fault) (joined w v)
+fault_writes p turns w v asks answer fault on from x le writes = record {
+  whole = λ calm.
+      let none = calm_run p turns w v asks answer (omega arith) x calm in
+      let stayed : v.faults ≡ w.faults = from ∙ x.quiet none in
+      whole_text p turns w v asks answer (fault_only fault) on x none
+      (writes.whole (λ rose. calm (subst (λ n. Rose n v.faults_after) stayed rose)));
+  parts = took_parts p turns w v asks answer (fault_only fault) on x writes.front;
+}
+
+-- the last line of a run that is over, by whether an event was refused
+report_of : (p : Settings) (turns : List Turn) (w v : Writing) (asks : List (ℕ × Ask))
+    (answer : Result RunOutcome (TestRunnerExecuteErrors Failed)) (x : IsExecuted p turns w asks answer)
+        (o : RunOutcome) (b : Bool)
+    → is_none x.refusal ≡ b
+    → TookParts (past_of p x.journal) (rest_text (past_of p x.journal) (if b then Ok o else Err Report)) (joined w v)
+    → TookParts (past_of p x.journal) (rest_text (past_of p x.journal) (report_ending x.journal o)) (joined w v)
+report_of p turns w v asks answer x o b is parts =
+    subst (λ b. TookParts (past_of p x.journal)
+    (rest_text (past_of p x.journal) (if b then Ok o else Err Report)) (joined w v))
+    (sym is ∙ x.marked) parts
 
 -- after an outcome
-pub outcome_ends : (p : Settings) (turns : List Turn) (w v : Writing) (asks : List (ℕ × Ask)) (o : RunOutcome) (ending : Result RunOutcome Fault)
-    → v.taken ≡ w.taken_after → v.faults ≡ w.faults_after → IsExecuted p turns w asks (Ok o) → EndsAtOutcome v asks o ending
-    → v.faults ≤ v.faults_after → IsReplayEnding p turns (joined w v) ending
+pub outcome_ends : (p : Settings) (turns : List Turn) (w v : Writing) (asks : List (ℕ × Ask)) (o : RunOutcome)
+    (ending : Result RunOutcome Fault) → v.taken ≡ w.taken_after → v.faults ≡ w.faults_after
+    → IsExecuted p turns w asks (Ok o) → EndsAtOutcome v asks o ending → v.faults ≤ v.faults_after
+    → IsReplayEnding p turns (joined w v) ending
 unfolding replayed
 outcome_ends p turns w v asks o (Ok e) on from x h le = (
   replayed p turns w v asks (Ok o) (omega arith) x,
@@ -95,8 +135,13 @@ outcome_ends p turns w v asks o (Ok e) on from x h le = (
 outcome_ends p turns w v asks o (Err Report) on from x h le = (
   replayed p turns w v asks (Ok o) (omega arith) x,
   x.says.0,
-  (o, x.says.1),
-  subst (λ n. Rose n v.faults_after) (from ∙ x.quiet x.says.2) h,
+  (
+    o,
+    x.says.1,
+    report_of p turns w v asks (Ok o) x o true (ap is_none x.says.2)
+        (took_parts p turns w v asks (Ok o) (line_of (outcome_text o)) on x h.1),
+  ),
+  subst (λ n. Rose n v.faults_after) (from ∙ x.quiet x.says.2) h.0,
 )
 outcome_ends p turns w v asks o (Err Memory) on from x h le = tt
 outcome_ends p turns w v asks o (Err Words) on from x h le = absurd h
@@ -109,26 +154,35 @@ outcome_ends p turns w v asks o (Err Read) on from x h le = absurd h
 outcome_ends p turns w v asks o (Err TooLong) on from x h le = absurd h
 
 -- after a fault: what it says, or want of memory
-fault_ends : (p : Settings) (turns : List Turn) (w v : Writing) (asks : List (ℕ × Ask)) (fault : Fault) (ending : Result RunOutcome Fault)
-    → (v.faults ≤ v.faults_after → Writes v (ask_lines asks ++ fault_only fault) → IsReplayEnding p turns (joined w v) (Err fault))
+fault_ends : (p : Settings) (turns : List Turn) (w v : Writing) (asks : List (ℕ × Ask)) (fault : Fault)
+    (ending : Result RunOutcome Fault)
+    → (v.faults ≤ v.faults_after → Writes v (ask_lines asks ++ fault_only fault)
+    → IsReplayEnding p turns (joined w v) (Err fault))
     → EndsAtFault v asks fault ending → IsReplayEnding p turns (joined w v) ending
 fault_ends p turns w v asks fault (Ok o) says h = absurd h
-fault_ends p turns w v asks fault (Err e) says (inl m) = subst (λ f. IsReplayEnding p turns (joined w v) (Err f)) (sym m) tt
+fault_ends p turns w v asks fault (Err e) says (inl m) =
+    subst (λ f. IsReplayEnding p turns (joined w v) (Err f)) (sym m) tt
 fault_ends p turns w v asks fault (Err e) says (inr h) =
     subst (λ f. IsReplayEnding p turns (joined w v) (Err f)) (sym h.0) (says h.1 h.2)
 
 -- after an error of the engine
 pub error_ends : (p : Settings) (turns : List Turn) (w v : Writing) (asks : List (ℕ × Ask))
-    (error : TestRunnerExecuteErrors Failed) (ending : Result RunOutcome Fault) → v.taken ≡ w.taken_after → v.faults ≡ w.faults_after
-    → UnlessMemory (Err error) (IsExecuted p turns w asks (Err error))
+    (error : TestRunnerExecuteErrors Failed) (ending : Result RunOutcome Fault) → v.taken ≡ w.taken_after
+    → v.faults ≡ w.faults_after → UnlessMemory (Err error) (IsExecuted p turns w asks (Err error))
     → EndsAtFault v asks (fault_of_error error) ending → IsReplayEnding p turns (joined w v) ending
 unfolding replayed
 error_ends p turns w v asks (engine.Report d) ending on from x h =
+    let end = over_outcome p (past_of p x.journal) x.says.1 in
     fault_ends p turns w v asks Report ending
     (λ le writes. (
       replayed p turns w v asks (Err (engine.Report d)) (omega arith) x,
       x.says.0,
-      over_outcome p (past_of p x.journal) x.says.1,
+      (
+        end.0,
+        end.1,
+        report_of p turns w v asks (Err (engine.Report d)) x end.0 false (ap is_none x.says.2)
+            (took_parts p turns w v asks (Err (engine.Report d)) (fault_only Report) on x writes.front),
+      ),
       rose_then w.faults w.faults_after v.faults_after (x.risen (some_is x.refusal d x.says.2)) (omega arith),
     )) h
 error_ends p turns w v asks (engine.NotEnabled place) ending on from x h =
@@ -137,7 +191,7 @@ error_ends p turns w v asks (engine.NotEnabled place) ending on from x h =
       replayed p turns w v asks (Err (engine.NotEnabled place)) (omega arith) x,
       x.says.0,
       x.says.1,
-      fault_writes p turns w v asks (Err (engine.NotEnabled place)) (fault_only (NotEnabled place)) on from x le writes,
+      fault_writes p turns w v asks (Err (engine.NotEnabled place)) (NotEnabled place) on from x le writes,
     )) h
 error_ends p turns w v asks engine.Unfinished ending on from x h =
     fault_ends p turns w v asks Unfinished ending
@@ -145,6 +199,7 @@ error_ends p turns w v asks engine.Unfinished ending on from x h =
       replayed p turns w v asks (Err engine.Unfinished) (omega arith) x,
       x.says.0,
       x.says.1,
-      fault_writes p turns w v asks (Err engine.Unfinished) (fault_only Unfinished) on from x le writes,
+      fault_writes p turns w v asks (Err engine.Unfinished) Unfinished on from x le writes,
     )) h
-error_ends p turns w v asks engine.OutOfMemory ending on from x h = fault_ends p turns w v asks Memory ending (λ le writes. tt) h
+error_ends p turns w v asks engine.OutOfMemory ending on from x h =
+    fault_ends p turns w v asks Memory ending (λ le writes. tt) h

@@ -1,5 +1,7 @@
 -- What the words and the source give, and how the program ends by it.
-use Rattle.std.proofs.Common.{◌≡◌, ℕ, nat_lt, suc, ◌+◌, ◌^◌, ◌<◌, ◌≤◌, ◌==◌, ◌⊎◌, inl, inr, List, [], ◌∷◌, ◌++◌, length, reverse, Bool, true, false, if◌then◌else◌, Option, Some, None, option_and_then, Result, Ok, Err, refl, ap, sym, subst, ◌∙◌, arith, codes}
+use Rattle.std.proofs.Common.{◌≡◌, ℕ, nat_lt, suc, ◌+◌, ◌^◌, ◌<◌, ◌≤◌, ◌==◌, ◌⊎◌, inl, inr, List, [], ◌∷◌, ◌++◌, length}
+use Rattle.std.proofs.Common.{reverse, Bool, true, false, if◌then◌else◌, Option, Some, None, option_and_then, Result}
+use Rattle.std.proofs.Common.{Ok, Err, refl, ap, sym, subst, ◌∙◌, arith, codes}
 use Rattle.run_capture.specs.declared.test_output.CaptureStrategy.{CaptureStrategy}
 use Rattle.run_events.specs.Usual.{usual_plan}
 use Rattle.run_events.specs.declared.plan.Plan.{Plan}
@@ -25,7 +27,8 @@ use Rattle.run_input.specs.ValueOf.{value_of}
 use Rattle.serde_json.specs.Data.{Data}
 use Rattle.serde_json.specs.Find.{get}
 use Rattle.run_output.specs.declared.fault.Fault.{Fault}
-use Rattle.run_output.specs.declared.fault.Fault.TheVariants.{Words, Line, Plan as BadPlan, NotEnabled, ThirdSignal, Unfinished, Report, Read, Memory, TooLong}
+use Rattle.run_output.specs.declared.fault.Fault.TheVariants.{Words, Line, Plan as BadPlan, NotEnabled, ThirdSignal}
+use Rattle.run_output.specs.declared.fault.Fault.TheVariants.{Unfinished, Report, Read, Memory, TooLong}
 use Rattle.run_cli.specs.Call.{Call, Reading, Writing, HasReadFault, Writes}
 use Rattle.run_cli.specs.Plans.{builder_of, settings_for, refusal_for, fault_of_plan}
 use Rattle.run_cli.specs.Text.{fault_only}
@@ -48,7 +51,8 @@ lines_length (byte ∷ bytes) = by_end (byte == 10) (lines_length bytes)
     by_end false h = omega (arith, front_length byte (lines_of bytes) (length bytes) h)
 
 -- what a chain of readings gives came from each of them
-then_some : {A B : Type 0} (o : Option A) (f : A → Option B) (y : B) → option_and_then f o ≡ Some y → (x : A) × (o ≡ Some x) × (f x ≡ Some y)
+then_some : {A B : Type 0} (o : Option A) (f : A → Option B) (y : B) → option_and_then f o ≡ Some y
+    → (x : A) × (o ≡ Some x) × (f x ≡ Some y)
 then_some None f y e = cc
 then_some (Some x) f y e = (x, refl, e)
 
@@ -56,7 +60,8 @@ then_some (Some x) f y e = (x, refl, e)
 turns_length : (lines : List (List ℕ)) (turns : List Turn) → turns_of lines ≡ Some turns → length turns ≡ length lines
 turns_length [] turns e = cc
 turns_length (line ∷ lines) turns e =
-    let one = then_some (turn_line_of line) (λ turn. option_and_then (λ turns. Some (turn ∷ turns)) (turns_of lines)) turns e in
+    let one = then_some (turn_line_of line) (λ turn. option_and_then (λ turns. Some (turn ∷ turns)) (turns_of lines))
+        turns e in
     let rest = then_some (turns_of lines) (λ turns. Some (one.0 ∷ turns)) turns one.2 in
     let more : length rest.0 ≡ length lines = turns_length lines rest.0 rest.1 in
     let same : one.0 ∷ rest.0 ≡ turns = cc in
@@ -78,7 +83,8 @@ few_plan_tests d tests e =
 
 -- the plan that a line says has these tests and no scripts
 few_units : (capture other : CaptureStrategy) (run_id : List ℕ) (tests : List PlanTest) (plan : Plan)
-    → length tests < 2 ^ 32 → ◌≡◌ {A = Option (CaptureStrategy × Plan)} (Some (capture, usual_plan run_id tests)) (Some (other, plan))
+    → length tests < 2 ^ 32
+        → ◌≡◌ {A = Option (CaptureStrategy × Plan)} (Some (capture, usual_plan run_id tests)) (Some (other, plan))
     → length plan.scripts + length plan.tests < 2 ^ 32
 few_units capture other run_id tests plan fewer e =
     let few : 0 + length tests < 2 ^ 32 = omega arith in
@@ -97,16 +103,19 @@ few_tests d capture plan e =
     let run_ids : Option (List ℕ) = option_and_then run_id_of (get (codes "run_id") d) in
     let captures : Option CaptureStrategy = option_and_then capture_of (get (codes "capture") d) in
     let a = then_some (when (is_object_of (codes "capture" ∷ codes "run_id" ∷ codes "tests" ∷ []) d))
-    (λ _. option_and_then (λ c. option_and_then (λ r. option_and_then (λ ts. Some (c, usual_plan r ts)) tests) run_ids) captures)
+    (λ _. option_and_then (λ c. option_and_then (λ r. option_and_then (λ ts. Some (c, usual_plan r ts)) tests) run_ids)
+        captures)
     (capture, plan) e in
-    let b = then_some captures (λ c. option_and_then (λ r. option_and_then (λ ts. Some (c, usual_plan r ts)) tests) run_ids)
+    let b = then_some captures
+        (λ c. option_and_then (λ r. option_and_then (λ ts. Some (c, usual_plan r ts)) tests) run_ids)
     (capture, plan) a.2 in
     let c = then_some run_ids (λ r. option_and_then (λ ts. Some (b.0, usual_plan r ts)) tests) (capture, plan) b.2 in
     let f = then_some tests (λ ts. Some (b.0, usual_plan c.0 ts)) (capture, plan) c.2 in
     few_units b.0 capture c.0 f.0 plan (few_plan_tests (get (codes "tests") d) f.0 f.1) f.2
 
 -- an input has few tests and few turns
-pub given_few : (r : Reading) (capture : CaptureStrategy) (plan : Plan) (turns : List Turn) → IsGiven r capture plan turns
+pub given_few : (r : Reading) (capture : CaptureStrategy) (plan : Plan) (turns : List Turn)
+    → IsGiven r capture plan turns
     → (length plan.scripts + length plan.tests < 2 ^ 32) × (length turns < 2 ^ 32)
 given_few r capture plan turns g = by_lines (lines_of g.bytes) refl g.says
   where
@@ -127,7 +136,8 @@ over_is p past o e = by_end (is_over past) refl
     by_end : (b : Bool) → is_over past ≡ b → is_over past ≡ true
     by_end true h = h
     by_end false h =
-        let none : None ≡ Some o = sym (ap (λ b. if b then Some (outcome_of (summary (stats p (sub_run past)))) else None) h) ∙ e in cc
+        let none : None ≡ Some o =
+            sym (ap (λ b. if b then Some (outcome_of (summary (stats p (sub_run past)))) else None) h) ∙ e in cc
 
 -- a run that took every turn and has an outcome is whole
 whole : (c : Call) (r : Replays c) (o : RunOutcome) → journal_turns r.journal ≡ r.turns
@@ -141,7 +151,8 @@ whole c r o all e = record {
 }
 
 -- the call whose input was good, with what its run has taken
-replays : (c : Call) (capture : CaptureStrategy) (plan : Plan) (turns : List Turn) → IsReplay c.words → IsGiven c.source capture plan turns
+replays : (c : Call) (capture : CaptureStrategy) (plan : Plan) (turns : List Turn) → IsReplay c.words
+    → IsGiven c.source capture plan turns
     → refusal_for capture plan ≡ None → IsReplayed (settings_for capture plan) c.sink → Replays c
 replays c capture plan turns replay given accepted r = record {
   replay = replay;
@@ -156,15 +167,17 @@ replays c capture plan turns replay given accepted r = record {
 }
 
 -- how a program ends whose input was good
-pub given_says : (c : Call) (capture : CaptureStrategy) (plan : Plan) (turns : List Turn) (ending : Result RunOutcome Fault)
-    → IsReplay c.words → IsGiven c.source capture plan turns → IsInputEnding capture plan turns c.sink ending → IsEnding c ending
+pub given_says : (c : Call) (capture : CaptureStrategy) (plan : Plan) (turns : List Turn)
+    (ending : Result RunOutcome Fault)
+    → IsReplay c.words → IsGiven c.source capture plan turns → IsInputEnding capture plan turns c.sink ending
+        → IsEnding c ending
 unfolding replays
 given_says c capture plan turns (Ok o) replay given (accepted, h) =
     let r = replays c capture plan turns replay given accepted h.0 in
     (r, whole c r o h.1 h.2, h.3, h.4)
 given_says c capture plan turns (Err Report) replay given (accepted, h) =
     let r = replays c capture plan turns replay given accepted h.0 in
-    (r, h.2.0, whole c r h.2.0 h.1 h.2.1, h.3)
+    (r, h.2.0, whole c r h.2.0 h.1 h.2.1, h.2.2, h.3)
 given_says c capture plan turns (Err (NotEnabled place)) replay given (accepted, h) = (
   replays c capture plan turns replay given accepted h.0,
   record { before = h.1; turn = h.2.0; at = h.2.1; refused = h.2.2 },
@@ -185,7 +198,8 @@ given_says c capture plan turns (Err TooLong) replay given h = absurd h.1
 given_says c capture plan turns (Err (ThirdSignal n)) replay given h = absurd h.1
 
 -- the end of the turns of a plan that was accepted
-pub accepted_ends : (capture : CaptureStrategy) (plan : Plan) (turns : List Turn) (w : Writing) (ending : Result RunOutcome Fault)
+pub accepted_ends : (capture : CaptureStrategy) (plan : Plan) (turns : List Turn) (w : Writing)
+    (ending : Result RunOutcome Fault)
     → refusal_for capture plan ≡ None → IsReplayEnding (settings_for capture plan) turns w ending
     → IsInputEnding capture plan turns w ending
 accepted_ends capture plan turns w (Ok o) accepted h = (accepted, h)
@@ -201,22 +215,27 @@ accepted_ends capture plan turns w (Err TooLong) accepted h = absurd h
 accepted_ends capture plan turns w (Err (ThirdSignal n)) accepted h = absurd h
 
 -- the end of a plan that is refused
-refusal_ends : (capture : CaptureStrategy) (plan : Plan) (turns : List Turn) (w : Writing) (error : TestRunnerBuildError)
+refusal_ends : (capture : CaptureStrategy) (plan : Plan) (turns : List Turn) (w : Writing)
+    (error : TestRunnerBuildError)
     → IsBuilt (builder_of capture) plan (Err error) → Writes w (fault_only (fault_of_plan error))
     → IsInputEnding capture plan turns w (Err (fault_of_plan error))
 refusal_ends capture plan turns w (build.DuplicateTest k) h writes = ((build.DuplicateTest k, h, refl), writes)
 refusal_ends capture plan turns w build.OutOfMemory h writes = tt
 
-pub refused_plan : (capture : CaptureStrategy) (plan : Plan) (turns : List Turn) (w : Writing) (error : TestRunnerBuildError)
-    (ending : Result RunOutcome Fault) → IsBuilt (builder_of capture) plan (Err error) → EndsAtFault w [] (fault_of_plan error) ending
+pub refused_plan : (capture : CaptureStrategy) (plan : Plan) (turns : List Turn) (w : Writing)
+    (error : TestRunnerBuildError)
+    (ending : Result RunOutcome Fault) → IsBuilt (builder_of capture) plan (Err error)
+        → EndsAtFault w [] (fault_of_plan error) ending
     → IsInputEnding capture plan turns w ending
 refused_plan capture plan turns w error (Ok o) b e = absurd e
-refused_plan capture plan turns w error (Err d) b (inl m) = subst (λ f. IsInputEnding capture plan turns w (Err f)) (sym m) tt
+refused_plan capture plan turns w error (Err d) b (inl m) =
+    subst (λ f. IsInputEnding capture plan turns w (Err f)) (sym m) tt
 refused_plan capture plan turns w error (Err d) b (inr h) =
     subst (λ f. IsInputEnding capture plan turns w (Err f)) (sym h.0) (refusal_ends capture plan turns w error b h.2)
 
 -- how a program ends whose words or input were not
-fault_says : (c : Call) (fault : Fault) → IsGivenFault c.words c.source fault → Writes c.sink (fault_only fault) → IsEnding c (Err fault)
+fault_says : (c : Call) (fault : Fault) → IsGivenFault c.words c.source fault → Writes c.sink (fault_only fault)
+    → IsEnding c (Err fault)
 fault_says c Words h w = (h, w)
 fault_says c Read h w = (h.0, h.1, w)
 fault_says c TooLong h w = (h.0, h.1, w)
@@ -235,7 +254,8 @@ refused_says c fault (Err d) h (inl m) = subst (λ f. IsEnding c (Err f)) (sym m
 refused_says c fault (Err d) h (inr w) = subst (λ f. IsEnding c (Err f)) (sym w.0) (fault_says c fault h w.2)
 
 -- the source's count at the end, where the words or the input were not good
-fault_counts : (r : Reading) (fault : Fault) → CountsRead {T = RunOutcome} r (Err fault) → CountsReadAtEnd {T = RunOutcome} r (Err fault)
+fault_counts : (r : Reading) (fault : Fault) → CountsRead {T = RunOutcome} r (Err fault)
+    → CountsReadAtEnd {T = RunOutcome} r (Err fault)
 fault_counts r Words h = h
 fault_counts r Read h = h.1
 fault_counts r TooLong h = h
@@ -262,5 +282,7 @@ fault_later r Report h = omega arith
 pub refused_counts : (r : Reading) (w : Writing) (fault : Fault) (ending : Result RunOutcome Fault)
     → CountsRead {T = RunOutcome} r (Err fault) → EndsAtFault w [] fault ending → CountsReadAtEnd r ending
 refused_counts r w fault (Ok o) h e = absurd e
-refused_counts r w fault (Err d) h (inl m) = subst (λ f. CountsReadAtEnd {T = RunOutcome} r (Err f)) (sym m) (fault_later r fault h)
-refused_counts r w fault (Err d) h (inr e) = subst (λ f. CountsReadAtEnd {T = RunOutcome} r (Err f)) (sym e.0) (fault_counts r fault h)
+refused_counts r w fault (Err d) h (inl m) =
+    subst (λ f. CountsReadAtEnd {T = RunOutcome} r (Err f)) (sym m) (fault_later r fault h)
+refused_counts r w fault (Err d) h (inr e) =
+    subst (λ f. CountsReadAtEnd {T = RunOutcome} r (Err f)) (sym e.0) (fault_counts r fault h)

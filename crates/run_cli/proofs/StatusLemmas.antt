@@ -1,15 +1,18 @@
 -- What each status says, by how the program ended.
-use Rattle.std.proofs.Common.{◌≡◌, ℕ, ◌<◌, ◌≤◌, ◌==◌, ◌⊎◌, inl, inr, List, [], ◌∷◌, Bool, true, false, Option, Result, Ok, Err, refl, ap, sym, subst, ◌∙◌, arith}
+use Rattle.std.proofs.Common.{◌≡◌, ℕ, ◌<◌, ◌≤◌, ◌==◌, ◌⊎◌, inl, inr, List, [], ◌∷◌, Bool, true, false, Option, Result}
+use Rattle.std.proofs.Common.{Ok, Err, refl, ap, sym, subst, ◌∙◌, arith}
 use Rattle.run_events.specs.declared.outcome.RunOutcome.{RunOutcome}
 use Rattle.run_events.specs.declared.outcome.RunOutcome.TheVariants as outcomes
 use Rattle.run_events.specs.declared.outcome.RunStep.TheVariants as steps
 use Rattle.run_output.specs.declared.fault.Fault.{Fault}
-use Rattle.run_output.specs.declared.fault.Fault.TheVariants.{Words, Line, Plan as BadPlan, NotEnabled, ThirdSignal, Unfinished, Report, Read, Memory, TooLong}
+use Rattle.run_output.specs.declared.fault.Fault.TheVariants.{Words, Line, Plan as BadPlan, NotEnabled, ThirdSignal}
+use Rattle.run_output.specs.declared.fault.Fault.TheVariants.{Unfinished, Report, Read, Memory, TooLong}
 use Rattle.run_cli.specs.Call.{Call, Reading, HasReadFault, Writes}
 use Rattle.run_cli.specs.Text.{fault_only, outcome_status, status_of}
 use Rattle.run_cli.specs.Given.{IsReplay, IsTooLong, IsWithin, CountsReadAtEnd}
 use Rattle.run_cli.specs.Ending.{IsEnding}
-use Rattle.run_cli.specs.Status.{IsOutcomeStatus, is_status, Headline, SaysBadLine, SaysBadPlan, SaysNotEnabled, SaysUnfinished, SaysReport, Answers}
+use Rattle.run_cli.specs.Status.{IsOutcomeStatus, is_status, Headline, SaysBadLine, SaysBadPlan, SaysNotEnabled}
+use Rattle.run_cli.specs.Status.{SaysUnfinished, SaysReport, Answers}
 use Rattle.run_cli.proofs.CauseLemmas.{unread_gets, too_much_gets, bad_line_gets, course_gets}
 
 -- an outcome's status is one
@@ -38,7 +41,8 @@ no_outcome_above n (inr (inr (inl a))) low high = omega arith
 no_outcome_above n (inr (inr (inr a))) low high = omega arith
 
 -- every status is one of those known
-pub status_known : (c : Call) (ending : Result RunOutcome Fault) → IsEnding c ending → is_status (status_of ending) ≡ true
+pub status_known : (c : Call) (ending : Result RunOutcome Fault) → IsEnding c ending
+    → is_status (status_of ending) ≡ true
 status_known c (Ok outcomes.Success) h = refl
 status_known c (Ok outcomes.NoTestsRun) h = refl
 status_known c (Ok (outcomes.Failed steps.Test)) h = refl
@@ -195,7 +199,8 @@ read_says c (Err (ThirdSignal n)) h s = absurd h
 
 -- 12: an input that is too long
 pub too_long_says : (c : Call) (ending : Result RunOutcome Fault)
-    → IsEnding c ending → status_of ending ≡ 12 → IsReplay c.words × IsTooLong c.source × Writes c.sink (fault_only TooLong)
+    → IsEnding c ending → status_of ending ≡ 12
+        → IsReplay c.words × IsTooLong c.source × Writes c.sink (fault_only TooLong)
 too_long_says c (Ok o) h s = absurd (no_outcome_above 12 (apart _ 12 (outcome_is o) s) (omega arith) (omega arith))
 too_long_says c (Err Words) h s = absurd (omega arith)
 too_long_says c (Err (Line n)) h s = absurd (omega arith)
@@ -209,7 +214,8 @@ too_long_says c (Err TooLong) h s = h
 too_long_says c (Err (ThirdSignal n)) h s = absurd h
 
 -- the source's count rose where the status is 10
-pub read_rose : (r : Reading) (ending : Result RunOutcome Fault) → CountsReadAtEnd r ending → status_of ending ≡ 10 → HasReadFault r
+pub read_rose : (r : Reading) (ending : Result RunOutcome Fault) → CountsReadAtEnd r ending → status_of ending ≡ 10
+    → HasReadFault r
 read_rose r (Ok o) h s = absurd (no_outcome_above 10 (apart _ 10 (outcome_is o) s) (omega arith) (omega arith))
 read_rose r (Err Words) h s = absurd (omega arith)
 read_rose r (Err (Line n)) h s = absurd (omega arith)
@@ -223,7 +229,8 @@ read_rose r (Err TooLong) h s = absurd (omega arith)
 read_rose r (Err (ThirdSignal n)) h s = absurd (omega arith)
 
 -- and stayed where it is neither 10 nor 11
-pub read_stayed : (r : Reading) (ending : Result RunOutcome Fault) → CountsReadAtEnd r ending → (status_of ending ≡ 10 → ⊥)
+pub read_stayed : (r : Reading) (ending : Result RunOutcome Fault) → CountsReadAtEnd r ending
+    → (status_of ending ≡ 10 → ⊥)
     → (status_of ending ≡ 11 → ⊥) → r.faults_after ≡ r.faults
 read_stayed r (Ok o) h t m = h
 read_stayed r (Err Words) h t m = h
@@ -238,7 +245,8 @@ read_stayed r (Err TooLong) h t m = h
 read_stayed r (Err (ThirdSignal n)) h t m = h
 
 -- so each end of the program has its answer
-pub answers : (c : Call) (ending : Result RunOutcome Fault) → IsEnding c ending → CountsReadAtEnd c.source ending → Answers c (status_of ending)
+pub answers : (c : Call) (ending : Result RunOutcome Fault) → IsEnding c ending → CountsReadAtEnd c.source ending
+    → Answers c (status_of ending)
 answers c ending h n = record {
   headline = λ s. (headline_says c ending h s).0;
   sound_sink = λ s. (headline_says c ending h s).1;

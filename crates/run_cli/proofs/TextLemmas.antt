@@ -1,19 +1,59 @@
 -- The lines of asks and events, one after another.
-use Rattle.std.proofs.Common.{◌≡◌, ℕ, ◌+◌, ◌<◌, List, [], ◌∷◌, ◌++◌, length, take, get_or, refl, ap, sym, ◌∙◌, append_assoc}
-use Rattle.std.proofs.lemmas.List.{append-nil, take_more}
+use Rattle.std.proofs.Common.{◌≡◌, ℕ, ◌+◌, ◌<◌, List, [], ◌∷◌, ◌++◌, length, take, drop, get_or, Option, Some, None}
+use Rattle.std.proofs.Common.{refl, ap, sym, ◌∙◌, append_assoc}
+use Rattle.std.proofs.lemmas.List.{append-nil, take_more, take-append-drop}
 use Rattle.run_events.specs.declared.ask.Ask.{Ask}
 use Rattle.run_output.specs.Fields.{line_of}
 use Rattle.run_output.specs.Asks.{ask_text}
+use Rattle.run_capture.specs.Bytes.{Takes}
+use Rattle.run_capture.proofs.BytesLemmas.{takes_both}
+use Rattle.run_cli.specs.Call.{Writing, TakesFront, HasTaken, HasTakenFront, HasWriteFault, Writes}
 use Rattle.run_cli.specs.Text.{ask_lines}
 
 -- one more ask is one more line
-pub ask_lines-push : (asks : List (ℕ × Ask)) (ask : ℕ × Ask) → ask_lines (asks ++ ask ∷ []) ≡ ask_lines asks ++ line_of (ask_text ask.0 ask.1)
+pub ask_lines-push : (asks : List (ℕ × Ask)) (ask : ℕ × Ask)
+    → ask_lines (asks ++ ask ∷ []) ≡ ask_lines asks ++ line_of (ask_text ask.0 ask.1)
 ask_lines-push [] ask = append-nil _
 ask_lines-push (a ∷ asks) ask =
-    ap (λ lines. line_of (ask_text a.0 a.1) ++ lines) (ask_lines-push asks ask) ∙ sym (append_assoc (line_of (ask_text a.0 a.1)) (ask_lines asks) _)
+    ap (λ lines. line_of (ask_text a.0 a.1) ++ lines) (ask_lines-push asks ask)
+        ∙ sym (append_assoc (line_of (ask_text a.0 a.1)) (ask_lines asks) _)
 
 -- the lines of the first asks, and one more
 pub ask_lines-take : (asks : List (ℕ × Ask)) (i : ℕ) (ask : ℕ × Ask) → i < length asks → ask ≡ get_or asks i ask
     → ask_lines (take i asks) ++ line_of (ask_text ask.0 ask.1) ≡ ask_lines (take (i + 1) asks)
 ask_lines-take asks i ask h is =
-    sym (ask_lines-push (take i asks) ask) ∙ ap (λ a. ask_lines (take i asks ++ a ∷ [])) is ∙ ap ask_lines (sym (take_more asks i ask h))
+    sym (ask_lines-push (take i asks) ask) ∙ ap (λ a. ask_lines (take i asks ++ a ∷ [])) is
+        ∙ ap ask_lines (sym (take_more asks i ask h))
+
+-- a sink that took nothing took a front part
+pub front_none : (taken : Option (List ℕ)) (bytes : List ℕ) → TakesFront taken taken bytes
+front_none None bytes = ([], bytes, refl, refl)
+front_none (Some taken) bytes = ([], bytes, refl, ap Some (sym (append-nil taken)))
+
+-- and one that took the first of these bytes
+pub front_take : (before after : Option (List ℕ)) (n : ℕ) (bytes : List ℕ) → Takes before after (take n bytes)
+    → TakesFront before after bytes
+front_take before after n bytes h = (take n bytes, drop n bytes, sym (take-append-drop n bytes), h)
+
+-- a front part of some bytes is one of more bytes
+pub front_of_first : (before after : Option (List ℕ)) (first later : List ℕ) → TakesFront before after first
+    → TakesFront before after (first ++ later)
+front_of_first before after first later (front, left, is, h) =
+    (front, left ++ later, ap (λ bytes. bytes ++ later) is ∙ append_assoc front left later, h)
+
+-- some bytes, and then a front part of others
+pub front_after : (before between after : Option (List ℕ)) (first later : List ℕ) → Takes before between first
+    → TakesFront between after later → TakesFront before after (first ++ later)
+front_after before between after first later one (front, left, is, h) = (
+  first ++ front,
+  left,
+  ap (λ bytes. first ++ bytes) is ∙ sym (append_assoc first front left),
+  takes_both before between after first front one h,
+)
+
+-- bytes that went out whole, and a front part of bytes where the sink failed
+pub writes_whole : (w : Writing) (text : List ℕ) → HasTaken w text → Writes w text
+writes_whole w text h = record { whole = λ calm. h; front = (text, [], sym (append-nil text), h) }
+
+pub writes_front : (w : Writing) (text : List ℕ) → HasWriteFault w → HasTakenFront w text → Writes w text
+writes_front w text rose h = record { whole = λ calm. absurd (calm rose); front = h }

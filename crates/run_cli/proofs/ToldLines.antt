@@ -1,5 +1,6 @@
 -- The lines that a reporter wrote are those of the events that the journal told.
-use Rattle.std.proofs.Common.{◌≡◌, ℕ, suc, List, [], ◌∷◌, ◌++◌, length, map, zip, Bool, Option, Some, None, is_none, reverse, Result, Ok, Err, IsSome, ◌<◌, refl, ap, sym, subst, ◌∙◌, arith}
+use Rattle.std.proofs.Common.{◌≡◌, ℕ, suc, List, [], ◌∷◌, ◌++◌, length, map, zip, Bool, Option, Some, None, is_none}
+use Rattle.std.proofs.Common.{reverse, Result, Ok, Err, IsSome, ◌<◌, refl, ap, sym, subst, ◌∙◌, arith}
 use Rattle.std.proofs.lemmas.List.{map-append}
 use Rattle.run_events.specs.declared.settings.Settings.{Settings}
 use Rattle.run_events.specs.declared.events.ReporterEvent.{ReporterEvent}
@@ -23,7 +24,8 @@ use Rattle.run_events.specs.declared.outcome.RunOutcome.{RunOutcome}
 use Rattle.run_engine.specs.Standing.{IsRunnable}
 use Rattle.run_engine.specs.Execution.{IsAnswerOf, UnlessMemory}
 use Rattle.run_engine.specs.declared.errors.TestRunnerExecuteErrors.{TestRunnerExecuteErrors}
-use Rattle.run_engine.specs.declared.errors.TestRunnerExecuteErrors.TheVariants.{Report, NotEnabled, Unfinished, OutOfMemory}
+use Rattle.run_engine.specs.declared.errors.TestRunnerExecuteErrors.TheVariants.{Report, NotEnabled, Unfinished}
+use Rattle.run_engine.specs.declared.errors.TestRunnerExecuteErrors.TheVariants.{OutOfMemory}
 use Rattle.run_output.specs.Refusals.{CountsSince}
 
 -- events beside as many answers are the events
@@ -51,10 +53,12 @@ one_whole event None later bytes line rest others none is same e =
 one_whole event (Some d) later bytes line rest others none is same e = cc
 
 -- where no event was refused, the lines are whole
-lines_whole : {E : Type 0} (ys : List (ReporterEvent × Option E)) (bytes : List ℕ) → first_error ys ≡ None → AreLines ys bytes
+lines_whole : {E : Type 0} (ys : List (ReporterEvent × Option E)) (bytes : List ℕ) → first_error ys ≡ None
+    → AreLines ys bytes
     → bytes ≡ event_lines (map (λ y. y.0) ys)
 lines_whole [] bytes none lines = lines
-lines_whole (y ∷ ys) bytes none lines = one_whole y.0 y.1 (first_error ys) bytes lines.0 lines.1 (event_lines (map (λ y. y.0) ys)) none lines.2
+lines_whole (y ∷ ys) bytes none lines =
+    one_whole y.0 y.1 (first_error ys) bytes lines.0 lines.1 (event_lines (map (λ y. y.0) ys)) none lines.2
     (λ none. lines_whole ys lines.1 none lines.3) lines.4
 
 -- the marks of events leave the events
@@ -64,13 +68,15 @@ flags_first (y ∷ ys) = ap (λ zs. y.0 ∷ zs) (flags_first ys)
 
 -- a run whose events the sink took, from what the reporter told and counted
 pub executed_from : (p : Settings) (turns : List Turn) (w : Writing) (refusals : ℕ) (asks : List (ℕ × Ask))
-    (answer : Result RunOutcome (TestRunnerExecuteErrors Failed)) (journal : List Entry) (refusal : Option Failed) (ys : List (ReporterEvent × Option Failed))
+    (answer : Result RunOutcome (TestRunnerExecuteErrors Failed)) (journal : List Entry) (refusal : Option Failed)
+        (ys : List (ReporterEvent × Option Failed))
     → IsRunnable p journal → IsAnswerOf p turns journal refusal answer → is_none refusal ≡ none_refused journal
     → asks ≡ asked (past_of p journal)
     → TookLines w.taken w.taken_after ys → map flagged ys ≡ answers (past_of p journal) → first_error ys ≡ refusal
     → CountsErrors 0 refusals refusal → CountsSince w.faults w.faults_after refusals
     → IsExecuted p turns w asks answer
-executed_from p turns w refusals asks answer journal refusal ys runnable says marked asked_is took flags first counted since = record {
+executed_from p turns w refusals asks answer journal refusal ys runnable says marked asked_is took flags first counted
+    since = record {
   journal = journal;
   refusal = refusal;
   runnable = runnable;
@@ -80,7 +86,8 @@ executed_from p turns w refusals asks answer journal refusal ys runnable says ma
   took = (ys, flags, took);
   told = λ none. subst (HasTaken w)
       (lines_whole ys took.0 (first ∙ none) took.1
-      ∙ ap event_lines (sym (flags_first ys) ∙ ap (map (λ x. x.0)) flags ∙ answers-told p (reverse journal) runnable.legal))
+      ∙ ap event_lines (sym (flags_first ys) ∙ ap (map (λ x. x.0)) flags
+          ∙ answers-told p (reverse journal) runnable.legal))
       took.2;
   quiet = λ none. since.0 (quiet_count refusal none counted);
   risen = λ some. since.1 (risen_count refusal some counted);
@@ -93,11 +100,3 @@ executed_from p turns w refusals asks answer journal refusal ys runnable says ma
     risen_count : (o : Option Failed) → IsSome o → CountsErrors 0 refusals o → 0 < refusals
     risen_count None s h = cc
     risen_count (Some d) s h = omega arith
-
--- a fact that follows from another follows unless memory was wanting
-pub unless_weaker : {E : Type 0} (r : Result RunOutcome (TestRunnerExecuteErrors E)) (P Q : Type 0) → (P → Q) → UnlessMemory r P → UnlessMemory r Q
-unless_weaker (Ok o) P Q f h = f h
-unless_weaker (Err (Report e)) P Q f h = f h
-unless_weaker (Err (NotEnabled i)) P Q f h = f h
-unless_weaker (Err Unfinished) P Q f h = f h
-unless_weaker (Err OutOfMemory) P Q f h = h

@@ -1,5 +1,5 @@
 -- What the program was given and what it left: its words, and its source and its sink before and after.
-use Rattle.std.specs.Prelude.{ℕ, ◌≡◌, List, Option}
+use Rattle.std.specs.Prelude.{ℕ, ◌≡◌, ◌++◌, List, Option}
 use Rattle.run_capture.specs.Bytes.{Gives, Takes}
 use Rattle.run_capture.specs.Faults.{Rose}
 
@@ -51,6 +51,15 @@ HasReadFault r = Rose r.faults r.faults_after
 abbrev pub HasWriteFault : Writing → Type 0
 HasWriteFault w = Rose w.faults w.faults_after
 
--- the bytes that went out, where the sink didn't fail
-abbrev pub Writes : Writing → List ℕ → Type 0
-Writes w text = ¬ HasWriteFault w → HasTaken w text
+-- a front part of these bytes was taken last
+abbrev pub TakesFront : Option (List ℕ) → Option (List ℕ) → List ℕ → Type 0
+TakesFront before after bytes =
+    (front : List ℕ) × (left : List ℕ) × (bytes ≡ front ++ left) × Takes before after front
+
+abbrev pub HasTakenFront : Writing → List ℕ → Type 0
+HasTakenFront w bytes = TakesFront w.taken w.taken_after bytes
+
+-- these bytes went out, all of them where the sink didn't fail, and else a front part of them; and nothing else
+pub record Writes (w : Writing) (text : List ℕ) : Type 0 where
+  pub whole : ¬ HasWriteFault w → HasTaken w text
+  pub front : HasTakenFront w text

@@ -39,7 +39,8 @@ pub record HasTooMuch (left : Option (List ℕ)) : Type 0 where
   pub above : input_limit < length bytes
 
 -- the status that a plan and its turns get: the plan is refused; or with the answers that the sink gave, which refused
--- no event where it didn't fail, the turns stop at one that isn't enabled, or leave the run unfinished, or end it, where
+-- no event where it didn't fail, the turns stop at one that isn't enabled, or leave the run unfinished, or end it,
+-- where
 -- the sink's count of faults stayed or rose
 pub record GetsByCourse (capture : CaptureStrategy) (plan : Plan) (turns : List Turn) (w : Writing)
     (status : ℕ) : Type 0 where

@@ -14,12 +14,14 @@ use Rattle.run_model.specs.Journal.{past_of, IsLegal, outcome}
 use Rattle.run_model.specs.Fates.{HaveFates}
 use Rattle.run_laws.specs.Course.{turns_of, none_refused}
 use Rattle.run_output.specs.declared.fault.Fault.{Fault}
-use Rattle.run_output.specs.declared.fault.Fault.TheVariants.{Words, Line, Plan as BadPlan, NotEnabled, ThirdSignal, Unfinished, Report, Read, Memory, TooLong}
+use Rattle.run_output.specs.declared.fault.Fault.TheVariants.{Words, Line, Plan as BadPlan, NotEnabled, ThirdSignal}
+use Rattle.run_output.specs.declared.fault.Fault.TheVariants.{Unfinished, Report, Read, Memory, TooLong}
 use Rattle.run_output.specs.declared.fault.PlanFault.{PlanFault}
 use Rattle.run_cli.specs.Call.{Call, Reading, HasTaken, HasWriteFault, Writes}
+use Rattle.run_cli.specs.Executed.{TookParts, WritesRun, report_ending}
 use Rattle.run_cli.specs.Plans.{settings_for, refusal_for, IsPlanFault}
 use Rattle.run_cli.specs.Given.{IsReplay, IsGiven, IsTooLong, IsWithin, HasBadLine}
-use Rattle.run_cli.specs.Text.{fault_only, history_text}
+use Rattle.run_cli.specs.Text.{fault_only, rest_text, history_text}
 
 -- the words are good, the source was read to its end, its lines say a plan that is accepted and its turns, and this
 -- legal journal has some of those turns, each with the reporter's answers; where the sink didn't fail, it refused none
@@ -50,6 +52,11 @@ pub record IsWhole {c : Call} (r : Replays c) (o : RunOutcome) : Type 0 where
   pub accounts : All (HaveFates (settings_in r)) (ended_runs (history_in r))
   pub ended : Contains (ended_runs (history_in r)) (sub_run (history_in r))
 
+-- the sink, which failed, took the lines of the told events, each whole or a front part of it, and a front part of the
+-- rest: the lines of asks and of the outcome, or where an event was refused of the fault
+abbrev pub WritesReport : {c : Call} → Replays c → RunOutcome → Type 0
+WritesReport {c} r o = TookParts (history_in r) (rest_text (history_in r) (report_ending r.journal o)) c.sink
+
 -- the turn at this place is the first that isn't enabled
 pub record StopsBefore {c : Call} (r : Replays c) (place : ℕ) : Type 0 where
   pub before : turns_of r.journal ≡ take place r.turns
@@ -75,11 +82,10 @@ abbrev pub IsEnding : Call → Result RunOutcome Fault → Type 0
 IsEnding c (Ok o) =
     (r : Replays c) × IsWhole r o × HasTaken c.sink (history_text (history_in r) (Ok o))
     × (c.sink.faults_after ≡ c.sink.faults)
-IsEnding c (Err Report) = (r : Replays c) × (o : RunOutcome) × IsWhole r o × HasWriteFault c.sink
+IsEnding c (Err Report) = (r : Replays c) × (o : RunOutcome) × IsWhole r o × WritesReport r o × HasWriteFault c.sink
 IsEnding c (Err (NotEnabled place)) =
-    (r : Replays c) × StopsBefore r place × Writes c.sink (history_text (history_in r) (Err (NotEnabled place)))
-IsEnding c (Err Unfinished) = (r : Replays c) × IsUnfinished r
-    × Writes c.sink (history_text (history_in r) (Err Unfinished))
+    (r : Replays c) × StopsBefore r place × WritesRun (history_in r) (Err (NotEnabled place)) c.sink
+IsEnding c (Err Unfinished) = (r : Replays c) × IsUnfinished r × WritesRun (history_in r) (Err Unfinished) c.sink
 IsEnding c (Err Words) = (¬ IsReplay c.words) × Writes c.sink (fault_only Words)
 IsEnding c (Err Read) = IsReplay c.words × IsWithin c.source × Writes c.sink (fault_only Read)
 IsEnding c (Err TooLong) = IsReplay c.words × IsTooLong c.source × Writes c.sink (fault_only TooLong)

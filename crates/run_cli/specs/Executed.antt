@@ -1,5 +1,5 @@
 -- What carrying out the turns of a run into a sink does.
-use Rattle.std.specs.Prelude.{ℕ, ◌≡◌, List, map, Option, None, Result, is_none, IsSome}
+use Rattle.std.specs.Prelude.{ℕ, ◌≡◌, List, map, Option, None, Result, Ok, Err, if◌then◌else◌, is_none, IsSome}
 use Rattle.run_capture.specs.declared.source.Failed.{Failed}
 use Rattle.run_events.specs.declared.settings.Settings.{Settings}
 use Rattle.run_events.specs.declared.turn.Turn.{Turn}
@@ -7,6 +7,7 @@ use Rattle.run_events.specs.declared.ask.Ask.{Ask}
 use Rattle.run_events.specs.declared.outcome.RunOutcome.{RunOutcome}
 use Rattle.run_events.specs.declared.events.ReporterEvent.{ReporterEvent}
 use Rattle.run_model.specs.declared.entry.Entry.{Entry}
+use Rattle.run_model.specs.declared.happening.Happening.{Happening}
 use Rattle.run_model.specs.Words.{told, asked, answers}
 use Rattle.run_model.specs.Journal.{past_of}
 use Rattle.run_laws.specs.Course.{none_refused}
@@ -15,14 +16,30 @@ use Rattle.run_engine.specs.Standing.{IsRunnable}
 use Rattle.run_engine.specs.Execution.{IsAnswerOf}
 use Rattle.run_engine.specs.declared.errors.TestRunnerExecuteErrors.{TestRunnerExecuteErrors}
 use Rattle.run_output.specs.Told.{TookLines}
-use Rattle.run_cli.specs.Call.{Writing, HasTaken, HasWriteFault}
-use Rattle.run_cli.specs.Text.{event_lines}
+use Rattle.run_output.specs.declared.fault.Fault.{Fault}
+use Rattle.run_output.specs.declared.fault.Fault.TheVariants.{Report}
+use Rattle.run_cli.specs.Call.{Writing, TakesFront, HasTaken, HasWriteFault}
+use Rattle.run_cli.specs.Text.{event_lines, rest_text, history_text}
 
--- the sink took the line of each event that a journal told, in order: of one that was refused a front part
-abbrev pub TookEvents : Settings → List Entry → Writing → Type 0
-TookEvents p journal w =
-    (ys : List (ReporterEvent × Option Failed)) × (map flagged ys ≡ answers (past_of p journal))
-    × TookLines w.taken w.taken_after ys
+-- a sink took the line of each event that a history told, in order: each whole, or of one that was refused a front part
+abbrev pub TookEvents : List Happening → Option (List ℕ) → Option (List ℕ) → Type 0
+TookEvents past before after =
+    (ys : List (ReporterEvent × Option Failed)) × (map flagged ys ≡ answers past) × TookLines before after ys
+
+-- a sink took the lines of a history's events so, and then a front part of the rest; and nothing else
+pub record TookParts (past : List Happening) (rest : List ℕ) (w : Writing) : Type 0 where
+  pub between : Option (List ℕ)
+  pub events : TookEvents past w.taken between
+  pub last : TakesFront between w.taken_after rest
+
+-- the lines of a history went out: all where the sink didn't fail, and else parts of them; and nothing else
+pub record WritesRun (past : List Happening) (ending : Result RunOutcome Fault) (w : Writing) : Type 0 where
+  pub whole : ¬ HasWriteFault w → HasTaken w (history_text past ending)
+  pub parts : TookParts past (rest_text past ending) w
+
+-- the last line of a run that is over, where the sink failed: the outcome's if no event was refused, else the fault's
+abbrev pub report_ending : List Entry → RunOutcome → Result RunOutcome Fault
+report_ending journal outcome = if none_refused journal then Ok outcome else Err Report
 
 -- the journal of the call says the answer and the asks. Where no event was refused, which its answers say, the sink has
 -- taken the lines of the events whole and its count of faults stayed; else the count rose
@@ -34,7 +51,7 @@ pub record IsExecuted (p : Settings) (turns : List Turn) (w : Writing) (asks : L
   pub says : IsAnswerOf p turns journal refusal answer
   pub marked : is_none refusal ≡ none_refused journal
   pub asked : asks ≡ asked (past_of p journal)
-  pub took : TookEvents p journal w
+  pub took : TookEvents (past_of p journal) w.taken w.taken_after
   pub told : refusal ≡ None → HasTaken w (event_lines (told (past_of p journal)))
   pub quiet : refusal ≡ None → w.faults_after ≡ w.faults
   pub risen : IsSome refusal → HasWriteFault w

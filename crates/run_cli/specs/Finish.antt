@@ -1,5 +1,6 @@
 -- How the lines after a run end the program.
-use Rattle.std.specs.Prelude.{ℕ, ◌≡◌, ◌⊎◌, ◌≤◌, List, take, slice_get, ◌++◌, true, false, Some, None, Result, Ok, Err, ⊤}
+use Rattle.std.specs.Prelude.{ℕ, ◌≡◌, ◌⊎◌, ◌≤◌, List, take, slice_get, ◌++◌, true, false, Some, None, Result, Ok, Err}
+use Rattle.std.specs.Prelude.{⊤}
 use Rattle.run_capture.specs.declared.test_output.CaptureStrategy.{CaptureStrategy}
 use Rattle.run_events.specs.declared.plan.Plan.{Plan}
 use Rattle.run_events.specs.declared.settings.Settings.{Settings}
@@ -14,14 +15,16 @@ use Rattle.run_laws.specs.Course.{turns_of, none_refused}
 use Rattle.run_engine.specs.declared.errors.TestRunnerExecuteErrors.{TestRunnerExecuteErrors}
 use Rattle.run_engine.specs.declared.errors.TestRunnerExecuteErrors.TheVariants as engine
 use Rattle.run_output.specs.declared.fault.Fault.{Fault}
-use Rattle.run_output.specs.declared.fault.Fault.TheVariants.{Words, Line, Plan as BadPlan, NotEnabled, Unfinished, Report, Read, Memory, TooLong}
+use Rattle.run_output.specs.declared.fault.Fault.TheVariants.{Words, Line, Plan as BadPlan, NotEnabled, Unfinished}
+use Rattle.run_output.specs.declared.fault.Fault.TheVariants.{Report, Read, Memory, TooLong}
 use Rattle.run_output.specs.Fields.{line_of}
 use Rattle.run_output.specs.Outcomes.{outcome_text}
-use Rattle.run_cli.specs.Call.{Writing, HasTaken, HasWriteFault, Writes}
+use Rattle.run_cli.specs.Call.{Writing, HasTaken, HasTakenFront, HasWriteFault, Writes}
+use Rattle.run_cli.specs.Executed.{TookParts, WritesRun, report_ending}
 use Rattle.run_cli.specs.Plans.{settings_for, refusal_for, IsPlanFault}
-use Rattle.run_cli.specs.Text.{ask_lines, fault_only, history_text}
+use Rattle.run_cli.specs.Text.{ask_lines, fault_only, rest_text, history_text}
 
--- the lines of asks and of a fault were written, unless the sink failed or memory was wanting
+-- the lines of asks and of a fault were written, where the sink failed a front part of them, unless memory was wanting
 abbrev pub EndsAtFault : Writing → List (ℕ × Ask) → Fault → Result RunOutcome Fault → Type 0
 EndsAtFault w asks fault (Ok o) = ⊥
 EndsAtFault w asks fault (Err e) =
@@ -31,7 +34,8 @@ EndsAtFault w asks fault (Err e) =
 abbrev pub EndsAtOutcome : Writing → List (ℕ × Ask) → RunOutcome → Result RunOutcome Fault → Type 0
 EndsAtOutcome w asks outcome (Ok o) =
     (o ≡ outcome) × HasTaken w (ask_lines asks ++ line_of (outcome_text outcome)) × (w.faults_after ≡ w.faults)
-EndsAtOutcome w asks outcome (Err Report) = HasWriteFault w
+EndsAtOutcome w asks outcome (Err Report) =
+    HasWriteFault w × HasTakenFront w (ask_lines asks ++ line_of (outcome_text outcome))
 EndsAtOutcome w asks outcome (Err Memory) = ⊤
 EndsAtOutcome w asks outcome (Err _) = ⊥
 
@@ -48,15 +52,16 @@ IsReplayEnding p turns w (Ok o) =
     × HasTaken w (history_text (past_of p r.journal) (Ok o)) × (w.faults_after ≡ w.faults)
 IsReplayEnding p turns w (Err Report) =
     (r : IsReplayed p w) × (turns_of r.journal ≡ turns)
-    × ((o : RunOutcome) × (outcome p (past_of p r.journal) ≡ Some o))
+    × ((o : RunOutcome) × (outcome p (past_of p r.journal) ≡ Some o)
+    × TookParts (past_of p r.journal) (rest_text (past_of p r.journal) (report_ending r.journal o)) w)
     × HasWriteFault w
 IsReplayEnding p turns w (Err (NotEnabled place)) =
     (r : IsReplayed p w) × (turns_of r.journal ≡ take place turns)
     × ((turn : Turn) × (slice_get turns place ≡ Some turn) × (enabled p (past_of p r.journal) turn ≡ false))
-    × Writes w (history_text (past_of p r.journal) (Err (NotEnabled place)))
+    × WritesRun (past_of p r.journal) (Err (NotEnabled place)) w
 IsReplayEnding p turns w (Err Unfinished) =
     (r : IsReplayed p w) × (turns_of r.journal ≡ turns) × (is_over (past_of p r.journal) ≡ false)
-    × Writes w (history_text (past_of p r.journal) (Err Unfinished))
+    × WritesRun (past_of p r.journal) (Err Unfinished) w
 IsReplayEnding p turns w (Err Memory) = ⊤
 IsReplayEnding p turns w (Err _) = ⊥
 

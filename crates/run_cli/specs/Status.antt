@@ -5,12 +5,14 @@ use Rattle.run_capture.specs.declared.test_output.CaptureStrategy.{CaptureStrate
 use Rattle.run_events.specs.declared.plan.Plan.{Plan}
 use Rattle.run_events.specs.declared.turn.Turn.{Turn}
 use Rattle.run_events.specs.declared.outcome.RunOutcome.{RunOutcome}
-use Rattle.run_output.specs.declared.fault.Fault.TheVariants.{Words, Line, Plan as BadPlan, NotEnabled, Unfinished, Read, TooLong}
+use Rattle.run_output.specs.declared.fault.Fault.TheVariants.{Words, Line, Plan as BadPlan, NotEnabled, Unfinished}
+use Rattle.run_output.specs.declared.fault.Fault.TheVariants.{Read, TooLong}
 use Rattle.run_output.specs.declared.fault.PlanFault.{PlanFault}
 use Rattle.run_cli.specs.Call.{Call, HasTaken, HasReadFault, HasWriteFault, Writes}
 use Rattle.run_cli.specs.Text.{fault_only, history_text, outcome_status}
+use Rattle.run_cli.specs.Executed.{WritesRun}
 use Rattle.run_cli.specs.Given.{IsReplay, IsTooLong, IsWithin, HasBadLine}
-use Rattle.run_cli.specs.Ending.{Replays, IsWhole, StopsBefore, IsUnfinished, HasBadPlan, history_in}
+use Rattle.run_cli.specs.Ending.{Replays, IsWhole, WritesReport, StopsBefore, IsUnfinished, HasBadPlan, history_in}
 use Rattle.run_cli.specs.Cause.{Gets, HasInput, HasBadInput, HasTooMuch, GetsByCourse}
 
 -- the statuses of outcomes: success, no tests run, failed or cancelled in tests, failed or cancelled in scripts
@@ -41,26 +43,27 @@ abbrev pub SaysBadPlan : Call → Type 0
 SaysBadPlan c = IsReplay c.words × ((fault : PlanFault) × HasBadPlan c.source fault
     × Writes c.sink (fault_only (BadPlan fault)))
 
--- the turns up to a first one that isn't enabled were taken, and the lines are theirs and a fault line that names its place
+-- the turns up to a first one that isn't enabled were taken, and the lines are theirs and a fault line that names its
+-- place
 abbrev pub SaysNotEnabled : Call → Type 0
 SaysNotEnabled c =
     (place : ℕ) × (r : Replays c) × StopsBefore r place
-    × Writes c.sink (history_text (history_in r) (Err (NotEnabled place)))
+    × WritesRun (history_in r) (Err (NotEnabled place)) c.sink
 
 -- all turns were taken, the run isn't over, and the lines are theirs and the fault line
 abbrev pub SaysUnfinished : Call → Type 0
-SaysUnfinished c = (r : Replays c) × IsUnfinished r × Writes c.sink (history_text (history_in r) (Err Unfinished))
+SaysUnfinished c = (r : Replays c) × IsUnfinished r × WritesRun (history_in r) (Err Unfinished) c.sink
 
--- all is as for an outcome's status, but for the sink, whose count of faults rose
+-- all is as for an outcome's status, but for the sink, whose count of faults rose, and which took parts of the lines
 abbrev pub SaysReport : Call → Type 0
-SaysReport c = (r : Replays c) × (o : RunOutcome) × IsWhole r o × HasWriteFault c.sink
+SaysReport c = (r : Replays c) × (o : RunOutcome) × IsWhole r o × WritesReport r o × HasWriteFault c.sink
 
 -- what each status says, and what status each cause gives
 pub record Answers (c : Call) (status : ℕ) : Type 0 where
   -- the headline
   pub headline : IsOutcomeStatus status → Headline c status
   pub sound_sink : IsOutcomeStatus status → c.sink.faults_after ≡ c.sink.faults
-  -- each refusal by its cause, with all that was written where the sink didn't fail
+  -- each refusal by its cause, with all that was written: where the sink failed, parts of it
   pub words : status ≡ 2 → (¬ IsReplay c.words) × Writes c.sink (fault_only Words)
   pub no_words : ¬ IsReplay c.words → (status ≡ 2) ⊎ (status ≡ 11)
   pub line : status ≡ 3 → SaysBadLine c

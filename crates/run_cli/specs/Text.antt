@@ -34,9 +34,13 @@ last_text (Err fault) = fault_text fault
 abbrev pub fault_only : Fault → List ℕ
 fault_only fault = line_of (fault_text fault)
 
+-- the lines after those of events: of what a history asked, and the last line
+abbrev pub rest_text : List Happening → Result RunOutcome Fault → List ℕ
+rest_text past ending = ask_lines (asked past) ++ line_of (last_text ending)
+
 -- the lines of a history: what it told, then what it asked, then the last line
 abbrev pub history_text : List Happening → Result RunOutcome Fault → List ℕ
-history_text past ending = event_lines (told past) ++ (ask_lines (asked past) ++ line_of (last_text ending))
+history_text past ending = event_lines (told past) ++ rest_text past ending
 
 -- the status of an outcome
 abbrev pub outcome_status : RunOutcome → ℕ

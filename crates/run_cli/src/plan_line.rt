@@ -1,6 +1,6 @@
 // The plan line as a builder and its plan.
 ghost use Rattle.std.specs.Prelude.{◌≡◌, option_map, option_and_then};
-ghost use Rattle.run_input.specs.Reads.{Reads};
+ghost use Rattle.run_input.specs.ReadsValue.{ReadsValue};
 ghost use Rattle.run_input.specs.ValueOf.{value_of};
 ghost use Rattle.run_input.specs.PlanLine.{plan_of};
 ghost use Rattle.run_cli.specs.Plans.{builder_of};
@@ -23,7 +23,7 @@ pub fn builder_of(capture: CaptureStrategy) -> TestRunnerBuilder
 /// Reads a plan line: the builder that its keys set, and the plan that it says. A line is refused exactly where it is
 /// not in its table.
 pub fn read_plan_line(alloc: Global, line: &[u8]) -> Result<(TestRunnerBuilder, Plan), LineError>
-    ensures { Reads result (option_map (λ said. (builder_of said.0, said.1))
+    ensures { ReadsValue result (option_map (λ said. (builder_of said.0, said.1))
         (option_and_then plan_of (value_of line.now))) }
 {
     match run_input::read_plan_line(alloc, line) {

@@ -1,9 +1,10 @@
 // How the lines after a run are written.
-ghost use Rattle.std.specs.Prelude.{◌≡◌, ◌++◌, ◌∷◌, [], List, ℕ, OnOk};
+ghost use Rattle.std.specs.Prelude.{◌≡◌, ◌++◌, ◌∷◌, [], List, ℕ, OnErr, OnOk};
 ghost use Rattle.run_capture.specs.Bytes.{Takes};
 ghost use Rattle.run_output.specs.Fields.{line_of};
 ghost use Rattle.run_output.specs.Outcomes.{outcome_text};
 ghost use Rattle.run_output.specs.Faults.{fault_text};
+ghost use Rattle.run_cli.specs.Call.{TakesFront};
 ghost use Rattle.run_cli.specs.Text.{ask_lines};
 ghost use Rattle.run_cli.specs.Write.{CountsWrite};
 
@@ -46,6 +47,7 @@ impl From<Failed> for WriteError {
 // Writes a line.
 fn write_line<K: Sink>(alloc: Global, sink: &mut K, line: Text) -> Result<(), WriteError>
     ensures ok { OnOk result (Takes (K.taken sink.old) (K.taken sink.new) (line_of line)) }
+    ensures front { OnErr result (TakesFront (K.taken sink.old) (K.taken sink.new) (line_of line)) }
     ensures counted { CountsWrite (K.faults sink.old) (K.faults sink.new) result }
 {
     let line = with_line_feed(alloc, line)?;
@@ -56,6 +58,7 @@ fn write_line<K: Sink>(alloc: Global, sink: &mut K, line: Text) -> Result<(), Wr
 // Writes the lines of asks.
 fn write_asks<K: Sink>(alloc: Global, sink: &mut K, asks: &[(u64, Ask)]) -> Result<(), WriteError>
     ensures ok { OnOk result (Takes (K.taken sink.old) (K.taken sink.new) (ask_lines asks.now)) }
+    ensures front { OnErr result (TakesFront (K.taken sink.old) (K.taken sink.new) (ask_lines asks.now)) }
     ensures counted { CountsWrite (K.faults sink.old) (K.faults sink.new) result }
 {
     for ask in asks {
@@ -73,6 +76,8 @@ fn write_rest<K: Sink>(
     last: Text,
 ) -> Result<(), WriteError>
     ensures ok { OnOk result (Takes (K.taken sink.old) (K.taken sink.new) (ask_lines asks.now ++ line_of last)) }
+    ensures front { OnErr result
+        (TakesFront (K.taken sink.old) (K.taken sink.new) (ask_lines asks.now ++ line_of last)) }
     ensures counted { CountsWrite (K.faults sink.old) (K.faults sink.new) result }
 {
     write_asks(alloc, sink, asks)?;
@@ -88,6 +93,8 @@ pub fn write_outcome<K: Sink>(
 ) -> Result<(), WriteError>
     ensures ok { OnOk result (Takes (K.taken sink.old) (K.taken sink.new)
         (ask_lines asks.now ++ line_of (outcome_text outcome))) }
+    ensures front { OnErr result (TakesFront (K.taken sink.old) (K.taken sink.new)
+        (ask_lines asks.now ++ line_of (outcome_text outcome))) }
     ensures counted { CountsWrite (K.faults sink.old) (K.faults sink.new) result }
 {
     let last = outcome_line(alloc, outcome)?;
@@ -102,6 +109,8 @@ pub fn write_fault<K: Sink>(
     fault: Fault,
 ) -> Result<(), WriteError>
     ensures ok { OnOk result (Takes (K.taken sink.old) (K.taken sink.new)
+        (ask_lines asks.now ++ line_of (fault_text fault))) }
+    ensures front { OnErr result (TakesFront (K.taken sink.old) (K.taken sink.new)
         (ask_lines asks.now ++ line_of (fault_text fault))) }
     ensures counted { CountsWrite (K.faults sink.old) (K.faults sink.new) result }
 {

@@ -2,7 +2,8 @@
 use Rattle.std.proofs.Common.{ℕ, ◌≡◌, ◌+◌, ◌-◌, ◌≤◌, true, false, List, [], ◌∷◌, arith, sym, ap, ◌∙◌}
 use Rattle.std.specs.Prelude.{if◌then◌else◌}
 use Rattle.run_clock.specs.Counted.{Mark, is_paused, IsInOrder, counted_time, paused_time}
-use Rattle.run_clock.specs.Laws.{TimeAddsUp, PassingTimeCounts, SameMomentCountsNothing, IdleMarkCountsNothing, IdleMarkNeedsNoCall}
+use Rattle.run_clock.specs.Laws.{TimeAddsUp, PassingTimeCounts, SameMomentCountsNothing, IdleMarkCountsNothing}
+use Rattle.run_clock.specs.Laws.{IdleMarkNeedsNoCall}
 
 -- no history in order ends before its start
 pub begun : (start : ℕ) (past : List Mark) (now : ℕ) → IsInOrder start past now → start ≤ now

@@ -1,6 +1,7 @@
 -- The laws of counted time.
 use Rattle.std.specs.Prelude.{ℕ, ◌≡◌, ◌+◌, ◌-◌, true, false, if◌then◌else◌, List, ◌∷◌}
-use Rattle.run_clock.specs.Counted.{Mark, pause, resume, mark_of, is_paused, IsInOrder, counted_time, paused_time, Timer}
+use Rattle.run_clock.specs.Counted.{Mark, pause, resume, mark_of, is_paused, IsInOrder, counted_time, paused_time}
+use Rattle.run_clock.specs.Counted.{Timer}
 use Rattle.run_clock.specs.Stopwatch.{Watch, Times}
 use Rattle.run_clock.specs.Sleep.{Sleep, Keeps}
 

@@ -1,5 +1,6 @@
 // Laws of counted time.
-ghost use Rattle.run_clock.specs.Laws.{TimeAddsUp, PassingTimeCounts, SameMomentCountsNothing, IdleMarkCountsNothing, IdleMarkNeedsNoCall};
+ghost use Rattle.run_clock.specs.Laws.{TimeAddsUp, PassingTimeCounts, SameMomentCountsNothing, IdleMarkCountsNothing};
+ghost use Rattle.run_clock.specs.Laws.{IdleMarkNeedsNoCall};
 
 /// Counted and paused time add up to the time since the start, an open pause counted as paused.
 pub fn time_adds_up()

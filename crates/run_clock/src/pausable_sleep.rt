@@ -2,7 +2,8 @@
 ghost use Rattle.std.specs.Prelude.{◌≡◌, ◌+◌, ◌≤◌, []};
 ghost use Rattle.run_clock.specs.declared.sleep_state.SleepState.TheVariants.{Running};
 ghost use Rattle.run_clock.specs.Counted.{pause, resume, is_paused, is_due};
-ghost use Rattle.run_clock.specs.Sleep.{is_stopped, paused_at, resumed_at, reset_at, fires_at, IsOutOfReach, ready_where, Keeps, ForTimer, ForTimerBy, AddsToTimer, SetsAgain};
+ghost use Rattle.run_clock.specs.Sleep.{is_stopped, paused_at, resumed_at, reset_at, fires_at, IsOutOfReach};
+ghost use Rattle.run_clock.specs.Sleep.{ready_where, Keeps, ForTimer, ForTimerBy, AddsToTimer, SetsAgain};
 
 use crate::poll::Poll;
 use crate::sleep_state::SleepState;

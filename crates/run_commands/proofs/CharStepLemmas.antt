@@ -1,5 +1,6 @@
 -- A character is one step of the machine, however many bytes it has.
-use Rattle.std.proofs.Common.{◌≡◌, true, false, ℕ, suc, ◌+◌, ◌<◌, ◌≤◌, List, [], ◌∷◌, ◌++◌, length, refl, ap, sym, subst, ◌∙◌, arith, append_assoc, is_some, encode_utf8}
+use Rattle.std.proofs.Common.{◌≡◌, true, false, ℕ, suc, ◌+◌, ◌<◌, ◌≤◌, List, [], ◌∷◌, ◌++◌, length, refl, ap, sym}
+use Rattle.std.proofs.Common.{subst, ◌∙◌, arith, append_assoc, is_some, encode_utf8}
 use Rattle.std.proofs.Math.Utf8.{encode}
 use Rattle.std.proofs.Math.Dec.{ltb}
 use Rattle.std.proofs.lemmas.Bool.{ltb-true}
@@ -9,7 +10,8 @@ use Rattle.run_commands.specs.declared.words.char_kind.CharKind.TheVariants as k
 use Rattle.run_commands.specs.declared.words.machine.State.{State}
 use Rattle.run_commands.specs.Gathered.{Gathered}
 use Rattle.run_commands.specs.Words.{kind}
-use Rattle.run_commands.specs.WordMachine.{Mode, Effect, Read, step, effects, put, mode_of, step_for, Takes, reading}
+use Rattle.run_commands.specs.WordMachine.{Mode, Effect, Read, step, effects, put, mode_of, step_for, TakesChar}
+use Rattle.run_commands.specs.WordMachine.{reading}
 use Rattle.run_commands.proofs.CharLemmas.{AreHigh, encode-high}
 use Rattle.run_commands.proofs.WordLemmas.{reading-step, effects-pass, effects-add_nil, effects-add_add}
 
@@ -118,7 +120,7 @@ char_reads mode place c rest =
 
 -- the words so far before what is left go on being those of the whole
 goes_on : (state next : State) (old new : Gathered) (place c at : ℕ) (left later : List ℕ) (whole : Read)
-    → Takes state next old new place c → left ≡ encode_utf8 c ++ later → at ≡ place + length (encode_utf8 c)
+    → TakesChar state next old new place c → left ≡ encode_utf8 c ++ later → at ≡ place + length (encode_utf8 c)
     → put old (reading (mode_of state (is_some old.open_word)) place left) ≡ whole
     → put new (reading (mode_of next (is_some new.open_word)) at later) ≡ whole
 goes_on state next old new place c at left later whole takes is_left is_at so_far =
@@ -132,7 +134,7 @@ goes_on state next old new place c at left later whole takes is_left is_at so_fa
 -- the same, from the offset at which the character begins
 pub goes_on_from : (state next : State) (old new : Gathered) (place c offset at : ℕ) (left later : List ℕ)
     (whole : Read)
-    → Takes state next old new place c
+    → TakesChar state next old new place c
     → (place ≡ offset) × (left ≡ encode_utf8 c ++ later) × (at ≡ offset + length (encode_utf8 c))
     → put old (reading (mode_of state (is_some old.open_word)) offset left) ≡ whole
     → put new (reading (mode_of next (is_some new.open_word)) at later) ≡ whole

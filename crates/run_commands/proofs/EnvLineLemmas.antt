@@ -1,5 +1,6 @@
 -- Where a line ends, and what it says.
-use Rattle.std.proofs.Common.{◌≡◌, Bool, true, false, not, cond, ℕ, ◌<◌, ◌≤◌, ◌==◌, ◌+◌, ◌-◌, List, [], ◌∷◌, length, take, drop, Some, None, Result, Ok, Err, refl, sym, ap, ◌∙◌, arith, nat_lt}
+use Rattle.std.proofs.Common.{◌≡◌, Bool, true, false, not, cond, ℕ, ◌<◌, ◌≤◌, ◌==◌, ◌+◌, ◌-◌, List, [], ◌∷◌, length}
+use Rattle.std.proofs.Common.{take, drop, Some, None, Result, Ok, Err, refl, sym, ap, ◌∙◌, arith, nat_lt}
 use Rattle.std.proofs.lemmas.Bool.Decides.{nat_tests}
 use Rattle.std.proofs.lemmas.Bool.{ltb-true, lt-ltb}
 use Rattle.std.proofs.lemmas.Option.{none-some, same_Some}

@@ -1,5 +1,6 @@
 -- The lines of an environment text that were read so far.
-use Rattle.std.proofs.Common.{◌≡◌, Bool, true, cond, ℕ, ◌+◌, ◌≤◌, ◌<◌, ◌==◌, List, [], ◌∷◌, ◌++◌, length, map, reverse, Some, Ok, Err, refl, ap, sym, ◌∙◌, arith, append_assoc, append-nil, length-append}
+use Rattle.std.proofs.Common.{◌≡◌, Bool, true, cond, ℕ, ◌+◌, ◌≤◌, ◌<◌, ◌==◌, List, [], ◌∷◌, ◌++◌, length, map, reverse}
+use Rattle.std.proofs.Common.{Some, Ok, Err, refl, ap, sym, ◌∙◌, arith, append_assoc, append-nil, length-append}
 use Rattle.std.proofs.lemmas.Bool.Decides.{nat_tests}
 use Rattle.std.proofs.lemmas.List.{map-append, reverse-append}
 use Rattle.std.proofs.lemmas.Map.Text.{is_eq-slice_cmp, btree_map_updates_text}
@@ -17,7 +18,7 @@ use Rattle.run_commands.specs.declared.env_line.BrokenRule.TheVariants as rule
 use Rattle.run_commands.specs.Pair.{Pair}
 use Rattle.run_commands.specs.EnvLine.{pair_of}
 use Rattle.run_commands.specs.EnvMap.{value_of, value_in, pairs_in, SetsVariable}
-use Rattle.run_commands.specs.EnvText.{Set, IsEnvOf, IsFirstBad, IsRefusedEnv, HasNoBadLine, refusal_for}
+use Rattle.run_commands.specs.EnvText.{Set, IsEnvOf, IsFirstBreach, IsRefusedEnv, HasNoBadLine, refusal_for}
 use Rattle.run_commands.proofs.EnvMapLemmas.{by_name}
 
 -- one line more sets one pair more
@@ -117,7 +118,7 @@ read_all_lines bytes rest entries number so_far done = record {
 pub read_bad : (bytes rest after line : List ℕ) (entries : BTreeMap (String Global) (List ℕ)) (number : ℕ)
     (broken : BrokenRule)
     → ReadSoFar bytes rest entries number → lines rest ≡ line ∷ lines after → pair_of line ≡ Err broken
-    → IsFirstBad (lines bytes) broken number
+    → IsFirstBreach (lines bytes) broken number
 read_bad bytes rest after line entries number broken so_far first breaks = record {
   before = so_far.read;
   bad = line;
@@ -131,7 +132,7 @@ read_bad bytes rest after line entries number broken so_far first breaks = recor
 
 -- the error for the first bad line refuses the text
 pub refused_for : (lines' : List (List ℕ)) (broken : BrokenRule) (number : ℕ)
-    → IsFirstBad lines' broken number → IsRefusedEnv lines' (refusal_for broken number)
+    → IsFirstBreach lines' broken number → IsRefusedEnv lines' (refusal_for broken number)
 refused_for lines' rule.Utf8 number bad = bad
 refused_for lines' rule.EqualsSign number bad = bad
 refused_for lines' rule.Key number bad = bad

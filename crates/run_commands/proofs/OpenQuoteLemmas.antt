@@ -1,5 +1,6 @@
 -- Where the machine finds an open quote, one is open.
-use Rattle.std.proofs.Common.{◌≡◌, ◌⊎◌, inl, inr, Bool, true, false, ℕ, zero, suc, ◌+◌, ◌<◌, List, [], ◌∷◌, ◌++◌, length, take, drop, Option, Some, None, Ok, Err, refl, ap, sym, subst, ◌∙◌, arith}
+use Rattle.std.proofs.Common.{◌≡◌, ◌⊎◌, inl, inr, Bool, true, false, ℕ, zero, suc, ◌+◌, ◌<◌, List, [], ◌∷◌, ◌++◌}
+use Rattle.std.proofs.Common.{length, take, drop, Option, Some, None, Ok, Err, refl, ap, sym, subst, ◌∙◌, arith}
 use Rattle.std.proofs.Math.Seq.{take-append_seam}
 use Rattle.std.proofs.lemmas.List.{take-append-drop}
 use Rattle.std.specs.List.{slice_get}
@@ -7,7 +8,9 @@ use Rattle.std.specs.Option.{IsSomeAnd}
 use Rattle.run_commands.specs.declared.words.char_kind.CharKind.{CharKind}
 use Rattle.run_commands.specs.declared.words.char_kind.CharKind.TheVariants as kinds
 use Rattle.run_commands.specs.Words.{kind, IsQuote, IsOpenQuote, HasWords}
-use Rattle.run_commands.specs.WordMachine.{Mode, Effect, Read, step, step_outside, step_escape, step_comment, step_single, step_double, step_double_escape, effects, with_effect, ending, reading}
+use Rattle.run_commands.specs.WordMachine.{Mode, Effect, Read, step, step_outside, step_escape, step_comment}
+use Rattle.run_commands.specs.WordMachine.{step_single, step_double, step_double_escape, effects, with_effect, ending}
+use Rattle.run_commands.specs.WordMachine.{reading}
 use Rattle.run_commands.proofs.WordLemmas.{reading-step, reading-end, reads_all}
 use Rattle.run_commands.proofs.WordSoundLemmas.{read_stands}
 

@@ -1,8 +1,10 @@
 -- What the machine reads is what the grammar says: the grammar's side.
-use Rattle.std.proofs.Common.{◌≡◌, ◌≢◌, Bool, true, false, ℕ, suc, List, [], ◌∷◌, ◌++◌, Ok, Err, refl, ap, sym, ◌∙◌, append_assoc, append-nil}
+use Rattle.std.proofs.Common.{◌≡◌, ◌≢◌, Bool, true, false, ℕ, suc, List, [], ◌∷◌, ◌++◌, Ok, Err, refl, ap, sym, ◌∙◌}
+use Rattle.std.proofs.Common.{append_assoc, append-nil}
 use Rattle.run_commands.specs.declared.words.char_kind.CharKind.{CharKind}
 use Rattle.run_commands.specs.declared.words.char_kind.CharKind.TheVariants as kinds
-use Rattle.run_commands.specs.Words.{kind, IsBlank, IsPlainInWord, IsPlainInQuotes, IsEscaped, KeepsBackslash, Lacks, IsQuoted, IsPiece, MayStand, EndsComment, Reads}
+use Rattle.run_commands.specs.Words.{kind, IsBlank, IsPlainInWord, IsPlainInQuotes, IsEscaped, KeepsBackslash, Lacks}
+use Rattle.run_commands.specs.Words.{IsQuoted, IsPiece, MayStand, EndsComment, Reads}
 use Rattle.run_commands.specs.WordMachine.{Mode, Effect, Read, step, step_outside, effects, ending, reading}
 
 -- one byte more

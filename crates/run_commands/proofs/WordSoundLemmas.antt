@@ -1,9 +1,12 @@
 -- What the machine reads is what the grammar says: the machine's side.
-use Rattle.std.proofs.Common.{◌≡◌, ◌≢◌, Bool, true, false, ℕ, suc, List, [], ◌∷◌, ◌++◌, Ok, Err, refl, ap, sym, subst, ◌∙◌, append_assoc, append-nil}
+use Rattle.std.proofs.Common.{◌≡◌, ◌≢◌, Bool, true, false, ℕ, suc, List, [], ◌∷◌, ◌++◌, Ok, Err, refl, ap, sym, subst}
+use Rattle.std.proofs.Common.{◌∙◌, append_assoc, append-nil}
 use Rattle.run_commands.specs.declared.words.char_kind.CharKind.{CharKind}
 use Rattle.run_commands.specs.declared.words.char_kind.CharKind.TheVariants as kinds
 use Rattle.run_commands.specs.Words.{kind, IsEscaped, KeepsBackslash, Lacks, IsQuoted, IsPiece, MayStand, Reads}
-use Rattle.run_commands.specs.WordMachine.{Mode, Effect, Read, step, step_outside, step_escape, step_comment, step_single, step_double, step_double_escape, effects, with_effect, onto, ending, reading}
+use Rattle.run_commands.specs.WordMachine.{Mode, Effect, Read, step, step_outside, step_escape, step_comment}
+use Rattle.run_commands.specs.WordMachine.{step_single, step_double, step_double_escape, effects, with_effect, onto}
+use Rattle.run_commands.specs.WordMachine.{ending, reading}
 use Rattle.run_commands.proofs.WordLemmas.{reading-step, reading-end}
 
 -- what the text from here on says, where the machine is in this mode

@@ -1,11 +1,13 @@
 -- What the code does for a character is a step of the machine.
-use Rattle.std.proofs.Common.{◌≡◌, ◌≢◌, Bool, true, false, ℕ, List, [], ◌∷◌, ◌++◌, Option, Some, None, Ok, Err, refl, ap, sym, ◌∙◌, append_assoc, append-nil, is_some, if◌then◌else◌}
+use Rattle.std.proofs.Common.{◌≡◌, ◌≢◌, Bool, true, false, ℕ, List, [], ◌∷◌, ◌++◌, Option, Some, None, Ok, Err, refl}
+use Rattle.std.proofs.Common.{ap, sym, ◌∙◌, append_assoc, append-nil, is_some, if◌then◌else◌}
 use Rattle.std.specs.Option.{option_to_list}
 use Rattle.run_commands.specs.declared.words.char_kind.CharKind.{CharKind}
 use Rattle.run_commands.specs.declared.words.char_kind.CharKind.TheVariants as kinds
 use Rattle.run_commands.specs.declared.words.machine.State.{State}
 use Rattle.run_commands.specs.Gathered.{Gathered, begun}
-use Rattle.run_commands.specs.WordMachine.{Mode, Effect, Read, step_outside, step_escape, step_single, step_double, step_double_escape, effects, put, mode_of, step_for, IsSound, Takes}
+use Rattle.run_commands.specs.WordMachine.{Mode, Effect, Read, step_outside, step_escape, step_single, step_double}
+use Rattle.run_commands.specs.WordMachine.{step_double_escape, effects, put, mode_of, step_for, IsSound, TakesChar}
 use Rattle.run_commands.proofs.WordSoundLemmas.{onto_both, onto_none}
 
 -- bytes that are added to the open word
@@ -44,7 +46,7 @@ put-pass words (Ok more) = refl
 pub takes_add : (state next : State) (old : Gathered) (bytes : List ℕ) (place c : ℕ)
     → step_for state old place c ≡ (mode_of next true, Effect.add bytes)
     → IsSound next (record old { open_word = Some (begun old.open_word ++ bytes) })
-    → Takes state next old (record old { open_word = Some (begun old.open_word ++ bytes) }) place c
+    → TakesChar state next old (record old { open_word = Some (begun old.open_word ++ bytes) }) place c
 takes_add state next old bytes place c step' sound = record {
   mode = ap (λ (to : Mode × Effect). to.0) (sym step');
   adds = λ r. put-add old.ended old.open_word bytes r
@@ -56,7 +58,7 @@ takes_add state next old bytes place c step' sound = record {
 pub takes_open : (state next : State) (old : Gathered) (place c : ℕ)
     → step_for state old place c ≡ (mode_of next true, Effect.pass)
     → IsSound next (record old { open_word = Some (begun old.open_word) })
-    → Takes state next old (record old { open_word = Some (begun old.open_word) }) place c
+    → TakesChar state next old (record old { open_word = Some (begun old.open_word) }) place c
 takes_open state next old place c step' sound = record {
   mode = ap (λ (to : Mode × Effect). to.0) (sym step');
   adds = λ r. put-open old.ended old.open_word r ∙ put-pass old r
@@ -68,7 +70,7 @@ takes_open state next old place c step' sound = record {
 pub takes_end : (state next : State) (old : Gathered) (place c : ℕ)
     → step_for state old place c ≡ (mode_of next false, if is_some old.open_word then Effect.close else Effect.pass)
     → IsSound next (record { ended = old.ended ++ option_to_list old.open_word; open_word = None })
-    → Takes state next old (record { ended = old.ended ++ option_to_list old.open_word; open_word = None }) place c
+    → TakesChar state next old (record { ended = old.ended ++ option_to_list old.open_word; open_word = None }) place c
 takes_end state next old place c step' sound = record {
   mode = ap (λ (to : Mode × Effect). to.0) (sym step');
   adds = λ r. put-end old.ended old.open_word r ∙ ap (λ (to : Mode × Effect). put old (effects to.1 r)) (sym step');
@@ -78,7 +80,7 @@ takes_end state next old place c step' sound = record {
 -- a step that adds nothing
 pub takes_pass : (state next : State) (words : Gathered) (place c : ℕ)
     → step_for state words place c ≡ (mode_of next (is_some words.open_word), Effect.pass)
-    → IsSound next words → Takes state next words words place c
+    → IsSound next words → TakesChar state next words words place c
 takes_pass state next words place c step' sound = record {
   mode = ap (λ (to : Mode × Effect). to.0) (sym step');
   adds = λ r. put-pass words r ∙ ap (λ (to : Mode × Effect). put words (effects to.1 r)) (sym step');
@@ -132,6 +134,6 @@ outside_other kinds.Plain inside place bytes a b c d e hash = refl
 pub takes_add_both : (state next : State) (old : Gathered) (xs ys : List ℕ) (place c : ℕ)
     → step_for state old place c ≡ (mode_of next true, Effect.add (xs ++ ys))
     → IsSound next (record old { open_word = Some (begun old.open_word ++ (xs ++ ys)) })
-    → Takes state next old (record old { open_word = Some ((begun old.open_word ++ xs) ++ ys) }) place c
+    → TakesChar state next old (record old { open_word = Some ((begun old.open_word ++ xs) ++ ys) }) place c
 takes_add_both state next old xs ys place c step' sound =
     rw (append_assoc (begun old.open_word) xs ys) (takes_add state next old (xs ++ ys) place c step' sound)

@@ -20,7 +20,7 @@ pub record IsEnvOf (bytes : List ℕ) (pairs : List Pair) : Type 0 where
   pub latest : IsLatest given pairs
 
 -- the line of this number, from 1, breaks this rule first, and each line before it sets a pair
-pub record IsFirstBad (lines' : List (List ℕ)) (broken : BrokenRule) (number : ℕ) : Type 0 where
+pub record IsFirstBreach (lines' : List (List ℕ)) (broken : BrokenRule) (number : ℕ) : Type 0 where
   pub before : List (List ℕ)
   pub bad : List ℕ
   pub after : List (List ℕ)
@@ -39,10 +39,10 @@ refusal_for rule.Key number = errors.EnvFileInvalidKey number
 -- a text with these lines is refused for the first rule that its first bad line breaks, or for want of
 -- memory
 abbrev pub IsRefusedEnv : List (List ℕ) → SetupScriptOutputError → Type 0
-IsRefusedEnv lines' (errors.EnvFileRead (Some number)) = IsFirstBad lines' rule.Utf8 number
+IsRefusedEnv lines' (errors.EnvFileRead (Some number)) = IsFirstBreach lines' rule.Utf8 number
 IsRefusedEnv lines' (errors.EnvFileRead None) = ⊥
-IsRefusedEnv lines' (errors.EnvFileParse number) = IsFirstBad lines' rule.EqualsSign number
-IsRefusedEnv lines' (errors.EnvFileInvalidKey number) = IsFirstBad lines' rule.Key number
+IsRefusedEnv lines' (errors.EnvFileParse number) = IsFirstBreach lines' rule.EqualsSign number
+IsRefusedEnv lines' (errors.EnvFileInvalidKey number) = IsFirstBreach lines' rule.Key number
 IsRefusedEnv lines' errors.EnvFileTooLong = ⊥
 IsRefusedEnv lines' errors.EnvFileOpen = ⊥
 IsRefusedEnv lines' errors.OutOfMemory = ⊤
@@ -50,4 +50,4 @@ IsRefusedEnv lines' errors.OutOfMemory = ⊤
 -- a text whose lines set pairs has no bad line
 abbrev pub HasNoBadLine : Type 0
 HasNoBadLine = (lines' : List (List ℕ)) (given : List Pair) (broken : BrokenRule) (number : ℕ)
-    → Set lines' given → ¬ IsFirstBad lines' broken number
+    → Set lines' given → ¬ IsFirstBreach lines' broken number

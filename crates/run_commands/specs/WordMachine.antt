@@ -1,5 +1,6 @@
 -- How the words of a text are read, byte by byte. Private clauses cite this, and no public one does.
-use Rattle.std.specs.Prelude.{ℕ, Bool, true, false, List, [], ◌∷◌, ◌++◌, None, Result, Ok, Err, suc, ◌≡◌, ⊤, is_some, encode_utf8, if◌then◌else◌}
+use Rattle.std.specs.Prelude.{ℕ, Bool, true, false, List, [], ◌∷◌, ◌++◌, None, Result, Ok, Err, suc, ◌≡◌, ⊤, is_some}
+use Rattle.std.specs.Prelude.{encode_utf8, if◌then◌else◌}
 use Rattle.run_commands.specs.declared.words.char_kind.CharKind.{CharKind}
 use Rattle.run_commands.specs.declared.words.char_kind.CharKind.TheVariants as kinds
 use Rattle.run_commands.specs.declared.words.machine.State.{State}
@@ -139,7 +140,7 @@ abbrev pub step_for : State → Gathered → ℕ → ℕ → Mode × Effect
 step_for state words place c = step (mode_of state (is_some words.open_word)) place (encode_utf8 c) (kind c)
 
 -- the state and the words after a character at this place are those of the machine
-pub record Takes (state next : State) (old new : Gathered) (place c : ℕ) : Type 0 where
+pub record TakesChar (state next : State) (old new : Gathered) (place c : ℕ) : Type 0 where
   pub mode : mode_of next (is_some new.open_word) ≡ (step_for state old place c).0
   pub adds : (r : Read) → put new r ≡ put old (effects (step_for state old place c).1 r)
   pub sound : IsSound next new

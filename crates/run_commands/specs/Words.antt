@@ -1,6 +1,7 @@
 -- The grammar of command words, by rules on the bytes. A text stands between words or in one, and each rule is a
 -- way in which it goes on.
-use Rattle.std.specs.Prelude.{ℕ, ◌≡◌, ◌≢◌, ◌==◌, ◌||◌, ◌<◌, ◌≤◌, Bool, true, false, List, [], ◌∷◌, ◌++◌, length, take, slice_get, IsSomeAnd, ⊤, if◌then◌else◌}
+use Rattle.std.specs.Prelude.{ℕ, ◌≡◌, ◌≢◌, ◌==◌, ◌||◌, ◌<◌, ◌≤◌, Bool, true, false, List, [], ◌∷◌, ◌++◌, length, take}
+use Rattle.std.specs.Prelude.{slice_get, IsSomeAnd, ⊤, if◌then◌else◌}
 use Rattle.std.specs.List.{AllByRecursion}
 use Rattle.run_commands.specs.declared.words.char_kind.CharKind.{CharKind}
 use Rattle.run_commands.specs.declared.words.char_kind.CharKind.TheVariants as kinds

@@ -1,6 +1,7 @@
 // What a test runs under, and how that changes its run.
 ghost use Rattle.std.specs.Prelude.{◌≡◌};
-ghost use Rattle.run_commands.specs.Interceptor.{disables_timeouts, passes_stdin_through, has_process_group, skips_leak_detection, shows_wrapper_command, sends_sigtstp};
+ghost use Rattle.run_commands.specs.Interceptor.{disables_timeouts, passes_stdin_through, has_process_group};
+ghost use Rattle.run_commands.specs.Interceptor.{skips_leak_detection, shows_wrapper_command, sends_sigtstp};
 
 use crate::{DebuggerCommand, TracerCommand};
 use run_capture::{Duplicate, Mem};

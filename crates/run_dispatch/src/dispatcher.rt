@@ -1,11 +1,13 @@
 // The dispatcher and its rows.
-ghost use Rattle.std.specs.Prelude.{◌≡◌, ◌+◌, ◌<◌, ◌^◌, ◌∷◌, [], length, IfOk, OnOk, OnErr, None, true, false, option_map, option_to_list};
+ghost use Rattle.std.specs.Prelude.{◌≡◌, ◌+◌, ◌<◌, ◌^◌, ◌∷◌, [], length, IfOk, OnOk, OnErr, None, true, false};
+ghost use Rattle.std.specs.Prelude.{option_map, option_to_list};
 ghost use Rattle.run_events.specs.Stats.{AreBelow};
 ghost use Rattle.run_events.specs.declared.events.TestEventKind.TheVariants as kinds;
 ghost use Rattle.run_events.specs.declared.message.Message.TheVariants as messages;
 ghost use Rattle.run_model.specs.Admission.{tests_in};
 ghost use Rattle.run_model.specs.Turns.{finale};
-ghost use Rattle.run_model.specs.Dispatch.{head_of, unbegun, dispatch_takes, event, having_told, told_of, go_of, CanDeliver};
+ghost use Rattle.run_model.specs.Dispatch.{head_of, unbegun, dispatch_takes, event, having_told, told_of, go_of};
+ghost use Rattle.run_model.specs.Dispatch.{CanDeliver};
 ghost use Rattle.run_dispatch.specs.Dispatch.{state_of};
 ghost use Rattle.run_dispatch.specs.Delivered.{Delivers};
 

@@ -1,5 +1,6 @@
 -- What one turn of a run does to its board and its journal.
-use Rattle.std.proofs.Common.{◌≡◌, ℕ, ◌+◌, ◌<◌, ◌^◌, List, [], ◌∷◌, ◌++◌, length, reverse, Bool, true, not, Option, is_none, option_to_list, map, zip, ap, sym, subst, ◌∙◌, arith, length-append}
+use Rattle.std.proofs.Common.{◌≡◌, ℕ, ◌+◌, ◌<◌, ◌^◌, List, [], ◌∷◌, ◌++◌, length, reverse, Bool, true, not, Option}
+use Rattle.std.proofs.Common.{is_none, option_to_list, map, zip, ap, sym, subst, ◌∙◌, arith, length-append}
 use Rattle.std.specs.List.{list_all}
 use Rattle.run_events.specs.declared.settings.Settings.{Settings}
 use Rattle.run_events.specs.Tell.{Adds}
@@ -15,12 +16,13 @@ use Rattle.run_laws.specs.Ready.{CanAdvance}
 use Rattle.run_laws.proofs.Boards.{board-steps}
 use Rattle.run_laws.proofs.Ready.{ready_after}
 use Rattle.run_engine.specs.Standing.{IsRunnable, sound}
-use Rattle.run_engine.specs.World.{entry_of, TellsEvents, TakesTurn}
+use Rattle.run_engine.specs.World.{Outside, entry_of, TellsEvents, CountsErrors, TakesTurn}
 use Rattle.run_engine.proofs.JournalLemmas.{past_of-push, legal-push}
 
 -- an enabled turn can be taken
-pub can_advance : (p : Settings) (journal : List Entry) (b : Board) (turn : Turn) → IsRunnable p journal → b ≡ board p (past_of p journal)
-    → enabled p (past_of p journal) turn ≡ true → CanAdvance p b turn (turn_of_unit turn)
+pub can_advance : (p : Settings) (journal : List Entry) (b : Board) (turn : Turn) → IsRunnable p journal
+    → b ≡ board p (past_of p journal) → enabled p (past_of p journal) turn ≡ true
+        → CanAdvance p b turn (turn_of_unit turn)
 can_advance p journal b turn r st en =
     subst (λ b. CanAdvance p b turn (turn_of_unit turn)) (sym st) (ready_after p journal turn r.legal r.few r.short en)
 
@@ -30,7 +32,8 @@ pub stands_next : (p : Settings) (journal : List Entry) (old new : Board) (turn 
     → new ≡ step old turn (deed_on p old turn)
     → new ≡ board p (past_of p (journal ++ entry_of turn refused ∷ []))
 stands_next p journal old new turn refused r st en after =
-    after ∙ ap (λ b. step b turn (deed_on p b turn)) st ∙ sym (board-steps p (reverse journal) (entry_of turn refused) r.legal en)
+    after ∙ ap (λ b. step b turn (deed_on p b turn)) st
+    ∙ sym (board-steps p (reverse journal) (entry_of turn refused) r.legal en)
     ∙ ap (board p) (sym (past_of-push p journal (entry_of turn refused)))
 
 -- and the longer journal is legal
@@ -45,26 +48,25 @@ runnable_next p journal turn refused r room en answered = record {
 }
 
 -- a turn is taken as the tables say, from what its parts did
-pub takes_from : {R E C : Type 0} (tells : R → List (ReporterEvent × Option E) → Type 0) (asks : C → List (ℕ × Ask) → Type 0)
-    (p : Settings) (journal after : List Entry) (b : Board) (turn : Turn) (report report_after : R) (children children_after : C)
-    (refused : List Bool) (told : List ReporterEvent) (asked : Option Ask) (refusal : Option E)
+pub takes_from : {R E C : Type 0} (tells : R → List (ReporterEvent × Option E) → Type 0)
+    (asks : C → List (ℕ × Ask) → Type 0) (o : Outside R C) (p : Settings) (journal after : List Entry) (b : Board)
+    (turn : Turn) (refused : List Bool) (refusal : Option E)
     → b ≡ board p (past_of p journal) → enabled p (past_of p journal) turn ≡ true
-    → told ≡ deed_events (deed_on p b turn) → asked ≡ (deed_on p b turn).asked
-    → length refused ≡ length told → is_none refusal ≡ list_all not refused
-    → TellsEvents tells report report_after (zip told refused) refusal
-    → Adds asks children children_after (map (λ ask. (length journal, ask)) (option_to_list asked))
-    → after ≡ journal ++ entry_of turn refused ∷ []
-    → TakesTurn tells asks (sound p journal) turn report children (sound p after) report_after children_after refusal
-takes_from tells asks p journal after b turn report report_after children children_after refused told asked refusal st en told_is asked_is answered marked tell ask grown =
-    let told_as : told ≡ events_in (happening p (past_of p journal) (entry_of turn refused)) =
-    told_is ∙ ap (λ b. deed_events (deed_on p b turn)) st in
-    let asked_as : asked ≡ (happening p (past_of p journal) (entry_of turn refused)).asked = asked_is ∙ ap (λ b. (deed_on p b turn).asked) st in
-    record {
-      is_enabled = en;
-      refused = refused;
-      answered = answered ∙ ap length told_as;
-      marked = marked;
-      grown = ap (sound p) grown;
-      told = subst (λ es. TellsEvents tells report report_after (zip es refused) refusal) told_as tell;
-      asked = subst (λ o. Adds asks children children_after (map (λ ask. (length journal, ask)) (option_to_list o))) asked_as ask;
-    }
+    → length refused ≡ length (deed_events (deed_on p b turn)) → is_none refusal ≡ list_all not refused
+    → TellsEvents tells o.report o.report_after (zip (deed_events (deed_on p b turn)) refused) refusal
+    → Adds asks o.children o.children_after
+    (map (λ ask. (length journal, ask)) (option_to_list (deed_on p b turn).asked))
+    → CountsErrors o.faults o.faults_after refusal → after ≡ journal ++ entry_of turn refused ∷ []
+    → TakesTurn tells asks o turn (sound p journal) (sound p after) refusal
+takes_from tells asks o p journal after b turn refused refusal st en answered marked tell ask counted grown = record {
+  is_enabled = en;
+  refused = refused;
+  answered = answered ∙ ap (λ b. length (deed_events (deed_on p b turn))) st;
+  marked = marked;
+  grown = ap (sound p) grown;
+  told = subst (λ b. TellsEvents tells o.report o.report_after (zip (deed_events (deed_on p b turn)) refused) refusal)
+      st tell;
+  asked = subst (λ b. Adds asks o.children o.children_after
+      (map (λ ask. (length journal, ask)) (option_to_list (deed_on p b turn).asked))) st ask;
+  counted = counted;
+}

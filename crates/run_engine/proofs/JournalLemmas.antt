@@ -12,7 +12,8 @@ pub reverse-push : {X : Type 0} (xs : List X) (x : X) → reverse (xs ++ x ∷ [
 reverse-push xs x = reverse-append xs (x ∷ [])
 
 -- one more entry is one more happening
-pub past_of-push : (p : Settings) (journal : List Entry) (e : Entry) → past_of p (journal ++ e ∷ []) ≡ happening p (past_of p journal) e ∷ past_of p journal
+pub past_of-push : (p : Settings) (journal : List Entry) (e : Entry)
+    → past_of p (journal ++ e ∷ []) ≡ happening p (past_of p journal) e ∷ past_of p journal
 past_of-push p journal e = ap (history p) (reverse-push journal e)
 
 -- a legal journal with one more legal entry is legal
@@ -20,4 +21,5 @@ pub legal-push : (p : Settings) (journal : List Entry) (e : Entry) → IsLegal p
     → enabled p (past_of p journal) e.turn ≡ true
     → length e.refused ≡ length (events_in (happening p (past_of p journal) e))
     → IsLegal p (journal ++ e ∷ [])
-legal-push p journal e legal en answered = subst (IsLegalBackward p) (sym (reverse-push journal e)) (en, answered, legal)
+legal-push p journal e legal en answered =
+    subst (IsLegalBackward p) (sym (reverse-push journal e)) (en, answered, legal)

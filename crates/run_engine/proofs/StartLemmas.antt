@@ -1,5 +1,6 @@
 -- The words over the empty history.
-use Rattle.std.proofs.Common.{◌≡◌, ℕ, zero, suc, ◌+◌, List, [], length, get_or, Bool, false, cond, Option, None, count_by, refl, ap, ◌∙◌, add-zero}
+use Rattle.std.proofs.Common.{◌≡◌, ℕ, zero, suc, ◌+◌, List, [], length, get_or, Bool, false, cond, Option, None}
+use Rattle.std.proofs.Common.{count_by, refl, ap, ◌∙◌, add-zero}
 use Rattle.std.specs.List.{range_with_len}
 use Rattle.std.proofs.lemmas.List.FromFn.{fill_by_all}
 use Rattle.std.proofs.lemmas.List.Sums.{sum_by-cons}
@@ -28,5 +29,6 @@ pub running-nil : (p : Settings) → running p [] ≡ 0
 running-nil p = count-none (is_running []) (units_in p) 0 (λ k. refl)
 
 -- no test was admitted
-pub units-nil : (p : Settings) (us : List (Option UnitView)) → length us ≡ units_in p → ((k : ℕ) → get_or us k None ≡ None) → us ≡ units p []
+pub units-nil : (p : Settings) (us : List (Option UnitView)) → length us ≡ units_in p
+    → ((k : ℕ) → get_or us k None ≡ None) → us ≡ units p []
 units-nil p us whole none = fill_by_all (λ k. unit_of k []) us (units_in p) None whole (λ k h. none k)

@@ -1,5 +1,6 @@
 -- Which plans are accepted, and the settings of a runner.
-use Rattle.std.specs.Prelude.{ℕ, ◌≡◌, List, length, take, slice_get, position, Bool, false, ◌&&◌, nat_eq, Option, Some, None, option_map, Result, Ok, Err, ⊤}
+use Rattle.std.specs.Prelude.{ℕ, ◌≡◌, List, length, take, slice_get, position, Bool, false, ◌&&◌, nat_eq, Option, Some}
+use Rattle.std.specs.Prelude.{None, option_map, Result, Ok, Err, ⊤}
 use Rattle.std.specs.List.{range_with_len, list_any}
 use lib.Pointwise.{pointwise}
 use Rattle.run_capture.specs.declared.test_output.CaptureStrategy.{CaptureStrategy}

@@ -1,5 +1,6 @@
 -- What carrying out a list of turns does, and what each answer says of it.
-use Rattle.std.specs.Prelude.{ℕ, ◌≡◌, ◌⊎◌, ◌<◌, List, take, slice_get, Bool, true, false, Option, Some, None, is_none, Result, Ok, Err, ⊤}
+use Rattle.std.specs.Prelude.{ℕ, ◌≡◌, ◌⊎◌, ◌<◌, List, take, slice_get, Bool, true, false, Option, Some, None, is_none}
+use Rattle.std.specs.Prelude.{Result, Ok, Err, ⊤}
 use Rattle.std.specs.List.{All, Contains}
 use Rattle.run_events.specs.Tell.{Adds}
 use Rattle.run_events.specs.declared.settings.Settings.{Settings}
@@ -14,26 +15,25 @@ use Rattle.run_model.specs.Turns.{enabled}
 use Rattle.run_model.specs.Journal.{past_of, outcome}
 use Rattle.run_capture.specs.Faults.{Rose}
 use Rattle.run_laws.specs.Course.{turns_of, none_refused, AreAnswersOf, Stops, GoesOn, Ends}
-use Rattle.run_engine.specs.World.{TellsEvents, CountsErrors}
+use Rattle.run_engine.specs.World.{Outside, TellsEvents, CountsErrors}
 use Rattle.run_engine.specs.Standing.{IsRunnable}
 use Rattle.run_engine.specs.declared.runner.Stop.{Stop}
 use Rattle.run_engine.specs.declared.runner.Stop.TheVariants as stops
 use Rattle.run_engine.specs.declared.errors.TestRunnerExecuteErrors.{TestRunnerExecuteErrors}
-use Rattle.run_engine.specs.declared.errors.TestRunnerExecuteErrors.TheVariants.{Report, NotEnabled, Unfinished, OutOfMemory}
+use Rattle.run_engine.specs.declared.errors.TestRunnerExecuteErrors.TheVariants.{Report, NotEnabled, Unfinished}
+use Rattle.run_engine.specs.declared.errors.TestRunnerExecuteErrors.TheVariants.{OutOfMemory}
 
 -- a run of this plan has taken the turns of a journal: the reporter has told its events and the children were asked
 -- its asks, in order, and nothing else; the refusal is the reporter's first error, and there is one where an event was
 -- refused
-pub record Takes {R E C : Type 0} (tells : R → List (ReporterEvent × Option E) → Type 0)
-    (asks : C → List (ℕ × Ask) → Type 0)
-    (p : Settings) (journal : List Entry) (report report_after : R) (children children_after : C)
-    (faults faults_after : ℕ) (refusal : Option E)
+pub record TakesTurns {R E C : Type 0} (tells : R → List (ReporterEvent × Option E) → Type 0)
+    (asks : C → List (ℕ × Ask) → Type 0) (o : Outside R C) (p : Settings) (journal : List Entry) (refusal : Option E)
     : Type 0 where
   pub runnable : IsRunnable p journal
   pub marked : is_none refusal ≡ none_refused journal
-  pub told : TellsEvents tells report report_after (answers (past_of p journal)) refusal
-  pub asked : Adds asks children children_after (asked (past_of p journal))
-  pub counted : CountsErrors faults faults_after refusal
+  pub told : TellsEvents tells o.report o.report_after (answers (past_of p journal)) refusal
+  pub asked : Adds asks o.children o.children_after (asked (past_of p journal))
+  pub counted : CountsErrors o.faults o.faults_after refusal
 
 -- what each answer says of the turns given, the journal of the call and the reporter's first error
 abbrev pub IsAnswerOf : {E : Type 0} → Settings → List Turn → List Entry → Option E
@@ -57,53 +57,45 @@ UnlessMemory (Err (NotEnabled i)) fact = fact
 UnlessMemory (Err Unfinished) fact = fact
 UnlessMemory (Err OutOfMemory) fact = ⊤
 
--- what each course of the turns with a reporter answers, unless memory was wanting: it stops, it leaves the run unfinished, or it ends the
--- run, where the reporter's count of faults stayed or rose
-pub record AnswersCourse {E : Type 0} (p : Settings) (turns : List Turn) (refuses : ℕ → Bool) (faults faults_after : ℕ)
+-- what each course of the turns with a reporter answers, unless memory was wanting: it stops, it leaves the run
+-- unfinished, or it ends the run, where the reporter's count of faults stayed or rose
+pub record AnswersCourse {R E C : Type 0} (o : Outside R C) (p : Settings) (turns : List Turn) (refuses : ℕ → Bool)
     (answer : Result RunOutcome (TestRunnerExecuteErrors E)) : Type 0 where
-  pub stops : (place : ℕ) → Stops p turns refuses place → (answer ≡ Err (NotEnabled place)) ⊎ (answer ≡ Err OutOfMemory)
+  pub stops : (place : ℕ) → Stops p turns refuses place
+      → (answer ≡ Err (NotEnabled place)) ⊎ (answer ≡ Err OutOfMemory)
   pub unfinished : GoesOn p turns refuses → (answer ≡ Err Unfinished) ⊎ (answer ≡ Err OutOfMemory)
-  pub ended : (o : RunOutcome) → Ends p turns refuses o → ¬ Rose faults faults_after → (answer ≡ Ok o)
-      ⊎ (answer ≡ Err OutOfMemory)
-  pub refused : (o : RunOutcome) → Ends p turns refuses o → faults < faults_after
+  pub ended : (outcome : RunOutcome) → Ends p turns refuses outcome → ¬ Rose o.faults o.faults_after
+      → (answer ≡ Ok outcome) ⊎ (answer ≡ Err OutOfMemory)
+  pub refused : (outcome : RunOutcome) → Ends p turns refuses outcome → o.faults < o.faults_after
       → ((e : E) × (answer ≡ Err (Report e))) ⊎ (answer ≡ Err OutOfMemory)
 
 -- the journal of a call that carries out turns, and what its answer says of it
 pub record Carries {R E C : Type 0} (tells : R → List (ReporterEvent × Option E) → Type 0)
-    (asks : C → List (ℕ × Ask) → Type 0)
-    (p : Settings) (turns : List Turn) (report report_after : R) (children children_after : C) (faults faults_after : ℕ)
+    (asks : C → List (ℕ × Ask) → Type 0) (o : Outside R C) (p : Settings) (turns : List Turn)
     (answer : Result RunOutcome (TestRunnerExecuteErrors E)) : Type 0 where
   pub journal : List Entry
   pub refusal : Option E
-  pub takes : Takes tells asks p journal report report_after children children_after faults faults_after refusal
+  pub takes : TakesTurns tells asks o p journal refusal
   pub says : IsAnswerOf p turns journal refusal answer
 
 -- the same, and each test has its fate in each sub-run that has ended, which the newest is of a run that is over; and
 -- with any reporter that answers so, the turns have the course that is answered
 pub record Executes {R E C : Type 0} (tells : R → List (ReporterEvent × Option E) → Type 0)
-    (asks : C → List (ℕ × Ask) → Type 0)
-    (p : Settings) (turns : List Turn) (report report_after : R) (children children_after : C) (faults faults_after : ℕ)
+    (asks : C → List (ℕ × Ask) → Type 0) (o : Outside R C) (p : Settings) (turns : List Turn)
     (answer : Result RunOutcome (TestRunnerExecuteErrors E)) : Type 0 where
-  pub journal : List Entry
-  pub refusal : Option E
-  pub takes : Takes tells asks p journal report report_after children children_after faults faults_after refusal
-  pub says : IsAnswerOf p turns journal refusal answer
-  pub fates : All (HaveFates p) (ended_runs (past_of p journal))
-  pub over : is_over (past_of p journal) ≡ true → Contains (ended_runs (past_of p journal))
-      (sub_run (past_of p journal))
-  pub course : (refuses : ℕ → Bool) → AreAnswersOf refuses journal
-      → AnswersCourse p turns refuses faults faults_after answer
+  pub call : Carries tells asks o p turns answer
+  pub fates : All (HaveFates p) (ended_runs (past_of p call.journal))
+  pub over : is_over (past_of p call.journal) ≡ true
+      → Contains (ended_runs (past_of p call.journal)) (sub_run (past_of p call.journal))
+  pub course : (refuses : ℕ → Bool) → AreAnswersOf refuses call.journal → AnswersCourse o p turns refuses answer
 
 -- a list of turns stops where the turn at that place isn't enabled after the turns before it
 abbrev pub StopsAt : {R E C : Type 0} → (R → List (ReporterEvent × Option E) → Type 0) → (C → List (ℕ × Ask) → Type 0)
-    → Settings → List Turn → List Entry → R → R → C → C → ℕ → ℕ → Stop → Type 0
-StopsAt {R} {E} tells asks p turns journal report report_after children children_after faults faults_after
-    (stops.NotEnabled i) =
-    ((refusal : Option E) × Takes tells asks p journal report report_after children children_after faults
-    faults_after refusal)
-    × (turns_of journal ≡ take i turns)
+    → Outside R C → Settings → List Turn → List Entry → Stop → Type 0
+StopsAt {R} {E} tells asks o p turns journal (stops.NotEnabled i) =
+    ((refusal : Option E) × TakesTurns tells asks o p journal refusal) × (turns_of journal ≡ take i turns)
     × ((turn : Turn) × (slice_get turns i ≡ Some turn) × (enabled p (past_of p journal) turn ≡ false))
-StopsAt tells asks p turns journal report report_after children children_after faults faults_after stops.OutOfMemory = ⊤
+StopsAt tells asks o p turns journal stops.OutOfMemory = ⊤
 
 -- what is answered at the end of all turns, by the run's outcome and the reporter's first error
 abbrev pub IsFinal : {E : Type 0} → Option RunOutcome → Option E → Result RunOutcome (TestRunnerExecuteErrors E)

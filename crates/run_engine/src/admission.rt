@@ -1,7 +1,10 @@
 // The admission rule, by plain scans over all units.
-ghost use Rattle.std.specs.Prelude.{◌≡◌, ◌<◌, ◌≤◌, ◌^◌, length, IfOk, Some, option_map, is_some, is_none, position, slice_get, nat_lt, true};
+ghost use Rattle.std.specs.Prelude.{◌≡◌, ◌<◌, ◌≤◌, ◌^◌, length, IfOk, Some, option_map, is_some, is_none, position};
+ghost use Rattle.std.specs.Prelude.{slice_get, nat_lt, true};
 ghost use Rattle.std.specs.List.{list_all, list_any};
-ghost use Rattle.run_model.specs.Admission.{is_done, is_in_use, in_use, holds_slot, free_slot, candidate, scripts_over, newcomer, newcomer_at, first_view, skipped_view, start_message, skip_message, global_slot, units_in, unit_of_test};
+ghost use Rattle.run_model.specs.Admission.{is_done, is_in_use, in_use, holds_slot, free_slot, candidate, scripts_over};
+ghost use Rattle.run_model.specs.Admission.{newcomer, newcomer_at, first_view, skipped_view, start_message};
+ghost use Rattle.run_model.specs.Admission.{skip_message, global_slot, units_in, unit_of_test};
 
 use run_capture::{Mem, Text};
 use run_events::{Message, Settings, TestSlotAssignment};
@@ -130,13 +133,13 @@ pub fn can_admit(settings: &Settings, units: &[Option<Unit>]) -> bool
 
 /// What an admission makes: a unit, and the message that it sends.
 #[derive(Drop)]
-pub struct Admitted {
+pub struct Newcomer {
     pub unit: Unit,
     pub sent: Message,
 }
 
 // A test that doesn't match, as it is skipped for this reason.
-fn skip_test(alloc: Global, settings: &Settings, test: u32, reason: &Text) -> Mem<Admitted>
+fn skip_test(alloc: Global, settings: &Settings, test: u32, reason: &Text) -> Mem<Newcomer>
     requires planned { test < length settings.now.plan.tests }
     requires few { units_in settings.now < 2 ^ 32 }
     ensures unit { IfOk result (λ a. option_map (skipped_view settings.now (unit_of_test settings.now test))
@@ -145,7 +148,7 @@ fn skip_test(alloc: Global, settings: &Settings, test: u32, reason: &Text) -> Me
 {
     let unit = Unit::skipped(alloc, settings, test)?;
     let sent = unit.skip_message(alloc, reason)?;
-    Ok(Admitted { unit, sent })
+    Ok(Newcomer { unit, sent })
 }
 
 // A test that matches, as it starts in the least free slot.
@@ -154,7 +157,7 @@ fn start_test(
     settings: &Settings,
     units: &[Option<Unit>],
     test: u32,
-) -> Mem<Admitted>
+) -> Mem<Newcomer>
     requires planned { test < length settings.now.plan.tests }
     requires few { units_in settings.now < 2 ^ 32 }
     requires whole { length units.now ≡ units_in settings.now }
@@ -169,7 +172,7 @@ fn start_test(
     };
     let unit = Unit::test(alloc, settings, test, slot)?;
     let sent = unit.start_message(alloc)?;
-    Ok(Admitted { unit, sent })
+    Ok(Newcomer { unit, sent })
 }
 
 /// What the next admission makes of the candidate at this place.
@@ -178,7 +181,7 @@ pub fn admit_test(
     settings: &Settings,
     units: &[Option<Unit>],
     test: usize,
-) -> Mem<Admitted>
+) -> Mem<Newcomer>
     requires candidate { candidate settings.now units.now ≡ Some test }
     requires admitted { is_some (newcomer settings.now units.now) ≡ true }
     requires planned { test < length settings.now.plan.tests }

@@ -49,7 +49,8 @@ impl TestRunnerBuilder {
         self
     }
 
-    /// The runner of a plan of fewer than 2^32 units. A plan is refused exactly where two of its tests have one id, with
+    /// The runner of a plan of fewer than 2^32 units. A plan is refused exactly where two of its tests have one id,
+    /// with
     /// the place of the first test that repeats one. No memory is taken yet.
     pub fn build(self, alloc: Global, plan: Plan) -> Result<TestRunner, TestRunnerBuildError>
         requires { length plan.scripts + length plan.tests < 2 ^ 32 }

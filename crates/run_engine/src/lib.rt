@@ -16,4 +16,5 @@ mod turns;
 pub use builder::TestRunnerBuilder;
 pub use errors::{StepError, TestRunnerBuildError, TestRunnerExecuteErrors};
 pub use run::Run;
+pub use run_model::Entry;
 pub use runner::TestRunner;

@@ -1,5 +1,7 @@
 // A run, turn by turn.
-ghost use Rattle.std.specs.Prelude.{◌≡◌, ◌<◌, ◌+◌, ◌^◌, ◌∷◌, ◌++◌, [], length, map, zip, not, is_none, option_to_list, vec_len, vec_capacity, IfOk, IfErr, OnOk, OnErr, IsErrOf, IsTrue, Option, Some, None, true, false};
+ghost use Rattle.std.specs.Prelude.{◌≡◌, ◌<◌, ◌+◌, ◌^◌, ◌∷◌, ◌++◌, [], length, map, zip, not, is_none, option_to_list};
+ghost use Rattle.std.specs.Prelude.{vec_len, vec_capacity, IfOk, IfErr, OnOk, OnErr, IsErrOf, IsTrue, Option, Some};
+ghost use Rattle.std.specs.Prelude.{None, true, false};
 ghost use Rattle.std.specs.List.{list_all};
 ghost use Rattle.run_events.specs.Tell.{Adds};
 ghost use Rattle.run_laws.specs.Ready.{CanAdvance};
@@ -8,7 +10,8 @@ ghost use Rattle.run_model.specs.Admission.{units_in};
 ghost use Rattle.run_model.specs.Turns.{enabled, enabled_on, turn_of_unit, deed_on};
 ghost use Rattle.run_model.specs.Words.{is_over};
 ghost use Rattle.run_model.specs.Board.{board, step, deed_events};
-ghost use Rattle.run_engine.specs.World.{TakesTurn, TellsEvents, CountsErrors, history_of};
+ghost use Rattle.run_engine.specs.World.{TakesTurn, TellsEvents, CountsErrors, IsUntouched, Breaks, outside};
+ghost use Rattle.run_engine.specs.World.{history_of};
 ghost use Rattle.run_engine.specs.Standing.{IsRunnable, sound};
 ghost use Rattle.run_engine.specs.Refused.{IsRefused, IsNotNamed, IfNotMemory};
 
@@ -129,11 +132,11 @@ fn carry_out<C: Children, R: Reporter>(
     requires stands { state.old ≡ board settings.now (past_of settings.now journal.old.items) }
     requires enabled { enabled settings.now (past_of settings.now journal.old.items) turn ≡ true }
     requires room { length journal.old.items + 1 < 2 ^ 32 }
-    ensures takes { IfOk result (λ refusal. TakesTurn R.told C.asked (sound settings.now journal.old.items) turn
-        report.old children.old (sound settings.now journal.new.items) report.new children.new refusal) }
+    ensures takes { IfOk result (TakesTurn R.told C.asked
+        (outside R.faults report.old report.new children.old children.new) turn
+        (sound settings.now journal.old.items) (sound settings.now journal.new.items)) }
     ensures runnable { OnOk result (IsRunnable settings.now journal.new.items) }
     ensures stands { OnOk result (state.new ≡ board settings.now (past_of settings.now journal.new.items)) }
-    ensures faults { IfOk result (λ refusal. CountsErrors (R.faults report.old) (R.faults report.new) refusal) }
     ensures err { OnErr result (journal.new.items ≡ journal.old.items) }
 {
     match act(
@@ -197,17 +200,14 @@ impl Run {
         children: &mut C,
         report: &mut R,
     ) -> Result<Option<R::Error>, StepError>
-        ensures takes { IfOk result (λ refusal.
-            TakesTurn R.told C.asked self.old turn report.old children.old self.new report.new children.new refusal) }
-        ensures faults { IfOk result (λ refusal. CountsErrors (R.faults report.old) (R.faults report.new) refusal) }
+        ensures takes { IfOk result (TakesTurn R.told C.asked
+            (outside R.faults report.old report.new children.old children.new) turn self.old self.new) }
         ensures room { OnOk result (length self.old.journal < 4294967295) }
         ensures stays_broken { self.old.broken ≡ true → IsErrOf result StepError.OutOfMemory }
         ensures refused { IfErr result (IsRefused self.old turn) }
-        ensures unchanged { IfErr result (λ e. IfNotMemory e (self.new ≡ self.old)) }
-        ensures reporter { IfErr result (λ e. IfNotMemory e (report.new ≡ report.old)) }
-        ensures children { IfErr result (λ e. IfNotMemory e (children.new ≡ children.old)) }
-        ensures broken { IsErrOf result StepError.OutOfMemory → self.new ≡ record self.old { broken = true } }
-        ensures over { IsErrOf result StepError.OutOfMemory → is_over (history_of self.old) ≡ false }
+        ensures unchanged { IfErr result (λ e. IfNotMemory e (IsUntouched self.old self.new
+            (outside R.faults report.old report.new children.old children.new))) }
+        ensures broken { IsErrOf result StepError.OutOfMemory → Breaks self.old self.new }
     {
         match self.admit(alloc, &turn) {
             Ok(named) => self.take_named(alloc, turn, named, children, report),
@@ -227,9 +227,8 @@ impl Run {
         ensures same { OnOk result (self.new ≡ self.old) }
         ensures refused { IfErr result (IsRefused self.old turn.now) }
         ensures unchanged { IfErr result (λ e. IfNotMemory e (self.new ≡ self.old)) }
-        ensures broken { IsErrOf result StepError.OutOfMemory → self.new ≡ record self.old { broken = true } }
+        ensures broken { IsErrOf result StepError.OutOfMemory → Breaks self.old self.new }
         ensures stays_broken { self.old.broken ≡ true → IsErrOf result StepError.OutOfMemory }
-        ensures over { IsErrOf result StepError.OutOfMemory → is_over (history_of self.old) ≡ false }
     {
         if self.broken {
             return Err(StepError::OutOfMemory);
@@ -260,12 +259,10 @@ impl Run {
         requires enabled { enabled self.old.settings (history_of self.old) turn ≡ true }
         requires room { length self.old.journal < 4294967295 }
         requires sound { self.old.broken ≡ false }
-        ensures takes { IfOk result (λ refusal.
-            TakesTurn R.told C.asked self.old turn report.old children.old self.new report.new children.new refusal) }
-        ensures faults { IfOk result (λ refusal. CountsErrors (R.faults report.old) (R.faults report.new) refusal) }
+        ensures takes { IfOk result (TakesTurn R.told C.asked
+            (outside R.faults report.old report.new children.old children.new) turn self.old self.new) }
         ensures memory { IfErr result (λ e. e ≡ StepError.OutOfMemory) }
-        ensures broken { IsErrOf result StepError.OutOfMemory → self.new ≡ record self.old { broken = true } }
-        ensures over { IsErrOf result StepError.OutOfMemory → is_over (history_of self.old) ≡ false }
+        ensures broken { IsErrOf result StepError.OutOfMemory → Breaks self.old self.new }
     {
         let settings = self.settings.get();
         match carry_out(
@@ -297,19 +294,16 @@ impl Run {
         report: &mut R,
     ) -> Result<u64, StepError>
         ensures place { IfOk result (λ place. place ≡ length self.old.journal) }
-        ensures takes { OnOk result ((refusal : Option R.Error)
-            × TakesTurn R.told C.asked self.old turn report.old children.old self.new report.new children.new refusal
-            × CountsErrors (R.faults report.old) (R.faults report.new) refusal) }
+        ensures takes { OnOk result ((refusal : Option R.Error) × TakesTurn R.told C.asked
+            (outside R.faults report.old report.new children.old children.new) turn self.old self.new refusal) }
 
         ensures refused { IfErr result (IsRefused self.old turn) }
         ensures not_full { OnOk result (length self.old.journal < 4294967295) }
-        ensures unchanged { IfErr result (λ e. IfNotMemory e (self.new ≡ self.old)) }
-        ensures reporter { IfErr result (λ e. IfNotMemory e (report.new ≡ report.old)) }
-        ensures children { IfErr result (λ e. IfNotMemory e (children.new ≡ children.old)) }
+        ensures unchanged { IfErr result (λ e. IfNotMemory e (IsUntouched self.old self.new
+            (outside R.faults report.old report.new children.old children.new))) }
 
-        ensures broken { IsErrOf result StepError.OutOfMemory → self.new ≡ record self.old { broken = true } }
+        ensures broken { IsErrOf result StepError.OutOfMemory → Breaks self.old self.new }
         ensures stays_broken { self.old.broken ≡ true → IsErrOf result StepError.OutOfMemory }
-        ensures over { IsErrOf result StepError.OutOfMemory → is_over (history_of self.old) ≡ false }
     {
         let place = self.journal.len() as u64;
         match self.take(alloc, turn, children, report) {

@@ -1,13 +1,15 @@
 // A runner carries out the turns of a run.
-ghost use Rattle.std.specs.Prelude.{◌≡◌, ◌<◌, ◌^◌, ◌∷◌, [], length, map, take, slice_get, IfOk, IfErr, OnOk, Option, Some, None, List, true, false};
+ghost use Rattle.std.specs.Prelude.{◌≡◌, ◌<◌, ◌^◌, ◌∷◌, [], length, map, take, slice_get, IfOk, IfErr, OnOk, Option};
+ghost use Rattle.std.specs.Prelude.{Some, None, List, true, false};
 ghost use Rattle.run_events.specs.Tell.{Adds};
 ghost use Rattle.run_model.specs.declared.entry.Entry.{Entry};
 ghost use Rattle.run_model.specs.Admission.{units_in};
 ghost use Rattle.run_model.specs.Turns.{enabled};
-ghost use Rattle.run_engine.specs.World.{TakesTurn, CountsErrors, history_of};
+ghost use Rattle.run_engine.specs.World.{TakesTurn, IsUntouched, outside, history_of};
 ghost use Rattle.run_engine.specs.Refused.{IsRefused, IfNotMemory};
 ghost use Rattle.run_engine.specs.Standing.{sound};
-ghost use Rattle.run_engine.specs.Execution.{Takes, Carries, Executes, AnswersCourse, UnlessMemory, StopsAt, IsFinal};
+ghost use Rattle.run_engine.specs.Execution.{TakesTurns, Carries, Executes, AnswersCourse, UnlessMemory, StopsAt};
+ghost use Rattle.run_engine.specs.Execution.{IsFinal};
 ghost use Rattle.run_capture.specs.Faults.{Rose};
 ghost use Rattle.run_laws.specs.Course.{turns_of, refuses_none};
 ghost use Rattle.run_model.specs.Journal.{outcome};
@@ -21,6 +23,8 @@ use run_capture::{Duplicate, Mem, Whole};
 use run_events::{Children, EventLog, Reporter, RunOutcome, Settings, Turn};
 use std::alloc::Global;
 use std::convert::Infallible;
+use std::fmt;
+use std::fmt::{Debug, Write};
 use std::marker::Model;
 use uuid::Uuid;
 
@@ -42,6 +46,12 @@ impl Model for TestRunner {
     ghost invariant = { λ r. units_in r.settings < 2 ^ 32 };
 }
 
+impl Debug for TestRunner {
+    fn fmt<W: Write>(&self, f: &mut fmt::Formatter<W>) -> fmt::Result {
+        f.write_str("TestRunner { .. }")
+    }
+}
+
 /// Why a list of turns stops before its end.
 #[derive(Drop)]
 pub enum Stop {
@@ -58,14 +68,12 @@ fn take_copy<C: Children, R: Reporter>(
     children: &mut C,
     report: &mut R,
 ) -> Result<Option<R::Error>, StepError>
-    ensures takes { IfOk result (λ refusal.
-        TakesTurn R.told C.asked run.old turn.now report.old children.old run.new report.new children.new refusal) }
-    ensures faults { IfOk result (λ refusal. CountsErrors (R.faults report.old) (R.faults report.new) refusal) }
+    ensures takes { IfOk result (TakesTurn R.told C.asked
+        (outside R.faults report.old report.new children.old children.new) turn.now run.old run.new) }
     ensures room { OnOk result (length run.old.journal < 4294967295) }
     ensures refused { IfErr result (IsRefused run.old turn.now) }
-    ensures unchanged { IfErr result (λ e. IfNotMemory e (run.new ≡ run.old)) }
-    ensures reporter { IfErr result (λ e. IfNotMemory e (report.new ≡ report.old)) }
-    ensures children { IfErr result (λ e. IfNotMemory e (children.new ≡ children.old)) }
+    ensures unchanged { IfErr result (λ e. IfNotMemory e (IsUntouched run.old run.new
+        (outside R.faults report.old report.new children.old children.new))) }
 {
     match turn.copy(alloc) {
         Ok(turn) => run.take(alloc, turn, children, report),
@@ -84,13 +92,13 @@ fn take_all<C: Children, R: Reporter>(
     requires fresh { run.old ≡ sound run.old.settings [] }
     requires units { units_in run.old.settings < 2 ^ 32 }
     requires few { length turns.now < 2 ^ 32 }
-    ensures ok { IfOk result (λ refusal. Takes R.told C.asked run.old.settings run.new.journal report.old report.new
-        children.old children.new (R.faults report.old) (R.faults report.new) refusal) }
+    ensures ok { IfOk result (TakesTurns R.told C.asked
+        (outside R.faults report.old report.new children.old children.new) run.old.settings run.new.journal) }
     ensures all { OnOk result (turns_of run.new.journal ≡ turns.now) }
     ensures run { OnOk result (run.new ≡ sound run.old.settings run.new.journal) }
-    ensures stopped { IfErr result (StopsAt R.told C.asked run.old.settings turns.now run.new.journal report.old
-        report.new
-        children.old children.new (R.faults report.old) (R.faults report.new)) }
+    ensures stopped { IfErr result (StopsAt R.told C.asked
+        (outside R.faults report.old report.new children.old children.new) run.old.settings turns.now
+        run.new.journal) }
 {
     let mut first = None;
     for (place, turn) in turns.iter().enumerate() {
@@ -127,9 +135,8 @@ fn run_all<C: Children, R: Reporter>(
     requires fresh { run.old ≡ sound run.old.settings [] }
     requires units { units_in run.old.settings < 2 ^ 32 }
     requires few { length turns.now < 2 ^ 32 }
-    ensures { UnlessMemory result (Carries R.told C.asked run.old.settings turns.now report.old report.new
-        children.old children.new
-        (R.faults report.old) (R.faults report.new) result) }
+    ensures { UnlessMemory result (Carries R.told C.asked
+        (outside R.faults report.old report.new children.old children.new) run.old.settings turns.now result) }
 {
     match take_all(alloc, run, turns, children, report) {
         Ok(refusal) => answer(run, refusal),
@@ -184,8 +191,10 @@ impl TestRunner {
     }
 
     /// Carries out the turns of a run, fewer than 2^32. The reporter is told each event, also after it refused one. The
-    /// answer is the outcome of a run that is over; else the first turn that isn't enabled, or that the run isn't over, or
-    /// the reporter's first error in a run that is over. What was told and asked by then stands after each of these; after
+    /// answer is the outcome of a run that is over; else the first turn that isn't enabled, or that the run isn't over,
+    /// or
+    /// the reporter's first error in a run that is over. What was told and asked by then stands after each of these;
+    /// after
     /// want of memory nothing is said of it.
     pub fn try_execute<C: Children, R: Reporter>(
         self,
@@ -195,11 +204,10 @@ impl TestRunner {
         report: &mut R,
     ) -> Result<RunOutcome, TestRunnerExecuteErrors<R::Error>>
         requires { length turns.now < 2 ^ 32 }
-        ensures executes { UnlessMemory result (Executes R.told C.asked self turns.now report.old report.new
-            children.old children.new
-            (R.faults report.old) (R.faults report.new) result) }
-        ensures course { ¬ Rose (R.faults report.old) (R.faults report.new)
-            → AnswersCourse self turns.now refuses_none (R.faults report.old) (R.faults report.new) result }
+        ensures executes { UnlessMemory result (Executes R.told C.asked
+            (outside R.faults report.old report.new children.old children.new) self turns.now result) }
+        ensures course { ¬ Rose (R.faults report.old) (R.faults report.new) → AnswersCourse
+            (outside R.faults report.old report.new children.old children.new) self turns.now refuses_none result }
     {
         self.carry_out(alloc, turns, children, report)
     }
@@ -213,9 +221,8 @@ impl TestRunner {
         report: &mut R,
     ) -> Result<RunOutcome, TestRunnerExecuteErrors<R::Error>>
         requires { length turns.now < 2 ^ 32 }
-        ensures { UnlessMemory result (Carries R.told C.asked self turns.now report.old report.new children.old
-            children.new
-            (R.faults report.old) (R.faults report.new) result) }
+        ensures { UnlessMemory result (Carries R.told C.asked
+            (outside R.faults report.old report.new children.old children.new) self turns.now result) }
     {
         match self.into_run(alloc) {
             Ok(mut run) => {
@@ -236,9 +243,10 @@ impl TestRunner {
         log: &mut EventLog,
     ) -> Result<RunOutcome, TestRunnerExecuteErrors<Infallible>>
         requires { length turns.now < 2 ^ 32 }
-        ensures executes { UnlessMemory result (Executes ⟦<EventLog as Reporter>⟧.told C.asked self turns.now log.old
-            log.new children.old children.new 0 0 result) }
-        ensures course { AnswersCourse self turns.now refuses_none 0 0 result }
+        ensures executes { UnlessMemory result (Executes ⟦<EventLog as Reporter>⟧.told C.asked
+            (outside (λ log. 0) log.old log.new children.old children.new) self turns.now result) }
+        ensures course { AnswersCourse (outside (λ log. 0) log.old log.new children.old children.new) self turns.now
+            refuses_none result }
     {
         self.try_execute(alloc, turns, children, log)
     }

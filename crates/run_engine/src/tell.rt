@@ -1,5 +1,6 @@
 // How what a turn told and asked goes out.
-ghost use Rattle.std.specs.Prelude.{◌≡◌, ◌++◌, ◌∷◌, [], length, map, zip, is_some, is_none, not, IfOk, OnOk, option_to_list};
+ghost use Rattle.std.specs.Prelude.{◌≡◌, ◌++◌, ◌∷◌, [], length, map, zip, is_some, is_none, not, IfOk, OnOk};
+ghost use Rattle.std.specs.Prelude.{option_to_list};
 ghost use Rattle.std.specs.List.{list_all};
 ghost use Rattle.run_events.specs.Tell.{Adds};
 ghost use Rattle.run_engine.specs.World.{TellsEvents, CountsErrors, earlier};

@@ -1,12 +1,14 @@
 // The turns of a run: each does to the state what its row of the tables says.
-ghost use Rattle.std.specs.Prelude.{◌≡◌, ◌<◌, ◌^◌, ◌++◌, [], length, IfOk, OnOk, true, false, option_to_list, slice_set, Some, None};
+ghost use Rattle.std.specs.Prelude.{◌≡◌, ◌<◌, ◌^◌, ◌++◌, [], length, IfOk, OnOk, true, false, option_to_list};
+ghost use Rattle.std.specs.Prelude.{slice_set, Some, None};
 ghost use Rattle.std.specs.VecDeque.{deque_len, deque_capacity};
 ghost use Rattle.run_model.specs.Admission.{newcomer, units_in};
 ghost use Rattle.run_model.specs.Board.{unit_in, moved, step, deed_events};
-ghost use Rattle.run_model.specs.Turns.{taken_by, admission, starting, answer_to, delivery, begun, ended, run_turn, deed_on, turn_of_unit};
+ghost use Rattle.run_model.specs.Turns.{taken_by, admission, starting, answer_to, delivery, begun, ended, run_turn};
+ghost use Rattle.run_model.specs.Turns.{deed_on, turn_of_unit};
 ghost use Rattle.run_laws.specs.Ready.{CanAnswer, CanTake, CanAdmit, CanDeliverOldest, CanRun, CanAdvance};
 
-use crate::admission::{Admitted, admit_test, first_waiting};
+use crate::admission::{Newcomer, admit_test, first_waiting};
 use crate::state::State;
 use run_capture::{List, Mem};
 use run_dispatch::DispatchEffects;
@@ -84,7 +86,7 @@ pub fn admit(alloc: Global, settings: &Settings, state: &mut State) -> Mem<()>
     match first_waiting(settings, &state.units) {
         Some(test) => {
             state.queue.reserve(1)?;
-            let Admitted { unit, sent } = admit_test(alloc, settings, &state.units, test)?;
+            let Newcomer { unit, sent } = admit_test(alloc, settings, &state.units, test)?;
             state.queue.push_back_reserved(sent);
             put(&mut state.units, settings.plan.scripts.len() + test, unit);
             Ok(())

@@ -1,11 +1,13 @@
 -- Sums of statistics.
-use Rattle.std.proofs.Common.{◌≡◌, ◌≤◌, ◌<◌, ◌+◌, ℕ, List, [], ◌∷◌, ◌++◌, length, ap, refl, arith, sym, ◌∙◌, true, false, Bool, add_assoc, rules, zero, suc, ◌-◌, slice_get, Some}
+use Rattle.std.proofs.Common.{◌≡◌, ◌≤◌, ◌<◌, ◌+◌, ℕ, List, [], ◌∷◌, ◌++◌, length, ap, refl, arith, sym, ◌∙◌, true}
+use Rattle.std.proofs.Common.{false, Bool, add_assoc, rules, zero, suc, ◌-◌, slice_get, Some}
 use Rattle.std.specs.List.{sum_by}
 use Rattle.std.proofs.lemmas.List.Sums.{sum_by_push, sum_by-cons}
 use Rattle.run_events.specs.declared.stats.RunStats.{RunStats}
 use Rattle.run_events.specs.declared.result.ExecutionResult.{ExecutionResult}
 use Rattle.run_events.specs.declared.result.FlakyResult.{FlakyResult}
-use Rattle.run_events.specs.Stats.{FinishedTest, AreBelow, plus, total_by, total, script_total, adds_of, script_adds, one_if, test_adds, last_or}
+use Rattle.run_events.specs.Stats.{FinishedTest, AreBelow, plus, total_by, total, script_total, adds_of, script_adds}
+use Rattle.run_events.specs.Stats.{one_if, test_adds, last_or}
 
 -- one more item adds its number on top of what the start and the items before add
 pub sum_push : {X : Type 0} (f : X → ℕ) → (n : ℕ) (xs : List X) (x : X)
@@ -17,7 +19,8 @@ pub sum_below : {X : Type 0} (f : X → ℕ) → ((x : X) → f x < 2) → (n k 
     → n < k → k + length xs ≤ limit → n + sum_by f xs < limit
 sum_below f small n k limit [] below room = omega arith
 sum_below f small n k limit (x ∷ xs) below room =
-    let here = small x in let cons = sum_by-cons f x xs in let rest = sum_below f small (n + f x) (k + 1) limit xs (omega arith) (omega arith) in omega arith
+    let here = small x in let cons = sum_by-cons f x xs in let rest =
+        sum_below f small (n + f x) (k + 1) limit xs (omega arith) (omega arith) in omega arith
 
 -- one more finish adds what it adds
 pub total_by_push : {X : Type 0} (adds : X → RunStats) → (start : RunStats) (xs : List X) (x : X)
@@ -31,24 +34,44 @@ pub total_by_below : {X : Type 0} (adds : X → RunStats) → ((x : X) → AreBe
     → AreBelow limit (total_by adds start xs)
 unfolding total_by
 total_by_below adds small limit most start xs below room = record {
-  initial_run_count = sum_below (λ x. (adds x).initial_run_count) (λ x. (small x).initial_run_count) start.initial_run_count most limit xs below.initial_run_count room;
-  finished_count = sum_below (λ x. (adds x).finished_count) (λ x. (small x).finished_count) start.finished_count most limit xs below.finished_count room;
-  setup_scripts_initial_count = sum_below (λ x. (adds x).setup_scripts_initial_count) (λ x. (small x).setup_scripts_initial_count) start.setup_scripts_initial_count most limit xs below.setup_scripts_initial_count room;
-  setup_scripts_finished_count = sum_below (λ x. (adds x).setup_scripts_finished_count) (λ x. (small x).setup_scripts_finished_count) start.setup_scripts_finished_count most limit xs below.setup_scripts_finished_count room;
-  setup_scripts_passed = sum_below (λ x. (adds x).setup_scripts_passed) (λ x. (small x).setup_scripts_passed) start.setup_scripts_passed most limit xs below.setup_scripts_passed room;
-  setup_scripts_failed = sum_below (λ x. (adds x).setup_scripts_failed) (λ x. (small x).setup_scripts_failed) start.setup_scripts_failed most limit xs below.setup_scripts_failed room;
-  setup_scripts_exec_failed = sum_below (λ x. (adds x).setup_scripts_exec_failed) (λ x. (small x).setup_scripts_exec_failed) start.setup_scripts_exec_failed most limit xs below.setup_scripts_exec_failed room;
-  setup_scripts_timed_out = sum_below (λ x. (adds x).setup_scripts_timed_out) (λ x. (small x).setup_scripts_timed_out) start.setup_scripts_timed_out most limit xs below.setup_scripts_timed_out room;
+  initial_run_count = sum_below (λ x. (adds x).initial_run_count) (λ x. (small x).initial_run_count)
+      start.initial_run_count most limit xs below.initial_run_count room;
+  finished_count = sum_below (λ x. (adds x).finished_count) (λ x. (small x).finished_count) start.finished_count most
+      limit xs below.finished_count room;
+  setup_scripts_initial_count =
+      sum_below (λ x. (adds x).setup_scripts_initial_count) (λ x. (small x).setup_scripts_initial_count)
+          start.setup_scripts_initial_count most limit xs below.setup_scripts_initial_count room;
+  setup_scripts_finished_count =
+      sum_below (λ x. (adds x).setup_scripts_finished_count) (λ x. (small x).setup_scripts_finished_count)
+          start.setup_scripts_finished_count most limit xs below.setup_scripts_finished_count room;
+  setup_scripts_passed =
+      sum_below (λ x. (adds x).setup_scripts_passed) (λ x. (small x).setup_scripts_passed) start.setup_scripts_passed
+          most limit xs below.setup_scripts_passed room;
+  setup_scripts_failed =
+      sum_below (λ x. (adds x).setup_scripts_failed) (λ x. (small x).setup_scripts_failed) start.setup_scripts_failed
+          most limit xs below.setup_scripts_failed room;
+  setup_scripts_exec_failed =
+      sum_below (λ x. (adds x).setup_scripts_exec_failed) (λ x. (small x).setup_scripts_exec_failed)
+          start.setup_scripts_exec_failed most limit xs below.setup_scripts_exec_failed room;
+  setup_scripts_timed_out =
+      sum_below (λ x. (adds x).setup_scripts_timed_out) (λ x. (small x).setup_scripts_timed_out)
+          start.setup_scripts_timed_out most limit xs below.setup_scripts_timed_out room;
   passed = sum_below (λ x. (adds x).passed) (λ x. (small x).passed) start.passed most limit xs below.passed room;
-  passed_slow = sum_below (λ x. (adds x).passed_slow) (λ x. (small x).passed_slow) start.passed_slow most limit xs below.passed_slow room;
-  passed_timed_out = sum_below (λ x. (adds x).passed_timed_out) (λ x. (small x).passed_timed_out) start.passed_timed_out most limit xs below.passed_timed_out room;
+  passed_slow = sum_below (λ x. (adds x).passed_slow) (λ x. (small x).passed_slow) start.passed_slow most limit xs
+      below.passed_slow room;
+  passed_timed_out = sum_below (λ x. (adds x).passed_timed_out) (λ x. (small x).passed_timed_out)
+      start.passed_timed_out most limit xs below.passed_timed_out room;
   flaky = sum_below (λ x. (adds x).flaky) (λ x. (small x).flaky) start.flaky most limit xs below.flaky room;
   failed = sum_below (λ x. (adds x).failed) (λ x. (small x).failed) start.failed most limit xs below.failed room;
-  failed_slow = sum_below (λ x. (adds x).failed_slow) (λ x. (small x).failed_slow) start.failed_slow most limit xs below.failed_slow room;
-  failed_timed_out = sum_below (λ x. (adds x).failed_timed_out) (λ x. (small x).failed_timed_out) start.failed_timed_out most limit xs below.failed_timed_out room;
+  failed_slow = sum_below (λ x. (adds x).failed_slow) (λ x. (small x).failed_slow) start.failed_slow most limit xs
+      below.failed_slow room;
+  failed_timed_out = sum_below (λ x. (adds x).failed_timed_out) (λ x. (small x).failed_timed_out)
+      start.failed_timed_out most limit xs below.failed_timed_out room;
   leaky = sum_below (λ x. (adds x).leaky) (λ x. (small x).leaky) start.leaky most limit xs below.leaky room;
-  leaky_failed = sum_below (λ x. (adds x).leaky_failed) (λ x. (small x).leaky_failed) start.leaky_failed most limit xs below.leaky_failed room;
-  exec_failed = sum_below (λ x. (adds x).exec_failed) (λ x. (small x).exec_failed) start.exec_failed most limit xs below.exec_failed room;
+  leaky_failed = sum_below (λ x. (adds x).leaky_failed) (λ x. (small x).leaky_failed) start.leaky_failed most limit xs
+      below.leaky_failed room;
+  exec_failed = sum_below (λ x. (adds x).exec_failed) (λ x. (small x).exec_failed) start.exec_failed most limit xs
+      below.exec_failed room;
   skipped = sum_below (λ x. (adds x).skipped) (λ x. (small x).skipped) start.skipped most limit xs below.skipped room;
 }
 
@@ -107,6 +130,7 @@ last_or_read other [] y read = cc
 last_or_read other (x ∷ xs) y read = last_or_at other x y xs (length (x ∷ xs) - 1) (omega arith) read
 
 -- finished tests leave the cancel reason as it was
-pub total-cancel_reason : (start : RunStats) (tests : List FinishedTest) → (total start tests).cancel_reason ≡ start.cancel_reason
+pub total-cancel_reason : (start : RunStats) (tests : List FinishedTest)
+    → (total start tests).cancel_reason ≡ start.cancel_reason
 unfolding total_by
 total-cancel_reason start tests = refl

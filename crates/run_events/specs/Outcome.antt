@@ -1,5 +1,6 @@
 -- How a run ended, by its statistics.
-use Rattle.std.specs.Prelude.{Bool, true, false, if◌then◌else◌, ℕ, ◌+◌, ◌-◌, ◌^◌, min, nat_lt, ◌||◌, ◌==◌, Option, Some, None}
+use Rattle.std.specs.Prelude.{Bool, true, false, if◌then◌else◌, ℕ, ◌+◌, ◌-◌, ◌^◌, min, nat_lt, ◌||◌, ◌==◌, Option, Some}
+use Rattle.std.specs.Prelude.{None}
 use Rattle.run_events.specs.declared.stats.RunStats.{RunStats}
 use Rattle.run_events.specs.declared.cancel.CancelReason.{CancelReason}
 use Rattle.run_events.specs.declared.cancel.CancelReason.TheVariants.{SetupScriptFailure, TestFailure}

@@ -1,5 +1,6 @@
 -- What finished tests and setup scripts add to the statistics of a run.
-use Rattle.std.specs.Prelude.{Bool, true, false, ◌&&◌, if◌then◌else◌, ℕ, ◌+◌, ◌<◌, nat_lt, length, List, [], ◌∷◌, sum_by, None}
+use Rattle.std.specs.Prelude.{Bool, true, false, ◌&&◌, if◌then◌else◌, ℕ, ◌+◌, ◌<◌, nat_lt, length, List, [], ◌∷◌}
+use Rattle.std.specs.Prelude.{sum_by, None}
 use Rattle.run_events.specs.declared.stats.RunStats.{RunStats}
 use Rattle.run_events.specs.declared.result.ExecutionResult.{ExecutionResult}
 use Rattle.run_events.specs.declared.result.ExecutionResult.TheVariants.{Pass, Leak, Fail, ExecFail, Timeout}
@@ -127,8 +128,10 @@ unfoldable pub total_by : {X : Type 0} → (X → RunStats) → RunStats → Lis
 total_by adds start xs = record {
   initial_run_count = start.initial_run_count + sum_by (λ x. (adds x).initial_run_count) xs;
   finished_count = start.finished_count + sum_by (λ x. (adds x).finished_count) xs;
-  setup_scripts_initial_count = start.setup_scripts_initial_count + sum_by (λ x. (adds x).setup_scripts_initial_count) xs;
-  setup_scripts_finished_count = start.setup_scripts_finished_count + sum_by (λ x. (adds x).setup_scripts_finished_count) xs;
+  setup_scripts_initial_count =
+      start.setup_scripts_initial_count + sum_by (λ x. (adds x).setup_scripts_initial_count) xs;
+  setup_scripts_finished_count =
+      start.setup_scripts_finished_count + sum_by (λ x. (adds x).setup_scripts_finished_count) xs;
   setup_scripts_passed = start.setup_scripts_passed + sum_by (λ x. (adds x).setup_scripts_passed) xs;
   setup_scripts_failed = start.setup_scripts_failed + sum_by (λ x. (adds x).setup_scripts_failed) xs;
   setup_scripts_exec_failed = start.setup_scripts_exec_failed + sum_by (λ x. (adds x).setup_scripts_exec_failed) xs;

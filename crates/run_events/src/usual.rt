@@ -1,6 +1,7 @@
 // What a plan is where it says nothing else.
 ghost use Rattle.std.specs.Prelude.{◌≡◌, IfOk};
-ghost use Rattle.run_events.specs.Usual.{usual_slow, usual_leak, no_retries, usual_test, usual_versions, usual_head, usual_hearing, usual_plan};
+ghost use Rattle.run_events.specs.Usual.{usual_slow, usual_leak, no_retries, usual_test, usual_versions, usual_head};
+ghost use Rattle.run_events.specs.Usual.{usual_hearing, usual_plan};
 
 use crate::{
     FlakyResult, Hearing, InputHandlerKind, LeakTimeout, LeakTimeoutResult, Plan, PlanTest,

@@ -1,5 +1,6 @@
 -- The lines of an input that were read so far.
-use Rattle.std.proofs.Common.{◌≡◌, ℕ, ◌+◌, ◌≤◌, ◌<◌, List, [], ◌∷◌, ◌++◌, length, Option, Some, None, option_and_then, refl, ap, sym, ◌∙◌, arith, append_assoc, append-nil, length-append}
+use Rattle.std.proofs.Common.{◌≡◌, ℕ, ◌+◌, ◌≤◌, ◌<◌, List, [], ◌∷◌, ◌++◌, length, Option, Some, None, option_and_then}
+use Rattle.std.proofs.Common.{refl, ap, sym, ◌∙◌, arith, append_assoc, append-nil, length-append}
 use Rattle.std.proofs.lemmas.Option.{none-some, same_Some}
 use Rattle.run_events.specs.declared.turn.Turn.{Turn}
 use Rattle.run_input.specs.Lines.{lines_of}
@@ -20,11 +21,13 @@ first_and_rest (Some turn) (Some others) turns e = (turn, others, refl, refl, sa
 
 -- one line more says one turn more
 turns_of-push : (lines : List (List ℕ)) (line : List ℕ) (turns : List Turn) (turn : Turn)
-    → turns_of lines ≡ Some turns → turn_line_of line ≡ Some turn → turns_of (lines ++ line ∷ []) ≡ Some (turns ++ turn ∷ [])
+    → turns_of lines ≡ Some turns → turn_line_of line ≡ Some turn
+        → turns_of (lines ++ line ∷ []) ≡ Some (turns ++ turn ∷ [])
 turns_of-push [] line turns turn before last =
     let none : [] ≡ turns = same_Some [] turns before in rw last (ap (λ xs. Some (xs ++ turn ∷ [])) none)
 turns_of-push (first ∷ lines) line turns turn before last =
-    let (said, others, is_said, are_others, whole) = first_and_rest (turn_line_of first) (turns_of lines) turns before in
+    let (said, others, is_said, are_others, whole) =
+        first_and_rest (turn_line_of first) (turns_of lines) turns before in
     let more = turns_of-push lines line others turn are_others last in
     rw (is_said, more) (ap (λ xs. Some (xs ++ turn ∷ [])) whole)
 
@@ -46,14 +49,16 @@ pub read_more : (bytes rest after line : List ℕ) (turns : List Turn) (turn : T
     → turn_line_of line ≡ Some turn → ReadSoFar bytes after (turns ++ turn ∷ []) (number + 1)
 read_more bytes rest after line turns turn number so_far first shorter says = record {
   read = so_far.read ++ line ∷ [];
-  split = so_far.split ∙ ap (λ lines. so_far.read ++ lines) first ∙ sym (append_assoc so_far.read (line ∷ []) (lines_of after));
+  split = so_far.split ∙ ap (λ lines. so_far.read ++ lines) first
+      ∙ sym (append_assoc so_far.read (line ∷ []) (lines_of after));
   said = turns_of-push so_far.read line turns turn so_far.said says;
   counted = omega (arith, so_far.counted, length-append so_far.read (line ∷ []));
   room = omega (arith, so_far.room);
 }
 
 -- with no byte left the turns are those of all lines
-pub read_all_lines : (bytes rest : List ℕ) (turns : List Turn) (number : ℕ) → ReadSoFar bytes rest turns number → rest ≡ []
+pub read_all_lines : (bytes rest : List ℕ) (turns : List Turn) (number : ℕ) → ReadSoFar bytes rest turns number
+    → rest ≡ []
     → turns_of (lines_of bytes) ≡ Some turns
 read_all_lines bytes rest turns number so_far done =
     ap turns_of (so_far.split ∙ ap (λ left. so_far.read ++ lines_of left) done ∙ append-nil so_far.read) ∙ so_far.said
@@ -73,7 +78,8 @@ read_bad bytes rest after line turns number so_far first outside = record {
 }
 
 -- no turn after one that is none
-none_after : (first : Option Turn) → option_and_then (λ turn. option_and_then (λ others. Some (turn ∷ others)) None) first ≡ None
+none_after : (first : Option Turn)
+    → option_and_then (λ turn. option_and_then (λ others. Some (turn ∷ others)) None) first ≡ None
 none_after None = refl
 none_after (Some turn) = refl
 

@@ -1,5 +1,6 @@
 -- Where the first line ends.
-use Rattle.std.proofs.Common.{◌≡◌, ◌≢◌, ℕ, zero, suc, ◌<◌, ◌==◌, List, [], ◌∷◌, ◌-◌, ◌+◌, ◌∙◌, sym, add-one, length, take, drop, get_or, false, refl, ap, arith}
+use Rattle.std.proofs.Common.{◌≡◌, ◌≢◌, ℕ, zero, suc, ◌<◌, ◌==◌, List, [], ◌∷◌, ◌-◌, ◌+◌, ◌∙◌, sym, add-one, length}
+use Rattle.std.proofs.Common.{take, drop, get_or, false, refl, ap, arith}
 use Rattle.std.proofs.lemmas.Bool.Decides.{nat_tests}
 use Rattle.run_capture.proofs.BytesLemmas.{take-drop_all}
 use Rattle.run_input.specs.Lines.{lines_of, at_front}

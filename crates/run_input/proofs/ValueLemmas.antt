@@ -8,12 +8,14 @@ use Rattle.serde_json.specs.Written.{has_float}
 use Rattle.run_input.specs.ValueOf.{value_of}
 
 -- a line that reads as a value with no float has that value
-pub value_of-read : (line : List ℕ) (d : Data) → IsUtf8 line → read line ≡ Some d → has_float d ≡ false → value_of line ≡ Some d
+pub value_of-read : (line : List ℕ) (d : Data) → IsUtf8 line → read line ≡ Some d → has_float d ≡ false
+    → value_of line ≡ Some d
 unfolding value_of
 value_of-read line d u r f = let t = is_utf8-from_IsUtf8 line u in rw (t, r, f) refl
 
 -- a line that reads as a value with a float has none
-pub value_of-float : (line : List ℕ) (d : Data) → IsUtf8 line → read line ≡ Some d → has_float d ≡ true → value_of line ≡ None
+pub value_of-float : (line : List ℕ) (d : Data) → IsUtf8 line → read line ≡ Some d → has_float d ≡ true
+    → value_of line ≡ None
 unfolding value_of
 value_of-float line d u r f = let t = is_utf8-from_IsUtf8 line u in rw (t, r, f) refl
 

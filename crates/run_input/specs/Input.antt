@@ -1,5 +1,6 @@
 -- What the lines of an input say.
-use Rattle.std.specs.Prelude.{ℕ, ◌≡◌, ◌+◌, List, [], ◌∷◌, ◌++◌, length, Option, Some, None, option_and_then, IsSome, MatchOption}
+use Rattle.std.specs.Prelude.{ℕ, ◌≡◌, ◌+◌, List, [], ◌∷◌, ◌++◌, length, Option, Some, None, option_and_then, IsSome}
+use Rattle.std.specs.Prelude.{MatchOption}
 use Rattle.run_capture.specs.declared.test_output.CaptureStrategy.{CaptureStrategy}
 use Rattle.run_events.specs.declared.plan.Plan.{Plan}
 use Rattle.run_events.specs.declared.turn.Turn.{Turn}
@@ -27,7 +28,8 @@ turns_of (line ∷ lines) = do
 -- the first line says the plan, and the others say the turns
 abbrev pub IsInput : List (List ℕ) → CaptureStrategy → Plan → List Turn → Type 0
 IsInput [] capture plan turns = ⊥
-IsInput (first ∷ others) capture plan turns = (plan_line_of first ≡ Some (capture, plan)) × (turns_of others ≡ Some turns)
+IsInput (first ∷ others) capture plan turns = (plan_line_of first ≡ Some (capture, plan))
+    × (turns_of others ≡ Some turns)
 
 -- of the lines after the first, the one with this number is no turn line, and each before it is one
 pub record IsFirstBadTurn (others : List (List ℕ)) (number : ℕ) : Type 0 where

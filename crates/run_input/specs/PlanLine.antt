@@ -1,5 +1,6 @@
 -- What a plan line says.
-use Rattle.std.specs.Prelude.{ℕ, ◌==◌, ◌&&◌, not, List, [], ◌∷◌, length, Option, Some, None, option_and_then, if◌then◌else◌, nat_eq, codes, nat_lt}
+use Rattle.std.specs.Prelude.{ℕ, ◌==◌, ◌&&◌, not, List, [], ◌∷◌, length, Option, Some, None, option_and_then}
+use Rattle.std.specs.Prelude.{if◌then◌else◌, nat_eq, codes, nat_lt}
 use Rattle.std.specs.List.{starts_with}
 use Rattle.serde_json.specs.Data.{Data, Items, no_items, item}
 use Rattle.serde_json.specs.Find.{get, as_str, as_array}

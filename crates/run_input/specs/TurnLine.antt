@@ -1,5 +1,6 @@
 -- What a turn line says.
-use Rattle.std.specs.Prelude.{ℕ, ℤ, Bool, true, false, List, [], ◌∷◌, Option, Some, None, option_map, option_and_then, if◌then◌else◌, nat_eq, codes}
+use Rattle.std.specs.Prelude.{ℕ, ℤ, Bool, true, false, List, [], ◌∷◌, Option, Some, None, option_map, option_and_then}
+use Rattle.std.specs.Prelude.{if◌then◌else◌, nat_eq, codes}
 use Rattle.std.specs.Result.{result_ok}
 use Rattle.std.specs.Str.{chars}
 use Rattle.serde_json.specs.Data.{Data}
@@ -16,7 +17,10 @@ use Rattle.run_events.specs.declared.signal.Signal.TheVariants.{Int, Hup, Term, 
 use Rattle.run_events.specs.declared.input.KeyCode.{KeyCode}
 use Rattle.run_events.specs.declared.input.KeyCode.TheVariants.{Enter, Char}
 use Rattle.run_events.specs.declared.turn.Turn.{Turn}
-use Rattle.run_events.specs.declared.turn.Turn.TheVariants.{Begin, Admit, Deliver, Started, StartFailed, Exit, WaitFailed, Piece, StreamEnd, ReadError, Env, Decide, UnitDue, GlobalDue, StopWaitDue, InfoDue, Answer, Take, Clock, Signal, Key, Tick, ReportCancel, End}
+use Rattle.run_events.specs.declared.turn.Turn.TheVariants.{Begin, Admit, Deliver, Started, StartFailed, Exit}
+use Rattle.run_events.specs.declared.turn.Turn.TheVariants.{WaitFailed, Piece, StreamEnd, ReadError, Env, Decide}
+use Rattle.run_events.specs.declared.turn.Turn.TheVariants.{UnitDue, GlobalDue, StopWaitDue, InfoDue, Answer, Take}
+use Rattle.run_events.specs.declared.turn.Turn.TheVariants.{Clock, Signal, Key, Tick, ReportCancel, End}
 use Rattle.run_input.specs.declared.turn_name.TurnName.{TurnName}
 use Rattle.run_input.specs.declared.turn_name.TurnName.TheVariants as names
 use Rattle.run_input.specs.Fields.{◌>>=◌, when, is_object_of, u32_of, u64_of, i32_of, truth_of}

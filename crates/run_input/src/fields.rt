@@ -4,7 +4,7 @@ ghost use Rattle.std.specs.Prelude.{◌≡◌, List, ℕ, option_map, option_and
 ghost use Rattle.serde_json.specs.Find.{as_str};
 ghost use Rattle.serde_json.specs.View.{view, items_view};
 ghost use Rattle.run_input.specs.Fields.{optional, u32_of, u64_of, truth_of, i32_of, texts_of, texts_from};
-ghost use Rattle.run_input.specs.Reads.{Reads};
+ghost use Rattle.run_input.specs.ReadsValue.{ReadsValue};
 
 use crate::LineError;
 use run_capture::{List, Text};
@@ -57,7 +57,7 @@ pub fn str_at(value: Option<&Value>) -> Option<&str>
 
 /// A text, copied.
 pub fn text_at(alloc: Global, value: Option<&Value>) -> Result<Text, LineError>
-    ensures { Reads result (option_and_then as_str (option_map (λ v. view v.now) value.entry)) }
+    ensures { ReadsValue result (option_and_then as_str (option_map (λ v. view v.now) value.entry)) }
 {
     match str_at(value) {
         Some(text) => Ok(Text::from_str(alloc, text)?),
@@ -67,7 +67,7 @@ pub fn text_at(alloc: Global, value: Option<&Value>) -> Result<Text, LineError>
 
 /// A text that may be missing, copied.
 pub fn optional_text_at(alloc: Global, value: Option<&Value>) -> Result<Option<Text>, LineError>
-    ensures { Reads result (optional as_str (option_map (λ v. view v.now) value.entry)) }
+    ensures { ReadsValue result (optional as_str (option_map (λ v. view v.now) value.entry)) }
 {
     match value {
         Some(_) => Ok(Some(text_at(alloc, value)?)),
@@ -77,7 +77,7 @@ pub fn optional_text_at(alloc: Global, value: Option<&Value>) -> Result<Option<T
 
 // The texts of a list, copied.
 fn texts_in(alloc: Global, items: &[Value]) -> Result<List<Text>, LineError>
-    ensures { Reads result (texts_from (items_view items.now)) }
+    ensures { ReadsValue result (texts_from (items_view items.now)) }
 {
     let mut texts = List::new();
     for item in items {
@@ -88,7 +88,7 @@ fn texts_in(alloc: Global, items: &[Value]) -> Result<List<Text>, LineError>
 
 /// A list of texts, copied.
 pub fn texts_at(alloc: Global, value: Option<&Value>) -> Result<List<Text>, LineError>
-    ensures { Reads result (option_and_then texts_of (option_map (λ v. view v.now) value.entry)) }
+    ensures { ReadsValue result (option_and_then texts_of (option_map (λ v. view v.now) value.entry)) }
 {
     match value.and_then(Value::as_array) {
         Some(items) => texts_in(alloc, items.as_slice()),

@@ -2,10 +2,11 @@
 ghost use Rattle.std.specs.Prelude.{◌≡◌, option_map, option_and_then};
 ghost use Rattle.serde_json.specs.Find.{as_str};
 ghost use Rattle.serde_json.specs.View.{view, items_view};
-ghost use Rattle.run_input.specs.Reads.{Reads};
+ghost use Rattle.run_input.specs.ReadsValue.{ReadsValue};
 ghost use Rattle.run_input.specs.ValueOf.{value_of};
 ghost use Rattle.uuid.specs.Text.{parsed};
-ghost use Rattle.run_input.specs.PlanLine.{uuid_of, capture_of, run_id_of, id_of, test_of, tests_of, tests_from, plan_tests_of, plan_of};
+ghost use Rattle.run_input.specs.PlanLine.{uuid_of, capture_of, run_id_of, id_of, test_of, tests_of, tests_from};
+ghost use Rattle.run_input.specs.PlanLine.{plan_tests_of, plan_of};
 
 use crate::LineError;
 use crate::fields::{optional_text_at, str_at, text_at, texts_at};
@@ -23,7 +24,7 @@ use uuid::Uuid;
 /// be empty), all required. A test has `binary`, `command` and `name`, and may have `skip`: a text, the
 /// reason for which it is skipped.
 pub fn read_plan_line(alloc: Global, line: &[u8]) -> Result<(CaptureStrategy, Plan), LineError>
-    ensures { Reads result (option_and_then plan_of (value_of line.now)) }
+    ensures { ReadsValue result (option_and_then plan_of (value_of line.now)) }
 {
     match read_value(alloc, line) {
         Ok(value) => plan_from(alloc, &value),
@@ -36,7 +37,7 @@ const MOST_TESTS: usize = 4_294_967_295;
 
 #[tactic(auto, unfolding(crate::specs::PlanLine::plan_of))]
 fn plan_from(alloc: Global, value: &Value) -> Result<(CaptureStrategy, Plan), LineError>
-    ensures { Reads result (plan_of (view value.now)) }
+    ensures { ReadsValue result (plan_of (view value.now)) }
 {
     if !has_keys_of(value, &["capture", "run_id", "tests"]) {
         return Err(LineError::NotInTable);
@@ -68,7 +69,8 @@ fn parse_uuid(text: &str) -> Option<Uuid>
     }
 }
 
-// The UUID that a text writes. `Uuid` reads the prefix of the urn form in either case, and a plan line in lower case alone.
+// The UUID that a text writes. `Uuid` reads the prefix of the urn form in either case, and a plan line in lower case
+// alone.
 fn parse_run_id(text: &str) -> Option<Uuid>
     ensures { result ≡ uuid_of text.now }
 {
@@ -87,7 +89,7 @@ fn run_id_at(value: Option<&Value>) -> Option<Uuid>
 
 #[tactic(auto, unfolding(crate::specs::PlanLine::test_of))]
 fn test_from(alloc: Global, value: &Value) -> Result<PlanTest, LineError>
-    ensures { Reads result (test_of (view value.now)) }
+    ensures { ReadsValue result (test_of (view value.now)) }
 {
     if !has_keys_of(value, &["binary", "command", "name", "skip"]) {
         return Err(LineError::NotInTable);
@@ -100,7 +102,7 @@ fn test_from(alloc: Global, value: &Value) -> Result<PlanTest, LineError>
 
 // The name of a test.
 fn id_from(alloc: Global, value: &Value) -> Result<TestInstanceId, LineError>
-    ensures { Reads result (id_of (view value.now)) }
+    ensures { ReadsValue result (id_of (view value.now)) }
 {
     let binary = text_at(alloc, value.get("binary"))?;
     let name = text_at(alloc, value.get("name"))?;
@@ -108,7 +110,7 @@ fn id_from(alloc: Global, value: &Value) -> Result<TestInstanceId, LineError>
 }
 
 fn tests_in(alloc: Global, items: &[Value]) -> Result<List<PlanTest>, LineError>
-    ensures { Reads result (tests_from (items_view items.now)) }
+    ensures { ReadsValue result (tests_from (items_view items.now)) }
 {
     let mut tests = List::new();
     for item in items {
@@ -119,7 +121,7 @@ fn tests_in(alloc: Global, items: &[Value]) -> Result<List<PlanTest>, LineError>
 
 // The tests of a list.
 fn tests_at(alloc: Global, value: Option<&Value>) -> Result<List<PlanTest>, LineError>
-    ensures { Reads result (option_and_then tests_of (option_map (λ v. view v.now) value.entry)) }
+    ensures { ReadsValue result (option_and_then tests_of (option_map (λ v. view v.now) value.entry)) }
 {
     match value.and_then(Value::as_array) {
         Some(items) => tests_in(alloc, items.as_slice()),
@@ -129,7 +131,7 @@ fn tests_at(alloc: Global, value: Option<&Value>) -> Result<List<PlanTest>, Line
 
 // The tests of a plan, which are fewer than 2^32.
 fn tests_of_plan(alloc: Global, value: Option<&Value>) -> Result<List<PlanTest>, LineError>
-    ensures { Reads result (plan_tests_of (option_map (λ v. view v.now) value.entry)) }
+    ensures { ReadsValue result (plan_tests_of (option_map (λ v. view v.now) value.entry)) }
 {
     let tests = tests_at(alloc, value)?;
     if tests.len() > MOST_TESTS {

@@ -1,8 +1,9 @@
 // What stands at the keys of turns.
 ghost use Rattle.std.specs.Prelude.{◌≡◌, option_map, option_and_then};
 ghost use Rattle.serde_json.specs.View.{view};
-ghost use Rattle.run_input.specs.Reads.{Reads};
-ghost use Rattle.run_input.specs.TurnLine.{stream_of, signal_of, only_one, code_of, hex_of, child_exit_of, env_failure_of, env_input_of, timer_of};
+ghost use Rattle.run_input.specs.ReadsValue.{ReadsValue};
+ghost use Rattle.run_input.specs.TurnLine.{stream_of, signal_of, only_one, code_of, hex_of, child_exit_of};
+ghost use Rattle.run_input.specs.TurnLine.{env_failure_of, env_input_of, timer_of};
 ghost use Rattle.std.specs.Str.{chars};
 ghost use Rattle.std.specs.Result.{result_ok};
 ghost use Rattle.hex.specs.Hex.{decode_of};
@@ -72,7 +73,7 @@ pub fn code_at(value: Option<&Value>) -> Option<KeyCode>
 
 // The bytes that a text writes with two digits each.
 fn decode(alloc: Global, text: &str) -> Result<Blob, LineError>
-    ensures { Reads result (result_ok (decode_of text.now)) }
+    ensures { ReadsValue result (result_ok (decode_of text.now)) }
 {
     match hex::decode(alloc, text) {
         Ok(bytes) => Ok(Blob::from_slice(alloc, &bytes)?),
@@ -83,7 +84,7 @@ fn decode(alloc: Global, text: &str) -> Result<Blob, LineError>
 
 /// Bytes, with two digits each.
 pub fn hex_at(alloc: Global, value: Option<&Value>) -> Result<Blob, LineError>
-    ensures { Reads result (option_and_then hex_of (option_map (λ v. view v.now) value.entry)) }
+    ensures { ReadsValue result (option_and_then hex_of (option_map (λ v. view v.now) value.entry)) }
 {
     match str_at(value) {
         Some(text) => decode(alloc, text),
@@ -120,7 +121,7 @@ pub fn env_input(
     hex: Option<&Value>,
     failed: Option<&Value>,
 ) -> Result<EnvInput, LineError>
-    ensures { Reads result (env_input_of (option_map (λ v. view v.now) hex.entry)
+    ensures { ReadsValue result (env_input_of (option_map (λ v. view v.now) hex.entry)
         (option_map (λ v. view v.now) failed.entry)) }
 {
     match (hex, failed) {

@@ -1,9 +1,11 @@
 // A turn line: each line of an input but the first.
 ghost use Rattle.std.specs.Prelude.{◌≡◌, option_map, option_and_then};
 ghost use Rattle.serde_json.specs.View.{view};
-ghost use Rattle.run_input.specs.Reads.{Reads};
+ghost use Rattle.run_input.specs.ReadsValue.{ReadsValue};
 ghost use Rattle.run_input.specs.ValueOf.{value_of};
-ghost use Rattle.run_input.specs.TurnLine.{bare_of, started_of, failed_of, start_failed_of, wait_failed_of, exit_of, piece_of, stream_end_of, read_error_of, env_of, decide_of, due_timer_of, due_of, take_of, clock_of, came_of, key_of, turn_by, turn_of};
+ghost use Rattle.run_input.specs.TurnLine.{bare_of, started_of, failed_of, start_failed_of, wait_failed_of, exit_of};
+ghost use Rattle.run_input.specs.TurnLine.{piece_of, stream_end_of, read_error_of, env_of, decide_of, due_timer_of};
+ghost use Rattle.run_input.specs.TurnLine.{due_of, take_of, clock_of, came_of, key_of, turn_by, turn_of};
 
 use crate::LineError;
 use crate::fields::{str_at, text_at, truth_at, u32_at, u64_at};
@@ -20,14 +22,18 @@ use std::alloc::Global;
 
 /// Reads a turn line.
 ///
-/// The key `turn` names the turn. `begin`, `admit`, `deliver`, `answer`, `tick`, `report-cancel` and `end` have no other
+/// The key `turn` names the turn. `begin`, `admit`, `deliver`, `answer`, `tick`, `report-cancel` and `end` have no
+/// other
 /// key. `started` has `unit` and `pid`; `start-failed` and `wait-failed` have `unit` and `text`, the text of the error;
-/// `exit` has `unit` and either `code` or `signal`; `piece` has `unit`, `stream` and `hex`, its bytes with two digits each;
-/// `stream-end` has `unit` and `stream`, and `read-error` also `text`; `env` has `unit` and either `hex` or `failed` (`open`,
-/// `read`); `decide` has `unit` and `word`; `due` has either `unit` or `timer` (`global`, `stop`, `info`); `take` has `unit`;
+/// `exit` has `unit` and either `code` or `signal`; `piece` has `unit`, `stream` and `hex`, its bytes with two digits
+/// each;
+/// `stream-end` has `unit` and `stream`, and `read-error` also `text`; `env` has `unit` and either `hex` or `failed`
+/// (`open`,
+/// `read`); `decide` has `unit` and `word`; `due` has either `unit` or `timer` (`global`, `stop`, `info`); `take` has
+/// `unit`;
 /// `clock` has `ns`; `signal` has `name`; `key` has `code` (`enter` or one character), `modified` and `press`.
 pub fn read_turn_line(alloc: Global, line: &[u8]) -> Result<Turn, LineError>
-    ensures { Reads result (option_and_then turn_of (value_of line.now)) }
+    ensures { ReadsValue result (option_and_then turn_of (value_of line.now)) }
 {
     match read_value(alloc, line) {
         Ok(value) => turn_from(alloc, &value),
@@ -37,7 +43,7 @@ pub fn read_turn_line(alloc: Global, line: &[u8]) -> Result<Turn, LineError>
 
 #[tactic(auto, unfolding(crate::specs::TurnLine::turn_of))]
 fn turn_from(alloc: Global, value: &Value) -> Result<Turn, LineError>
-    ensures { Reads result (turn_of (view value.now)) }
+    ensures { ReadsValue result (turn_of (view value.now)) }
 {
     let name = str_at(value.get("turn")).ok_or(LineError::NotInTable)?;
     let name = turn_named(name).ok_or(LineError::NotInTable)?;
@@ -46,7 +52,7 @@ fn turn_from(alloc: Global, value: &Value) -> Result<Turn, LineError>
 
 // A turn, or a line that is in no table.
 fn or_refused(turn: Option<Turn>) -> Result<Turn, LineError>
-    ensures { Reads result turn }
+    ensures { ReadsValue result turn }
 {
     match turn {
         Some(turn) => Ok(turn),
@@ -56,7 +62,7 @@ fn or_refused(turn: Option<Turn>) -> Result<Turn, LineError>
 
 // What an object says as the turn of a name.
 fn turn_by(alloc: Global, name: TurnName, value: &Value) -> Result<Turn, LineError>
-    ensures { Reads result (turn_by name (view value.now)) }
+    ensures { ReadsValue result (turn_by name (view value.now)) }
 {
     match name {
         TurnName::Begin => or_refused(bare(value, Turn::Begin)),
@@ -109,7 +115,7 @@ fn started(value: &Value) -> Option<Turn>
 // A unit, and the text of the error that came up there.
 #[tactic(auto, unfolding(crate::specs::TurnLine::failed_of))]
 fn failed(alloc: Global, value: &Value) -> Result<(u32, Text), LineError>
-    ensures { Reads result (failed_of (view value.now)) }
+    ensures { ReadsValue result (failed_of (view value.now)) }
 {
     if !has_keys_of(value, &["text", "turn", "unit"]) {
         return Err(LineError::NotInTable);
@@ -120,14 +126,14 @@ fn failed(alloc: Global, value: &Value) -> Result<(u32, Text), LineError>
 }
 
 fn start_failed(alloc: Global, value: &Value) -> Result<Turn, LineError>
-    ensures { Reads result (start_failed_of (view value.now)) }
+    ensures { ReadsValue result (start_failed_of (view value.now)) }
 {
     let (unit, error) = failed(alloc, value)?;
     Ok(Turn::StartFailed { unit, error })
 }
 
 fn wait_failed(alloc: Global, value: &Value) -> Result<Turn, LineError>
-    ensures { Reads result (wait_failed_of (view value.now)) }
+    ensures { ReadsValue result (wait_failed_of (view value.now)) }
 {
     let (unit, error) = failed(alloc, value)?;
     Ok(Turn::WaitFailed { unit, error })
@@ -147,7 +153,7 @@ fn exit(value: &Value) -> Option<Turn>
 
 #[tactic(auto, unfolding(crate::specs::TurnLine::piece_of))]
 fn piece(alloc: Global, value: &Value) -> Result<Turn, LineError>
-    ensures { Reads result (piece_of (view value.now)) }
+    ensures { ReadsValue result (piece_of (view value.now)) }
 {
     if !has_keys_of(value, &["hex", "stream", "turn", "unit"]) {
         return Err(LineError::NotInTable);
@@ -176,7 +182,7 @@ fn stream_end(value: &Value) -> Option<Turn>
 
 #[tactic(auto, unfolding(crate::specs::TurnLine::read_error_of))]
 fn read_error(alloc: Global, value: &Value) -> Result<Turn, LineError>
-    ensures { Reads result (read_error_of (view value.now)) }
+    ensures { ReadsValue result (read_error_of (view value.now)) }
 {
     if !has_keys_of(value, &["stream", "text", "turn", "unit"]) {
         return Err(LineError::NotInTable);
@@ -193,7 +199,7 @@ fn read_error(alloc: Global, value: &Value) -> Result<Turn, LineError>
 
 #[tactic(auto, unfolding(crate::specs::TurnLine::env_of))]
 fn env(alloc: Global, value: &Value) -> Result<Turn, LineError>
-    ensures { Reads result (env_of (view value.now)) }
+    ensures { ReadsValue result (env_of (view value.now)) }
 {
     if !has_keys_of(value, &["failed", "hex", "turn", "unit"]) {
         return Err(LineError::NotInTable);
@@ -217,7 +223,8 @@ fn decide(value: &Value) -> Option<Turn>
 
 // The timer that is due: a unit's, or one of the run's own, and not both.
 fn due_timer(unit: Option<&Value>, timer: Option<&Value>) -> Option<Turn>
-    ensures { result ≡ due_timer_of (option_map (λ v. view v.now) unit.entry) (option_map (λ v. view v.now) timer.entry) }
+    ensures { result ≡ due_timer_of (option_map (λ v. view v.now) unit.entry)
+        (option_map (λ v. view v.now) timer.entry) }
 {
     match (unit, timer) {
         (Some(_), None) => {

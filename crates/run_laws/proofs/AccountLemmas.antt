@@ -1,5 +1,6 @@
 -- What each row of the tables does to the account of a test.
-use Rattle.std.proofs.Common.{◌≡◌, ℕ, ◌==◌, ◌≤◌, List, [], ◌∷◌, ◌++◌, Bool, true, false, Option, Some, None, option_to_list, if◌then◌else◌, refl, sym, subst, arith}
+use Rattle.std.proofs.Common.{◌≡◌, ℕ, ◌==◌, ◌≤◌, List, [], ◌∷◌, ◌++◌, Bool, true, false, Option, Some, None}
+use Rattle.std.proofs.Common.{option_to_list, if◌then◌else◌, refl, sym, subst, arith}
 use Rattle.std.specs.Prelude.{⊤}
 use Rattle.std.proofs.lemmas.List.Elements.{filter_map-append}
 use Rattle.std.proofs.lemmas.List.{append-nil}
@@ -12,14 +13,14 @@ use Rattle.run_events.specs.declared.message.TestFinish.{TestFinish}
 use Rattle.run_events.specs.declared.events.TestEventKind.TheVariants.{TestSkipped}
 use Rattle.run_events.specs.declared.result.ExecuteStatus.{ExecuteStatus}
 use Rattle.run_model.specs.declared.dispatcher_view.Tally.{Tally}
-use Rattle.run_model.specs.declared.happening.Place.TheVariants.{Took}
+use Rattle.run_model.specs.declared.happening.UnitPart.TheVariants.{Acts}
 use Rattle.run_model.specs.declared.phase.Phase.{Phase}
 use Rattle.run_model.specs.declared.phase.Phase.TheVariants.{StartSent, Over}
 use Rattle.run_model.specs.declared.unit_turn.UnitTurn.{UnitTurn}
 use Rattle.run_model.specs.declared.unit_turn.UnitTurn.TheVariants.{Answered}
 use Rattle.run_model.specs.declared.unit_view.UnitView.{UnitView}
 use Rattle.run_model.specs.Unit.{row, row_at, takes}
-use Rattle.run_model.specs.Words.{placed}
+use Rattle.run_model.specs.Words.{unit_after}
 use Rattle.run_model.specs.Admission.{start_message, skip_message}
 use Rattle.run_model.specs.Dispatch.{event, started_event, finished_event}
 use Rattle.run_laws.proofs.Holds.{IsBuilt}
@@ -63,11 +64,12 @@ pub of_row : (mm : Bool) (now j k : ℕ) (turn : UnitTurn) (u : UnitView) (v : O
     (q : List Message)
     → takes u.phase turn ≡ true → is_answer turn ≡ false → u.test.unit ≡ j → ((j == k) ≡ true → v ≡ Some u)
     → HasAccount mm v t (pending_of k q)
-    → HasAccount mm (placed now k (Some (Took j turn)) v) t (pending_of k (q ++ option_to_list (row now turn u).sent))
+    → HasAccount mm (unit_after now k (Some (Acts j turn)) v) t
+        (pending_of k (q ++ option_to_list (row now turn u).sent))
 of_row mm now j k turn u v t q en other named same h = by_unit (j == k) refl
   where
     by_unit : (b : Bool) → (j == k) ≡ b
-        → HasAccount mm (placed now k (Some (Took j turn)) v) t
+        → HasAccount mm (unit_after now k (Some (Acts j turn)) v) t
         (pending_of k (q ++ option_to_list (row now turn u).sent))
     by_unit true e =
         let own : u.test.unit ≡ k = grind arith in
@@ -85,7 +87,7 @@ pub of_start : (mm : Bool) (now k : ℕ) (go : Bool) (u : UnitView) (v : Option 
     (rest : List Message) (start : TestStart) (tally : Tally)
     → ((start.test.unit == k) ≡ true → v ≡ Some u)
     → HasAccount mm v t (pending_of k (Start start ∷ rest))
-    → HasAccount mm (placed now k (Some (Took start.test.unit (Answered go))) v)
+    → HasAccount mm (unit_after now k (Some (Acts start.test.unit (Answered go))) v)
     (t ++ account_of k (option_to_list (if go then Some (event now (started_event start tally)) else None)))
     (pending_of k (rest ++ option_to_list (row now (Answered go) u).sent))
 of_start mm now k true u None t rest start tally same h = grind (arith, common_steps, append-nil)

@@ -1,15 +1,18 @@
 -- The attempts of a unit are what its own turns made them.
-use Rattle.std.proofs.Common.{◌≡◌, ℕ, List, [], ◌∷◌, true, false, if◌then◌else◌, Option, Some, None, option_map, refl, sym, ◌∙◌}
+use Rattle.std.proofs.Common.{◌≡◌, ℕ, List, [], ◌∷◌, true, false, if◌then◌else◌, Option, Some, None, option_map, refl}
+use Rattle.std.proofs.Common.{sym, ◌∙◌}
 use Rattle.std.specs.Option.{option_or}
 use Rattle.std.proofs.lemmas.List.{append-nil}
 use Rattle.run_events.specs.declared.result.ExecuteStatus.{ExecuteStatus}
 use Rattle.run_model.specs.declared.phase.Phase.{Phase}
 use Rattle.run_model.specs.declared.phase.Phase.TheVariants.{StartSent, Starting, Running, Deciding, Over}
 use Rattle.run_model.specs.declared.unit_turn.UnitTurn.{UnitTurn}
-use Rattle.run_model.specs.declared.unit_turn.UnitTurn.TheVariants.{Answered, Started, StartFailed, Exit, WaitFailed, Decide}
+use Rattle.run_model.specs.declared.unit_turn.UnitTurn.TheVariants.{Answered, Started, StartFailed, Exit, WaitFailed}
+use Rattle.run_model.specs.declared.unit_turn.UnitTurn.TheVariants.{Decide}
 use Rattle.run_model.specs.declared.unit_view.UnitView.{UnitView}
 use Rattle.run_model.specs.Unit.{row, row_at, takes, attempts}
-use Rattle.run_model.specs.Attempts.{OwnTurn, begins_attempt, with_turn, pieces, first_said, moment_if, end_of, start_error_of, exit_of, errors_of, ended_statuses, attempt_in, start_in}
+use Rattle.run_model.specs.Attempts.{OwnTurn, begins_attempt, with_turn, pieces, first_said, moment_if, end_of}
+use Rattle.run_model.specs.Attempts.{start_error_of, exit_of, errors_of, ended_statuses, attempt_in, start_in}
 
 -- an attempt that was let go at this moment and goes on
 pub record IsGoing (start : ℕ) (piece : List OwnTurn) : Type 0 where

@@ -1,5 +1,7 @@
 -- The board after one more turn: a field at a time.
-use Rattle.std.proofs.Common.{◌≡◌, ◌≢◌, ℕ, add-zero, ◌+◌, ◌<◌, ◌==◌, ◌||◌, List, [], ◌∷◌, ◌++◌, length, get_or, set, Bool, true, false, if◌then◌else◌, Option, Some, None, option_map, option_to_list, filter_map, count_by, sum_by, cond, refl, ap, sym, ◌∙◌, arith, get_or-set_other}
+use Rattle.std.proofs.Common.{◌≡◌, ◌≢◌, ℕ, add-zero, ◌+◌, ◌<◌, ◌==◌, ◌||◌, List, [], ◌∷◌, ◌++◌, length, get_or, set}
+use Rattle.std.proofs.Common.{Bool, true, false, if◌then◌else◌, Option, Some, None, option_map, option_to_list}
+use Rattle.std.proofs.Common.{filter_map, count_by, sum_by, cond, refl, ap, sym, ◌∙◌, arith, get_or-set_other}
 use Rattle.std.proofs.Math.ListN.{length-set}
 use Rattle.std.proofs.lemmas.List.{append-nil}
 use Rattle.std.proofs.lemmas.List.Elements.{filter_map-append}
@@ -18,14 +20,15 @@ use Rattle.run_events.specs.declared.events.TestEventKind.TheVariants.{TestStart
 use Rattle.run_model.specs.declared.dispatcher_view.Tally.{Tally}
 use Rattle.run_model.specs.declared.entry.Entry.{Entry}
 use Rattle.run_model.specs.declared.happening.Happening.{Happening}
-use Rattle.run_model.specs.declared.happening.Place.{Place}
-use Rattle.run_model.specs.declared.happening.Place.TheVariants.{Admitted, Took}
+use Rattle.run_model.specs.declared.happening.UnitPart.{UnitPart}
+use Rattle.run_model.specs.declared.happening.UnitPart.TheVariants.{Joins, Acts}
 use Rattle.run_model.specs.declared.unit_view.UnitView.{UnitView}
 use Rattle.run_model.specs.Unit.{row}
-use Rattle.run_model.specs.Words.{clock, ns_of, is_over, sub_run, told, reason, placed, unit_of, units, finish_of, finished_test, skips, stats_after, tally}
+use Rattle.run_model.specs.Words.{clock, ns_of, is_over, sub_run, told, reason, unit_after, unit_of, units, finish_of}
+use Rattle.run_model.specs.Words.{finished_test, skips, stats_after, tally}
 use Rattle.run_model.specs.Admission.{units_in}
 use Rattle.run_model.specs.Dispatch.{tallied, having_told}
-use Rattle.run_model.specs.Board.{Deed, deed_events, board, said, placed_in, step}
+use Rattle.run_model.specs.Board.{Deed, deed_events, board, said, units_after, step}
 use Rattle.run_model.specs.Turns.{enabled, deed_on, happening}
 use Rattle.run_model.specs.Journal.{history, IsLegalBackward}
 use Rattle.run_laws.proofs.Queue.{queue-cons}
@@ -34,44 +37,44 @@ use Rattle.run_laws.proofs.OnBoard.{board_of, units-length, units-at}
 use Rattle.run_laws.proofs.Deeds.{ToldFits, ToldFitsIn, Does}
 use Rattle.run_laws.proofs.Kept.{greater-None, HoldsAfter, does_after, sub_run-after, holds}
 
--- a place in the list of units, at one of them
-at_place : (now : ℕ) (place : Option Place) (us : List (Option UnitView)) (k : ℕ) → k < length us
-    → get_or (placed_in now place us) k None ≡ placed now k place (get_or us k None)
-at_place now None us k h = refl
-at_place now (Some (Admitted first)) us k h = by_place (first.test.unit == k) refl
+-- the list of units after a part, at one of them
+at_part : (now : ℕ) (part : Option UnitPart) (us : List (Option UnitView)) (k : ℕ) → k < length us
+    → get_or (units_after now part us) k None ≡ unit_after now k part (get_or us k None)
+at_part now None us k h = refl
+at_part now (Some (Joins first)) us k h = by_part (first.test.unit == k) refl
   where
-    by_place : (b : Bool) → (first.test.unit == k) ≡ b
+    by_part : (b : Bool) → (first.test.unit == k) ≡ b
         → get_or (set us first.test.unit (Some first)) k None
         ≡ (if first.test.unit == k then Some first else get_or us k None)
-    by_place true e = let here : k ≡ first.test.unit = grind arith in
+    by_part true e = let here : k ≡ first.test.unit = grind arith in
         rw e (get_or-set_at us first.test.unit k (Some first) None here (omega arith))
-    by_place false e = let apart : k ≢ first.test.unit = grind arith in
+    by_part false e = let apart : k ≢ first.test.unit = grind arith in
         rw e (get_or-set_other us first.test.unit k (Some first) None apart)
-at_place now (Some (Took j turn)) us k h = by_place (j == k) refl
+at_part now (Some (Acts j turn)) us k h = by_part (j == k) refl
   where
-    by_place : (b : Bool) → (j == k) ≡ b
+    by_part : (b : Bool) → (j == k) ≡ b
         → get_or (set us j (option_map (λ v. (row now turn v).next) (get_or us j None))) k None
         ≡ (if j == k then option_map (λ v. (row now turn v).next) (get_or us k None) else get_or us k None)
-    by_place true e =
+    by_part true e =
         let here : k ≡ j = grind arith in
         rw e (get_or-set_at us j k (option_map (λ v. (row now turn v).next) (get_or us j None)) None here (omega arith)
         ∙ ap (λ j. option_map (λ v. (row now turn v).next) (get_or us j None)) (sym here))
-    by_place false e = let apart : k ≢ j = grind arith in rw e (get_or-set_other us j k _ None apart)
+    by_part false e = let apart : k ≢ j = grind arith in rw e (get_or-set_other us j k _ None apart)
 
-length_placed : (now : ℕ) (place : Option Place) (us : List (Option UnitView))
-    → length (placed_in now place us) ≡ length us
-length_placed now None us = refl
-length_placed now (Some (Admitted first)) us = length-set us first.test.unit (Some first)
-length_placed now (Some (Took j turn)) us = length-set us j _
+length-units_after : (now : ℕ) (part : Option UnitPart) (us : List (Option UnitView))
+    → length (units_after now part us) ≡ length us
+length-units_after now None us = refl
+length-units_after now (Some (Joins first)) us = length-set us first.test.unit (Some first)
+length-units_after now (Some (Acts j turn)) us = length-set us j _
 
 -- the units after one more turn
 units-cons : (p : Settings) (x : Happening) (run : List Happening)
-    → placed_in x.moment x.place (units p run) ≡ units p (x ∷ run)
+    → units_after x.moment x.part (units p run) ≡ units p (x ∷ run)
 units-cons p x run =
-    fill_by_all (λ k. unit_of k (x ∷ run)) (placed_in x.moment x.place (units p run)) (units_in p) None
-    (length_placed x.moment x.place (units p run) ∙ units-length p run)
-    (λ k h. at_place x.moment x.place (units p run) k (omega (arith, units-length p run))
-    ∙ ap (placed x.moment k x.place) (units-at p run k h))
+    fill_by_all (λ k. unit_of k (x ∷ run)) (units_after x.moment x.part (units p run)) (units_in p) None
+    (length-units_after x.moment x.part (units p run) ∙ units-length p run)
+    (λ k h. at_part x.moment x.part (units p run) k (omega (arith, units-length p run))
+    ∙ ap (unit_after x.moment k x.part) (units-at p run k h))
 
 -- what a dispatcher counts, by the events that were told
 abbrev counts : Settings → Option CancelReason → List ReporterEvent → Tally

@@ -1,8 +1,11 @@
 -- A list of turns has one course at most with a reporter.
-use Rattle.std.proofs.Common.{◌≡◌, ℕ, zero, suc, ◌+◌, ◌<◌, nat_lt, List, [], ◌∷◌, ◌++◌, length, map, take, reverse, get_or, slice_get, Bool, true, false, not, if◌then◌else◌, Option, Some, None, refl, ap, sym, subst, ◌∙◌, arith, length-append}
+use Rattle.std.proofs.Common.{◌≡◌, ℕ, zero, suc, ◌+◌, ◌<◌, nat_lt, List, [], ◌∷◌, ◌++◌, length, map, take, reverse}
+use Rattle.std.proofs.Common.{get_or, slice_get, Bool, true, false, not, if◌then◌else◌, Option, Some, None, refl, ap}
+use Rattle.std.proofs.Common.{sym, subst, ◌∙◌, arith, length-append}
 use Rattle.std.specs.List.{list_all}
 use Rattle.std.specs.Cmp.{second_so}
-use Rattle.std.proofs.lemmas.List.{append-nil, append_assoc, reverse-append, reverse-reverse, map-append, get_or_append_left, get_or-append-add, ext_get_or}
+use Rattle.std.proofs.lemmas.List.{append-nil, append_assoc, reverse-append, reverse-reverse, map-append}
+use Rattle.std.proofs.lemmas.List.{get_or_append_left, get_or-append-add, ext_get_or}
 use Rattle.run_events.specs.Outcome.{outcome_of, summary}
 use Rattle.run_events.specs.declared.settings.Settings.{Settings}
 use Rattle.run_events.specs.declared.turn.Turn.{Turn}
@@ -12,7 +15,8 @@ use Rattle.run_model.specs.declared.happening.Happening.{Happening}
 use Rattle.run_model.specs.Words.{events_in, is_over, sub_run, stats}
 use Rattle.run_model.specs.Turns.{enabled, happening}
 use Rattle.run_model.specs.Journal.{history, past_of, IsLegalBackward, outcome}
-use Rattle.run_laws.specs.Course.{turns_of, refusals, none_refused, refuses_none, AreAnswersOf, IsJournalOf, Stops, HasOneCourse}
+use Rattle.run_laws.specs.Course.{turns_of, refusals, none_refused, refuses_none, AreAnswersOf, IsJournalOf, Stops}
+use Rattle.run_laws.specs.Course.{HasOneCourse}
 
 pub refusals-append : (journal later : List Entry) → refusals (journal ++ later) ≡ refusals journal ++ refusals later
 refusals-append [] later = refl
@@ -179,7 +183,7 @@ pub one_course : (p : Settings) (turns : List Turn) (refuses : ℕ → Bool) →
 unfolding outcome_if
 one_course p turns refuses = record {
   one_journal = one_journal p turns refuses;
-  one_stop = λ a b s t. by_place a b s t (nat_lt a b) refl;
+  one_stop = λ a b s t. by_part a b s t (nat_lt a b) refl;
   stop_or_unfinished = λ a s g. passes p turns turns refuses a g.0 g.1 refl refl s;
   stop_or_end = λ a o s e. passes p turns turns refuses a e.0 e.1 refl refl s;
   unfinished_or_end = λ o g e.
@@ -196,9 +200,9 @@ one_course p turns refuses = record {
     by_other a b s t true lt ge = absurd (passes_first p turns refuses b a (grind arith) t s)
     by_other a b s t false lt ge = grind arith
 
-    by_place : (a b : ℕ) → Stops p turns refuses a → Stops p turns refuses b → (c : Bool) → nat_lt a b ≡ c → a ≡ b
-    by_place a b s t true lt = absurd (passes_first p turns refuses a b (grind arith) s t)
-    by_place a b s t false ge = by_other a b s t (nat_lt b a) refl ge
+    by_part : (a b : ℕ) → Stops p turns refuses a → Stops p turns refuses b → (c : Bool) → nat_lt a b ≡ c → a ≡ b
+    by_part a b s t true lt = absurd (passes_first p turns refuses a b (grind arith) s t)
+    by_part a b s t false ge = by_other a b s t (nat_lt b a) refl ge
 
 -- where no event was refused the reporter is the one that refuses none
 none_at : (refused : List Bool) (n : ℕ) → list_all not refused ≡ true → n < length refused

@@ -1,5 +1,7 @@
 -- What each enabled turn does fits the sub-run before it: the one place where the turns are gone through.
-use Rattle.std.proofs.Common.{◌≡◌, ◌≢◌, ℕ, ◌+◌, ◌<◌, ◌≤◌, ◌||◌, List, [], ◌∷◌, ◌++◌, length, drop, get_or, Bool, true, false, not, if◌then◌else◌, Option, Some, None, option_to_list, option_map, is_none, is_some, refl, ap, sym, ◌∙◌, arith}
+use Rattle.std.proofs.Common.{◌≡◌, ◌≢◌, ℕ, ◌+◌, ◌<◌, ◌≤◌, ◌||◌, List, [], ◌∷◌, ◌++◌, length, drop, get_or, Bool, true}
+use Rattle.std.proofs.Common.{false, not, if◌then◌else◌, Option, Some, None, option_to_list, option_map, is_none}
+use Rattle.std.proofs.Common.{is_some, refl, ap, sym, ◌∙◌, arith}
 use Rattle.std.specs.Prelude.{⊤}
 use Rattle.std.specs.Cmp.{first_so, second_so}
 use Rattle.std.proofs.lemmas.List.{append-nil}
@@ -14,25 +16,27 @@ use Rattle.run_events.specs.declared.events.ReporterEvent.TheVariants.{Test}
 use Rattle.run_events.specs.declared.events.TestEventKind.{TestEventKind}
 use Rattle.run_events.specs.declared.events.TestEventKind.TheVariants.{TestStarted, TestFinished}
 use Rattle.run_model.specs.declared.happening.Happening.{Happening}
-use Rattle.run_model.specs.declared.happening.Place.{Place}
-use Rattle.run_model.specs.declared.happening.Place.TheVariants.{Admitted, Took}
+use Rattle.run_model.specs.declared.happening.UnitPart.{UnitPart}
+use Rattle.run_model.specs.declared.happening.UnitPart.TheVariants.{Joins, Acts}
 use Rattle.run_model.specs.declared.unit_turn.UnitTurn.{UnitTurn}
 use Rattle.run_model.specs.declared.unit_turn.UnitTurn.TheVariants.{Answered}
 use Rattle.run_model.specs.declared.unit_view.UnitView.{UnitView}
 use Rattle.run_model.specs.Unit.{takes}
-use Rattle.run_model.specs.Words.{is_on, finished_test, sent, delivered, queue, told, unit_of, units, placed, tally}
+use Rattle.run_model.specs.Words.{is_on, finished_test, sent, delivered, queue, told, unit_of, units, unit_after, tally}
 use Rattle.run_model.specs.Admission.{units_in, Newcomer, newcomer}
-use Rattle.run_model.specs.Dispatch.{lets_go, event, with_start, with_finish, started_event}
+use Rattle.run_model.specs.Dispatch.{may_go, event, with_start, with_finish, started_event}
 use Rattle.run_model.specs.Board.{Board, Deed, deed_events}
-use Rattle.run_model.specs.Turns.{enabled_on, is_empty, is_complete, takes_turn, turn_of_unit, unit_takes, taken_by, admission, delivery, run_turn, done_by, deed_on}
+use Rattle.run_model.specs.Turns.{enabled_on, is_empty, is_complete, takes_turn, turn_of_unit, unit_takes, taken_by}
+use Rattle.run_model.specs.Turns.{admission, delivery, run_turn, done_by, deed_on}
 use Rattle.run_model.specs.Accounts.{started, HasAccount, is_mismatched, account_of, pending_of}
 use Rattle.run_laws.proofs.Holds.{Holds, place_of}
 use Rattle.run_laws.proofs.Queue.{lt-from_queue}
 use Rattle.run_laws.proofs.ByTurn.{is_answer, by_turn}
-use Rattle.run_laws.proofs.AccountLemmas.{of_row, of_start, of_finish, of_skip, begins, first_built, IsBuiltIf, row_sends_built}
+use Rattle.run_laws.proofs.AccountLemmas.{of_row, of_start, of_finish, of_skip, begins, first_built, IsBuiltIf}
+use Rattle.run_laws.proofs.AccountLemmas.{row_sends_built}
 use Rattle.run_laws.proofs.OnBoard.{board_of, unit_in-is}
 use Rattle.run_laws.proofs.Newcomers.{IsNew, new_unit}
-use Rattle.run_laws.proofs.Facts.{start_waits, finish_follows, lets_go-is, oldest_built}
+use Rattle.run_laws.proofs.Facts.{start_waits, finish_follows, may_go-is, oldest_built}
 
 -- a unit that takes a turn was admitted and takes it, and no start is refused
 pub record IsTaken (run : List Happening) (k : ℕ) (turn : UnitTurn) : Type 0 where
@@ -41,10 +45,10 @@ pub record IsTaken (run : List Happening) (k : ℕ) (turn : UnitTurn) : Type 0 w
   pub takes : takes unit.phase turn ≡ true
   pub goes : turn ≢ Answered false
 
-abbrev pub PlaceFits : Settings → List Happening → Option Place → Type 0
-PlaceFits p run None = ⊤
-PlaceFits p run (Some (Admitted first)) = (sent : Message) × IsNew p run first sent
-PlaceFits p run (Some (Took k turn)) = IsTaken run k turn
+abbrev pub PartFits : Settings → List Happening → Option UnitPart → Type 0
+PartFits p run None = ⊤
+PartFits p run (Some (Joins first)) = (sent : Message) × IsNew p run first sent
+PartFits p run (Some (Acts k turn)) = IsTaken run k turn
 
 -- a start is told of a test of which nothing was told, a finish of one that was told started
 abbrev pub ToldFitsIn : ℕ → List ReporterEvent → TestEventKind → Type 0
@@ -69,11 +73,11 @@ pub record Marks (p : Settings) (over : Bool) (now : ℕ) (run : List Happening)
 
 -- what a deed does fits a sub-run
 pub record Does (p : Settings) (over : Bool) (now : ℕ) (run : List Happening) (d : Deed) : Type 0 where
-  pub place : PlaceFits p run d.place
+  pub part : PartFits p run d.part
   pub room : delivered run + (if d.taken then 1 else 0) ≤ length (sent run)
   pub sends : IsBuiltIf d.sent
   pub tells : ToldFits (units_in p) (told run) d.told
-  pub accounts : (k : ℕ) → HasAccount (is_mismatched p (place_of p k)) (placed now k d.place (unit_of k run))
+  pub accounts : (k : ℕ) → HasAccount (is_mismatched p (place_of p k)) (unit_after now k d.part (unit_of k run))
       (account_of k (told run) ++ account_of k (deed_events d))
       (pending_of k (drop (if d.taken then 1 else 0) (queue run) ++ option_to_list d.sent))
   pub marks : Marks p over now run d
@@ -98,7 +102,7 @@ admits p over now run None h on e en = cc
 admits p over now run (Some new) h on e en =
     let it = new_unit p run new e in
     record {
-      place = (new.sent, it);
+      part = (new.sent, it);
       room = omega (arith, h.fits);
       sends = first_built _ new.unit new.sent it.first;
       tells = tt;
@@ -118,7 +122,7 @@ unit_does : (p : Settings) (over : Bool) (now : ℕ) (run : List Happening) (j :
     → Does p over now run (taken_by now j turn v)
 unit_does p over now run j turn None h going e en other = cc
 unit_does p over now run j turn (Some u) h going e en other = record {
-  place = record {
+  part = record {
     unit = u;
     is = e;
     takes = en;
@@ -157,7 +161,7 @@ start_does p over now run start rest true (Some u) h on goes eq ew =
     let waits = start_waits p over now run start rest h eq in
     let same : waits.unit ≡ u = cc (sym waits.is ∙ ew) in
     record {
-      place = record {
+      part = record {
         unit = u;
         is = ew;
         takes = ap (λ (u : UnitView). takes u.phase (Answered true)) (sym same)
@@ -180,10 +184,10 @@ delivers : (p : Settings) (over : Bool) (now : ℕ) (run : List Happening) (q : 
     → queue run ≡ q → not (is_empty q) ≡ true → Does p over now run (delivery (board_of p over now run) q)
 delivers p over now run [] h on eq en = cc
 delivers p over now run (Start start ∷ rest) h on eq en =
-    start_does p over now run start rest (lets_go (tally p run)) (get_or (units p run) start.test.unit None) h on
-    (lets_go-is p run ∙ ap is_none h.calm) eq (sym (unit_in-is p over now run start.test.unit h))
+    start_does p over now run start rest (may_go (tally p run)) (get_or (units p run) start.test.unit None) h on
+    (may_go-is p run ∙ ap is_none h.calm) eq (sym (unit_in-is p over now run start.test.unit h))
 delivers p over now run (Skip skip ∷ rest) h on eq en = record {
-  place = tt;
+  part = tt;
   room = lt-from_queue (delivered run) (sent run) rest _ eq;
   sends = tt;
   tells = tt;
@@ -194,7 +198,7 @@ delivers p over now run (Skip skip ∷ rest) h on eq en = record {
 delivers p over now run (Finish finish ∷ rest) h on eq en =
     let follows = finish_follows p over now run finish rest h eq in
     record {
-      place = tt;
+      part = tt;
       room = lt-from_queue (delivered run) (sent run) rest _ eq;
       sends = tt;
       tells = (follows.below, follows.told_started);
@@ -221,7 +225,7 @@ does p over now run turn h en =
       named = λ turn k to other en. unit_does p over now run k to _ h going (sym (unit_in-is p over now run k h)) en
           other;
       end = λ en. record {
-        place = tt;
+        part = tt;
         room = omega (arith, h.fits);
         sends = tt;
         tells = tt;
@@ -251,7 +255,7 @@ does p over now run turn h en =
 
     begun : run ≡ [] → Does p over now run (run_turn p b Begin)
     begun empty = record {
-      place = tt;
+      part = tt;
       room = omega (arith, h.fits);
       sends = tt;
       tells = tt;

@@ -1,5 +1,6 @@
 -- What holds of the oldest message.
-use Rattle.std.proofs.Common.{◌≡◌, ◌≢◌, ℕ, ◌<◌, ◌≤◌, List, [], ◌∷◌, length, Bool, Option, Some, None, is_none, refl, ap, sym, arith}
+use Rattle.std.proofs.Common.{◌≡◌, ◌≢◌, ℕ, ◌<◌, ◌≤◌, List, [], ◌∷◌, length, Bool, Option, Some, None, is_none, refl, ap}
+use Rattle.std.proofs.Common.{sym, arith}
 use Rattle.std.proofs.lemmas.List.Elements.{All-head, All-same, All-drop}
 use Rattle.std.proofs.lemmas.Grind.{common_steps}
 use Rattle.run_events.proofs.StatsLemmas.{total-cancel_reason}
@@ -14,7 +15,7 @@ use Rattle.run_model.specs.declared.phase.Phase.TheVariants.{StartSent}
 use Rattle.run_model.specs.declared.unit_view.UnitView.{UnitView}
 use Rattle.run_model.specs.Words.{reason, finished, sent, delivered, queue, told, unit_of, tally}
 use Rattle.run_model.specs.Admission.{units_in}
-use Rattle.run_model.specs.Dispatch.{lets_go}
+use Rattle.run_model.specs.Dispatch.{may_go}
 use Rattle.run_model.specs.Accounts.{News, started, HasAccount, is_mismatched, account_of, pending_of}
 use Rattle.run_laws.proofs.Holds.{Holds, IsBuilt, place_of}
 
@@ -70,8 +71,8 @@ finish_follows p over now run finish rest h eq =
     record { below = named.1; told_started = found.2; attempted = some-length finish.statuses found.3 }
 
 -- a unit is let go where no cause stands
-pub lets_go-is : (p : Settings) (run : List Happening) → lets_go (tally p run) ≡ is_none (reason run)
-lets_go-is p run = ap is_none (total-cancel_reason _ (finished run))
+pub may_go-is : (p : Settings) (run : List Happening) → may_go (tally p run) ≡ is_none (reason run)
+may_go-is p run = ap is_none (total-cancel_reason _ (finished run))
 
 -- the oldest message is one that is sent yet
 pub oldest_built : (p : Settings) (over : Bool) (now : ℕ) (run : List Happening) (m : Message) (rest : List Message)

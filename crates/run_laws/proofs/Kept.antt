@@ -1,5 +1,8 @@
 -- Each enabled turn keeps what holds of the newest sub-run.
-use Rattle.std.proofs.Common.{◌≡◌, ◌≢◌, ℕ, ◌+◌, ◌<◌, ◌≤◌, ◌==◌, ◌&&◌, ◌||◌, List, [], ◌∷◌, ◌++◌, length, drop, Bool, true, false, not, if◌then◌else◌, Option, Some, None, option_to_list, option_map, filter_map, count_by, cond, is_some, nat_lt, refl, ap, sym, subst, ◌∙◌, arith, length-append}
+use Rattle.std.proofs.Common.{◌≡◌, ◌≢◌, ℕ, ◌+◌, ◌<◌, ◌≤◌, ◌==◌, ◌&&◌, ◌||◌, List, [], ◌∷◌, ◌++◌, length, drop, Bool}
+use Rattle.std.proofs.Common.{true, false, not, if◌then◌else◌, Option, Some, None, option_to_list, option_map}
+use Rattle.std.proofs.Common.{filter_map, count_by, cond, is_some, nat_lt, refl, ap, sym, subst, ◌∙◌, arith}
+use Rattle.std.proofs.Common.{length-append}
 use Rattle.std.specs.List.{All}
 use Rattle.std.proofs.lemmas.List.Elements.{filter_map-append, All-nil, All-cons, All-append}
 use Rattle.std.proofs.lemmas.List.Sums.{sum_by-append}
@@ -15,20 +18,22 @@ use Rattle.run_events.specs.declared.events.TestEventKind.TheVariants.{TestFinis
 use Rattle.run_events.specs.declared.result.ExecuteStatus.{ExecuteStatus}
 use Rattle.run_model.specs.declared.entry.Entry.{Entry}
 use Rattle.run_model.specs.declared.happening.Happening.{Happening}
-use Rattle.run_model.specs.declared.happening.Place.{Place}
-use Rattle.run_model.specs.declared.happening.Place.TheVariants.{Admitted, Took}
+use Rattle.run_model.specs.declared.happening.UnitPart.{UnitPart}
+use Rattle.run_model.specs.declared.happening.UnitPart.TheVariants.{Joins, Acts}
 use Rattle.run_model.specs.declared.phase.Phase.{Phase}
 use Rattle.run_model.specs.declared.unit_turn.UnitTurn.{UnitTurn}
 use Rattle.run_model.specs.declared.unit_turn.UnitTurn.TheVariants.{Answered}
 use Rattle.run_model.specs.declared.unit_view.UnitView.{UnitView}
 use Rattle.run_model.specs.Unit.{row, row_at}
-use Rattle.run_model.specs.Words.{events_in, clock, ns_of, is_on, is_over, sub_run, reason, sent, delivered, queue, told, finish_of, finished, skips, skipped, unit_of, placed}
+use Rattle.run_model.specs.Words.{events_in, clock, ns_of, is_on, is_over, sub_run, reason, sent, delivered, queue}
+use Rattle.run_model.specs.Words.{told, finish_of, finished, skips, skipped, unit_of, unit_after}
 use Rattle.run_model.specs.Admission.{units_in, unit_of_test}
 use Rattle.run_model.specs.Dispatch.{event}
 use Rattle.run_model.specs.Board.{Deed, said}
 use Rattle.run_model.specs.Turns.{enabled, deed_on, happening}
 use Rattle.run_model.specs.Journal.{history, IsLegalBackward}
-use Rattle.run_model.specs.Accounts.{News, HasAccount, HasAccountAt, IsAccounted, IsAccountedAs, is_mismatched, account_of, pending_of}
+use Rattle.run_model.specs.Accounts.{News, HasAccount, HasAccountAt, IsAccounted, IsAccountedAs, is_mismatched}
+use Rattle.run_model.specs.Accounts.{account_of, pending_of}
 use Rattle.run_model.specs.Attempts.{OwnTurn, own_turn, story_of, pieces}
 use Rattle.run_model.specs.Fates.{lets_go, deliveries, never_started, was_left}
 use Rattle.run_laws.specs.Laws.{IsMadeByItsTurns}
@@ -38,12 +43,12 @@ use Rattle.run_laws.proofs.Queue.{queue-cons}
 use Rattle.run_laws.proofs.AccountLemmas.{IsFirst, IsBuiltIf, row_keeps_unit, row_starts}
 use Rattle.run_laws.proofs.OnBoard.{board_of}
 use Rattle.run_laws.proofs.Newcomers.{place-of_test}
-use Rattle.run_laws.proofs.Deeds.{PlaceFits, Does, does}
+use Rattle.run_laws.proofs.Deeds.{PartFits, Does, does}
 
 -- the account of a test after one more turn, from the parts of that turn
 accounted-cons : (p : Settings) (j k : ℕ) (x : Happening) (run : List Happening)
     → delivered (x ∷ run) ≤ length (sent run)
-    → HasAccount (is_mismatched p j) (placed x.moment k x.place (unit_of k run))
+    → HasAccount (is_mismatched p j) (unit_after x.moment k x.part (unit_of k run))
     (account_of k (told run) ++ account_of k (events_in x))
     (pending_of k (drop (if x.taken then 1 else 0) (queue run) ++ option_to_list x.sent))
     → IsAccountedAs p j k (x ∷ run)
@@ -83,12 +88,12 @@ built_if : (o : Option Message) → IsBuiltIf o → All IsBuilt (option_to_list 
 built_if None h = All-nil IsBuilt
 built_if (Some m) h = All-cons IsBuilt m [] h (All-nil IsBuilt)
 
--- a place keeps the name of each unit
-placed_named : (p : Settings) (run : List Happening) (now later k : ℕ) (place : Option Place) (v : Option UnitView)
+-- a part keeps the name of each unit
+named_after : (p : Settings) (run : List Happening) (now later k : ℕ) (part : Option UnitPart) (v : Option UnitView)
     → now ≤ later
-    → IsNamed (units_in p) now k v → PlaceFits p run place → IsNamed (units_in p) later k (placed now k place v)
-placed_named p run now later k None v le h fits u e = let at = h u e in (at.0, at.1, omega arith)
-placed_named p run now later k (Some (Admitted first)) v le h (sent, new) u e = at_once (first.test.unit == k) refl e
+    → IsNamed (units_in p) now k v → PartFits p run part → IsNamed (units_in p) later k (unit_after now k part v)
+named_after p run now later k None v le h fits u e = let at = h u e in (at.0, at.1, omega arith)
+named_after p run now later k (Some (Joins first)) v le h (sent, new) u e = at_once (first.test.unit == k) refl e
   where
     at_once : (b : Bool) → (first.test.unit == k) ≡ b → (if b then Some first else v) ≡ Some u
         → (u.test.unit ≡ k) × (k < units_in p) × (u.start ≤ later)
@@ -98,7 +103,7 @@ placed_named p run now later k (Some (Admitted first)) v le h (sent, new) u e = 
         let start = new.start in
         subst (λ (w : UnitView). (w.test.unit ≡ k) × (k < units_in p) × (w.start ≤ later)) same (grind arith)
     at_once false be e = let at = h u e in (at.0, at.1, omega arith)
-placed_named p run now later k (Some (Took j turn)) v le h fits u e = by_unit (j == k) e
+named_after p run now later k (Some (Acts j turn)) v le h fits u e = by_unit (j == k) e
   where
     by_view : (v : Option UnitView) → IsNamed (units_in p) now k v → option_map (λ w. (row now turn w).next) v ≡ Some u
         → (u.test.unit ≡ k) × (k < units_in p) × (u.start ≤ later)
@@ -126,13 +131,13 @@ first_attempted : (mm : Bool) (u : UnitView) (sent : Message) → IsFirst mm u s
 first_attempted true u sent first = tt
 first_attempted false u sent (ph, is) = rw ph tt
 
-placed_attempted : (p : Settings) (run : List Happening) (now k : ℕ) (place : Option Place) (v : Option UnitView)
+attempted_after : (p : Settings) (run : List Happening) (now k : ℕ) (part : Option UnitPart) (v : Option UnitView)
     (t q : List News)
     → IsAttempted (is_mismatched p (place_of p k)) v → HasAccount (is_mismatched p (place_of p k)) v t q
-    → PlaceFits p run place
-    → IsAttempted (is_mismatched p (place_of p k)) (placed now k place v)
-placed_attempted p run now k None v t q a h fits = a
-placed_attempted p run now k (Some (Admitted first)) v t q a h (sent, new) = begins (first.test.unit == k) refl
+    → PartFits p run part
+    → IsAttempted (is_mismatched p (place_of p k)) (unit_after now k part v)
+attempted_after p run now k None v t q a h fits = a
+attempted_after p run now k (Some (Joins first)) v t q a h (sent, new) = begins (first.test.unit == k) refl
   where
     begins : (b : Bool) → (first.test.unit == k) ≡ b
         → IsAttempted (is_mismatched p (place_of p k)) (if b then Some first else v)
@@ -141,7 +146,7 @@ placed_attempted p run now k (Some (Admitted first)) v t q a h (sent, new) = beg
         subst (λ k. IsAttempted (is_mismatched p (place_of p k)) (Some first)) here
         (first_attempted _ first sent new.first)
     begins false e = a
-placed_attempted p run now k (Some (Took j turn)) v t q a h taken = moves (j == k) v a h
+attempted_after p run now k (Some (Acts j turn)) v t q a h taken = moves (j == k) v a h
   where
     moves : (b : Bool) (v : Option UnitView) → IsAttempted (is_mismatched p (place_of p k)) v
         → HasAccount (is_mismatched p (place_of p k)) v t q
@@ -156,12 +161,12 @@ first_made : (mm : Bool) (u : UnitView) (sent : Message) → IsFirst mm u sent �
 first_made true u sent (ph, is) a s ss = record { attempt = a; start = s; has = rw ph ss }
 first_made false u sent (ph, is) a s ss = record { attempt = a; start = s; has = rw ph ss }
 
--- a place leaves each unit as its own turns make it
-placed_made : (p : Settings) (run : List Happening) (now k : ℕ) (place : Option Place)
-    → IsMadeIf (unit_of k run) (story_of k run) → PlaceFits p run place
-    → IsMadeIf (placed now k place (unit_of k run)) (option_to_list (own_turn k now place) ++ story_of k run)
-placed_made p run now k None h fits = h
-placed_made p run now k (Some (Admitted first)) h (sent, new) = begins (first.test.unit == k) refl
+-- a part leaves each unit as its own turns make it
+made_after : (p : Settings) (run : List Happening) (now k : ℕ) (part : Option UnitPart)
+    → IsMadeIf (unit_of k run) (story_of k run) → PartFits p run part
+    → IsMadeIf (unit_after now k part (unit_of k run)) (option_to_list (own_turn k now part) ++ story_of k run)
+made_after p run now k None h fits = h
+made_after p run now k (Some (Joins first)) h (sent, new) = begins (first.test.unit == k) refl
   where
     begins : (b : Bool) → (first.test.unit == k) ≡ b
         → IsMadeIf (if b then Some first else unit_of k run) (story_of k run)
@@ -170,7 +175,7 @@ placed_made p run now k (Some (Admitted first)) h (sent, new) = begins (first.te
         let none : unit_of k run ≡ None = ap (λ k. unit_of k run) here ∙ new.unknown in
         rw (rw none at h) (first_made _ first sent new.first new.attempt new.start new.statuses)
     begins false e = h
-placed_made p run now k (Some (Took j turn)) h taken = by_unit (j == k) refl
+made_after p run now k (Some (Acts j turn)) h taken = by_unit (j == k) refl
   where
     by_unit : (b : Bool) → (j == k) ≡ b
         → IsMadeIf (if b then option_map (λ w. (row now turn w).next) (unit_of k run) else unit_of k run)
@@ -206,21 +211,21 @@ pub holds-cons : (p : Settings) (over : Bool) (now : ℕ) (run : List Happening)
 holds-cons p over now run e d h does = record {
   fits = let room = does.room in omega (arith, length-append (sent run) (option_to_list d.sent));
   counted = counted-cons (said now e d) run does.marks.cancel h.counted;
-  named = λ k. placed_named p run now (now + ns_of e.turn) k d.place (unit_of k run) (omega arith) (h.named k)
-      does.place;
+  named = λ k. named_after p run now (now + ns_of e.turn) k d.part (unit_of k run) (omega arith) (h.named k)
+      does.part;
   accounts = λ k. accounted-cons p (place_of p k) k (said now e d) run does.room (does.accounts k);
-  made = λ k. placed_made p run now k d.place (h.made k) does.place;
+  made = λ k. made_after p run now k d.part (h.made k) does.part;
   fresh = λ off going. absurd (stays_on d.begins (is_on run) d.ends d.over over does.marks.finishes does.marks.on off
       going);
   built = All-append IsBuilt (sent run) (option_to_list d.sent) h.built (built_if d.sent does.sends);
   calm = ap (greater (reason run)) does.marks.cause ∙ greater-None (reason run) ∙ h.calm;
   let_go = λ k. let none : is_some (reason run) ≡ false = ap is_some h.calm in (
-    stays_let_go (lets_go k d.place) (deliveries k run == 0) (is_some (reason run)) (never_started k run) none
+    stays_let_go (lets_go k d.part) (deliveries k run == 0) (is_some (reason run)) (never_started k run) none
         (h.let_go k).0,
-    stays_let_go (lets_go k d.place) (nat_lt 0 (deliveries k run)) (is_some (reason run)) (was_left k run) none
+    stays_let_go (lets_go k d.part) (nat_lt 0 (deliveries k run)) (is_some (reason run)) (was_left k run) none
         (h.let_go k).1,
   );
-  attempted = λ k. placed_attempted p run now k d.place (unit_of k run) _ _ (h.attempted k) (h.accounts k) does.place;
+  attempted = λ k. attempted_after p run now k d.part (unit_of k run) _ _ (h.attempted k) (h.accounts k) does.part;
 }
 
 -- the newest sub-run after a turn that begins one only where nothing has happened

@@ -1,5 +1,7 @@
 -- Who is admitted, and as what.
-use Rattle.std.proofs.Common.{◌≡◌, ◌⊎◌, inl, inr, ℕ, ◌+◌, ◌-◌, ◌<◌, List, [], drop, Bool, true, false, if◌then◌else◌, Option, Some, None, option_and_then, is_none, is_some, slice_get, refl, ap, sym, subst, ◌∙◌, arith}
+use Rattle.std.proofs.Common.{◌≡◌, ◌⊎◌, inl, inr, ℕ, ◌+◌, ◌-◌, ◌<◌, List, [], drop, Bool, true, false, if◌then◌else◌}
+use Rattle.std.proofs.Common.{Option, Some, None, option_and_then, is_none, is_some, slice_get, refl, ap, sym, subst}
+use Rattle.std.proofs.Common.{◌∙◌, arith}
 use Rattle.std.proofs.lemmas.List.{get_or-drop}
 use Rattle.std.proofs.lemmas.List.Quantifiers.{position-Some}
 use Rattle.std.proofs.lemmas.Option.{slice_get_within}
@@ -9,7 +11,9 @@ use Rattle.run_events.specs.declared.message.Message.{Message}
 use Rattle.run_model.specs.declared.happening.Happening.{Happening}
 use Rattle.run_model.specs.declared.unit_view.UnitView.{UnitView}
 use Rattle.run_model.specs.Words.{reason, unit_of, units}
-use Rattle.run_model.specs.Admission.{scripts_in, units_in, unit_of_test, scripts_over, candidate, free_slot, first_view, skipped_view, Newcomer, skipped_newcomer, started_newcomer, newcomer_of, newcomer_at, newcomer, global_slot}
+use Rattle.run_model.specs.Admission.{scripts_in, units_in, unit_of_test, scripts_over, candidate, free_slot}
+use Rattle.run_model.specs.Admission.{first_view, skipped_view, Newcomer, skipped_newcomer, started_newcomer}
+use Rattle.run_model.specs.Admission.{newcomer_of, newcomer_at, newcomer, global_slot}
 use Rattle.run_model.specs.Accounts.{is_skip, is_mismatched}
 use Rattle.run_laws.proofs.Holds.{place_of}
 use Rattle.run_laws.proofs.AccountLemmas.{IsFirst}
@@ -23,7 +27,8 @@ record Newcomes (p : Settings) (us : List (Option UnitView)) (new : Newcomer) : 
   planned : slice_get p.plan.tests place ≡ Some test
   is : ((reason : List ℕ) × (test.skip ≡ Some reason)
       × (new ≡ skipped_newcomer (skipped_view p (unit_of_test p place) test) reason))
-      ⊎ ((test.skip ≡ None) × (new ≡ started_newcomer (first_view p (unit_of_test p place) (global_slot (free_slot us)) test)))
+      ⊎ ((test.skip ≡ None)
+          × (new ≡ started_newcomer (first_view p (unit_of_test p place) (global_slot (free_slot us)) test)))
 
 newcomer_cases : (p : Settings) (slot : ℕ) (fits : Bool) (k : ℕ) (test : PlanTest) (skip : Option (List ℕ))
     (new : Newcomer)
@@ -103,7 +108,8 @@ new_unit p run new e = by_case found.is
 
     by_case : ((reason : List ℕ) × (found.test.skip ≡ Some reason)
         × (new ≡ skipped_newcomer (skipped_view p k found.test) reason))
-        ⊎ ((found.test.skip ≡ None) × (new ≡ started_newcomer (first_view p k (global_slot (free_slot (units p run))) found.test)))
+        ⊎ ((found.test.skip ≡ None)
+            × (new ≡ started_newcomer (first_view p k (global_slot (free_slot (units p run))) found.test)))
         → IsNew p run new.unit new.sent
     by_case (inl (reason, skip, is)) =
         let mm : is_mismatched p (place_of p k) ≡ true = mismatched ∙ ap is_some skip in

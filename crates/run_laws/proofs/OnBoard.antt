@@ -1,5 +1,6 @@
 -- The board of a sub-run, and its units.
-use Rattle.std.proofs.Common.{◌≡◌, ℕ, ◌<◌, ◌≤◌, List, length, get_or, Bool, true, false, Option, Some, None, nat_lt, refl, ◌∙◌, arith}
+use Rattle.std.proofs.Common.{◌≡◌, ℕ, ◌<◌, ◌≤◌, List, length, get_or, Bool, true, false, Option, Some, None, nat_lt}
+use Rattle.std.proofs.Common.{refl, ◌∙◌, arith}
 use Rattle.std.proofs.lemmas.List.{get_or_past}
 use Rattle.std.proofs.lemmas.List.FromFn.{get_or-map-range_with_len, length-map-range_with_len}
 use Rattle.run_events.specs.declared.settings.Settings.{Settings}
@@ -31,14 +32,14 @@ units-at p run k h = get_or-map-range_with_len (λ k. unit_of k run) 0 (units_in
 -- the unit on the board is that of the history
 pub unit_in-is : (p : Settings) (over : Bool) (now : ℕ) (run : List Happening) (k : ℕ) → Holds p over now run
     → get_or (units p run) k None ≡ unit_of k run
-unit_in-is p over now run k h = by_place (nat_lt k (units_in p)) refl
+unit_in-is p over now run k h = by_part (nat_lt k (units_in p)) refl
   where
     never : (v : Option UnitView) → unit_of k run ≡ v → units_in p ≤ k → None ≡ v
     never None e le = refl
     never (Some u) e le = absurd (let named = h.named k u e in let below : k < units_in p = named.1 in omega arith)
 
-    by_place : (b : Bool) → nat_lt k (units_in p) ≡ b → get_or (units p run) k None ≡ unit_of k run
-    by_place true e = units-at p run k (grind arith)
-    by_place false e =
+    by_part : (b : Bool) → nat_lt k (units_in p) ≡ b → get_or (units p run) k None ≡ unit_of k run
+    by_part true e = units-at p run k (grind arith)
+    by_part false e =
         let le : units_in p ≤ k = grind arith in
         get_or_past (units p run) k None (omega (arith, units-length p run)) ∙ never (unit_of k run) refl le

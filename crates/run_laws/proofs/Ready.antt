@@ -1,5 +1,7 @@
 -- An enabled turn can be taken: what the tables allow is what the parts need.
-use Rattle.std.proofs.Common.{◌≡◌, ℕ, suc, reverse, ◌+◌, ◌^◌, ◌<◌, ◌≤◌, List, [], ◌∷◌, ◌++◌, length, get_or, Bool, true, false, ◌&&◌, not, if◌then◌else◌, Option, Some, None, is_some, sum_by, refl, ap, sym, ◌∙◌, arith, rules}
+use Rattle.std.proofs.Common.{◌≡◌, ℕ, suc, reverse, ◌+◌, ◌^◌, ◌<◌, ◌≤◌, List, [], ◌∷◌, ◌++◌, length, get_or, Bool, true}
+use Rattle.std.proofs.Common.{false, ◌&&◌, not, if◌then◌else◌, Option, Some, None, is_some, sum_by, refl, ap, sym, ◌∙◌}
+use Rattle.std.proofs.Common.{arith, rules}
 use Rattle.std.specs.List.{range_with_len}
 use Rattle.std.specs.Cmp.{first_so, second_so}
 use Rattle.std.proofs.lemmas.List.{length-reverse}
@@ -19,9 +21,10 @@ use Rattle.run_model.specs.declared.unit_turn.UnitTurn.{UnitTurn}
 use Rattle.run_model.specs.declared.unit_turn.UnitTurn.TheVariants.{Answered}
 use Rattle.run_model.specs.declared.unit_view.UnitView.{UnitView}
 use Rattle.run_model.specs.Unit.{takes}
-use Rattle.run_model.specs.Words.{clock, is_on, is_over, sub_run, told, queue, reason, units, skipped, finished, stats_after, tally}
+use Rattle.run_model.specs.Words.{clock, is_on, is_over, sub_run, told, queue, reason, units, skipped, finished}
+use Rattle.run_model.specs.Words.{stats_after, tally}
 use Rattle.run_model.specs.Admission.{is_matched, tests_in, units_in, newcomer}
-use Rattle.run_model.specs.Dispatch.{event, lets_go, started_event, finished_event}
+use Rattle.run_model.specs.Dispatch.{event, may_go, started_event, finished_event}
 use Rattle.run_model.specs.Board.{board}
 use Rattle.run_model.specs.Turns.{enabled, enabled_on, takes_turn, turn_of_unit, unit_takes, is_empty, is_complete}
 use Rattle.run_model.specs.Journal.{history, past_of, IsLegal}
@@ -87,9 +90,9 @@ oldest_ready p over now run (Start start ∷ rest) h on few short eq en =
     let most : running_in_told n (told run ++ e ∷ []) ≤ length (range_with_len 0 n) =
     count_by-le-length _ (range_with_len 0 n) in (
       (on, omega (arith, length-range_with_len 0 n)),
-      take_ready p over now run start.test.unit (Answered (lets_go (tally p run))) (Some waits.unit) h
+      take_ready p over now run start.test.unit (Answered (may_go (tally p run))) (Some waits.unit) h
           (unit_in-is p over now run start.test.unit h ∙ waits.is)
-          (ap (λ ph. takes ph (Answered (lets_go (tally p run)))) waits.phase),
+          (ap (λ ph. takes ph (Answered (may_go (tally p run)))) waits.phase),
     )
 oldest_ready p over now run (Skip skip ∷ rest) h on few short eq en =
     let counted = h.counted in

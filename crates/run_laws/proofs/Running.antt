@@ -1,5 +1,6 @@
 -- How many tests run, after one more event.
-use Rattle.std.proofs.Common.{◌≡◌, ◌≢◌, ℕ, zero, suc, ◌+◌, ◌<◌, ◌≤◌, ◌==◌, List, [], ◌∷◌, ◌++◌, Bool, true, false, cond, count_by, refl, ap, sym, ◌∙◌, arith}
+use Rattle.std.proofs.Common.{◌≡◌, ◌≢◌, ℕ, zero, suc, ◌+◌, ◌<◌, ◌≤◌, ◌==◌, List, [], ◌∷◌, ◌++◌, Bool, true, false, cond}
+use Rattle.std.proofs.Common.{count_by, refl, ap, sym, ◌∙◌, arith}
 use Rattle.std.specs.List.{range_with_len, list_any}
 use Rattle.std.proofs.lemmas.List.Sums.{sum_by-cons}
 use Rattle.std.proofs.lemmas.List.Folds.{list_any-append}
@@ -29,12 +30,12 @@ pub count-more : (f g : ℕ → Bool) (n a i : ℕ) → a ≤ i → i < a + n �
     → count_by g (range_with_len a n) ≡ count_by f (range_with_len a n) + 1
 count-more f g zero a i low high was is same = absurd (omega arith)
 count-more f g (suc n) a i low high was is same =
-    by_place (a == i) refl (λ apart. count-more f g n (a + 1) i (omega arith) (omega arith) was is same)
+    by_part (a == i) refl (λ apart. count-more f g n (a + 1) i (omega arith) (omega arith) was is same)
   where
-    by_place : (b : Bool) → (a == i) ≡ b
+    by_part : (b : Bool) → (a == i) ≡ b
         → (a ≢ i → count_by g (range_with_len (a + 1) n) ≡ count_by f (range_with_len (a + 1) n) + 1)
         → count_by g (range_with_len a (suc n)) ≡ count_by f (range_with_len a (suc n)) + 1
-    by_place true e later =
+    by_part true e later =
         let here : a ≡ i = grind arith in
         let ga : g a ≡ true = ap g here ∙ is in
         let fa : f a ≡ false = ap f here ∙ was in
@@ -45,7 +46,7 @@ count-more f g (suc n) a i low high was is same =
         let right : count_by f (range_with_len a (suc n)) ≡ 0 + count_by f (range_with_len (a + 1) n) =
         count-cons f a n ∙ ap (λ b. cond b 1 0 + count_by f (range_with_len (a + 1) n)) fa in
         omega arith
-    by_place false e later =
+    by_part false e later =
         let apart : a ≢ i = grind arith in
         let rest : count_by g (range_with_len (a + 1) n) ≡ count_by f (range_with_len (a + 1) n) + 1 =
         later apart in

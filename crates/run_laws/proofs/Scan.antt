@@ -1,5 +1,6 @@
 -- Scans from 0 for the first number that passes a test.
-use Rattle.std.proofs.Common.{◌≡◌, ℕ, ◌<◌, ◌≤◌, List, Bool, true, false, not, Option, Some, None, length, get_or, nat_lt, cond, position, ap, ◌∙◌, sym, zero-add, arith}
+use Rattle.std.proofs.Common.{◌≡◌, ℕ, ◌<◌, ◌≤◌, List, Bool, true, false, not, Option, Some, None, length, get_or}
+use Rattle.std.proofs.Common.{nat_lt, cond, position, ap, ◌∙◌, sym, zero-add, arith}
 use Rattle.std.specs.List.{list_any, range_with_len, position_or_len}
 use Rattle.std.proofs.lemmas.List.FromFn.{get_or-range_with_len, length-range_with_len}
 use Rattle.std.proofs.lemmas.List.Sums.{position_or_len_is}

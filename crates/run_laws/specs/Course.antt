@@ -1,6 +1,7 @@
 -- The course of a list of turns with a reporter: it stops at one that isn't enabled, it leaves the run unfinished, or
 -- it ends the run.
-use Rattle.std.specs.Prelude.{ℕ, ◌≡◌, ◌<◌, List, [], ◌∷◌, ◌++◌, map, take, length, slice_get, slice_index_or, Bool, true, false, not, Some}
+use Rattle.std.specs.Prelude.{ℕ, ◌≡◌, ◌<◌, List, [], ◌∷◌, ◌++◌, map, take, length, slice_get, slice_index_or, Bool}
+use Rattle.std.specs.Prelude.{true, false, not, Some}
 use Rattle.std.specs.List.{list_all}
 use Rattle.run_events.specs.declared.settings.Settings.{Settings}
 use Rattle.run_events.specs.declared.turn.Turn.{Turn}

@@ -1,5 +1,6 @@
 -- What is told of one test: its account.
-use Rattle.std.specs.Prelude.{ℕ, ◌≡◌, ◌⊎◌, ◌==◌, List, [], ◌∷◌, Bool, true, false, if◌then◌else◌, Option, Some, None, filter_map, is_some, slice_get}
+use Rattle.std.specs.Prelude.{ℕ, ◌≡◌, ◌⊎◌, ◌==◌, List, [], ◌∷◌, Bool, true, false, if◌then◌else◌, Option, Some, None}
+use Rattle.std.specs.Prelude.{filter_map, is_some, slice_get}
 use Rattle.run_events.specs.declared.message.Message.{Message}
 use Rattle.run_events.specs.declared.message.Message.TheVariants.{Start, Skip, AttemptFailed, Retry, Finish}
 use Rattle.run_events.specs.declared.result.ExecuteStatus.{ExecuteStatus}
@@ -8,7 +9,8 @@ use Rattle.run_events.specs.declared.plan.PlanTest.{PlanTest}
 use Rattle.run_events.specs.declared.events.ReporterEvent.{ReporterEvent}
 use Rattle.run_events.specs.declared.events.ReporterEvent.TheVariants.{Test}
 use Rattle.run_events.specs.declared.events.TestEventKind.{TestEventKind}
-use Rattle.run_events.specs.declared.events.TestEventKind.TheVariants.{TestStarted, TestAttemptFailedWillRetry, TestRetryStarted, TestFinished, TestSkipped}
+use Rattle.run_events.specs.declared.events.TestEventKind.TheVariants.{TestStarted, TestAttemptFailedWillRetry}
+use Rattle.run_events.specs.declared.events.TestEventKind.TheVariants.{TestRetryStarted, TestFinished, TestSkipped}
 use Rattle.run_model.specs.declared.happening.Happening.{Happening}
 use Rattle.run_model.specs.declared.phase.Phase.{Phase}
 use Rattle.run_model.specs.declared.phase.Phase.TheVariants.{StartSent, Starting, Running, Deciding, Over}

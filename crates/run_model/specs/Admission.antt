@@ -1,5 +1,6 @@
 -- The admission rule: which test is next, whether it fits, and the slot that it gets.
-use Rattle.std.specs.Prelude.{ℕ, ◌+◌, List, [], Bool, true, false, not, ◌==◌, nat_lt, if◌then◌else◌, Option, Some, None, option_and_then, length, take, drop, count_by, is_none, slice_get, position, unwrap_or}
+use Rattle.std.specs.Prelude.{ℕ, ◌+◌, List, [], Bool, true, false, not, ◌==◌, nat_lt, if◌then◌else◌, Option, Some, None}
+use Rattle.std.specs.Prelude.{option_and_then, length, take, drop, count_by, is_none, slice_get, position, unwrap_or}
 use Rattle.std.specs.List.{range_with_len, list_any, list_all, position_or_len}
 use Rattle.run_events.specs.declared.settings.Settings.{Settings}
 use Rattle.run_events.specs.declared.result.FlakyResult.{FlakyResult}

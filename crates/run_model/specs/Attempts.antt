@@ -1,5 +1,6 @@
 -- The attempts of a unit by its own turns alone: its story, cut where it was let go. Nothing here knows the unit table.
-use Rattle.std.specs.Prelude.{ℕ, ◌+◌, ◌-◌, ◌==◌, List, [], ◌∷◌, ◌++◌, length, Bool, true, false, if◌then◌else◌, Option, Some, None, option_to_list, is_some, unwrap_or}
+use Rattle.std.specs.Prelude.{ℕ, ◌+◌, ◌-◌, ◌==◌, List, [], ◌∷◌, ◌++◌, length, Bool, true, false, if◌then◌else◌, Option}
+use Rattle.std.specs.Prelude.{Some, None, option_to_list, is_some, unwrap_or}
 use Rattle.std.specs.Option.{option_or}
 use Rattle.run_capture.specs.Output.{uncaptured}
 use Rattle.run_capture.specs.declared.test_output.ChildFdError.{ChildFdError}
@@ -14,8 +15,8 @@ use Rattle.run_events.specs.declared.result.ExecutionResult.TheVariants.{ExecFai
 use Rattle.run_events.specs.declared.result.LeakTimeoutResult.TheVariants.{Pass}
 use Rattle.run_events.specs.declared.settings.Settings.{Settings}
 use Rattle.run_model.specs.declared.happening.Happening.{Happening}
-use Rattle.run_model.specs.declared.happening.Place.{Place}
-use Rattle.run_model.specs.declared.happening.Place.TheVariants.{Took}
+use Rattle.run_model.specs.declared.happening.UnitPart.{UnitPart}
+use Rattle.run_model.specs.declared.happening.UnitPart.TheVariants.{Acts}
 use Rattle.run_model.specs.declared.unit_turn.UnitTurn.{UnitTurn}
 use Rattle.run_model.specs.declared.unit_turn.UnitTurn.TheVariants.{Answered, StartFailed, Exit, WaitFailed}
 use Rattle.run_model.specs.Admission.{unit_of_test}
@@ -25,15 +26,15 @@ pub record OwnTurn : Type 0 where
   pub moment : ℕ
   pub turn : UnitTurn
 
--- the turn of unit k at a place, if it is its own
-abbrev pub own_turn : ℕ → ℕ → Option Place → Option OwnTurn
-own_turn k now (Some (Took j turn)) = if j == k then Some (record { moment = now; turn = turn }) else None
+-- the turn of unit k, if this part is its own
+abbrev pub own_turn : ℕ → ℕ → Option UnitPart → Option OwnTurn
+own_turn k now (Some (Acts j turn)) = if j == k then Some (record { moment = now; turn = turn }) else None
 own_turn k now _ = None
 
 -- the story of unit k in a sub-run: its own turns, the newest first
 abbrev pub story_of : ℕ → List Happening → List OwnTurn
 story_of k [] = []
-story_of k (x ∷ run) = option_to_list (own_turn k x.moment x.place) ++ story_of k run
+story_of k (x ∷ run) = option_to_list (own_turn k x.moment x.part) ++ story_of k run
 
 -- an attempt begins where its unit is let go, and ends where its start is refused, its child has ended, or the wait for
 -- it failed

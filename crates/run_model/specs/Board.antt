@@ -1,5 +1,6 @@
 -- The board: what a turn may read of a run, and what a deed does to it.
-use Rattle.std.specs.Prelude.{ℕ, ◌+◌, ◌||◌, ◌&&◌, not, List, ◌++◌, drop, Bool, if◌then◌else◌, Option, Some, None, option_map, option_to_list, slice_index_or, slice_set}
+use Rattle.std.specs.Prelude.{ℕ, ◌+◌, ◌||◌, ◌&&◌, not, List, ◌++◌, drop, Bool, if◌then◌else◌, Option, Some, None}
+use Rattle.std.specs.Prelude.{option_map, option_to_list, slice_index_or, slice_set}
 use Rattle.run_events.specs.declared.settings.Settings.{Settings}
 use Rattle.run_events.specs.declared.message.Message.{Message}
 use Rattle.run_events.specs.declared.ask.Ask.{Ask}
@@ -9,8 +10,8 @@ use Rattle.run_events.specs.declared.turn.Turn.{Turn}
 use Rattle.run_model.specs.declared.entry.Entry.{Entry}
 use Rattle.run_model.specs.declared.dispatcher_view.DispatcherView.{DispatcherView}
 use Rattle.run_model.specs.declared.happening.Happening.{Happening}
-use Rattle.run_model.specs.declared.happening.Place.{Place}
-use Rattle.run_model.specs.declared.happening.Place.TheVariants.{Admitted, Took}
+use Rattle.run_model.specs.declared.happening.UnitPart.{UnitPart}
+use Rattle.run_model.specs.declared.happening.UnitPart.TheVariants.{Joins, Acts}
 use Rattle.run_model.specs.declared.unit_view.UnitView.{UnitView}
 use Rattle.run_model.specs.Unit.{row}
 use Rattle.run_model.specs.Words.{clock, ns_of, is_on, is_over, sub_run, queue, units, tally}
@@ -46,7 +47,7 @@ unit_in b k = slice_index_or b.units k None
 
 -- what a turn does, apart from its entry and its moment
 pub record Deed : Type 0 where
-  pub place : Option Place
+  pub part : Option UnitPart
   pub sent : Option Message
   pub taken : Bool
   pub told : Option ReporterEvent
@@ -63,7 +64,7 @@ said now e d = record {
   turn = e.turn;
   refused = e.refused;
   moment = now;
-  place = d.place;
+  part = d.part;
   sent = d.sent;
   taken = d.taken;
   told = d.told;
@@ -79,11 +80,11 @@ said now e d = record {
 abbrev pub deed_events : Deed → List ReporterEvent
 deed_events d = option_to_list d.told ++ option_to_list d.cancel
 
--- the list of units after a place
-abbrev pub placed_in : ℕ → Option Place → List (Option UnitView) → List (Option UnitView)
-placed_in now None us = us
-placed_in now (Some (Admitted first)) us = slice_set us first.test.unit (Some first)
-placed_in now (Some (Took j turn)) us =
+-- the list of units after the part that one had in a turn
+abbrev pub units_after : ℕ → Option UnitPart → List (Option UnitView) → List (Option UnitView)
+units_after now None us = us
+units_after now (Some (Joins first)) us = slice_set us first.test.unit (Some first)
+units_after now (Some (Acts j turn)) us =
     slice_set us j (option_map (λ v. (row now turn v).next) (slice_index_or us j None))
 
 -- the dispatcher after a deed
@@ -97,7 +98,7 @@ dispatched d deed = record d {
 -- the board after a deed
 abbrev pub moved : Board → Deed → Board
 moved b d = record {
-  units = placed_in b.clock d.place b.units;
+  units = units_after b.clock d.part b.units;
   queue = drop (if d.taken then 1 else 0) b.queue ++ option_to_list d.sent;
   dispatcher = dispatched b.dispatcher d;
   clock = b.clock;

@@ -1,5 +1,6 @@
 -- The dispatcher's table: which turns it takes, what each tells, and what it leaves.
-use Rattle.std.specs.Prelude.{ℕ, ◌≡◌, ◌+◌, ◌-◌, ◌<◌, ◌^◌, length, Bool, true, false, ◌&&◌, not, if◌then◌else◌, Option, Some, None, is_none}
+use Rattle.std.specs.Prelude.{ℕ, ◌≡◌, ◌+◌, ◌-◌, ◌<◌, ◌^◌, length, Bool, true, false, ◌&&◌, not, if◌then◌else◌, Option}
+use Rattle.std.specs.Prelude.{Some, None, is_none}
 use Rattle.run_events.specs.Stats.{AreBelow, FinishedTest, nothing, adds_of, plus}
 use Rattle.run_events.specs.declared.settings.Settings.{Settings}
 use Rattle.run_events.specs.declared.turn.Turn.{Turn}
@@ -50,8 +51,8 @@ abbrev pub event : ℕ → TestEventKind → ReporterEvent
 event now kind = Test (record { clock = now; elapsed = now; kind = kind })
 
 -- a unit is let go where nothing cancels the run
-abbrev pub lets_go : Tally → Bool
-lets_go t = is_none t.stats.cancel_reason
+abbrev pub may_go : Tally → Bool
+may_go t = is_none t.stats.cancel_reason
 
 -- what a start, and a finish, make of the counts
 abbrev pub with_start : Tally → Tally
@@ -84,14 +85,14 @@ finished_event finish t = TestFinished (record { finish = finish; running = t.ru
 
 -- what the delivery of a message tells, with the counts after it
 abbrev pub told_of : Tally → Message → Option TestEventKind
-told_of t (Start start) = if lets_go t then Some (started_event start (with_start t)) else None
+told_of t (Start start) = if may_go t then Some (started_event start (with_start t)) else None
 told_of t (Skip skip) = Some (TestSkipped skip)
 told_of t (Finish finish) = Some (finished_event finish (with_finish t (finished_test finish)))
 told_of t _ = None
 
 -- the answer to a unit whose start is delivered
 abbrev pub go_of : Tally → Message → Option Bool
-go_of t (Start start) = Some (lets_go t)
+go_of t (Start start) = Some (may_go t)
 go_of t _ = None
 
 -- what a message needs: room in the counts, and a finish is of a test that runs, after an attempt

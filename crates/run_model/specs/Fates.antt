@@ -1,12 +1,13 @@
 -- What becomes of a test in a sub-run that has ended, and what is told of it then.
-use Rattle.std.specs.Prelude.{ℕ, ◌+◌, ◌-◌, ◌≡◌, ◌⊎◌, ◌≤◌, ◌<◌, ◌==◌, nat_lt, ◌&&◌, ◌||◌, not, List, [], ◌∷◌, ◌++◌, length, Bool, true, false, if◌then◌else◌, Option, Some, is_some}
+use Rattle.std.specs.Prelude.{ℕ, ◌+◌, ◌-◌, ◌≡◌, ◌⊎◌, ◌≤◌, ◌<◌, ◌==◌, nat_lt, ◌&&◌, ◌||◌, not, List, [], ◌∷◌, ◌++◌}
+use Rattle.std.specs.Prelude.{length, Bool, true, false, if◌then◌else◌, Option, Some, is_some}
 use Rattle.std.specs.List.{list_all}
 use Rattle.run_events.specs.Result.{is_success}
 use Rattle.run_events.specs.declared.result.ExecuteStatus.{ExecuteStatus}
 use Rattle.run_events.specs.declared.settings.Settings.{Settings}
 use Rattle.run_model.specs.declared.happening.Happening.{Happening}
-use Rattle.run_model.specs.declared.happening.Place.{Place}
-use Rattle.run_model.specs.declared.happening.Place.TheVariants.{Took}
+use Rattle.run_model.specs.declared.happening.UnitPart.{UnitPart}
+use Rattle.run_model.specs.declared.happening.UnitPart.TheVariants.{Acts}
 use Rattle.run_model.specs.declared.unit_turn.UnitTurn.TheVariants.{Answered}
 use Rattle.run_model.specs.Admission.{tests_in, unit_of_test}
 use Rattle.run_model.specs.Attempts.{retries_of, statuses_of}
@@ -14,32 +15,32 @@ use Rattle.run_model.specs.Words.{reason, told}
 use Rattle.run_model.specs.Accounts.{News, started, failed, retried, finished, skipped, account_of, is_mismatched}
 
 -- whether a turn delivered the start of test k, or its retry
-abbrev pub lets_go : ℕ → Option Place → Bool
-lets_go k (Some (Took j (Answered go))) = j == k
+abbrev pub lets_go : ℕ → Option UnitPart → Bool
+lets_go k (Some (Acts j (Answered go))) = j == k
 lets_go k _ = false
 
 -- how many times that was: its start, and then its retries
 abbrev pub deliveries : ℕ → List Happening → ℕ
 deliveries k [] = 0
-deliveries k (x ∷ past) = deliveries k past + (if lets_go k x.place then 1 else 0)
+deliveries k (x ∷ past) = deliveries k past + (if lets_go k x.part then 1 else 0)
 
 -- test k was never started: a cause stands before the delivery of its start
 abbrev pub never_started : ℕ → List Happening → Bool
 never_started k [] = false
 never_started k (x ∷ past) =
-    (lets_go k x.place && (deliveries k past == 0) && is_some (reason past)) || never_started k past
+    (lets_go k x.part && (deliveries k past == 0) && is_some (reason past)) || never_started k past
 
 -- test k was left between two attempts: a cause stands before the delivery of a retry
 abbrev pub was_left : ℕ → List Happening → Bool
 was_left k [] = false
 was_left k (x ∷ past) =
-    (lets_go k x.place && nat_lt 0 (deliveries k past) && is_some (reason past)) || was_left k past
+    (lets_go k x.part && nat_lt 0 (deliveries k past) && is_some (reason past)) || was_left k past
 
 -- what is told of attempts each of which a further one follows, but the last
-abbrev pub retries : List ExecuteStatus → List News
-retries [] = []
-retries (s ∷ []) = []
-retries (s ∷ t ∷ ss) = failed s ∷ retried ∷ retries (t ∷ ss)
+abbrev pub retold : List ExecuteStatus → List News
+retold [] = []
+retold (s ∷ []) = []
+retold (s ∷ t ∷ ss) = failed s ∷ retried ∷ retold (t ∷ ss)
 
 -- what is told of attempts the last of which failed too, and none followed
 abbrev pub failures : List ExecuteStatus → List News
@@ -52,7 +53,7 @@ abbrev pub account : Bool → Bool → Bool → List ExecuteStatus → List News
 account true never left ss = skipped ∷ []
 account false true left ss = []
 account false false true ss = started ∷ failures ss
-account false false false ss = started ∷ (retries ss ++ finished ss ∷ [])
+account false false false ss = started ∷ (retold ss ++ finished ss ∷ [])
 
 -- with so many retries: each attempt but the last failed, and the last passed or no retry was left
 abbrev pub MeetsAttemptLaw : ℕ → List ExecuteStatus → Type 0

@@ -1,9 +1,11 @@
 -- The tables of turns: which turn is enabled on a board, and what it does.
-use Rattle.std.specs.Prelude.{ℕ, List, [], ◌∷◌, Bool, true, false, ◌&&◌, not, Option, Some, None, is_some, option_map, option_and_then}
+use Rattle.std.specs.Prelude.{ℕ, List, [], ◌∷◌, Bool, true, false, ◌&&◌, not, Option, Some, None, is_some, option_map}
+use Rattle.std.specs.Prelude.{option_and_then}
 use Rattle.std.specs.List.{list_all}
 use Rattle.run_events.specs.declared.settings.Settings.{Settings}
 use Rattle.run_events.specs.declared.turn.Turn.{Turn}
-use Rattle.run_events.specs.declared.turn.Turn.TheVariants.{Begin, Admit, Deliver, Started, StartFailed, Exit, WaitFailed, Decide, End}
+use Rattle.run_events.specs.declared.turn.Turn.TheVariants.{Begin, Admit, Deliver, Started, StartFailed, Exit}
+use Rattle.run_events.specs.declared.turn.Turn.TheVariants.{WaitFailed, Decide, End}
 use Rattle.run_events.specs.declared.message.Message.{Message}
 use Rattle.run_events.specs.declared.message.Message.TheVariants.{Start}
 use Rattle.run_events.specs.declared.events.TestEventKind.{TestEventKind}
@@ -13,9 +15,11 @@ use Rattle.run_events.specs.declared.stats.RunStats.{RunStats}
 use Rattle.run_model.specs.declared.dispatcher_view.Facts.{Facts}
 use Rattle.run_model.specs.declared.entry.Entry.{Entry}
 use Rattle.run_model.specs.declared.happening.Happening.{Happening}
-use Rattle.run_model.specs.declared.happening.Place.TheVariants.{Admitted, Took}
+use Rattle.run_model.specs.declared.happening.UnitPart.TheVariants.{Joins, Acts}
 use Rattle.run_model.specs.declared.unit_turn.UnitTurn.{UnitTurn}
-use Rattle.run_model.specs.declared.unit_turn.UnitTurn.TheVariants.{Answered, Started as UnitStarted, StartFailed as UnitStartFailed, Exit as UnitExit, WaitFailed as UnitWaitFailed, Decide as UnitDecide}
+use Rattle.run_model.specs.declared.unit_turn.UnitTurn.TheVariants.{Answered, Started as UnitStarted}
+use Rattle.run_model.specs.declared.unit_turn.UnitTurn.TheVariants.{StartFailed as UnitStartFailed, Exit as UnitExit}
+use Rattle.run_model.specs.declared.unit_turn.UnitTurn.TheVariants.{WaitFailed as UnitWaitFailed, Decide as UnitDecide}
 use Rattle.run_model.specs.declared.unit_view.UnitView.{UnitView}
 use Rattle.run_model.specs.Unit.{row, takes}
 use Rattle.run_model.specs.Admission.{is_done, Newcomer, newcomer}
@@ -67,7 +71,7 @@ enabled_on p b turn = not b.dispatcher.over && takes_turn p b turn (turn_of_unit
 -- nothing is done
 abbrev pub nothing_done : Deed
 nothing_done = record {
-  place = None;
+  part = None;
   sent = None;
   taken = false;
   told = None;
@@ -82,7 +86,7 @@ nothing_done = record {
 -- a unit's turn is a row of the unit table
 abbrev pub taken_by : ℕ → ℕ → UnitTurn → Option UnitView → Deed
 taken_by now k turn u = record nothing_done {
-  place = option_map (λ v. Took k turn) u;
+  part = option_map (λ v. Acts k turn) u;
   sent = option_and_then (λ v. (row now turn v).sent) u;
   asked = option_and_then (λ v. (row now turn v).asked) u;
 }
@@ -90,7 +94,7 @@ taken_by now k turn u = record nothing_done {
 -- an admission makes a unit and sends its message
 abbrev pub admission : Option Newcomer → Deed
 admission None = nothing_done
-admission (Some new) = record nothing_done { place = Some (Admitted new.unit); sent = Some new.sent }
+admission (Some new) = record nothing_done { part = Some (Joins new.unit); sent = Some new.sent }
 
 -- the unit whose start a message is
 abbrev pub starting : Message → Option ℕ
@@ -105,7 +109,7 @@ answer_to b _ _ = nothing_done
 -- the delivery of a message, with the answer that the unit is given
 abbrev pub delivered_as : Board → Message → Deed → Deed
 delivered_as b m answer = record nothing_done {
-  place = answer.place;
+  part = answer.part;
   sent = answer.sent;
   taken = true;
   told = option_map (event b.clock) (told_of b.dispatcher.tally m);
@@ -126,7 +130,8 @@ abbrev pub begun : Board → Deed
 begun b = record nothing_done { told = Some (event b.clock (RunStarted b.dispatcher.head)); begins = true }
 
 abbrev pub ended : Board → Deed
-ended b = record nothing_done { told = Some (event b.clock (finale b.dispatcher.tally.stats)); ends = true; over = true }
+ended b = record nothing_done { told = Some (event b.clock (finale b.dispatcher.tally.stats)); ends = true; over =
+    true }
 
 -- what a turn of the run's own does
 abbrev pub run_turn : Settings → Board → Turn → Deed

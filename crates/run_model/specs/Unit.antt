@@ -20,7 +20,8 @@ use Rattle.run_events.specs.declared.result.LeakTimeoutResult.TheVariants.{Pass}
 use Rattle.run_model.specs.declared.phase.Phase.{Phase}
 use Rattle.run_model.specs.declared.phase.Phase.TheVariants.{StartSent, Starting, Running, Deciding, Over}
 use Rattle.run_model.specs.declared.unit_turn.UnitTurn.{UnitTurn}
-use Rattle.run_model.specs.declared.unit_turn.UnitTurn.TheVariants.{Answered, Started, StartFailed, Exit, WaitFailed, Decide}
+use Rattle.run_model.specs.declared.unit_turn.UnitTurn.TheVariants.{Answered, Started, StartFailed, Exit, WaitFailed}
+use Rattle.run_model.specs.declared.unit_turn.UnitTurn.TheVariants.{Decide}
 use Rattle.run_model.specs.declared.unit_view.UnitView.{UnitView}
 
 -- how many attempts a test has: no test has retries yet

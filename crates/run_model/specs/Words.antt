@@ -1,5 +1,6 @@
 -- Words over a history: what each turn did, the newest first.
-use Rattle.std.specs.Prelude.{ℕ, ◌+◌, List, [], ◌∷◌, ◌++◌, map, length, drop, Bool, true, false, ◌&&◌, ◌||◌, not, ◌==◌, if◌then◌else◌, Option, Some, None, option_map, option_to_list, filter_map, count_by, zip}
+use Rattle.std.specs.Prelude.{ℕ, ◌+◌, List, [], ◌∷◌, ◌++◌, map, length, drop, Bool, true, false, ◌&&◌, ◌||◌, not, ◌==◌}
+use Rattle.std.specs.Prelude.{if◌then◌else◌, Option, Some, None, option_map, option_to_list, filter_map, count_by, zip}
 use Rattle.std.specs.List.{range_with_len, list_any}
 use Rattle.run_events.specs.Stats.{FinishedTest, nothing, total, last_or}
 use Rattle.run_events.specs.Cancel.{greater}
@@ -16,8 +17,8 @@ use Rattle.run_events.specs.declared.events.TestEventKind.{TestEventKind}
 use Rattle.run_events.specs.declared.events.TestEventKind.TheVariants.{TestStarted, TestFinished, TestSkipped}
 use Rattle.run_events.specs.declared.result.ExecuteStatus.{ExecuteStatus}
 use Rattle.run_model.specs.declared.happening.Happening.{Happening}
-use Rattle.run_model.specs.declared.happening.Place.{Place}
-use Rattle.run_model.specs.declared.happening.Place.TheVariants.{Admitted, Took}
+use Rattle.run_model.specs.declared.happening.UnitPart.{UnitPart}
+use Rattle.run_model.specs.declared.happening.UnitPart.TheVariants.{Joins, Acts}
 use Rattle.run_model.specs.declared.unit_view.UnitView.{UnitView}
 use Rattle.run_model.specs.declared.dispatcher_view.Tally.{Tally}
 use Rattle.run_model.specs.Unit.{row}
@@ -94,16 +95,17 @@ abbrev pub reason : List Happening → Option CancelReason
 reason [] = None
 reason (x ∷ past) = greater (reason past) x.cause
 
--- a unit after a place: an admitted test begins, and a turn of the unit's own is a row of the unit table
-abbrev pub placed : ℕ → ℕ → Option Place → Option UnitView → Option UnitView
-placed now k None u = u
-placed now k (Some (Admitted first)) u = if first.test.unit == k then Some first else u
-placed now k (Some (Took j turn)) u = if j == k then option_map (λ v. (row now turn v).next) u else u
+-- a unit after a turn in which one had this part: an admitted test begins, and a turn of the unit's own is a row of the
+-- unit table
+abbrev pub unit_after : ℕ → ℕ → Option UnitPart → Option UnitView → Option UnitView
+unit_after now k None u = u
+unit_after now k (Some (Joins first)) u = if first.test.unit == k then Some first else u
+unit_after now k (Some (Acts j turn)) u = if j == k then option_map (λ v. (row now turn v).next) u else u
 
 -- a unit stands where the unit table leads along its own turns; None is a test that wasn't admitted
 abbrev pub unit_of : ℕ → List Happening → Option UnitView
 unit_of k [] = None
-unit_of k (x ∷ past) = placed x.moment k x.place (unit_of k past)
+unit_of k (x ∷ past) = unit_after x.moment k x.part (unit_of k past)
 
 -- all units, by number
 abbrev pub units : Settings → List Happening → List (Option UnitView)

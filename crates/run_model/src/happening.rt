@@ -5,11 +5,11 @@ use run_events::{Ask, CancelReason, Message, ReporterEvent, Turn};
 
 /// Whose turn it was, and as what.
 #[derive(Drop)]
-pub enum Place {
+pub enum UnitPart {
     /// A test was admitted, as this unit.
-    Admitted(UnitView),
+    Joins(UnitView),
     /// A unit took a turn.
-    Took { unit: u32, turn: UnitTurn },
+    Acts { unit: u32, turn: UnitTurn },
 }
 
 /// What one turn did.
@@ -20,7 +20,7 @@ pub struct Happening {
     pub refused: List<bool>,
     /// The run's clock before it, in nanoseconds.
     pub moment: u64,
-    pub place: Option<Place>,
+    pub part: Option<UnitPart>,
     /// The message that it sent.
     pub sent: Option<Message>,
     /// Whether it delivered the oldest message.

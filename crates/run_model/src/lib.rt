@@ -13,7 +13,7 @@ mod unit_view;
 
 pub use dispatcher_view::{DispatcherView, Facts, Tally};
 pub use entry::Entry;
-pub use happening::{Happening, Place};
+pub use happening::{Happening, UnitPart};
 pub use phase::Phase;
 pub use unit_turn::UnitTurn;
 pub use unit_view::UnitView;

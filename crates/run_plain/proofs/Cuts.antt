@@ -1,5 +1,6 @@
 -- Where a story is cut.
-use Rattle.std.proofs.Common.{◌≡◌, ◌≢◌, ◌++◌, length, ℕ, ◌+◌, zero, suc, List, [], ◌∷◌, take, drop, Bool, true, false, if◌then◌else◌, arith, ap, refl, ◌∙◌, sym}
+use Rattle.std.proofs.Common.{◌≡◌, ◌≢◌, ◌++◌, length, ℕ, ◌+◌, zero, suc, List, [], ◌∷◌, take, drop, Bool, true, false}
+use Rattle.std.proofs.Common.{if◌then◌else◌, arith, ap, refl, ◌∙◌, sym}
 use Rattle.run_model.specs.Attempts.{OwnTurn, begins_attempt, ended_statuses, has_ended, pieces, status_of, with_turn}
 use Rattle.run_plain.specs.Newest.{newest, with_one}
 

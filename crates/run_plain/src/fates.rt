@@ -2,7 +2,7 @@
 ghost use Rattle.std.specs.Prelude.{◌≡◌, ◌↔◌, ◌∷◌, ◌++◌, [], false, map, IfOk, IsTrue};
 ghost use Rattle.run_model.specs.Accounts.{finished};
 ghost use Rattle.run_plain.specs.declared.accounts.News.TheVariants.{Failed};
-ghost use Rattle.run_model.specs.Fates.{MeetsAttemptLaw, account, failures, retries};
+ghost use Rattle.run_model.specs.Fates.{MeetsAttemptLaw, account, failures, retold};
 ghost use Rattle.run_plain.specs.News.{defined};
 
 use crate::News;
@@ -22,7 +22,7 @@ fn with_failure(alloc: Global, status: &ExecuteStatus, after: List<News>) -> Mem
 
 // What is told of attempts each of which a further one follows, but the last, before what is told after them.
 fn with_retries(alloc: Global, statuses: &[ExecuteStatus], after: List<News>) -> Mem<List<News>>
-    ensures { IfOk result (λ l. map defined l ≡ retries statuses.now ++ map defined after) }
+    ensures { IfOk result (λ l. map defined l ≡ retold statuses.now ++ map defined after) }
 {
     match statuses {
         [] => Ok(after),
@@ -52,7 +52,7 @@ fn failures(alloc: Global, statuses: &[ExecuteStatus]) -> Mem<List<News>>
 
 // What is told of attempts the last of which ended the test.
 fn finished(alloc: Global, statuses: &List<ExecuteStatus>) -> Mem<List<News>>
-    ensures { IfOk result (λ l. map defined l ≡ retries statuses.now ++ finished statuses.now ∷ []) }
+    ensures { IfOk result (λ l. map defined l ≡ retold statuses.now ++ finished statuses.now ∷ []) }
 {
     let attempts = statuses.copy(alloc)?;
     let last = ahead(alloc, News::Finished(attempts), List::new())?;

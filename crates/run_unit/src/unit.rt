@@ -1,7 +1,9 @@
 // A unit: one test with its attempts.
-ghost use Rattle.std.specs.Prelude.{◌≡◌, ◌≤◌, ◌<◌, ◌^◌, length, IfOk, OnOk, OnErr, Some, option_map, slice_get, true, false};
+ghost use Rattle.std.specs.Prelude.{◌≡◌, ◌≤◌, ◌<◌, ◌^◌, length, IfOk, OnOk, OnErr, Some, option_map, slice_get, true};
+ghost use Rattle.std.specs.Prelude.{false};
 ghost use Rattle.run_model.specs.Unit.{row, row_at, takes, finish_message, decided};
-ghost use Rattle.run_model.specs.Admission.{first_view, skipped_view, start_message, skip_message, is_last, units_in, unit_of_test, flaky_of};
+ghost use Rattle.run_model.specs.Admission.{first_view, skipped_view, start_message, skip_message, is_last, units_in};
+ghost use Rattle.run_model.specs.Admission.{unit_of_test, flaky_of};
 ghost use Rattle.run_model.specs.declared.phase.Phase.TheVariants as phases;
 ghost use Rattle.run_model.specs.declared.unit_turn.UnitTurn.TheVariants as turns;
 ghost use Rattle.run_events.specs.declared.message.Message.TheVariants.{Finish};

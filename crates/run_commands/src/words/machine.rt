@@ -1,7 +1,7 @@
 // One character at a time: what stands before it, and what it adds to the words.
 ghost use Rattle.std.specs.Prelude.{ℕ, IfOk};
 ghost use Rattle.run_commands.specs.Gathered.{Gathered};
-ghost use Rattle.run_commands.specs.WordMachine.{IsSound, Takes};
+ghost use Rattle.run_commands.specs.WordMachine.{IsSound, TakesChar};
 ghost use Rattle.run_commands.specs.declared.words.machine.State.TheVariants as states;
 
 use super::char_kind::{CharKind, kind_of};
@@ -28,7 +28,7 @@ pub enum State {
 
 // A character outside quotes.
 fn after_outside(alloc: Global, words: &mut WordList, place: usize, c: char) -> Mem<State>
-    ensures { IfOk result (λ next. Takes states.Outside next words.old words.new place c) }
+    ensures { IfOk result (λ next. TakesChar states.Outside next words.old words.new place c) }
 {
     match kind_of(c) {
         CharKind::Space | CharKind::Newline => {
@@ -54,7 +54,7 @@ fn after_outside(alloc: Global, words: &mut WordList, place: usize, c: char) -> 
 
 // A character after a backslash outside quotes.
 fn after_escape(alloc: Global, words: &mut WordList, c: char) -> Mem<State>
-    ensures { (place : ℕ) → IfOk result (λ next. Takes states.Escape next words.old words.new place c) }
+    ensures { (place : ℕ) → IfOk result (λ next. TakesChar states.Escape next words.old words.new place c) }
 {
     match kind_of(c) {
         CharKind::Newline => Ok(State::Outside),
@@ -67,7 +67,8 @@ fn after_escape(alloc: Global, words: &mut WordList, c: char) -> Mem<State>
 
 // A character between single quotes.
 fn after_single(alloc: Global, words: &mut WordList, quote: usize, c: char) -> Mem<State>
-    ensures { (place : ℕ) → IfOk result (λ next. Takes (states.SingleQuotes quote) next words.old words.new place c) }
+    ensures { (place : ℕ)
+        → IfOk result (λ next. TakesChar (states.SingleQuotes quote) next words.old words.new place c) }
 {
     match kind_of(c) {
         CharKind::SingleQuote => {
@@ -83,7 +84,8 @@ fn after_single(alloc: Global, words: &mut WordList, quote: usize, c: char) -> M
 
 // A character between double quotes.
 fn after_double(alloc: Global, words: &mut WordList, quote: usize, c: char) -> Mem<State>
-    ensures { (place : ℕ) → IfOk result (λ next. Takes (states.DoubleQuotes quote) next words.old words.new place c) }
+    ensures { (place : ℕ)
+        → IfOk result (λ next. TakesChar (states.DoubleQuotes quote) next words.old words.new place c) }
 {
     match kind_of(c) {
         CharKind::DoubleQuote => {
@@ -101,7 +103,7 @@ fn after_double(alloc: Global, words: &mut WordList, quote: usize, c: char) -> M
 // A character after a backslash between double quotes.
 fn after_double_escape(alloc: Global, words: &mut WordList, quote: usize, c: char) -> Mem<State>
     ensures { (place : ℕ) → IfOk result
-        (λ next. Takes (states.DoubleQuotesEscape quote) next words.old words.new place c) }
+        (λ next. TakesChar (states.DoubleQuotesEscape quote) next words.old words.new place c) }
 {
     match kind_of(c) {
         CharKind::Newline => Ok(State::DoubleQuotes(quote)),
@@ -120,7 +122,7 @@ fn after_double_escape(alloc: Global, words: &mut WordList, quote: usize, c: cha
 // A character in a comment.
 fn after_comment(c: char) -> State
     ensures { (words : Gathered) (place : ℕ) → IsSound states.Comment words
-        → Takes states.Comment result words words place c }
+        → TakesChar states.Comment result words words place c }
 {
     match kind_of(c) {
         CharKind::Newline => State::Outside,
@@ -137,7 +139,7 @@ pub fn after_char(
     c: char,
 ) -> Mem<State>
     requires { IsSound state words.old }
-    ensures { IfOk result (λ next. Takes state next words.old words.new place c) }
+    ensures { IfOk result (λ next. TakesChar state next words.old words.new place c) }
 {
     match state {
         State::Outside => after_outside(alloc, words, place, c),

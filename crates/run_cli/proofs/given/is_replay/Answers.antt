@@ -3,7 +3,8 @@ use Rattle.std.proofs.lemmas.Slice.Eq.{bytes_eq-Decides}
 use Rattle.run_cli.proofs.given.is_replay.Goals as goal
 
 -- a list of one item is what a test of that item makes of it
-one : {A B : Type 0} (f : A → B) (xs : List A) (x : A) → 1 ≤ length xs → length xs < 2 → x ≡ get_or xs 0 x → map f xs ≡ f x ∷ []
+one : {A B : Type 0} (f : A → B) (xs : List A) (x : A) → 1 ≤ length xs → length xs < 2 → x ≡ get_or xs 0 x
+    → map f xs ≡ f x ∷ []
 one f [] x low high is = absurd (omega arith)
 one f (y ∷ []) x low high is = cc
 one f (y ∷ z ∷ zs) x low high is = absurd (omega arith)

@@ -14,4 +14,6 @@ loop-slot-preserved c =
     below_more _ _ c.loop-slot.invariant here
 
 pub returns-clause-slot : goal.returns-clause-slot
-returns-clause-slot c = free_slot_is c.args.units.now _ (omega arith) (λ k h. c.loop-slot.invariant k (omega arith)) (λ h. absurd (omega arith))
+returns-clause-slot c =
+    free_slot_is c.args.units.now _ (omega arith) (λ k h. c.loop-slot.invariant k (omega arith))
+        (λ h. absurd (omega arith))

@@ -1,4 +1,4 @@
-use Rattle.std.proofs.Common.{◌≡◌, ◌∷◌, ◌++◌, [], length, refl, ap, sym, subst, ◌∙◌}
+use Rattle.std.proofs.Common.{◌≡◌, ◌∷◌, ◌++◌, [], length, ap, sym, subst, ◌∙◌}
 use Rattle.run_model.specs.Board.{Board, board, deed_events}
 use Rattle.run_model.specs.Turns.{deed_on}
 use Rattle.run_model.specs.Journal.{past_of}
@@ -9,19 +9,16 @@ use Rattle.run_engine.proofs.run.carry_out.Goals as goal
 
 pub act-requires-clause-can : goal.act-requires-clause-can
 act-requires-clause-can g c =
-    can_advance c.args.settings.now c.args.journal.now.items c.args.state.now c.args.turn c.requires.runnable c.requires.stands c.requires.enabled
+    can_advance c.args.settings.now c.args.journal.now.items c.args.state.now c.args.turn c.requires.runnable
+    c.requires.stands c.requires.enabled
 
 pub returns-in-Ok-clause-takes : goal.returns-in-Ok-clause-takes
 returns-in-Ok-clause-takes g c =
-    let p = c.args.settings.now in
-    let journal = c.args.journal.now.items in
     let refused = c.in-Ok.field-0.refused in
     let told = c.in-Ok.ensures in
-    takes_from g.R.Reporter.told g.C.Children.asked p journal c.push_reserved.new.self.items c.args.state.now
-    c.args.turn c.args.report.now c.act.new.report c.args.children.now c.act.new.children
-    refused (deed_events (deed_on p c.args.state.now c.args.turn)) (deed_on p c.args.state.now c.args.turn).asked c.in-Ok.field-0.refusal
-    c.requires.stands c.requires.enabled refl refl
-    told.answered told.marked told.told told.asked
+    takes_from g.R.Reporter.told g.C.Children.asked _ c.args.settings.now c.args.journal.now.items
+    c.push_reserved.new.self.items c.args.state.now c.args.turn refused c.in-Ok.field-0.refusal c.requires.stands
+    c.requires.enabled told.answered told.marked told.told told.asked told.faults
     (c.push_reserved.ensures.items ∙ ap (λ j. j ++ entry_of c.args.turn refused ∷ []) c.act.ensures.same)
 
 pub returns-in-Ok-clause-runnable : goal.returns-in-Ok-clause-runnable

@@ -1,4 +1,5 @@
-use Rattle.std.proofs.Common.{◌≡◌, ◌+◌, ◌∷◌, ◌++◌, [], take, zip, length, refl, sym, subst, arith, ap, ◌∙◌, length-append, is_some, is_none, not, Option, Some, None}
+use Rattle.std.proofs.Common.{◌≡◌, ◌+◌, ◌∷◌, ◌++◌, [], take, zip, length, refl, sym, subst, arith, ap, ◌∙◌}
+use Rattle.std.proofs.Common.{length-append, is_some, is_none, not, Option, Some, None}
 use Rattle.std.specs.List.{list_all}
 use Rattle.std.proofs.lemmas.List.Folds.{list_all-append}
 use Rattle.run_engine.specs.World.{TellsEvents, CountsErrors, earlier}
@@ -16,22 +17,29 @@ loop-event-preserved g c =
     let i = c.loop-event.event-index in
     let events = c.args.events.now in
     let error = c.in_ok-error.error in
-    let pushed : c.tell_marked.new.refused ≡ c.loop-event.refused ++ is_some error ∷ [] = c.in_ok-error.ensures.marked in
-    let pairs = zip-more events c.loop-event.refused i c.event-item.result (is_some error) c.loop-event-test.true inv.answered c.event-item.is in
+    let pushed : c.tell_marked.new.refused ≡ c.loop-event.refused ++ is_some error ∷ [] =
+        c.in_ok-error.ensures.marked in
+    let pairs = zip-more events c.loop-event.refused i c.event-item.result (is_some error) c.loop-event-test.true
+        inv.answered c.event-item.is in
     record {
       answered = ap length pushed ∙ omega (arith, length-append c.loop-event.refused (is_some error ∷ []));
       marked = ap is_none c.first_of-refusal.ensures ∙ none-earlier c.loop-event.refusal error
           ∙ marked_both _ _ _ _ inv.marked (one-mark error)
           ∙ sym (list_all-append not c.loop-event.refused (is_some error ∷ []))
           ∙ ap (list_all not) (sym pushed);
-      told = subst (TellsEvents g.R.Reporter.told c.args.report.now c.tell_marked.new.report (zip (take (i + 1) events) c.tell_marked.new.refused))
+      told = subst (TellsEvents g.R.Reporter.told c.args.report.now c.tell_marked.new.report
+          (zip (take (i + 1) events) c.tell_marked.new.refused))
           (sym c.first_of-refusal.ensures)
-          (subst (λ bs. TellsEvents g.R.Reporter.told c.args.report.now c.tell_marked.new.report (zip (take (i + 1) events) bs) (earlier c.loop-event.refusal error))
+          (subst (λ bs. TellsEvents g.R.Reporter.told c.args.report.now c.tell_marked.new.report
+              (zip (take (i + 1) events) bs) (earlier c.loop-event.refusal error))
           (sym pushed)
-          (subst (λ ps. TellsEvents g.R.Reporter.told c.args.report.now c.tell_marked.new.report ps (earlier c.loop-event.refusal error))
+          (subst (λ ps. TellsEvents g.R.Reporter.told c.args.report.now c.tell_marked.new.report ps
+              (earlier c.loop-event.refusal error))
           (sym pairs)
-          (tells_both g.R.Reporter.told c.args.report.now c.loop-event.report c.tell_marked.new.report (zip (take i events) c.loop-event.refused) _
+          (tells_both g.R.Reporter.told c.args.report.now c.loop-event.report c.tell_marked.new.report
+              (zip (take i events) c.loop-event.refused) _
           c.loop-event.refusal error inv.told c.in_ok-error.ensures.told)));
-      faults = subst (CountsErrors (g.R.Reporter.faults c.args.report.now) (g.R.Reporter.faults c.tell_marked.new.report)) (sym c.first_of-refusal.ensures)
+      faults = subst (CountsErrors (g.R.Reporter.faults c.args.report.now)
+          (g.R.Reporter.faults c.tell_marked.new.report)) (sym c.first_of-refusal.ensures)
           (counts_both _ _ _ c.loop-event.refusal error inv.faults c.in_ok-error.ensures.faults);
     }

@@ -7,6 +7,7 @@ abbrev pub invariant-loop-event : goal.invariant-loop-event
 invariant-loop-event g l = record {
   answered : length l.refused ≡ l.event-index;
   marked : is_none l.refusal ≡ list_all not l.refused;
-  told : TellsEvents g.R.Reporter.told l.initial.report l.report (zip (take l.event-index l.events) l.refused) l.refusal;
+  told : TellsEvents g.R.Reporter.told l.initial.report l.report (zip (take l.event-index l.events) l.refused)
+      l.refusal;
   faults : CountsErrors (g.R.Reporter.faults l.initial.report) (g.R.Reporter.faults l.report) l.refusal;
 }

@@ -15,4 +15,5 @@ loop-slot-preserved c =
 
 pub returns : goal.returns
 returns c =
-    free_slot_is c.args.units.now _ (omega arith) (λ k h. c.loop-slot.invariant k (omega arith)) (λ h. absurd (omega arith))
+    free_slot_is c.args.units.now _ (omega arith) (λ k h. c.loop-slot.invariant k (omega arith))
+        (λ h. absurd (omega arith))

@@ -9,6 +9,6 @@ Refuses errors.NotInTable o = o ≡ None
 Refuses errors.OutOfMemory o = ⊤
 
 -- a reader gives the value that there is, and refuses where there is none
-abbrev pub Reads : {X : Type 0} → Result X LineError → Option X → Type 0
-Reads (Ok x) o = o ≡ Some x
-Reads (Err e) o = Refuses e o
+abbrev pub ReadsValue : {X : Type 0} → Result X LineError → Option X → Type 0
+ReadsValue (Ok x) o = o ≡ Some x
+ReadsValue (Err e) o = Refuses e o
