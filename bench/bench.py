@@ -13,6 +13,7 @@ import ctypes
 import hashlib
 import os
 import platform
+import signal
 import subprocess
 import sys
 import tempfile
@@ -49,6 +50,15 @@ def adopt_orphans():
         sys.exit("bench.py: this system does not hand over what a child leaves behind")
 
 
+def use_of(process):
+    """Waits for a process, and answers what it used."""
+    try:
+        return os.wait4(process, 0)[2]
+    except KeyboardInterrupt:
+        os.kill(process, signal.SIGKILL)
+        raise
+
+
 # Starts the words in a process of its own, which waits for the end of the shell's standard input.
 START = 'exec 3<&0; { read go <&3; exec "$@" < "$0" 3<&-; } > /dev/null 2> /dev/null & echo $!'
 
@@ -60,7 +70,7 @@ def run_once(words, path):
     shell = subprocess.run(["sh", "-c", START, path, *words], stdin=waits, stdout=subprocess.PIPE, check=True)
     os.close(waits)
     os.close(go)
-    _, _, use = os.wait4(int(shell.stdout), 0)
+    use = use_of(int(shell.stdout))
     return Run(use.ru_utime + use.ru_stime, use.ru_maxrss * 1024)
 
 
