@@ -89,9 +89,9 @@ def look_at_answers(engines, path):
     answers = [answer_of(engine, path) for engine in engines]
     for engine, (status, _) in zip(engines, answers):
         if status not in (0, 100):
-            sys.exit(f"bench.py: {engine} ends with status {status} on {path}: there is nothing to measure")
+            sys.exit(f"bench.py: {engine} ends with status {status}, so that there is nothing to measure")
     if len(set(answers)) > 1:
-        sys.exit(f"bench.py: the engines answer otherwise on {path}: their times can't be compared")
+        sys.exit("bench.py: the two engines write other lines or end with other statuses, and can't be compared")
 
 
 def measure(engines, path, runs, seconds):

@@ -35,7 +35,8 @@ def fate_of(place, kind):
 
 
 def test_of(place, fate):
-    test = {"binary": f"suite-{place % 10}", "name": f"area::case_{place:05}", "command": ["bin/suite", f"case_{place:05}"]}
+    case = f"case_{place:05}"
+    test = {"binary": f"suite-{place % 10}", "name": f"area::{case}", "command": ["bin/suite", case]}
     if fate == "skipped":
         test["skip"] = "not in this run"
     return test
