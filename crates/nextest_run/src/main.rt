@@ -1,39 +1,105 @@
-//! The program: carries out the run that its standard input tells, and writes the lines of it. All that
-//! it does is done by the top call of the library below.
+//! The program: carries out the run that its standard input tells, and writes the lines of it, by the top call
+//! of the library below. It answers `--help` and `--version` itself, and says on standard error what a fault means.
 #![tactic(auto)]
 
 use run_cli::{Ran, StdSink, StdSource, run};
 use std::process::ExitCode;
 use std::{env, io};
 
-const USAGE: &str = "usage: nextest_run replay < INPUT, or nextest_run --help or --version";
-
-const NO_MEMORY: &str = "{\"fault\":\"memory\",\"status\":11}";
-
 const VERSION: &str = "nextest_run 0.0.0";
 
 const HELP: &str = "nextest_run: the execution engine of a test runner
 
-  nextest_run replay < INPUT   carries out a run
+  nextest_run replay < INPUT   carries out the run that INPUT tells
   nextest_run --help           prints this
   nextest_run --version        prints the version
 
-The first line of INPUT is the plan, each later one a turn. Each line is a JSON object. The lines of the
-events go out as they are told, then those of the asks, then the outcome or the fault.
+INPUT says what happened in the run. The program starts no child: that a child is to be started is a line of
+its output, and that one started or ended is a line of INPUT.
+
+INPUT has at most 16 MiB (16,777,216 bytes). Each line is a JSON object: the first is the plan, each later
+one a turn. A sample, a run of one test that passes:
+
+  {\"capture\":\"none\",\"run_id\":\"00000000-0000-4000-8000-000000000001\",\"tests\":[{\"binary\":\"b\",\"command\":[\"true\"],\"name\":\"t\"}]}
+  {\"turn\":\"begin\"}
+  {\"turn\":\"admit\"}
+  {\"turn\":\"deliver\"}
+  {\"turn\":\"started\",\"unit\":0,\"pid\":100}
+  {\"turn\":\"exit\",\"unit\":0,\"code\":0}
+  {\"turn\":\"decide\",\"unit\":0,\"word\":0}
+  {\"turn\":\"deliver\"}
+  {\"turn\":\"end\"}
+
+The lines of the events go out as they are told, then those of the asks, then the outcome or the fault. The
+sample gives four events, one ask, and
+
+  {\"outcome\":\"success\"}
 
 The status is 0 for success, 4 where no test was run, 100 for a failed or cancelled run, 105 for one that
 a setup script ended, and else the fault's: 2 for bad words, 3 for a bad line, 5 for a plan that repeats
 a test, 6 for a turn that is not enabled, 8 for a run that is not over, 9 for a failed write, 10 for a
-failed read, 11 for want of memory, 12 for an input that is too long.";
+failed read, 11 for want of memory, 12 for an input that is too long. Of each fault one sentence on standard
+error says what it means.
+
+The repository describes the formats of all lines in docs/FORMATS.md.";
+
+const MEMORY_LINE: &str = "{\"fault\":\"memory\",\"status\":11}";
+
+const WORDS: &str = "the words after the program's name are not the one word replay \
+    (usage: nextest_run replay < INPUT, or nextest_run --help or --version)";
+
+const LINE: &str = "a line of the input is not as docs/FORMATS.md says, and no turn was taken: \
+    the fault's \"line\" is the number of the first such line, counted from 1, so that the plan \
+    is line 1 and the turn t, counted from 0, is line t + 2";
+
+const PLAN: &str = "the plan, which is line 1 of the input, has two tests with one binary \
+    and one name, and no turn was taken: the fault's \"test\" is the place in \"tests\", counted \
+    from 0, of the first test that repeats an earlier one";
+
+const NOT_ENABLED: &str = "a turn of the input is not enabled after the turns before it, \
+    which were all taken: the fault's \"turn\" is its place among the turns, counted from 0, and \
+    the turn t stands on line t + 2 of the input, since the plan stands on line 1";
+
+const UNFINISHED: &str = "each turn of the input was taken, and the run is not over \
+    after the input's last line";
+
+const REPORT: &str = "a write to standard output failed, so that what was written is not whole; \
+    no line of the input is at fault";
+
+const READ: &str = "a read of standard input failed, and no turn was taken";
+
+const MEMORY: &str = "memory was wanting, and nothing is claimed of what was written";
+
+const TOO_LONG: &str = "the input has more than 16,777,216 bytes (16 MiB), and no turn was taken";
+
+// What a status that is a fault means, and how the number in the fault's line is counted.
+fn meaning(status: u8) -> Option<&'static str> {
+    match status {
+        2 => Some(WORDS),
+        3 => Some(LINE),
+        5 => Some(PLAN),
+        6 => Some(NOT_ENABLED),
+        8 => Some(UNFINISHED),
+        9 => Some(REPORT),
+        10 => Some(READ),
+        11 => Some(MEMORY),
+        12 => Some(TOO_LONG),
+        _ => None,
+    }
+}
+
+// Says on standard error what a status means, where it is a fault.
+fn explain(rt: &HostRuntime, status: u8) {
+    if let Some(text) = meaning(status) {
+        let _ = eprintln!(rt; "nextest_run: {text}");
+    }
+}
 
 // Carries out a run from the standard input to the standard output, and answers its status.
 fn replay(rt: &HostRuntime, words: &[String]) -> u8 {
     let mut source = StdSource::new(rt.stdin());
     let sink = StdSink::new(rt.stdout());
     let Ran { status, sink: _ } = run(rt.alloc(), words, &mut source, sink);
-    if status == 2 {
-        let _ = eprintln!(rt; "{USAGE}");
-    }
     status
 }
 
@@ -67,7 +133,7 @@ fn without_words(rt: &HostRuntime, error: &io::Error) -> u8 {
     if error.kind() != io::ErrorKind::OutOfMemory {
         return replay(rt, &[]);
     }
-    let _ = println!(rt; "{NO_MEMORY}");
+    let _ = println!(rt; "{MEMORY_LINE}");
     11
 }
 
@@ -76,5 +142,6 @@ fn main(rt: HostRuntime) -> ExitCode {
         Ok(words) => status_of_words(&rt, words.as_slice()),
         Err(error) => without_words(&rt, &error),
     };
+    explain(&rt, status);
     ExitCode::from(status)
 }
