@@ -1,6 +1,7 @@
 -- The lines of asks and events, one after another.
 use Rattle.std.proofs.Common.{◌≡◌, ℕ, ◌+◌, ◌<◌, List, [], ◌∷◌, ◌++◌, length, take, drop, get_or, Option, Some, None}
-use Rattle.std.proofs.Common.{refl, ap, sym, ◌∙◌, append_assoc}
+use Rattle.std.proofs.Common.{refl, ap, sym, subst, ◌∙◌, append_assoc}
+use Rattle.std.proofs.Common.{Result, Ok, Err, OnErr}
 use Rattle.std.proofs.lemmas.List.{append-nil, take_more, take-append-drop}
 use Rattle.run_events.specs.declared.ask.Ask.{Ask}
 use Rattle.run_output.specs.Fields.{line_of}
@@ -24,6 +25,13 @@ pub ask_lines-take : (asks : List (ℕ × Ask)) (i : ℕ) (ask : ℕ × Ask) →
 ask_lines-take asks i ask h is =
     sym (ask_lines-push (take i asks) ask) ∙ ap (λ a. ask_lines (take i asks ++ a ∷ [])) is
         ∙ ap ask_lines (sym (take_more asks i ask h))
+
+-- the lines of two lists of asks
+ask_lines-append : (first later : List (ℕ × Ask)) → ask_lines (first ++ later) ≡ ask_lines first ++ ask_lines later
+ask_lines-append [] later = refl
+ask_lines-append (a ∷ first) later =
+    ap (λ lines. line_of (ask_text a.0 a.1) ++ lines) (ask_lines-append first later)
+    ∙ sym (append_assoc (line_of (ask_text a.0 a.1)) (ask_lines first) (ask_lines later))
 
 -- a sink that took nothing took a front part
 pub front_none : (taken : Option (List ℕ)) (bytes : List ℕ) → TakesFront taken taken bytes
@@ -51,9 +59,32 @@ front_after before between after first later one (front, left, is, h) = (
   takes_both before between after first front one h,
 )
 
+-- all of some bytes are a front part of them
+pub front_whole : (before after : Option (List ℕ)) (bytes : List ℕ) → Takes before after bytes
+    → TakesFront before after bytes
+front_whole before after bytes h = (bytes, [], sym (append-nil bytes), h)
+
 -- bytes that went out whole, and a front part of bytes where the sink failed
 pub writes_whole : (w : Writing) (text : List ℕ) → HasTaken w text → Writes w text
 writes_whole w text h = record { whole = λ calm. h; front = (text, [], sym (append-nil text), h) }
 
 pub writes_front : (w : Writing) (text : List ℕ) → HasWriteFault w → HasTakenFront w text → Writes w text
 writes_front w text rose h = record { whole = λ calm. absurd (calm rose); front = h }
+
+-- the lines of the first asks are a front part of those of all
+pub asks_front : (before after : Option (List ℕ)) (asks : List (ℕ × Ask)) (i : ℕ)
+    → TakesFront before after (ask_lines (take i asks)) → TakesFront before after (ask_lines asks)
+asks_front before after asks i h =
+    subst (TakesFront before after)
+    (sym (ask_lines-append (take i asks) (drop i asks)) ∙ ap ask_lines (take-append-drop i asks))
+    (front_of_first before after (ask_lines (take i asks)) (ask_lines (drop i asks)) h)
+
+-- what holds at any rate holds after an error
+pub on_err : {T E : Type 0} (r : Result T E) (P : Type 0) → P → OnErr r P
+on_err (Ok x) P h = tt
+on_err (Err e) P h = h
+
+-- and what follows from what holds after an error
+pub on_err_then : {T E : Type 0} (r : Result T E) (P Q : Type 0) → (P → Q) → OnErr r P → OnErr r Q
+on_err_then (Ok x) P Q f h = tt
+on_err_then (Err e) P Q f h = f h

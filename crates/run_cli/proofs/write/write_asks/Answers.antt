@@ -1,10 +1,11 @@
-use Rattle.std.proofs.Common.{ap, subst, ◌∙◌, arith, ◌≡◌, take, ◌++◌}
+use Rattle.std.proofs.Common.{ap, sym, subst, [], ◌+◌, ◌∙◌, arith, ◌≡◌, take, ◌++◌}
 use Rattle.run_capture.specs.Bytes.{Takes}
 use Rattle.run_capture.proofs.BytesLemmas.{takes_both}
 use Rattle.run_output.specs.Fields.{line_of}
 use Rattle.run_output.specs.Asks.{ask_text}
+use Rattle.run_cli.specs.Call.{TakesFront}
 use Rattle.run_cli.specs.Text.{ask_lines}
-use Rattle.run_cli.proofs.TextLemmas.{ask_lines-take}
+use Rattle.run_cli.proofs.TextLemmas.{ask_lines-take, front_whole, front_after, asks_front, on_err}
 use Rattle.run_cli.proofs.write.write_asks.Goals as goal
 
 pub loop-ask-preserved : goal.loop-ask-preserved
@@ -22,3 +23,24 @@ loop-ask-preserved g c =
               c.loop-ask.invariant.taken line);
       faults = c.in_ok-write_line.ensures.counted ∙ c.loop-ask.invariant.faults;
     }
+
+pub returns-in_err-line-clause-front : goal.returns-in_err-line-clause-front
+returns-in_err-line-clause-front g c =
+    let asks = c.args.asks.now in
+    let taken = c.loop-ask.invariant.taken in
+    on_err c.from_residual.result _
+    (asks_front _ _ asks c.loop-ask.ask-index (front_whole _ _ (ask_lines (take c.loop-ask.ask-index asks)) taken))
+
+pub returns-in_err-write_line-clause-front : goal.returns-in_err-write_line-clause-front
+returns-in_err-write_line-clause-front g c =
+    let asks = c.args.asks.now in
+    let ask = c.ask-item.result in
+    let i = c.loop-ask.ask-index in
+    let front : TakesFront (g.K.Sink.taken c.loop-ask.sink) (g.K.Sink.taken c.write_line.new.sink)
+    (line_of (ask_text ask.0 ask.1)) =
+    subst (λ text. TakesFront (g.K.Sink.taken c.loop-ask.sink) (g.K.Sink.taken c.write_line.new.sink) (line_of text))
+    c.in_ok-line.ensures c.in_err-write_line.ensures.front in
+    on_err c.from_residual-in_err-write_line.result _
+    (asks_front _ _ asks (i + 1)
+    (subst (TakesFront _ _) (ask_lines-take asks i ask (omega arith) c.ask-item.is)
+    (front_after _ _ _ (ask_lines (take i asks)) (line_of (ask_text ask.0 ask.1)) c.loop-ask.invariant.taken front)))
