@@ -22,7 +22,7 @@ use Rattle.run_engine.proofs.JournalLemmas.{past_of-push, legal-push}
 -- an enabled turn can be taken
 pub can_advance : (p : Settings) (journal : List Entry) (b : Board) (turn : Turn) → IsRunnable p journal
     → b ≡ board p (past_of p journal) → enabled p (past_of p journal) turn ≡ true
-        → CanAdvance p b turn (turn_of_unit turn)
+    → CanAdvance p b turn (turn_of_unit turn)
 can_advance p journal b turn r st en =
     subst (λ b. CanAdvance p b turn (turn_of_unit turn)) (sym st) (ready_after p journal turn r.legal r.few r.short en)
 

@@ -64,7 +64,8 @@ course_of o p turns refuses journal refusal (Err (Report d)) legal answers says 
     let one : HasOneCourse p turns refuses = one_course p turns refuses in
     let end : RunOutcome = outcome_of (summary (stats p (sub_run (past_of p journal)))) in
     let ends : Ends p turns refuses end = (
-      journal, record { legal = legal; takes = says.0; answers = answers },
+      journal,
+      record { legal = legal; takes = says.0; answers = answers },
       over_outcome p (past_of p journal) says.1,
     ) in
     record {

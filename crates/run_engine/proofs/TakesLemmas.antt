@@ -26,17 +26,17 @@ use Rattle.run_engine.proofs.JournalLemmas.{past_of-push, legal-push}
 -- the events of a journal with one more entry
 pub answers-push : (p : Settings) (journal : List Entry) (e : Entry)
     → answers (past_of p (journal ++ e ∷ [])) ≡ answers (past_of p journal)
-        ++ zip (events_in (happening p (past_of p journal) e)) e.refused
+    ++ zip (events_in (happening p (past_of p journal) e)) e.refused
 answers-push p journal e = ap answers (past_of-push p journal e)
 
 -- the asks of a journal with one more entry
 pub asked-push : (p : Settings) (journal : List Entry) (e : Entry)
     → asked (past_of p (journal ++ e ∷ [])) ≡ asked (past_of p journal)
-        ++ map (λ ask. (length journal, ask)) (option_to_list (happening p (past_of p journal) e).asked)
+    ++ map (λ ask. (length journal, ask)) (option_to_list (happening p (past_of p journal) e).asked)
 asked-push p journal e =
     ap asked (past_of-push p journal e)
     ∙ ap (λ n. asked (past_of p journal)
-        ++ map (λ ask. (n, ask)) (option_to_list (happening p (past_of p journal) e).asked)) (past_of-length p journal)
+    ++ map (λ ask. (n, ask)) (option_to_list (happening p (past_of p journal) e).asked)) (past_of-length p journal)
 
 -- the first error of two lists
 earlier-assoc : {E : Type 0} (a b c : Option E) → earlier (earlier a b) c ≡ earlier a (earlier b c)
@@ -53,7 +53,7 @@ first_error-append (x ∷ xs) ys = ap (earlier x.1) (first_error-append xs ys)
 pub tells_both : {R E : Type 0} (tells : R → List (ReporterEvent × Option E)
     → Type 0) (a b c : R) (es fs : List (ReporterEvent × Bool)) (first later : Option E)
     → TellsEvents tells a b es first → TellsEvents tells b c fs later
-        → TellsEvents tells a c (es ++ fs) (earlier first later)
+    → TellsEvents tells a c (es ++ fs) (earlier first later)
 tells_both tells a b c es fs first later f g xs t =
     let one = f xs t in
     let two = g (xs ++ one.0) one.1 in (

@@ -1,11 +1,12 @@
-// The admission rule, by plain scans over all units.
-ghost use Rattle.std.specs.Prelude.{◌≡◌, ◌<◌, ◌≤◌, ◌^◌, length, IfOk, Some, option_map, is_some, is_none, position};
+// The admission rule.
+ghost use Rattle.std.specs.Prelude.{◌≡◌, ◌<◌, ◌≤◌, ◌^◌, length, IfOk, Some, option_map, is_some};
 ghost use Rattle.std.specs.Prelude.{slice_get, nat_lt, true};
 ghost use Rattle.std.specs.List.{list_all, list_any};
-ghost use Rattle.run_model.specs.Admission.{is_done, is_in_use, in_use, holds_slot, free_slot, candidate, scripts_over};
+ghost use Rattle.run_model.specs.Admission.{is_done, in_use, holds_slot, free_slot, candidate, scripts_over};
 ghost use Rattle.run_model.specs.Admission.{newcomer, newcomer_at, first_view, skipped_view, start_message};
 ghost use Rattle.run_model.specs.Admission.{skip_message, global_slot, units_in, unit_of_test};
 
+use crate::units::Units;
 use run_capture::{Mem, Text};
 use run_events::{Message, Settings, TestSlotAssignment};
 use run_model::Phase;
@@ -21,15 +22,6 @@ fn unit_is_done(unit: &Option<Unit>) -> bool
     }
 }
 
-fn unit_is_in_use(unit: &Option<Unit>) -> bool
-    ensures { result ≡ is_in_use unit.now }
-{
-    match unit {
-        Some(unit) => !matches!(unit.phase(), Phase::Over),
-        None => false,
-    }
-}
-
 fn unit_holds_slot(slot: usize, unit: &Option<Unit>) -> bool
     ensures { result ≡ holds_slot slot unit.now }
 {
@@ -39,23 +31,11 @@ fn unit_holds_slot(slot: usize, unit: &Option<Unit>) -> bool
     }
 }
 
-/// Whether each test was admitted and is over.
-pub fn all_done(units: &[Option<Unit>]) -> bool
+/// Whether each of some units was admitted and is over.
+pub fn are_done(units: &[Option<Unit>]) -> bool
     ensures { result ≡ list_all is_done units.now }
 {
     units.iter().all(|unit| unit_is_done(unit))
-}
-
-fn count_in_use(units: &[Option<Unit>]) -> usize
-    ensures { result ≡ in_use units.now }
-{
-    let mut count = 0;
-    for unit in units {
-        if unit_is_in_use(unit) {
-            count += 1;
-        }
-    }
-    count
 }
 
 fn is_slot_held(slot: usize, units: &[Option<Unit>]) -> bool
@@ -64,8 +44,8 @@ fn is_slot_held(slot: usize, units: &[Option<Unit>]) -> bool
     units.iter().any(|unit| unit_holds_slot(slot, unit))
 }
 
-// The slot of the next test: the least number from 0 that no test in use holds.
-fn least_free_slot(units: &[Option<Unit>]) -> usize
+/// The slot of the next test: the least number from 0 that no test in use holds.
+pub fn least_free_slot(units: &[Option<Unit>]) -> usize
     ensures slot { result ≡ free_slot units.now }
     ensures within { result ≤ length units.now }
 {
@@ -77,38 +57,32 @@ fn least_free_slot(units: &[Option<Unit>]) -> usize
     units.len()
 }
 
-// The place of the first unit that wasn't admitted.
-fn first_absent(units: &[Option<Unit>]) -> Option<usize>
-    ensures { result ≡ position is_none units.now }
-{
-    units.iter().position(|unit| unit.is_none())
-}
-
 /// The candidate: the place of the first test that wasn't admitted.
-pub fn first_waiting(settings: &Settings, units: &[Option<Unit>]) -> Option<usize>
-    requires { length units.now ≡ units_in settings.now }
+pub fn first_waiting(settings: &Settings, units: &Units) -> Option<usize>
+    requires whole { length units.now ≡ units_in settings.now }
+    requires over { scripts_over settings.now units.now ≡ true }
     ensures { result ≡ candidate settings.now units.now }
 {
-    first_absent(&units[settings.plan.scripts.len()..])
+    units.next_after(settings.plan.scripts.len())
 }
 
 // Whether all setup scripts are over.
-fn are_scripts_over(settings: &Settings, units: &[Option<Unit>]) -> bool
+fn are_scripts_over(settings: &Settings, units: &Units) -> bool
     requires { length units.now ≡ units_in settings.now }
     ensures { result ≡ scripts_over settings.now units.now }
 {
-    all_done(&units[..settings.plan.scripts.len()])
+    units.are_first_over(settings.plan.scripts.len())
 }
 
 // Whether one more test may be in use.
-fn has_room(settings: &Settings, units: &[Option<Unit>]) -> bool
+fn has_room(settings: &Settings, units: &Units) -> bool
     ensures { result ≡ nat_lt (in_use units.now) settings.now.threads }
 {
-    count_in_use(units) < settings.threads as usize
+    units.in_use() < settings.threads as usize
 }
 
 // Whether the candidate can be admitted: it is skipped, or one more test may be in use.
-fn fits(settings: &Settings, units: &[Option<Unit>], test: usize) -> bool
+fn fits(settings: &Settings, units: &Units, test: usize) -> bool
     ensures { result ≡ is_some (newcomer_at settings.now units.now test (slice_get settings.now.plan.tests test)) }
 {
     match settings.plan.tests.as_slice().get(test) {
@@ -118,7 +92,7 @@ fn fits(settings: &Settings, units: &[Option<Unit>], test: usize) -> bool
 }
 
 /// Whether a test can be admitted: all scripts are over, and the candidate can be.
-pub fn can_admit(settings: &Settings, units: &[Option<Unit>]) -> bool
+pub fn can_admit(settings: &Settings, units: &Units) -> bool
     requires { length units.now ≡ units_in settings.now }
     ensures { result ≡ is_some (newcomer settings.now units.now) }
 {
@@ -152,12 +126,7 @@ fn skip_test(alloc: Global, settings: &Settings, test: u32, reason: &Text) -> Me
 }
 
 // A test that matches, as it starts in the least free slot.
-fn start_test(
-    alloc: Global,
-    settings: &Settings,
-    units: &[Option<Unit>],
-    test: u32,
-) -> Mem<Newcomer>
+fn start_test(alloc: Global, settings: &Settings, units: &Units, test: u32) -> Mem<Newcomer>
     requires planned { test < length settings.now.plan.tests }
     requires few { units_in settings.now < 2 ^ 32 }
     requires whole { length units.now ≡ units_in settings.now }
@@ -167,7 +136,7 @@ fn start_test(
     ensures sent { IfOk result (λ a. a.sent ≡ start_message a.unit) }
 {
     let slot = TestSlotAssignment {
-        global: least_free_slot(units) as u32,
+        global: units.free_slot() as u32,
         group: None,
     };
     let unit = Unit::test(alloc, settings, test, slot)?;
@@ -176,12 +145,7 @@ fn start_test(
 }
 
 /// What the next admission makes of the candidate at this place.
-pub fn admit_test(
-    alloc: Global,
-    settings: &Settings,
-    units: &[Option<Unit>],
-    test: usize,
-) -> Mem<Newcomer>
+pub fn admit_test(alloc: Global, settings: &Settings, units: &Units, test: usize) -> Mem<Newcomer>
     requires candidate { candidate settings.now units.now ≡ Some test }
     requires admitted { is_some (newcomer settings.now units.now) ≡ true }
     requires planned { test < length settings.now.plan.tests }

@@ -1,11 +1,10 @@
 // Which turns are enabled.
 ghost use Rattle.std.specs.Prelude.{◌≡◌, length, IfOk};
 ghost use Rattle.run_model.specs.Admission.{units_in};
-ghost use Rattle.run_model.specs.Board.{unit_in};
-ghost use Rattle.run_model.specs.Turns.{turn_of_unit, unit_takes, is_empty, facts, run_takes, enabled_on};
+ghost use Rattle.run_model.specs.Turns.{turn_of_unit, is_empty, facts, run_takes, enabled_on};
 ghost use Rattle.run_events.specs.declared.turn.Turn.TheVariants.{StartFailed, WaitFailed};
 
-use crate::admission::{all_done, can_admit};
+use crate::admission::can_admit;
 use crate::state::State;
 use run_capture::{Duplicate, Mem, Text};
 use run_dispatch::DispatchState;
@@ -41,16 +40,6 @@ fn wait_failed(alloc: Global, unit: u32, error: &Text) -> Mem<Option<(u32, UnitT
     Ok(Some((unit, UnitTurn::WaitFailed { error })))
 }
 
-// Whether a unit takes a turn; a number of no admitted unit takes none.
-fn unit_takes_turn(state: &State, unit: u32, turn: &UnitTurn) -> bool
-    ensures { result ≡ unit_takes (unit_in state.now unit) turn.now }
-{
-    match state.units.get(unit as usize) {
-        Some(Some(unit)) => unit.enabled(turn),
-        _ => false,
-    }
-}
-
 // Whether no message waits.
 fn is_queue_empty(state: &State) -> bool
     ensures { result ≡ is_empty state.now.queue }
@@ -58,14 +47,14 @@ fn is_queue_empty(state: &State) -> bool
     state.queue.is_empty()
 }
 
-// What the dispatcher asks of the rest of the run. Units are looked at only where no message waits.
+// What the dispatcher asks of the rest of the run.
 fn facts_of(state: &State) -> Facts
     ensures { result ≡ facts state.now }
 {
     let message_waits = !is_queue_empty(state);
     Facts {
         message_waits,
-        complete: !message_waits && all_done(&state.units),
+        complete: !message_waits && state.units.are_over(),
     }
 }
 
@@ -97,7 +86,7 @@ pub fn is_enabled(
         return false;
     }
     match named {
-        Some((unit, own)) => unit_takes_turn(state, *unit, own),
+        Some((unit, own)) => state.units.takes(*unit, own),
         None => is_run_enabled(settings, state, turn),
     }
 }

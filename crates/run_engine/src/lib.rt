@@ -12,6 +12,7 @@ mod start;
 mod state;
 mod tell;
 mod turns;
+mod units;
 
 pub use builder::TestRunnerBuilder;
 pub use errors::{StepError, TestRunnerBuildError, TestRunnerExecuteErrors};

@@ -4,6 +4,7 @@ ghost use Rattle.run_model.specs.Admission.{units_in};
 ghost use Rattle.run_model.specs.Board.{board};
 
 use crate::state::State;
+use crate::units::Units;
 use run_capture::Mem;
 use run_dispatch::Dispatcher;
 use run_events::Settings;
@@ -34,7 +35,7 @@ pub fn new_state(alloc: Global, settings: &Settings) -> Mem<State>
     )?;
     let dispatcher = Dispatcher::new(alloc, settings)?;
     Ok(State {
-        units,
+        units: Units::new(units),
         queue: VecDeque::new(alloc),
         dispatcher,
         clock: 0,

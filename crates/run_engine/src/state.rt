@@ -1,7 +1,7 @@
 // What a run keeps of its history.
+use crate::units::Units;
 use run_dispatch::Dispatcher;
 use run_events::Message;
-use run_unit::Unit;
 use std::collections::VecDeque;
 use std::marker::Model;
 
@@ -9,7 +9,7 @@ use std::marker::Model;
 #[derive(Drop)]
 pub struct State {
     /// Each test of the plan, once it was admitted.
-    pub units: Vec<Option<Unit>>,
+    pub units: Units,
     /// The messages that wait, the oldest first.
     pub queue: VecDeque<Message>,
     pub dispatcher: Dispatcher,
@@ -23,7 +23,7 @@ impl Model for State {
     ghost Value = { Board };
 
     ghost view = { λ s. record {
-      units = s.units.items;
+      units = s.units;
       queue = s.queue.items;
       dispatcher = s.dispatcher;
       clock = s.clock;

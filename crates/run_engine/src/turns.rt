@@ -1,6 +1,6 @@
 // The turns of a run: each does to the state what its row of the tables says.
-ghost use Rattle.std.specs.Prelude.{◌≡◌, ◌<◌, ◌^◌, ◌++◌, [], length, IfOk, OnOk, true, false, option_to_list};
-ghost use Rattle.std.specs.Prelude.{slice_set, Some, None};
+ghost use Rattle.std.specs.Prelude.{◌≡◌, ◌<◌, ◌^◌, ◌++◌, [], IfOk, OnOk, true, false, option_to_list};
+ghost use Rattle.std.specs.Prelude.{None};
 ghost use Rattle.std.specs.VecDeque.{deque_len, deque_capacity};
 ghost use Rattle.run_model.specs.Admission.{newcomer, units_in};
 ghost use Rattle.run_model.specs.Board.{unit_in, moved, step, deed_events};
@@ -14,7 +14,7 @@ use run_capture::{List, Mem};
 use run_dispatch::DispatchEffects;
 use run_events::{Ask, Message, ReporterEvent, Settings, Turn};
 use run_model::UnitTurn;
-use run_unit::{Unit, UnitEffects};
+use run_unit::UnitEffects;
 use std::alloc::Global;
 use std::collections::VecDeque;
 
@@ -54,27 +54,13 @@ pub fn take_turn(alloc: Global, state: &mut State, unit: u32, turn: UnitTurn) ->
 {
     state.queue.reserve(1)?;
     let now = state.clock;
-    let place = &mut state.units[unit as usize];
-    match place {
-        Some(member) => {
-            let UnitEffects {
-                sent,
-                asked,
-                over: _,
-            } = member.step(alloc, turn, now)?;
-            send(&mut state.queue, sent);
-            Ok(asked)
-        }
-        None => unreachable!(),
-    }
-}
-
-// Puts a unit at its place.
-fn put(units: &mut Vec<Option<Unit>>, place: usize, unit: Unit)
-    requires { place < length units.old.items }
-    ensures { units.new.items ≡ slice_set units.old.items place (Some unit) }
-{
-    units[place] = Some(unit);
+    let UnitEffects {
+        sent,
+        asked,
+        over: _,
+    } = state.units.step(alloc, unit as usize, turn, now)?;
+    send(&mut state.queue, sent);
+    Ok(asked)
 }
 
 /// Admits the candidate.
@@ -88,7 +74,7 @@ pub fn admit(alloc: Global, settings: &Settings, state: &mut State) -> Mem<()>
             state.queue.reserve(1)?;
             let Newcomer { unit, sent } = admit_test(alloc, settings, &state.units, test)?;
             state.queue.push_back_reserved(sent);
-            put(&mut state.units, settings.plan.scripts.len() + test, unit);
+            state.units.admit(settings.plan.scripts.len(), unit);
             Ok(())
         }
         None => unreachable!(),

@@ -7,9 +7,9 @@ pub returns-then-is_repeat-clause-first : goal.returns-then-is_repeat-clause-fir
 returns-then-is_repeat-clause-first c =
     let here : is_repeat c.args.tests.now c.loop-place.place ≡ true = grind arith in
     sym (found_first (is_repeat c.args.tests.now) (length c.args.tests.now) c.loop-place.place (omega arith)
-        c.loop-place.invariant here)
+    c.loop-place.invariant here)
 
 pub returns-clause-first : goal.returns-clause-first
 returns-clause-first c =
     sym (found_none (is_repeat c.args.tests.now) (length c.args.tests.now)
-        (λ k h. c.loop-place.invariant k (omega arith)))
+    (λ k h. c.loop-place.invariant k (omega arith)))

@@ -18,9 +18,9 @@ loop-event-preserved g c =
     let events = c.args.events.now in
     let error = c.in_ok-error.error in
     let pushed : c.tell_marked.new.refused ≡ c.loop-event.refused ++ is_some error ∷ [] =
-        c.in_ok-error.ensures.marked in
+    c.in_ok-error.ensures.marked in
     let pairs = zip-more events c.loop-event.refused i c.event-item.result (is_some error) c.loop-event-test.true
-        inv.answered c.event-item.is in
+    inv.answered c.event-item.is in
     record {
       answered = ap length pushed ∙ omega (arith, length-append c.loop-event.refused (is_some error ∷ []));
       marked = ap is_none c.first_of-refusal.ensures ∙ none-earlier c.loop-event.refusal error
@@ -31,13 +31,13 @@ loop-event-preserved g c =
           (zip (take (i + 1) events) c.tell_marked.new.refused))
           (sym c.first_of-refusal.ensures)
           (subst (λ bs. TellsEvents g.R.Reporter.told c.args.report.now c.tell_marked.new.report
-              (zip (take (i + 1) events) bs) (earlier c.loop-event.refusal error))
+          (zip (take (i + 1) events) bs) (earlier c.loop-event.refusal error))
           (sym pushed)
           (subst (λ ps. TellsEvents g.R.Reporter.told c.args.report.now c.tell_marked.new.report ps
-              (earlier c.loop-event.refusal error))
+          (earlier c.loop-event.refusal error))
           (sym pairs)
           (tells_both g.R.Reporter.told c.args.report.now c.loop-event.report c.tell_marked.new.report
-              (zip (take i events) c.loop-event.refused) _
+          (zip (take i events) c.loop-event.refused) _
           c.loop-event.refusal error inv.told c.in_ok-error.ensures.told)));
       faults = subst (CountsErrors (g.R.Reporter.faults c.args.report.now)
           (g.R.Reporter.faults c.tell_marked.new.report)) (sym c.first_of-refusal.ensures)
