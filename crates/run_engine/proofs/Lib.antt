@@ -5,3 +5,4 @@ pub mod TakesLemmas
 pub mod TellLemmas
 pub mod CourseLemmas
 pub mod CountedLemmas
+pub mod RepeatLemmas

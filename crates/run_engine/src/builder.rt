@@ -1,14 +1,14 @@
 // How a runner is made of a plan.
-ghost use Rattle.std.specs.Prelude.{◌≡◌, ◌+◌, ◌<◌, ◌^◌, length, IfSome, IsErrOf};
-ghost use Rattle.run_engine.specs.Builder.{IsBuilt, same_id, is_repeat, first_repeat};
-ghost use Rattle.std.specs.List.{list_any};
+ghost use Rattle.std.specs.Prelude.{◌≡◌, ◌+◌, ◌<◌, ◌^◌, length, IfOk, IfSome};
+ghost use Rattle.run_engine.specs.Builder.{IsBuilt, first_repeat};
 
 use crate::errors::TestRunnerBuildError;
 use crate::runner::TestRunner;
-use run_capture::CaptureStrategy;
+use run_capture::{CaptureStrategy, Mem};
 use run_commands::Interceptor;
-use run_events::{MaxFail, Plan, PlanTest, Settings, TestInstanceId};
+use run_events::{MaxFail, Plan, PlanTest, Settings};
 use std::alloc::Global;
+use std::collections::BTreeSet;
 use std::marker::Model;
 
 /// What is set of a runner beside its plan: how the output of tests is captured.
@@ -51,19 +51,21 @@ impl TestRunnerBuilder {
 
     /// The runner of a plan of fewer than 2^32 units. A plan is refused exactly where two of its tests have one id,
     /// with
-    /// the place of the first test that repeats one. No memory is taken yet.
+    /// the place of the first test that repeats one.
     pub fn build(self, alloc: Global, plan: Plan) -> Result<TestRunner, TestRunnerBuildError>
         requires { length plan.scripts + length plan.tests < 2 ^ 32 }
         ensures built { IsBuilt self plan result }
-        ensures memory { IsErrOf result TestRunnerBuildError.OutOfMemory → ⊥ }
     {
-        let _alloc = alloc;
-        match first_repeat(plan.tests.as_slice()) {
-            Some(test) => {
+        match first_repeat(alloc, plan.tests.as_slice()) {
+            Err(_) => {
+                drop(plan);
+                Err(TestRunnerBuildError::OutOfMemory)
+            }
+            Ok(Some(test)) => {
                 drop(plan);
                 Err(TestRunnerBuildError::DuplicateTest { test: test as u32 })
             }
-            None => Ok(TestRunner::new(Settings {
+            Ok(None) => Ok(TestRunner::new(Settings {
                 plan,
                 capture: self.capture,
                 threads: 1,
@@ -78,36 +80,16 @@ impl TestRunnerBuilder {
     }
 }
 
-fn has_id(id: &TestInstanceId, test: &PlanTest) -> bool
-    ensures { result ≡ same_id test.now.id id.now }
-{
-    test.id == *id
-}
-
-// Whether one of these tests has an id.
-fn is_taken(id: &TestInstanceId, tests: &[PlanTest]) -> bool
-    ensures { result ≡ list_any (λ t. same_id t.id id.now) tests.now }
-{
-    tests.iter().any(|test| has_id(id, test))
-}
-
-// Whether the test at this place has the id of an earlier one.
-fn is_repeat(tests: &[PlanTest], place: usize) -> bool
-    requires { place < length tests.now }
-    ensures { result ≡ is_repeat tests.now place }
-{
-    is_taken(&tests[place].id, &tests[..place])
-}
-
 // The first test that has the id of an earlier one.
-fn first_repeat(tests: &[PlanTest]) -> Option<usize>
-    ensures first { result ≡ first_repeat tests.now }
-    ensures inside { IfSome result (λ place. place < length tests.now) }
+fn first_repeat(alloc: Global, tests: &[PlanTest]) -> Mem<Option<usize>>
+    ensures first { IfOk result (λ place. place ≡ first_repeat tests.now) }
+    ensures inside { IfOk result (λ place. IfSome place (λ place. place < length tests.now)) }
 {
-    for place in 0..tests.len() {
-        if is_repeat(tests, place) {
-            return Some(place);
+    let mut ids = BTreeSet::new(alloc);
+    for (place, test) in tests.iter().enumerate() {
+        if !ids.insert(&test.id)? {
+            return Ok(Some(place));
         }
     }
-    None
+    Ok(None)
 }

@@ -1,0 +1,46 @@
+-- Ids in their order, and the test that has the id of an earlier one.
+use Rattle.std.proofs.Common.{◌≡◌, ◌&&◌, ◌||◌, cond, Bool, true, false, not, ap, sym, ◌∙◌, refl, nat_eq}
+use Rattle.std.specs.declared.cmp.Ordering.{Ordering}
+use Rattle.std.specs.declared.cmp.Ordering.TheVariants.{Less, Equal, Greater}
+use Rattle.std.specs.Ordering.{nat_cmp, ordering_then, is_eq}
+use Rattle.std.specs.Cmp.Lexicographic.{slice_cmp, texts_ties}
+use lib.Pointwise.{pointwise}
+use Rattle.run_events.specs.declared.plan.TestInstanceId.{TestInstanceId}
+use Rattle.run_engine.specs.Builder.{same_id}
+
+-- the order of ids: by binary, then by name
+abbrev pub id_cmp : TestInstanceId → TestInstanceId → Ordering
+id_cmp a b = ordering_then (slice_cmp nat_cmp a.binary b.binary) (slice_cmp nat_cmp a.name b.name)
+
+then_equal : (a b : Ordering) → is_eq (ordering_then a b) ≡ (is_eq a && is_eq b)
+then_equal Less b = refl
+then_equal Equal b = refl
+then_equal Greater b = refl
+
+-- ids that are equal in their order are those of one test
+pub id_equal : (a b : TestInstanceId) → is_eq (id_cmp a b) ≡ same_id a b
+id_equal a b =
+    then_equal (slice_cmp nat_cmp a.binary b.binary) (slice_cmp nat_cmp a.name b.name)
+    ∙ ap (λ e. e && is_eq (slice_cmp nat_cmp a.name b.name)) (sym (texts_ties a.binary b.binary))
+    ∙ ap (λ e. pointwise nat_eq a.binary b.binary && e) (sym (texts_ties a.name b.name))
+
+-- what a set has after an insertion
+cond_or : (b had : Bool) → cond b true had ≡ (had || b)
+cond_or true true = refl
+cond_or true false = refl
+cond_or false true = refl
+cond_or false false = refl
+
+pub one_more : (b had c d : Bool) → b ≡ d → had ≡ c → cond b true had ≡ (c || d)
+one_more b had c d e f = cond_or b had ∙ ap (λ h. h || b) f ∙ ap (λ b. c || b) e
+
+-- an insertion that adds nothing found what it inserts, and one that adds didn't
+pub found : (added had : Bool) → added ≡ not had → added ≡ false → had ≡ true
+found true had e f = cc
+found false true e f = refl
+found false false e f = cc
+
+pub unknown : (added had : Bool) → added ≡ not had → added ≡ true → had ≡ false
+unknown false had e f = cc
+unknown true true e f = cc
+unknown true false e f = refl
