@@ -117,6 +117,10 @@ fn answers(
         && interceptor.should_send_sigtstp() == sends_sigtstp
 }
 
+fn is_none(interceptor: &Interceptor) -> bool {
+    answers(interceptor, false, false, true, false, false, true)
+}
+
 fn gdb(rt: &impl Abort, alloc: Global) -> Interceptor {
     copied(rt, alloc, Interceptor::Debugger(debugger(rt, alloc, "gdb")))
 }
@@ -147,19 +151,23 @@ fn check_strace(rt: &impl Abort, alloc: Global) {
 
 fn check_none(rt: &impl Abort, alloc: Global) {
     let interceptor = copied(rt, alloc, Interceptor::default());
-    holds(
-        rt,
-        "none",
-        answers(&interceptor, false, false, true, false, false, true),
-    );
+    let answers = is_none(&interceptor);
+    drop(interceptor);
+    holds(rt, "none", answers);
 }
 
 fn check_debugger(rt: &impl Abort, alloc: Global) {
-    holds(rt, "debugger", is_debugger(&gdb(rt, alloc)));
+    let interceptor = gdb(rt, alloc);
+    let answers = is_debugger(&interceptor);
+    drop(interceptor);
+    holds(rt, "debugger", answers);
 }
 
 fn check_tracer(rt: &impl Abort, alloc: Global) {
-    holds(rt, "tracer", is_tracer(&tracer(rt, alloc)));
+    let interceptor = tracer(rt, alloc);
+    let answers = is_tracer(&interceptor);
+    drop(interceptor);
+    holds(rt, "tracer", answers);
 }
 
 #[test]

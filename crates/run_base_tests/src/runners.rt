@@ -158,7 +158,10 @@ fn tells(rt: &impl Abort, alloc: Global, versions: &VersionEnvVars) -> bool {
 }
 
 fn versions_are_told(rt: &impl Abort, alloc: Global) -> bool {
-    tells(rt, alloc, &copied(rt, alloc, versions(rt, alloc)))
+    let versions = copied(rt, alloc, versions(rt, alloc));
+    let told = tells(rt, alloc, &versions);
+    drop(versions);
+    told
 }
 
 #[test]
