@@ -1,23 +1,17 @@
 // Texts, lists, sources and sinks.
-use crate::rows::holds;
+use crate::rows::{MEMORY, blob, copied, holds, one, text};
 use run_capture::{
-    Blob, ChildFdError, Duplicate, Failed, List, Mem, MemorySink, MemorySource, ReadError, Sink,
-    Source, StdSink, StdSource, Text, read_to_end, write_all,
+    Blob, ChildFdError, Failed, List, MemorySink, MemorySource, ReadError, Sink, Source, StdSink,
+    StdSource, Text, read_to_end, write_all,
 };
 use std::alloc::Global;
+use std::process::Abort;
 
-fn long_text(alloc: Global) -> Mem<Text> {
-    let mut text = Text::from_str(alloc, "out of")?;
-    text.push_str(alloc, " memory")?;
-    Ok(text)
-}
-
-// A list of one text with a number.
-fn numbered(alloc: Global) -> Mem<List<(Text, Option<u64>)>> {
-    let text = long_text(alloc)?;
-    let mut list = List::new();
-    list.push(alloc, (text, Some(7)))?;
-    Ok(list)
+// A text of two parts.
+fn long_text(rt: &impl Abort, alloc: Global) -> Text {
+    let mut text = text(rt, alloc, "out of");
+    text.push_str(alloc, " memory").expect(rt, MEMORY);
+    text
 }
 
 fn is_numbered(list: &List<(Text, Option<u64>)>) -> bool {
@@ -27,10 +21,17 @@ fn is_numbered(list: &List<(Text, Option<u64>)>) -> bool {
     }
 }
 
-fn copies_a_list(alloc: Global) -> Mem<bool> {
-    let list = numbered(alloc)?;
-    let copied = list.copy(alloc)?;
-    Ok(is_numbered(&copied) && copied == list)
+// A list of one text with a number.
+fn numbered(rt: &impl Abort, alloc: Global) -> List<(Text, Option<u64>)> {
+    one(rt, alloc, (long_text(rt, alloc), Some(7)))
+}
+
+fn copies_a_list(rt: &impl Abort, alloc: Global) -> bool {
+    is_numbered(&copied(rt, alloc, numbered(rt, alloc)))
+}
+
+fn compares_lists(rt: &impl Abort, alloc: Global) -> bool {
+    numbered(rt, alloc) == numbered(rt, alloc)
 }
 
 fn is_wait(error: &ChildFdError, expected: &str) -> bool {
@@ -40,45 +41,38 @@ fn is_wait(error: &ChildFdError, expected: &str) -> bool {
     }
 }
 
-fn is_copied(alloc: Global, error: &ChildFdError) -> Mem<bool> {
-    let copied = error.copy(alloc)?;
-    Ok(is_wait(&copied, "out of memory"))
-}
-
-fn copies_an_error(alloc: Global) -> Mem<bool> {
-    let text = long_text(alloc)?;
-    is_copied(alloc, &ChildFdError::Wait(text))
+fn copies_an_error(rt: &impl Abort, alloc: Global) -> bool {
+    let error = copied(rt, alloc, ChildFdError::Wait(long_text(rt, alloc)));
+    is_wait(&error, "out of memory")
 }
 
 // Texts are ordered by their bytes.
-fn orders_texts(alloc: Global) -> Mem<bool> {
-    let short = Text::from_str(alloc, "out")?;
-    let long = long_text(alloc)?;
-    let other = Text::from_str(alloc, "p")?;
-    Ok(short < long && long < other && short != long)
+fn is_less(rt: &impl Abort, alloc: Global, one: &str, other: &str) -> bool {
+    text(rt, alloc, one) < text(rt, alloc, other)
+}
+
+fn is_same(rt: &impl Abort, alloc: Global, one: &str, other: &str) -> bool {
+    text(rt, alloc, one) == text(rt, alloc, other)
 }
 
 #[test]
 fn copies_texts_and_lists(rt: HostRuntime) {
     let alloc = rt.alloc();
-    holds(&rt, "list", copies_a_list(alloc));
-    holds(&rt, "error", copies_an_error(alloc));
-    holds(&rt, "order", orders_texts(alloc));
-}
-
-// The number of a call, as the list of the calls that fail.
-fn failing(alloc: Global, call: u64) -> Mem<List<u64>> {
-    let mut list = List::new();
-    list.push(alloc, call)?;
-    Ok(list)
+    holds(&rt, "list", copies_a_list(&rt, alloc));
+    holds(&rt, "equal", compares_lists(&rt, alloc));
+    holds(&rt, "error", copies_an_error(&rt, alloc));
+    holds(&rt, "longer", is_less(&rt, alloc, "out", "out of memory"));
+    holds(&rt, "greater", is_less(&rt, alloc, "out of memory", "p"));
+    holds(&rt, "other", !is_same(&rt, alloc, "out", "out of memory"));
 }
 
 // A source of five bytes whose second read fails.
-fn seven(alloc: Global) -> Mem<MemorySource> {
-    let blob = Blob::from_slice(alloc, b"seven")?;
-    let bytes = blob.copy(alloc)?;
-    let second = failing(alloc, 2)?;
-    Ok(MemorySource::new(bytes, 3, second))
+fn seven(rt: &impl Abort, alloc: Global) -> MemorySource {
+    MemorySource::new(
+        copied(rt, alloc, blob(rt, alloc, b"seven")),
+        3,
+        one(rt, alloc, 2),
+    )
 }
 
 fn gives(source: &mut MemorySource, answer: Result<usize, Failed>, first: u8) -> bool {
@@ -86,14 +80,15 @@ fn gives(source: &mut MemorySource, answer: Result<usize, Failed>, first: u8) ->
     source.read(&mut buffer) == answer && buffer[0] == first
 }
 
-fn fails_in_reading(alloc: Global) -> Mem<bool> {
-    let mut source = seven(alloc)?;
-    Ok(
-        gives(&mut source, Ok(3), b's')
-            && gives(&mut source, Err(Failed), 0)
-            && gives(&mut source, Ok(2), b'e')
-            && gives(&mut source, Ok(0), 0),
-    )
+fn gives_in_part(source: &mut MemorySource) -> bool {
+    gives(source, Ok(3), b's')
+        && gives(source, Err(Failed), 0)
+        && gives(source, Ok(2), b'e')
+        && gives(source, Ok(0), 0)
+}
+
+fn fails_in_reading(rt: &impl Abort, alloc: Global) -> bool {
+    gives_in_part(&mut seven(rt, alloc))
 }
 
 // The third write fails, and so does the one after the room.
@@ -103,15 +98,9 @@ fn takes(sink: &mut MemorySink) -> bool {
         && write_all(sink, b"two") == Err(Failed)
 }
 
-fn fails_in_writing(alloc: Global) -> Mem<bool> {
-    let third = failing(alloc, 3)?;
-    let mut sink = MemorySink::new(alloc, 5, 2, third)?;
-    Ok(
-        write_all(&mut sink, b"one") == Ok(())
-            && sink.write(b"two") == Err(Failed)
-            && write_all(&mut sink, b"two") == Err(Failed)
-            && sink.bytes() == b"onetw".as_slice(),
-    )
+fn fails_in_writing(rt: &impl Abort, alloc: Global) -> bool {
+    let mut sink = MemorySink::new(alloc, 5, 2, one(rt, alloc, 3)).expect(rt, MEMORY);
+    takes(&mut sink) && sink.bytes() == b"onetw".as_slice()
 }
 
 // What reading all of ten bytes of std gives, under a limit.
@@ -120,17 +109,20 @@ fn reads_std(alloc: Global, limit: usize) -> Result<Blob, ReadError> {
     read_to_end(alloc, &mut source, limit)
 }
 
-fn std_is_read(alloc: Global) -> Mem<bool> {
+fn std_is_read(alloc: Global) -> bool {
     match reads_std(alloc, 10) {
-        Ok(bytes) => Ok(bytes.as_slice() == b"0123456789".as_slice()),
-        Err(_) => Ok(false),
+        Ok(bytes) => bytes.as_slice() == b"0123456789".as_slice(),
+        Err(_) => false,
     }
 }
 
+fn std_is_too_long(alloc: Global) -> bool {
+    reads_std(alloc, 9).err() == Some(ReadError::TooLong)
+}
+
 // The error of a source whose second read fails.
-fn read_error(alloc: Global) -> Mem<Option<ReadError>> {
-    let mut source = seven(alloc)?;
-    Ok(read_to_end(alloc, &mut source, 10).err())
+fn is_read_error(rt: &impl Abort, alloc: Global) -> bool {
+    read_to_end(alloc, &mut seven(rt, alloc), 10).err() == Some(ReadError::Failed)
 }
 
 // Two bytes go into a room of two, and the next write takes none, which is a fault.
@@ -143,10 +135,10 @@ fn std_is_written() -> bool {
 #[test]
 fn fails_in_mid_stream(rt: HostRuntime) {
     let alloc = rt.alloc();
-    holds(&rt, "read", fails_in_reading(alloc));
-    holds(&rt, "write", fails_in_writing(alloc));
+    holds(&rt, "read", fails_in_reading(&rt, alloc));
+    holds(&rt, "write", fails_in_writing(&rt, alloc));
     holds(&rt, "all", std_is_read(alloc));
-    assert!(rt; reads_std(alloc, 9).err() == Some(ReadError::TooLong));
-    assert!(rt; read_error(alloc) == Ok(Some(ReadError::Failed)));
-    assert!(rt; std_is_written());
+    holds(&rt, "too long", std_is_too_long(alloc));
+    holds(&rt, "failed", is_read_error(&rt, alloc));
+    holds(&rt, "written", std_is_written());
 }

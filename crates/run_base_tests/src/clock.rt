@@ -5,6 +5,7 @@ ghost use Rattle.run_clock.specs.Stopwatch.{Times};
 ghost use Rattle.run_clock.specs.Sleep.{Keeps, ready_where};
 ghost use Rattle.run_base_tests.specs.Marks.{marks_of};
 
+use crate::rows::holds;
 use run_clock::{PausableSleep, Poll, StopwatchSnapshot, StopwatchStart};
 use std::alloc::AllocError;
 
@@ -95,12 +96,9 @@ fn is_copied(watch: &StopwatchStart) -> bool {
     }
 }
 
-#[test]
-fn stopwatch_counts_pauses_one_after_another(rt: HostRuntime) {
-    assert!(rt; counts_pauses());
+fn counts_any_calls() -> bool {
     let calls = [(550, false), (250, true), (250, false), (0, true)];
-    assert!(rt; shows(shown_after(0, &calls, 600), 0, 50, 550));
-    assert!(rt; is_copied(&StopwatchStart::new(0)));
+    shows(shown_after(0, &calls, 600), 0, 50, 550)
 }
 
 fn is_ready(sleep: &PausableSleep, now: u64) -> bool
@@ -123,10 +121,20 @@ fn fires_where_due() -> bool {
     paused && resumed && again && !is_ready(&sleep, u64::MAX)
 }
 
-#[test]
-fn sleep_fires_at_its_deadline(rt: HostRuntime) {
-    assert!(rt; fires_where_due());
+// Whether a sleep of 100 from 10 is ready after any calls.
+fn is_due_at(now: u64) -> bool
+    requires { 210 ≤ now }
+{
     let calls = [(210, false), (200, false), (90, true), (70, true)];
-    assert!(rt; polled_after(10, 100, &calls, 239) == Poll::Pending);
-    assert!(rt; polled_after(10, 100, &calls, 240) == Poll::Ready(()));
+    polled_after(10, 100, &calls, now) == Poll::Ready(())
+}
+
+#[test]
+fn pauses_are_not_counted(rt: HostRuntime) {
+    holds(&rt, "stopwatch", counts_pauses());
+    holds(&rt, "any calls", counts_any_calls());
+    holds(&rt, "copy", is_copied(&StopwatchStart::new(0)));
+    holds(&rt, "sleep", fires_where_due());
+    holds(&rt, "pending", !is_due_at(239));
+    holds(&rt, "ready", is_due_at(240));
 }

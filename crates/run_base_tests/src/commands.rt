@@ -1,6 +1,5 @@
 // Commands, interceptors and counts.
-use crate::rows::{are_texts, holds};
-use run_capture::{Duplicate, Mem};
+use crate::rows::{are_texts, copied, holds};
 use run_commands::{
     DebuggerCommand, DebuggerCommandParseError, Interceptor, StressCondition, StressCount,
     TracerCommand, TracerCommandParseError, configure_handle_inheritance,
@@ -8,22 +7,25 @@ use run_commands::{
 use std::alloc::Global;
 use std::process::Abort;
 
-// A command's copy has these words.
-fn has_words(alloc: Global, command: &DebuggerCommand, words: &[&str]) -> Mem<bool> {
-    let copied = command.copy(alloc)?;
-    match words.split_first() {
-        Some((program, args)) => {
-            Ok(copied.program() == *program && are_texts(copied.args(), args))
-        }
-        None => Ok(false),
-    }
+fn debugger(rt: &impl Abort, alloc: Global, text: &str) -> DebuggerCommand {
+    DebuggerCommand::from_str(alloc, text).expect(rt, text)
 }
 
-fn splits(alloc: Global, text: &str, words: &[&str]) -> Mem<bool> {
-    match DebuggerCommand::from_str(alloc, text) {
-        Ok(command) => has_words(alloc, &command, words),
-        Err(_) => Ok(false),
-    }
+// A command has these words, each argument with `|` after it.
+fn has_words(
+    rt: &impl Abort,
+    alloc: Global,
+    command: &DebuggerCommand,
+    program: &str,
+    args: &str,
+) -> bool {
+    command.program() == program && are_texts(rt, alloc, command.args(), args)
+}
+
+// The copy of a command has these words.
+fn splits(rt: &impl Abort, alloc: Global, text: &str, program: &str, args: &str) {
+    let command = copied(rt, alloc, debugger(rt, alloc, text));
+    holds(rt, text, has_words(rt, alloc, &command, program, args));
 }
 
 fn debugger_error(alloc: Global, text: &str) -> Option<DebuggerCommandParseError> {
@@ -40,113 +42,141 @@ fn is_empty(alloc: Global, text: &str) -> bool {
         && tracer_error(alloc, text) == Some(TracerCommandParseError::EmptyCommand)
 }
 
+fn check_empty(rt: &impl Abort, alloc: Global, text: &str) {
+    holds(rt, text, is_empty(alloc, text));
+}
+
 // The quote at this byte of a command isn't closed.
 fn is_open(alloc: Global, text: &str, place: usize) -> bool {
     debugger_error(alloc, text) == Some(DebuggerCommandParseError::ShellWordsParse { place })
         && tracer_error(alloc, text) == Some(TracerCommandParseError::ShellWordsParse { place })
 }
 
-fn check_words(rt: &impl Abort, alloc: Global) {
-    for (text, words) in [
-        (
-            "rust-gdb -ex run --args",
-            ["rust-gdb", "-ex", "run", "--args"].as_slice(),
-        ),
-        (
-            "gdb -ex \"set print pretty on\" -a",
-            ["gdb", "-ex", "set print pretty on", "-a"].as_slice(),
-        ),
-        ("\t a  '' \"\"\n", ["a", "", ""].as_slice()),
-        ("# c 'x\na#b #d", ["a#b"].as_slice()),
-        ("a\\ b \\\nc d\\", ["a b", "c", "d\\"].as_slice()),
-        (
-            "\"a\\$\\`\\\"\\\\\\x\\\nb\" 'c\\'d",
-            ["a$`\"\\\\xb", "c\\d"].as_slice(),
-        ),
-        ("'é'ü\\ö#", ["éüö#"].as_slice()),
-    ] {
-        holds(rt, text, splits(alloc, text, words));
-    }
-}
-
-fn check_empty(rt: &impl Abort, alloc: Global) {
-    for text in ["", "   ", "# a 'b", "\\\n"] {
-        holds(rt, text, Ok(is_empty(alloc, text)));
-    }
-}
-
-fn check_open(rt: &impl Abort, alloc: Global) {
-    for (text, place) in [
-        ("a 'b", 2),
-        ("'a' \"b\\\"", 4),
-        ("\\' # '\n'", 7),
-        ("é\"", 2),
-    ] {
-        holds(rt, text, Ok(is_open(alloc, text, place)));
-    }
+fn check_open(rt: &impl Abort, alloc: Global, text: &str, place: usize) {
+    holds(rt, text, is_open(alloc, text, place));
 }
 
 #[test]
 fn splits_commands(rt: HostRuntime) {
-    check_words(&rt, rt.alloc());
-    check_empty(&rt, rt.alloc());
-    check_open(&rt, rt.alloc());
+    let alloc = rt.alloc();
+    splits(
+        &rt,
+        alloc,
+        "rust-gdb -ex run --args",
+        "rust-gdb",
+        "-ex|run|--args|",
+    );
+    splits(
+        &rt,
+        alloc,
+        "gdb -ex \"set print pretty on\" -a",
+        "gdb",
+        "-ex|set print pretty on|-a|",
+    );
+    splits(&rt, alloc, "\t a  '' \"\"\n", "a", "||");
+    splits(&rt, alloc, "# c 'x\na#b #d", "a#b", "");
+    splits(&rt, alloc, "a\\ b \\\nc d\\", "a b", "c|d\\|");
+    splits(
+        &rt,
+        alloc,
+        "\"a\\$\\`\\\"\\\\\\x\\\nb\" 'c\\'d",
+        "a$`\"\\xb",
+        "c\\d|",
+    );
+    splits(&rt, alloc, "'é'ü\\ö#", "éüö#", "");
 }
 
-// The answers to the six questions, in the order of the table.
-fn answers(interceptor: &Interceptor) -> [bool; 6] {
-    [
-        interceptor.should_disable_timeouts(),
-        interceptor.should_passthrough_stdin(),
-        interceptor.should_create_process_group(),
-        interceptor.should_skip_leak_detection(),
-        interceptor.should_show_wrapper_command(),
-        interceptor.should_send_sigtstp(),
-    ]
+#[test]
+fn refuses_commands(rt: HostRuntime) {
+    let alloc = rt.alloc();
+    check_empty(&rt, alloc, "");
+    check_empty(&rt, alloc, "   ");
+    check_empty(&rt, alloc, "# a 'b");
+    check_empty(&rt, alloc, "\\\n");
+    check_open(&rt, alloc, "a 'b", 2);
+    check_open(&rt, alloc, "'a' \"b\\\"", 4);
+    check_open(&rt, alloc, "\\' # '\n'", 7);
+    check_open(&rt, alloc, "é\"", 2);
 }
 
-// A copy of an interceptor answers so.
-fn copy_answers(alloc: Global, interceptor: &Interceptor, expected: [bool; 6]) -> Mem<bool> {
-    let copied = interceptor.copy(alloc)?;
-    Ok(answers(&copied) == expected)
+// An interceptor answers its six questions so, in the order of the table.
+fn answers(
+    interceptor: &Interceptor,
+    disables_timeouts: bool,
+    passes_stdin: bool,
+    has_group: bool,
+    skips_leaks: bool,
+    shows_wrapper: bool,
+    sends_sigtstp: bool,
+) -> bool {
+    interceptor.should_disable_timeouts() == disables_timeouts
+        && interceptor.should_passthrough_stdin() == passes_stdin
+        && interceptor.should_create_process_group() == has_group
+        && interceptor.should_skip_leak_detection() == skips_leaks
+        && interceptor.should_show_wrapper_command() == shows_wrapper
+        && interceptor.should_send_sigtstp() == sends_sigtstp
 }
 
-fn debugger_answers(alloc: Global, expected: [bool; 6]) -> Mem<bool> {
-    match DebuggerCommand::from_str(alloc, "gdb") {
-        Ok(command) => copy_answers(alloc, &Interceptor::Debugger(command), expected),
-        Err(_) => Ok(false),
-    }
+fn is_none(interceptor: &Interceptor) -> bool {
+    answers(interceptor, false, false, true, false, false, true)
 }
 
-fn is_strace(command: &TracerCommand) -> bool {
-    command.program() == "strace" && are_texts(command.args(), &["-f"])
+fn gdb(rt: &impl Abort, alloc: Global) -> Interceptor {
+    copied(rt, alloc, Interceptor::Debugger(debugger(rt, alloc, "gdb")))
 }
 
-fn tracer_answers(alloc: Global, expected: [bool; 6]) -> Mem<bool> {
-    match TracerCommand::from_str(alloc, "strace -f") {
-        Ok(command) => {
-            if !is_strace(&command) {
-                return Ok(false);
-            }
-            copy_answers(alloc, &Interceptor::Tracer(command), expected)
-        }
-        Err(_) => Ok(false),
-    }
+fn is_debugger(interceptor: &Interceptor) -> bool {
+    answers(interceptor, true, true, false, true, true, false)
+}
+
+fn strace(rt: &impl Abort, alloc: Global) -> TracerCommand {
+    TracerCommand::from_str(alloc, "strace -f").expect(rt, "strace")
+}
+
+fn is_strace(rt: &impl Abort, alloc: Global, command: &TracerCommand) -> bool {
+    command.program() == "strace" && are_texts(rt, alloc, command.args(), "-f|")
+}
+
+fn tracer(rt: &impl Abort, alloc: Global) -> Interceptor {
+    copied(rt, alloc, Interceptor::Tracer(strace(rt, alloc)))
+}
+
+fn is_tracer(interceptor: &Interceptor) -> bool {
+    answers(interceptor, true, false, true, true, true, true)
+}
+
+fn check_strace(rt: &impl Abort, alloc: Global) {
+    holds(rt, "words", is_strace(rt, alloc, &strace(rt, alloc)));
+}
+
+fn check_none(rt: &impl Abort, alloc: Global) {
+    let interceptor = copied(rt, alloc, Interceptor::default());
+    let answers = is_none(&interceptor);
+    drop(interceptor);
+    holds(rt, "none", answers);
+}
+
+fn check_debugger(rt: &impl Abort, alloc: Global) {
+    let interceptor = gdb(rt, alloc);
+    let answers = is_debugger(&interceptor);
+    drop(interceptor);
+    holds(rt, "debugger", answers);
+}
+
+fn check_tracer(rt: &impl Abort, alloc: Global) {
+    let interceptor = tracer(rt, alloc);
+    let answers = is_tracer(&interceptor);
+    drop(interceptor);
+    holds(rt, "tracer", answers);
 }
 
 #[test]
 fn answers_for_each_interceptor(rt: HostRuntime) {
     let alloc = rt.alloc();
-    let nothing = [false, false, true, false, false, true];
-    holds(
-        &rt,
-        "none",
-        copy_answers(alloc, &Interceptor::default(), nothing),
-    );
-    let debugger = [true, true, false, true, true, false];
-    holds(&rt, "debugger", debugger_answers(alloc, debugger));
-    let tracer = [true, false, true, true, true, true];
-    holds(&rt, "tracer", tracer_answers(alloc, tracer));
+    check_none(&rt, alloc);
+    check_debugger(&rt, alloc);
+    check_strace(&rt, alloc);
+    check_tracer(&rt, alloc);
 }
 
 // The count that a text says, 0 for none and `u32::MAX` for infinite.
@@ -158,34 +188,46 @@ fn count_of(text: &str) -> u32 {
     }
 }
 
-fn conditions_are_copied(alloc: Global) -> Mem<bool> {
-    let time = StressCondition::Duration(7).copy(alloc)?;
-    let count = StressCondition::Count(StressCount::Infinite).copy(alloc)?;
-    Ok(
-        matches!(time, StressCondition::Duration(7))
-            && matches!(count, StressCondition::Count(StressCount::Infinite)),
-    )
+fn check_count(rt: &impl Abort, text: &str, count: u32) {
+    holds(rt, text, count_of(text) == count);
+}
+
+fn is_time(condition: &StressCondition) -> bool {
+    matches!(condition, StressCondition::Duration(7))
+}
+
+fn is_endless(condition: &StressCondition) -> bool {
+    matches!(condition, StressCondition::Count(StressCount::Infinite))
+}
+
+fn copies_a_time(rt: &impl Abort, alloc: Global) -> bool {
+    is_time(&copied(rt, alloc, StressCondition::Duration(7)))
+}
+
+fn copies_a_count(rt: &impl Abort, alloc: Global) -> bool {
+    is_endless(&copied(rt, alloc, StressCondition::Count(StressCount::Infinite)))
+}
+
+fn check_numbers(rt: &impl Abort) {
+    check_count(rt, "5", 5);
+    check_count(rt, "+5", 5);
+    check_count(rt, "005", 5);
+    check_count(rt, "0", 0);
+    check_count(rt, "-1", 0);
+    check_count(rt, "4294967296", 0);
 }
 
 #[test]
 fn counts_stress_runs(rt: HostRuntime) {
-    for (text, count) in [
-        ("infinite", u32::MAX),
-        ("5", 5),
-        ("+5", 5),
-        ("005", 5),
-        ("0", 0),
-        ("Infinite", 0),
-        ("", 0),
-        ("-1", 0),
-        ("4294967296", 0),
-    ] {
-        holds(&rt, text, Ok(count_of(text) == count));
-    }
-    holds(&rt, "conditions", conditions_are_copied(rt.alloc()));
+    check_numbers(&rt);
+    check_count(&rt, "infinite", u32::MAX);
+    check_count(&rt, "Infinite", 0);
+    check_count(&rt, "", 0);
+    holds(&rt, "time", copies_a_time(&rt, rt.alloc()));
+    holds(&rt, "count", copies_a_count(&rt, rt.alloc()));
     holds(
         &rt,
         "inheritance",
-        Ok(configure_handle_inheritance(true).is_ok()),
+        configure_handle_inheritance(true).is_ok(),
     );
 }

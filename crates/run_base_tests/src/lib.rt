@@ -1,7 +1,7 @@
-//! Tests of the lowest layers, through their public calls: worked rows, texts as they print, each call that
-//! takes memory once with ample memory, and reads and writes that fail in mid-stream. A test asserts the answers
-//! of small helpers, since each assertion and each value that lives across an error's way out makes the proof of
-//! a test dear.
+//! Tests of the lowest layers and of the lines of output, through their public calls: worked rows, texts as they
+//! print, each call that takes memory once with ample memory, and reads and writes that fail in mid-stream. Where
+//! memory is wanting a test ends at once, so that no helper has a second way out: each value that lives across one
+//! makes the proof of a test dear. A helper asserts the answer of a small one, and names the row.
 #![tactic(auto)]
 
 #[cfg(test)]
@@ -12,6 +12,22 @@ mod clock;
 mod commands;
 #[cfg(test)]
 mod environments;
+#[cfg(test)]
+mod line_reporter;
+#[cfg(test)]
+mod line_samples;
+#[cfg(test)]
+mod lines;
+#[cfg(test)]
+mod lines_of_ends;
+#[cfg(test)]
+mod lines_of_info;
+#[cfg(test)]
+mod lines_of_runs;
+#[cfg(test)]
+mod lines_of_scripts;
+#[cfg(test)]
+mod lines_of_tests;
 #[cfg(test)]
 mod output;
 #[cfg(test)]

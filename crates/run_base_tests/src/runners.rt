@@ -1,43 +1,42 @@
 // Target runners, how they print, and the variables that tell versions.
-use crate::rows::{are_pairs, holds};
-use run_capture::{Duplicate, List, Mem, Text};
+use crate::rows::{MEMORY, are_pairs, copied, holds, is_shown, one, text};
+use run_capture::{List, Text};
 use run_commands::{
-    BuildPlatform, CargoConfigSource, PlatformRunner, PlatformRunnerSource, TargetRunner,
-    VersionEnvVars,
+    BuildPlatform, CargoConfigSource, PlatformRunner, PlatformRunnerSource, RunnerArgs,
+    TargetRunner, VersionEnvVars,
 };
 use semver::Version;
 use std::alloc::Global;
-
-fn with_text(alloc: Global, mut list: List<Text>, text: &str) -> Mem<List<Text>> {
-    let text = Text::from_str(alloc, text)?;
-    list.push(alloc, text)?;
-    Ok(list)
-}
+use std::process::Abort;
 
 // The arguments `-q NAME`.
-fn args_with(alloc: Global, name: &str) -> Mem<List<Text>> {
-    let list = with_text(alloc, List::new(), "-q")?;
-    with_text(alloc, list, name)
+fn args_with(rt: &impl Abort, alloc: Global, name: &str) -> List<Text> {
+    let mut args = one(rt, alloc, text(rt, alloc, "-q"));
+    args.push(alloc, text(rt, alloc, name)).expect(rt, MEMORY);
+    args
 }
 
 // A runner `run -q NAME`, named by a variable.
-fn runner(alloc: Global, name: &str) -> Mem<PlatformRunner> {
-    let binary = Text::from_str(alloc, "run")?;
-    let variable = Text::from_str(alloc, "V")?;
-    let args = args_with(alloc, name)?;
-    Ok(PlatformRunner::debug_new(binary, args, PlatformRunnerSource::Env(variable)))
+fn runner(rt: &impl Abort, alloc: Global, name: &str) -> PlatformRunner {
+    let source = PlatformRunnerSource::Env(text(rt, alloc, "V"));
+    PlatformRunner::debug_new(text(rt, alloc, "run"), args_with(rt, alloc, name), source)
 }
 
 // Runners for both platforms, of different names.
-fn both(alloc: Global) -> Mem<TargetRunner> {
-    let host = runner(alloc, "h")?;
-    let target = runner(alloc, "t")?;
-    Ok(TargetRunner::of(Some(host), Some(target)))
+fn both(rt: &impl Abort, alloc: Global) -> TargetRunner {
+    TargetRunner::of(Some(runner(rt, alloc, "h")), Some(runner(rt, alloc, "t")))
+}
+
+fn next_is(args: &mut RunnerArgs, wanted: &str) -> bool {
+    match args.next() {
+        Some(arg) => arg == wanted,
+        None => false,
+    }
 }
 
 fn has_args(runner: &PlatformRunner, name: &str) -> bool {
     let mut args = runner.args();
-    args.next() == Some("-q") && args.next() == Some(name) && args.next() == None
+    next_is(&mut args, "-q") && next_is(&mut args, name) && args.next().is_none()
 }
 
 // The runner of a platform is there and has these arguments.
@@ -69,33 +68,20 @@ fn is_empty(runner: &TargetRunner, other: &TargetRunner) -> bool {
     runner.host().is_none() && runner.target().is_none() && runner != other
 }
 
-// Runners differ from those of none.
-fn are_there(both: &TargetRunner) -> bool {
-    is_empty(&TargetRunner::empty(), both)
-}
-
+// A copy of runners equals them, and they differ from those of none.
 fn are_equal(both: &TargetRunner, copied: &TargetRunner) -> bool {
-    both == copied && are_both(copied) && are_there(copied)
+    both == copied && are_both(copied) && is_empty(&TargetRunner::empty(), copied)
 }
 
-// A copy of runners equals them.
-fn are_copied(alloc: Global, both: &TargetRunner) -> Mem<bool> {
-    match both.copy(alloc) {
-        Ok(copied) => Ok(are_equal(both, &copied)),
-        Err(error) => Err(error),
-    }
+fn are_runners(rt: &impl Abort, alloc: Global) -> bool {
+    are_equal(&both(rt, alloc), &copied(rt, alloc, both(rt, alloc)))
 }
 
-fn are_runners(alloc: Global) -> Mem<bool> {
-    match both(alloc) {
-        Ok(both) => are_copied(alloc, &both),
-        Err(error) => Err(error),
-    }
-}
-
-fn is_variable(alloc: Global, triple: &str, variable: &str) -> Mem<bool> {
-    let name = PlatformRunner::runner_env_var(alloc, triple)?;
-    Ok(name.as_str() == variable)
+fn is_variable(rt: &impl Abort, alloc: Global, triple: &str, variable: &str) -> bool {
+    PlatformRunner::runner_env_var(alloc, triple)
+        .expect(rt, triple)
+        .as_str()
+        == variable
 }
 
 #[test]
@@ -105,92 +91,88 @@ fn names_runners(rt: HostRuntime) {
     holds(
         &rt,
         variable,
-        is_variable(alloc, "x86_64-unknown-linux-gnu", variable),
+        is_variable(&rt, alloc, "x86_64-unknown-linux-gnu", variable),
     );
-    holds(&rt, "runners", are_runners(alloc));
-}
-
-fn is_printed(alloc: Global, source: &PlatformRunnerSource, text: &str) -> Mem<bool> {
-    let shown = format!(in alloc; "{source}")?;
-    Ok(shown.as_str() == text)
+    holds(&rt, "runners", are_runners(&rt, alloc));
 }
 
 // A copy of a source prints so.
-fn prints(alloc: Global, source: &PlatformRunnerSource, text: &str) -> Mem<bool> {
-    let copied = source.copy(alloc)?;
-    is_printed(alloc, &copied, text)
+fn prints(rt: &impl Abort, alloc: Global, source: PlatformRunnerSource, shown: &str) {
+    holds(
+        rt,
+        shown,
+        is_shown(alloc, &copied(rt, alloc, source), shown),
+    );
 }
 
-fn variable_prints(alloc: Global, text: &str) -> Mem<bool> {
-    let variable = Text::from_str(alloc, "V")?;
-    prints(alloc, &PlatformRunnerSource::Env(variable), text)
+fn prints_variable(rt: &impl Abort, alloc: Global, shown: &str) {
+    prints(
+        rt,
+        alloc,
+        PlatformRunnerSource::Env(text(rt, alloc, "V")),
+        shown,
+    );
 }
 
-// The source of this file, or of the command line, for the table `cfg(unix)`.
-fn config_source(alloc: Global, path: Option<&str>) -> Mem<CargoConfigSource> {
-    match path {
-        Some(path) => Ok(CargoConfigSource::File(Text::from_str(alloc, path)?)),
-        None => Ok(CargoConfigSource::CliOption),
-    }
-}
-
-fn config_prints(alloc: Global, path: Option<&str>, text: &str) -> Mem<bool> {
-    let source = config_source(alloc, path)?;
-    let target_table = Text::from_str(alloc, "cfg(unix)")?;
-    let source = PlatformRunnerSource::CargoConfig {
+// The source of the table `cfg(unix)` there.
+fn table_of(rt: &impl Abort, alloc: Global, source: CargoConfigSource) -> PlatformRunnerSource {
+    PlatformRunnerSource::CargoConfig {
         source,
-        target_table,
-    };
-    prints(alloc, &source, text)
-}
-
-fn versions(alloc: Global) -> Result<VersionEnvVars, semver::Error> {
-    let recommended = Version::parse(alloc, "1.3.0-b.2+c")?;
-    let current = Version::parse(alloc, "1.2.3")?;
-    Ok(VersionEnvVars {
-        current_version: current,
-        required_version: None,
-        recommended_version: Some(recommended),
-    })
-}
-
-fn pairs_are(alloc: Global, versions: &VersionEnvVars, variables: &[(&str, &str)]) -> Mem<bool> {
-    let pairs = versions.pairs(alloc)?;
-    Ok(are_pairs(pairs.as_slice(), variables))
-}
-
-// The variables that a copy tells.
-fn tells(alloc: Global, versions: &VersionEnvVars, variables: &[(&str, &str)]) -> Mem<bool> {
-    let copied = versions.copy(alloc)?;
-    pairs_are(alloc, &copied, variables)
-}
-
-fn versions_are_told(alloc: Global) -> Mem<bool> {
-    match versions(alloc) {
-        Ok(versions) => tells(
-            alloc,
-            &versions,
-            &[
-                ("NEXTEST_VERSION", "1.2.3"),
-                ("NEXTEST_REQUIRED_VERSION", "none"),
-                ("NEXTEST_RECOMMENDED_VERSION", "1.3.0-b.2+c"),
-            ],
-        ),
-        Err(_) => Ok(false),
+        target_table: text(rt, alloc, "cfg(unix)"),
     }
+}
+
+fn prints_option(rt: &impl Abort, alloc: Global, shown: &str) {
+    prints(
+        rt,
+        alloc,
+        table_of(rt, alloc, CargoConfigSource::CliOption),
+        shown,
+    );
+}
+
+fn prints_file(rt: &impl Abort, alloc: Global, shown: &str) {
+    let source = CargoConfigSource::File(text(rt, alloc, "p"));
+    prints(rt, alloc, table_of(rt, alloc, source), shown);
+}
+
+fn version(rt: &impl Abort, alloc: Global, text: &str) -> Version {
+    Version::parse(alloc, text).expect(rt, text)
+}
+
+fn versions(rt: &impl Abort, alloc: Global) -> VersionEnvVars {
+    VersionEnvVars {
+        current_version: version(rt, alloc, "1.2.3"),
+        required_version: None,
+        recommended_version: Some(version(rt, alloc, "1.3.0-b.2+c")),
+    }
+}
+
+const TOLD: &str =
+    "NEXTEST_VERSION=1.2.3|NEXTEST_REQUIRED_VERSION=none|NEXTEST_RECOMMENDED_VERSION=1.3.0-b.2+c|";
+
+// The variables that versions tell.
+fn tells(rt: &impl Abort, alloc: Global, versions: &VersionEnvVars) -> bool {
+    let pairs = versions.pairs(alloc).expect(rt, MEMORY);
+    are_pairs(rt, alloc, pairs.as_slice(), TOLD)
+}
+
+fn versions_are_told(rt: &impl Abort, alloc: Global) -> bool {
+    let versions = copied(rt, alloc, versions(rt, alloc));
+    let told = tells(rt, alloc, &versions);
+    drop(versions);
+    told
 }
 
 #[test]
 fn prints_sources_and_versions(rt: HostRuntime) {
     let alloc = rt.alloc();
-    holds(
+    prints_variable(&rt, alloc, "environment variable `V`");
+    prints_option(
         &rt,
-        "variable",
-        variable_prints(alloc, "environment variable `V`"),
+        alloc,
+        "`target.cfg(unix).runner` specified by `--config`",
     );
-    let option = "`target.cfg(unix).runner` specified by `--config`";
-    holds(&rt, option, config_prints(alloc, None, option));
-    let file = "`target.cfg(unix).runner` within `p`";
-    holds(&rt, file, config_prints(alloc, Some("p"), file));
-    holds(&rt, "versions", versions_are_told(alloc));
+    prints_file(&rt, alloc, "`target.cfg(unix).runner` within `p`");
+    holds(&rt, "versions", versions_are_told(&rt, alloc));
 }

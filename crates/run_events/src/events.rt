@@ -3,6 +3,7 @@
 ghost use Rattle.std.specs.Prelude.{◌≡◌, IfOk, true, false};
 ghost use Rattle.run_events.specs.Parts.{is_of_unit};
 
+use crate::copies::both;
 use crate::{
     AttemptFailed, InfoResponse, RunStats, ScriptFinish, ScriptSlow, ScriptStart, StressProgress,
     StressRunStats, TestFinish, TestInstanceId, TestRetry, TestSkip, TestSlow, TestStart,
@@ -27,9 +28,8 @@ pub struct RunStarted {
 
 impl Duplicate for RunStarted {
     fn copy(&self, alloc: Global) -> Mem<RunStarted> {
-        let args = self.args.copy(alloc)?;
-        let profile = self.profile.copy(alloc)?;
-        let stress = self.stress.copy(alloc)?;
+        let words = both(self.args.copy(alloc), self.profile.copy(alloc));
+        let ((args, profile), stress) = both(words, self.stress.copy(alloc))?;
         Ok(RunStarted {
             run_id: self.run_id,
             tests: self.tests,

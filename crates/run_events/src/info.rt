@@ -1,4 +1,5 @@
 // What a unit is doing, as it answers when it is asked.
+use crate::copies::both;
 use crate::{
     ChildExecutionOutput, ExecutionResult, ScriptUnit, TermSignal, TerminateReason, TestUnit,
 };
@@ -93,8 +94,7 @@ pub struct InfoResponse {
 
 impl Duplicate for InfoResponse {
     fn copy(&self, alloc: Global) -> Mem<InfoResponse> {
-        let subject = self.subject.copy(alloc)?;
-        let output = self.output.copy(alloc)?;
+        let (subject, output) = both(self.subject.copy(alloc), self.output.copy(alloc))?;
         Ok(InfoResponse {
             subject,
             state: self.state,

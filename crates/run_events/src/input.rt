@@ -37,7 +37,7 @@ pub enum InputHandlerStatus {
 }
 
 /// What a key is to a run that hears it.
-#[derive(Clone, Copy, Debug, Drop, PartialEq, Eq)]
+#[derive(Clone, Copy, Drop)]
 pub enum InputEvent {
     /// It asks what the tests are doing.
     Info,

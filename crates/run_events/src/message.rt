@@ -1,4 +1,5 @@
 // What a unit tells the dispatcher.
+use crate::copies::both;
 use crate::{
     ExecuteStatus, FlakyResult, SetupScriptExecuteStatus, StressIndex, TestInstanceId,
     TestSlotAssignment,
@@ -64,8 +65,7 @@ pub struct ScriptStart {
 
 impl Duplicate for ScriptStart {
     fn copy(&self, alloc: Global) -> Mem<ScriptStart> {
-        let script = self.script.copy(alloc)?;
-        let command = self.command.copy(alloc)?;
+        let (script, command) = both(self.script.copy(alloc), self.command.copy(alloc))?;
         Ok(ScriptStart { script, command })
     }
 }
@@ -98,8 +98,7 @@ pub struct ScriptFinish {
 
 impl Duplicate for ScriptFinish {
     fn copy(&self, alloc: Global) -> Mem<ScriptFinish> {
-        let script = self.script.copy(alloc)?;
-        let status = self.status.copy(alloc)?;
+        let (script, status) = both(self.script.copy(alloc), self.status.copy(alloc))?;
         Ok(ScriptFinish { script, status })
     }
 }
@@ -114,9 +113,8 @@ pub struct TestStart {
 
 impl Duplicate for TestStart {
     fn copy(&self, alloc: Global) -> Mem<TestStart> {
-        let test = self.test.copy(alloc)?;
-        let command = self.command.copy(alloc)?;
-        let slot = self.slot.copy(alloc)?;
+        let start = both(self.test.copy(alloc), self.slot.copy(alloc));
+        let ((test, slot), command) = both(start, self.command.copy(alloc))?;
         Ok(TestStart {
             test,
             command,
@@ -160,8 +158,7 @@ pub struct AttemptFailed {
 
 impl Duplicate for AttemptFailed {
     fn copy(&self, alloc: Global) -> Mem<AttemptFailed> {
-        let test = self.test.copy(alloc)?;
-        let status = self.status.copy(alloc)?;
+        let (test, status) = both(self.test.copy(alloc), self.status.copy(alloc))?;
         Ok(AttemptFailed {
             test,
             status,
@@ -199,8 +196,7 @@ pub struct TestFinish {
 
 impl Duplicate for TestFinish {
     fn copy(&self, alloc: Global) -> Mem<TestFinish> {
-        let test = self.test.copy(alloc)?;
-        let statuses = self.statuses.copy(alloc)?;
+        let (test, statuses) = both(self.test.copy(alloc), self.statuses.copy(alloc))?;
         Ok(TestFinish {
             test,
             statuses,
@@ -218,8 +214,7 @@ pub struct TestSkip {
 
 impl Duplicate for TestSkip {
     fn copy(&self, alloc: Global) -> Mem<TestSkip> {
-        let test = self.test.copy(alloc)?;
-        let reason = self.reason.copy(alloc)?;
+        let (test, reason) = both(self.test.copy(alloc), self.reason.copy(alloc))?;
         Ok(TestSkip { test, reason })
     }
 }

@@ -21,8 +21,7 @@ pub struct TestInstanceId {
 
 impl Duplicate for TestInstanceId {
     fn copy(&self, alloc: Global) -> Mem<TestInstanceId> {
-        let binary = self.binary.copy(alloc)?;
-        let name = self.name.copy(alloc)?;
+        let (binary, name) = both(self.binary.copy(alloc), self.name.copy(alloc))?;
         Ok(TestInstanceId { binary, name })
     }
 }
@@ -116,9 +115,8 @@ pub struct PlanScript {
 
 impl Duplicate for PlanScript {
     fn copy(&self, alloc: Global) -> Mem<PlanScript> {
-        let id = self.id.copy(alloc)?;
-        let command = self.command.copy(alloc)?;
-        let env_path = self.env_path.copy(alloc)?;
+        let texts = both(self.id.copy(alloc), self.env_path.copy(alloc));
+        let ((id, env_path), command) = both(texts, self.command.copy(alloc))?;
         Ok(PlanScript {
             id,
             command,
@@ -155,9 +153,7 @@ pub struct PlanTest {
 fn texts_of(alloc: Global, test: &PlanTest) -> Mem<(Option<Text>, Option<Text>)>
     ensures { IfOk result (λ p. p ≡ (test.now.skip, test.now.group)) }
 {
-    let skip = test.skip.copy(alloc)?;
-    let group = test.group.copy(alloc)?;
-    Ok((skip, group))
+    both(test.skip.copy(alloc), test.group.copy(alloc))
 }
 
 impl Duplicate for PlanTest {
@@ -197,10 +193,9 @@ pub struct RunHead {
 
 impl Duplicate for RunHead {
     fn copy(&self, alloc: Global) -> Mem<RunHead> {
-        let profile = self.profile.copy(alloc)?;
-        let workspace_root = self.workspace_root.copy(alloc)?;
-        let args = self.args.copy(alloc)?;
-        let versions = self.versions.copy(alloc)?;
+        let texts = both(self.profile.copy(alloc), self.workspace_root.copy(alloc));
+        let words = both(self.args.copy(alloc), self.versions.copy(alloc));
+        let ((profile, workspace_root), (args, versions)) = both(texts, words)?;
         Ok(RunHead {
             run_id: self.run_id,
             started_at: self.started_at,
@@ -249,9 +244,8 @@ fn lists_of(alloc: Global, plan: &Plan) -> Mem<PlanLists>
     ensures scripts { IfOk result (λ lists. lists.scripts ≡ plan.now.scripts) }
     ensures tests { IfOk result (λ lists. lists.tests ≡ plan.now.tests) }
 {
-    let groups = plan.groups.copy(alloc)?;
-    let scripts = plan.scripts.copy(alloc)?;
-    let tests = plan.tests.copy(alloc)?;
+    let units = both(plan.scripts.copy(alloc), plan.tests.copy(alloc));
+    let ((scripts, tests), groups) = both(units, plan.groups.copy(alloc))?;
     Ok(PlanLists {
         groups,
         scripts,
@@ -282,8 +276,7 @@ fn with_head(alloc: Global, plan: &Plan, lists: PlanLists, runners: TargetRunner
 
 impl Duplicate for Plan {
     fn copy(&self, alloc: Global) -> Mem<Plan> {
-        let lists = lists_of(alloc, self)?;
-        let runners = self.runners.copy(alloc)?;
+        let (lists, runners) = both(lists_of(alloc, self), self.runners.copy(alloc))?;
         with_head(alloc, self, lists, runners)
     }
 }

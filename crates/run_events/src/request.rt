@@ -1,7 +1,7 @@
 // What the dispatcher asks of a unit, and how a unit ends its child.
 
 /// Why a unit is to end its child.
-#[derive(Clone, Copy, Drop, PartialEq, Eq)]
+#[derive(Clone, Copy, Drop)]
 pub enum ShutdownRequest {
     Interrupt,
     Term,
@@ -14,7 +14,7 @@ pub enum ShutdownRequest {
 }
 
 /// A request of the dispatcher to a unit. Each unit has a line of its own.
-#[derive(Clone, Copy, Drop, PartialEq, Eq)]
+#[derive(Clone, Copy, Drop)]
 pub enum Request {
     /// Stop the child, in this round.
     Stop { round: u32 },

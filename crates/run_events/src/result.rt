@@ -3,12 +3,13 @@ ghost use Rattle.std.specs.Prelude.{◌≡◌, IfOk};
 ghost use Rattle.run_events.specs.Result.{is_success, execution_result};
 ghost use Rattle.run_events.specs.declared.result.ChildExecutionOutput.TheVariants.{Output};
 
+use crate::copies::both;
 use run_capture::{ChildFdError, ChildOutput, Duplicate, List, Mem, Text};
 use run_commands::{EnvMap, SetupScriptOutputError};
 use std::alloc::Global;
 
 /// How a child ended.
-#[derive(Clone, Copy, Debug, Drop, PartialEq, Eq)]
+#[derive(Clone, Copy, Drop)]
 pub enum ChildExit {
     /// It exited with a code.
     Code(i32),
@@ -17,7 +18,7 @@ pub enum ChildExit {
 }
 
 /// How a failed child ended.
-#[derive(Clone, Copy, Debug, Drop, PartialEq, Eq)]
+#[derive(Clone, Copy, Drop, PartialEq, Eq)]
 pub enum FailureStatus {
     /// It exited with a code other than 0.
     ExitCode(i32),
@@ -26,28 +27,28 @@ pub enum FailureStatus {
 }
 
 /// What a leaked descriptor means for a test's result.
-#[derive(Clone, Copy, Debug, Drop, PartialEq, Eq)]
+#[derive(Clone, Copy, Drop, PartialEq, Eq)]
 pub enum LeakTimeoutResult {
     Pass,
     Fail,
 }
 
 /// What a test that ran too long is given as its result.
-#[derive(Clone, Copy, Debug, Drop, PartialEq, Eq)]
+#[derive(Clone, Copy, Drop, PartialEq, Eq)]
 pub enum SlowTimeoutResult {
     Pass,
     Fail,
 }
 
 /// What a test that passed only after a retry is given as its result.
-#[derive(Clone, Copy, Debug, Drop, PartialEq, Eq)]
+#[derive(Clone, Copy, Drop, PartialEq, Eq)]
 pub enum FlakyResult {
     Pass,
     Fail,
 }
 
 /// The result of one attempt.
-#[derive(Clone, Copy, Debug, Drop, PartialEq, Eq)]
+#[derive(Clone, Copy, Drop, PartialEq, Eq)]
 pub enum ExecutionResult {
     /// It exited with code 0.
     Pass,
@@ -87,8 +88,7 @@ fn copy_output(
 ) -> Mem<ChildExecutionOutput>
     ensures { IfOk result (λ o. o ≡ Output output.now errors.now) }
 {
-    let output = output.copy(alloc)?;
-    let errors = errors.copy(alloc)?;
+    let (output, errors) = both(output.copy(alloc), errors.copy(alloc))?;
     Ok(ChildExecutionOutput::Output { output, errors })
 }
 
@@ -142,8 +142,7 @@ pub struct SetupScriptExecuteStatus {
 
 impl Duplicate for SetupScriptExecuteStatus {
     fn copy(&self, alloc: Global) -> Mem<SetupScriptExecuteStatus> {
-        let output = self.output.copy(alloc)?;
-        let env = self.env.copy(alloc)?;
+        let (output, env) = both(self.output.copy(alloc), self.env.copy(alloc))?;
         Ok(SetupScriptExecuteStatus {
             result: self.result,
             output,

@@ -39,9 +39,8 @@ fn extras_of(alloc: Global, settings: &Settings) -> Mem<Extras>
     ensures interceptor { IfOk result (λ extras. extras.interceptor ≡ settings.now.interceptor) }
     ensures expected { IfOk result (λ extras. extras.expected ≡ settings.now.expected) }
 {
-    let expected = settings.expected.copy(alloc)?;
-    let stress = settings.stress.copy(alloc)?;
-    let interceptor = settings.interceptor.copy(alloc)?;
+    let ends = both(settings.stress.copy(alloc), settings.expected.copy(alloc));
+    let ((stress, expected), interceptor) = both(ends, settings.interceptor.copy(alloc))?;
     Ok(Extras {
         stress,
         interceptor,

@@ -21,7 +21,7 @@ use crate::adds::{last_result, script_adds, test_adds};
 use crate::{CancelReason, ExecutionResult, FinalRunStats, FlakyResult, RunStep};
 
 /// The statistics of a run.
-#[derive(Clone, Copy, Debug, Drop, PartialEq, Eq)]
+#[derive(Clone, Copy, Drop, PartialEq, Eq)]
 pub struct RunStats {
     /// The tests that match, and so are to run.
     pub initial_run_count: u64,

@@ -32,7 +32,7 @@ pub enum StressProgress {
 }
 
 /// What remains of a stress run.
-#[derive(Clone, Copy, Debug, Drop, PartialEq, Eq)]
+#[derive(Clone, Copy, Drop)]
 pub enum StressRemaining {
     /// So many sub-runs, at least one.
     Runs(u32),

@@ -5,12 +5,13 @@ ghost use Rattle.run_events.specs.Tell.{answered, Adds};
 ghost use Rattle.run_output.specs.Told.{TookLines};
 ghost use Rattle.run_output.specs.Refusals.{CountsSince};
 
-use run_capture::{Failed, List, Mem, MemorySink, Sink};
+use crate::rows::{MEMORY, holds};
+use run_capture::{Failed, List, MemorySink, Sink};
 use run_events::{ReportFault, Reporter, ReporterEvent};
 use run_output::{LineReporter, Origin};
 use std::alloc::Global;
 use std::marker::Brand;
-use std::test::Fail;
+use std::process::Abort;
 
 // Stands for the engine: it knows any reporter by its trait alone.
 fn tells_one<R: Reporter>(
@@ -51,20 +52,22 @@ fn written<K: Sink>(
     written_at::<K, Brand>(alloc, sink, event)
 }
 
-// What a sink with room for so many bytes took of two ticks, where the first was taken and the second refused.
-fn two_ticks(alloc: Global, room: usize) -> Mem<Option<MemorySink>> {
-    let sink = MemorySink::new(alloc, room, 7, List::new())?;
+// Two ticks into a sink, where the first is taken and the second refused.
+fn tells_two<K: Sink>(alloc: Global, sink: K) -> (K, bool) {
     let (sink, first) = written(alloc, sink, &ReporterEvent::Tick);
     let (sink, second) = written(alloc, sink, &ReporterEvent::Tick);
-    let as_wanted = first == Ok(()) && second == Err(ReportFault::Refused(Failed));
-    Ok(as_wanted.then_some(sink))
+    let as_wanted = first.is_ok() && second == Err(ReportFault::Refused(Failed));
+    (sink, as_wanted)
+}
+
+// What a sink with room for twenty bytes took of them.
+fn takes_two(rt: &impl Abort, alloc: Global) -> bool {
+    let room = MemorySink::new(alloc, 20, 7, List::new()).expect(rt, MEMORY);
+    let (sink, as_wanted) = tells_two(alloc, room);
+    as_wanted && sink.bytes() == b"{\"event\":\"tick\"}\n{\"e".as_slice()
 }
 
 #[test]
-fn written_lines(rt: HostRuntime) -> Result<(), Fail> {
-    let sink = two_ticks(rt.alloc(), 20)?;
-    assert!(rt;
-        matches!(&sink, Some(sink) if sink.bytes() == b"{\"event\":\"tick\"}\n{\"e".as_slice())
-    );
-    Ok(())
+fn written_lines(rt: HostRuntime) {
+    holds(&rt, "two ticks", takes_two(&rt, rt.alloc()));
 }

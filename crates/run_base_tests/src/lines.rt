@@ -1,9 +1,9 @@
 // Each form of line byte for byte.
-use crate::output_of_ends::{Sample, first_wrong};
-use crate::output_of_info::{Unit, WAITING};
+use crate::lines_of_ends::{Sample, check};
+use crate::lines_of_info::{Unit, WAITING};
 use crate::{
-    output_of_info as info, output_of_runs as runs, output_of_scripts as scripts,
-    output_of_tests as tests,
+    lines_of_info as info, lines_of_runs as runs, lines_of_scripts as scripts,
+    lines_of_tests as tests,
 };
 use run_commands::SetupScriptOutputError;
 use run_events::{
@@ -12,7 +12,6 @@ use run_events::{
     TerminateReason, UnitState,
 };
 use run_output::{Fault, PlanFault};
-use std::test::Fail;
 
 const RUNS: [(runs::Sample, &str); 25] = [
     (runs::Sample::Tick, r#"{"event":"tick"}"#),
@@ -182,14 +181,6 @@ const RUNS: [(runs::Sample, &str); 25] = [
     ),
 ];
 
-#[test]
-fn lines_of_runs(rt: HostRuntime) -> Result<(), Fail> {
-    let alloc = rt.alloc();
-    let wrong = runs::first_wrong(alloc, &RUNS)?;
-    assert_eq!(rt; wrong, None);
-    Ok(())
-}
-
 const FAILED: FinalRunStats = FinalRunStats::Failed {
     step: RunStep::Test,
 };
@@ -273,14 +264,6 @@ const SCRIPTS: [(scripts::Sample, &str); 9] = [
         ),
     ),
 ];
-
-#[test]
-fn lines_of_scripts(rt: HostRuntime) -> Result<(), Fail> {
-    let alloc = rt.alloc();
-    let wrong = scripts::first_wrong(alloc, &SCRIPTS)?;
-    assert_eq!(rt; wrong, None);
-    Ok(())
-}
 
 const SIGNALLED: ExecutionResult = ExecutionResult::Fail {
     failure_status: FailureStatus::Abort(9),
@@ -417,14 +400,6 @@ const TESTS: [(tests::Sample, &str); 13] = [
         r#"{"clock":3,"elapsed":2,"event":"test-skipped","reason":"gone","test":["b","t"]}"#,
     ),
 ];
-
-#[test]
-fn lines_of_tests(rt: HostRuntime) -> Result<(), Fail> {
-    let alloc = rt.alloc();
-    let wrong = tests::first_wrong(alloc, &TESTS)?;
-    assert_eq!(rt; wrong, None);
-    Ok(())
-}
 
 const RUNNING: UnitState = UnitState::Running {
     pid: 100,
@@ -564,14 +539,6 @@ const ANSWERS: [((Unit, UnitState), &str); 9] = [
     ),
 ];
 
-#[test]
-fn lines_of_answers(rt: HostRuntime) -> Result<(), Fail> {
-    let alloc = rt.alloc();
-    let wrong = info::first_wrong(alloc, &ANSWERS)?;
-    assert_eq!(rt; wrong, None);
-    Ok(())
-}
-
 const FAILED_SCRIPT: RunOutcome = RunOutcome::Failed {
     step: RunStep::SetupScript,
 };
@@ -696,9 +663,11 @@ const ASKS_AND_ENDS: [(Sample, &str); 28] = [
 ];
 
 #[test]
-fn lines_of_asks_and_ends(rt: HostRuntime) -> Result<(), Fail> {
+fn lines_are_as_written(rt: HostRuntime) {
     let alloc = rt.alloc();
-    let wrong = first_wrong(alloc, &ASKS_AND_ENDS)?;
-    assert_eq!(rt; wrong, None);
-    Ok(())
+    runs::check(&rt, alloc, &RUNS);
+    scripts::check(&rt, alloc, &SCRIPTS);
+    tests::check(&rt, alloc, &TESTS);
+    info::check(&rt, alloc, &ANSWERS);
+    check(&rt, alloc, &ASKS_AND_ENDS);
 }

@@ -1,5 +1,5 @@
 use Rattle.std.proofs.Common.{[]}
-use Rattle.run_line_tests.proofs.output_reporter.written_at.Goals as goal
+use Rattle.run_base_tests.proofs.line_reporter.written_at.Goals as goal
 
 pub returns-clause-written : goal.returns-clause-written
 returns-clause-written g c =
