@@ -1,7 +1,7 @@
 -- What one more event does to what a told list comes to.
-use Rattle.std.proofs.Common.{◌≡◌, ℕ, ◌+◌, ◌-◌, ◌^◌, min, Bool, true, false, List, [], ◌∷◌, ◌++◌, Option, Some, None, refl, ap, ◌∙◌, sym, append-nil, arith}
+use Rattle.std.proofs.Common.{◌≡◌, ℕ, ◌+◌, ◌-◌, ◌^◌, min, Bool, true, false, List, [], ◌∷◌, ◌++◌, Option, Some, None, refl, append-nil, arith}
 use Rattle.std.specs.Prelude.{if◌then◌else◌, unwrap_or, not, ◌||◌}
-use Rattle.std.specs.List.{filter_map, list_any, cons_option}
+use Rattle.std.specs.List.{filter_map, cons_option}
 use Rattle.std.proofs.lemmas.List.Elements.{filter_map-append}
 use Rattle.std.proofs.lemmas.List.Folds.{list_any-append}
 use Rattle.run_events.specs.Stats.{last_or}
@@ -18,14 +18,14 @@ use Rattle.run_progress.specs.Edits.{edited, edited_by, slowed, delayed, without
 use Rattle.run_progress.specs.Seen.{counts_in, info_in, last_told, no_counts, pause_in, script_in, seen_of, shows_tests}
 
 -- the last that is told of something, after one more event
-pub last_told-push : {X : Type 0} (other : X) (tells : TestEvent → Option X) (told : List TestEvent) (event : TestEvent)
-    → last_told other tells (told ++ event ∷ []) ≡ unwrap_or (tells event) (last_told other tells told)
-last_told-push other tells [] event =
-    elim (tells event) as (λ o. last_or other (cons_option o []) ≡ unwrap_or o other) [ None ↦ refl | Some x ↦ refl ]
-last_told-push other tells (first ∷ told) event =
-    elim (tells first) as (λ o. last_or other (cons_option o (filter_map tells (told ++ event ∷ [])))
-    ≡ unwrap_or (tells event) (last_or other (cons_option o (filter_map tells told))))
-    [ None ↦ last_told-push other tells told event | Some x ↦ last_told-push x tells told event ]
+pub last_told-push : {X : Type 0} (start : X) (tells : TestEvent → Option X) (told : List TestEvent) (event : TestEvent)
+    → last_told start tells (told ++ event ∷ []) ≡ unwrap_or (tells event) (last_told start tells told)
+last_told-push start tells [] event =
+    elim (tells event) as (λ o. last_or start (cons_option o []) ≡ unwrap_or o start) [ None ↦ refl | Some x ↦ refl ]
+last_told-push start tells (first ∷ told) event =
+    elim (tells first) as (λ o. last_or start (cons_option o (filter_map tells (told ++ event ∷ [])))
+    ≡ unwrap_or (tells event) (last_or start (cons_option o (filter_map tells told))))
+    [ None ↦ last_told-push start tells told event | Some x ↦ last_told-push x tells told event ]
 
 -- the pauses after one more
 pauses-push : (before : ℕ) (ends : List ℕ) (last : ℕ)
@@ -66,13 +66,14 @@ parts-push test status start before slow ends other paused =
     ≡ parts test status start before b ends) [ true ↦ refl | false ↦ refl ])
 parts-push test status start before slow ends (slows id) paused =
     rw append-nil (elim slow as (λ b. parts test status start before (b || (is_same test id || false)) ends
-    ≡ slowed id (parts test status start before b ends))
-    [ true ↦ elim (is_same test id) as (λ s. parts test status start before true ends
-    ≡ (if s then record (parts test status start before true ends) { status = statuses.Slow }
-    else parts test status start before true ends)) [ true ↦ refl | false ↦ refl ]
-    | false ↦ elim (is_same test id) as (λ s. parts test status start before (s || false) ends
-    ≡ (if s then record (parts test status start before false ends) { status = statuses.Slow }
-    else parts test status start before false ends)) [ true ↦ refl | false ↦ refl ] ])
+    ≡ slowed id (parts test status start before b ends)) [
+      | true ↦ elim (is_same test id) as (λ s. parts test status start before true ends
+          ≡ (if s then record (parts test status start before true ends) { status = statuses.Slow }
+          else parts test status start before true ends)) [ true ↦ refl | false ↦ refl ]
+      | false ↦ elim (is_same test id) as (λ s. parts test status start before (s || false) ends
+          ≡ (if s then record (parts test status start before false ends) { status = statuses.Slow }
+          else parts test status start before false ends)) [ true ↦ refl | false ↦ refl ]
+    ])
 parts-push test status start before slow ends continues paused =
     let total : min (pauses before (ends ++ paused ∷ [])) (2 ^ 64 - 1)
     ≡ min (min (pauses before ends) (2 ^ 64 - 1) + (paused - last_or before ends)) (2 ^ 64 - 1)
@@ -88,8 +89,10 @@ running_test-push : (test : TestInstanceId) (status : RunningTestStatus) (start 
     ≡ touched (deed_of event.kind) (event.clock - event.elapsed - last_or before (filter_map paused_in later))
     (running_test test status start before later)
 running_test-push test status start before later event =
-    rw (list_any-append (λ e. is_slow_of test (deed_of e.kind)) later (event ∷ []),
-    filter_map-append paused_in later (event ∷ []))
+    rw (
+      list_any-append (λ e. is_slow_of test (deed_of e.kind)) later (event ∷ []),
+      filter_map-append paused_in later (event ∷ []),
+    )
     (parts-push test status start before (is_told_slow test later) (filter_map paused_in later)
     (deed_of event.kind) (event.clock - event.elapsed))
 
@@ -116,8 +119,10 @@ started-push : (first : Deed) (start before : ℕ) (later : List TestEvent) (eve
     ++ edited (last_or before (filter_map paused_in later)) event rest
     ≡ edited (last_or before (filter_map paused_in later)) event (started_by first start before later ++ rest)
 started-push (starts test status) start before later event rest =
-    rw (list_any-append (λ e. replaces test (deed_of e.kind)) later (event ∷ []),
-    running_test-push test status start before later event)
+    rw (
+      list_any-append (λ e. replaces test (deed_of e.kind)) later (event ∷ []),
+      running_test-push test status start before later event,
+    )
     (edited-cons (deed_of event.kind) event.clock
     (event.clock - event.elapsed - last_or before (filter_map paused_in later))
     (is_replaced test later) (running_test test status start before later) rest)
@@ -164,9 +169,14 @@ pub seen_of-push : (max : MaxProgressRunning) (told : List TestEvent) (event : T
     → seen_of max (told ++ event ∷ []) ≡ seen_after max (seen_of max told) event
 unfolding seen_of seen_after display
 seen_of-push max told event =
-    rw (tests-push (shows_tests max) told event, last_told-push no_counts (λ e. counts_in e.kind) told event,
-    last_told-push 0 paused_in told event, last_told-push false (λ e. script_in e.kind) told event,
-    last_told-push false (λ e. pause_in e.kind) told event, last_told-push false (λ e. info_in e.kind) told event)
+    rw (
+      tests-push (shows_tests max) told event,
+      last_told-push no_counts (λ e. counts_in e.kind) told event,
+      last_told-push 0 paused_in told event,
+      last_told-push false (λ e. script_in e.kind) told event,
+      last_told-push false (λ e. pause_in e.kind) told event,
+      last_told-push false (λ e. info_in e.kind) told event,
+    )
 
 -- what is seen before any event, but for the tests
 abbrev pub seen_with : List RunningTest → Seen

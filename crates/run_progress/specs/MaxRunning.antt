@@ -1,5 +1,5 @@
 -- How many running tests are shown, as a text.
-use Rattle.std.specs.Prelude.{ℕ, ◌≡◌, ◌≢◌, ◌<◌, ◌^◌, List, ◌++◌, map, codes, decimal}
+use Rattle.std.specs.Prelude.{ℕ, ◌≡◌, ◌<◌, ◌^◌, List, ◌++◌, map, codes, decimal}
 use Rattle.std.specs.Char.{to_ascii_lowercase}
 use Rattle.std.specs.Str.Parse.{IsNumeral, IsParseIntError, digits_value, without_leading_plus}
 use Rattle.std.specs.declared.num.IntErrorKind.{IntErrorKind}

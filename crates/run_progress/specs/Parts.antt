@@ -1,5 +1,5 @@
 -- Parts of a summary, as they are added one after another.
-use Rattle.std.specs.Prelude.{ℕ, ◌==◌, nat_lt, if◌then◌else◌, List, [], ◌++◌, length, codes, decimal}
+use Rattle.std.specs.Prelude.{ℕ, ◌==◌, nat_lt, if◌then◌else◌, List, ◌++◌, length, codes, decimal}
 use Rattle.std.specs.List.{flat_map}
 
 -- each text with a comma and a space before it

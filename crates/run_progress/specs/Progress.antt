@@ -1,5 +1,5 @@
 -- What contracts see of a `ProgressState`, and the told lists that it stands for.
-use Rattle.std.specs.Prelude.{ℕ, ◌≡◌, List, [], ◌∷◌, ◌++◌, Option, None, Some, if◌then◌else◌}
+use Rattle.std.specs.Prelude.{◌≡◌, List, [], ◌∷◌, ◌++◌, Option, None, Some, if◌then◌else◌}
 use Rattle.run_events.specs.declared.events.TestEvent.{TestEvent}
 use Rattle.run_progress.specs.declared.lines.Showing.{Showing}
 use Rattle.run_progress.specs.declared.max_running.MaxProgressRunning.{MaxProgressRunning}

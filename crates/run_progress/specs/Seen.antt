@@ -1,5 +1,5 @@
 -- What a told list comes to, as a display sees it.
-use Rattle.std.specs.Prelude.{ℕ, ◌==◌, Bool, true, false, ◌||◌, not, if◌then◌else◌, List, [], Option, None, Some}
+use Rattle.std.specs.Prelude.{◌==◌, Bool, true, false, ◌||◌, not, if◌then◌else◌, List, [], Option, None, Some}
 use Rattle.std.specs.List.{filter_map}
 use Rattle.run_events.specs.declared.events.TestEvent.{TestEvent}
 use Rattle.run_events.specs.declared.events.TestEventKind.{TestEventKind}

@@ -74,13 +74,19 @@ fn finish(alloc: Global, tests: &mut List<RunningTest>, id: &TestInstanceId)
     *tests = List::from_vec(vec);
 }
 
+fn slow_one(running: &mut RunningTest, id: &TestInstanceId)
+    ensures { running.new ≡ slowed id.now running.old }
+{
+    if is_same(&running.test, id) {
+        running.status = RunningTestStatus::Slow;
+    }
+}
+
 fn slow_each(tests: &mut [RunningTest], id: &TestInstanceId)
     ensures { tests.new ≡ map (slowed id.now) tests.old }
 {
     for running in tests.iter_mut() {
-        if is_same(&running.test, id) {
-            running.status = RunningTestStatus::Slow;
-        }
+        slow_one(running, id);
     }
 }
 
@@ -93,11 +99,17 @@ fn slow(alloc: Global, tests: &mut List<RunningTest>, id: &TestInstanceId)
     *tests = List::from_vec(vec);
 }
 
+fn delay_one(running: &mut RunningTest, pause: u64)
+    ensures { running.new ≡ delayed pause running.old }
+{
+    running.paused = running.paused.saturating_add(pause);
+}
+
 fn delay_each(tests: &mut [RunningTest], pause: u64)
     ensures { tests.new ≡ map (delayed pause) tests.old }
 {
     for running in tests.iter_mut() {
-        running.paused = running.paused.saturating_add(pause);
+        delay_one(running, pause);
     }
 }
 
@@ -118,12 +130,7 @@ pub(crate) fn paused_by(event: &TestEvent) -> u64
 }
 
 // What an event does to the running tests, where it starts none.
-fn edit_in_place(
-    alloc: Global,
-    tests: &mut List<RunningTest>,
-    before: u64,
-    event: &TestEvent,
-)
+fn edit_in_place(alloc: Global, tests: &mut List<RunningTest>, before: u64, event: &TestEvent)
     requires { starts_test (deed_of event.now.kind) ≡ false }
     ensures { tests.new ≡ edited before event.now tests.old }
 {

@@ -51,7 +51,8 @@ impl ProgressState {
         ensures told { OnOk result (Hears self.old self.new event.now) }
         ensures err { OnErr result (self.new ≡ self.old) }
     {
-        self.seen.hear(alloc, self.showing.max, event)
+        self.seen.hear(alloc, self.showing.max, event)?;
+        Ok(())
     }
 
     /// The counts, and the lines of the running tests, at a moment and on a terminal of this width. It has as many lines

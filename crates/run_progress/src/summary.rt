@@ -1,5 +1,5 @@
 // Counts of tests as they are shown.
-ghost use Rattle.std.specs.Prelude.{◌≡◌, ◌++◌, string_bytes, IfOk, OnOk, OnErr};
+ghost use Rattle.std.specs.Prelude.{◌≡◌, ◌++◌, codes, decimal, string_bytes, IfOk, OnOk, OnErr};
 ghost use Rattle.run_progress.specs.Texts.{right};
 ghost use Rattle.run_progress.specs.Summary.{
   counted,
@@ -11,7 +11,7 @@ ghost use Rattle.run_progress.specs.Summary.{
   progress_text,
   summary_text,
 };
-ghost use Rattle.run_progress.specs.Parts.{after_commas, with_kind};
+ghost use Rattle.run_progress.specs.Parts.{after_commas, closed, with_kind};
 
 use crate::texts::in_brackets;
 use run_capture::{Mem, Text};
@@ -29,7 +29,19 @@ fn push_kind(kinds: &mut String, count: u64, words: &str) -> Mem<()>
     Ok(())
 }
 
+// Kinds with the parenthesis that closes them.
+fn close(kinds: String) -> Mem<String>
+    ensures { IfOk result (λ s. string_bytes s ≡ closed (string_bytes kinds)) }
+{
+    let mut kinds = kinds;
+    if !kinds.is_empty() {
+        kinds.push_str(")")?;
+    }
+    Ok(kinds)
+}
+
 // Which of the passed tests were slow, flaky and leaky.
+#[tactic(auto, using(crate::proofs::SummaryLemmas::kinds_closed))]
 fn kinds_of_passed(alloc: Global, stats: &RunStats) -> Mem<String>
     ensures { IfOk result (λ s. string_bytes s ≡ passed_kinds stats.now) }
 {
@@ -37,10 +49,7 @@ fn kinds_of_passed(alloc: Global, stats: &RunStats) -> Mem<String>
     push_kind(&mut kinds, stats.passed_slow, " slow")?;
     push_kind(&mut kinds, stats.flaky, " flaky")?;
     push_kind(&mut kinds, stats.leaky, " leaky")?;
-    if !kinds.is_empty() {
-        kinds.push_str(")")?;
-    }
-    Ok(kinds)
+    close(kinds)
 }
 
 // Which of the failed tests failed for a leak.
@@ -66,6 +75,15 @@ fn push_part(parts: &mut String, count: u64, words: &str, kinds: &str) -> Mem<()
     Ok(())
 }
 
+// Adds the last part, how many tests were skipped.
+fn push_skipped(parts: &mut String, skipped: u64) -> Mem<()>
+    ensures { OnOk result (string_bytes parts.new
+        ≡ string_bytes parts.old ++ (codes ", " ++ (decimal skipped ++ codes " skipped"))) }
+{
+    write!(parts, ", {skipped} skipped")?;
+    Ok(())
+}
+
 // How many tests passed, failed, and were skipped.
 fn summary(alloc: Global, stats: &RunStats) -> Mem<String>
     ensures { IfOk result (λ s. string_bytes s ≡ summary_text stats.now) }
@@ -77,8 +95,7 @@ fn summary(alloc: Global, stats: &RunStats) -> Mem<String>
     push_part(&mut parts, stats.failed, " failed", failed.as_str())?;
     push_part(&mut parts, stats.exec_failed, " exec failed", "")?;
     push_part(&mut parts, stats.failed_timed_out, " timed out", "")?;
-    let skipped = stats.skipped;
-    write!(parts, ", {skipped} skipped")?;
+    push_skipped(&mut parts, stats.skipped)?;
     Ok(parts)
 }
 

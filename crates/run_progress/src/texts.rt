@@ -10,7 +10,8 @@ fn at_right(alloc: Global, width: usize, text: &str) -> Mem<String>
     ensures { IfOk result (λ s. string_bytes s ≡ right width text.now) }
 {
     let mut shown = String::new(alloc);
-    for _column in text.len()..width {
+    let missing = width.saturating_sub(text.len());
+    for _column in 0..missing {
         shown.push_str(" ")?;
     }
     shown.push_str(text)?;
