@@ -53,7 +53,8 @@ parts test status start before slow ends = record {
 -- its parts after one more deed
 parts-push : (test : TestInstanceId) (status : RunningTestStatus) (start before : ℕ) (slow : Bool) (ends : List ℕ)
     (deed : Deed) (paused : ℕ)
-    → parts test status start before (slow || (is_slow_of test deed || false)) (ends ++ cons_option (paused_where deed paused) [])
+    → parts test status start before (slow || (is_slow_of test deed || false))
+    (ends ++ cons_option (paused_where deed paused) [])
     ≡ touched deed (paused - last_or before ends) (parts test status start before slow ends)
 parts-push test status start before slow ends (starts id next) paused =
     rw append-nil (elim slow as (λ b. parts test status start before (b || false) ends

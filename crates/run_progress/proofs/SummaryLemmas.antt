@@ -62,8 +62,8 @@ pub parts_joined : (stats : RunStats)
     → summary_text stats
     ≡ ((((decimal stats.passed ++ (codes " passed" ++ passed_kinds stats))
     ++ after_commas (counted stats.failed (codes " failed" ++ failed_kinds stats)))
-    ++ after_commas (counted stats.exec_failed (codes " exec failed" ++ [])))
-    ++ after_commas (counted stats.failed_timed_out (codes " timed out" ++ [])))
+    ++ after_commas (counted stats.exec_failed (codes " exec failed")))
+    ++ after_commas (counted stats.failed_timed_out (codes " timed out")))
     ++ (codes ", " ++ (decimal stats.skipped ++ codes " skipped"))
 unfolding summary_text
 parts_joined stats = simp (joined-cons, flat_map-append, append_assoc, append-nil)

@@ -62,7 +62,8 @@ noun modes.Benchmark n = if n == 1 then codes "benchmark" else codes "benchmarks
 -- how many more tests run, where some aren't shown
 abbrev pub more_lines : RunMode → ℕ → List (List ℕ)
 more_lines mode more = if more == 0 then []
-    else (codes "             ... and " ++ (decimal more ++ (codes " more " ++ (noun mode more ++ codes " running")))) ∷ []
+    else (codes "             ... and " ++ (decimal more ++ (codes " more "
+    ++ (noun mode more ++ codes " running")))) ∷ []
 
 -- the lines of the running tests
 unfoldable pub test_lines : Showing → ℕ → ℕ → List RunningTest → List (List ℕ)

@@ -23,7 +23,8 @@ in_parentheses texts = codes " (" ++ (joined texts ++ codes ")")
 -- which of the passed tests were slow, flaky and leaky
 unfoldable pub passed_kinds : RunStats → List ℕ
 passed_kinds stats = in_parentheses
-    (counted stats.passed_slow (codes " slow") ++ (counted stats.flaky (codes " flaky") ++ counted stats.leaky (codes " leaky")))
+    (counted stats.passed_slow (codes " slow") ++ (counted stats.flaky (codes " flaky")
+    ++ counted stats.leaky (codes " leaky")))
 
 -- which of the failed tests failed for a leak
 abbrev pub failed_kinds : RunStats → List ℕ

@@ -55,8 +55,8 @@ impl ProgressState {
         Ok(())
     }
 
-    /// The counts, and the lines of the running tests, at a moment and on a terminal of this width. It has as many lines
-    /// as any message before it.
+    /// The counts, and the lines of the running tests, at a moment and on a terminal of this width. It has as many
+    /// lines as any message before it.
     pub fn message(&mut self, alloc: Global, now: u64, width: u32) -> Mem<Text>
         ensures text { IfOk result (λ text. text ≡ message_text self.old.showing self.old.seen now width) }
         ensures told { ForTold self.old (λ told. IfOk result (λ text.

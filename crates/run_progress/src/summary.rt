@@ -64,13 +64,36 @@ fn kinds_of_failed(alloc: Global, stats: &RunStats) -> Mem<String>
     }
 }
 
+// How many tests passed, with their kinds.
+fn passed_part(alloc: Global, stats: &RunStats) -> Mem<String>
+    ensures { IfOk result (λ s. string_bytes s
+        ≡ decimal stats.now.passed ++ (codes " passed" ++ passed_kinds stats.now)) }
+{
+    let kinds = kinds_of_passed(alloc, stats)?;
+    let passed = stats.passed;
+    Ok(format!(in alloc; "{passed} passed{kinds}")?)
+}
+
+// Adds how many tests failed, with their kinds, after a comma, where some did.
+fn push_failed(alloc: Global, parts: &mut String, stats: &RunStats) -> Mem<()>
+    ensures { OnOk result (string_bytes parts.new ≡ string_bytes parts.old
+        ++ after_commas (counted stats.now.failed (codes " failed" ++ failed_kinds stats.now))) }
+{
+    let failed = stats.failed;
+    if failed > 0 {
+        let kinds = kinds_of_failed(alloc, stats)?;
+        write!(parts, ", {failed} failed{kinds}")?;
+    }
+    Ok(())
+}
+
 // Adds a part after a comma, where its count is above 0.
-fn push_part(parts: &mut String, count: u64, words: &str, kinds: &str) -> Mem<()>
+fn push_part(parts: &mut String, count: u64, words: &str) -> Mem<()>
     ensures { OnOk result (string_bytes parts.new
-        ≡ string_bytes parts.old ++ after_commas (counted count (words.now ++ kinds.now))) }
+        ≡ string_bytes parts.old ++ after_commas (counted count words.now)) }
 {
     if count > 0 {
-        write!(parts, ", {count}{words}{kinds}")?;
+        write!(parts, ", {count}{words}")?;
     }
     Ok(())
 }
@@ -88,13 +111,10 @@ fn push_skipped(parts: &mut String, skipped: u64) -> Mem<()>
 fn summary(alloc: Global, stats: &RunStats) -> Mem<String>
     ensures { IfOk result (λ s. string_bytes s ≡ summary_text stats.now) }
 {
-    let failed = kinds_of_failed(alloc, stats)?;
-    let kinds = kinds_of_passed(alloc, stats)?;
-    let passed = stats.passed;
-    let mut parts = format!(in alloc; "{passed} passed{kinds}")?;
-    push_part(&mut parts, stats.failed, " failed", failed.as_str())?;
-    push_part(&mut parts, stats.exec_failed, " exec failed", "")?;
-    push_part(&mut parts, stats.failed_timed_out, " timed out", "")?;
+    let mut parts = passed_part(alloc, stats)?;
+    push_failed(alloc, &mut parts, stats)?;
+    push_part(&mut parts, stats.exec_failed, " exec failed")?;
+    push_part(&mut parts, stats.failed_timed_out, " timed out")?;
     push_skipped(&mut parts, stats.skipped)?;
     Ok(parts)
 }

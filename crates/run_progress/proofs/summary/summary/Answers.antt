@@ -5,12 +5,9 @@ pub returns : goal.returns
 returns c =
     rw parts_joined
     (cc (
-      c.in_ok-failed.ensures,
-      c.in_ok-kinds.ensures,
-      c.in_ok-parts.ensures.ok,
+      c.in_ok-parts.ensures,
+      c.in_ok-push_failed.ensures,
       c.in_ok-push_part.ensures,
       c.in_ok-push_part-2.ensures,
-      c.in_ok-push_part-3.ensures,
       c.in_ok-push_skipped.ensures,
-      c.as_str.ensures.value,
     ))
