@@ -15,6 +15,10 @@ mod environments;
 #[cfg(test)]
 mod output;
 #[cfg(test)]
+mod progress;
+#[cfg(test)]
+mod progress_events;
+#[cfg(test)]
 mod rows;
 #[cfg(test)]
 mod runners;
