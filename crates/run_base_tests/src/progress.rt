@@ -75,7 +75,13 @@ fn are_defaults() -> bool {
 
 fn check_settings(rt: &impl Abort) {
     for (command, env, file, supported, shown) in [
-        (Some(false), "true", Some(true), true, ShowTerminalProgress::No),
+        (
+            Some(false),
+            "true",
+            Some(true),
+            true,
+            ShowTerminalProgress::No,
+        ),
         (None, "true", Some(false), false, ShowTerminalProgress::Yes),
         (None, "false", Some(true), true, ShowTerminalProgress::No),
         (None, "TRUE", Some(true), false, ShowTerminalProgress::Yes),
@@ -108,7 +114,11 @@ fn check_percents(rt: &impl Abort) {
         (u64::MAX - 1, u64::MAX, 100),
         (1, u64::MAX, 0),
     ] {
-        holds(rt, "percent", Ok(term_progress_percent(done, total) == percent));
+        holds(
+            rt,
+            "percent",
+            Ok(term_progress_percent(done, total) == percent),
+        );
     }
 }
 
@@ -162,14 +172,26 @@ fn many() -> RunStats {
 fn prints_progress(rt: HostRuntime) {
     let alloc = rt.alloc();
     holds(&rt, "30", tells_start(alloc, 0, "\x1b]9;4;1;30\x1b\\"));
-    holds(&rt, "30, failed", tells_start(alloc, 1, "\x1b]9;4;2;30\x1b\\"));
-    holds(&rt, "cancelled", tells(alloc, cancelled(), "\x1b]9;4;2;30\x1b\\"));
+    holds(
+        &rt,
+        "30, failed",
+        tells_start(alloc, 1, "\x1b]9;4;2;30\x1b\\"),
+    );
+    holds(
+        &rt,
+        "cancelled",
+        tells(alloc, cancelled(), "\x1b]9;4;2;30\x1b\\"),
+    );
     let paused = TestEventKind::RunPaused(controlled());
     holds(&rt, "paused", tells(alloc, paused, "\x1b]9;4;0;\x1b\\"));
     let missing = TestEventKind::InfoFinished { missing: 0 };
     holds(&rt, "no change", tells(alloc, missing, ""));
     let nothing = RunStats::nothing();
-    holds(&rt, "empty", sums_up(alloc, &nothing, "> 0 passed, 0 skipped"));
+    holds(
+        &rt,
+        "empty",
+        sums_up(alloc, &nothing, "> 0 passed, 0 skipped"),
+    );
     let line = "     Running [ 00:00:00] 0/0: 0 running, 0 passed, 0 skipped";
     holds(&rt, line, is_line(alloc, 0, &nothing, line));
     let line = "     Running [ 99:59:59] 3/10: 0 running, 2 passed, 0 skipped";
@@ -265,9 +287,18 @@ fn check_run(rt: &impl Abort, alloc: Global) {
             "00:00:40",
             "\n       RETRY [ 00:00:09] my-binary a\n\n",
         ),
-        ([(Step::Finish, "a", 72, 42)].as_slice(), 72, "00:00:42", "\n\n\n"),
+        (
+            [(Step::Finish, "a", 72, 42)].as_slice(),
+            72,
+            "00:00:42",
+            "\n\n\n",
+        ),
     ] {
-        holds(rt, lines, shows_after(alloc, &mut state, told, now, time, lines));
+        holds(
+            rt,
+            lines,
+            shows_after(alloc, &mut state, told, now, time, lines),
+        );
     }
 }
 
@@ -293,14 +324,19 @@ fn check_lines(rt: &impl Abort, alloc: Global) {
     ]
     .as_slice();
     let line = "\n             [ 05:13:30] my-binary test::my_test";
-    let cut = "\n             [ 05:13:30] ...éééééééééééé\n             ... and 2 more benchmarks running";
+    let cut =
+        "\n             [ 05:13:30] ...éééééééééééé\n             ... and 2 more benchmarks running";
     let first = MaxProgressRunning::Count(1);
     holds(rt, line, shows_benchmarks(alloc, first, one, 80, line));
     holds(rt, cut, shows_benchmarks(alloc, first, three, 39, cut));
     let none = MaxProgressRunning::Count(0);
     holds(rt, "none", shows_benchmarks(alloc, none, three, 80, ""));
     let infinite = MaxProgressRunning::Infinite;
-    holds(rt, "infinite", shows_benchmarks(alloc, infinite, one, 80, line));
+    holds(
+        rt,
+        "infinite",
+        shows_benchmarks(alloc, infinite, one, 80, line),
+    );
 }
 
 // The first tick of a run, and whether it is shown after an event.

@@ -32,6 +32,10 @@ impl Model for ProgressState {
 
 impl ProgressState {
     /// A display that has heard no event. The number of tests to run isn't shown: events tell it.
+    ///
+    /// ```text
+    /// let mut state = ProgressState::new(RunMode::Test, 10, MaxProgressRunning::default());
+    /// ```
     pub fn new(mode: RunMode, _run_count: u64, max: MaxProgressRunning) -> Self
         ensures showing { result.showing ≡ record { mode = mode; max = max; most_lines = 0 } }
         ensures told { StandsFor [] result }
@@ -47,6 +51,10 @@ impl ProgressState {
     }
 
     /// Hears one more event.
+    ///
+    /// ```text
+    /// state.apply(alloc, &event)?;
+    /// ```
     pub fn apply(&mut self, alloc: Global, event: &TestEvent) -> Mem<()>
         ensures told { OnOk result (Hears self.old self.new event.now) }
         ensures err { OnErr result (self.new ≡ self.old) }
@@ -57,6 +65,12 @@ impl ProgressState {
 
     /// The counts, and the lines of the running tests, at a moment and on a terminal of this width. It has as many
     /// lines as any message before it.
+    ///
+    /// ```text
+    /// // 1 running, 0 passed, 0 skipped
+    /// //              [ 00:00:05] b t
+    /// let text = state.message(alloc, 5_000_000_000, 80)?;
+    /// ```
     pub fn message(&mut self, alloc: Global, now: u64, width: u32) -> Mem<Text>
         ensures text { IfOk result (λ text. text ≡ message_text self.old.showing self.old.seen now width) }
         ensures told { ForTold self.old (λ told. IfOk result (λ text.
@@ -71,6 +85,12 @@ impl ProgressState {
     }
 
     /// What the run does, for how long, how many of its tests have finished, and the message.
+    ///
+    /// ```text
+    /// //      Running [ 00:00:05] 0/1: 1 running, 0 passed, 0 skipped
+    /// //              [ 00:00:05] b t
+    /// let text = state.tick_text(alloc, 5_000_000_000, 80)?;
+    /// ```
     pub fn tick_text(&mut self, alloc: Global, now: u64, width: u32) -> Mem<Text>
         ensures text { IfOk result (λ text. text ≡ tick_of self.old.showing self.old.seen now width) }
         ensures told { ForTold self.old (λ told. IfOk result (λ text.
@@ -86,6 +106,12 @@ impl ProgressState {
 
     /// Whether nothing is to be shown now: while a setup script that isn't captured runs, while the run is paused, and
     /// in an information round.
+    ///
+    /// ```text
+    /// if !state.hidden() {
+    ///     println!(rt; "{}", state.tick_text(alloc, now, width)?.as_str())?;
+    /// }
+    /// ```
     pub fn hidden(&self) -> bool
         ensures seen { result ≡ is_hidden self.now.seen.hiding }
         ensures told { ForTold self.now (λ told. result ≡ is_hidden (hiding told)) }
@@ -94,6 +120,10 @@ impl ProgressState {
     }
 
     /// The running tests, in the order in which they started last, where they are shown at all.
+    ///
+    /// ```text
+    /// let count = state.running().map_or(0, |tests| tests.len());
+    /// ```
     pub fn running(&self) -> Option<&[RunningTest]>
         ensures none { IsNone result ↔ (self.now.showing.max ≡ max_running.Count 0) }
         ensures seen { option_copied result ≡ tests_shown self.now }
