@@ -1,0 +1,4 @@
+mod TextLemmas
+mod SummaryLemmas
+mod DisplayLemmas
+mod StandsLemmas

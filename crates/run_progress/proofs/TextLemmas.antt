@@ -1,0 +1,11 @@
+-- Numbers as they are shown.
+use Rattle.std.proofs.Common.{◌≡◌, ℕ, ◌-◌, ◌^◌, false, [], ◌++◌, ap, decimal, length, replicate, arith, append-nil}
+use Rattle.std.specs.Fmt.{padded_integral, format_spec, char_count}
+use Rattle.run_progress.specs.Texts.{two_digits}
+
+-- what `{:02}` writes
+pub padded_two : (n : ℕ) → padded_integral (format_spec 32 0 4 2 (2 ^ 64 - 1)) false [] (decimal n) ≡ two_digits n
+unfolding padded_integral char_count
+padded_two n =
+    let zeros : 2 - length (decimal n) - 0 - 0 ≡ 2 - length (decimal n) = omega arith in
+    rw append-nil (ap (λ (k : ℕ). replicate k 48 ++ decimal n) zeros)

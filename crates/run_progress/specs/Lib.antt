@@ -1,0 +1,13 @@
+pub mod Percent
+pub mod MaxRunning
+pub mod Settings
+pub mod Texts
+pub mod Summary
+pub mod Parts
+pub mod Terminal
+pub mod Deeds
+pub mod Display
+pub mod Seen
+pub mod Edits
+pub mod Lines
+pub mod Progress

@@ -1,0 +1,26 @@
+// A test that runs, as a display shows it.
+use run_events::TestInstanceId;
+
+/// What a running test does. Times are in nanoseconds.
+#[derive(Clone, Copy, Debug, Drop, PartialEq, Eq)]
+pub enum RunningTestStatus {
+    /// Its first attempt runs.
+    Running,
+    /// Its attempt was told slow.
+    Slow,
+    /// An attempt failed, and the next one comes after so long a delay.
+    Delay(u64),
+    /// A further attempt runs.
+    Retry,
+}
+
+/// A test that was started and hasn't finished.
+#[derive(Debug, Drop, PartialEq, Eq)]
+pub struct RunningTest {
+    pub test: TestInstanceId,
+    pub status: RunningTestStatus,
+    /// When its status began, but for `Slow`.
+    pub start: u64,
+    /// How long the run was paused since then, in the pauses that have ended.
+    pub paused: u64,
+}
