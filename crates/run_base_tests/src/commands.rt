@@ -84,19 +84,18 @@ fn splits_commands(rt: HostRuntime) {
         "c\\d|",
     );
     splits(&rt, alloc, "'é'ü\\ö#", "éüö#", "");
+    refuses_commands(&rt, rt.alloc());
 }
 
-#[test]
-fn refuses_commands(rt: HostRuntime) {
-    let alloc = rt.alloc();
-    check_empty(&rt, alloc, "");
-    check_empty(&rt, alloc, "   ");
-    check_empty(&rt, alloc, "# a 'b");
-    check_empty(&rt, alloc, "\\\n");
-    check_open(&rt, alloc, "a 'b", 2);
-    check_open(&rt, alloc, "'a' \"b\\\"", 4);
-    check_open(&rt, alloc, "\\' # '\n'", 7);
-    check_open(&rt, alloc, "é\"", 2);
+fn refuses_commands(rt: &impl Abort, alloc: Global) {
+    check_empty(rt, alloc, "");
+    check_empty(rt, alloc, "   ");
+    check_empty(rt, alloc, "# a 'b");
+    check_empty(rt, alloc, "\\\n");
+    check_open(rt, alloc, "a 'b", 2);
+    check_open(rt, alloc, "'a' \"b\\\"", 4);
+    check_open(rt, alloc, "\\' # '\n'", 7);
+    check_open(rt, alloc, "é\"", 2);
 }
 
 // An interceptor answers its six questions so, in the order of the table.
@@ -177,6 +176,7 @@ fn answers_for_each_interceptor(rt: HostRuntime) {
     check_debugger(&rt, alloc);
     check_strace(&rt, alloc);
     check_tracer(&rt, alloc);
+    counts_stress_runs(&rt, rt.alloc());
 }
 
 // The count that a text says, 0 for none and `u32::MAX` for infinite.
@@ -217,16 +217,15 @@ fn check_numbers(rt: &impl Abort) {
     check_count(rt, "4294967296", 0);
 }
 
-#[test]
-fn counts_stress_runs(rt: HostRuntime) {
-    check_numbers(&rt);
-    check_count(&rt, "infinite", u32::MAX);
-    check_count(&rt, "Infinite", 0);
-    check_count(&rt, "", 0);
-    holds(&rt, "time", copies_a_time(&rt, rt.alloc()));
-    holds(&rt, "count", copies_a_count(&rt, rt.alloc()));
+fn counts_stress_runs(rt: &impl Abort, alloc: Global) {
+    check_numbers(rt);
+    check_count(rt, "infinite", u32::MAX);
+    check_count(rt, "Infinite", 0);
+    check_count(rt, "", 0);
+    holds(rt, "time", copies_a_time(rt, alloc));
+    holds(rt, "count", copies_a_count(rt, alloc));
     holds(
-        &rt,
+        rt,
         "inheritance",
         configure_handle_inheritance(true).is_ok(),
     );

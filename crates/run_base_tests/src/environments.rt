@@ -68,18 +68,17 @@ fn reads_environments(rt: HostRuntime) {
     check_pairs(&rt, alloc, "b=\r\n_A1==\r\nB=\r", "B=\r|_A1==|b=|");
     check_pairs(&rt, alloc, "NEXTES=1\nXNEXTEST=2\n", "NEXTES=1|XNEXTEST=2|");
     check_pairs(&rt, alloc, "", "");
+    refuses_environments(&rt, rt.alloc());
 }
 
-#[test]
-fn refuses_environments(rt: HostRuntime) {
-    let alloc = rt.alloc();
-    check_key(&rt, alloc, "nextest", b"NEXTEST_X=1", 1);
-    check_key(&rt, alloc, "digit", b"1A=", 1);
-    check_key(&rt, alloc, "hyphen", b"A-B=", 1);
-    check_key(&rt, alloc, "no key", b"A=1\n=\n\xff", 2);
-    check_line(&rt, alloc, "no sign", b"A", 1);
-    check_line(&rt, alloc, "line 2", b"A=1\n\nB=2", 2);
-    holds(&rt, "no text", refuses(&rt, alloc, b"\xff", NO_TEXT));
+fn refuses_environments(rt: &impl Abort, alloc: Global) {
+    check_key(rt, alloc, "nextest", b"NEXTEST_X=1", 1);
+    check_key(rt, alloc, "digit", b"1A=", 1);
+    check_key(rt, alloc, "hyphen", b"A-B=", 1);
+    check_key(rt, alloc, "no key", b"A=1\n=\n\xff", 2);
+    check_line(rt, alloc, "no sign", b"A", 1);
+    check_line(rt, alloc, "line 2", b"A=1\n\nB=2", 2);
+    holds(rt, "no text", refuses(rt, alloc, b"\xff", NO_TEXT));
 }
 
 // A file `A=` and then so many bytes.

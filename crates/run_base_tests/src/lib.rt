@@ -31,10 +31,6 @@ mod lines_of_tests;
 #[cfg(test)]
 mod output;
 #[cfg(test)]
-mod progress;
-#[cfg(test)]
-mod progress_events;
-#[cfg(test)]
 mod rows;
 #[cfg(test)]
 mod runners;

@@ -206,14 +206,13 @@ fn captures_output(rt: HostRuntime) {
     holds(&rt, "combined", captures_combined(&rt, alloc));
     holds(&rt, "none", captures_nothing(&rt, alloc));
     holds(&rt, "stderr", captures_stderr(&rt, alloc));
+    reads_descriptions(&rt, rt.alloc());
 }
 
-#[test]
-fn reads_descriptions(rt: HostRuntime) {
-    let alloc = rt.alloc();
-    check_value(&rt, alloc, "{}", true);
-    check_value(&rt, alloc, r#"{"stdout":"61","combined":""}"#, true);
-    check_value(&rt, alloc, r#"{"stdout":null}"#, false);
-    check_value(&rt, alloc, r#"{"stdout":"61","other":"61"}"#, false);
-    check_value(&rt, alloc, "[]", false);
+fn reads_descriptions(rt: &impl Abort, alloc: Global) {
+    check_value(rt, alloc, "{}", true);
+    check_value(rt, alloc, r#"{"stdout":"61","combined":""}"#, true);
+    check_value(rt, alloc, r#"{"stdout":null}"#, false);
+    check_value(rt, alloc, r#"{"stdout":"61","other":"61"}"#, false);
+    check_value(rt, alloc, "[]", false);
 }

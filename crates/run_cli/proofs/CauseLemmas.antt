@@ -67,9 +67,9 @@ same_input : (r : Reading) (c d : CaptureStrategy) (p q : Plan) (ts us : List Tu
     → HasInput r.left c p ts → IsGiven r d q us → (d ≡ c) × (q ≡ p) × (us ≡ ts)
 same_input r c d p q ts us has given =
     let same : has.bytes ≡ given.bytes =
-        all_given r.left r.left_after has.bytes given.bytes has.told given.given given.end in
+    all_given r.left r.left_after has.bytes given.bytes has.told given.given given.end in
     one_input (lines_of has.bytes) c d p q ts us has.says
-        (subst (λ bytes. IsInput (lines_of bytes) d q us) (sym same) given.says)
+    (subst (λ bytes. IsInput (lines_of bytes) d q us) (sym same) given.says)
 
 -- and an input within its limit isn't too long, and has no bad line
 not_too_long : (r : Reading) (held : List ℕ) → r.left ≡ Some held → length held ≤ 16777216 → IsTooLong r → ⊥
@@ -81,7 +81,7 @@ no_bad_line : (r : Reading) (c : CaptureStrategy) (p : Plan) (ts : List Turn) (n
 no_bad_line r c p ts n has (bytes, given, end, within, bad) =
     let same : has.bytes ≡ bytes = all_given r.left r.left_after has.bytes bytes has.told given end in
     has_no_bad_line (lines_of has.bytes) c p ts n has.says
-        (subst (λ bytes. IsFirstBad (lines_of bytes) n) (sym same) bad)
+    (subst (λ bytes. IsFirstBad (lines_of bytes) n) (sym same) bad)
 
 -- an accepted plan isn't refused
 never_refused : {X E : Type 0} (o : Option E) (e : E) → o ≡ None → o ≡ Some e → X
@@ -118,7 +118,7 @@ ended_gets c r o whole stayed =
     let p : Settings = settings_for r.capture r.plan in
     let one : HasOneCourse p r.turns (refuses_as_in r.journal) = one_course p r.turns (refuses_as_in r.journal) in
     let ends : Ends p r.turns (refuses_as_in r.journal) o =
-        (r.journal, journal_of p r.turns r.journal r.legal whole.all, whole.over) in
+    (r.journal, journal_of p r.turns r.journal r.legal whole.all, whole.over) in
     record {
       refuses = refuses_as_in r.journal;
       tied = λ calm n. false_at (refusals r.journal) n (r.tied calm);
@@ -135,7 +135,7 @@ unreported_gets c r o whole rose =
     let p : Settings = settings_for r.capture r.plan in
     let one : HasOneCourse p r.turns (refuses_as_in r.journal) = one_course p r.turns (refuses_as_in r.journal) in
     let ends : Ends p r.turns (refuses_as_in r.journal) o =
-        (r.journal, journal_of p r.turns r.journal r.legal whole.all, whole.over) in
+    (r.journal, journal_of p r.turns r.journal r.legal whole.all, whole.over) in
     record {
       refuses = refuses_as_in r.journal;
       tied = λ calm n. false_at (refusals r.journal) n (r.tied calm);
@@ -151,9 +151,11 @@ stopped_gets : (c : Call) (r : Replays c) (place : ℕ) → StopsBefore r place
 stopped_gets c r place before =
     let p : Settings = settings_for r.capture r.plan in
     let one : HasOneCourse p r.turns (refuses_as_in r.journal) = one_course p r.turns (refuses_as_in r.journal) in
-    let stops : Stops p r.turns (refuses_as_in r.journal) place =
-    (r.journal, journal_of p (take place r.turns) r.journal r.legal before.before,
-        (before.turn, before.at, before.refused)) in
+    let stops : Stops p r.turns (refuses_as_in r.journal) place = (
+      r.journal,
+      journal_of p (take place r.turns) r.journal r.legal before.before,
+      (before.turn, before.at, before.refused),
+    ) in
     record {
       refuses = refuses_as_in r.journal;
       tied = λ calm n. false_at (refusals r.journal) n (r.tied calm);
@@ -169,7 +171,7 @@ unfinished_gets c r still =
     let p : Settings = settings_for r.capture r.plan in
     let one : HasOneCourse p r.turns (refuses_as_in r.journal) = one_course p r.turns (refuses_as_in r.journal) in
     let goes : GoesOn p r.turns (refuses_as_in r.journal) =
-        (r.journal, journal_of p r.turns r.journal r.legal still.all, still.goes_on) in
+    (r.journal, journal_of p r.turns r.journal r.legal still.all, still.goes_on) in
     record {
       refuses = refuses_as_in r.journal;
       tied = λ calm n. false_at (refusals r.journal) n (r.tied calm);
@@ -234,9 +236,9 @@ bad_excludes : (r : Reading) (c : CaptureStrategy) (p : Plan) (ts : List Turn) (
     → IsGiven r c p ts → ⊥
 bad_excludes r c p ts n has given =
     let same : has.bytes ≡ given.bytes =
-        all_given r.left r.left_after has.bytes given.bytes has.told given.given given.end in
+    all_given r.left r.left_after has.bytes given.bytes has.told given.given given.end in
     has_no_bad_line (lines_of given.bytes) c p ts n given.says
-        (subst (λ bytes. IsFirstBad (lines_of bytes) n) same has.bad)
+    (subst (λ bytes. IsFirstBad (lines_of bytes) n) same has.bad)
 
 -- 3
 pub bad_line_gets : (c : Call) (ending : Result RunOutcome Fault) → IsEnding c ending → CountsReadAtEnd c.source ending
@@ -261,7 +263,7 @@ too_much_excludes : (r : Reading) (bytes : List ℕ) → HasTooMuch r.left → H
     → length bytes ≤ 16777216 → ⊥
 too_much_excludes r bytes has given end within =
     let same : length has.bytes ≡ length bytes =
-        ap length (all_given r.left r.left_after has.bytes bytes has.told given end) in
+    ap length (all_given r.left r.left_after has.bytes bytes has.told given end) in
     let above : 16777216 < length has.bytes = has.above in
     omega arith
 

@@ -109,7 +109,7 @@ fault_writes p turns w v asks answer fault on from x le writes = record {
 -- the last line of a run that is over, by whether an event was refused
 report_of : (p : Settings) (turns : List Turn) (w v : Writing) (asks : List (ℕ × Ask))
     (answer : Result RunOutcome (TestRunnerExecuteErrors Failed)) (x : IsExecuted p turns w asks answer)
-        (o : RunOutcome) (b : Bool)
+    (o : RunOutcome) (b : Bool)
     → is_none x.refusal ≡ b
     → TookParts (past_of p x.journal) (rest_text (past_of p x.journal) (if b then Ok o else Err Report)) (joined w v)
     → TookParts (past_of p x.journal) (rest_text (past_of p x.journal) (report_ending x.journal o)) (joined w v)

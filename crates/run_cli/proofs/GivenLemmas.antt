@@ -61,7 +61,7 @@ turns_length : (lines : List (List ℕ)) (turns : List Turn) → turns_of lines 
 turns_length [] turns e = cc
 turns_length (line ∷ lines) turns e =
     let one = then_some (turn_line_of line) (λ turn. option_and_then (λ turns. Some (turn ∷ turns)) (turns_of lines))
-        turns e in
+    turns e in
     let rest = then_some (turns_of lines) (λ turns. Some (one.0 ∷ turns)) turns one.2 in
     let more : length rest.0 ≡ length lines = turns_length lines rest.0 rest.1 in
     let same : one.0 ∷ rest.0 ≡ turns = cc in
@@ -84,7 +84,7 @@ few_plan_tests d tests e =
 -- the plan that a line says has these tests and no scripts
 few_units : (capture other : CaptureStrategy) (run_id : List ℕ) (tests : List PlanTest) (plan : Plan)
     → length tests < 2 ^ 32
-        → ◌≡◌ {A = Option (CaptureStrategy × Plan)} (Some (capture, usual_plan run_id tests)) (Some (other, plan))
+    → ◌≡◌ {A = Option (CaptureStrategy × Plan)} (Some (capture, usual_plan run_id tests)) (Some (other, plan))
     → length plan.scripts + length plan.tests < 2 ^ 32
 few_units capture other run_id tests plan fewer e =
     let few : 0 + length tests < 2 ^ 32 = omega arith in
@@ -104,10 +104,10 @@ few_tests d capture plan e =
     let captures : Option CaptureStrategy = option_and_then capture_of (get (codes "capture") d) in
     let a = then_some (when (is_object_of (codes "capture" ∷ codes "run_id" ∷ codes "tests" ∷ []) d))
     (λ _. option_and_then (λ c. option_and_then (λ r. option_and_then (λ ts. Some (c, usual_plan r ts)) tests) run_ids)
-        captures)
+    captures)
     (capture, plan) e in
     let b = then_some captures
-        (λ c. option_and_then (λ r. option_and_then (λ ts. Some (c, usual_plan r ts)) tests) run_ids)
+    (λ c. option_and_then (λ r. option_and_then (λ ts. Some (c, usual_plan r ts)) tests) run_ids)
     (capture, plan) a.2 in
     let c = then_some run_ids (λ r. option_and_then (λ ts. Some (b.0, usual_plan r ts)) tests) (capture, plan) b.2 in
     let f = then_some tests (λ ts. Some (b.0, usual_plan c.0 ts)) (capture, plan) c.2 in
@@ -137,7 +137,7 @@ over_is p past o e = by_end (is_over past) refl
     by_end true h = h
     by_end false h =
         let none : None ≡ Some o =
-            sym (ap (λ b. if b then Some (outcome_of (summary (stats p (sub_run past)))) else None) h) ∙ e in cc
+        sym (ap (λ b. if b then Some (outcome_of (summary (stats p (sub_run past)))) else None) h) ∙ e in cc
 
 -- a run that took every turn and has an outcome is whole
 whole : (c : Call) (r : Replays c) (o : RunOutcome) → journal_turns r.journal ≡ r.turns
@@ -170,7 +170,7 @@ replays c capture plan turns replay given accepted r = record {
 pub given_says : (c : Call) (capture : CaptureStrategy) (plan : Plan) (turns : List Turn)
     (ending : Result RunOutcome Fault)
     → IsReplay c.words → IsGiven c.source capture plan turns → IsInputEnding capture plan turns c.sink ending
-        → IsEnding c ending
+    → IsEnding c ending
 unfolding replays
 given_says c capture plan turns (Ok o) replay given (accepted, h) =
     let r = replays c capture plan turns replay given accepted h.0 in
@@ -225,7 +225,7 @@ refusal_ends capture plan turns w build.OutOfMemory h writes = tt
 pub refused_plan : (capture : CaptureStrategy) (plan : Plan) (turns : List Turn) (w : Writing)
     (error : TestRunnerBuildError)
     (ending : Result RunOutcome Fault) → IsBuilt (builder_of capture) plan (Err error)
-        → EndsAtFault w [] (fault_of_plan error) ending
+    → EndsAtFault w [] (fault_of_plan error) ending
     → IsInputEnding capture plan turns w ending
 refused_plan capture plan turns w error (Ok o) b e = absurd e
 refused_plan capture plan turns w error (Err d) b (inl m) =

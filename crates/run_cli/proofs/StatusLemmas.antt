@@ -200,7 +200,7 @@ read_says c (Err (ThirdSignal n)) h s = absurd h
 -- 12: an input that is too long
 pub too_long_says : (c : Call) (ending : Result RunOutcome Fault)
     → IsEnding c ending → status_of ending ≡ 12
-        → IsReplay c.words × IsTooLong c.source × Writes c.sink (fault_only TooLong)
+    → IsReplay c.words × IsTooLong c.source × Writes c.sink (fault_only TooLong)
 too_long_says c (Ok o) h s = absurd (no_outcome_above 12 (apart _ 12 (outcome_is o) s) (omega arith) (omega arith))
 too_long_says c (Err Words) h s = absurd (omega arith)
 too_long_says c (Err (Line n)) h s = absurd (omega arith)

@@ -17,14 +17,14 @@ pub ask_lines-push : (asks : List (ℕ × Ask)) (ask : ℕ × Ask)
 ask_lines-push [] ask = append-nil _
 ask_lines-push (a ∷ asks) ask =
     ap (λ lines. line_of (ask_text a.0 a.1) ++ lines) (ask_lines-push asks ask)
-        ∙ sym (append_assoc (line_of (ask_text a.0 a.1)) (ask_lines asks) _)
+    ∙ sym (append_assoc (line_of (ask_text a.0 a.1)) (ask_lines asks) _)
 
 -- the lines of the first asks, and one more
 pub ask_lines-take : (asks : List (ℕ × Ask)) (i : ℕ) (ask : ℕ × Ask) → i < length asks → ask ≡ get_or asks i ask
     → ask_lines (take i asks) ++ line_of (ask_text ask.0 ask.1) ≡ ask_lines (take (i + 1) asks)
 ask_lines-take asks i ask h is =
     sym (ask_lines-push (take i asks) ask) ∙ ap (λ a. ask_lines (take i asks ++ a ∷ [])) is
-        ∙ ap ask_lines (sym (take_more asks i ask h))
+    ∙ ap ask_lines (sym (take_more asks i ask h))
 
 -- the lines of two lists of asks
 ask_lines-append : (first later : List (ℕ × Ask)) → ask_lines (first ++ later) ≡ ask_lines first ++ ask_lines later

@@ -69,7 +69,7 @@ flags_first (y ∷ ys) = ap (λ zs. y.0 ∷ zs) (flags_first ys)
 -- a run whose events the sink took, from what the reporter told and counted
 pub executed_from : (p : Settings) (turns : List Turn) (w : Writing) (refusals : ℕ) (asks : List (ℕ × Ask))
     (answer : Result RunOutcome (TestRunnerExecuteErrors Failed)) (journal : List Entry) (refusal : Option Failed)
-        (ys : List (ReporterEvent × Option Failed))
+    (ys : List (ReporterEvent × Option Failed))
     → IsRunnable p journal → IsAnswerOf p turns journal refusal answer → is_none refusal ≡ none_refused journal
     → asks ≡ asked (past_of p journal)
     → TookLines w.taken w.taken_after ys → map flagged ys ≡ answers (past_of p journal) → first_error ys ≡ refusal
@@ -77,21 +77,21 @@ pub executed_from : (p : Settings) (turns : List Turn) (w : Writing) (refusals :
     → IsExecuted p turns w asks answer
 executed_from p turns w refusals asks answer journal refusal ys runnable says marked asked_is took flags first counted
     since = record {
-  journal = journal;
-  refusal = refusal;
-  runnable = runnable;
-  says = says;
-  marked = marked;
-  asked = asked_is;
-  took = (ys, flags, took);
-  told = λ none. subst (HasTaken w)
-      (lines_whole ys took.0 (first ∙ none) took.1
-      ∙ ap event_lines (sym (flags_first ys) ∙ ap (map (λ x. x.0)) flags
+      journal = journal;
+      refusal = refusal;
+      runnable = runnable;
+      says = says;
+      marked = marked;
+      asked = asked_is;
+      took = (ys, flags, took);
+      told = λ none. subst (HasTaken w)
+          (lines_whole ys took.0 (first ∙ none) took.1
+          ∙ ap event_lines (sym (flags_first ys) ∙ ap (map (λ x. x.0)) flags
           ∙ answers-told p (reverse journal) runnable.legal))
-      took.2;
-  quiet = λ none. since.0 (quiet_count refusal none counted);
-  risen = λ some. since.1 (risen_count refusal some counted);
-}
+          took.2;
+      quiet = λ none. since.0 (quiet_count refusal none counted);
+      risen = λ some. since.1 (risen_count refusal some counted);
+    }
   where
     quiet_count : (o : Option Failed) → o ≡ None → CountsErrors 0 refusals o → refusals ≡ 0
     quiet_count None e h = h

@@ -20,7 +20,7 @@ pub sum_below : {X : Type 0} (f : X → ℕ) → ((x : X) → f x < 2) → (n k 
 sum_below f small n k limit [] below room = omega arith
 sum_below f small n k limit (x ∷ xs) below room =
     let here = small x in let cons = sum_by-cons f x xs in let rest =
-        sum_below f small (n + f x) (k + 1) limit xs (omega arith) (omega arith) in omega arith
+    sum_below f small (n + f x) (k + 1) limit xs (omega arith) (omega arith) in omega arith
 
 -- one more finish adds what it adds
 pub total_by_push : {X : Type 0} (adds : X → RunStats) → (start : RunStats) (xs : List X) (x : X)
@@ -40,22 +40,22 @@ total_by_below adds small limit most start xs below room = record {
       limit xs below.finished_count room;
   setup_scripts_initial_count =
       sum_below (λ x. (adds x).setup_scripts_initial_count) (λ x. (small x).setup_scripts_initial_count)
-          start.setup_scripts_initial_count most limit xs below.setup_scripts_initial_count room;
+      start.setup_scripts_initial_count most limit xs below.setup_scripts_initial_count room;
   setup_scripts_finished_count =
       sum_below (λ x. (adds x).setup_scripts_finished_count) (λ x. (small x).setup_scripts_finished_count)
-          start.setup_scripts_finished_count most limit xs below.setup_scripts_finished_count room;
+      start.setup_scripts_finished_count most limit xs below.setup_scripts_finished_count room;
   setup_scripts_passed =
       sum_below (λ x. (adds x).setup_scripts_passed) (λ x. (small x).setup_scripts_passed) start.setup_scripts_passed
-          most limit xs below.setup_scripts_passed room;
+      most limit xs below.setup_scripts_passed room;
   setup_scripts_failed =
       sum_below (λ x. (adds x).setup_scripts_failed) (λ x. (small x).setup_scripts_failed) start.setup_scripts_failed
-          most limit xs below.setup_scripts_failed room;
+      most limit xs below.setup_scripts_failed room;
   setup_scripts_exec_failed =
       sum_below (λ x. (adds x).setup_scripts_exec_failed) (λ x. (small x).setup_scripts_exec_failed)
-          start.setup_scripts_exec_failed most limit xs below.setup_scripts_exec_failed room;
+      start.setup_scripts_exec_failed most limit xs below.setup_scripts_exec_failed room;
   setup_scripts_timed_out =
       sum_below (λ x. (adds x).setup_scripts_timed_out) (λ x. (small x).setup_scripts_timed_out)
-          start.setup_scripts_timed_out most limit xs below.setup_scripts_timed_out room;
+      start.setup_scripts_timed_out most limit xs below.setup_scripts_timed_out room;
   passed = sum_below (λ x. (adds x).passed) (λ x. (small x).passed) start.passed most limit xs below.passed room;
   passed_slow = sum_below (λ x. (adds x).passed_slow) (λ x. (small x).passed_slow) start.passed_slow most limit xs
       below.passed_slow room;

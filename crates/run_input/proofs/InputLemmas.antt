@@ -22,12 +22,12 @@ first_and_rest (Some turn) (Some others) turns e = (turn, others, refl, refl, sa
 -- one line more says one turn more
 turns_of-push : (lines : List (List ℕ)) (line : List ℕ) (turns : List Turn) (turn : Turn)
     → turns_of lines ≡ Some turns → turn_line_of line ≡ Some turn
-        → turns_of (lines ++ line ∷ []) ≡ Some (turns ++ turn ∷ [])
+    → turns_of (lines ++ line ∷ []) ≡ Some (turns ++ turn ∷ [])
 turns_of-push [] line turns turn before last =
     let none : [] ≡ turns = same_Some [] turns before in rw last (ap (λ xs. Some (xs ++ turn ∷ [])) none)
 turns_of-push (first ∷ lines) line turns turn before last =
     let (said, others, is_said, are_others, whole) =
-        first_and_rest (turn_line_of first) (turns_of lines) turns before in
+    first_and_rest (turn_line_of first) (turns_of lines) turns before in
     let more = turns_of-push lines line others turn are_others last in
     rw (is_said, more) (ap (λ xs. Some (xs ++ turn ∷ [])) whole)
 

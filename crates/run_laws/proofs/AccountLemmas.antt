@@ -65,7 +65,7 @@ pub of_row : (mm : Bool) (now j k : ℕ) (turn : UnitTurn) (u : UnitView) (v : O
     → takes u.phase turn ≡ true → is_answer turn ≡ false → u.test.unit ≡ j → ((j == k) ≡ true → v ≡ Some u)
     → HasAccount mm v t (pending_of k q)
     → HasAccount mm (unit_after now k (Some (Acts j turn)) v) t
-        (pending_of k (q ++ option_to_list (row now turn u).sent))
+    (pending_of k (q ++ option_to_list (row now turn u).sent))
 of_row mm now j k turn u v t q en other named same h = by_unit (j == k) refl
   where
     by_unit : (b : Bool) → (j == k) ≡ b

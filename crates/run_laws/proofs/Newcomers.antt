@@ -28,7 +28,7 @@ record Newcomes (p : Settings) (us : List (Option UnitView)) (new : Newcomer) : 
   is : ((reason : List ℕ) × (test.skip ≡ Some reason)
       × (new ≡ skipped_newcomer (skipped_view p (unit_of_test p place) test) reason))
       ⊎ ((test.skip ≡ None)
-          × (new ≡ started_newcomer (first_view p (unit_of_test p place) (global_slot (free_slot us)) test)))
+      × (new ≡ started_newcomer (first_view p (unit_of_test p place) (global_slot (free_slot us)) test)))
 
 newcomer_cases : (p : Settings) (slot : ℕ) (fits : Bool) (k : ℕ) (test : PlanTest) (skip : Option (List ℕ))
     (new : Newcomer)
@@ -109,7 +109,7 @@ new_unit p run new e = by_case found.is
     by_case : ((reason : List ℕ) × (found.test.skip ≡ Some reason)
         × (new ≡ skipped_newcomer (skipped_view p k found.test) reason))
         ⊎ ((found.test.skip ≡ None)
-            × (new ≡ started_newcomer (first_view p k (global_slot (free_slot (units p run))) found.test)))
+        × (new ≡ started_newcomer (first_view p k (global_slot (free_slot (units p run))) found.test)))
         → IsNew p run new.unit new.sent
     by_case (inl (reason, skip, is)) =
         let mm : is_mismatched p (place_of p k) ≡ true = mismatched ∙ ap is_some skip in

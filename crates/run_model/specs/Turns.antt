@@ -130,8 +130,12 @@ abbrev pub begun : Board → Deed
 begun b = record nothing_done { told = Some (event b.clock (RunStarted b.dispatcher.head)); begins = true }
 
 abbrev pub ended : Board → Deed
-ended b = record nothing_done { told = Some (event b.clock (finale b.dispatcher.tally.stats)); ends = true; over =
-    true }
+ended b = record nothing_done {
+  told = Some (event b.clock (finale b.dispatcher.tally.stats));
+  ends = true;
+  over =
+      true;
+}
 
 -- what a turn of the run's own does
 abbrev pub run_turn : Settings → Board → Turn → Deed

@@ -10,7 +10,7 @@ pub returns-in-Ok : goal.returns-in-Ok
 returns-in-Ok g c = λ p turns w on from x.
     let end = c.end_at_outcome in
     outcome_ends p turns w (writing g.K.Sink.taken g.K.Sink.faults c.args.sink end.result.sink) c.args.asks.now
-        c.in-Ok.outcome
+    c.in-Ok.outcome
     end.result.ending on from (subst (λ a. UnlessMemory a (IsExecuted p turns w c.args.asks.now a)) c.in-Ok.is x)
     end.ensures.ends end.ensures.later
 

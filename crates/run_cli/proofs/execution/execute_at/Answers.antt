@@ -13,9 +13,9 @@ returns g c = unless_weaker c.try_execute-answer.result _ _
     executed_from c.args.runner c.args.turns.now (writing g.K.Sink.taken g.K.Sink.faults c.args.sink c.into_sink.result)
     c.try_execute-answer.new.report.refusals c.try_execute-answer.new.children c.try_execute-answer.result
     x.call.journal x.call.refusal told.0 x.call.takes.runnable x.call.says x.call.takes.marked
-        (x.call.takes.asked [] c.new-asks.ensures)
+    (x.call.takes.asked [] c.new-asks.ensures)
     (rw c.requires.taken at (c.into_sink.ensures.told told.0 told.1)) told.2 told.3
     (subst (λ n. CountsErrors n c.try_execute-answer.new.report.refusals x.call.refusal) c.new-reporter.ensures.faults
-        x.call.takes.counted)
+    x.call.takes.counted)
     (rw c.requires.faults at c.into_sink.ensures.faults))
     c.try_execute-answer.ensures.executes

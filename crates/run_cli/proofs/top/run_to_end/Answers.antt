@@ -14,5 +14,5 @@ pub returns-in-Ok-clause-says : goal.returns-in-Ok-clause-says
 returns-in-Ok-clause-says g c =
     let input = c.in-Ok.input in
     given_says _ input.capture input.plan input.turns c.replay_input.result.ending c.in-Ok.ensures.replay
-        c.in-Ok.ensures.given
+    c.in-Ok.ensures.given
     c.replay_input.ensures

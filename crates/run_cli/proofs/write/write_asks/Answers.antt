@@ -13,14 +13,14 @@ loop-ask-preserved g c =
     let ask = c.ask-item.result in
     let i = c.loop-ask.ask-index in
     let line : Takes (g.K.Sink.taken c.loop-ask.sink) (g.K.Sink.taken c.write_line.new.sink)
-        (line_of (ask_text ask.0 ask.1)) =
+    (line_of (ask_text ask.0 ask.1)) =
     subst (λ text. Takes (g.K.Sink.taken c.loop-ask.sink) (g.K.Sink.taken c.write_line.new.sink) (line_of text))
     c.in_ok-line.ensures c.in_ok-write_line.ensures.ok in
     record {
       taken = subst (Takes (g.K.Sink.taken c.args.sink.now) (g.K.Sink.taken c.write_line.new.sink))
           (ask_lines-take c.args.asks.now i ask (omega arith) c.ask-item.is)
           (takes_both _ _ _ (ask_lines (take i c.args.asks.now)) (line_of (ask_text ask.0 ask.1))
-              c.loop-ask.invariant.taken line);
+          c.loop-ask.invariant.taken line);
       faults = c.in_ok-write_line.ensures.counted ∙ c.loop-ask.invariant.faults;
     }
 

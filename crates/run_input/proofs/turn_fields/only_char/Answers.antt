@@ -17,13 +17,13 @@ returns-in-Some c =
     let rest = c.next-2.new.self.rest.now in
     let text = c.args.text.now in
     let splits : chars text ≡ c.in_ok-first.first ∷ chars c.next.new.self.rest.now =
-        chars_past_char text c.next.new.self.rest.now c.in_ok-first.first (search rules) (search rules) in
+    chars_past_char text c.next.new.self.rest.now c.in_ok-first.first (search rules) (search rules) in
     followed (chars c.next.new.self.rest.now) c.in_ok-first.first c.in-Some.field-0 (search rules)
-        ∙ ap only_one (sym splits)
+    ∙ ap only_one (sym splits)
 
 pub returns-in-None : goal.returns-in-None
 returns-in-None c =
     let text = c.args.text.now in
     let splits : chars text ≡ c.in_ok-first.first ∷ chars c.next.new.self.rest.now =
-        chars_past_char text c.next.new.self.rest.now c.in_ok-first.first (search rules) (search rules) in
+    chars_past_char text c.next.new.self.rest.now c.in_ok-first.first (search rules) (search rules) in
     alone (chars c.next.new.self.rest.now) c.in_ok-first.first (search rules) ∙ ap only_one (sym splits)

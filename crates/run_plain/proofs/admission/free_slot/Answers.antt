@@ -16,4 +16,4 @@ loop-slot-preserved c =
 pub returns : goal.returns
 returns c =
     free_slot_is c.args.units.now _ (omega arith) (λ k h. c.loop-slot.invariant k (omega arith))
-        (λ h. absurd (omega arith))
+    (λ h. absurd (omega arith))
