@@ -5,3 +5,5 @@
 
 #[cfg(test)]
 mod inputs;
+#[cfg(test)]
+mod many;

@@ -1,0 +1,72 @@
+// A run of many tests, one after another.
+use run_capture::{Blob, List, Mem, MemorySink, MemorySource};
+use run_cli::{Ran, run};
+use std::alloc::Global;
+
+const TESTS: u32 = 20_000;
+
+const PLAN: &str =
+    r#"{"capture":"none","run_id":"00000000-0000-4000-8000-000000000001","tests":["#;
+
+fn add(alloc: Global, input: &mut Blob, text: &str) -> Mem<()> {
+    input.extend_from_slice(alloc, text.as_bytes())
+}
+
+// A test of the plan.
+fn add_test(alloc: Global, input: &mut Blob, unit: u32) -> Mem<()> {
+    let comma = if unit == 0 { "" } else { "," };
+    let name = format!(in alloc; "{comma}{{\"binary\":\"b\",\"command\":[\"true\"],\"name\":\"t{unit}\"}}")?;
+    add(alloc, input, name.as_str())
+}
+
+// The turns of a test that passes.
+fn add_turns(alloc: Global, input: &mut Blob, unit: u32) -> Mem<()> {
+    add(
+        alloc,
+        input,
+        "{\"turn\":\"admit\"}\n{\"turn\":\"deliver\"}\n",
+    )?;
+    let own = format!(
+        in alloc;
+        "{{\"pid\":1,\"turn\":\"started\",\"unit\":{unit}}}\n{{\"code\":0,\"turn\":\"exit\",\"unit\":{unit}}}\n\
+         {{\"turn\":\"decide\",\"unit\":{unit},\"word\":0}}\n"
+    )?;
+    add(alloc, input, own.as_str())?;
+    add(alloc, input, "{\"turn\":\"deliver\"}\n")
+}
+
+fn input(alloc: Global) -> Mem<Blob> {
+    let mut input = Blob::new(alloc);
+    add(alloc, &mut input, PLAN)?;
+    for unit in 0..TESTS {
+        add_test(alloc, &mut input, unit)?;
+    }
+    add(alloc, &mut input, "]}\n{\"turn\":\"begin\"}\n")?;
+    for unit in 0..TESTS {
+        add_turns(alloc, &mut input, unit)?;
+    }
+    add(alloc, &mut input, "{\"turn\":\"end\"}\n")?;
+    Ok(input)
+}
+
+fn words(alloc: Global) -> Mem<Vec<String>> {
+    let mut words = Vec::new(alloc);
+    words.push(String::from_str(alloc, "replay")?)?;
+    Ok(words)
+}
+
+// Whether all of them pass, with two events and an ask each, the run's two events and the outcome.
+fn all_pass(alloc: Global) -> Mem<bool> {
+    let words = words(alloc)?;
+    let mut source = MemorySource::new(input(alloc)?, 65_536, List::new());
+    let sink = MemorySink::new(alloc, 32_000_000, 65_536, List::new())?;
+    let Ran { status, sink } = run(alloc, words.as_slice(), &mut source, sink);
+    let written = sink.bytes();
+    let count = written.iter().filter(|byte| **byte == b'\n').count();
+    Ok(status == 0 && count == 60_003 && written.ends_with(b"{\"outcome\":\"success\"}\n"))
+}
+
+#[test]
+fn twenty_thousand_tests(rt: HostRuntime) {
+    assert!(rt; all_pass(rt.alloc()).unwrap_or(false));
+}
