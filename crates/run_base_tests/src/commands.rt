@@ -80,7 +80,7 @@ fn splits_commands(rt: HostRuntime) {
         &rt,
         alloc,
         "\"a\\$\\`\\\"\\\\\\x\\\nb\" 'c\\'d",
-        "a$`\"\\xb",
+        "a$`\"\\\\xb",
         "c\\d|",
     );
     splits(&rt, alloc, "'é'ü\\ö#", "éüö#", "");

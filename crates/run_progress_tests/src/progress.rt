@@ -262,13 +262,15 @@ fn check_run(rt: &impl Abort, alloc: Global) {
             .as_slice(),
             10,
             "00:00:10",
-            "\n        SLOW [ 00:00:10] my-binary a\n             [ 00:00:09] my-binary b\n             ... and 1 more test running",
+            "\n        SLOW [ 00:00:10] my-binary a\n             [ 00:00:09] my-binary b\
+             \n             ... and 1 more test running",
         ),
         (
             [(Step::Fail, "a", 11, 11)].as_slice(),
             20,
             "00:00:20",
-            "\n             [ 00:00:19] my-binary b\n             [ 00:00:18] my-binary c\n             ... and 1 more test running",
+            "\n             [ 00:00:19] my-binary b\n             [ 00:00:18] my-binary c\
+             \n             ... and 1 more test running",
         ),
         (
             [
@@ -339,12 +341,20 @@ fn check_lines(rt: &impl Abort, alloc: Global) {
     );
 }
 
+// Running tests are shown, and there are none.
+fn has_no_tests(state: &ProgressState) -> bool {
+    match state.running() {
+        Some(tests) => tests.is_empty(),
+        None => false,
+    }
+}
+
 // The first tick of a run, and whether it is shown after an event.
 fn begins(alloc: Global, kind: TestEventKind, text: &str) -> Mem<bool> {
     let mut state = ProgressState::new(RunMode::Test, 1, MaxProgressRunning::default());
     state.apply(alloc, &event_of(kind, 0, 0))?;
     let shown = state.tick_text(alloc, 0, 80)?;
-    Ok(state.hidden() && state.running() == Some([].as_slice()) && shown.as_str() == text)
+    Ok(state.hidden() && has_no_tests(&state) && shown.as_str() == text)
 }
 
 #[test]

@@ -5,8 +5,7 @@ use std::alloc::Global;
 
 const TESTS: u32 = 20_000;
 
-const PLAN: &str =
-    r#"{"capture":"none","run_id":"00000000-0000-4000-8000-000000000001","tests":["#;
+const PLAN: &str = r#"{"capture":"none","run_id":"00000000-0000-4000-8000-000000000001","tests":["#;
 
 fn add(alloc: Global, input: &mut Blob, text: &str) -> Mem<()> {
     input.extend_from_slice(alloc, text.as_bytes())
@@ -15,7 +14,9 @@ fn add(alloc: Global, input: &mut Blob, text: &str) -> Mem<()> {
 // A test of the plan.
 fn add_test(alloc: Global, input: &mut Blob, unit: u32) -> Mem<()> {
     let comma = if unit == 0 { "" } else { "," };
-    let name = format!(in alloc; "{comma}{{\"binary\":\"b\",\"command\":[\"true\"],\"name\":\"t{unit}\"}}")?;
+    let name = format!(in alloc;
+        "{comma}{{\"binary\":\"b\",\"command\":[\"true\"],\"name\":\"t{unit}\"}}"
+    )?;
     add(alloc, input, name.as_str())
 }
 
@@ -26,8 +27,7 @@ fn add_turns(alloc: Global, input: &mut Blob, unit: u32) -> Mem<()> {
         input,
         "{\"turn\":\"admit\"}\n{\"turn\":\"deliver\"}\n",
     )?;
-    let own = format!(
-        in alloc;
+    let own = format!(in alloc;
         "{{\"pid\":1,\"turn\":\"started\",\"unit\":{unit}}}\n{{\"code\":0,\"turn\":\"exit\",\"unit\":{unit}}}\n\
          {{\"turn\":\"decide\",\"unit\":{unit},\"word\":0}}\n"
     )?;
