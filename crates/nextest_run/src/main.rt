@@ -20,7 +20,8 @@ its output, and that one started or ended is a line of INPUT.
 INPUT has at most 16 MiB (16,777,216 bytes). Each line is a JSON object: the first is the plan, each later
 one a turn. A sample, a run of one test that passes:
 
-  {\"capture\":\"none\",\"run_id\":\"00000000-0000-4000-8000-000000000001\",\"tests\":[{\"binary\":\"b\",\"command\":[\"true\"],\"name\":\"t\"}]}
+  {\"capture\":\"none\",\"run_id\":\"00000000-0000-4000-8000-000000000001\",\
+    \"tests\":[{\"binary\":\"b\",\"command\":[\"true\"],\"name\":\"t\"}]}
   {\"turn\":\"begin\"}
   {\"turn\":\"admit\"}
   {\"turn\":\"deliver\"}

@@ -4,7 +4,8 @@ use run_cli::{Ran, run};
 use std::alloc::Global;
 
 const PLAN: &str =
-    r#"{"capture":"none","run_id":"00000000-0000-4000-8000-000000000001","tests":[{"binary":"b","command":["true"],"name":"t"}]}"#;
+    "{\"capture\":\"none\",\"run_id\":\"00000000-0000-4000-8000-000000000001\",\"tests\":[\
+     {\"binary\":\"b\",\"command\":[\"true\"],\"name\":\"t\"}]}";
 
 const STARTED: &str = r#"{"turn":"begin"}
 {"turn":"admit"}
@@ -23,14 +24,20 @@ const NO_TESTS: &str =
     r#"{"capture":"none","run_id":"00000000-0000-4000-8000-000000000001","tests":[]}"#;
 
 const SKIPPED: &str =
-    r#"{"capture":"none","run_id":"00000000-0000-4000-8000-000000000001","tests":[{"binary":"b","command":["true"],"name":"t","skip":"gone"}]}"#;
+    "{\"capture\":\"none\",\"run_id\":\"00000000-0000-4000-8000-000000000001\",\"tests\":[\
+     {\"binary\":\"b\",\"command\":[\"true\"],\"name\":\"t\",\"skip\":\"gone\"}]}";
 
 const REPEATED: &str =
-    r#"{"capture":"none","run_id":"00000000-0000-4000-8000-000000000001","tests":[{"binary":"b","command":["true"],"name":"t"},{"binary":"b","command":["true"],"name":"t"}]}"#;
+    "{\"capture\":\"none\",\"run_id\":\"00000000-0000-4000-8000-000000000001\",\"tests\":[\
+     {\"binary\":\"b\",\"command\":[\"true\"],\"name\":\"t\"},\
+     {\"binary\":\"b\",\"command\":[\"true\"],\"name\":\"t\"}]}";
 
 // Two tests that match, and one that doesn't.
 const THREE: &str =
-    r#"{"capture":"none","run_id":"00000000-0000-4000-8000-000000000001","tests":[{"binary":"b","command":["true"],"name":"a"},{"binary":"b","command":["true"],"name":"b"},{"binary":"b","command":["true"],"name":"c","skip":"no"}]}"#;
+    "{\"capture\":\"none\",\"run_id\":\"00000000-0000-4000-8000-000000000001\",\"tests\":[\
+     {\"binary\":\"b\",\"command\":[\"true\"],\"name\":\"a\"},\
+     {\"binary\":\"b\",\"command\":[\"true\"],\"name\":\"b\"},\
+     {\"binary\":\"b\",\"command\":[\"true\"],\"name\":\"c\",\"skip\":\"no\"}]}";
 
 const BEGUN: &str = r#"{"turn":"begin"}
 {"turn":"admit"}
