@@ -1,7 +1,9 @@
 // Whole inputs by the top call, into memory.
-use run_capture::{Blob, List, Mem, MemorySink, MemorySource};
+use crate::made::{MEMORY, one};
+use run_capture::{Blob, MemorySink, MemorySource};
 use run_cli::{Ran, run};
 use std::alloc::Global;
+use std::process::Abort;
 
 const PLAN: &str =
     "{\"capture\":\"none\",\"run_id\":\"00000000-0000-4000-8000-000000000001\",\"tests\":[\
@@ -84,44 +86,63 @@ fn given<'a>(words: &'a [&'a str], input: &'a [&'a str]) -> Row<'a> {
     }
 }
 
-fn words_of(alloc: Global, words: &[&str]) -> Mem<Vec<String>> {
+fn words_of(rt: &impl Abort, alloc: Global, words: &[&str]) -> Vec<String> {
     let mut all = Vec::new(alloc);
     for word in words {
-        all.push(String::from_str(alloc, word)?)?;
+        let word = String::from_str(alloc, word).expect(rt, MEMORY);
+        all.push(word).expect(rt, MEMORY);
     }
-    Ok(all)
+    all
 }
 
-fn input_of(alloc: Global, lines: &[&str]) -> Mem<Blob> {
+fn input_of(rt: &impl Abort, alloc: Global, lines: &[&str]) -> Blob {
     let mut input = Blob::new(alloc);
     for line in lines {
-        input.extend_from_slice(alloc, line.as_bytes())?;
-        input.extend_from_slice(alloc, b"\n")?;
+        input
+            .extend_from_slice(alloc, line.as_bytes())
+            .expect(rt, MEMORY);
+        input.extend_from_slice(alloc, b"\n").expect(rt, MEMORY);
     }
-    Ok(input)
+    input
 }
 
-fn numbers(alloc: Global, number: u64) -> Mem<List<u64>> {
-    let mut numbers = List::new();
-    numbers.push(alloc, number)?;
-    Ok(numbers)
+fn source_of(rt: &impl Abort, alloc: Global, row: &Row) -> MemorySource {
+    let failing = one(rt, alloc, row.failing_read);
+    MemorySource::new(input_of(rt, alloc, row.input), 1000, failing)
 }
 
-// Runs a row, and whether it ends with this status, and writes so many lines with this as the last.
-fn ends(alloc: Global, row: &Row, status: u8, lines: usize, last: &str) -> Mem<bool> {
-    let words = words_of(alloc, row.words)?;
-    let input = input_of(alloc, row.input)?;
-    let mut source = MemorySource::new(input, 1000, numbers(alloc, row.failing_read)?);
-    let sink = MemorySink::new(alloc, 10000, 1000, numbers(alloc, row.failing_write)?)?;
-    let Ran { status: got, sink } = run(alloc, words.as_slice(), &mut source, sink);
+fn sink_of(rt: &impl Abort, alloc: Global, row: &Row) -> MemorySink {
+    let failing = one(rt, alloc, row.failing_write);
+    MemorySink::new(alloc, 10000, 1000, failing).expect(rt, MEMORY)
+}
+
+// So many lines were written, with this as the last.
+fn has_written(sink: &MemorySink, lines: usize, last: &str) -> bool {
     let written = sink.bytes();
     let count = written.iter().filter(|byte| **byte == b'\n').count();
-    Ok(got == status && count == lines && written.ends_with(last.as_bytes()))
+    count == lines && written.ends_with(last.as_bytes())
 }
 
-// The same, and false where memory was wanting.
-fn answers(alloc: Global, row: &Row, status: u8, lines: usize, last: &str) -> bool {
-    ends(alloc, row, status, lines, last).unwrap_or(false)
+fn ended(rt: &impl Abort, alloc: Global, row: &Row) -> Ran<MemorySink> {
+    let words = words_of(rt, alloc, row.words);
+    let mut source = source_of(rt, alloc, row);
+    let ran = run(
+        alloc,
+        words.as_slice(),
+        &mut source,
+        sink_of(rt, alloc, row),
+    );
+    drop(source);
+    drop(words);
+    ran
+}
+
+// A row ends with this status, and writes so many lines with this as the last.
+fn check(rt: &impl Abort, alloc: Global, row: &Row, status: u8, lines: usize, last: &str) {
+    let Ran { status: got, sink } = ended(rt, alloc, row);
+    let written = has_written(&sink, lines, last);
+    drop(sink);
+    assert!(rt; got == status && written, "{last}");
 }
 
 #[test]
@@ -129,11 +150,11 @@ fn whole_runs(rt: HostRuntime) {
     let alloc = rt.alloc();
     let passed = given(&["replay"], &[PLAN, STARTED, PASSED, DECIDED]);
     let last = "{\"outcome\":\"success\"}\n";
-    assert!(rt; answers(alloc, &passed, 0, 6, last));
+    check(&rt, alloc, &passed, 0, 6, last);
 
     let failed = given(&["replay"], &[PLAN, STARTED, FAILED, DECIDED]);
     let last = "{\"outcome\":\"failed\",\"step\":\"test\"}\n";
-    assert!(rt; answers(alloc, &failed, 100, 6, last));
+    check(&rt, alloc, &failed, 100, 6, last);
 }
 
 #[test]
@@ -141,15 +162,15 @@ fn tests_that_do_not_run(rt: HostRuntime) {
     let alloc = rt.alloc();
     let none = given(&["replay"], &[NO_TESTS, BEGIN, END]);
     let last = "\"event\":\"run-finished\",\"stats\":{}}\n{\"outcome\":\"no-tests-run\"}\n";
-    assert!(rt; answers(alloc, &none, 4, 3, last));
+    check(&rt, alloc, &none, 4, 3, last);
 
     let skipped = given(&["replay"], &[SKIPPED, BEGUN, END]);
     let last = "\"stats\":{\"skipped\":1}}\n{\"outcome\":\"no-tests-run\"}\n";
-    assert!(rt; answers(alloc, &skipped, 4, 4, last));
+    check(&rt, alloc, &skipped, 4, 4, last);
 
     let refused = given(&["replay"], &[PLAN, BEGUN, START_FAILED, DECIDED]);
     let last = "{\"outcome\":\"failed\",\"step\":\"test\"}\n";
-    assert!(rt; answers(alloc, &refused, 100, 6, last));
+    check(&rt, alloc, &refused, 100, 6, last);
 }
 
 #[test]
@@ -157,18 +178,18 @@ fn many_tests(rt: HostRuntime) {
     let alloc = rt.alloc();
     let blocked = given(&["replay"], &[THREE, BEGIN, ADMIT, ADMIT]);
     let last = "{\"fault\":\"not-enabled\",\"status\":6,\"turn\":2}\n";
-    assert!(rt; answers(alloc, &blocked, 6, 2, last));
+    check(&rt, alloc, &blocked, 6, 2, last);
 
     let whole = given(
         &["replay"],
         &[THREE, STARTED, PASSED, FIRST_DONE, SECOND, SKIP_LAST],
     );
     let last = "{\"outcome\":\"failed\",\"step\":\"test\"}\n";
-    assert!(rt; answers(alloc, &whole, 100, 10, last));
+    check(&rt, alloc, &whole, 100, 10, last);
 
     let repeated = given(&["replay"], &[REPEATED, BEGIN]);
     let last = "{\"fault\":\"plan\",\"kind\":\"duplicate-test\",\"status\":5,\"test\":1}\n";
-    assert!(rt; answers(alloc, &repeated, 5, 1, last));
+    check(&rt, alloc, &repeated, 5, 1, last);
 }
 
 #[test]
@@ -177,7 +198,7 @@ fn refused_words(rt: HostRuntime) {
     let last = "{\"fault\":\"words\",\"status\":2}\n";
     let rows: [&[&str]; 3] = [&[], &["play"], &["replay", "x"]];
     for words in rows {
-        assert!(rt; answers(alloc, &given(words, &[PLAN]), 2, 1, last));
+        check(&rt, alloc, &given(words, &[PLAN]), 2, 1, last);
     }
 }
 
@@ -186,15 +207,15 @@ fn refused_inputs(rt: HostRuntime) {
     let alloc = rt.alloc();
     let bad = given(&["replay"], &[PLAN, "{\"turn\":\"jump\"}"]);
     let last = "{\"fault\":\"line\",\"line\":2,\"status\":3}\n";
-    assert!(rt; answers(alloc, &bad, 3, 1, last));
+    check(&rt, alloc, &bad, 3, 1, last);
 
     let early = given(&["replay"], &[PLAN, STARTED, DECIDED]);
     let last = "{\"fault\":\"not-enabled\",\"status\":6,\"turn\":4}\n";
-    assert!(rt; answers(alloc, &early, 6, 4, last));
+    check(&rt, alloc, &early, 6, 4, last);
 
     let unfinished = given(&["replay"], &[PLAN]);
     let last = "{\"fault\":\"unfinished\",\"status\":8}\n";
-    assert!(rt; answers(alloc, &unfinished, 8, 1, last));
+    check(&rt, alloc, &unfinished, 8, 1, last);
 }
 
 #[test]
@@ -203,10 +224,10 @@ fn failing_streams(rt: HostRuntime) {
     let mut failing = given(&["replay"], &[PLAN, STARTED, PASSED, DECIDED]);
     failing.failing_read = 1;
     let last = "{\"fault\":\"read\",\"status\":10}\n";
-    assert!(rt; answers(alloc, &failing, 10, 1, last));
+    check(&rt, alloc, &failing, 10, 1, last);
 
     failing.failing_read = 0;
     failing.failing_write = 1;
     let last = "{\"fault\":\"report\",\"status\":9}\n";
-    assert!(rt; answers(alloc, &failing, 9, 5, last));
+    check(&rt, alloc, &failing, 9, 5, last);
 }

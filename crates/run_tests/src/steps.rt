@@ -1,12 +1,13 @@
 // A run by the engine.
+use crate::made::{MEMORY, copied};
 use crate::plan::{Tests, runner};
 use crate::statistics::are_counted;
 use crate::units::put_own;
-use run_capture::{Duplicate, Mem, OutOfMemory};
 use run_engine::{Run, StepError, TestRunnerExecuteErrors};
 use run_events::{AskList, EventLog, ReporterEvent, RunOutcome, Turn};
 use run_plain::OwnTurn;
 use std::alloc::Global;
+use std::process::Abort;
 
 // What was told and asked.
 #[derive(Drop)]
@@ -47,12 +48,12 @@ pub fn new_walk(alloc: Global) -> Walk {
 }
 
 // Whether a turn was taken.
-fn takes(alloc: Global, run: &mut Run, turn: &Turn, ends: &mut Ends) -> Mem<bool> {
-    let turn = turn.copy(alloc)?;
+fn takes(rt: &impl Abort, alloc: Global, run: &mut Run, turn: &Turn, ends: &mut Ends) -> bool {
+    let turn = copied(rt, alloc, turn);
     match run.step(alloc, turn, &mut ends.asks, &mut ends.log) {
-        Ok(_) => Ok(true),
-        Err(StepError::NotEnabled) => Ok(false),
-        Err(_) => Err(OutOfMemory),
+        Ok(_) => true,
+        Err(StepError::NotEnabled) => false,
+        Err(_) => rt.panic(MEMORY),
     }
 }
 
@@ -61,63 +62,46 @@ impl Walk {
         self.ends.log.events()
     }
 
-    fn take(&mut self, alloc: Global, run: &mut Run, turn: &Turn) -> Mem<()> {
-        self.enabled = takes(alloc, run, turn, &mut self.ends)?;
+    fn take(&mut self, rt: &impl Abort, alloc: Global, run: &mut Run, turn: &Turn) {
+        self.enabled = takes(rt, alloc, run, turn, &mut self.ends);
         if self.enabled {
-            put_own(alloc, &mut self.story, turn, self.ends.log.events())?;
+            put_own(rt, alloc, &mut self.story, turn, self.ends.log.events());
         }
-        Ok(())
     }
 
-    fn take_all(&mut self, alloc: Global, run: &mut Run, turns: &[Turn]) -> Mem<()> {
+    fn take_all(&mut self, rt: &impl Abort, alloc: Global, run: &mut Run, turns: &[Turn]) {
         for turn in turns {
-            self.take(alloc, run, turn)?;
+            self.take(rt, alloc, run, turn);
             self.counted = self.counted && are_counted(run.settings(), self.events());
         }
         self.outcome = run.outcome();
-        Ok(())
     }
 
     // Takes turns with a run that has taken none.
-    pub fn go(&mut self, alloc: Global, of: Tests, turns: &[Turn]) -> Mem<()> {
-        match new_run(alloc, of) {
-            Ok(run) => self.take_with(alloc, run, turns),
-            Err(error) => Err(error),
-        }
-    }
-
-    fn take_with(&mut self, alloc: Global, run: Run, turns: &[Turn]) -> Mem<()> {
-        let mut run = run;
-        let answer = self.take_all(alloc, &mut run, turns);
-        // By a call, so that the proof has one step for it and not one for each part.
+    pub fn go(&mut self, rt: &impl Abort, alloc: Global, of: Tests, turns: &[Turn]) {
+        let mut run = runner(rt, alloc, of).into_run(alloc).expect(rt, MEMORY);
+        self.take_all(rt, alloc, &mut run, turns);
         drop(run);
-        answer
-    }
-}
-
-fn new_run(alloc: Global, of: Tests) -> Mem<Run> {
-    match runner(alloc, of) {
-        Ok(runner) => runner.into_run(alloc),
-        Err(error) => Err(error),
     }
 }
 
 // What the engine answers to all turns at once: the outcome, or the place of a turn that isn't enabled, or neither.
 pub fn executed(
+    rt: &impl Abort,
     alloc: Global,
     of: Tests,
     turns: &[Turn],
     ends: &mut Ends,
-) -> Mem<(Option<RunOutcome>, Option<u64>)> {
+) -> (Option<RunOutcome>, Option<u64>) {
     if turns.len() > 100 {
-        return Ok((None, None));
+        return (None, None);
     }
-    let runner = runner(alloc, of)?;
+    let runner = runner(rt, alloc, of);
     match runner.execute(alloc, turns, &mut ends.asks, &mut ends.log) {
-        Ok(outcome) => Ok((Some(outcome), None)),
-        Err(TestRunnerExecuteErrors::NotEnabled { turn }) => Ok((None, Some(turn))),
-        Err(TestRunnerExecuteErrors::Unfinished) => Ok((None, None)),
+        Ok(outcome) => (Some(outcome), None),
+        Err(TestRunnerExecuteErrors::NotEnabled { turn }) => (None, Some(turn)),
+        Err(TestRunnerExecuteErrors::Unfinished) => (None, None),
         Err(TestRunnerExecuteErrors::Report(error)) => match error {},
-        Err(TestRunnerExecuteErrors::OutOfMemory) => Err(OutOfMemory),
+        Err(TestRunnerExecuteErrors::OutOfMemory) => rt.panic(MEMORY),
     }
 }

@@ -1,17 +1,19 @@
 // What was told of a test, beside its own turns and the account of its fate.
+use crate::made::{MEMORY, text};
 use crate::plan::Tests;
 use crate::steps::Walk;
-use run_capture::{ChildFdError, List, Mem, Text};
+use run_capture::{ChildFdError, List, Text};
 use run_events::{ChildExecutionOutput, ExecuteStatus, ReporterEvent, TestEventKind};
 use run_plain::{News, OwnTurn, account, account_of, meets_attempt_law, statuses_of};
 use std::alloc::Global;
+use std::process::Abort;
 
 // The attempts of the first unit, by its own turns.
-fn attempts(alloc: Global, story: &[OwnTurn]) -> Mem<List<ExecuteStatus>> {
+fn attempts(rt: &impl Abort, alloc: Global, story: &[OwnTurn]) -> List<ExecuteStatus> {
     if story.len() > 100 {
-        return Ok(List::new());
+        return List::new();
     }
-    statuses_of(alloc, 1, story)
+    statuses_of(alloc, 1, story).expect(rt, MEMORY)
 }
 
 // Whether errors are the same; only those of waits come here.
@@ -75,12 +77,14 @@ fn last_finished(events: &[ReporterEvent]) -> Option<&[ExecuteStatus]> {
 }
 
 // Whether the attempts that the last event tells, where it tells that a test finished, are the first unit's own turns.
-pub fn has_own_attempts(alloc: Global, walk: &Walk) -> Mem<bool> {
-    let Some(told) = last_finished(walk.events()) else {
-        return Ok(true);
-    };
-    let attempts = attempts(alloc, walk.story.as_slice())?;
-    Ok(are_same_attempts(told, attempts.as_slice()))
+pub fn has_own_attempts(rt: &impl Abort, alloc: Global, walk: &Walk) -> bool {
+    match last_finished(walk.events()) {
+        Some(told) => {
+            let attempts = attempts(rt, alloc, walk.story.as_slice());
+            are_same_attempts(told, attempts.as_slice())
+        }
+        None => true,
+    }
 }
 
 fn letter(news: &News) -> &'static str {
@@ -95,52 +99,60 @@ fn letter(news: &News) -> &'static str {
 }
 
 // An account in letters, one for each thing told.
-fn letters(alloc: Global, account: &[News]) -> Mem<Text> {
-    let mut letters = Text::from_str(alloc, "")?;
+fn letters(rt: &impl Abort, alloc: Global, account: &[News]) -> Text {
+    let mut letters = text(rt, alloc, "");
     for news in account {
-        letters.push_str(alloc, letter(news))?;
+        letters.push_str(alloc, letter(news)).expect(rt, MEMORY);
     }
-    Ok(letters)
+    letters
 }
 
-fn told_letters(alloc: Global, walk: &Walk, unit: u32) -> Mem<Text> {
-    let account = account_of(alloc, unit, walk.events())?;
-    letters(alloc, account.as_slice())
+fn told_letters(rt: &impl Abort, alloc: Global, walk: &Walk, unit: u32) -> Text {
+    let account = account_of(alloc, unit, walk.events()).expect(rt, MEMORY);
+    letters(rt, alloc, account.as_slice())
 }
 
-fn fate_letters(alloc: Global, mismatched: bool, statuses: &List<ExecuteStatus>) -> Mem<Text> {
-    let account = account(alloc, mismatched, false, false, statuses)?;
-    letters(alloc, account.as_slice())
+fn fate_letters(
+    rt: &impl Abort,
+    alloc: Global,
+    mismatched: bool,
+    statuses: &List<ExecuteStatus>,
+) -> Text {
+    let account = account(alloc, mismatched, false, false, statuses).expect(rt, MEMORY);
+    letters(rt, alloc, account.as_slice())
 }
 
 // Whether what was told of a unit is the account of its fate, with these attempts.
 fn has_fate(
+    rt: &impl Abort,
     alloc: Global,
     walk: &Walk,
     unit: u32,
     mismatched: bool,
     statuses: &List<ExecuteStatus>,
-) -> Mem<bool> {
-    let told = told_letters(alloc, walk, unit)?;
-    let fate = fate_letters(alloc, mismatched, statuses)?;
-    Ok(told.as_str() == fate.as_str())
+) -> bool {
+    told_letters(rt, alloc, walk, unit) == fate_letters(rt, alloc, mismatched, statuses)
 }
 
 // The same of the first unit, whose attempts meet their law.
-fn has_first_fate(alloc: Global, walk: &Walk) -> Mem<bool> {
-    let statuses = attempts(alloc, walk.story.as_slice())?;
-    let told = has_fate(alloc, walk, 0, false, &statuses)?;
-    Ok(told && meets_attempt_law(0, statuses.as_slice()))
+fn has_first_fate(rt: &impl Abort, alloc: Global, walk: &Walk) -> bool {
+    let statuses = attempts(rt, alloc, walk.story.as_slice());
+    has_fate(rt, alloc, walk, 0, false, &statuses) && meets_attempt_law(0, statuses.as_slice())
+}
+
+fn has_second_fate(rt: &impl Abort, alloc: Global, walk: &Walk) -> bool {
+    has_fate(rt, alloc, walk, 1, true, &List::new())
 }
 
 // Whether each test has its fate in a run that is over: the second doesn't match.
-pub fn have_fates(alloc: Global, of: Tests, walk: &Walk) -> Mem<bool> {
+pub fn have_fates(rt: &impl Abort, alloc: Global, of: Tests, walk: &Walk) -> bool {
     if walk.outcome.is_none() {
-        return Ok(true);
+        return true;
     }
-    let first = has_first_fate(alloc, walk)?;
     match of {
-        Tests::One => Ok(first),
-        Tests::OneAndSkipped => Ok(first && has_fate(alloc, walk, 1, true, &List::new())?),
+        Tests::One => has_first_fate(rt, alloc, walk),
+        Tests::OneAndSkipped => {
+            has_first_fate(rt, alloc, walk) && has_second_fate(rt, alloc, walk)
+        }
     }
 }

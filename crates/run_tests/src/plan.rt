@@ -1,0 +1,116 @@
+// The plans of the walks, and the turns that are tried after each list.
+ghost use Rattle.std.specs.Prelude.{◌≡◌, ◌≤◌, [], length};
+
+use crate::made::{MEMORY, one, text};
+use run_capture::{List, Text};
+use run_engine::{TestRunner, TestRunnerBuilder};
+use run_events::{ChildExit, Plan, PlanTest, TestInstanceId, Turn};
+use std::alloc::Global;
+use std::process::Abort;
+use uuid::Uuid;
+
+// Which tests a plan has.
+#[derive(Clone, Copy, Drop)]
+pub enum Tests {
+    // One that matches.
+    One,
+    // One that matches, and then one that doesn't.
+    OneAndSkipped,
+}
+
+fn planned(rt: &impl Abort, alloc: Global, name: &str, skip: Option<Text>) -> PlanTest {
+    let id = TestInstanceId {
+        binary: text(rt, alloc, "b"),
+        name: text(rt, alloc, name),
+    };
+    PlanTest::usual(id, one(rt, alloc, text(rt, alloc, "true")), skip)
+}
+
+fn skipped(rt: &impl Abort, alloc: Global) -> PlanTest {
+    planned(rt, alloc, "s", Some(text(rt, alloc, "ignored")))
+}
+
+fn planned_tests(rt: &impl Abort, alloc: Global, of: Tests) -> List<PlanTest>
+    ensures { length result ≤ 2 }
+{
+    let mut tests = List::new();
+    tests
+        .push(alloc, planned(rt, alloc, "t", None))
+        .expect(rt, MEMORY);
+    if let Tests::OneAndSkipped = of {
+        tests.push(alloc, skipped(rt, alloc)).expect(rt, MEMORY);
+    }
+    tests
+}
+
+fn plan(rt: &impl Abort, alloc: Global, of: Tests) -> Plan
+    ensures scripts { result.scripts ≡ [] }
+    ensures tests { length result.tests ≤ 2 }
+{
+    let tests = planned_tests(rt, alloc, of);
+    Plan::usual(alloc, Uuid::nil(), tests).expect(rt, MEMORY)
+}
+
+pub fn runner(rt: &impl Abort, alloc: Global, of: Tests) -> TestRunner {
+    TestRunnerBuilder::default()
+        .build(alloc, plan(rt, alloc, of))
+        .expect(rt, MEMORY)
+}
+
+fn exit(unit: u32, exit: ChildExit) -> Turn {
+    Turn::Exit { unit, exit }
+}
+
+fn put(rt: &impl Abort, turns: &mut Vec<Turn>, turn: Turn) {
+    turns.push(turn).expect(rt, MEMORY);
+}
+
+fn start_failed(rt: &impl Abort, alloc: Global, unit: u32) -> Turn {
+    let error = text(rt, alloc, "no such file");
+    Turn::StartFailed { unit, error }
+}
+
+fn wait_failed(rt: &impl Abort, alloc: Global, unit: u32) -> Turn {
+    let error = text(rt, alloc, "no child");
+    Turn::WaitFailed { unit, error }
+}
+
+// The turns of the run's own.
+fn put_run(rt: &impl Abort, turns: &mut Vec<Turn>) {
+    put(rt, turns, Turn::Begin);
+    put(rt, turns, Turn::Admit);
+    put(rt, turns, Turn::Deliver);
+    put(rt, turns, Turn::End);
+}
+
+// The turns of a unit: its child can't be started, starts, and exits with 0; and it decides.
+fn put_unit(rt: &impl Abort, alloc: Global, turns: &mut Vec<Turn>, unit: u32) {
+    put(rt, turns, start_failed(rt, alloc, unit));
+    put(rt, turns, Turn::Started { unit, pid: 100 });
+    put(rt, turns, exit(unit, ChildExit::Code(0)));
+    put(rt, turns, Turn::Decide { unit, word: 0 });
+}
+
+// Further ends of the first unit.
+fn put_ends(rt: &impl Abort, turns: &mut Vec<Turn>) {
+    put(rt, turns, exit(0, ChildExit::Code(1)));
+    put(rt, turns, exit(0, ChildExit::Signal(9)));
+    put(rt, turns, Turn::Decide { unit: 0, word: 7 });
+}
+
+fn put_all(rt: &impl Abort, alloc: Global, turns: &mut Vec<Turn>, of: Tests) {
+    put_run(rt, turns);
+    put_unit(rt, alloc, turns, 0);
+    put(rt, turns, wait_failed(rt, alloc, 0));
+    put_unit(rt, alloc, turns, 1);
+    if let Tests::One = of {
+        put_ends(rt, turns);
+    }
+}
+
+// The turns of the run's own, and those of two units.
+pub fn table(rt: &impl Abort, alloc: Global, of: Tests) -> Vec<Turn> {
+    let mut turns = Vec::new(alloc);
+    put_all(rt, alloc, &mut turns, of);
+    turns
+}
