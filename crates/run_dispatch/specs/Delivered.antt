@@ -11,4 +11,7 @@ pub record Delivers (now : ℕ) (old : DispatcherView) (message : Message) (new 
     : Type 0 where
   pub told : effects.events ≡ option_to_list (option_map (event now) (told_of old.tally message))
   pub go : effects.go ≡ go_of old.tally message
-  pub after : new ≡ record old { tally = having_told old.tally (option_map (event now) (told_of old.tally message)) }
+  pub after : new ≡ record old {
+    tally = having_told old.tally (option_map (event now) (told_of old.tally message));
+    latest = now;
+  }

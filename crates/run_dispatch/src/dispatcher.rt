@@ -1,5 +1,5 @@
 // The dispatcher and its rows.
-ghost use Rattle.std.specs.Prelude.{◌≡◌, ◌+◌, ◌<◌, ◌^◌, ◌∷◌, [], length, IfOk, OnOk, OnErr, None, true, false};
+ghost use Rattle.std.specs.Prelude.{◌≡◌, ◌+◌, ◌<◌, ◌≤◌, ◌^◌, ◌∷◌, [], length, IfOk, OnOk, OnErr, None, true, false};
 ghost use Rattle.std.specs.Prelude.{option_map, option_to_list};
 ghost use Rattle.run_events.specs.Stats.{AreBelow};
 ghost use Rattle.run_events.specs.declared.events.TestEventKind.TheVariants as kinds;
@@ -71,6 +71,7 @@ impl Dispatcher {
                     running: 0,
                     stats: RunStats::started(0, matched),
                 },
+                latest: 0,
             },
         })
     }
@@ -117,6 +118,7 @@ impl Dispatcher {
     /// Whether a turn of the dispatcher's own is enabled, by these facts of the rest of the run, at a moment of the
     /// run's clock in nanoseconds. False for all other turns.
     pub fn enabled(&self, turn: &Turn, facts: Facts, now: u64) -> bool
+        requires later { self.now.latest ≤ now }
         ensures { result ≡ dispatch_takes self.now facts turn.now }
     {
         let _now = now;
@@ -128,24 +130,28 @@ impl Dispatcher {
         }
     }
 
-    /// Begins the run: run-started is told.
+    /// Begins the run: run-started is told. As for each call at a moment of the run's clock, in nanoseconds, that moment
+    /// is no earlier than the latest before it.
     pub fn begin(&mut self, alloc: Global, now: u64) -> Fx
         requires idle { self.old.on ≡ false }
+        requires later { self.old.latest ≤ now }
         ensures told { IfOk result (λ fx. fx ≡ record
             { events = event now (kinds.RunStarted self.old.head) ∷ []; go = None }) }
-        ensures begun { OnOk result (self.new ≡ record self.old { on = true }) }
+        ensures begun { OnOk result (self.new ≡ record self.old { on = true; latest = now }) }
         ensures err { OnErr result (self.new ≡ self.old) }
     {
         let head = self.view.head.copy(alloc)?;
         let effects = telling(alloc, now, TestEventKind::RunStarted(head), None)?;
         self.view.on = true;
+        self.view.latest = now;
         Ok(effects)
     }
 
     /// Delivers a message: a start is told and let go where nothing cancels the run; a skip and a finish are counted
     /// and told.
     pub fn deliver(&mut self, alloc: Global, message: Message, now: u64) -> Fx
-        requires { CanDeliver self.old message }
+        requires fits { CanDeliver self.old message }
+        requires later { self.old.latest ≤ now }
         ensures delivers { IfOk result (Delivers now self.old message self.new) }
         ensures err { OnErr result (self.new ≡ self.old) }
     {
@@ -164,6 +170,7 @@ impl Dispatcher {
         ensures err { OnErr result (self.new ≡ self.old) }
     {
         if self.view.tally.stats.cancel_reason.is_some() {
+            self.view.latest = now;
             return Ok(silent(Some(false)));
         }
         let tally = with_start(self.view.tally);
@@ -174,6 +181,7 @@ impl Dispatcher {
         });
         let effects = telling(alloc, now, kind, Some(true))?;
         self.view.tally = tally;
+        self.view.latest = now;
         Ok(effects)
     }
 
@@ -184,6 +192,7 @@ impl Dispatcher {
     {
         let effects = telling(alloc, now, TestEventKind::TestSkipped(skip), None)?;
         self.view.tally = with_skip(self.view.tally);
+        self.view.latest = now;
         Ok(effects)
     }
 
@@ -202,15 +211,17 @@ impl Dispatcher {
         });
         let effects = telling(alloc, now, kind, None)?;
         self.view.tally = tally;
+        self.view.latest = now;
         Ok(effects)
     }
 
     /// Ends the run: run-finished is told, with the statistics.
     pub fn end(&mut self, alloc: Global, now: u64) -> Fx
         requires on { self.old.on ≡ true }
+        requires later { self.old.latest ≤ now }
         ensures told { IfOk result (λ fx. fx ≡ record
             { events = event now (finale self.old.tally.stats) ∷ []; go = None }) }
-        ensures over { OnOk result (self.new ≡ record self.old { on = false; over = true }) }
+        ensures over { OnOk result (self.new ≡ record self.old { on = false; over = true; latest = now }) }
         ensures err { OnErr result (self.new ≡ self.old) }
     {
         let kind = TestEventKind::RunFinished(RunFinished {
@@ -220,6 +231,7 @@ impl Dispatcher {
         let effects = telling(alloc, now, kind, None)?;
         self.view.on = false;
         self.view.over = true;
+        self.view.latest = now;
         Ok(effects)
     }
 }

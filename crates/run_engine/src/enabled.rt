@@ -1,5 +1,5 @@
 // Which turns are enabled.
-ghost use Rattle.std.specs.Prelude.{◌≡◌, length, IfOk};
+ghost use Rattle.std.specs.Prelude.{◌≤◌, ◌≡◌, length, IfOk};
 ghost use Rattle.run_model.specs.Admission.{units_in};
 ghost use Rattle.run_model.specs.Turns.{turn_of_unit, is_empty, facts, run_takes, enabled_on};
 ghost use Rattle.run_events.specs.declared.turn.Turn.TheVariants.{StartFailed, WaitFailed};
@@ -60,7 +60,8 @@ fn facts_of(state: &State) -> Facts
 
 // Whether a turn of the run's own is enabled where the run isn't over.
 fn is_run_enabled(settings: &Settings, state: &State, turn: &Turn) -> bool
-    requires { length state.now.units ≡ units_in settings.now }
+    requires whole { length state.now.units ≡ units_in settings.now }
+    requires later { state.now.dispatcher.latest ≤ state.now.clock }
     ensures { result ≡ run_takes settings.now state.now turn.now }
 {
     match turn {
@@ -79,6 +80,7 @@ pub fn is_enabled(
     named: &Option<(u32, UnitTurn)>,
 ) -> bool
     requires whole { length state.now.units ≡ units_in settings.now }
+    requires later { state.now.dispatcher.latest ≤ state.now.clock }
     requires named { named.now ≡ turn_of_unit turn.now }
     ensures { result ≡ enabled_on settings.now state.now turn.now }
 {

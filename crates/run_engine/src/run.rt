@@ -1,5 +1,5 @@
 // A run, turn by turn.
-ghost use Rattle.std.specs.Prelude.{◌≡◌, ◌<◌, ◌+◌, ◌^◌, ◌∷◌, ◌++◌, [], length, map, zip, not, is_none, option_to_list};
+ghost use Rattle.std.specs.Prelude.{◌≤◌, ◌≡◌, ◌<◌, ◌+◌, ◌^◌, ◌∷◌, ◌++◌, [], length, map, zip, not, is_none, option_to_list};
 ghost use Rattle.std.specs.Prelude.{vec_len, vec_capacity, IfOk, IfErr, OnOk, OnErr, IsErrOf, IsTrue, Option, Some};
 ghost use Rattle.std.specs.Prelude.{None, true, false};
 ghost use Rattle.std.specs.List.{list_all};
@@ -160,7 +160,8 @@ fn named_if_enabled(
     state: &State,
     turn: &Turn,
 ) -> Result<Option<(u32, UnitTurn)>, StepError>
-    requires { length state.now.units ≡ units_in settings.now }
+    requires whole { length state.now.units ≡ units_in settings.now }
+    requires later { state.now.dispatcher.latest ≤ state.now.clock }
     ensures named { IfOk result (λ named. named ≡ turn_of_unit turn.now) }
     ensures enabled { OnOk result (enabled_on settings.now state.now turn.now ≡ true) }
     ensures refused { IfErr result (IsNotNamed settings.now state.now turn.now) }

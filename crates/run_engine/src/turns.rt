@@ -1,5 +1,5 @@
 // The turns of a run: each does to the state what its row of the tables says.
-ghost use Rattle.std.specs.Prelude.{◌≡◌, ◌<◌, ◌^◌, ◌++◌, [], IfOk, OnOk, true, false, option_to_list};
+ghost use Rattle.std.specs.Prelude.{◌≡◌, ◌<◌, ◌≤◌, ◌^◌, ◌++◌, [], IfOk, OnOk, true, false, option_to_list};
 ghost use Rattle.std.specs.Prelude.{None};
 ghost use Rattle.std.specs.VecDeque.{deque_len, deque_capacity};
 ghost use Rattle.run_model.specs.Admission.{newcomer, units_in};
@@ -105,7 +105,8 @@ fn answer(alloc: Global, state: &mut State, unit: Option<u32>, go: Option<bool>)
 
 /// Delivers the oldest message.
 pub fn deliver(alloc: Global, state: &mut State) -> Mem<Effects>
-    requires { CanDeliverOldest state.old state.old.queue }
+    requires can { CanDeliverOldest state.old state.old.queue }
+    requires later { state.old.dispatcher.latest ≤ state.old.clock }
     ensures after { OnOk result (state.new ≡ moved state.old (delivery state.old state.old.queue)) }
     ensures told { IfOk result (λ effects. effects.events ≡ option_to_list (delivery state.old state.old.queue).told) }
     ensures asked { IfOk result (λ effects. effects.asked ≡ (delivery state.old state.old.queue).asked) }
@@ -149,6 +150,7 @@ pub fn advance(
 // Takes a turn of the run's own.
 fn advance_run(alloc: Global, settings: &Settings, state: &mut State, turn: &Turn) -> Mem<Effects>
     requires can { CanRun settings.now state.old turn.now }
+    requires later { state.old.dispatcher.latest ≤ state.old.clock }
     requires few { units_in settings.now < 2 ^ 32 }
     ensures after { OnOk result (state.new ≡ moved state.old (run_turn settings.now state.old turn.now)) }
     ensures told { IfOk result (λ effects. effects.events ≡ deed_events (run_turn settings.now state.old turn.now)) }
@@ -168,7 +170,8 @@ fn advance_run(alloc: Global, settings: &Settings, state: &mut State, turn: &Tur
 
 // Begins the run.
 fn begin(alloc: Global, state: &mut State) -> Mem<Effects>
-    requires { state.old.dispatcher.on ≡ false }
+    requires idle { state.old.dispatcher.on ≡ false }
+    requires later { state.old.dispatcher.latest ≤ state.old.clock }
     ensures after { OnOk result (state.new ≡ moved state.old (begun state.old)) }
     ensures told { IfOk result (λ effects. effects.events ≡ deed_events (begun state.old)) }
     ensures asked { IfOk result (λ effects. effects.asked ≡ None) }
@@ -183,7 +186,8 @@ fn begin(alloc: Global, state: &mut State) -> Mem<Effects>
 
 // Ends the run.
 fn end(alloc: Global, state: &mut State) -> Mem<Effects>
-    requires { state.old.dispatcher.on ≡ true }
+    requires on { state.old.dispatcher.on ≡ true }
+    requires later { state.old.dispatcher.latest ≤ state.old.clock }
     ensures after { OnOk result (state.new ≡ moved state.old (ended state.old)) }
     ensures told { IfOk result (λ effects. effects.events ≡ deed_events (ended state.old)) }
     ensures asked { IfOk result (λ effects. effects.asked ≡ None) }

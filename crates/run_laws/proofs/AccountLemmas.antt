@@ -1,5 +1,5 @@
 -- What each row of the tables does to the account of a test.
-use Rattle.std.proofs.Common.{◌≡◌, ℕ, ◌==◌, ◌≤◌, List, [], ◌∷◌, ◌++◌, Bool, true, false, Option, Some, None}
+use Rattle.std.proofs.Common.{◌≡◌, ℕ, ◌==◌, List, [], ◌∷◌, ◌++◌, Bool, true, false, Option, Some, None}
 use Rattle.std.proofs.Common.{option_to_list, if◌then◌else◌, refl, sym, subst, arith}
 use Rattle.std.specs.Prelude.{⊤}
 use Rattle.std.proofs.lemmas.List.Elements.{filter_map-append}
@@ -19,7 +19,7 @@ use Rattle.run_model.specs.declared.phase.Phase.TheVariants.{StartSent, Over}
 use Rattle.run_model.specs.declared.unit_turn.UnitTurn.{UnitTurn}
 use Rattle.run_model.specs.declared.unit_turn.UnitTurn.TheVariants.{Answered}
 use Rattle.run_model.specs.declared.unit_view.UnitView.{UnitView}
-use Rattle.run_model.specs.Unit.{row, row_at, takes}
+use Rattle.run_model.specs.Unit.{at_moment, row, row_at, takes}
 use Rattle.run_model.specs.Words.{unit_after}
 use Rattle.run_model.specs.Admission.{start_message, skip_message}
 use Rattle.run_model.specs.Dispatch.{event, started_event, finished_event}
@@ -54,10 +54,10 @@ row_sends_built now ph turn u = grind arith
 pub row_keeps_unit : (now : ℕ) (ph : Phase) (turn : UnitTurn) (u : UnitView) → (row_at now ph turn u).next.test ≡ u.test
 row_keeps_unit now ph turn u = grind arith
 
--- an attempt is let go at the moment of its row, and no row moves that later
-pub row_starts : (now : ℕ) (ph : Phase) (turn : UnitTurn) (u : UnitView) → u.start ≤ now
-    → (row_at now ph turn u).next.start ≤ now
-row_starts now ph turn u h = grind arith
+-- a row leaves a unit the moment of its latest turn
+pub row_keeps_latest : (now : ℕ) (ph : Phase) (turn : UnitTurn) (u : UnitView)
+    → (row_at now ph turn u).next.latest ≡ u.latest
+row_keeps_latest now ph turn u = grind arith
 
 -- a unit's own turn keeps the account of each test
 pub of_row : (mm : Bool) (now j k : ℕ) (turn : UnitTurn) (u : UnitView) (v : Option UnitView) (t : List News)
@@ -77,10 +77,10 @@ of_row mm now j k turn u v t q en other named same h = by_unit (j == k) refl
         subst (λ m. HasAccountAt mm u.phase u.statuses t (pending_of m q)) (sym own) (rw (same e) at h) in
         rw (e, same e) (subst (λ m. HasAccount mm (Some (row now turn u).next) t
         (pending_of m (q ++ option_to_list (row now turn u).sent))) own
-        (row_accounted mm now u.phase turn u u.statuses t q refl en other was))
+        (row_accounted mm now u.phase turn (at_moment now u) u.statuses t q refl en other was))
     by_unit false e =
         let apart : (u.test.unit == k) ≡ false = grind arith in
-        rw (e, row_sends_own now u.phase turn u k q apart) h
+        rw (e, row_sends_own now u.phase turn (at_moment now u) k q apart) h
 
 -- the delivery of the start message of a unit keeps the account of test k, v, let go or not
 pub of_start : (mm : Bool) (now k : ℕ) (go : Bool) (u : UnitView) (v : Option UnitView) (t : List News)

@@ -10,7 +10,7 @@ use Rattle.run_model.specs.declared.unit_turn.UnitTurn.{UnitTurn}
 use Rattle.run_model.specs.declared.unit_turn.UnitTurn.TheVariants.{Answered, Started, StartFailed, Exit, WaitFailed}
 use Rattle.run_model.specs.declared.unit_turn.UnitTurn.TheVariants.{Decide}
 use Rattle.run_model.specs.declared.unit_view.UnitView.{UnitView}
-use Rattle.run_model.specs.Unit.{row, row_at, takes, attempts}
+use Rattle.run_model.specs.Unit.{at_moment, row, row_at, takes, attempts}
 use Rattle.run_model.specs.Attempts.{OwnTurn, begins_attempt, with_turn, pieces, first_said, moment_if, end_of}
 use Rattle.run_model.specs.Attempts.{start_error_of, exit_of, errors_of, ended_statuses, attempt_in, start_in}
 
@@ -127,4 +127,4 @@ pub row_made_if : (now : ℕ) (turn : UnitTurn) (u : UnitView) (v : Option UnitV
     (record { moment = now; turn = turn } ∷ story)
 row_made_if now turn u v story is en h =
     rw is (let made : IsMade u (pieces story) = rw is at h in
-    row_made now u.phase turn u (pieces story) en made.attempt made.start made.has)
+    row_made now u.phase turn (at_moment now u) (pieces story) en made.attempt made.start made.has)

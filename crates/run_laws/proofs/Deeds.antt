@@ -21,7 +21,7 @@ use Rattle.run_model.specs.declared.happening.UnitPart.TheVariants.{Joins, Acts}
 use Rattle.run_model.specs.declared.unit_turn.UnitTurn.{UnitTurn}
 use Rattle.run_model.specs.declared.unit_turn.UnitTurn.TheVariants.{Answered}
 use Rattle.run_model.specs.declared.unit_view.UnitView.{UnitView}
-use Rattle.run_model.specs.Unit.{takes}
+use Rattle.run_model.specs.Unit.{at_moment, takes}
 use Rattle.run_model.specs.Words.{is_on, finished_test, sent, delivered, queue, told, unit_of, units, unit_after, tally}
 use Rattle.run_model.specs.Admission.{units_in, Newcomer, newcomer}
 use Rattle.run_model.specs.Dispatch.{may_go, event, with_start, with_finish, started_event}
@@ -130,7 +130,7 @@ unit_does p over now run j turn (Some u) h going e en other = record {
         cc;
   };
   room = omega (arith, h.fits);
-  sends = row_sends_built now u.phase turn u;
+  sends = row_sends_built now u.phase turn (at_moment now u);
   tells = tt;
   accounts = λ k. rw append-nil (of_row (is_mismatched p (place_of p k)) now j k turn u (unit_of k run)
       (account_of k (told run)) (queue run)
@@ -169,7 +169,7 @@ start_does p over now run start rest true (Some u) h on goes eq ew =
         goes = λ is. cc;
       };
       room = lt-from_queue (delivered run) (sent run) rest _ eq;
-      sends = row_sends_built now u.phase (Answered true) u;
+      sends = row_sends_built now u.phase (Answered true) (at_moment now u);
       tells = (waits.below, waits.untold);
       accounts = λ k. rw eq (of_start (is_mismatched p (place_of p k)) now k true u (unit_of k run)
           (account_of k (told run)) rest start (with_start (tally p run))

@@ -24,7 +24,7 @@ pub record Waits (p : Settings) (now : ℕ) (run : List Happening) (k : ℕ) : T
   pub unit : UnitView
   pub is : unit_of k run ≡ Some unit
   pub phase : unit.phase ≡ StartSent
-  pub start : unit.start ≤ now
+  pub latest : unit.latest ≤ now
   pub below : k < units_in p
   pub untold : account_of k (told run) ≡ []
 
@@ -42,7 +42,7 @@ start_waits p over now run start rest h eq =
     let found = start_of_unit (is_mismatched p (place_of p k)) start (unit_of k run) (account_of k (told run)) rest
     (rw eq at (h.accounts k)) in
     let named = h.named k found.0 found.1 in
-    record { unit = found.0; is = found.1; phase = found.2; start = named.2; below = named.1; untold = found.3 }
+    record { unit = found.0; is = found.1; phase = found.2; latest = named.2; below = named.1; untold = found.3 }
 
 -- a test whose finish message is the oldest was told started, and nothing else
 pub record Finishes (p : Settings) (run : List Happening) (k : ℕ) (statuses : List ExecuteStatus) : Type 0 where

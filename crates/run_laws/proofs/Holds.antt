@@ -10,7 +10,7 @@ use Rattle.run_model.specs.declared.phase.Phase.{Phase}
 use Rattle.run_model.specs.declared.phase.Phase.TheVariants.{Over}
 use Rattle.run_model.specs.declared.unit_view.UnitView.{UnitView}
 use Rattle.run_model.specs.Admission.{scripts_in, units_in}
-use Rattle.run_model.specs.Words.{is_on, sent, delivered, skipped, finished, reason, unit_of}
+use Rattle.run_model.specs.Words.{is_on, heard, sent, delivered, skipped, finished, reason, unit_of}
 use Rattle.run_model.specs.Accounts.{is_mismatched, IsAccountedAs}
 use Rattle.run_model.specs.Attempts.{story_of}
 use Rattle.run_model.specs.Fates.{never_started, was_left}
@@ -20,9 +20,9 @@ use Rattle.run_laws.proofs.AttemptLemmas.{IsMadeIf}
 abbrev pub place_of : Settings → ℕ → ℕ
 place_of p k = k - scripts_in p
 
--- a unit is known by its number, that is one of the plan, and its attempt was not let go later than now
+-- a unit is known by its number, that is one of the plan, and took no turn later than now
 abbrev pub IsNamed : ℕ → ℕ → ℕ → Option UnitView → Type 0
-IsNamed n now k v = (u : UnitView) → v ≡ Some u → (u.test.unit ≡ k) × (k < n) × (u.start ≤ now)
+IsNamed n now k v = (u : UnitView) → v ≡ Some u → (u.test.unit ≡ k) × (k < n) × (u.latest ≤ now)
 
 -- a matched test that is over has made an attempt
 abbrev pub IsAttemptedIn : Bool → Phase → List ExecuteStatus → Type 0
@@ -41,11 +41,12 @@ IsBuilt (Finish finish) = ⊤
 IsBuilt m = ⊥
 
 -- of a sub-run at this moment, by whether the run is over: no more messages are delivered than sent, no more skips and
--- finishes are told than it has turns, units are named, each test has its account, and its attempts are its own turns.
+-- finishes are told than it has turns, no turn was later, units are named, each test has its account, and its attempts are its own turns.
 -- No script is a unit yet, so of a number that is no test's nothing is told
 pub record Holds (p : Settings) (over : Bool) (now : ℕ) (run : List Happening) : Type 0 where
   pub fits : delivered run ≤ length (sent run)
   pub counted : skipped run + length (finished run) ≤ length run
+  pub heard : heard run ≤ now
   pub named : (k : ℕ) → IsNamed (units_in p) now k (unit_of k run)
   pub accounts : (k : ℕ) → IsAccountedAs p (place_of p k) k run
   pub made : (k : ℕ) → IsMadeIf (unit_of k run) (story_of k run)

@@ -24,8 +24,8 @@ use Rattle.run_model.specs.declared.phase.Phase.{Phase}
 use Rattle.run_model.specs.declared.unit_turn.UnitTurn.{UnitTurn}
 use Rattle.run_model.specs.declared.unit_turn.UnitTurn.TheVariants.{Answered}
 use Rattle.run_model.specs.declared.unit_view.UnitView.{UnitView}
-use Rattle.run_model.specs.Unit.{row, row_at}
-use Rattle.run_model.specs.Words.{events_in, clock, ns_of, is_on, is_over, sub_run, reason, sent, delivered, queue}
+use Rattle.run_model.specs.Unit.{at_moment, row, row_at}
+use Rattle.run_model.specs.Words.{events_in, clock, ns_of, is_on, is_over, sub_run, is_heard, heard, reason, sent, delivered, queue}
 use Rattle.run_model.specs.Words.{told, finish_of, finished, skips, skipped, unit_of, unit_after}
 use Rattle.run_model.specs.Admission.{units_in, unit_of_test}
 use Rattle.run_model.specs.Dispatch.{event}
@@ -40,7 +40,7 @@ use Rattle.run_laws.specs.Laws.{IsMadeByItsTurns}
 use Rattle.run_laws.proofs.Holds.{Holds, IsBuilt, IsNamed, IsAttempted, IsAttemptedIn, place_of}
 use Rattle.run_laws.proofs.AttemptLemmas.{IsMade, IsMadeIf, made_statuses, row_made_if}
 use Rattle.run_laws.proofs.Queue.{queue-cons}
-use Rattle.run_laws.proofs.AccountLemmas.{IsFirst, IsBuiltIf, row_keeps_unit, row_starts}
+use Rattle.run_laws.proofs.AccountLemmas.{IsFirst, IsBuiltIf, row_keeps_unit, row_keeps_latest}
 use Rattle.run_laws.proofs.OnBoard.{board_of}
 use Rattle.run_laws.proofs.Newcomers.{place-of_test}
 use Rattle.run_laws.proofs.Deeds.{PartFits, Does, does}
@@ -96,27 +96,27 @@ named_after p run now later k None v le h fits u e = let at = h u e in (at.0, at
 named_after p run now later k (Some (Joins first)) v le h (sent, new) u e = at_once (first.test.unit == k) refl e
   where
     at_once : (b : Bool) → (first.test.unit == k) ≡ b → (if b then Some first else v) ≡ Some u
-        → (u.test.unit ≡ k) × (k < units_in p) × (u.start ≤ later)
+        → (u.test.unit ≡ k) × (k < units_in p) × (u.latest ≤ later)
     at_once true be e =
         let same : first ≡ u = cc in
         let below = new.below in
-        let start = new.start in
-        subst (λ (w : UnitView). (w.test.unit ≡ k) × (k < units_in p) × (w.start ≤ later)) same (grind arith)
+        let latest = new.latest in
+        subst (λ (w : UnitView). (w.test.unit ≡ k) × (k < units_in p) × (w.latest ≤ later)) same (grind arith)
     at_once false be e = let at = h u e in (at.0, at.1, omega arith)
 named_after p run now later k (Some (Acts j turn)) v le h fits u e = by_unit (j == k) e
   where
     by_view : (v : Option UnitView) → IsNamed (units_in p) now k v → option_map (λ w. (row now turn w).next) v ≡ Some u
-        → (u.test.unit ≡ k) × (k < units_in p) × (u.start ≤ later)
+        → (u.test.unit ≡ k) × (k < units_in p) × (u.latest ≤ later)
     by_view None h e = cc
     by_view (Some w) h e =
         let same : (row now turn w).next ≡ u = cc in
-        let named : (w.test.unit ≡ k) × (k < units_in p) × (w.start ≤ now) = h w refl in
-        let early : (row now turn w).next.start ≤ now = row_starts now w.phase turn w named.2 in
-        subst (λ (v : UnitView). (v.test.unit ≡ k) × (k < units_in p) × (v.start ≤ later)) same
-        (ap (λ t. t.unit) (row_keeps_unit now w.phase turn w) ∙ named.0, named.1, omega arith)
+        let named : (w.test.unit ≡ k) × (k < units_in p) × (w.latest ≤ now) = h w refl in
+        let early : (row now turn w).next.latest ≡ now = row_keeps_latest now w.phase turn (at_moment now w) in
+        subst (λ (v : UnitView). (v.test.unit ≡ k) × (k < units_in p) × (v.latest ≤ later)) same
+        (ap (λ t. t.unit) (row_keeps_unit now w.phase turn (at_moment now w)) ∙ named.0, named.1, omega arith)
 
     by_unit : (b : Bool) → (if b then option_map (λ w. (row now turn w).next) v else v) ≡ Some u
-        → (u.test.unit ≡ k) × (k < units_in p) × (u.start ≤ later)
+        → (u.test.unit ≡ k) × (k < units_in p) × (u.latest ≤ later)
     by_unit true e = by_view v h e
     by_unit false e = let at = h u e in (at.0, at.1, omega arith)
 
@@ -152,7 +152,7 @@ attempted_after p run now k (Some (Acts j turn)) v t q a h taken = moves (j == k
         → HasAccount (is_mismatched p (place_of p k)) v t q
         → IsAttempted (is_mismatched p (place_of p k)) (if b then option_map (λ w. (row now turn w).next) v else v)
     moves true None a h = tt
-    moves true (Some u) a h = row_attempted _ now u.phase turn u u.statuses t q refl refl taken.goes h a
+    moves true (Some u) a h = row_attempted _ now u.phase turn (at_moment now u) u.statuses t q refl refl taken.goes h a
     moves false v a h = a
 
 -- a unit that begins is at its first attempt, of which there is none yet
@@ -204,6 +204,11 @@ stays_on begins on true true over e is off going = cc
 stays_on begins on true false over e is off going = cc
 stays_on begins on false over_now over e is off going = let never : true ≡ false = sym is ∙ off in cc
 
+-- no turn was heard later than now
+heard-within : (hears : Bool) (now ns was : ℕ) → was ≤ now → (if hears then now else was) ≤ now + ns
+heard-within true now ns was h = omega arith
+heard-within false now ns was h = omega arith
+
 -- what holds after one more deed that fits
 pub holds-cons : (p : Settings) (over : Bool) (now : ℕ) (run : List Happening) (e : Entry) (d : Deed)
     → Holds p over now run → Does p over now run d
@@ -211,6 +216,7 @@ pub holds-cons : (p : Settings) (over : Bool) (now : ℕ) (run : List Happening)
 holds-cons p over now run e d h does = record {
   fits = let room = does.room in omega (arith, length-append (sent run) (option_to_list d.sent));
   counted = counted-cons (said now e d) run does.marks.cancel h.counted;
+  heard = heard-within (is_heard (said now e d)) now (ns_of e.turn) (heard run) h.heard;
   named = λ k. named_after p run now (now + ns_of e.turn) k d.part (unit_of k run) (omega arith) (h.named k)
       does.part;
   accounts = λ k. accounted-cons p (place_of p k) k (said now e d) run does.room (does.accounts k);
@@ -263,6 +269,7 @@ holds-nil : (p : Settings) → Holds p false 0 []
 holds-nil p = record {
   fits = omega arith;
   counted = omega arith;
+  heard = omega arith;
   named = λ k u e. cc;
   accounts = λ k. (refl, refl);
   made = λ k. refl;

@@ -76,6 +76,7 @@ pub record IsNew (p : Settings) (run : List Happening) (u : UnitView) (sent : Me
   pub unknown : unit_of u.test.unit run ≡ None
   pub first : IsFirst (is_mismatched p (place_of p u.test.unit)) u sent
   pub start : u.start ≡ 0
+  pub latest : u.latest ≡ 0
   pub attempt : u.attempt ≡ 1
   pub statuses : u.statuses ≡ []
 
@@ -118,6 +119,7 @@ new_unit p run new e = by_case found.is
           unknown = unknown;
           first = rw mm (refl, (reason, refl));
           start = refl;
+          latest = refl;
           attempt = refl;
           statuses = refl;
         })
@@ -128,6 +130,7 @@ new_unit p run new e = by_case found.is
           unknown = unknown;
           first = rw mm (refl, refl);
           start = refl;
+          latest = refl;
           attempt = refl;
           statuses = refl;
         })

@@ -6,7 +6,7 @@ use Rattle.std.proofs.lemmas.List.FromFn.{get_or-map-range_with_len, length-map-
 use Rattle.run_events.specs.declared.settings.Settings.{Settings}
 use Rattle.run_model.specs.declared.happening.Happening.{Happening}
 use Rattle.run_model.specs.declared.unit_view.UnitView.{UnitView}
-use Rattle.run_model.specs.Words.{is_on, queue, unit_of, units, tally}
+use Rattle.run_model.specs.Words.{is_on, heard, queue, unit_of, units, tally}
 use Rattle.run_model.specs.Admission.{units_in}
 use Rattle.run_model.specs.Dispatch.{head_of}
 use Rattle.run_model.specs.Board.{Board}
@@ -17,7 +17,7 @@ abbrev pub board_of : Settings → Bool → ℕ → List Happening → Board
 board_of p over now run = record {
   units = units p run;
   queue = queue run;
-  dispatcher = record { head = head_of p; on = is_on run; over = over; tally = tally p run };
+  dispatcher = record { head = head_of p; on = is_on run; over = over; tally = tally p run; latest = heard run };
   clock = now;
 }
 

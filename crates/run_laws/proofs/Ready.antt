@@ -44,7 +44,7 @@ take_ready p over now run k turn None h e t = cc
 take_ready p over now run k turn (Some u) h e t =
     let named = h.named k u (sym (unit_in-is p over now run k h) ∙ e) in
     let below : k < units_in p = named.1 in
-    record { unit = u; is = e; named = named.0; below = omega (arith, units-length p run); takes = t; early = named.2 }
+    record { unit = u; is = e; named = named.0; below = omega (arith, units-length p run); takes = t; later = named.2 }
 
 -- no test adds to the number of tests
 adds_none : (f : FinishedTest) → (adds_of f).initial_run_count ≡ 0
@@ -125,17 +125,18 @@ ready p over now run turn h few short en =
     by_turn (λ turn named. takes_turn p (board_of p over now run) turn named ≡ true
     → CanAdvance p (board_of p over now run) turn named)
     (record {
-      begin = λ en. off (is_on run) (not over) en;
-      admit = λ en. record {
-        candidate = second_so (is_on run) (is_some (newcomer p (units p run))) en;
-        whole =
-            units-length p run;
-      };
-      deliver = λ en. oldest_ready p over now run (queue run) h (first_so (is_on run) (not (is_empty (queue run))) en)
-          few short refl
-          (second_so (is_on run) (not (is_empty (queue run))) en);
+      begin = λ en. (h.heard, off (is_on run) (not over) en);
+      admit = λ en. (
+        h.heard,
+        record { candidate = second_so (is_on run) (is_some (newcomer p (units p run))) en; whole = units-length p run },
+      );
+      deliver = λ en. (
+        h.heard,
+        oldest_ready p over now run (queue run) h (first_so (is_on run) (not (is_empty (queue run))) en) few short refl
+            (second_so (is_on run) (not (is_empty (queue run))) en),
+      );
       named = λ turn k to other en. take_ready p over now run k to _ h refl en;
-      end = λ en. first_so (is_on run) (is_complete (board_of p over now run)) en;
+      end = λ en. (h.heard, first_so (is_on run) (is_complete (board_of p over now run)) en);
       unbuilt = λ turn never en. let no : false ≡ true = sym (never p (board_of p over now run)) ∙ en in cc;
     })
     turn (second_so (not over) (takes_turn p (board_of p over now run) turn (turn_of_unit turn)) en)
@@ -160,6 +161,11 @@ sub_run-length (x ∷ past) = by_begin x.begins (sub_run-length past)
         → length (x ∷ (if b then [] else sub_run past)) ≤ length (x ∷ past)
     by_begin true h = omega arith
     by_begin false h = omega arith
+
+-- the dispatcher heard no turn later than the clock is
+pub heard_by_now : (p : Settings) (journal : List Entry) → IsLegal p journal
+    → (board p (past_of p journal)).dispatcher.latest ≤ (board p (past_of p journal)).clock
+heard_by_now p journal legal = (holds p (reverse journal) legal).heard
 
 pub ready_after : (p : Settings) (journal : List Entry) (turn : Turn) → IsLegal p journal → units_in p < 2 ^ 32
     → length journal < 2 ^ 32

@@ -23,7 +23,7 @@ pub record CanTake (b : Board) (k : ℕ) (turn : UnitTurn) : Type 0 where
   pub named : unit.test.unit ≡ k
   pub below : k < length b.units
   pub takes : takes unit.phase turn ≡ true
-  pub early : unit.start ≤ b.clock
+  pub later : unit.latest ≤ b.clock
 
 -- an answer can be given to the unit that waits for it
 abbrev pub CanAnswer : Board → Option ℕ → Option Bool → Type 0
@@ -48,9 +48,9 @@ CanRun p b Deliver = CanDeliverOldest b b.queue
 CanRun p b End = b.dispatcher.on ≡ true
 CanRun p b _ = ⊥
 
--- a turn can be taken
+-- a turn can be taken: none is earlier than the latest that its taker took
 abbrev pub CanAdvance : Settings → Board → Turn → Option (ℕ × UnitTurn) → Type 0
-CanAdvance p b turn None = CanRun p b turn
+CanAdvance p b turn None = (b.dispatcher.latest ≤ b.clock) × CanRun p b turn
 CanAdvance p b turn (Some named) = CanTake b named.0 named.1
 
 -- after a legal journal each enabled turn can be taken

@@ -82,6 +82,7 @@ first_view p k slot test = record {
   phase = StartSent;
   attempt = 1;
   start = 0;
+  latest = 0;
   statuses = [];
 }
 

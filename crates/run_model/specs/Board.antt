@@ -14,7 +14,7 @@ use Rattle.run_model.specs.declared.happening.UnitPart.{UnitPart}
 use Rattle.run_model.specs.declared.happening.UnitPart.TheVariants.{Joins, Acts}
 use Rattle.run_model.specs.declared.unit_view.UnitView.{UnitView}
 use Rattle.run_model.specs.Unit.{row}
-use Rattle.run_model.specs.Words.{clock, ns_of, is_on, is_over, sub_run, queue, units, tally}
+use Rattle.run_model.specs.Words.{clock, ns_of, is_on, is_over, sub_run, heard, queue, units, tally}
 use Rattle.run_model.specs.Dispatch.{head_of, having_told}
 
 -- what a turn may read: the units, the messages that wait, the dispatcher and the clock
@@ -31,6 +31,7 @@ dispatcher_of p past = record {
   on = is_on (sub_run past);
   over = is_over past;
   tally = tally p (sub_run past);
+  latest = heard (sub_run past);
 }
 
 abbrev pub board : Settings → List Happening → Board
@@ -87,12 +88,13 @@ units_after now (Some (Joins first)) us = slice_set us first.test.unit (Some fir
 units_after now (Some (Acts j turn)) us =
     slice_set us j (option_map (λ v. (row now turn v).next) (slice_index_or us j None))
 
--- the dispatcher after a deed
-abbrev pub dispatched : DispatcherView → Deed → DispatcherView
-dispatched d deed = record d {
+-- the dispatcher after a deed at a moment
+abbrev pub dispatched : ℕ → DispatcherView → Deed → DispatcherView
+dispatched now d deed = record d {
   on = not deed.ends && (deed.begins || d.on);
   over = deed.over || d.over;
   tally = having_told (having_told d.tally deed.told) deed.cancel;
+  latest = if deed.begins || deed.ends || deed.taken then now else d.latest;
 }
 
 -- the board after a deed
@@ -100,7 +102,7 @@ abbrev pub moved : Board → Deed → Board
 moved b d = record {
   units = units_after b.clock d.part b.units;
   queue = drop (if d.taken then 1 else 0) b.queue ++ option_to_list d.sent;
-  dispatcher = dispatched b.dispatcher d;
+  dispatcher = dispatched b.clock b.dispatcher d;
   clock = b.clock;
 }
 

@@ -37,6 +37,7 @@ unbegun p = record {
   on = false;
   over = false;
   tally = record { running = 0; stats = record nothing { initial_run_count = matched_in p } };
+  latest = 0;
 }
 
 -- the dispatcher's part of the table of turns: false for the turns that aren't its own

@@ -128,9 +128,13 @@ row_at now Running (WaitFailed error) u = quiet (exited now None (Wait error ∷
 row_at now Deciding (Decide word) u = decided u
 row_at _ _ _ u = quiet u
 
+-- a unit that takes a turn at this moment
+abbrev pub at_moment : ℕ → UnitView → UnitView
+at_moment now u = record u { latest = now }
+
 -- the row of a unit's phase
 abbrev pub row : ℕ → UnitTurn → UnitView → Row
-row now turn u = row_at now u.phase turn u
+row now turn u = row_at now u.phase turn (at_moment now u)
 
 -- which turns a unit takes in which phase
 abbrev pub takes : Phase → UnitTurn → Bool

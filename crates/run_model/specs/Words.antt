@@ -52,6 +52,14 @@ abbrev pub is_on : List Happening → Bool
 is_on [] = false
 is_on (x ∷ past) = not x.ends && (x.begins || is_on past)
 
+-- the moment of the latest turn that the dispatcher heard: a begin, an end or a delivery
+abbrev pub is_heard : Happening → Bool
+is_heard x = x.begins || x.ends || x.taken
+
+abbrev pub heard : List Happening → ℕ
+heard [] = 0
+heard (x ∷ past) = if is_heard x then x.moment else heard past
+
 -- the sub-runs that have ended, each as a history of its own, the newest first
 abbrev pub ended_runs : List Happening → List (List Happening)
 ended_runs [] = []

@@ -29,4 +29,6 @@ pub struct DispatcherView {
     /// Whether the run has ended.
     pub over: bool,
     pub tally: Tally,
+    /// When it heard its latest turn, by the run's clock.
+    pub latest: u64,
 }

@@ -23,6 +23,8 @@ pub struct UnitView {
     pub attempt: u32,
     /// When the current attempt was let go, by the run's clock.
     pub start: u64,
+    /// When it took its latest turn.
+    pub latest: u64,
     /// The attempts that have ended, in order.
     pub statuses: List<ExecuteStatus>,
 }
@@ -48,6 +50,7 @@ fn with_parts(
         phase: view.phase,
         attempt: view.attempt,
         start: view.start,
+        latest: view.latest,
         statuses,
     })
 }

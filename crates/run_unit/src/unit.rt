@@ -29,10 +29,13 @@ pub struct Unit {
 
 impl Model for Unit {
     ghost use Rattle.run_model.specs.declared.unit_view.UnitView.{UnitView};
+    ghost use Rattle.std.specs.Prelude.{◌≤◌};
 
     ghost Value = { UnitView };
 
     ghost view = { λ u. u.view };
+
+    ghost invariant = { λ u. u.view.start ≤ u.view.latest };
 }
 
 // What a pass after a failed attempt counts as: for all tests alike where that is set.
@@ -71,6 +74,7 @@ fn first_view(
         phase: Phase::StartSent,
         attempt: 1,
         start: 0,
+        latest: 0,
         statuses: List::new(),
     })
 }
@@ -162,59 +166,79 @@ impl Unit {
         }
     }
 
-    /// Takes a turn at a moment of the run's clock, in nanoseconds: one row of the unit table. After
-    /// want of memory the unit is unchanged.
+    /// Takes a turn at a moment of the run's clock, in nanoseconds: one row of the unit table. No turn is earlier than
+    /// the latest that the unit took. After want of memory the unit is unchanged.
     pub fn step(&mut self, alloc: Global, turn: UnitTurn, now: u64) -> Mem<UnitEffects>
         requires enabled { takes self.old.phase turn ≡ true }
-        requires later { self.old.start ≤ now }
+        requires later { self.old.latest ≤ now }
         ensures row { IfOk result (IsRow (row now turn self.old) self.new) }
         ensures err { OnErr result (self.new ≡ self.old) }
     {
-        match turn {
-            UnitTurn::Answered { go: true } => self.let_go(alloc, now),
-            UnitTurn::Answered { go: false } => {
-                self.view.phase = Phase::Over;
-                Ok(quiet(true))
+        let latest = self.view.latest;
+        self.view.latest = now;
+        match act(alloc, &mut self.view, turn, now) {
+            Ok(effects) => Ok(effects),
+            Err(error) => {
+                self.view.latest = latest;
+                Err(error)
             }
-            UnitTurn::Started { .. } => {
-                self.view.phase = Phase::Running;
-                Ok(quiet(false))
-            }
-            UnitTurn::StartFailed { error } => fail_start(alloc, &mut self.view, error, now),
-            UnitTurn::Exit { exit } => end_child(alloc, &mut self.view, exit, now),
-            UnitTurn::WaitFailed { error } => end_wait(alloc, &mut self.view, error, now),
-            UnitTurn::Decide { .. } => self.decide(alloc),
         }
     }
+}
 
-    // It is let go: its attempt begins now, and its start is asked.
-    fn let_go(&mut self, alloc: Global, now: u64) -> Mem<UnitEffects>
-        ensures row { IfOk result (IsRow (row_at now phases.StartSent (turns.Answered true) self.old) self.new) }
-        ensures err { OnErr result (self.new ≡ self.old) }
-    {
-        let ask = start_of(alloc, &self.view)?;
-        self.view.phase = Phase::Starting;
-        self.view.start = now;
-        Ok(UnitEffects {
-            sent: None,
-            asked: Some(ask),
-            over: false,
-        })
+// Takes a turn by the row of its phase.
+fn act(alloc: Global, view: &mut UnitView, turn: UnitTurn, now: u64) -> Mem<UnitEffects>
+    requires enabled { takes view.old.phase turn ≡ true }
+    requires later { view.old.start ≤ now }
+    ensures row { IfOk result (IsRow (row_at now view.old.phase turn view.old) view.new) }
+    ensures early { OnOk result (view.new.start ≤ now) }
+    ensures latest { OnOk result (view.new.latest ≡ view.old.latest) }
+    ensures err { OnErr result (view.new ≡ view.old) }
+{
+    match turn {
+        UnitTurn::Answered { go: true } => let_go(alloc, view, now),
+        UnitTurn::Answered { go: false } => {
+            view.phase = Phase::Over;
+            Ok(quiet(true))
+        }
+        UnitTurn::Started { .. } => {
+            view.phase = Phase::Running;
+            Ok(quiet(false))
+        }
+        UnitTurn::StartFailed { error } => fail_start(alloc, view, error, now),
+        UnitTurn::Exit { exit } => end_child(alloc, view, exit, now),
+        UnitTurn::WaitFailed { error } => end_wait(alloc, view, error, now),
+        UnitTurn::Decide { .. } => decide(alloc, view),
     }
+}
 
-    // It is done: its attempts are told.
-    fn decide(&mut self, alloc: Global) -> Mem<UnitEffects>
-        ensures row { IfOk result (IsRow (decided self.old) self.new) }
-        ensures err { OnErr result (self.new ≡ self.old) }
-    {
-        let finish = finish_of(alloc, &self.view)?;
-        self.view.phase = Phase::Over;
-        Ok(UnitEffects {
-            sent: Some(Message::Finish(finish)),
-            asked: None,
-            over: true,
-        })
-    }
+// It is let go: its attempt begins now, and its start is asked.
+fn let_go(alloc: Global, view: &mut UnitView, now: u64) -> Mem<UnitEffects>
+    ensures row { IfOk result (IsRow (row_at now phases.StartSent (turns.Answered true) view.old) view.new) }
+    ensures err { OnErr result (view.new ≡ view.old) }
+{
+    let ask = start_of(alloc, view)?;
+    view.phase = Phase::Starting;
+    view.start = now;
+    Ok(UnitEffects {
+        sent: None,
+        asked: Some(ask),
+        over: false,
+    })
+}
+
+// It is done: its attempts are told.
+fn decide(alloc: Global, view: &mut UnitView) -> Mem<UnitEffects>
+    ensures row { IfOk result (IsRow (decided view.old) view.new) }
+    ensures err { OnErr result (view.new ≡ view.old) }
+{
+    let finish = finish_of(alloc, view)?;
+    view.phase = Phase::Over;
+    Ok(UnitEffects {
+        sent: Some(Message::Finish(finish)),
+        asked: None,
+        over: true,
+    })
 }
 
 // What is told of a test that is done.

@@ -1,4 +1,4 @@
-use Rattle.std.proofs.Common.{◌≡◌, ◌<◌, get_or, length, Some, None, sym, ◌∙◌}
+use Rattle.std.proofs.Common.{◌≡◌, get_or, Some, None, sym, ◌∙◌}
 use Rattle.run_engine.proofs.CountedLemmas.{step_counted, step_kept, not_last, stands_inside}
 use Rattle.run_engine.proofs.units.Units.step.Goals as goal
 
