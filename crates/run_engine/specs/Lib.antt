@@ -3,4 +3,3 @@ pub mod Standing
 pub mod Refused
 pub mod Execution
 pub mod Builder
-pub mod Counted

@@ -2,17 +2,11 @@
 //! from a plan by `TestRunnerBuilder`, and carried out turn by turn by `Run` or at once by `TestRunner`.
 #![tactic(auto)]
 
-mod admission;
 mod builder;
-mod enabled;
 mod errors;
 mod run;
 mod runner;
-mod start;
-mod state;
 mod tell;
-mod turns;
-mod units;
 
 pub use builder::TestRunnerBuilder;
 pub use errors::{StepError, TestRunnerBuildError, TestRunnerExecuteErrors};

@@ -15,14 +15,12 @@ ghost use Rattle.run_engine.specs.World.{history_of};
 ghost use Rattle.run_engine.specs.Standing.{IsRunnable, sound};
 ghost use Rattle.run_engine.specs.Refused.{IsRefused, IsNotNamed, IfNotMemory};
 
-use crate::enabled::{is_enabled, turn_of_unit};
 use crate::errors::StepError;
-use crate::state::State;
 use crate::tell::{Told, ask, tell};
-use crate::turns::{Effects, advance};
 use run_capture::{Mem, Whole};
 use run_events::{Children, Reporter, RunOutcome, Settings, Turn};
 use run_model::{Entry, UnitTurn};
+use run_state::{Effects, State, advance, is_enabled, turn_of_unit};
 use std::alloc::Global;
 use std::marker::Model;
 
@@ -166,7 +164,7 @@ fn named_if_enabled(
     ensures enabled { OnOk result (enabled_on settings.now state.now turn.now ≡ true) }
     ensures refused { IfErr result (IsNotNamed settings.now state.now turn.now) }
 {
-    if state.dispatcher.is_over() {
+    if state.is_over() {
         return Err(StepError::NotEnabled);
     }
     let Ok(named) = turn_of_unit(alloc, turn) else {
@@ -318,7 +316,7 @@ impl Run {
         ensures over { result ≡ is_over (history_of self.now) }
         ensures runnable { IsRunnable self.now.settings self.now.journal }
     {
-        !self.broken && self.state.dispatcher.is_over()
+        !self.broken && self.state.is_over()
     }
 
     /// The outcome of a run that is over, and none of one that isn't.
@@ -326,10 +324,10 @@ impl Run {
         ensures outcome { result ≡ outcome self.now.settings (history_of self.now) }
         ensures runnable { IsRunnable self.now.settings self.now.journal }
     {
-        if self.broken || !self.state.dispatcher.is_over() {
+        if self.broken || !self.state.is_over() {
             return None;
         }
-        Some(RunOutcome::from_final_stats(self.state.dispatcher.stats().summarize_final()))
+        Some(RunOutcome::from_final_stats(self.state.stats().summarize_final()))
     }
 
     /// The turns that it has taken, in order, each with the reporter's answers.

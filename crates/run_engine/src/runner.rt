@@ -17,10 +17,10 @@ ghost use Rattle.run_model.specs.Words.{is_over};
 
 use crate::errors::{StepError, TestRunnerExecuteErrors};
 use crate::run::Run;
-use crate::start::new_state;
 use crate::tell::first_of;
 use run_capture::{Duplicate, Mem, Whole};
 use run_events::{Children, EventLog, Reporter, RunOutcome, Settings, Turn};
+use run_state::State;
 use std::alloc::Global;
 use std::convert::Infallible;
 use std::fmt;
@@ -181,7 +181,7 @@ impl TestRunner {
     pub fn into_run(self, alloc: Global) -> Mem<Run>
         ensures { IfOk result (λ run. run ≡ sound self []) }
     {
-        match new_state(alloc, self.settings.get()) {
+        match State::new(alloc, self.settings.get()) {
             Ok(state) => Ok(Run::begin(alloc, self.settings, state)),
             Err(error) => {
                 drop(self);

@@ -1,7 +1,7 @@
 use Rattle.std.proofs.Common.{◌≡◌, length, sym, subst, arith}
-use Rattle.run_engine.specs.Counted.{IsCounted}
-use Rattle.run_engine.proofs.CountedLemmas.{absent_counted}
-use Rattle.run_engine.proofs.units.Units.new.Goals as goal
+use Rattle.run_state.specs.Counted.{IsCounted}
+use Rattle.run_state.proofs.CountedLemmas.{absent_counted}
+use Rattle.run_state.proofs.units.Units.new.Goals as goal
 
 pub invariant_of-result : goal.invariant_of-result
 invariant_of-result c =

@@ -1,7 +1,7 @@
 use Rattle.std.proofs.Common.{◌≡◌, ◌∙◌, [], arith}
 use Rattle.run_model.specs.Words.{units}
-use Rattle.run_engine.proofs.StartLemmas.{total-nil, running-nil, units-nil}
-use Rattle.run_engine.proofs.start.new_state.Goals as goal
+use Rattle.run_state.proofs.StartLemmas.{total-nil, running-nil, units-nil}
+use Rattle.run_state.proofs.state.State.new.Goals as goal
 
 pub returns : goal.returns
 returns c =

@@ -18,7 +18,7 @@ use Rattle.run_model.specs.declared.unit_turn.UnitTurn.TheVariants.{Answered, St
 use Rattle.run_model.specs.declared.unit_turn.UnitTurn.TheVariants.{Decide}
 use Rattle.run_model.specs.Unit.{takes}
 use Rattle.run_model.specs.Admission.{is_done, is_last, is_in_use, in_use, holds_slot}
-use Rattle.run_engine.specs.Counted.{IsCounted, is_left}
+use Rattle.run_state.specs.Counted.{IsCounted, is_left}
 
 -- a unit that isn't in use holds no slot
 not_held : (k : ℕ) (u : Option UnitView) → is_in_use u ≡ false → holds_slot k u ≡ false

@@ -1,8 +1,8 @@
 use Rattle.std.proofs.Common.{sym, ◌∙◌, ◌≡◌, arith}
 use Rattle.run_model.specs.Admission.{in_use}
 use Rattle.run_laws.proofs.Scan.{free_slot_is}
-use Rattle.run_engine.proofs.CountedLemmas.{none_held}
-use Rattle.run_engine.proofs.units.Units.free_slot.Goals as goal
+use Rattle.run_state.proofs.CountedLemmas.{none_held}
+use Rattle.run_state.proofs.units.Units.free_slot.Goals as goal
 
 pub returns-then-self-eq0-clause-slot : goal.returns-then-self-eq0-clause-slot
 returns-then-self-eq0-clause-slot c =

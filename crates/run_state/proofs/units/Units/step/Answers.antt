@@ -1,6 +1,6 @@
 use Rattle.std.proofs.Common.{◌≡◌, get_or, Some, None, sym, ◌∙◌}
-use Rattle.run_engine.proofs.CountedLemmas.{step_counted, step_kept, not_last, stands_inside}
-use Rattle.run_engine.proofs.units.Units.step.Goals as goal
+use Rattle.run_state.proofs.CountedLemmas.{step_counted, step_kept, not_last, stands_inside}
+use Rattle.run_state.proofs.units.Units.step.Goals as goal
 
 pub invariant_of-self-then-effects : goal.invariant_of-self-then-effects
 invariant_of-self-then-effects c =

@@ -1,6 +1,6 @@
 use Rattle.std.proofs.Common.{sym, ◌≤◌, ◌<◌, length, arith}
-use Rattle.run_engine.proofs.CountedLemmas.{first_over, next_some, next_none}
-use Rattle.run_engine.proofs.units.Units.next_after.Goals as goal
+use Rattle.run_state.proofs.CountedLemmas.{first_over, next_some, next_none}
+use Rattle.run_state.proofs.units.Units.next_after.Goals as goal
 
 pub overflow_sub-result : goal.overflow_sub-result
 overflow_sub-result c =

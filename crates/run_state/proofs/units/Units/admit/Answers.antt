@@ -1,7 +1,7 @@
 use Rattle.std.proofs.Common.{◌+◌, ◌-◌, Some, ap, slice_set, sym, subst, ◌∙◌}
-use Rattle.run_engine.specs.Counted.{IsCounted}
-use Rattle.run_engine.proofs.CountedLemmas.{first_over, admitted_is, some_left, admit_over, admit_used}
-use Rattle.run_engine.proofs.units.Units.admit.Goals as goal
+use Rattle.run_state.specs.Counted.{IsCounted}
+use Rattle.run_state.proofs.CountedLemmas.{first_over, admitted_is, some_left, admit_over, admit_used}
+use Rattle.run_state.proofs.units.Units.admit.Goals as goal
 
 pub put-requires : goal.put-requires
 put-requires c =

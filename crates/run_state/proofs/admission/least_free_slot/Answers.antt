@@ -2,7 +2,7 @@ use Rattle.std.proofs.Common.{◌≡◌, true, arith, below_more}
 use Rattle.std.specs.List.{list_any}
 use Rattle.run_model.specs.Admission.{holds_slot}
 use Rattle.run_laws.proofs.Scan.{free_slot_is}
-use Rattle.run_engine.proofs.admission.least_free_slot.Goals as goal
+use Rattle.run_state.proofs.admission.least_free_slot.Goals as goal
 
 pub returns-then-not-is_slot_held-clause-slot : goal.returns-then-not-is_slot_held-clause-slot
 returns-then-not-is_slot_held-clause-slot c =

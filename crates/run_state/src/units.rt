@@ -31,7 +31,7 @@ pub struct Units {
 impl Model for Units {
     ghost use Rattle.std.specs.Prelude.{List, Option};
     ghost use Rattle.run_model.specs.declared.unit_view.UnitView.{UnitView};
-    ghost use Rattle.run_engine.specs.Counted.{IsCounted};
+    ghost use Rattle.run_state.specs.Counted.{IsCounted};
 
     ghost Value = { List (Option UnitView) };
 
@@ -167,4 +167,16 @@ fn put(units: &mut Vec<Option<Unit>>, place: usize, unit: Unit)
     ensures { units.new.items ≡ slice_set units.old.items place (Some unit) }
 {
     units[place] = Some(unit);
+}
+
+/// So many units, none of which was admitted.
+pub fn unadmitted(alloc: Global, count: usize) -> Mem<Vec<Option<Unit>>>
+    ensures count { IfOk result (λ v. length v.items ≡ count) }
+    ensures none { IfOk result (λ v. (k : ℕ) → slice_index_or v.items k None ≡ None) }
+{
+    let mut units = Vec::with_capacity(alloc, count)?;
+    for _number in 0..count {
+        units.push(None)?;
+    }
+    Ok(units)
 }

@@ -1,0 +1,13 @@
+//! The state of a run, which contracts see as the board that turns read: which turns are enabled on it, and what each
+//! does to it. It stands on the units and the dispatcher, and counts the units so that no turn looks at all of them.
+#![tactic(auto)]
+
+mod admission;
+mod enabled;
+mod state;
+mod turns;
+mod units;
+
+pub use enabled::{is_enabled, turn_of_unit};
+pub use state::State;
+pub use turns::{Effects, advance};
