@@ -1,0 +1,9 @@
+mod ListLemmas
+mod RoomLemmas
+mod ScanLemmas
+mod KeptLemmas
+mod TestLemmas
+mod WholeLemmas
+mod RuleLemmas
+mod BegunLemmas
+mod LawLemmas

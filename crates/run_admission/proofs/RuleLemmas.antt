@@ -1,0 +1,382 @@
+-- What is kept says what the rule says.
+use Rattle.std.proofs.Common.{◌≡◌, ◌≢◌, ℕ, zero, suc, ◌+◌, ◌<◌, ◌≤◌, ◌==◌, ◌&&◌, ◌||◌, List, [], ◌∷◌, length, get_or, set, map}
+use Rattle.std.proofs.Common.{Bool, true, false, not, if◌then◌else◌, Option, Some, None, min, refl, ap, sym, subst, ◌∙◌, arith}
+use Rattle.std.proofs.Common.{slice_get, slice_index, option_map, option_and_then, position, sum_by, nat_eq, nat_lt}
+use Rattle.std.proofs.Common.{eq-eqb, get_or-set_other}
+use Rattle.std.proofs.lemmas.Grind.{get_or-set_at}
+use Rattle.std.proofs.lemmas.List.{map-set, set-get_or, get_or_read}
+use Rattle.std.specs.Option.{option_map_or}
+use Rattle.std.specs.List.{list_any, position_or_len, zip}
+use Rattle.std.proofs.lemmas.Option.{same_Some, slice_get-get_or}
+use Rattle.std.proofs.lemmas.List.Sums.{sum-map, fails_before_first, passes_at_first, prefix_len-le-length}
+use Rattle.std.proofs.lemmas.List.Quantifiers.{position-Some}
+use Rattle.std.proofs.lemmas.List.Folds.{Any-from_list_any, list_any_at}
+use Rattle.run_admission.specs.declared.seat.Claim.{Claim}
+use Rattle.run_admission.specs.declared.seat.Seat.{Seat}
+use Rattle.run_admission.specs.declared.seat.Seat.TheVariants.{Waiting, InUse, Gone}
+use Rattle.run_admission.specs.declared.seat.Candidate.{Candidate}
+use Rattle.run_admission.specs.declared.seat.Candidate.TheVariants.{Skip, Fits, Blocked}
+use Rattle.run_admission.specs.declared.seat.Admitted.TheVariants.{Run}
+use Rattle.run_admission.specs.InUse.{Admissions, Test, taken, taken_in, slot_of, slot_in, is_waiting, is_in_use, fits_beside, seat_group_slot}
+use Rattle.run_admission.specs.InUse.{group_weight_in_use, fits_its_group, fits_all, may_come, candidate_at}
+use Rattle.run_admission.specs.InUse.{candidate, free_slot, free_group_slot, admitted, admitted_as, seats_after, after_admission, released, least_free}
+use Rattle.run_admission.specs.Kept.{Use, IsWhole, IsOfAll, IsOfGroup, nobody, free_in, comes, fits_in, seen}
+use Rattle.run_admission.specs.Kept.{free_within, take_of, take_in, give_back, give_in}
+use Rattle.run_admission.proofs.ListLemmas.{position_same, get_or_zip, length_zip}
+use Rattle.run_admission.proofs.TestLemmas.{least_is, may_take}
+use Rattle.run_admission.proofs.WholeLemmas.{limit_at, of_same, CanRun, CanLeave, can_leave, run_whole, release_whole}
+use Rattle.run_admission.proofs.ScanLemmas.{free_is}
+
+-- the weight in use is what is kept of it
+pub all_used : (u : Use) (ts : List Test) → IsOfAll u ts → sum_by (taken u.limit) ts ≡ u.used
+all_used u ts kept = sym (kept.sum ∙ sum-map (taken u.limit) ts)
+
+pub group_used : (g : ℕ) (u : Use) (ts : List Test) → IsOfGroup g u ts → sum_by (taken_in g u.limit) ts ≡ u.used
+group_used g u ts kept = sym (kept.sum ∙ sum-map (taken_in g u.limit) ts)
+
+-- the limit of a group, as it is seen
+pub limit_is : (us : List Use) (g : ℕ) (u : Use) → slice_get us g ≡ Some u → slice_index (map (λ u. u.limit) us) g ≡ u.limit
+limit_is [] g u e = cc
+limit_is (v ∷ us) zero u e = ap (λ u. u.limit) (same_Some v u e)
+limit_is (v ∷ us) (suc g) u e = limit_is us g u e
+
+-- whether a test fits within its group
+fits_same : (whole : Use) (us : List Use) (claims : List Claim) (seats : List Seat) (claim : Claim) (o : Option ℕ)
+    → claim.group ≡ o → ((g : ℕ) → o ≡ Some g → g < length us)
+    → ((g : ℕ) (u : Use) → slice_get us g ≡ Some u → IsOfGroup g u (zip claims seats))
+    → fits_in us claim ≡ fits_its_group (seen whole us claims seats) claim
+fits_same whole us claims seats claim None of there kept =
+    ap (λ o. option_map_or (λ g. option_map_or (λ u. fits_beside u.used u.limit claim.weight) (slice_get us g) true) o true) of
+    ∙ sym (ap (λ o. option_map_or (λ g. fits_beside (group_weight_in_use (seen whole us claims seats) g)
+    (slice_index (map (λ u. u.limit) us) g) claim.weight) o true) of)
+fits_same whole us claims seats claim (Some g) of there kept =
+    let u = limit_at us g (there g refl) in
+    let limit : slice_index (map (λ u. u.limit) us) g ≡ u.0.limit = limit_is us g u.0 u.1 in
+    ap (λ o. option_map_or (λ g. option_map_or (λ u. fits_beside u.used u.limit claim.weight) (slice_get us g) true) o true) of
+    ∙ ap (λ o. option_map_or (λ u. fits_beside u.used u.limit claim.weight) o true) u.1
+    ∙ ap (λ n. fits_beside n u.0.limit claim.weight) (sym (group_used g u.0 (zip claims seats) (kept g u.0 u.1)))
+    ∙ ap (λ l. fits_beside (sum_by (taken_in g l) (zip claims seats)) l claim.weight) (sym limit)
+    ∙ sym (ap (λ o. option_map_or (λ g. fits_beside (group_weight_in_use (seen whole us claims seats) g)
+    (slice_index (map (λ u. u.limit) us) g) claim.weight) o true) of)
+
+-- which tests may come next
+come_same : (start : ℕ) (whole : Use) (us : List Use) (claims : List Claim) (seats : List Seat)
+    → IsWhole start whole us claims seats → (k : ℕ) → k < length (zip claims seats)
+    → comes us (get_or (zip claims seats) k nobody) ≡ may_come (seen whole us claims seats) (get_or (zip claims seats) k nobody)
+come_same start whole us claims seats w k h =
+    let inside : k < length seats = omega (arith, length_zip claims seats w.paired) in
+    let claim = get_or claims k nobody.0 in
+    let s = get_or seats k Waiting in
+    let at = get_or_zip claims seats k nobody.0 Waiting nobody (omega (arith, w.paired)) inside in
+    ap (comes us) at
+    ∙ ap (λ b. is_waiting s && (not claim.matched || b)) (fits_same whole us claims seats claim _ refl (w.members k) w.groups)
+    ∙ sym (ap (may_come (seen whole us claims seats)) at)
+
+pub place_same : (start : ℕ) (whole : Use) (us : List Use) (claims : List Claim) (seats : List Seat)
+    → IsWhole start whole us claims seats
+    → position (comes us) (zip claims seats) ≡ position (may_come (seen whole us claims seats)) (zip claims seats)
+place_same start whole us claims seats w =
+    position_same (comes us) (may_come (seen whole us claims seats)) (zip claims seats) nobody
+    (come_same start whole us claims seats w)
+
+-- there is no candidate
+pub no_candidate : (start : ℕ) (whole : Use) (us : List Use) (claims : List Claim) (seats : List Seat)
+    → IsWhole start whole us claims seats → position (comes us) (zip claims seats) ≡ None
+    → candidate (seen whole us claims seats) ≡ None
+no_candidate start whole us claims seats w e =
+    ap (option_and_then (λ test. option_map (λ claim. candidate_at test claim (fits_all (seen whole us claims seats) claim))
+    (slice_get claims test)))
+    (sym (place_same start whole us claims seats w) ∙ e)
+
+-- the candidate at a place
+pub candidate_is : (start : ℕ) (whole : Use) (us : List Use) (claims : List Claim) (seats : List Seat) (k : ℕ) (claim : Claim)
+    → IsWhole start whole us claims seats → position (comes us) (zip claims seats) ≡ Some k → slice_get claims k ≡ Some claim
+    → candidate (seen whole us claims seats) ≡ Some (candidate_at k claim (fits_beside whole.used whole.limit claim.weight))
+candidate_is start whole us claims seats k claim w e at =
+    ap (option_and_then (λ test. option_map (λ claim. candidate_at test claim (fits_all (seen whole us claims seats) claim))
+    (slice_get claims test)))
+    (sym (place_same start whole us claims seats w) ∙ e)
+    ∙ ap (option_map (λ claim. candidate_at k claim (fits_all (seen whole us claims seats) claim))) at
+    ∙ ap (λ n. Some (candidate_at k claim (fits_beside n whole.limit claim.weight))) (all_used whole (zip claims seats) w.all)
+
+-- a place that was found is that of a test
+pub place_inside : (us : List Use) (claims : List Claim) (seats : List Seat) (k : ℕ) → length claims ≡ length seats
+    → position (comes us) (zip claims seats) ≡ Some k → k < length seats
+place_inside us claims seats k same e =
+    let found = position-Some (comes us) (zip claims seats) k nobody e in omega (arith, found.0, length_zip claims seats same)
+
+both_true : (a b : Bool) → (a && b) ≡ true → (a ≡ true) × (b ≡ true)
+both_true true b e = (refl, e)
+both_true false b e = cc
+
+is_waiting_true : (s : Seat) → is_waiting s ≡ true → s ≡ Waiting
+is_waiting_true Waiting e = refl
+is_waiting_true (InUse n m) e = cc
+is_waiting_true Gone e = cc
+
+-- a candidate is a test that waits, and has room in its group or is to be skipped
+record IsChosen (whole : Use) (us : List Use) (claims : List Claim) (seats : List Seat) (c : Candidate) (k : ℕ) : Type 0 where
+  pub inside : k < length seats
+  pub waits : get_or seats k Waiting ≡ Waiting
+  pub fits : (not (get_or claims k nobody.0).matched || fits_in us (get_or claims k nobody.0)) ≡ true
+  pub is : c ≡ candidate_at k (get_or claims k nobody.0)
+      (fits_beside whole.used whole.limit (get_or claims k nobody.0).weight)
+
+chosen : (start : ℕ) (whole : Use) (us : List Use) (claims : List Claim) (seats : List Seat) (c : Candidate) (o : Option ℕ)
+    → IsWhole start whole us claims seats → position (comes us) (zip claims seats) ≡ o
+    → candidate (seen whole us claims seats) ≡ Some c → (k : ℕ) × IsChosen whole us claims seats c k
+chosen start whole us claims seats c None w e is =
+    let bad : None ≡ Some c = sym (no_candidate start whole us claims seats w e) ∙ is in cc
+chosen start whole us claims seats c (Some k) w e is = (
+  k,
+  record {
+    inside = inside;
+    waits = is_waiting_true _ both.0;
+    fits = both.1;
+    is = same_Some c _ (sym is ∙ candidate_is start whole us claims seats k claim w e
+        (slice_get-get_or claims k nobody.0 (omega (arith, w.paired, inside))));
+  },
+)
+  where
+    claim : Claim
+    claim = get_or claims k nobody.0
+
+    inside : k < length seats
+    inside = place_inside us claims seats k w.paired e
+
+    passes : comes us (get_or claims k nobody.0, get_or seats k Waiting) ≡ true
+    passes =
+        ap (comes us) (sym (get_or_zip claims seats k nobody.0 Waiting nobody (omega (arith, w.paired, inside)) inside))
+        ∙ (position-Some (comes us) (zip claims seats) k nobody e).1
+
+    both : (is_waiting (get_or seats k Waiting) ≡ true) × ((not (get_or claims k nobody.0).matched || fits_in us (get_or claims k nobody.0)) ≡ true)
+    both = both_true _ _ passes
+
+-- the kind of a candidate says why it is one
+skips : (t k : ℕ) (claim : Claim) (b m : Bool) → m ≡ claim.matched → Skip t ≡ candidate_at k claim b → k ≡ t
+skips t k claim true true of e = let bad : Skip t ≡ Fits k = e ∙ ap (λ m. if m then Fits k else Skip k) (sym of) in cc
+skips t k claim false true of e = let bad : Skip t ≡ Blocked k = e ∙ ap (λ m. if m then Blocked k else Skip k) (sym of) in cc
+skips t k claim b false of e =
+    let same : Skip t ≡ Skip k = e ∙ ap (λ m. if m then (if b then Fits k else Blocked k) else Skip k) (sym of) in cc
+
+runs : (t k : ℕ) (claim : Claim) (b m : Bool) → m ≡ claim.matched → Fits t ≡ candidate_at k claim b
+    → (k ≡ t) × (claim.matched ≡ true) × (b ≡ true)
+runs t k claim true true of e =
+    let same : Fits t ≡ Fits k = e ∙ ap (λ m. if m then Fits k else Skip k) (sym of) in (cc, sym of, refl)
+runs t k claim false true of e = let bad : Fits t ≡ Blocked k = e ∙ ap (λ m. if m then Blocked k else Skip k) (sym of) in cc
+runs t k claim b false of e =
+    let bad : Fits t ≡ Skip k = e ∙ ap (λ m. if m then (if b then Fits k else Blocked k) else Skip k) (sym of) in cc
+
+-- a candidate that is to be skipped waits
+pub can_skip : (start : ℕ) (whole : Use) (us : List Use) (claims : List Claim) (seats : List Seat) (t : ℕ)
+    → IsWhole start whole us claims seats → candidate (seen whole us claims seats) ≡ Some (Skip t)
+    → (t < length seats) × (get_or seats t Waiting ≡ Waiting)
+can_skip start whole us claims seats t w is =
+    let found = chosen start whole us claims seats (Skip t) (position (comes us) (zip claims seats)) w refl is in
+    let same : found.0 ≡ t = skips t found.0 (get_or claims found.0 nobody.0) _ _ refl found.1.is in
+    (omega (arith, same, found.1.inside), ap (λ k. get_or seats k Waiting) (sym same) ∙ found.1.waits)
+
+fits_is : (used limit weight : ℕ) → fits_beside used limit weight ≡ true → used + min weight limit ≤ limit
+fits_is used limit weight e = grind (arith, e)
+
+-- a candidate that fits can run
+pub can_run : (start : ℕ) (whole : Use) (us : List Use) (claims : List Claim) (seats : List Seat) (t : ℕ)
+    → IsWhole start whole us claims seats → candidate (seen whole us claims seats) ≡ Some (Fits t)
+    → CanRun whole us claims seats t
+can_run start whole us claims seats t w is =
+    let found = chosen start whole us claims seats (Fits t) (position (comes us) (zip claims seats)) w refl is in
+    let so = runs t found.0 (get_or claims found.0 nobody.0) _ _ refl found.1.is in
+    subst (CanRun whole us claims seats) so.0 (chosen_runs start whole us claims seats found.0 w found.1.inside found.1.waits
+    (ap (λ m. not m || fits_in us (get_or claims found.0 nobody.0)) (sym so.1) ∙ found.1.fits) so.2)
+  where
+    chosen_runs : (start : ℕ) (whole : Use) (us : List Use) (claims : List Claim) (seats : List Seat) (k : ℕ)
+        → IsWhole start whole us claims seats → k < length seats → get_or seats k Waiting ≡ Waiting
+        → fits_in us (get_or claims k nobody.0) ≡ true
+        → fits_beside whole.used whole.limit (get_or claims k nobody.0).weight ≡ true → CanRun whole us claims seats k
+    chosen_runs start whole us claims seats k w inside waits within all = record {
+      inside = inside;
+      waits = waits;
+      can = may_take whole (taken whole.limit) slot_of claims seats k claim.weight w.paired inside w.few refl
+          (ap (λ s. slot_of (claim, s)) waits) (fits_is _ _ _ all) w.all;
+      cans = λ g u of e.
+          may_take u (taken_in g u.limit) (slot_in g) claims seats k claim.weight w.paired inside w.few refl
+          (ap (λ b. if b then seat_group_slot (get_or seats k Waiting) else None) (of_same g g _ of refl)
+          ∙ ap seat_group_slot waits)
+          (fits_is _ _ _ (sym (ap (λ o. option_map_or (λ u. fits_beside u.used u.limit claim.weight) o true) e)
+          ∙ sym (ap (λ o. option_map_or (λ g. option_map_or (λ u. fits_beside u.used u.limit claim.weight) (slice_get us g) true) o true) of)
+          ∙ within))
+          (w.groups g u e);
+    }
+      where
+        claim : Claim
+        claim = get_or claims k nobody.0
+
+-- the slots of a test that runs
+slot_within : (us : List Use) (ts : List Test) (o : Option ℕ) → ((g : ℕ) → o ≡ Some g → g < length us)
+    → ((g : ℕ) (u : Use) → slice_get us g ≡ Some u → IsOfGroup g u ts)
+    → option_map (λ g. least_free (slot_in g) ts) o ≡ free_within us o
+slot_within us ts None there kept = refl
+slot_within us ts (Some g) there kept =
+    let u = limit_at us g (there g refl) in
+    ap (λ n. Some n) (least_is u.0 (map (taken_in g u.0.limit) ts) (slot_in g) ts refl (kept g u.0 u.1))
+    ∙ sym (free_is us g u.0 u.1)
+
+-- what is admitted, where the candidate fits
+pub run_admitted : (start : ℕ) (whole : Use) (us : List Use) (claims : List Claim) (seats : List Seat) (k : ℕ)
+    → IsWhole start whole us claims seats → candidate (seen whole us claims seats) ≡ Some (Fits k) → k < length seats
+    → admitted (seen whole us claims seats)
+    ≡ Some (Run k (free_in whole) (free_within us (get_or claims k nobody.0).group))
+run_admitted start whole us claims seats k w is inside =
+    let claim = get_or claims k nobody.0 in
+    let a = seen whole us claims seats in
+    ap (option_and_then (admitted_as a)) is
+    ∙ ap (λ o. Some (Run k (free_slot a) (option_and_then (free_group_slot a) o)))
+    (slice_get-get_or claims k nobody.0 (omega (arith, w.paired, inside)))
+    ∙ ap (λ n. Some (Run k n (free_group_slot a claim)))
+    (least_is whole (map (taken whole.limit) (zip claims seats)) slot_of (zip claims seats) refl w.all)
+    ∙ ap (λ o. Some (Run k (free_in whole) o)) (slot_within us (zip claims seats) claim.group (w.members k) w.groups)
+
+-- the limits stay
+limits_set : (us : List Use) (g : ℕ) (u v : Use) → slice_get us g ≡ Some u → v.limit ≡ u.limit
+    → map (λ u. u.limit) (set us g v) ≡ map (λ u. u.limit) us
+limits_set us g u v e same =
+    map-set (λ u. u.limit) us g v ∙ ap (set (map (λ u. u.limit) us) g) (same ∙ sym (limit_is us g u e))
+    ∙ set-get_or (map (λ u. u.limit) us) g 0
+
+pub limits_take : (us : List Use) (o : Option ℕ) (k w : ℕ) → map (λ u. u.limit) (take_in us o k w) ≡ map (λ u. u.limit) us
+limits_take us None k w = refl
+limits_take us (Some g) k w = by_place (slice_get us g) refl
+  where
+    by_place : (o : Option Use) → slice_get us g ≡ o
+        → map (λ u. u.limit) (option_map_or (λ u. set us g (take_of u k w)) o us) ≡ map (λ u. u.limit) us
+    by_place None e = refl
+    by_place (Some u) e = limits_set us g u (take_of u k w) e refl
+
+pub limits_give : (us : List Use) (o m : Option ℕ) (w : ℕ) → map (λ u. u.limit) (give_in us o m w) ≡ map (λ u. u.limit) us
+limits_give us None m w = refl
+limits_give us (Some g) None w = refl
+limits_give us (Some g) (Some n) w = by_place (slice_get us g) refl
+  where
+    by_place : (o : Option Use) → slice_get us g ≡ o
+        → map (λ u. u.limit) (option_map_or (λ u. set us g (give_back u n w)) o us) ≡ map (λ u. u.limit) us
+    by_place None e = refl
+    by_place (Some u) e = limits_set us g u (give_back u n w) e refl
+
+-- no test waits exactly where the first place at which one does is past the end
+pub done_is : (seats : List Seat) → nat_eq (position_or_len is_waiting seats) (length seats) ≡ not (list_any is_waiting seats)
+done_is seats = by_any (list_any is_waiting seats) refl
+  where
+    within : position_or_len is_waiting seats ≤ length seats
+    within = prefix_len-le-length (λ s. not (is_waiting s)) seats
+
+    by_any : (b : Bool) → list_any is_waiting seats ≡ b → nat_eq (position_or_len is_waiting seats) (length seats) ≡ not b
+    by_any true e =
+        let some = Any-from_list_any is_waiting seats e in
+        let apart : position_or_len is_waiting seats ≢ length seats =
+        λ same. let fails : is_waiting (get_or seats some.0 some.1) ≡ false =
+        fails_before_first is_waiting seats some.0 some.1 (omega (arith, same, some.2)) in
+        let bad : false ≡ true = sym fails ∙ ap is_waiting some.3 ∙ some.4 in cc in
+        grind (arith, apart)
+    by_any false e = by_end (nat_lt (position_or_len is_waiting seats) (length seats)) refl
+      where
+        by_end : (b : Bool) → nat_lt (position_or_len is_waiting seats) (length seats) ≡ b
+            → nat_eq (position_or_len is_waiting seats) (length seats) ≡ true
+        by_end true h =
+            let inside : position_or_len is_waiting seats < length seats = grind (arith, h) in
+            let passes = passes_at_first is_waiting seats Waiting inside in
+            let bad : false ≡ true =
+            sym e ∙ list_any_at is_waiting seats (position_or_len is_waiting seats) Waiting inside passes in
+            cc
+        by_end false h =
+            let outside : length seats ≤ position_or_len is_waiting seats = grind (arith, h) in
+            let same : position_or_len is_waiting seats ≡ length seats = omega (arith, within) in
+            eq-eqb _ _ same
+
+-- the first place at which a test waits, and no test before it does, also after one was admitted
+pub start_within : (start : ℕ) (seats : List Seat) → start ≡ position_or_len is_waiting seats → start ≤ length seats
+start_within start seats e = omega (arith, e, prefix_len-le-length (λ s. not (is_waiting s)) seats)
+
+pub none_waits : (start : ℕ) (seats : List Seat) (k : ℕ) (s : Seat) → start ≡ position_or_len is_waiting seats
+    → k < length seats → is_waiting s ≡ false → (j : ℕ) → j < start → is_waiting (get_or (set seats k s) j Waiting) ≡ false
+none_waits start seats k s first inside not_so j h = by_place (j == k) refl
+  where
+    by_place : (b : Bool) → (j == k) ≡ b → is_waiting (get_or (set seats k s) j Waiting) ≡ false
+    by_place true e =
+        let is : j ≡ k = grind arith in ap is_waiting (get_or-set_at seats k j s Waiting is inside) ∙ not_so
+    by_place false e =
+        let apart : j ≢ k = grind arith in
+        ap is_waiting (get_or-set_other seats k j s Waiting apart)
+        ∙ fails_before_first is_waiting seats j Waiting (omega (arith, first))
+
+-- what is seen, part by part
+abbrev made : ℕ → List ℕ → List Claim → List Seat → Admissions
+made threads limits claims seats = record { threads = threads; limits = limits; claims = claims; seats = seats }
+
+-- after a test runs: what is kept, what is said of it, and what is seen
+pub run_kept : (start next : ℕ) (whole after : Use) (us afters : List Use) (claims : List Claim) (seats : List Seat) (k n : ℕ)
+    (m : Option ℕ) (claim : Claim) → IsWhole start whole us claims seats
+    → candidate (seen whole us claims seats) ≡ Some (Fits k) → claim ≡ get_or claims k nobody.0 → n ≡ free_in whole
+    → m ≡ free_within us claim.group → after ≡ take_of whole k claim.weight
+    → afters ≡ take_in us claim.group k claim.weight → next ≡ position_or_len is_waiting (set seats k (InUse n m))
+    → IsWhole next after afters claims (set seats k (InUse n m))
+run_kept start next whole after us afters claims seats k n m claim w is of slot within all parts first =
+    subst (λ u. IsWhole next u afters claims (set seats k (InUse n m)))
+    (sym (all ∙ ap (λ c. take_of whole k c.weight) of))
+    (subst (λ us. IsWhole next (take_of whole k (get_or claims k nobody.0).weight) us claims (set seats k (InUse n m)))
+    (sym (parts ∙ ap (λ c. take_in us c.group k c.weight) of))
+    (run_whole start next whole us claims seats k n m w (can_run start whole us claims seats k w is) slot
+    (within ∙ ap (λ c. free_within us c.group) of) first))
+
+pub run_said : (start : ℕ) (whole : Use) (us : List Use) (claims : List Claim) (seats : List Seat) (k n : ℕ) (m : Option ℕ)
+    (claim : Claim) → IsWhole start whole us claims seats → candidate (seen whole us claims seats) ≡ Some (Fits k)
+    → claim ≡ get_or claims k nobody.0 → n ≡ free_in whole → m ≡ free_within us claim.group
+    → admitted (seen whole us claims seats) ≡ Some (Run k n m)
+run_said start whole us claims seats k n m claim w is of slot within =
+    run_admitted start whole us claims seats k w is (can_run start whole us claims seats k w is).inside
+    ∙ ap (λ n. Some (Run k n (free_within us (get_or claims k nobody.0).group))) (sym slot)
+    ∙ ap (λ m. Some (Run k n m)) (sym (within ∙ ap (λ c. free_within us c.group) of))
+
+pub run_seen : (start : ℕ) (whole after : Use) (us afters : List Use) (claims : List Claim) (seats : List Seat) (k n : ℕ)
+    (m : Option ℕ) (claim : Claim) → IsWhole start whole us claims seats
+    → candidate (seen whole us claims seats) ≡ Some (Fits k) → claim ≡ get_or claims k nobody.0 → n ≡ free_in whole
+    → m ≡ free_within us claim.group → after ≡ take_of whole k claim.weight
+    → afters ≡ take_in us claim.group k claim.weight
+    → seen after afters claims (set seats k (InUse n m)) ≡ after_admission (seen whole us claims seats)
+run_seen start whole after us afters claims seats k n m claim w is of slot within all parts =
+    ap (λ u. seen u afters claims (set seats k (InUse n m))) all
+    ∙ ap (λ us. seen (take_of whole k claim.weight) us claims (set seats k (InUse n m))) parts
+    ∙ ap (λ l. made whole.limit l claims (set seats k (InUse n m))) (limits_take us claim.group k claim.weight)
+    ∙ ap (λ o. made whole.limit (map (λ u. u.limit) us) claims (seats_after seats o))
+    (sym (run_said start whole us claims seats k n m claim w is of slot within))
+
+-- after a test was released
+pub release_kept : (start : ℕ) (whole after : Use) (us afters : List Use) (claims : List Claim) (seats : List Seat) (k n : ℕ)
+    (m : Option ℕ) (claim : Claim) → IsWhole start whole us claims seats → CanLeave whole us claims seats k n m
+    → claim ≡ get_or claims k nobody.0 → after ≡ give_back whole n claim.weight
+    → afters ≡ give_in us claim.group m claim.weight → IsWhole start after afters claims (set seats k Gone)
+release_kept start whole after us afters claims seats k n m claim w can of all parts =
+    subst (λ u. IsWhole start u afters claims (set seats k Gone)) (sym (all ∙ ap (λ c. give_back whole n c.weight) of))
+    (subst (λ us. IsWhole start (give_back whole n (get_or claims k nobody.0).weight) us claims (set seats k Gone))
+    (sym (parts ∙ ap (λ c. give_in us c.group m c.weight) of))
+    (release_whole start whole us claims seats k n m w can))
+
+pub release_seen : (whole after : Use) (us afters : List Use) (claims : List Claim) (seats : List Seat) (k n : ℕ)
+    (m : Option ℕ) (claim : Claim) → after ≡ give_back whole n claim.weight → afters ≡ give_in us claim.group m claim.weight
+    → seen after afters claims (set seats k Gone) ≡ released (seen whole us claims seats) k
+release_seen whole after us afters claims seats k n m claim all parts =
+    ap (λ u. seen u afters claims (set seats k Gone)) all
+    ∙ ap (λ us. seen (give_back whole n claim.weight) us claims (set seats k Gone)) parts
+    ∙ ap (λ l. made whole.limit l claims (set seats k Gone)) (limits_give us claim.group m claim.weight)
+
+-- a test in use is one of the tests
+pub in_use_inside : (seats : List Seat) (k : ℕ) → is_in_use (get_or seats k Gone) ≡ true → k < length seats
+in_use_inside [] k e = cc
+in_use_inside (s ∷ seats) zero e = omega arith
+in_use_inside (s ∷ seats) (suc k) e = let rest : k < length seats = in_use_inside seats k e in omega arith
+
+pub may_leave : (start : ℕ) (whole : Use) (us : List Use) (claims : List Claim) (seats : List Seat) (k n : ℕ) (m : Option ℕ)
+    (s : Seat) → IsWhole start whole us claims seats → is_in_use (get_or seats k Gone) ≡ true → s ≡ get_or seats k s
+    → s ≡ InUse n m → CanLeave whole us claims seats k n m
+may_leave start whole us claims seats k n m s w used read is =
+    let inside = in_use_inside seats k used in
+    can_leave start whole us claims seats k n m w inside (sym (get_or_read seats k s inside read Waiting) ∙ is)

@@ -1,0 +1,151 @@
+// Which test comes next, and the slots that it gets.
+ghost use Rattle.std.specs.Prelude.{◌≡◌, ◌<◌, ◌^◌, length, IfOk, Some, true, slice_set};
+ghost use Rattle.run_admission.specs.declared.seat.Seat.TheVariants.{Gone};
+ghost use Rattle.run_admission.specs.declared.seat.Candidate.TheVariants.{Skip, Fits};
+ghost use Rattle.run_admission.specs.InUse.{begun, candidate, admitted, after_admission, is_test_in_use, released, is_done};
+ghost use Rattle.run_admission.specs.Laws.{KeepsLimits, HasOwnSlots};
+
+use crate::claims::{claims_of, rooms_of};
+use crate::room::Room;
+use crate::scan::{candidate_at, first_to_come, first_waiting, give_in_group, take_in_group};
+use crate::seat::{Admitted, Candidate, Claim, Seat};
+use run_capture::Mem;
+use run_events::{Group, PlanTest};
+use std::alloc::Global;
+use std::marker::Model;
+
+/// Which tests of a sub-run wait, are in use and are gone. A test's weight counts as at most each limit: a test fits
+/// where the weight in use and its own, both cut so, are within the limit. Contracts see the record `Admissions`.
+#[derive(Drop)]
+pub struct Admission {
+    /// The first place at which a test waits, or how many tests there are.
+    first: usize,
+    /// The limit on all tests.
+    whole: Room,
+    /// The limits of the groups.
+    groups: Vec<Room>,
+    claims: Vec<Claim>,
+    seats: Vec<Seat>,
+}
+
+impl Model for Admission {
+    ghost use Rattle.run_admission.specs.InUse.{Admissions};
+
+    ghost Value = { Admissions };
+
+    ghost use Rattle.run_admission.specs.Kept.{IsWhole, seen};
+
+    ghost view = { λ a. seen a.whole a.groups.items a.claims.items a.seats.items };
+
+    ghost invariant = { λ a. IsWhole a.first a.whole a.groups.items a.claims.items a.seats.items };
+}
+
+impl Admission {
+    /// A sub-run as it begins. This call alone takes memory.
+    pub fn new(alloc: Global, threads: u32, groups: &[Group], tests: &[PlanTest]) -> Mem<Admission>
+        requires { length tests.now < 2 ^ 32 }
+        ensures { IfOk result (λ a. a ≡ begun threads groups.now tests.now) }
+    {
+        let whole = Room::new(alloc, threads, tests.len())?;
+        let rooms = rooms_of(alloc, groups, tests.len())?;
+        let claims = claims_of(alloc, groups, tests)?;
+        let seats = vec![in alloc; Seat::Waiting; tests.len()]?;
+        Ok(Admission {
+            first: 0,
+            whole,
+            groups: rooms,
+            claims,
+            seats,
+        })
+    }
+
+    /// The first test, in plan order, that waits and is to be skipped or fits within its group. A group without room is
+    /// passed over. A candidate that doesn't fit within the limit on all tests blocks all later tests.
+    pub fn candidate(&self) -> Option<Candidate>
+        ensures { result ≡ candidate self.now }
+    {
+        match first_to_come(self.first, &self.groups, &self.claims, &self.seats) {
+            Some(place) => {
+                let claim = &self.claims[place];
+                Some(candidate_at(&self.whole, place as u32, claim))
+            }
+            None => None,
+        }
+    }
+
+    /// Admits the candidate, unless it is blocked.
+    pub fn admit(&mut self) -> Option<Admitted>
+        ensures admitted { result ≡ admitted self.old }
+        ensures after { self.new ≡ after_admission self.old }
+    {
+        match self.candidate() {
+            Some(Candidate::Skip { test }) => {
+                self.skip(test);
+                Some(Admitted::Skip { test })
+            }
+            Some(Candidate::Fits { test }) => Some(self.run(test)),
+            Some(Candidate::Blocked { .. }) | None => None,
+        }
+    }
+
+    // The candidate is skipped.
+    fn skip(&mut self, test: u32)
+        requires { candidate self.old ≡ Some (Skip test) }
+        ensures { self.new ≡ after_admission self.old }
+    {
+        self.seats[test as usize] = Seat::Gone;
+        self.first = first_waiting(self.first, &self.seats);
+    }
+
+    // The candidate runs.
+    fn run(&mut self, test: u32) -> Admitted
+        requires { candidate self.old ≡ Some (Fits test) }
+        ensures admitted { admitted self.old ≡ Some result }
+        ensures after { self.new ≡ after_admission self.old }
+    {
+        let claim = self.claims[test as usize];
+        let global = self.whole.take(test, claim.weight);
+        let group = take_in_group(&mut self.groups, claim.group, test, claim.weight);
+        self.seats[test as usize] = Seat::InUse { global, group };
+        self.first = first_waiting(self.first, &self.seats);
+        Admitted::Run {
+            test,
+            global_slot: global,
+            group_slot: group,
+        }
+    }
+
+    /// Gives back what a test in use holds.
+    pub fn release(&mut self, test: u32)
+        requires { is_test_in_use self.old test ≡ true }
+        ensures { self.new ≡ released self.old test }
+    {
+        if let Seat::InUse { global, group } = self.seats[test as usize] {
+            let claim = self.claims[test as usize];
+            self.whole.give_back(global, claim.weight);
+            give_in_group(&mut self.groups, claim.group, group, claim.weight);
+            self.seats[test as usize] = Seat::Gone;
+        }
+    }
+
+    /// Whether no test waits.
+    pub fn done(&self) -> bool
+        ensures { result ≡ is_done self.now }
+    {
+        self.first == self.seats.len()
+    }
+
+    /// A law: after any admissions and releases no limit is passed.
+    pub fn keeps_limits(&self)
+        ensures { KeepsLimits self.now }
+    {
+        let _ = &self.whole;
+    }
+
+    /// A law: no two tests in use hold one slot, and no two tests of a group one slot within it.
+    pub fn gives_own_slots(&self)
+        ensures { HasOwnSlots self.now }
+    {
+        let _ = &self.whole;
+    }
+}
