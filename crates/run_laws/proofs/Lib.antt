@@ -16,3 +16,4 @@ pub mod Ready
 pub mod Courses
 pub mod Prefix
 pub mod Outcomes
+pub mod Admitted

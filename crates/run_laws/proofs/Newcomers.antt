@@ -1,69 +1,114 @@
 -- Who is admitted, and as what.
-use Rattle.std.proofs.Common.{◌≡◌, ◌⊎◌, inl, inr, ℕ, ◌+◌, ◌-◌, ◌<◌, List, [], drop, Bool, true, false, if◌then◌else◌}
-use Rattle.std.proofs.Common.{Option, Some, None, option_and_then, is_none, is_some, slice_get, refl, ap, sym, subst}
-use Rattle.std.proofs.Common.{◌∙◌, arith}
-use Rattle.std.proofs.lemmas.List.{get_or-drop}
-use Rattle.std.proofs.lemmas.List.Quantifiers.{position-Some}
-use Rattle.std.proofs.lemmas.Option.{slice_get_within}
+use Rattle.std.proofs.Common.{◌≡◌, ◌⊎◌, inl, inr, ℕ, ◌+◌, ◌-◌, ◌<◌, List, [], drop, length, get_or, map, Bool, true, false}
+use Rattle.std.proofs.Common.{if◌then◌else◌, Option, Some, None, option_and_then, option_map, is_none, is_some, slice_get}
+use Rattle.std.proofs.Common.{refl, ap, sym, subst, ◌∙◌, arith}
+use Rattle.std.proofs.lemmas.List.{get_or-drop, get_or-map, length-map}
+use Rattle.std.proofs.lemmas.Option.{slice_get_within, slice_get-map, same_Some}
 use Rattle.run_events.specs.declared.settings.Settings.{Settings}
 use Rattle.run_events.specs.declared.plan.PlanTest.{PlanTest}
+use Rattle.run_events.specs.declared.plan.TestSlotAssignment.{TestSlotAssignment}
 use Rattle.run_events.specs.declared.message.Message.{Message}
+use Rattle.run_admission.specs.declared.seat.Claim.{Claim}
+use Rattle.run_admission.specs.declared.seat.Seat.TheVariants.{InUse, Gone}
+use Rattle.run_admission.specs.declared.seat.Admitted.{Admitted}
+use Rattle.run_admission.specs.declared.seat.Admitted.TheVariants.{Skip as Skipped, Run}
+use Rattle.run_admission.specs.InUse.{is_waiting, claim_of, admitted}
 use Rattle.run_model.specs.declared.happening.Happening.{Happening}
 use Rattle.run_model.specs.declared.unit_view.UnitView.{UnitView}
-use Rattle.run_model.specs.Words.{reason, unit_of, units}
-use Rattle.run_model.specs.Admission.{scripts_in, units_in, unit_of_test, scripts_over, candidate, free_slot}
-use Rattle.run_model.specs.Admission.{first_view, skipped_view, Newcomer, skipped_newcomer, started_newcomer}
-use Rattle.run_model.specs.Admission.{newcomer_of, newcomer_at, newcomer, global_slot}
+use Rattle.run_model.specs.Words.{unit_of, units}
+use Rattle.run_model.specs.Admission.{is_last, scripts_in, units_in, unit_of_test, scripts_over, seat_of, limits_of}
+use Rattle.run_model.specs.Admission.{slots_of, first_view, skipped_view, Newcomer, skipped_newcomer, started_newcomer}
+use Rattle.run_model.specs.Admission.{newcomer_skipped, newcomer_as, test_of, newcomer}
 use Rattle.run_model.specs.Accounts.{is_skip, is_mismatched}
 use Rattle.run_laws.proofs.Holds.{place_of}
 use Rattle.run_laws.proofs.AccountLemmas.{IsFirst}
+use Rattle.run_laws.proofs.Admitted.{IsAdmitted, runs, admitted_is}
 use Rattle.run_laws.proofs.OnBoard.{units-at}
 
--- who is admitted: the candidate of the plan
+-- who is admitted: a test of the plan that wasn't yet
 record Newcomes (p : Settings) (us : List (Option UnitView)) (new : Newcomer) : Type 0 where
   place : ℕ
   test : PlanTest
-  candidate : candidate p us ≡ Some place
+  absent : get_or (drop (scripts_in p) us) place None ≡ None
   planned : slice_get p.plan.tests place ≡ Some test
   is : ((reason : List ℕ) × (test.skip ≡ Some reason)
       × (new ≡ skipped_newcomer (skipped_view p (unit_of_test p place) test) reason))
       ⊎ ((test.skip ≡ None)
-      × (new ≡ started_newcomer (first_view p (unit_of_test p place) (global_slot (free_slot us)) test)))
+      × ((slots : TestSlotAssignment)
+      × (new ≡ started_newcomer (first_view p (unit_of_test p place) slots test))))
 
-newcomer_cases : (p : Settings) (slot : ℕ) (fits : Bool) (k : ℕ) (test : PlanTest) (skip : Option (List ℕ))
-    (new : Newcomer)
-    → newcomer_of p slot fits k test skip ≡ Some new
-    → ((reason : List ℕ) × (skip ≡ Some reason) × (new ≡ skipped_newcomer (skipped_view p k test) reason))
-    ⊎ ((skip ≡ None) × (new ≡ started_newcomer (first_view p k (global_slot slot) test)))
-newcomer_cases p slot fits k test (Some reason) new e = inl (reason, refl, cc)
-newcomer_cases p slot true k test None new e = inr (refl, cc)
-newcomer_cases p slot false k test None new e = cc
+-- a test that waits isn't a unit yet
+absent_where : (v : Option UnitView) → is_waiting (seat_of v) ≡ true → v ≡ None
+absent_where None e = refl
+absent_where (Some u) e = by_end (is_last u.phase) e
+  where
+    by_end : (b : Bool) → is_waiting (if b then Gone else InUse u.slot.global (option_map (λ g. g.slot) u.slot.group))
+        ≡ true
+        → Some u ≡ None
+    by_end true e = cc
+    by_end false e = cc
+
+none_there : (x : Option (List ℕ)) → is_none x ≡ true → x ≡ None
+none_there None e = refl
+none_there (Some reason) e = cc
 
 newcomer_is : (p : Settings) (us : List (Option UnitView)) (new : Newcomer) → newcomer p us ≡ Some new
     → Newcomes p us new
 newcomer_is p us new e = by_scripts (scripts_over p us) e
   where
-    by_test : (j : ℕ) → candidate p us ≡ Some j → (o : Option PlanTest) → slice_get p.plan.tests j ≡ o
-        → newcomer_at p us j o ≡ Some new → Newcomes p us new
-    by_test j cj None ej e = cc
-    by_test j cj (Some test) ej e = record {
+    -- what waits is no unit
+    absent : (j : ℕ) → j < length (map seat_of (drop (scripts_in p) us))
+        → is_waiting (get_or (map seat_of (drop (scripts_in p) us)) j Gone) ≡ true
+        → get_or (drop (scripts_in p) us) j None ≡ None
+    absent j within waits =
+        let inside : j < length (drop (scripts_in p) us) =
+        omega (arith, length-map (drop (scripts_in p) us) seat_of) in
+        absent_where _ (ap is_waiting (sym (get_or-map seat_of (drop (scripts_in p) us) j None Gone inside)) ∙ waits)
+
+    -- it claims what the plan says of it
+    claimed : (j : ℕ) (claim : Claim) (test : PlanTest) → slice_get p.plan.tests j ≡ Some test
+        → slice_get (map (claim_of p.plan.groups) p.plan.tests) j ≡ Some claim → claim_of p.plan.groups test ≡ claim
+    claimed j claim test planned claims = same_Some _ _ (
+        ap (option_map (claim_of p.plan.groups)) (sym planned)
+        ∙ sym (slice_get-map (claim_of p.plan.groups) p.plan.tests j) ∙ claims)
+
+    skipped : (j : ℕ) (test : PlanTest) (skip : Option (List ℕ)) → test.skip ≡ skip
+        → slice_get p.plan.tests j ≡ Some test → IsAdmitted (limits_of p us) j false
+        → newcomer_skipped p j test skip ≡ Some new → Newcomes p us new
+    skipped j test None es planned it e = cc
+    skipped j test (Some reason) es planned it e = record {
       place = j;
       test = test;
-      candidate = cj;
-      planned = ej;
-      is = newcomer_cases p (free_slot us) _ (unit_of_test p j) test test.skip new e;
+      absent = absent j it.within it.waits;
+      planned = planned;
+      is = inl (reason, es, cc);
     }
 
-    by_candidate : (o : Option ℕ) → candidate p us ≡ o
-        → option_and_then (λ j. newcomer_at p us j (slice_get p.plan.tests j)) o ≡ Some new
-        → Newcomes p us new
-    by_candidate None ej e = cc
-    by_candidate (Some j) ej e = by_test j ej (slice_get p.plan.tests j) refl e
+    by_test : (r : Admitted) (o : Option PlanTest) → slice_get p.plan.tests (test_of r) ≡ o
+        → IsAdmitted (limits_of p us) (test_of r) (runs r) → newcomer_as p r o ≡ Some new → Newcomes p us new
+    by_test r None planned it e = cc
+    by_test (Skipped j) (Some test) planned it e = skipped j test test.skip refl planned it e
+    by_test (Run j global slot) (Some test) planned it e = record {
+      place = j;
+      test = test;
+      absent = absent j it.within it.waits;
+      planned = planned;
+      is = inr (
+        none_there test.skip (ap (λ (c : Claim). c.matched) (claimed j it.claim test planned it.claimed) ∙ it.matched),
+        (slots_of test global slot, cc),
+      );
+    }
 
-    by_scripts : (b : Bool) → (if b then option_and_then (λ j. newcomer_at p us j (slice_get p.plan.tests j))
-        (candidate p us) else None) ≡ Some new
+    by_admitted : (o : Option Admitted) → admitted (limits_of p us) ≡ o
+        → option_and_then (λ a. newcomer_as p a (slice_get p.plan.tests (test_of a))) o ≡ Some new → Newcomes p us new
+    by_admitted None is e = cc
+    by_admitted (Some r) is e =
+        by_test r (slice_get p.plan.tests (test_of r)) refl (admitted_is (limits_of p us) r is) e
+
+    by_scripts : (b : Bool) → (if b then option_and_then
+        (λ a. newcomer_as p a (slice_get p.plan.tests (test_of a))) (admitted (limits_of p us)) else None) ≡ Some new
         → Newcomes p us new
-    by_scripts true e = by_candidate (candidate p us) refl e
+    by_scripts true e = by_admitted (admitted (limits_of p us)) refl e
     by_scripts false e = cc
 
 -- the test at a place is unit k
@@ -94,15 +139,9 @@ new_unit p run new e = by_case found.is
     below : k < units_in p
     below = let place = slice_get_within p.plan.tests found.place found.test found.planned in omega arith
 
-    is_none_None : (v : Option UnitView) → is_none v ≡ true → v ≡ None
-    is_none_None None e = refl
-    is_none_None (Some u) e = cc
-
     unknown : unit_of k run ≡ None
     unknown =
-        let at = position-Some is_none (drop (scripts_in p) (units p run)) found.place None found.candidate in
-        sym (units-at p run k below) ∙ sym (get_or-drop (scripts_in p) (units p run) found.place None)
-        ∙ is_none_None _ at.1
+        sym (units-at p run k below) ∙ sym (get_or-drop (scripts_in p) (units p run) found.place None) ∙ found.absent
 
     mismatched : is_mismatched p (place_of p k) ≡ is_some found.test.skip
     mismatched = ap (is_mismatched p) (place-of_test p found.place) ∙ ap is_skip found.planned
@@ -110,7 +149,7 @@ new_unit p run new e = by_case found.is
     by_case : ((reason : List ℕ) × (found.test.skip ≡ Some reason)
         × (new ≡ skipped_newcomer (skipped_view p k found.test) reason))
         ⊎ ((found.test.skip ≡ None)
-        × (new ≡ started_newcomer (first_view p k (global_slot (free_slot (units p run))) found.test)))
+        × ((slots : TestSlotAssignment) × (new ≡ started_newcomer (first_view p k slots found.test))))
         → IsNew p run new.unit new.sent
     by_case (inl (reason, skip, is)) =
         let mm : is_mismatched p (place_of p k) ≡ true = mismatched ∙ ap is_some skip in
@@ -123,7 +162,7 @@ new_unit p run new e = by_case found.is
           attempt = refl;
           statuses = refl;
         })
-    by_case (inr (skip, is)) =
+    by_case (inr (skip, (slots, is))) =
         let mm : is_mismatched p (place_of p k) ≡ false = mismatched ∙ ap is_some skip in
         subst (λ (n : Newcomer). IsNew p run n.unit n.sent) (sym is) (record {
           below = below;

@@ -1,11 +1,9 @@
 -- Scans from 0 for the first number that passes a test.
-use Rattle.std.proofs.Common.{◌≡◌, ℕ, ◌<◌, ◌≤◌, List, Bool, true, false, not, Option, Some, None, length, get_or}
-use Rattle.std.proofs.Common.{nat_lt, cond, position, ap, ◌∙◌, sym, zero-add, arith}
-use Rattle.std.specs.List.{list_any, range_with_len, position_or_len}
+use Rattle.std.proofs.Common.{◌≡◌, ℕ, ◌<◌, ◌≤◌, Bool, true, false, Some, None, length, get_or}
+use Rattle.std.proofs.Common.{nat_lt, cond, position, ap, ◌∙◌, zero-add, arith}
+use Rattle.std.specs.List.{range_with_len, position_or_len}
 use Rattle.std.proofs.lemmas.List.FromFn.{get_or-range_with_len, length-range_with_len}
 use Rattle.std.proofs.lemmas.List.Sums.{position_or_len_is}
-use Rattle.run_model.specs.declared.unit_view.UnitView.{UnitView}
-use Rattle.run_model.specs.Admission.{holds_slot, free_slot}
 
 -- the first of the numbers below n that passes, or n
 pub first_is : (p : ℕ → Bool) (n i : ℕ) → i ≤ n → ((k : ℕ) → k < i → p k ≡ false) → (i < n → p i ≡ true)
@@ -36,12 +34,3 @@ found_none p n below =
     first_is p n n (omega arith) below (λ h. absurd (omega arith)) in
     let lt : nat_lt n (length (range_with_len 0 n)) ≡ false = ap (nat_lt n) (length-range_with_len 0 n) ∙ not_below n in
     ap (λ m. cond (nat_lt m (length (range_with_len 0 n))) (Some m) None) at ∙ ap (λ b. cond b (Some n) None) lt
-
--- the first slot that no test in use holds is the free one
-pub free_slot_is : (us : List (Option UnitView)) (i : ℕ) → i ≤ length us
-    → ((k : ℕ) → k < i → list_any (holds_slot k) us ≡ true)
-    → (i < length us → list_any (holds_slot i) us ≡ false)
-    → i ≡ free_slot us
-free_slot_is us i within below here =
-    sym (first_is (λ n. not (list_any (holds_slot n) us)) (length us) i within (λ k h. ap not (below k h))
-    (λ h. ap not (here h)))

@@ -1,13 +1,19 @@
--- The admission rule: which test is next, whether it fits, and the slot that it gets.
-use Rattle.std.specs.Prelude.{ℕ, ◌+◌, List, [], Bool, true, false, not, ◌==◌, nat_lt, if◌then◌else◌, Option, Some, None}
-use Rattle.std.specs.Prelude.{option_and_then, length, take, drop, count_by, is_none, slice_get, position, unwrap_or}
-use Rattle.std.specs.List.{range_with_len, list_any, list_all, position_or_len}
+-- What an admission makes: which test is next, by the rule of `run_admission`, and the unit that it begins as.
+use Rattle.std.specs.Prelude.{ℕ, ◌+◌, List, [], Bool, true, false, if◌then◌else◌, Option, Some, None, option_map}
+use Rattle.std.specs.Prelude.{option_and_then, map, length, take, drop, count_by, is_none, slice_get, unwrap_or}
+use Rattle.std.specs.List.{list_all}
 use Rattle.run_events.specs.declared.settings.Settings.{Settings}
 use Rattle.run_events.specs.declared.result.FlakyResult.{FlakyResult}
 use Rattle.run_events.specs.declared.plan.PlanTest.{PlanTest}
+use Rattle.run_events.specs.declared.plan.GroupSlot.{GroupSlot}
 use Rattle.run_events.specs.declared.plan.TestSlotAssignment.{TestSlotAssignment}
 use Rattle.run_events.specs.declared.message.Message.{Message}
 use Rattle.run_events.specs.declared.message.Message.TheVariants.{Start, Skip}
+use Rattle.run_admission.specs.declared.seat.Seat.{Seat}
+use Rattle.run_admission.specs.declared.seat.Seat.TheVariants.{Waiting, InUse, Gone}
+use Rattle.run_admission.specs.declared.seat.Admitted.{Admitted}
+use Rattle.run_admission.specs.declared.seat.Admitted.TheVariants.{Skip as Skipped, Run}
+use Rattle.run_admission.specs.InUse.{Admissions, claim_of, admitted}
 use Rattle.run_model.specs.declared.phase.Phase.{Phase}
 use Rattle.run_model.specs.declared.phase.Phase.TheVariants.{StartSent, Over}
 use Rattle.run_model.specs.declared.unit_view.UnitView.{UnitView}
@@ -22,23 +28,10 @@ abbrev pub is_done : Option UnitView → Bool
 is_done None = false
 is_done (Some u) = is_last u.phase
 
--- a test is in use from its admission until it is over
-abbrev pub is_in_use : Option UnitView → Bool
-is_in_use None = false
-is_in_use (Some u) = not (is_last u.phase)
-
--- how many tests are in use
-abbrev pub in_use : List (Option UnitView) → ℕ
-in_use us = count_by is_in_use us
-
--- a test in use holds its slot
-abbrev pub holds_slot : ℕ → Option UnitView → Bool
-holds_slot n None = false
-holds_slot n (Some u) = if is_last u.phase then false else u.slot.global == n
-
--- the slot of the next test: the least number from 0 that no test in use holds
-abbrev pub free_slot : List (Option UnitView) → ℕ
-free_slot us = position_or_len (λ n. not (list_any (holds_slot n) us)) (range_with_len 0 (length us))
+-- what a test holds of the limits: it waits until it is admitted, and holds its slots until it is over
+abbrev pub seat_of : Option UnitView → Seat
+seat_of None = Waiting
+seat_of (Some u) = if is_last u.phase then Gone else InUse u.slot.global (option_map (λ g. g.slot) u.slot.group)
 
 -- whether a planned test matches, and so is to run
 abbrev pub is_matched : PlanTest → Bool
@@ -69,6 +62,14 @@ flaky_of p test = unwrap_or p.flaky_result test.flaky
 -- a slot outside of all groups
 abbrev pub global_slot : ℕ → TestSlotAssignment
 global_slot n = record { global = n; group = None }
+
+-- the slots of a test, with the name of its group
+abbrev pub group_slot : Option ℕ → Option (List ℕ) → Option GroupSlot
+group_slot (Some slot) (Some name) = Some (record { slot = slot; name = name })
+group_slot _ _ = None
+
+abbrev pub slots_of : PlanTest → ℕ → Option ℕ → TestSlotAssignment
+slots_of test global slot = record { global = global; group = group_slot slot test.group }
 
 -- a test as a unit of this number, as it begins in this slot
 abbrev pub first_view : Settings → ℕ → TestSlotAssignment → PlanTest → UnitView
@@ -108,21 +109,31 @@ skipped_newcomer u reason = record { unit = u; sent = skip_message u reason }
 abbrev pub started_newcomer : UnitView → Newcomer
 started_newcomer u = record { unit = u; sent = start_message u }
 
--- a test is skipped where it doesn't match; else it starts, where one more test may be in use
-abbrev pub newcomer_of : Settings → ℕ → Bool → ℕ → PlanTest → Option (List ℕ) → Option Newcomer
-newcomer_of p slot fits k test (Some reason) = Some (skipped_newcomer (skipped_view p k test) reason)
-newcomer_of p slot true k test None = Some (started_newcomer (first_view p k (global_slot slot) test))
-newcomer_of p slot false k test None = None
+-- what the tests of the plan hold of the limits, by the list of units
+abbrev pub limits_of : Settings → List (Option UnitView) → Admissions
+limits_of p us = record {
+  threads = p.threads;
+  limits = map (λ g. g.limit) p.plan.groups;
+  claims = map (claim_of p.plan.groups) p.plan.tests;
+  seats = map seat_of (drop (scripts_in p) us);
+}
 
--- the candidate: the place of the first test that wasn't admitted. It blocks all later ones
-abbrev pub candidate : Settings → List (Option UnitView) → Option ℕ
-candidate p us = position is_none (drop (scripts_in p) us)
+-- a test that doesn't match is skipped
+abbrev pub newcomer_skipped : Settings → ℕ → PlanTest → Option (List ℕ) → Option Newcomer
+newcomer_skipped p j test (Some reason) = Some (skipped_newcomer (skipped_view p (unit_of_test p j) test) reason)
+newcomer_skipped p j test None = None
 
--- what the next admission makes of the candidate at this place
-abbrev pub newcomer_at : Settings → List (Option UnitView) → ℕ → Option PlanTest → Option Newcomer
-newcomer_at p us j None = None
-newcomer_at p us j (Some test) =
-    newcomer_of p (free_slot us) (nat_lt (in_use us) p.threads) (unit_of_test p j) test test.skip
+-- what an admission makes of a test of the plan: it is skipped, or starts in its slots
+abbrev pub newcomer_as : Settings → Admitted → Option PlanTest → Option Newcomer
+newcomer_as p _ None = None
+newcomer_as p (Skipped j) (Some test) = newcomer_skipped p j test test.skip
+newcomer_as p (Run j global slot) (Some test) =
+    Some (started_newcomer (first_view p (unit_of_test p j) (slots_of test global slot) test))
+
+-- the test that is admitted
+abbrev pub test_of : Admitted → ℕ
+test_of (Skipped j) = j
+test_of (Run j global slot) = j
 
 -- all scripts are over: tests come after them
 abbrev pub scripts_over : Settings → List (Option UnitView) → Bool
@@ -132,5 +143,5 @@ scripts_over p us = list_all is_done (take (scripts_in p) us)
 abbrev pub newcomer : Settings → List (Option UnitView) → Option Newcomer
 newcomer p us =
     if scripts_over p us
-    then option_and_then (λ j. newcomer_at p us j (slice_get p.plan.tests j)) (candidate p us)
+    then option_and_then (λ a. newcomer_as p a (slice_get p.plan.tests (test_of a))) (admitted (limits_of p us))
     else None

@@ -5,6 +5,7 @@ use Rattle.uuid.specs.Text.{hyphenated_text, lower}
 use Rattle.run_events.specs.Result.{execution_result}
 use Rattle.run_events.specs.declared.ask.Ask.{Ask}
 use Rattle.run_events.specs.declared.ask.Ask.TheVariants.{Start as AskStart}
+use Rattle.run_events.specs.declared.plan.GroupSlot.{GroupSlot}
 use Rattle.run_events.specs.declared.message.Message.{Message}
 use Rattle.run_events.specs.declared.message.Message.TheVariants.{Finish}
 use Rattle.run_capture.specs.Output.{uncaptured}
@@ -39,14 +40,23 @@ identity_variables u =
     ∷ (codes "NEXTEST_TOTAL_ATTEMPTS", decimal (attempts u))
     ∷ []
 
+-- the group that it runs in, and its slot there
+abbrev pub group_name : Option GroupSlot → List ℕ
+group_name (Some group) = group.name
+group_name None = codes "@global"
+
+abbrev pub group_number : Option GroupSlot → List ℕ
+group_number (Some group) = decimal group.slot
+group_number None = codes "none"
+
 -- where it runs
 unfoldable pub place_variables : UnitView → List (List ℕ × List ℕ)
 place_variables u =
     (codes "NEXTEST_STRESS_CURRENT", codes "none")
     ∷ (codes "NEXTEST_STRESS_TOTAL", codes "none")
     ∷ (codes "NEXTEST_TEST_GLOBAL_SLOT", decimal u.slot.global)
-    ∷ (codes "NEXTEST_TEST_GROUP", codes "@global")
-    ∷ (codes "NEXTEST_TEST_GROUP_SLOT", codes "none")
+    ∷ (codes "NEXTEST_TEST_GROUP", group_name u.slot.group)
+    ∷ (codes "NEXTEST_TEST_GROUP_SLOT", group_number u.slot.group)
     ∷ (codes "NEXTEST_TEST_THREADS", decimal u.threads)
     ∷ (codes "NEXTEST_WORKSPACE_ROOT", codes "/")
     ∷ []
