@@ -2,7 +2,7 @@
 use Rattle.std.proofs.Common.{◌≡◌, ◌⊎◌, inl, inr, ℕ, ◌+◌, ◌-◌, ◌<◌, List, [], drop, length, get_or, map, Bool, true, false}
 use Rattle.std.proofs.Common.{if◌then◌else◌, Option, Some, None, option_and_then, option_map, is_none, is_some, slice_get}
 use Rattle.std.proofs.Common.{refl, ap, sym, subst, ◌∙◌, arith}
-use Rattle.std.proofs.lemmas.List.{get_or-drop, get_or-map, length-map}
+use Rattle.std.proofs.lemmas.List.{get_or-drop, get_or-map, length-drop, length-map}
 use Rattle.std.proofs.lemmas.Option.{slice_get_within, slice_get-map, same_Some}
 use Rattle.run_events.specs.declared.settings.Settings.{Settings}
 use Rattle.run_events.specs.declared.plan.PlanTest.{PlanTest}
@@ -52,26 +52,67 @@ none_there : (x : Option (List ℕ)) → is_none x ≡ true → x ≡ None
 none_there None e = refl
 none_there (Some reason) e = cc
 
+-- what waits is no unit
+absent : (p : Settings) (us : List (Option UnitView)) (j : ℕ) → j < length (map seat_of (drop (scripts_in p) us))
+    → is_waiting (get_or (map seat_of (drop (scripts_in p) us)) j Gone) ≡ true
+    → get_or (drop (scripts_in p) us) j None ≡ None
+absent p us j within waits =
+    let inside : j < length (drop (scripts_in p) us) =
+    omega (arith, length-map (drop (scripts_in p) us) seat_of) in
+    absent_where _ (ap is_waiting (sym (get_or-map seat_of (drop (scripts_in p) us) j None Gone inside)) ∙ waits)
+
+-- it claims what the plan says of it
+claimed : (p : Settings) (j : ℕ) (claim : Claim) (test : PlanTest) → slice_get p.plan.tests j ≡ Some test
+    → slice_get (map (claim_of p.plan.groups) p.plan.tests) j ≡ Some claim → claim_of p.plan.groups test ≡ claim
+claimed p j claim test planned claims = same_Some _ _ (
+    ap (option_map (claim_of p.plan.groups)) (sym planned)
+    ∙ sym (slice_get-map (claim_of p.plan.groups) p.plan.tests j) ∙ claims)
+
+-- a test that is admitted is one of the plan and no unit yet, and becomes one
+pub record Seats (p : Settings) (us : List (Option UnitView)) (r : Admitted) : Type 0 where
+  pub test : PlanTest
+  pub planned : slice_get p.plan.tests (test_of r) ≡ Some test
+  pub within : unit_of_test p (test_of r) < length us
+  pub absent : get_or us (unit_of_test p (test_of r)) None ≡ None
+  pub matched : is_none test.skip ≡ runs r
+
+some_of : {A B : Type 0} (f : A → B) (o : Option A) (y : B) → option_map f o ≡ Some y → (x : A) × (o ≡ Some x)
+some_of f None y e = cc
+some_of f (Some x) y e = (x, refl)
+
+pub seats : (p : Settings) (us : List (Option UnitView)) (r : Admitted) → admitted (limits_of p us) ≡ Some r → Seats p us r
+seats p us r e =
+    let it = (admitted_is (limits_of p us) r e).0 in
+    let found = some_of (claim_of p.plan.groups) (slice_get p.plan.tests (test_of r)) it.claim
+    (sym (slice_get-map (claim_of p.plan.groups) p.plan.tests (test_of r)) ∙ it.claimed) in
+    let below = it.within in
+    record {
+      test = found.0;
+      planned = found.1;
+      within = omega (arith, below, length-map (drop (scripts_in p) us) seat_of, length-drop (scripts_in p) us);
+      absent = sym (get_or-drop (scripts_in p) us (test_of r) None) ∙ absent p us (test_of r) it.within it.waits;
+      matched = ap (λ (c : Claim). c.matched) (claimed p (test_of r) it.claim found.0 found.1 it.claimed) ∙ it.matched;
+    }
+
+-- so something becomes of it
+pub becomes : (p : Settings) (us : List (Option UnitView)) (r : Admitted) → admitted (limits_of p us) ≡ Some r
+    → is_some (newcomer_as p r (slice_get p.plan.tests (test_of r))) ≡ true
+becomes p us r e =
+    let it = seats p us r e in ap (λ o. is_some (newcomer_as p r o)) it.planned ∙ made r it.test it.matched
+  where
+    skipped : (j : ℕ) (test : PlanTest) (skip : Option (List ℕ)) → is_none skip ≡ false
+        → is_some (newcomer_skipped p j test skip) ≡ true
+    skipped j test None h = cc
+    skipped j test (Some reason) h = refl
+
+    made : (r : Admitted) (test : PlanTest) → is_none test.skip ≡ runs r → is_some (newcomer_as p r (Some test)) ≡ true
+    made (Skipped j) test h = skipped j test test.skip h
+    made (Run j global slot) test h = refl
+
 newcomer_is : (p : Settings) (us : List (Option UnitView)) (new : Newcomer) → newcomer p us ≡ Some new
     → Newcomes p us new
 newcomer_is p us new e = by_scripts (scripts_over p us) e
   where
-    -- what waits is no unit
-    absent : (j : ℕ) → j < length (map seat_of (drop (scripts_in p) us))
-        → is_waiting (get_or (map seat_of (drop (scripts_in p) us)) j Gone) ≡ true
-        → get_or (drop (scripts_in p) us) j None ≡ None
-    absent j within waits =
-        let inside : j < length (drop (scripts_in p) us) =
-        omega (arith, length-map (drop (scripts_in p) us) seat_of) in
-        absent_where _ (ap is_waiting (sym (get_or-map seat_of (drop (scripts_in p) us) j None Gone inside)) ∙ waits)
-
-    -- it claims what the plan says of it
-    claimed : (j : ℕ) (claim : Claim) (test : PlanTest) → slice_get p.plan.tests j ≡ Some test
-        → slice_get (map (claim_of p.plan.groups) p.plan.tests) j ≡ Some claim → claim_of p.plan.groups test ≡ claim
-    claimed j claim test planned claims = same_Some _ _ (
-        ap (option_map (claim_of p.plan.groups)) (sym planned)
-        ∙ sym (slice_get-map (claim_of p.plan.groups) p.plan.tests j) ∙ claims)
-
     skipped : (j : ℕ) (test : PlanTest) (skip : Option (List ℕ)) → test.skip ≡ skip
         → slice_get p.plan.tests j ≡ Some test → IsAdmitted (limits_of p us) j false
         → newcomer_skipped p j test skip ≡ Some new → Newcomes p us new
@@ -79,7 +120,7 @@ newcomer_is p us new e = by_scripts (scripts_over p us) e
     skipped j test (Some reason) es planned it e = record {
       place = j;
       test = test;
-      absent = absent j it.within it.waits;
+      absent = absent p us j it.within it.waits;
       planned = planned;
       is = inl (reason, es, cc);
     }
@@ -91,10 +132,10 @@ newcomer_is p us new e = by_scripts (scripts_over p us) e
     by_test (Run j global slot) (Some test) planned it e = record {
       place = j;
       test = test;
-      absent = absent j it.within it.waits;
+      absent = absent p us j it.within it.waits;
       planned = planned;
       is = inr (
-        none_there test.skip (ap (λ (c : Claim). c.matched) (claimed j it.claim test planned it.claimed) ∙ it.matched),
+        none_there test.skip (ap (λ (c : Claim). c.matched) (claimed p j it.claim test planned it.claimed) ∙ it.matched),
         (slots_of test global slot, cc),
       );
     }
@@ -103,7 +144,7 @@ newcomer_is p us new e = by_scripts (scripts_over p us) e
         → option_and_then (λ a. newcomer_as p a (slice_get p.plan.tests (test_of a))) o ≡ Some new → Newcomes p us new
     by_admitted None is e = cc
     by_admitted (Some r) is e =
-        by_test r (slice_get p.plan.tests (test_of r)) refl (admitted_is (limits_of p us) r is) e
+        by_test r (slice_get p.plan.tests (test_of r)) refl (admitted_is (limits_of p us) r is).0 e
 
     by_scripts : (b : Bool) → (if b then option_and_then
         (λ a. newcomer_as p a (slice_get p.plan.tests (test_of a))) (admitted (limits_of p us)) else None) ≡ Some new

@@ -1,2 +1,3 @@
 pub mod CountedLemmas
+pub mod SeatLemmas
 pub mod StartLemmas

@@ -1,6 +1,9 @@
 -- The words over the empty history.
 use Rattle.std.proofs.Common.{◌≡◌, ℕ, zero, suc, ◌+◌, List, [], length, get_or, Bool, false, cond, Option, None}
-use Rattle.std.proofs.Common.{count_by, refl, ap, ◌∙◌, add-zero}
+use Rattle.std.proofs.Common.{count_by, refl, ap, sym, ◌∙◌, add-zero, ◌<◌, map, drop, replicate, arith}
+use Rattle.std.proofs.lemmas.List.{ext_get_or, get_or-replicate, length-replicate, get_or-map, length-map, get_or-drop}
+use Rattle.std.proofs.lemmas.List.{length-drop}
+use Rattle.run_admission.specs.declared.seat.Seat.TheVariants.{Waiting}
 use Rattle.std.specs.List.{range_with_len}
 use Rattle.std.proofs.lemmas.List.FromFn.{fill_by_all}
 use Rattle.std.proofs.lemmas.List.Sums.{sum_by-cons}
@@ -8,7 +11,8 @@ use Rattle.run_events.specs.Stats.{total_by, total}
 use Rattle.run_events.specs.declared.stats.RunStats.{RunStats}
 use Rattle.run_events.specs.declared.settings.Settings.{Settings}
 use Rattle.run_model.specs.declared.unit_view.UnitView.{UnitView}
-use Rattle.run_model.specs.Admission.{units_in}
+use Rattle.run_model.specs.Admission.{units_in, tests_in, scripts_in, seat_of}
+use Rattle.run_laws.proofs.OnBoard.{units-length, units-at}
 use Rattle.run_model.specs.Words.{units, unit_of, running, is_running}
 
 -- no finish adds nothing
@@ -32,3 +36,22 @@ running-nil p = count-none (is_running []) (units_in p) 0 (λ k. refl)
 pub units-nil : (p : Settings) (us : List (Option UnitView)) → length us ≡ units_in p
     → ((k : ℕ) → get_or us k None ≡ None) → us ≡ units p []
 units-nil p us whole none = fill_by_all (λ k. unit_of k []) us (units_in p) None whole (λ k h. none k)
+
+-- each test waits
+pub seats-nil : (p : Settings) → replicate (tests_in p) Waiting ≡ map seat_of (drop (scripts_in p) (units p []))
+seats-nil p =
+    ext_get_or Waiting (replicate (tests_in p) Waiting) (map seat_of (drop (scripts_in p) (units p [])))
+    (omega (arith, length-replicate (tests_in p) Waiting, long))
+    (λ i h. let below : i < tests_in p = omega (arith, length-replicate (tests_in p) Waiting) in
+    get_or-replicate (tests_in p) i Waiting Waiting below ∙ sym (waits i below))
+  where
+    whole : length (drop (scripts_in p) (units p [])) ≡ tests_in p
+    whole = let n = units-length p [] in omega (arith, length-drop (scripts_in p) (units p []))
+
+    long : length (map seat_of (drop (scripts_in p) (units p []))) ≡ tests_in p
+    long = length-map (drop (scripts_in p) (units p [])) seat_of ∙ whole
+
+    waits : (i : ℕ) → i < tests_in p → get_or (map seat_of (drop (scripts_in p) (units p []))) i Waiting ≡ Waiting
+    waits i below =
+        get_or-map seat_of (drop (scripts_in p) (units p [])) i None Waiting (omega (arith, whole))
+        ∙ ap seat_of (get_or-drop (scripts_in p) (units p []) i None ∙ units-at p [] (scripts_in p + i) (omega arith))

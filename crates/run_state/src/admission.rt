@@ -1,70 +1,16 @@
-// The admission rule.
-ghost use Rattle.std.specs.Prelude.{◌≡◌, ◌<◌, ◌≤◌, ◌^◌, length, IfOk, Some, option_map, is_some};
-ghost use Rattle.std.specs.Prelude.{slice_get, nat_lt, true};
-ghost use Rattle.std.specs.List.{list_all, list_any};
-ghost use Rattle.run_model.specs.Admission.{is_done, in_use, holds_slot, free_slot, candidate, scripts_over};
-ghost use Rattle.run_model.specs.Admission.{newcomer, newcomer_at, first_view, skipped_view, start_message};
-ghost use Rattle.run_model.specs.Admission.{skip_message, global_slot, units_in, unit_of_test};
+// What an admission makes.
+ghost use Rattle.std.specs.Prelude.{◌≡◌, ◌<◌, ◌^◌, length, IfOk, Some, option_map, is_some, slice_get, true};
+ghost use Rattle.run_admission.specs.InUse.{admitted};
+ghost use Rattle.run_model.specs.Admission.{first_view, group_slot, limits_of, newcomer, newcomer_as, scripts_over};
+ghost use Rattle.run_model.specs.Admission.{skip_message, skipped_view, slots_of, start_message, test_of, unit_of_test};
+ghost use Rattle.run_model.specs.Admission.{units_in};
 
 use crate::units::Units;
-use run_capture::{Mem, Text};
-use run_events::{Message, Settings, TestSlotAssignment};
-use run_model::Phase;
+use run_admission::{Admission, Admitted, Candidate};
+use run_capture::{Duplicate, Mem, Text};
+use run_events::{GroupSlot, Message, PlanTest, Settings, TestSlotAssignment};
 use run_unit::Unit;
 use std::alloc::Global;
-
-fn unit_is_done(unit: &Option<Unit>) -> bool
-    ensures { result ≡ is_done unit.now }
-{
-    match unit {
-        Some(unit) => matches!(unit.phase(), Phase::Over),
-        None => false,
-    }
-}
-
-fn unit_holds_slot(slot: usize, unit: &Option<Unit>) -> bool
-    ensures { result ≡ holds_slot slot unit.now }
-{
-    match unit {
-        Some(unit) => !matches!(unit.phase(), Phase::Over) && unit.slot().global as usize == slot,
-        None => false,
-    }
-}
-
-/// Whether each of some units was admitted and is over.
-pub fn are_done(units: &[Option<Unit>]) -> bool
-    ensures { result ≡ list_all is_done units.now }
-{
-    units.iter().all(|unit| unit_is_done(unit))
-}
-
-fn is_slot_held(slot: usize, units: &[Option<Unit>]) -> bool
-    ensures { result ≡ list_any (holds_slot slot) units.now }
-{
-    units.iter().any(|unit| unit_holds_slot(slot, unit))
-}
-
-/// The slot of the next test: the least number from 0 that no test in use holds.
-pub fn least_free_slot(units: &[Option<Unit>]) -> usize
-    ensures slot { result ≡ free_slot units.now }
-    ensures within { result ≤ length units.now }
-{
-    for slot in 0..units.len() {
-        if !is_slot_held(slot, units) {
-            return slot;
-        }
-    }
-    units.len()
-}
-
-/// The candidate: the place of the first test that wasn't admitted.
-pub fn first_waiting(settings: &Settings, units: &Units) -> Option<usize>
-    requires whole { length units.now ≡ units_in settings.now }
-    requires over { scripts_over settings.now units.now ≡ true }
-    ensures { result ≡ candidate settings.now units.now }
-{
-    units.next_after(settings.plan.scripts.len())
-}
 
 // Whether all setup scripts are over.
 fn are_scripts_over(settings: &Settings, units: &Units) -> bool
@@ -74,35 +20,25 @@ fn are_scripts_over(settings: &Settings, units: &Units) -> bool
     units.are_first_over(settings.plan.scripts.len())
 }
 
-// Whether one more test may be in use.
-fn has_room(settings: &Settings, units: &Units) -> bool
-    ensures { result ≡ nat_lt (in_use units.now) settings.now.threads }
+// Whether the candidate can be admitted.
+fn comes_next(admission: &Admission) -> bool
+    ensures { result ≡ is_some (admitted admission.now) }
 {
-    units.in_use() < settings.threads as usize
-}
-
-// Whether the candidate can be admitted: it is skipped, or one more test may be in use.
-fn fits(settings: &Settings, units: &Units, test: usize) -> bool
-    ensures { result ≡ is_some (newcomer_at settings.now units.now test (slice_get settings.now.plan.tests test)) }
-{
-    match settings.plan.tests.as_slice().get(test) {
-        Some(planned) => planned.skip.is_some() || has_room(settings, units),
+    match admission.candidate() {
+        Some(Candidate::Skip { .. }) => true,
+        Some(Candidate::Fits { .. }) => true,
+        Some(Candidate::Blocked { .. }) => false,
         None => false,
     }
 }
 
-/// Whether a test can be admitted: all scripts are over, and the candidate can be.
-pub fn can_admit(settings: &Settings, units: &Units) -> bool
-    requires { length units.now ≡ units_in settings.now }
+/// Whether a test can be admitted: all scripts are over, and the candidate isn't blocked.
+pub fn can_admit(settings: &Settings, units: &Units, admission: &Admission) -> bool
+    requires whole { length units.now ≡ units_in settings.now }
+    requires seated { admission.now ≡ limits_of settings.now units.now }
     ensures { result ≡ is_some (newcomer settings.now units.now) }
 {
-    if !are_scripts_over(settings, units) {
-        return false;
-    }
-    match first_waiting(settings, units) {
-        Some(test) => fits(settings, units, test),
-        None => false,
-    }
+    are_scripts_over(settings, units) && comes_next(admission)
 }
 
 /// What an admission makes: a unit, and the message that it sends.
@@ -125,37 +61,77 @@ fn skip_test(alloc: Global, settings: &Settings, test: u32, reason: &Text) -> Me
     Ok(Newcomer { unit, sent })
 }
 
-// A test that matches, as it starts in the least free slot.
-fn start_test(alloc: Global, settings: &Settings, units: &Units, test: u32) -> Mem<Newcomer>
+// A slot within a group, with the group's name.
+fn group_slot(alloc: Global, slot: Option<u32>, group: &Option<Text>) -> Mem<Option<GroupSlot>>
+    ensures { IfOk result (λ s. s ≡ group_slot slot group.now) }
+{
+    match (slot, group) {
+        (Some(slot), Some(name)) => {
+            let name = name.copy(alloc)?;
+            Ok(Some(GroupSlot { slot, name }))
+        }
+        _ => Ok(None),
+    }
+}
+
+// A test that matches, as it starts in its slots.
+fn start_test(
+    alloc: Global,
+    settings: &Settings,
+    test: u32,
+    slots: TestSlotAssignment,
+) -> Mem<Newcomer>
     requires planned { test < length settings.now.plan.tests }
     requires few { units_in settings.now < 2 ^ 32 }
-    requires whole { length units.now ≡ units_in settings.now }
-    ensures unit { IfOk result (λ a. option_map (first_view settings.now (unit_of_test settings.now test)
-        (global_slot (free_slot units.now)))
+    ensures unit { IfOk result (λ a. option_map (first_view settings.now (unit_of_test settings.now test) slots)
         (slice_get settings.now.plan.tests test) ≡ Some a.unit) }
     ensures sent { IfOk result (λ a. a.sent ≡ start_message a.unit) }
 {
-    let slot = TestSlotAssignment {
-        global: units.free_slot() as u32,
-        group: None,
-    };
-    let unit = Unit::test(alloc, settings, test, slot)?;
+    let unit = Unit::test(alloc, settings, test, slots)?;
     let sent = unit.start_message(alloc)?;
     Ok(Newcomer { unit, sent })
 }
 
-/// What the next admission makes of the candidate at this place.
-pub fn admit_test(alloc: Global, settings: &Settings, units: &Units, test: usize) -> Mem<Newcomer>
-    requires candidate { candidate settings.now units.now ≡ Some test }
-    requires admitted { is_some (newcomer settings.now units.now) ≡ true }
-    requires planned { test < length settings.now.plan.tests }
-    requires whole { length units.now ≡ units_in settings.now }
-    requires few { units_in settings.now < 2 ^ 32 }
-    ensures made { IfOk result (λ a. newcomer settings.now units.now ≡ Some (record { unit = a.unit; sent = a.sent })) }
-    ensures place { IfOk result (λ a. a.unit.test.unit ≡ unit_of_test settings.now test) }
+// The slots of a test.
+fn slots_of(
+    alloc: Global,
+    planned: &PlanTest,
+    global: u32,
+    slot: Option<u32>,
+) -> Mem<TestSlotAssignment>
+    ensures { IfOk result (λ s. s ≡ slots_of planned.now global slot) }
 {
-    match &settings.plan.tests.as_slice()[test].skip {
-        Some(reason) => skip_test(alloc, settings, test as u32, reason),
-        None => start_test(alloc, settings, units, test as u32),
+    let group = group_slot(alloc, slot, &planned.group)?;
+    Ok(TestSlotAssignment { global, group })
+}
+
+/// The place in the plan of the test that is admitted.
+pub fn place_of(admitted: &Admitted) -> u32
+    ensures { result ≡ test_of admitted.now }
+{
+    match admitted {
+        Admitted::Skip { test } => *test,
+        Admitted::Run { test, .. } => *test,
+    }
+}
+
+/// What an admission makes of a test of the plan.
+pub fn newcomer_of(alloc: Global, settings: &Settings, admitted: Admitted) -> Mem<Newcomer>
+    requires planned { test_of admitted < length settings.now.plan.tests }
+    requires made { is_some (newcomer_as settings.now admitted
+        (slice_get settings.now.plan.tests (test_of admitted))) ≡ true }
+    requires few { units_in settings.now < 2 ^ 32 }
+    ensures made { IfOk result (λ a. newcomer_as settings.now admitted
+        (slice_get settings.now.plan.tests (test_of admitted)) ≡ Some (record { unit = a.unit; sent = a.sent })) }
+    ensures place { IfOk result (λ a. a.unit.test.unit ≡ unit_of_test settings.now (test_of admitted)) }
+{
+    let planned = &settings.plan.tests.as_slice()[place_of(&admitted) as usize];
+    match (admitted, &planned.skip) {
+        (Admitted::Skip { test }, Some(reason)) => skip_test(alloc, settings, test, reason),
+        (Admitted::Skip { .. }, None) => unreachable!(),
+        (Admitted::Run { test, global_slot, group_slot }, _) => {
+            let slots = slots_of(alloc, planned, global_slot, group_slot)?;
+            start_test(alloc, settings, test, slots)
+        }
     }
 }

@@ -2,6 +2,7 @@
 ghost use Rattle.std.specs.Prelude.{◌≤◌, ◌≡◌, length, IfOk};
 ghost use Rattle.run_model.specs.Admission.{units_in};
 ghost use Rattle.run_model.specs.Turns.{turn_of_unit, is_empty, facts, run_takes, enabled_on};
+ghost use Rattle.run_state.specs.Held.{IsSeated};
 ghost use Rattle.run_events.specs.declared.turn.Turn.TheVariants.{StartFailed, WaitFailed};
 
 use crate::admission::can_admit;
@@ -42,14 +43,14 @@ fn wait_failed(alloc: Global, unit: u32, error: &Text) -> Mem<Option<(u32, UnitT
 
 // Whether no message waits.
 fn is_queue_empty(state: &State) -> bool
-    ensures { result ≡ is_empty state.now.queue }
+    ensures { result ≡ is_empty state.now.board.queue }
 {
     state.queue.is_empty()
 }
 
 // What the dispatcher asks of the rest of the run.
 fn facts_of(state: &State) -> Facts
-    ensures { result ≡ facts state.now }
+    ensures { result ≡ facts state.now.board }
 {
     let message_waits = !is_queue_empty(state);
     Facts {
@@ -60,13 +61,15 @@ fn facts_of(state: &State) -> Facts
 
 // Whether a turn of the run's own is enabled where the run isn't over.
 fn is_run_enabled(settings: &Settings, state: &State, turn: &Turn) -> bool
-    requires whole { length state.now.units ≡ units_in settings.now }
-    requires later { state.now.dispatcher.latest ≤ state.now.clock }
-    ensures { result ≡ run_takes settings.now state.now turn.now }
+    requires whole { length state.now.board.units ≡ units_in settings.now }
+    requires seated { IsSeated settings.now state.now }
+    requires later { state.now.board.dispatcher.latest ≤ state.now.board.clock }
+    ensures { result ≡ run_takes settings.now state.now.board turn.now }
 {
     match turn {
         Turn::Admit => {
-            state.dispatcher.state() == DispatchState::Main && can_admit(settings, &state.units)
+            state.dispatcher.state() == DispatchState::Main
+                && can_admit(settings, &state.units, &state.admission)
         }
         _ => state.dispatcher.enabled(turn, facts_of(state), state.clock),
     }
@@ -79,10 +82,11 @@ pub fn is_enabled(
     turn: &Turn,
     named: &Option<(u32, UnitTurn)>,
 ) -> bool
-    requires whole { length state.now.units ≡ units_in settings.now }
-    requires later { state.now.dispatcher.latest ≤ state.now.clock }
+    requires whole { length state.now.board.units ≡ units_in settings.now }
+    requires seated { IsSeated settings.now state.now }
+    requires later { state.now.board.dispatcher.latest ≤ state.now.board.clock }
     requires named { named.now ≡ turn_of_unit turn.now }
-    ensures { result ≡ enabled_on settings.now state.now turn.now }
+    ensures { result ≡ enabled_on settings.now state.now.board turn.now }
 {
     if state.dispatcher.is_over() {
         return false;

@@ -1,15 +1,19 @@
 // The turns of a run: each does to the state what its row of the tables says.
-ghost use Rattle.std.specs.Prelude.{◌≡◌, ◌<◌, ◌≤◌, ◌^◌, ◌++◌, [], IfOk, OnOk, true, false, option_to_list};
-ghost use Rattle.std.specs.Prelude.{None};
+ghost use Rattle.std.specs.Prelude.{◌≡◌, ◌<◌, ◌≤◌, ◌-◌, ◌^◌, ◌++◌, [], IfOk, OnOk, true, false, option_to_list};
+ghost use Rattle.std.specs.Prelude.{None, option_map, if◌then◌else◌};
 ghost use Rattle.std.specs.VecDeque.{deque_len, deque_capacity};
-ghost use Rattle.run_model.specs.Admission.{newcomer, units_in};
+ghost use Rattle.run_admission.specs.InUse.{is_test_in_use};
+ghost use Rattle.run_model.specs.Admission.{newcomer, scripts_in, units_in};
+ghost use Rattle.run_state.specs.Held.{IsSeated, Comes, units_with, given_back};
 ghost use Rattle.run_model.specs.Board.{unit_in, moved, step, deed_events};
 ghost use Rattle.run_model.specs.Turns.{taken_by, admission, starting, answer_to, delivery, begun, ended, run_turn};
 ghost use Rattle.run_model.specs.Turns.{deed_on, turn_of_unit};
 ghost use Rattle.run_laws.specs.Ready.{CanAnswer, CanTake, CanAdmit, CanDeliverOldest, CanRun, CanAdvance};
 
-use crate::admission::{Newcomer, admit_test, first_waiting};
+use crate::admission::{Newcomer, newcomer_of, place_of};
 use crate::state::State;
+use crate::units::Units;
+use run_admission::{Admission, Admitted};
 use run_capture::{List, Mem};
 use run_dispatch::DispatchEffects;
 use run_events::{Ask, Message, ReporterEvent, Settings, Turn};
@@ -45,40 +49,81 @@ fn send(queue: &mut VecDeque<Message>, sent: Option<Message>)
     }
 }
 
+// A unit that is over gives back what it held of the limits, where it is a test.
+fn release(settings: &Settings, admission: &mut Admission, unit: u32, over: bool)
+    requires { over ≡ true → scripts_in settings.now ≤ unit
+        → is_test_in_use admission.old (unit - scripts_in settings.now) ≡ true }
+    ensures { admission.new ≡ (if over then given_back settings.now admission.old unit else admission.old) }
+{
+    let scripts = settings.plan.scripts.len();
+    if over && unit as usize >= scripts {
+        admission.release((unit as usize - scripts) as u32);
+    }
+}
+
 /// A unit takes a turn of its own.
-pub fn take_turn(alloc: Global, state: &mut State, unit: u32, turn: UnitTurn) -> Mem<Option<Ask>>
-    requires { CanTake state.old unit turn }
-    ensures after { OnOk result (state.new ≡ moved state.old
-        (taken_by state.old.clock unit turn (unit_in state.old unit))) }
-    ensures asked { IfOk result (λ asked. asked ≡ (taken_by state.old.clock unit turn (unit_in state.old unit)).asked) }
+pub fn take_turn(
+    alloc: Global,
+    settings: &Settings,
+    state: &mut State,
+    unit: u32,
+    turn: UnitTurn,
+) -> Mem<Option<Ask>>
+    requires can { CanTake state.old.board unit turn }
+    requires seated { IsSeated settings.now state.old }
+    ensures after { OnOk result (state.new.board ≡ moved state.old.board
+        (taken_by state.old.board.clock unit turn (unit_in state.old.board unit))) }
+    ensures seated { OnOk result (IsSeated settings.now state.new) }
+    ensures asked { IfOk result (λ asked. asked
+        ≡ (taken_by state.old.board.clock unit turn (unit_in state.old.board unit)).asked) }
 {
     state.queue.reserve(1)?;
     let now = state.clock;
-    let UnitEffects {
-        sent,
-        asked,
-        over: _,
-    } = state.units.step(alloc, unit as usize, turn, now)?;
+    let UnitEffects { sent, asked, over } = state.units.step(alloc, unit as usize, turn, now)?;
+    release(settings, &mut state.admission, unit, over);
     send(&mut state.queue, sent);
     Ok(asked)
 }
 
 /// Admits the candidate.
 pub fn admit(alloc: Global, settings: &Settings, state: &mut State) -> Mem<()>
-    requires candidate { CanAdmit settings.now state.old }
+    requires can { CanAdmit settings.now state.old.board }
+    requires seated { IsSeated settings.now state.old }
     requires few { units_in settings.now < 2 ^ 32 }
-    ensures after { OnOk result (state.new ≡ moved state.old (admission (newcomer settings.now state.old.units))) }
+    ensures after { OnOk result (state.new.board
+        ≡ moved state.old.board (admission (newcomer settings.now state.old.board.units))) }
+    ensures seated { OnOk result (IsSeated settings.now state.new) }
 {
-    match first_waiting(settings, &state.units) {
-        Some(test) => {
-            state.queue.reserve(1)?;
-            let Newcomer { unit, sent } = admit_test(alloc, settings, &state.units, test)?;
-            state.queue.push_back_reserved(sent);
-            state.units.admit(settings.plan.scripts.len(), unit);
+    match state.admission.admit() {
+        Some(admitted) => {
+            seat(alloc, settings, &mut state.units, &mut state.queue, admitted)?;
             Ok(())
         }
         None => unreachable!(),
     }
+}
+
+// The test that was admitted becomes a unit, and its first message is sent.
+fn seat(
+    alloc: Global,
+    settings: &Settings,
+    units: &mut Units,
+    queue: &mut VecDeque<Message>,
+    admitted: Admitted,
+) -> Mem<()>
+    requires comes { Comes settings.now units.old admitted }
+    requires few { units_in settings.now < 2 ^ 32 }
+    ensures units { OnOk result (units.new
+        ≡ units_with settings.now units.old (newcomer settings.now units.old)) }
+    ensures queue { OnOk result (queue.new.items
+        ≡ queue.old.items ++ option_to_list (option_map (λ n. n.sent) (newcomer settings.now units.old))) }
+{
+    queue.reserve(1)?;
+    let place = settings.plan.scripts.len() + place_of(&admitted) as usize;
+    let Newcomer { unit, sent } = newcomer_of(alloc, settings, admitted)?;
+    queue.push_back_reserved(sent);
+    units.admit(place, unit);
+    Ok(())
 }
 
 // The unit whose start a message is.
@@ -92,31 +137,44 @@ fn starting(message: &Message) -> Option<u32>
 }
 
 // Gives the answer to the unit that waits for it.
-fn answer(alloc: Global, state: &mut State, unit: Option<u32>, go: Option<bool>) -> Mem<Option<Ask>>
-    requires { CanAnswer state.old unit go }
-    ensures after { OnOk result (state.new ≡ moved state.old (answer_to state.old unit go)) }
-    ensures asked { IfOk result (λ asked. asked ≡ (answer_to state.old unit go).asked) }
+fn answer(
+    alloc: Global,
+    settings: &Settings,
+    state: &mut State,
+    unit: Option<u32>,
+    go: Option<bool>,
+) -> Mem<Option<Ask>>
+    requires can { CanAnswer state.old.board unit go }
+    requires seated { IsSeated settings.now state.old }
+    ensures seated { OnOk result (IsSeated settings.now state.new) }
+    ensures after { OnOk result (state.new.board ≡ moved state.old.board (answer_to state.old.board unit go)) }
+    ensures asked { IfOk result (λ asked. asked ≡ (answer_to state.old.board unit go).asked) }
 {
     match (unit, go) {
-        (Some(unit), Some(go)) => take_turn(alloc, state, unit, UnitTurn::Answered { go }),
+        (Some(unit), Some(go)) => take_turn(alloc, settings, state, unit, UnitTurn::Answered { go }),
         _ => Ok(None),
     }
 }
 
 /// Delivers the oldest message.
-pub fn deliver(alloc: Global, state: &mut State) -> Mem<Effects>
-    requires can { CanDeliverOldest state.old state.old.queue }
-    requires later { state.old.dispatcher.latest ≤ state.old.clock }
-    ensures after { OnOk result (state.new ≡ moved state.old (delivery state.old state.old.queue)) }
-    ensures told { IfOk result (λ effects. effects.events ≡ option_to_list (delivery state.old state.old.queue).told) }
-    ensures asked { IfOk result (λ effects. effects.asked ≡ (delivery state.old state.old.queue).asked) }
+pub fn deliver(alloc: Global, settings: &Settings, state: &mut State) -> Mem<Effects>
+    requires can { CanDeliverOldest state.old.board state.old.board.queue }
+    requires seated { IsSeated settings.now state.old }
+    requires later { state.old.board.dispatcher.latest ≤ state.old.board.clock }
+    ensures seated { OnOk result (IsSeated settings.now state.new) }
+    ensures after { OnOk result (state.new.board
+        ≡ moved state.old.board (delivery state.old.board state.old.board.queue)) }
+    ensures told { IfOk result (λ effects. effects.events
+        ≡ option_to_list (delivery state.old.board state.old.board.queue).told) }
+    ensures asked { IfOk result (λ effects. effects.asked
+        ≡ (delivery state.old.board state.old.board.queue).asked) }
 {
     match state.queue.pop_front() {
         Some(message) => {
             let unit = starting(&message);
             let now = state.clock;
             let DispatchEffects { events, go } = state.dispatcher.deliver(alloc, message, now)?;
-            let asked = answer(alloc, state, unit, go)?;
+            let asked = answer(alloc, settings, state, unit, go)?;
             Ok(Effects { events, asked })
         }
         None => unreachable!(),
@@ -132,15 +190,20 @@ pub fn advance(
     named: Option<(u32, UnitTurn)>,
 ) -> Mem<Effects>
     requires named { named ≡ turn_of_unit turn.now }
-    requires can { CanAdvance settings.now state.old turn.now (turn_of_unit turn.now) }
+    requires can { CanAdvance settings.now state.old.board turn.now (turn_of_unit turn.now) }
+    requires seated { IsSeated settings.now state.old }
     requires few { units_in settings.now < 2 ^ 32 }
-    ensures after { OnOk result (state.new ≡ step state.old turn.now (deed_on settings.now state.old turn.now)) }
-    ensures told { IfOk result (λ effects. effects.events ≡ deed_events (deed_on settings.now state.old turn.now)) }
-    ensures asked { IfOk result (λ effects. effects.asked ≡ (deed_on settings.now state.old turn.now).asked) }
+    ensures after { OnOk result (state.new.board
+        ≡ step state.old.board turn.now (deed_on settings.now state.old.board turn.now)) }
+    ensures seated { OnOk result (IsSeated settings.now state.new) }
+    ensures told { IfOk result (λ effects. effects.events
+        ≡ deed_events (deed_on settings.now state.old.board turn.now)) }
+    ensures asked { IfOk result (λ effects. effects.asked
+        ≡ (deed_on settings.now state.old.board turn.now).asked) }
 {
     match named {
         Some((unit, own)) => {
-            let asked = take_turn(alloc, state, unit, own)?;
+            let asked = take_turn(alloc, settings, state, unit, own)?;
             Ok(asking(asked))
         }
         None => advance_run(alloc, settings, state, turn),
@@ -149,12 +212,17 @@ pub fn advance(
 
 // Takes a turn of the run's own.
 fn advance_run(alloc: Global, settings: &Settings, state: &mut State, turn: &Turn) -> Mem<Effects>
-    requires can { CanRun settings.now state.old turn.now }
-    requires later { state.old.dispatcher.latest ≤ state.old.clock }
+    requires can { CanRun settings.now state.old.board turn.now }
+    requires seated { IsSeated settings.now state.old }
+    requires later { state.old.board.dispatcher.latest ≤ state.old.board.clock }
     requires few { units_in settings.now < 2 ^ 32 }
-    ensures after { OnOk result (state.new ≡ moved state.old (run_turn settings.now state.old turn.now)) }
-    ensures told { IfOk result (λ effects. effects.events ≡ deed_events (run_turn settings.now state.old turn.now)) }
-    ensures asked { IfOk result (λ effects. effects.asked ≡ (run_turn settings.now state.old turn.now).asked) }
+    ensures after { OnOk result (state.new.board
+        ≡ moved state.old.board (run_turn settings.now state.old.board turn.now)) }
+    ensures seated { OnOk result (IsSeated settings.now state.new) }
+    ensures told { IfOk result (λ effects. effects.events
+        ≡ deed_events (run_turn settings.now state.old.board turn.now)) }
+    ensures asked { IfOk result (λ effects. effects.asked
+        ≡ (run_turn settings.now state.old.board turn.now).asked) }
 {
     match turn {
         Turn::Begin => begin(alloc, state),
@@ -162,7 +230,7 @@ fn advance_run(alloc: Global, settings: &Settings, state: &mut State, turn: &Tur
             admit(alloc, settings, state)?;
             Ok(asking(None))
         }
-        Turn::Deliver => deliver(alloc, state),
+        Turn::Deliver => deliver(alloc, settings, state),
         Turn::End => end(alloc, state),
         _ => Ok(asking(None)),
     }
@@ -170,10 +238,11 @@ fn advance_run(alloc: Global, settings: &Settings, state: &mut State, turn: &Tur
 
 // Begins the run.
 fn begin(alloc: Global, state: &mut State) -> Mem<Effects>
-    requires idle { state.old.dispatcher.on ≡ false }
-    requires later { state.old.dispatcher.latest ≤ state.old.clock }
-    ensures after { OnOk result (state.new ≡ moved state.old (begun state.old)) }
-    ensures told { IfOk result (λ effects. effects.events ≡ deed_events (begun state.old)) }
+    requires idle { state.old.board.dispatcher.on ≡ false }
+    requires later { state.old.board.dispatcher.latest ≤ state.old.board.clock }
+    ensures after { OnOk result (state.new.board ≡ moved state.old.board (begun state.old.board)) }
+    ensures limits { OnOk result (state.new.limits ≡ state.old.limits) }
+    ensures told { IfOk result (λ effects. effects.events ≡ deed_events (begun state.old.board)) }
     ensures asked { IfOk result (λ effects. effects.asked ≡ None) }
 {
     let now = state.clock;
@@ -186,10 +255,11 @@ fn begin(alloc: Global, state: &mut State) -> Mem<Effects>
 
 // Ends the run.
 fn end(alloc: Global, state: &mut State) -> Mem<Effects>
-    requires on { state.old.dispatcher.on ≡ true }
-    requires later { state.old.dispatcher.latest ≤ state.old.clock }
-    ensures after { OnOk result (state.new ≡ moved state.old (ended state.old)) }
-    ensures told { IfOk result (λ effects. effects.events ≡ deed_events (ended state.old)) }
+    requires on { state.old.board.dispatcher.on ≡ true }
+    requires later { state.old.board.dispatcher.latest ≤ state.old.board.clock }
+    ensures after { OnOk result (state.new.board ≡ moved state.old.board (ended state.old.board)) }
+    ensures limits { OnOk result (state.new.limits ≡ state.old.limits) }
+    ensures told { IfOk result (λ effects. effects.events ≡ deed_events (ended state.old.board)) }
     ensures asked { IfOk result (λ effects. effects.asked ≡ None) }
 {
     let now = state.clock;

@@ -1,43 +1,54 @@
 // The units of a run, with what is counted of them.
-ghost use Rattle.std.specs.Prelude.{◌≡◌, ◌<◌, ◌≤◌, ◌+◌, ℕ, length, take, drop, position, slice_index_or, slice_set};
-ghost use Rattle.std.specs.Prelude.{is_none, is_some, option_map, IfOk, OnOk, OnErr, Some, None, true};
+ghost use Rattle.std.specs.Prelude.{◌≡◌, ◌<◌, ◌≤◌, ℕ, length, take, slice_index_or, slice_set, IfOk, OnOk, OnErr, Some};
+ghost use Rattle.std.specs.Prelude.{None, true, ◌-◌, cond, option_map};
 ghost use Rattle.std.specs.List.{list_all};
 ghost use Rattle.run_model.specs.declared.unit_view.UnitView.{UnitView};
-ghost use Rattle.run_model.specs.Admission.{is_done, is_last, in_use, free_slot};
-ghost use Rattle.run_model.specs.Unit.{takes};
+ghost use Rattle.run_model.specs.Admission.{is_done, is_last};
+ghost use Rattle.run_model.specs.Unit.{row, takes};
 ghost use Rattle.run_model.specs.Board.{units_after};
 ghost use Rattle.run_model.specs.Turns.{unit_takes, taken_by};
 
-use crate::admission::{are_done, least_free_slot};
 use run_capture::Mem;
 use run_model::{Phase, UnitTurn};
 use run_unit::{Unit, UnitEffects};
 use std::alloc::Global;
 use std::marker::Model;
 
-/// Each unit of the plan, once it was admitted, with counts of them, so that no turn looks at all. Contracts see the
-/// list of the units.
+/// Each unit of the plan, once it was admitted, with a count of those that aren't over, so that no turn looks at all.
+/// Contracts see the list of the units.
 #[derive(Drop)]
 pub struct Units {
     items: Vec<Option<Unit>>,
-    /// How many were admitted: the first ones.
-    admitted: usize,
-    /// How many are in use.
-    in_use: usize,
     /// How many aren't over.
     left: usize,
 }
 
 impl Model for Units {
-    ghost use Rattle.std.specs.Prelude.{List, Option};
+    ghost use Rattle.std.specs.Prelude.{◌≡◌, List, Option, count_by};
     ghost use Rattle.run_model.specs.declared.unit_view.UnitView.{UnitView};
-    ghost use Rattle.run_state.specs.Counted.{IsCounted};
+    ghost use Rattle.run_state.specs.Counted.{is_left};
 
     ghost Value = { List (Option UnitView) };
 
     ghost view = { λ u. u.items.items };
 
-    ghost invariant = { λ u. IsCounted u.items.items u.admitted u.in_use u.left };
+    ghost invariant = { λ u. u.left ≡ count_by is_left u.items.items };
+}
+
+fn unit_is_done(unit: &Option<Unit>) -> bool
+    ensures { result ≡ is_done unit.now }
+{
+    match unit {
+        Some(unit) => matches!(unit.phase(), Phase::Over),
+        None => false,
+    }
+}
+
+// Whether each of some units was admitted and is over.
+fn are_done(units: &[Option<Unit>]) -> bool
+    ensures { result ≡ list_all is_done units.now }
+{
+    units.iter().all(|unit| unit_is_done(unit))
 }
 
 impl Units {
@@ -47,12 +58,7 @@ impl Units {
         ensures { result ≡ items.items }
     {
         let left = items.len();
-        Units {
-            items,
-            admitted: 0,
-            in_use: 0,
-            left,
-        }
+        Units { items, left }
     }
 
     /// Whether a unit takes a turn; a number of no admitted unit takes none.
@@ -81,38 +87,6 @@ impl Units {
         are_done(&self.items[..count])
     }
 
-    /// How many are in use.
-    pub fn in_use(&self) -> usize
-        ensures { result ≡ in_use self.now }
-    {
-        let _ = &self.items;
-        self.in_use
-    }
-
-    /// The first that wasn't admitted of those after the first ones, so many, which are over.
-    pub fn next_after(&self, count: usize) -> Option<usize>
-        requires within { count ≤ length self.now }
-        requires over { list_all is_done (take count self.now) ≡ true }
-        ensures { result ≡ position is_none (drop count self.now) }
-    {
-        if self.admitted < self.items.len() {
-            Some(self.admitted - count)
-        } else {
-            None
-        }
-    }
-
-    /// The least slot that none in use holds.
-    pub fn free_slot(&self) -> usize
-        ensures slot { result ≡ free_slot self.now }
-        ensures within { result ≤ length self.now }
-    {
-        if self.in_use == 0 {
-            return 0;
-        }
-        least_free_slot(&self.items)
-    }
-
     /// A unit takes a turn.
     pub fn step(&mut self, alloc: Global, unit: usize, turn: UnitTurn, now: u64) -> Mem<UnitEffects>
         requires { (u : UnitView) × (slice_index_or self.old unit None ≡ Some u) × (takes u.phase turn ≡ true)
@@ -122,37 +96,58 @@ impl Units {
         ensures sent { IfOk result (λ e. e.sent ≡ (taken_by now unit turn (slice_index_or self.old unit None)).sent) }
         ensures asked { IfOk result (λ e. e.asked
             ≡ (taken_by now unit turn (slice_index_or self.old unit None)).asked) }
+        ensures over { IfOk result (λ e. e.over
+            ≡ is_done (option_map (λ u. (row now turn u).next) (slice_index_or self.old unit None))) }
         ensures err { OnErr result (self.new ≡ self.old) }
     {
-        match &mut self.items[unit] {
-            Some(member) => {
-                let effects = member.step(alloc, turn, now)?;
-                if effects.over {
-                    self.in_use -= 1;
-                    self.left -= 1;
-                }
-                Ok(effects)
-            }
-            None => unreachable!(),
-        }
+        let effects = step_at(&mut self.items, alloc, unit, turn, now)?;
+        self.left = left_after(self.left, effects.over);
+        Ok(effects)
     }
 
-    /// The next unit after the first ones, so many, which are over, is admitted.
-    pub fn admit(&mut self, count: usize, unit: Unit)
-        requires within { count ≤ length self.old }
-        requires over { list_all is_done (take count self.old) ≡ true }
-        requires next { option_map (λ j. count + j) (position is_none (drop count self.old)) ≡ Some unit.test.unit }
-        ensures { self.new ≡ slice_set self.old unit.test.unit (Some unit) }
+    /// A unit that wasn't admitted is.
+    pub fn admit(&mut self, place: usize, unit: Unit)
+        requires within { place < length self.old }
+        requires absent { slice_index_or self.old place None ≡ None }
+        ensures { self.new ≡ slice_set self.old place (Some unit) }
     {
-        let over = is_over(&unit);
-        put(&mut self.items, self.admitted, unit);
-        self.admitted += 1;
-        if over {
-            self.left -= 1;
-        } else {
-            self.in_use += 1;
-        }
+        self.left = left_after(self.left, is_over(&unit));
+        put(&mut self.items, place, unit);
     }
+}
+
+// The unit at a place takes a turn.
+fn step_at(
+    units: &mut Vec<Option<Unit>>,
+    alloc: Global,
+    unit: usize,
+    turn: UnitTurn,
+    now: u64,
+) -> Mem<UnitEffects>
+    requires { (u : UnitView) × (slice_index_or units.old.items unit None ≡ Some u) × (takes u.phase turn ≡ true)
+        × (u.latest ≤ now) }
+    ensures after { OnOk result (units.new.items
+        ≡ units_after now (taken_by now unit turn (slice_index_or units.old.items unit None)).part units.old.items) }
+    ensures sent { IfOk result (λ e. e.sent
+        ≡ (taken_by now unit turn (slice_index_or units.old.items unit None)).sent) }
+    ensures asked { IfOk result (λ e. e.asked
+        ≡ (taken_by now unit turn (slice_index_or units.old.items unit None)).asked) }
+    ensures over { IfOk result (λ e. e.over
+        ≡ is_done (option_map (λ u. (row now turn u).next) (slice_index_or units.old.items unit None))) }
+    ensures err { OnErr result (units.new.items ≡ units.old.items) }
+{
+    match &mut units[unit] {
+        Some(member) => member.step(alloc, turn, now),
+        None => unreachable!(),
+    }
+}
+
+// How many aren't over, after one of them was set, which is over or not.
+fn left_after(left: usize, over: bool) -> usize
+    requires { over ≡ true → 1 ≤ left }
+    ensures { result ≡ left - cond over 1 0 }
+{
+    if over { left - 1 } else { left }
 }
 
 fn is_over(unit: &Unit) -> bool

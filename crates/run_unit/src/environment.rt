@@ -2,9 +2,10 @@
 ghost use Rattle.std.specs.Prelude.{◌≡◌, ◌++◌, ◌∷◌, [], IfOk, decimal, codes};
 ghost use Rattle.uuid.specs.Text.{hyphenated_text, lower};
 ghost use Rattle.run_model.specs.Unit.{start_ask, environment, identity_variables, place_variables, version_variables};
+ghost use Rattle.run_model.specs.Unit.{group_name, group_number};
 
 use run_capture::{Duplicate, List, Mem, Text};
-use run_events::{Ask, StartAsk};
+use run_events::{Ask, GroupSlot, StartAsk};
 use run_model::UnitView;
 use std::alloc::Global;
 use uuid::Uuid;
@@ -88,14 +89,30 @@ fn stress_variables(alloc: Global) -> Mem<Vec<(Text, Text)>>
     Ok(list)
 }
 
+// The group that a test runs in, and its slot there.
+fn with_group(alloc: Global, list: Variables, group: &Option<GroupSlot>) -> Mem<Variables>
+    ensures { IfOk result (λ v. v.items ≡ list.items ++ (codes "NEXTEST_TEST_GROUP", group_name group.now)
+        ∷ (codes "NEXTEST_TEST_GROUP_SLOT", group_number group.now) ∷ []) }
+{
+    match group {
+        Some(group) => {
+            let list = with_text(alloc, list, "NEXTEST_TEST_GROUP", group.name.as_str())?;
+            with_number(alloc, list, "NEXTEST_TEST_GROUP_SLOT", group.slot)
+        }
+        None => {
+            let list = with_text(alloc, list, "NEXTEST_TEST_GROUP", "@global")?;
+            with_text(alloc, list, "NEXTEST_TEST_GROUP_SLOT", "none")
+        }
+    }
+}
+
 #[tactic(auto, unfolding(run_model::specs::Unit::place_variables))]
 fn place_variables(alloc: Global, unit: &UnitView) -> Mem<Vec<(Text, Text)>>
     ensures { IfOk result (λ v. v.items ≡ place_variables unit.now) }
 {
     let list = stress_variables(alloc)?;
     let list = with_number(alloc, list, "NEXTEST_TEST_GLOBAL_SLOT", unit.slot.global)?;
-    let list = with_text(alloc, list, "NEXTEST_TEST_GROUP", "@global")?;
-    let list = with_text(alloc, list, "NEXTEST_TEST_GROUP_SLOT", "none")?;
+    let list = with_group(alloc, list, &unit.slot.group)?;
     let list = with_number(alloc, list, "NEXTEST_TEST_THREADS", unit.threads)?;
     let list = with_text(alloc, list, "NEXTEST_WORKSPACE_ROOT", "/")?;
     Ok(list)

@@ -1,10 +1,19 @@
-use Rattle.std.proofs.Common.{◌≡◌, ◌∙◌, [], arith}
+use Rattle.std.proofs.Common.{◌≡◌, ◌∙◌, [], ap, arith}
+use Rattle.run_events.specs.declared.settings.Settings.{Settings}
 use Rattle.run_model.specs.Words.{units}
-use Rattle.run_state.proofs.StartLemmas.{total-nil, running-nil, units-nil}
+use Rattle.run_admission.specs.InUse.{begun}
+use Rattle.run_model.specs.Admission.{limits_of}
+use Rattle.run_state.proofs.StartLemmas.{total-nil, running-nil, units-nil, seats-nil}
 use Rattle.run_state.proofs.state.State.new.Goals as goal
 
 pub returns : goal.returns
 returns c =
-    let absent = units-nil c.args.settings.now c.in_ok-units.units.items (grind arith) c.in_ok-units.ensures.none in
-    let units : c.new-2.result ≡ units c.args.settings.now [] = c.new-2.ensures ∙ absent in
-    rw units (grind (arith, running-nil c.args.settings.now, total-nil))
+    let p : Settings = c.args.settings.now in
+    let absent = units-nil p c.in_ok-units.units.items (grind arith) c.in_ok-units.ensures.none in
+    let all : c.new-3.result ≡ units p [] = c.new-3.ensures ∙ absent in
+    let limits : c.in_ok-admission.admission ≡ limits_of p (units p []) =
+    c.in_ok-admission.ensures
+    ∙ ap (λ groups. begun p.threads groups c.as_slice-tests.result.now) c.as_slice-groups.ensures
+    ∙ ap (begun p.threads p.plan.groups) c.as_slice-tests.ensures
+    ∙ ap (λ seats. record (limits_of p (units p [])) { seats = seats }) (seats-nil p) in
+    rw (all, limits) (grind (arith, running-nil p, total-nil))

@@ -1,21 +1,28 @@
-use Rattle.std.proofs.Common.{◌≡◌, get_or, Some, None, sym, ◌∙◌}
-use Rattle.run_state.proofs.CountedLemmas.{step_counted, step_kept, not_last, stands_inside}
+use Rattle.std.proofs.Common.{◌≡◌, get_or, not, option_map, count_by, Some, None, ap, sym, ◌∙◌}
+use Rattle.run_model.specs.Admission.{is_done}
+use Rattle.run_model.specs.Unit.{row}
+use Rattle.run_state.specs.Counted.{is_left}
+use Rattle.run_state.proofs.CountedLemmas.{set_left, some_left, not_last, stands_inside}
+use Rattle.run_state.proofs.SeatLemmas.{acted}
 use Rattle.run_state.proofs.units.Units.step.Goals as goal
 
-pub invariant_of-self-then-effects : goal.invariant_of-self-then-effects
-invariant_of-self-then-effects c =
+pub left_after-self-inside-requires : goal.left_after-self-inside-requires
+left_after-self-inside-requires c over =
     let us = c.self.inside.items.items in
     let u = c.requires.0 in
     let at : get_or us c.args.unit None ≡ Some u = rw (sym c.self.view_is) at c.requires.1 in
-    step_counted us c.self.inside.admitted c.self.inside.in_use c.self.inside.left c.args.unit u c.step.new.self _
-    c.self.invariant at (not_last u.phase c.args.turn c.requires.2)
-    (sym c.in_ok-effects-in-Some.ensures.row.over ∙ c.if-effects.true) (stands_inside us c.args.unit u at)
+    some_left us c.args.unit c.self.inside.left c.self.invariant
+    (ap is_left at ∙ ap not (not_last u.phase c.args.turn c.requires.2)) (stands_inside us c.args.unit u at)
 
-pub invariant_of-self-else-effects : goal.invariant_of-self-else-effects
-invariant_of-self-else-effects c =
+pub invariant_of-self-2 : goal.invariant_of-self-2
+invariant_of-self-2 c =
     let us = c.self.inside.items.items in
     let u = c.requires.0 in
+    let now = c.args.now in
+    let turn = c.args.turn in
     let at : get_or us c.args.unit None ≡ Some u = rw (sym c.self.view_is) at c.requires.1 in
-    step_kept us c.self.inside.admitted c.self.inside.in_use c.self.inside.left c.args.unit u c.step.new.self
-    c.self.invariant at (not_last u.phase c.args.turn c.requires.2)
-    (sym c.in_ok-effects-in-Some.ensures.row.over ∙ c.if-effects.false) (stands_inside us c.args.unit u at)
+    c.left_after-self-inside.ensures
+    ∙ set_left us c.args.unit c.self.inside.left (row now turn u).next c.in_ok-effects.effects.over c.self.invariant
+    (ap is_left at ∙ ap not (not_last u.phase turn c.requires.2)) (stands_inside us c.args.unit u at)
+    (sym (c.in_ok-effects.ensures.over ∙ ap (λ v. is_done (option_map (λ u. (row now turn u).next) v)) at))
+    ∙ sym (ap (count_by is_left) (c.in_ok-effects.ensures.after ∙ acted now c.args.unit turn us u at))

@@ -1,0 +1,35 @@
+-- The state of a run, as its callers see it.
+use Rattle.std.specs.Prelude.{ℕ, ◌≡◌, ◌-◌, List, Option, Some, None, nat_le, if◌then◌else◌, slice_set, true}
+use Rattle.run_events.specs.declared.settings.Settings.{Settings}
+use Rattle.run_admission.specs.declared.seat.Admitted.{Admitted}
+use Rattle.run_admission.specs.InUse.{Admissions, admitted, released}
+use Rattle.run_model.specs.declared.unit_view.UnitView.{UnitView}
+use Rattle.run_model.specs.Admission.{scripts_in, limits_of, scripts_over, Newcomer}
+use Rattle.run_model.specs.Board.{Board}
+
+-- the board that turns read, and what is kept of what the tests hold of the limits
+pub record Held : Type 0 where
+  pub board : Board
+  pub limits : Admissions
+
+-- what is kept of the limits is what the units hold of them
+abbrev pub IsSeated : Settings → Held → Type 0
+IsSeated p h = h.limits ≡ limits_of p h.board.units
+
+-- the state with this board
+abbrev pub held : Settings → Board → Held
+held p b = record { board = b; limits = limits_of p b.units }
+
+-- a test comes next: all scripts are over, and the rule admits it
+pub record Comes (p : Settings) (us : List (Option UnitView)) (next : Admitted) : Type 0 where
+  pub scripts : scripts_over p us ≡ true
+  pub is : admitted (limits_of p us) ≡ Some next
+
+-- the units with one that was admitted
+abbrev pub units_with : Settings → List (Option UnitView) → Option Newcomer → List (Option UnitView)
+units_with p us None = us
+units_with p us (Some new) = slice_set us new.unit.test.unit (Some new.unit)
+
+-- what is held of the limits after a unit is over: a test gives its part back, a script had none
+abbrev pub given_back : Settings → Admissions → ℕ → Admissions
+given_back p a unit = if nat_le (scripts_in p) unit then released a (unit - scripts_in p) else a
