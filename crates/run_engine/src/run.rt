@@ -13,6 +13,7 @@ ghost use Rattle.run_model.specs.Words.{is_over};
 ghost use Rattle.run_model.specs.Board.{board, step, deed_events};
 ghost use Rattle.run_engine.specs.World.{TakesTurn, TellsEvents, CountsErrors, IsUntouched, Breaks, outside};
 ghost use Rattle.run_engine.specs.World.{history_of};
+ghost use Rattle.run_state.specs.Held.{IsSeated, held};
 ghost use Rattle.run_engine.specs.Standing.{IsRunnable, sound};
 ghost use Rattle.run_engine.specs.Refused.{IsRefused, IsNotNamed, IfNotMemory};
 
@@ -93,18 +94,21 @@ fn act<C: Children, R: Reporter>(
     report: &mut R,
 ) -> Mem<Told<R::Error>>
     requires named { named ≡ turn_of_unit turn.now }
-    requires can { CanAdvance settings.now state.old turn.now (turn_of_unit turn.now) }
+    requires can { CanAdvance settings.now state.old.board turn.now (turn_of_unit turn.now) }
+    requires seated { IsSeated settings.now state.old }
     requires few { units_in settings.now < 2 ^ 32 }
     requires short { length journal.old.items < 2 ^ 32 }
-    ensures after { OnOk result (state.new ≡ step state.old turn.now (deed_on settings.now state.old turn.now)) }
+    ensures after { OnOk result (state.new.board
+        ≡ step state.old.board turn.now (deed_on settings.now state.old.board turn.now)) }
+    ensures seated { OnOk result (IsSeated settings.now state.new) }
     ensures asked { OnOk result (Adds C.asked children.old children.new
         (map (λ ask. (length journal.old.items, ask))
-        (option_to_list (deed_on settings.now state.old turn.now).asked))) }
+        (option_to_list (deed_on settings.now state.old.board turn.now).asked))) }
     ensures answered { IfOk result (λ t. length t.refused
-        ≡ length (deed_events (deed_on settings.now state.old turn.now))) }
+        ≡ length (deed_events (deed_on settings.now state.old.board turn.now))) }
     ensures marked { IfOk result (λ t. is_none t.refusal ≡ list_all not t.refused) }
     ensures told { IfOk result (λ t. TellsEvents R.told report.old report.new
-        (zip (deed_events (deed_on settings.now state.old turn.now)) t.refused) t.refusal) }
+        (zip (deed_events (deed_on settings.now state.old.board turn.now)) t.refused) t.refusal) }
     ensures faults { IfOk result (λ t. CountsErrors (R.faults report.old) (R.faults report.new) t.refusal) }
     ensures same { journal.new.items ≡ journal.old.items }
     ensures room { OnOk result (vec_len journal.new < vec_capacity journal.new) }
@@ -128,14 +132,15 @@ fn carry_out<C: Children, R: Reporter>(
 ) -> Mem<Option<R::Error>>
     requires named { named ≡ turn_of_unit turn }
     requires runnable { IsRunnable settings.now journal.old.items }
-    requires stands { state.old ≡ board settings.now (past_of settings.now journal.old.items) }
+    requires stands { state.old ≡ held settings.now (board settings.now (past_of settings.now journal.old.items)) }
     requires enabled { enabled settings.now (past_of settings.now journal.old.items) turn ≡ true }
     requires room { length journal.old.items + 1 < 2 ^ 32 }
     ensures takes { IfOk result (TakesTurn R.told C.asked
         (outside R.faults report.old report.new children.old children.new) turn
         (sound settings.now journal.old.items) (sound settings.now journal.new.items)) }
     ensures runnable { OnOk result (IsRunnable settings.now journal.new.items) }
-    ensures stands { OnOk result (state.new ≡ board settings.now (past_of settings.now journal.new.items)) }
+    ensures stands { OnOk result (state.new
+        ≡ held settings.now (board settings.now (past_of settings.now journal.new.items))) }
     ensures err { OnErr result (journal.new.items ≡ journal.old.items) }
 {
     match act(
@@ -159,11 +164,12 @@ fn named_if_enabled(
     state: &State,
     turn: &Turn,
 ) -> Result<Option<(u32, UnitTurn)>, StepError>
-    requires whole { length state.now.units ≡ units_in settings.now }
-    requires later { state.now.dispatcher.latest ≤ state.now.clock }
+    requires whole { length state.now.board.units ≡ units_in settings.now }
+    requires seated { IsSeated settings.now state.now }
+    requires later { state.now.board.dispatcher.latest ≤ state.now.board.clock }
     ensures named { IfOk result (λ named. named ≡ turn_of_unit turn.now) }
-    ensures enabled { OnOk result (enabled_on settings.now state.now turn.now ≡ true) }
-    ensures refused { IfErr result (IsNotNamed settings.now state.now turn.now) }
+    ensures enabled { OnOk result (enabled_on settings.now state.now.board turn.now ≡ true) }
+    ensures refused { IfErr result (IsNotNamed settings.now state.now.board turn.now) }
 {
     if state.is_over() {
         return Err(StepError::NotEnabled);
@@ -181,7 +187,7 @@ impl Run {
     // A run that has taken no turn.
     pub(crate) fn begin(alloc: Global, settings: Whole<Settings>, state: State) -> Self
         requires few { units_in settings < 2 ^ 32 }
-        requires stands { state ≡ board settings [] }
+        requires stands { state ≡ held settings (board settings []) }
         ensures { result ≡ sound settings [] }
     {
         Run {

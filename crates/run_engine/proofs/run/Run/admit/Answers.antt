@@ -1,5 +1,5 @@
-use Rattle.std.proofs.Common.{◌≤◌, length, ap, sym, subst, ◌∙◌}
-use Rattle.run_model.specs.Board.{Board}
+use Rattle.std.proofs.Common.{◌≤◌, length, refl, ap, sym, subst, ◌∙◌}
+use Rattle.run_state.specs.Held.{Held, IsSeated}
 use Rattle.run_model.specs.Admission.{units_in}
 use Rattle.run_model.specs.Journal.{past_of}
 use Rattle.run_model.specs.Words.{sub_run}
@@ -9,11 +9,16 @@ use Rattle.run_engine.proofs.run.Run.admit.Goals as goal
 
 pub named_if_enabled-requires-clause-whole : goal.named_if_enabled-requires-clause-whole
 named_if_enabled-requires-clause-whole c =
-    ap (λ (b : Board). length b.units) (c.self.invariant.stands c.if-self.false)
+    ap (λ (h : Held). length h.board.units) (c.self.invariant.stands c.if-self.false)
     ∙ units-length c.self.inside.settings (sub_run (past_of c.self.inside.settings c.self.inside.journal.items))
     ∙ ap units_in (sym c.get.ensures)
 
 pub named_if_enabled-requires-clause-later : goal.named_if_enabled-requires-clause-later
 named_if_enabled-requires-clause-later c =
-    subst (λ (b : Board). b.dispatcher.latest ≤ b.clock) (sym (c.self.invariant.stands c.if-self.false))
+    subst (λ (h : Held). h.board.dispatcher.latest ≤ h.board.clock) (sym (c.self.invariant.stands c.if-self.false))
     (heard_by_now c.self.inside.settings c.self.inside.journal.items c.self.invariant.runnable.legal)
+
+pub named_if_enabled-requires-clause-seated : goal.named_if_enabled-requires-clause-seated
+named_if_enabled-requires-clause-seated c =
+    subst (λ p. IsSeated p c.self.inside.state) (sym c.get.ensures)
+    (subst (IsSeated c.self.inside.settings) (sym (c.self.invariant.stands c.if-self.false)) refl)
