@@ -4,7 +4,7 @@ use Rattle.std.proofs.Common.{refl, ap, sym, ◌∙◌, arith, append_assoc, app
 use Rattle.std.proofs.lemmas.Option.{none-some, same_Some}
 use Rattle.run_events.specs.declared.turn.Turn.{Turn}
 use Rattle.run_input.specs.Lines.{lines_of}
-use Rattle.run_capture.specs.declared.test_output.CaptureStrategy.{CaptureStrategy}
+use Rattle.run_input.specs.declared.plan_line.RunnerKeys.{RunnerKeys}
 use Rattle.run_events.specs.declared.plan.Plan.{Plan}
 use Rattle.run_input.specs.declared.errors.InputError.{InputError}
 use Rattle.run_input.specs.declared.errors.InputError.TheVariants.{Line, OutOfMemory}
@@ -92,14 +92,14 @@ turns_of-bad (line ∷ before) bad after outside =
 
 -- an input that says something has no first bad line
 pub has_no_bad_line : HasNoBadLine
-has_no_bad_line [] capture plan turns number says first = says
-has_no_bad_line (line ∷ others) capture plan turns number says first =
+has_no_bad_line [] keys plan turns number says first = says
+has_no_bad_line (line ∷ others) keys plan turns number says first =
     let bad : IsFirstBadTurn others number = rw says.0 at first in
     let none = ap turns_of bad.split ∙ turns_of-bad bad.before bad.bad bad.after bad.outside in
     none-some turns (sym none ∙ says.1)
 
 -- what refuses the lines after a plan line refuses the input
-pub refused_after : (lines others : List (List ℕ)) (line : List ℕ) (first : CaptureStrategy × Plan) (e : InputError)
+pub refused_after : (lines others : List (List ℕ)) (line : List ℕ) (first : RunnerKeys × Plan) (e : InputError)
     → lines ≡ line ∷ others → plan_line_of line ≡ Some first → IsRefusedTurns others e → IsRefusedInput lines e
 refused_after lines others line first (Line number) split says bad = rw (split, says) bad
 refused_after lines others line first OutOfMemory split says bad = tt

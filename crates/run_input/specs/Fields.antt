@@ -33,6 +33,11 @@ abbrev pub optional : {A : Type 0} → (Data → Option A) → Option Data → O
 optional f None = Some None
 optional f (Some d) = option_map Some (f d)
 
+-- a value that may be missing, and is then the usual one
+abbrev pub or_usual : {A : Type 0} → A → (Data → Option A) → Option Data → Option A
+or_usual usual f None = Some usual
+or_usual usual f (Some d) = f d
+
 -- a number of 32 bits, without a sign
 abbrev pub u32_of : Data → Option ℕ
 u32_of d = option_and_then (λ n. if nat_lt n (2 ^ 32) then Some n else None) (option_and_then as_u64 (as_number d))

@@ -1,7 +1,7 @@
 -- What the lines of an input say.
 use Rattle.std.specs.Prelude.{ℕ, ◌≡◌, ◌+◌, List, [], ◌∷◌, ◌++◌, length, Option, Some, None, option_and_then, IsSome}
 use Rattle.std.specs.Prelude.{MatchOption}
-use Rattle.run_capture.specs.declared.test_output.CaptureStrategy.{CaptureStrategy}
+use Rattle.run_input.specs.declared.plan_line.RunnerKeys.{RunnerKeys}
 use Rattle.run_events.specs.declared.plan.Plan.{Plan}
 use Rattle.run_events.specs.declared.turn.Turn.{Turn}
 use Rattle.run_input.specs.Fields.{◌>>=◌}
@@ -10,7 +10,7 @@ use Rattle.run_input.specs.PlanLine.{plan_of}
 use Rattle.run_input.specs.TurnLine.{turn_of}
 
 -- what a line says as a plan line
-abbrev pub plan_line_of : List ℕ → Option (CaptureStrategy × Plan)
+abbrev pub plan_line_of : List ℕ → Option (RunnerKeys × Plan)
 plan_line_of line = option_and_then plan_of (value_of line)
 
 -- what a line says as a turn line
@@ -26,9 +26,9 @@ turns_of (line ∷ lines) = do
   Some (turn ∷ turns)
 
 -- the first line says the plan, and the others say the turns
-abbrev pub IsInput : List (List ℕ) → CaptureStrategy → Plan → List Turn → Type 0
-IsInput [] capture plan turns = ⊥
-IsInput (first ∷ others) capture plan turns = (plan_line_of first ≡ Some (capture, plan))
+abbrev pub IsInput : List (List ℕ) → RunnerKeys → Plan → List Turn → Type 0
+IsInput [] keys plan turns = ⊥
+IsInput (first ∷ others) keys plan turns = (plan_line_of first ≡ Some (keys, plan))
     × (turns_of others ≡ Some turns)
 
 -- of the lines after the first, the one with this number is no turn line, and each before it is one
@@ -50,5 +50,5 @@ IsFirstBad (first ∷ others) number =
 
 -- an input that says something has no first bad line
 abbrev pub HasNoBadLine : Type 0
-HasNoBadLine = (lines : List (List ℕ)) (capture : CaptureStrategy) (plan : Plan) (turns : List Turn) (number : ℕ)
-    → IsInput lines capture plan turns → ¬ IsFirstBad lines number
+HasNoBadLine = (lines : List (List ℕ)) (keys : RunnerKeys) (plan : Plan) (turns : List Turn) (number : ℕ)
+    → IsInput lines keys plan turns → ¬ IsFirstBad lines number

@@ -7,18 +7,52 @@ use Rattle.serde_json.specs.Find.{get, as_str, as_array}
 use Rattle.uuid.specs.Text.{parsed}
 use Rattle.run_capture.specs.declared.test_output.CaptureStrategy.{CaptureStrategy}
 use Rattle.run_capture.specs.declared.test_output.CaptureStrategy.TheVariants as capture
+use Rattle.run_events.specs.declared.plan.Group.{Group}
 use Rattle.run_events.specs.declared.plan.Plan.{Plan}
 use Rattle.run_events.specs.declared.plan.PlanTest.{PlanTest}
 use Rattle.run_events.specs.declared.plan.TestInstanceId.{TestInstanceId}
 use Rattle.run_events.specs.Usual.{usual_test, usual_plan}
-use Rattle.run_input.specs.Fields.{◌>>=◌, when, is_object_of, optional, texts_of}
+use Rattle.run_input.specs.declared.plan_line.RunnerKeys.{RunnerKeys}
+use Rattle.run_input.specs.Fields.{◌>>=◌, when, is_object_of, optional, or_usual, u32_of, texts_of}
 use lib.Pointwise.{pointwise}
 
 -- the way of capture that a text names
+abbrev pub capture_named : List ℕ → Option CaptureStrategy
+capture_named name =
+    if pointwise nat_eq name (codes "none") then Some capture.None
+    else if pointwise nat_eq name (codes "split") then Some capture.Split
+    else if pointwise nat_eq name (codes "combined") then Some capture.Combined
+    else None
+
 abbrev pub capture_of : Data → Option CaptureStrategy
-capture_of d = do
-  name ← as_str d
-  if pointwise nat_eq name (codes "none") then Some capture.None else None
+capture_of d = option_and_then capture_named (as_str d)
+
+-- what the keys of a plan line set of a runner: output is captured split where nothing else is said
+abbrev pub keys_of : Data → Option RunnerKeys
+keys_of d = do
+  capture ← or_usual capture.Split capture_of (get (codes "capture") d)
+  threads ← optional u32_of (get (codes "threads") d)
+  Some (record { capture = capture; threads = threads })
+
+-- a group, with its limit
+unfoldable pub group_of : Data → Option Group
+group_of d = do
+  _ ← when (is_object_of (codes "limit" ∷ codes "name" ∷ []) d)
+  limit ← option_and_then u32_of (get (codes "limit") d)
+  name ← option_and_then as_str (get (codes "name") d)
+  Some (record { name = name; limit = limit })
+
+-- the groups of items, each of which is one
+abbrev pub groups_from : Items → Option (List Group)
+groups_from no_items = Some []
+groups_from (item d ds) = do
+  group ← group_of d
+  groups ← groups_from ds
+  Some (group ∷ groups)
+
+-- a list of groups
+abbrev pub groups_of : Data → Option (List Group)
+groups_of d = option_and_then groups_from (as_array d)
 
 -- the UUID that a text writes; the prefix of the urn form, the one of 45 bytes, is in lower case
 abbrev pub uuid_of : List ℕ → Option (List ℕ)
@@ -35,14 +69,18 @@ id_of d = do
   name ← option_and_then as_str (get (codes "name") d)
   Some (record { binary = binary; name = name })
 
--- a test, with its name and its command, and the reason for which it is skipped where it doesn't match
+-- a test, with its name and its command, the reason for which it is skipped where it doesn't match, its weight (1 where
+-- nothing is said) and its group
 unfoldable pub test_of : Data → Option PlanTest
 test_of d = do
-  _ ← when (is_object_of (codes "binary" ∷ codes "command" ∷ codes "name" ∷ codes "skip" ∷ []) d)
+  _ ← when (is_object_of (codes "binary" ∷ codes "command" ∷ codes "group" ∷ codes "name" ∷ codes "skip"
+    ∷ codes "weight" ∷ []) d)
+  weight ← or_usual 1 u32_of (get (codes "weight") d)
   id ← id_of d
   command ← option_and_then texts_of (get (codes "command") d)
   skip ← optional as_str (get (codes "skip") d)
-  Some (usual_test id command skip)
+  group ← optional as_str (get (codes "group") d)
+  Some (record (usual_test id command skip) { weight = weight; group = group })
 
 -- the tests of items, each of which is one
 abbrev pub tests_from : Items → Option (List PlanTest)
@@ -63,11 +101,18 @@ plan_tests_of d = do
   _ ← when (nat_lt (length tests) 4294967296)
   Some tests
 
--- a plan of any number of tests below 2^32, with its way of capture
-unfoldable pub plan_of : Data → Option (CaptureStrategy × Plan)
+-- a plan of these groups, none where nothing is said, and of any number of tests below 2^32
+abbrev pub plan_with : List ℕ → Option Data → Option Data → Option Plan
+plan_with run_id groups tests = do
+  groups ← or_usual [] groups_of groups
+  tests ← plan_tests_of tests
+  Some (record (usual_plan run_id tests) { groups = groups })
+
+-- a plan line: what it sets of a runner, and its plan
+unfoldable pub plan_of : Data → Option (RunnerKeys × Plan)
 plan_of d = do
-  _ ← when (is_object_of (codes "capture" ∷ codes "run_id" ∷ codes "tests" ∷ []) d)
-  capture ← option_and_then capture_of (get (codes "capture") d)
+  _ ← when (is_object_of (codes "capture" ∷ codes "groups" ∷ codes "run_id" ∷ codes "tests" ∷ codes "threads" ∷ []) d)
+  keys ← keys_of d
   run_id ← option_and_then run_id_of (get (codes "run_id") d)
-  tests ← plan_tests_of (get (codes "tests") d)
-  Some (capture, usual_plan run_id tests)
+  plan ← plan_with run_id (get (codes "groups") d) (get (codes "tests") d)
+  Some (keys, plan)

@@ -18,6 +18,16 @@ pub fn u32_at(value: Option<&Value>) -> Option<u32>
     u32::try_from(value?.as_u64()?).ok()
 }
 
+/// A whole number from 0 to 4294967295 that may be missing.
+pub fn optional_u32_at(value: Option<&Value>) -> Option<Option<u32>>
+    ensures { result ≡ optional u32_of (option_map (λ v. view v.now) value.entry) }
+{
+    match value {
+        Some(_) => Some(Some(u32_at(value)?)),
+        None => Some(None),
+    }
+}
+
 /// A whole number from 0 to 18446744073709551615.
 pub fn u64_at(value: Option<&Value>) -> Option<u64>
     ensures { result ≡ option_and_then u64_of (option_map (λ v. view v.now) value.entry) }

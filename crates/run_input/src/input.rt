@@ -5,15 +5,15 @@ ghost use Rattle.run_input.specs.Input.{turns_of, IsInput, IsFirstBadTurn};
 ghost use Rattle.run_input.specs.Refused.{error_at, IsRefusedInput, IsRefusedTurns};
 
 use crate::lines::split_line;
-use crate::{InputError, LineError, read_plan_line, read_turn_line};
-use run_capture::{CaptureStrategy, List};
+use crate::{InputError, LineError, RunnerKeys, read_plan_line, read_turn_line};
+use run_capture::List;
 use run_events::{Plan, Turn};
 use std::alloc::Global;
 
 /// What an input says.
 #[derive(Drop)]
 pub struct Input {
-    pub capture: CaptureStrategy,
+    pub keys: RunnerKeys,
     pub plan: Plan,
     /// The turns, in the order of their lines.
     pub turns: List<Turn>,
@@ -66,7 +66,7 @@ fn both<A: Drop, B>(first: A, second: Result<B, InputError>) -> Result<(A, B), I
 ///
 /// A line ends at its LF, and the last one needs none.
 pub fn read_input(alloc: Global, bytes: &[u8]) -> Result<Input, InputError>
-    ensures ok { IfOk result (λ i. IsInput (lines_of bytes.now) i.capture i.plan i.turns) }
+    ensures ok { IfOk result (λ i. IsInput (lines_of bytes.now) i.keys i.plan i.turns) }
     ensures refused { IfErr result (IsRefusedInput (lines_of bytes.now)) }
 {
     if bytes.is_empty() {
@@ -77,9 +77,9 @@ pub fn read_input(alloc: Global, bytes: &[u8]) -> Result<Input, InputError>
         Ok(first) => first,
         Err(e) => return Err(at_line(1, e)),
     };
-    let ((capture, plan), turns) = both(first, read_turns(alloc, after))?;
+    let ((keys, plan), turns) = both(first, read_turns(alloc, after))?;
     Ok(Input {
-        capture,
+        keys,
         plan,
         turns,
     })

@@ -20,7 +20,7 @@ mod value;
 pub use errors::{InputError, LineError};
 pub use input::{Input, read_input};
 pub use laws::an_input_has_no_bad_line;
-pub use plan_line::read_plan_line;
+pub use plan_line::{RunnerKeys, read_plan_line};
 pub use reading::{INPUT_LIMIT, read_all};
 pub use turn_line::read_turn_line;
 

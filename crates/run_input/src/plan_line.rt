@@ -1,29 +1,40 @@
 // The plan line: the first line of an input.
-ghost use Rattle.std.specs.Prelude.{◌≡◌, option_map, option_and_then};
+ghost use Rattle.std.specs.Prelude.{◌≡◌, [], option_map, option_and_then};
+ghost use Rattle.run_capture.specs.declared.test_output.CaptureStrategy.TheVariants as capture;
 ghost use Rattle.serde_json.specs.Find.{as_str};
 ghost use Rattle.serde_json.specs.View.{view, items_view};
 ghost use Rattle.run_input.specs.ReadsValue.{ReadsValue};
 ghost use Rattle.run_input.specs.ValueOf.{value_of};
 ghost use Rattle.uuid.specs.Text.{parsed};
 ghost use Rattle.run_input.specs.PlanLine.{uuid_of, capture_of, run_id_of, id_of, test_of, tests_of, tests_from};
-ghost use Rattle.run_input.specs.PlanLine.{plan_tests_of, plan_of};
+ghost use Rattle.run_input.specs.PlanLine.{plan_tests_of, plan_of, keys_of, plan_with, group_of, groups_of, groups_from};
+ghost use Rattle.run_input.specs.Fields.{u32_of, or_usual};
 
 use crate::LineError;
-use crate::fields::{optional_text_at, str_at, text_at, texts_at};
+use crate::fields::{optional_text_at, optional_u32_at, str_at, text_at, texts_at, u32_at};
 use crate::objects::has_keys_of;
 use crate::value::read_value;
-use run_capture::{CaptureStrategy, List};
-use run_events::{Plan, PlanTest, TestInstanceId};
+use run_capture::{CaptureStrategy, List, Text};
+use run_events::{Group, Plan, PlanTest, TestInstanceId};
 use serde_json::Value;
 use std::alloc::Global;
 use uuid::Uuid;
 
-/// Reads a plan line: its way of capture and its plan.
+/// What the keys of a plan line set of a runner.
+#[derive(Clone, Copy, Drop)]
+pub struct RunnerKeys {
+    pub capture: CaptureStrategy,
+    /// How much may run at a time, where it is given.
+    pub threads: Option<u32>,
+}
+
+/// Reads a plan line: what it sets of a runner, and its plan.
 ///
-/// Its keys are `capture` (the text `none`), `run_id` (a UUID) and `tests` (a list of tests, which may
-/// be empty), all required. A test has `binary`, `command` and `name`, and may have `skip`: a text, the
-/// reason for which it is skipped.
-pub fn read_plan_line(alloc: Global, line: &[u8]) -> Result<(CaptureStrategy, Plan), LineError>
+/// Its keys are `run_id` (a UUID) and `tests` (a list of tests, which may be empty), and it may have `capture` (the text
+/// `none`, `split` or `combined`; `split` where it is missing), `threads` (a number) and `groups` (a list of groups). A
+/// group has `limit` (a number) and `name`. A test has `binary`, `command` and `name`, and may have `group` (the name of
+/// one), `skip` (the reason for which it is skipped) and `weight` (a number, 1 where it is missing).
+pub fn read_plan_line(alloc: Global, line: &[u8]) -> Result<(RunnerKeys, Plan), LineError>
     ensures { ReadsValue result (option_and_then plan_of (value_of line.now)) }
 {
     match read_value(alloc, line) {
@@ -36,26 +47,105 @@ pub fn read_plan_line(alloc: Global, line: &[u8]) -> Result<(CaptureStrategy, Pl
 const MOST_TESTS: usize = 4_294_967_295;
 
 #[tactic(auto, unfolding(crate::specs::PlanLine::plan_of))]
-fn plan_from(alloc: Global, value: &Value) -> Result<(CaptureStrategy, Plan), LineError>
+fn plan_from(alloc: Global, value: &Value) -> Result<(RunnerKeys, Plan), LineError>
     ensures { ReadsValue result (plan_of (view value.now)) }
 {
-    if !has_keys_of(value, &["capture", "run_id", "tests"]) {
+    if !has_keys_of(value, &["capture", "groups", "run_id", "tests", "threads"]) {
         return Err(LineError::NotInTable);
     }
-    let capture = capture_at(value.get("capture")).ok_or(LineError::NotInTable)?;
+    let keys = runner_keys(value).ok_or(LineError::NotInTable)?;
     let run_id = run_id_at(value.get("run_id")).ok_or(LineError::NotInTable)?;
-    let tests = tests_of_plan(alloc, value.get("tests"))?;
-    let plan = Plan::usual(alloc, run_id, tests)?;
-    Ok((capture, plan))
+    let plan = plan_with(alloc, run_id, value.get("groups"), value.get("tests"))?;
+    Ok((keys, plan))
 }
 
-// The way of capture that a text names.
+// What the keys set of a runner.
+fn runner_keys(value: &Value) -> Option<RunnerKeys>
+    ensures { result ≡ keys_of (view value.now) }
+{
+    let capture = capture_at(value.get("capture"))?;
+    let threads = optional_u32_at(value.get("threads"))?;
+    Some(RunnerKeys { capture, threads })
+}
+
+// The way of capture that a text names, and split where there is none.
 fn capture_at(value: Option<&Value>) -> Option<CaptureStrategy>
+    ensures { result ≡ or_usual capture.Split capture_of (option_map (λ v. view v.now) value.entry) }
+{
+    match value {
+        Some(_) => named_capture(value),
+        None => Some(CaptureStrategy::Split),
+    }
+}
+
+fn named_capture(value: Option<&Value>) -> Option<CaptureStrategy>
     ensures { result ≡ option_and_then capture_of (option_map (λ v. view v.now) value.entry) }
 {
     match str_at(value)? {
         "none" => Some(CaptureStrategy::None),
+        "split" => Some(CaptureStrategy::Split),
+        "combined" => Some(CaptureStrategy::Combined),
         _ => None,
+    }
+}
+
+// A plan of these groups and tests.
+fn plan_with(
+    alloc: Global,
+    run_id: Uuid,
+    groups: Option<&Value>,
+    tests: Option<&Value>,
+) -> Result<Plan, LineError>
+    ensures { ReadsValue result (plan_with run_id (option_map (λ v. view v.now) groups.entry)
+        (option_map (λ v. view v.now) tests.entry)) }
+{
+    let groups = groups_at(alloc, groups)?;
+    let tests = tests_of_plan(alloc, tests)?;
+    let plan = Plan::usual(alloc, run_id, tests)?;
+    Ok(grouped(plan, groups))
+}
+
+// A plan with these groups.
+fn grouped(plan: Plan, groups: List<Group>) -> Plan
+    ensures { result ≡ record plan { groups = groups } }
+{
+    let mut plan = plan;
+    plan.groups = groups;
+    plan
+}
+
+#[tactic(auto, unfolding(crate::specs::PlanLine::group_of))]
+fn group_from(alloc: Global, value: &Value) -> Result<Group, LineError>
+    ensures { ReadsValue result (group_of (view value.now)) }
+{
+    if !has_keys_of(value, &["limit", "name"]) {
+        return Err(LineError::NotInTable);
+    }
+    let limit = u32_at(value.get("limit")).ok_or(LineError::NotInTable)?;
+    let name = text_at(alloc, value.get("name"))?;
+    Ok(Group { name, limit })
+}
+
+fn groups_in(alloc: Global, items: &[Value]) -> Result<List<Group>, LineError>
+    ensures { ReadsValue result (groups_from (items_view items.now)) }
+{
+    let mut groups = List::new();
+    for item in items {
+        groups.push(alloc, group_from(alloc, item)?)?;
+    }
+    Ok(groups)
+}
+
+// The groups of a list, and none where there is none.
+fn groups_at(alloc: Global, value: Option<&Value>) -> Result<List<Group>, LineError>
+    ensures { ReadsValue result (or_usual [] groups_of (option_map (λ v. view v.now) value.entry)) }
+{
+    match value {
+        Some(list) => match list.as_array() {
+            Some(items) => groups_in(alloc, items.as_slice()),
+            None => Err(LineError::NotInTable),
+        },
+        None => Ok(List::new()),
     }
 }
 
@@ -91,13 +181,38 @@ fn run_id_at(value: Option<&Value>) -> Option<Uuid>
 fn test_from(alloc: Global, value: &Value) -> Result<PlanTest, LineError>
     ensures { ReadsValue result (test_of (view value.now)) }
 {
-    if !has_keys_of(value, &["binary", "command", "name", "skip"]) {
+    if !has_keys_of(
+        value,
+        &["binary", "command", "group", "name", "skip", "weight"],
+    ) {
         return Err(LineError::NotInTable);
     }
+    let weight = weight_at(value.get("weight")).ok_or(LineError::NotInTable)?;
     let id = id_from(alloc, value)?;
     let command = texts_at(alloc, value.get("command"))?;
     let skip = optional_text_at(alloc, value.get("skip"))?;
-    Ok(PlanTest::usual(id, command, skip))
+    let group = optional_text_at(alloc, value.get("group"))?;
+    Ok(weighed(PlanTest::usual(id, command, skip), weight, group))
+}
+
+// A weight, and 1 where there is none.
+fn weight_at(value: Option<&Value>) -> Option<u32>
+    ensures { result ≡ or_usual 1 u32_of (option_map (λ v. view v.now) value.entry) }
+{
+    match value {
+        Some(_) => u32_at(value),
+        None => Some(1),
+    }
+}
+
+// A test of this weight, in this group.
+fn weighed(test: PlanTest, weight: u32, group: Option<Text>) -> PlanTest
+    ensures { result ≡ record test { weight = weight; group = group } }
+{
+    let mut test = test;
+    test.weight = weight;
+    test.group = group;
+    test
 }
 
 // The name of a test.

@@ -5,8 +5,8 @@ use Rattle.run_input.proofs.input.read_input.Goals as goal
 
 pub returns-clause-ok : goal.returns-clause-ok
 returns-clause-ok c =
-    let done = c.in_ok-capture in
-    let first : plan_line_of c.split_line.result.0.now ≡ Some (done.capture, done.plan) = c.in-Ok.ensures
+    let done = c.in_ok-keys in
+    let first : plan_line_of c.split_line.result.0.now ≡ Some (done.keys, done.plan) = c.in-Ok.ensures
     ∙ ap Some (sym done.ensures.first) in
     let others : turns_of (lines_of c.split_line.result.1.now) ≡ Some done.turns = search rules in
     rw c.split_line.ensures.lines (first, others)
