@@ -7,3 +7,6 @@ mod WholeLemmas
 mod RuleLemmas
 mod BegunLemmas
 mod LawLemmas
+pub mod FewerLemmas
+mod FreeLemmas
+pub mod AdmittedLemmas
