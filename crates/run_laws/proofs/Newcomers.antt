@@ -26,16 +26,16 @@ use Rattle.run_laws.proofs.Admitted.{IsAdmitted, runs, admitted_is}
 use Rattle.run_laws.proofs.OnBoard.{units-at}
 
 -- who is admitted: a test of the plan that wasn't yet
-record Newcomes (p : Settings) (us : List (Option UnitView)) (new : Newcomer) : Type 0 where
-  place : ℕ
-  test : PlanTest
-  absent : get_or (drop (scripts_in p) us) place None ≡ None
-  planned : slice_get p.plan.tests place ≡ Some test
-  is : ((reason : List ℕ) × (test.skip ≡ Some reason)
+pub record Newcomes (p : Settings) (us : List (Option UnitView)) (new : Newcomer) : Type 0 where
+  pub place : ℕ
+  pub test : PlanTest
+  pub absent : get_or (drop (scripts_in p) us) place None ≡ None
+  pub planned : slice_get p.plan.tests place ≡ Some test
+  pub is : ((reason : List ℕ) × (test.skip ≡ Some reason)
       × (new ≡ skipped_newcomer (skipped_view p (unit_of_test p place) test) reason))
       ⊎ ((test.skip ≡ None)
-      × ((slots : TestSlotAssignment)
-      × (new ≡ started_newcomer (first_view p (unit_of_test p place) slots test))))
+      × ((global : ℕ) × ((slot : Option ℕ) × (admitted (limits_of p us) ≡ Some (Run place global slot))
+      × (new ≡ started_newcomer (first_view p (unit_of_test p place) (slots_of test global slot) test)))))
 
 -- a test that waits isn't a unit yet
 absent_where : (v : Option UnitView) → is_waiting (seat_of v) ≡ true → v ≡ None
@@ -52,7 +52,7 @@ none_there : (x : Option (List ℕ)) → is_none x ≡ true → x ≡ None
 none_there None e = refl
 none_there (Some reason) e = cc
 
-newcomer_is : (p : Settings) (us : List (Option UnitView)) (new : Newcomer) → newcomer p us ≡ Some new
+pub newcomer_is : (p : Settings) (us : List (Option UnitView)) (new : Newcomer) → newcomer p us ≡ Some new
     → Newcomes p us new
 newcomer_is p us new e = by_scripts (scripts_over p us) e
   where
@@ -85,17 +85,18 @@ newcomer_is p us new e = by_scripts (scripts_over p us) e
     }
 
     by_test : (r : Admitted) (o : Option PlanTest) → slice_get p.plan.tests (test_of r) ≡ o
+        → admitted (limits_of p us) ≡ Some r
         → IsAdmitted (limits_of p us) (test_of r) (runs r) → newcomer_as p r o ≡ Some new → Newcomes p us new
-    by_test r None planned it e = cc
-    by_test (Skipped j) (Some test) planned it e = skipped j test test.skip refl planned it e
-    by_test (Run j global slot) (Some test) planned it e = record {
+    by_test r None planned is it e = cc
+    by_test (Skipped j) (Some test) planned is it e = skipped j test test.skip refl planned it e
+    by_test (Run j global slot) (Some test) planned is it e = record {
       place = j;
       test = test;
       absent = absent j it.within it.waits;
       planned = planned;
       is = inr (
         none_there test.skip (ap (λ (c : Claim). c.matched) (claimed j it.claim test planned it.claimed) ∙ it.matched),
-        (slots_of test global slot, cc),
+        (global, (slot, is, cc)),
       );
     }
 
@@ -103,7 +104,7 @@ newcomer_is p us new e = by_scripts (scripts_over p us) e
         → option_and_then (λ a. newcomer_as p a (slice_get p.plan.tests (test_of a))) o ≡ Some new → Newcomes p us new
     by_admitted None is e = cc
     by_admitted (Some r) is e =
-        by_test r (slice_get p.plan.tests (test_of r)) refl (admitted_is (limits_of p us) r is) e
+        by_test r (slice_get p.plan.tests (test_of r)) refl is (admitted_is (limits_of p us) r is) e
 
     by_scripts : (b : Bool) → (if b then option_and_then
         (λ a. newcomer_as p a (slice_get p.plan.tests (test_of a))) (admitted (limits_of p us)) else None) ≡ Some new
@@ -149,7 +150,8 @@ new_unit p run new e = by_case found.is
     by_case : ((reason : List ℕ) × (found.test.skip ≡ Some reason)
         × (new ≡ skipped_newcomer (skipped_view p k found.test) reason))
         ⊎ ((found.test.skip ≡ None)
-        × ((slots : TestSlotAssignment) × (new ≡ started_newcomer (first_view p k slots found.test))))
+        × ((global : ℕ) × ((slot : Option ℕ) × (admitted (limits_of p (units p run)) ≡ Some (Run found.place global slot))
+        × (new ≡ started_newcomer (first_view p k (slots_of found.test global slot) found.test)))))
         → IsNew p run new.unit new.sent
     by_case (inl (reason, skip, is)) =
         let mm : is_mismatched p (place_of p k) ≡ true = mismatched ∙ ap is_some skip in
@@ -162,7 +164,7 @@ new_unit p run new e = by_case found.is
           attempt = refl;
           statuses = refl;
         })
-    by_case (inr (skip, (slots, is))) =
+    by_case (inr (skip, (global, (slot, runs, is)))) =
         let mm : is_mismatched p (place_of p k) ≡ false = mismatched ∙ ap is_some skip in
         subst (λ (n : Newcomer). IsNew p run n.unit n.sent) (sym is) (record {
           below = below;
