@@ -110,3 +110,46 @@ kept_below a ss h kept = (
         (held_below (slot_in g) (slot_in_below g) a.claims ss a.seats h k n f);
   },
 )
+
+-- tests that are gone take nothing
+gone_takes : (f : Test → ℕ) → ((c : Claim) → f (c, Gone) ≡ 0) → (cs : List Claim) (ks : List ℕ)
+    → sum_by f (zip cs (map (λ k. Gone) ks)) ≡ 0
+gone_takes f none [] ks = refl
+gone_takes f none (c ∷ cs) [] = refl
+gone_takes f none (c ∷ cs) (k ∷ ks) =
+    omega (
+      arith,
+      none c,
+      gone_takes f none cs ks,
+      sum_by-cons f (c, Gone) (zip cs (map (λ k. Gone) ks)),
+    )
+
+-- and hold nothing
+gone_holds : (slot : Test → Option ℕ) → ((c : Claim) → slot (c, Gone) ≡ None) → (cs : List Claim) (ks : List ℕ)
+    → (k n : ℕ) → option_and_then slot (slice_get (zip cs (map (λ k. Gone) ks)) k) ≡ Some n → ⊥
+gone_holds slot none [] ks k n e = cc
+gone_holds slot none (c ∷ cs) [] k n e = cc
+gone_holds slot none (c ∷ cs) (i ∷ ks) zero n e = let is : slot (c, Gone) ≡ None = none c in cc
+gone_holds slot none (c ∷ cs) (i ∷ ks) (suc k) n e = gone_holds slot none cs ks k n e
+
+-- tests that are gone keep the limits
+pub kept_gone : (a : Admissions) (ks : List ℕ) → AreKept (record a { seats = map (λ k. Gone) ks })
+kept_gone a ks = (
+  record {
+    all = omega (arith, gone_takes (taken a.threads) (λ c. refl) a.claims ks);
+    groups = λ g h.
+        omega (arith, gone_takes (taken_in g (slice_index a.limits g)) (λ c. none_of (is_of g c)) a.claims ks);
+  },
+  record {
+    all = λ j k n e f. absurd (gone_holds slot_of (λ c. refl) a.claims ks j n e);
+    groups = λ g j k n h e f. absurd (gone_holds (slot_in g) (λ c. nowhere (is_of g c)) a.claims ks j n e);
+  },
+)
+  where
+    none_of : (b : Bool) → ◌≡◌ {A = ℕ} (if b then 0 else 0) 0
+    none_of true = refl
+    none_of false = refl
+
+    nowhere : (b : Bool) → ◌≡◌ {A = Option ℕ} (if b then None else None) None
+    nowhere true = refl
+    nowhere false = refl

@@ -75,7 +75,7 @@ row_others : (now : ℕ) (ph : Phase) (turn : UnitTurn) (u : UnitView) (seat : �
 row_others now ph turn u seat k apart = grind (arith, common_steps)
 
 -- a unit's own turn leaves the board's seats, or ends the use of its own
-acts_lower : (now j : ℕ) (turn : UnitTurn) (run : List Happening)
+pub acts_lower : (now j : ℕ) (turn : UnitTurn) (run : List Happening)
     → AreLower (seat_after now (Some (Acts j turn)) run) (board_seat run)
 acts_lower now j turn run k = by_unit (j == k) (unit_of k run)
   where

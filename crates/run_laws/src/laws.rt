@@ -1,6 +1,7 @@
 // Theorems over every legal journal.
 ghost use Rattle.run_laws.specs.Laws.{AccountsHold, AttemptsAreOwnTurns, BoardsStep, EventsExtend};
 ghost use Rattle.run_laws.specs.Laws.{EachHasFate, OverHasEnded};
+ghost use Rattle.run_laws.specs.Limits.{LimitsHold};
 ghost use Rattle.run_laws.specs.Course.{CoursesExclude, NoneRefused};
 ghost use Rattle.run_laws.specs.Ready.{EnabledCan};
 
@@ -33,6 +34,12 @@ pub fn enabled_turns_can_be_taken()
 pub fn each_test_has_its_fate()
     ensures fates { EachHasFate }
     ensures over { OverHasEnded }
+{}
+
+/// After each event that is told in a sub-run, the tests told started and not told finished keep every limit in the
+/// slots that their starts were told with, and no two of them hold one slot, nor one group's slot.
+pub fn limits_hold()
+    ensures { LimitsHold }
 {}
 
 /// The events of a legal journal are the first events of every legal journal that extends it.
