@@ -1,13 +1,11 @@
 -- A test that is admitted to run fits: the limits are kept with it, and its slots are its own.
-use Rattle.std.proofs.Common.{◌≡◌, ◌≢◌, ℕ, zero, suc, [], ◌∷◌, ◌+◌, ◌<◌, ◌≤◌, ◌==◌, ◌||◌, List, length, get_or, set, map, min, Bool, true}
+use Rattle.std.proofs.Common.{◌≡◌, ℕ, ◌+◌, ◌<◌, ◌≤◌, ◌||◌, List, length, get_or, set, min, Bool, true}
 use Rattle.std.proofs.Common.{false, not, if◌then◌else◌, Option, Some, None, option_map, option_and_then, slice_get}
-use Rattle.std.proofs.Common.{slice_index, position, sum_by, refl, ap, sym, subst, ◌∙◌, arith, eq-eqb, get_or-set_other}
+use Rattle.std.proofs.Common.{slice_index, position, sum_by, refl, ap, sym, subst, ◌∙◌, arith}
 use Rattle.std.specs.Option.{option_map_or}
 use Rattle.std.specs.List.{list_any, zip}
 use Rattle.std.specs.Cmp.{first_so, second_so}
-use Rattle.std.proofs.lemmas.Grind.{get_or-set_at}
 use Rattle.std.proofs.lemmas.Option.{same_Some, slice_get_within, get_or_from_slice_get}
-use Rattle.std.proofs.lemmas.List.{map-set, length-map}
 use Rattle.std.proofs.lemmas.List.Sums.{sum_by-set}
 use Rattle.std.proofs.lemmas.List.Quantifiers.{position-Some}
 use Rattle.std.proofs.lemmas.Slice.Zip.{length-zip, get_or-zip}
@@ -17,13 +15,15 @@ use Rattle.run_admission.specs.declared.seat.Seat.TheVariants.{Waiting, InUse, G
 use Rattle.run_admission.specs.declared.seat.Admitted.TheVariants.{Run}
 use Rattle.run_admission.specs.InUse.{Admissions, Test, tests, is_waiting, is_of, taken, taken_in, fits_beside}
 use Rattle.run_admission.specs.InUse.{fits_its_group, may_come, fits_all, candidate_at, slot_of, slot_in, holds}
-use Rattle.run_admission.specs.InUse.{least_free, free_slot, free_group_slot, admitted_as, admitted, group_weight_in_use}
+use Rattle.run_admission.specs.InUse.{least_free, free_slot, free_group_slot, admitted_as}
+use Rattle.run_admission.specs.InUse.{admitted, group_weight_in_use}
 use Rattle.run_admission.specs.InUse.{seat_group_slot}
 use Rattle.run_admission.specs.Kept.{nobody}
 use Rattle.run_admission.proofs.ListLemmas.{zip_set}
 use Rattle.run_admission.proofs.TestLemmas.{held_is}
 use Rattle.run_admission.proofs.FewerLemmas.{AreKept}
 use Rattle.run_admission.proofs.FreeLemmas.{least_free_is}
+use Rattle.run_admission.proofs.OwnLemmas.{own_after}
 
 -- a test that is admitted to run: it waited, it fits within the limits, and it gets the least free slots
 pub record IsRun (a : Admissions) (k global : ℕ) (group : Option ℕ) : Type 0 where
@@ -94,73 +94,6 @@ run_is a k global group e = by_place (position (may_come a) (tests a)) refl e
         → IsRun a k global group
     by_place None place e = cc
     by_place (Some j) place e = by_claim j (slice_get a.claims j) refl place e
-
--- what a test holds, by the list of what each holds
-held_at : (slot : Test → Option ℕ) (ts : List Test) (i : ℕ)
-    → option_and_then slot (slice_get ts i) ≡ get_or (map slot ts) i None
-held_at slot [] i = refl
-held_at slot (t ∷ ts) zero = refl
-held_at slot (t ∷ ts) (suc i) = held_at slot ts i
-
--- no two items of a list hold one number
-abbrev AreOwn : List (Option ℕ) → Type 0
-AreOwn ss = (i j n : ℕ) → get_or ss i None ≡ Some n → get_or ss j None ≡ Some n → i ≡ j
-
--- nor after one came to hold a number that none held
-own_set : (ss : List (Option ℕ)) (k : ℕ) (o : Option ℕ) → k < length ss → AreOwn ss
-    → ((n i : ℕ) → o ≡ Some n → get_or ss i None ≡ Some n → ⊥) → AreOwn (set ss k o)
-own_set ss k o inside own free i j n e f = by_places (i == k) (j == k) refl refl
-  where
-    here : (i : ℕ) → i ≡ k → get_or (set ss k o) i None ≡ Some n → o ≡ Some n
-    here i is e = sym (get_or-set_at ss k i o None is inside) ∙ e
-
-    there : (i : ℕ) → i ≢ k → get_or (set ss k o) i None ≡ Some n → get_or ss i None ≡ Some n
-    there i apart e = sym (get_or-set_other ss k i o None apart) ∙ e
-
-    by_places : (b c : Bool) → (i == k) ≡ b → (j == k) ≡ c → i ≡ j
-    by_places true true ib jb = grind arith
-    by_places true false ib jb =
-        let is : i ≡ k = grind arith in
-        let apart : j ≢ k = grind arith in
-        absurd (free n j (here i is e) (there j apart f))
-    by_places false true ib jb =
-        let apart : i ≢ k = grind arith in
-        let is : j ≡ k = grind arith in
-        absurd (free n i (here j is f) (there i apart e))
-    by_places false false ib jb =
-        let first : i ≢ k = grind arith in
-        let second : j ≢ k = grind arith in
-        own i j n (there i first e) (there j second f)
-
--- a number that no test holds stands at no place
-none_holds : (slot : Test → Option ℕ) (ts : List Test) (n i : ℕ) → list_any (holds slot n) ts ≡ false
-    → get_or (map slot ts) i None ≡ Some n → ⊥
-none_holds slot [] n i free e = cc
-none_holds slot (t ∷ ts) n zero free e =
-    let held : holds slot n t ≡ true = ap (λ o. option_map_or (λ m. m == n) o false) e ∙ eq-eqb n n refl in
-    let bad : true ≡ false = sym (ap (λ b. b || list_any (holds slot n) ts) held) ∙ free in cc
-none_holds slot (t ∷ ts) n (suc i) free e = none_holds slot ts n i (rest (holds slot n t) free) e
-  where
-    rest : (b : Bool) → (b || list_any (holds slot n) ts) ≡ false → list_any (holds slot n) ts ≡ false
-    rest true e = cc
-    rest false e = e
-
--- the slots of tests are their own after one came to hold a slot that none held
-own_after : (slot : Test → Option ℕ) (ts : List Test) (k : ℕ) (t : Test) → k < length ts
-    → ((n : ℕ) → slot t ≡ Some n → list_any (holds slot n) ts ≡ false)
-    → ((i j n : ℕ) → option_and_then slot (slice_get ts i) ≡ Some n → option_and_then slot (slice_get ts j) ≡ Some n
-    → i ≡ j)
-    → (i j n : ℕ) → option_and_then slot (slice_get (set ts k t) i) ≡ Some n
-    → option_and_then slot (slice_get (set ts k t) j) ≡ Some n → i ≡ j
-own_after slot ts k t inside free own i j n e f =
-    own_set (map slot ts) k (slot t) (omega (arith, length-map ts slot))
-    (λ i j n e f. own i j n (held_at slot ts i ∙ e) (held_at slot ts j ∙ f))
-    (λ n i e f. none_holds slot ts n i (free n e) f)
-    i j n (moved i e) (moved j f)
-  where
-    moved : (i : ℕ) → option_and_then slot (slice_get (set ts k t) i) ≡ Some n
-        → get_or (set (map slot ts) k (slot t)) i None ≡ Some n
-    moved i e = ap (λ ss. get_or ss i None) (sym (map-set slot ts k t)) ∙ sym (held_at slot (set ts k t) i) ∙ e
 
 -- what tests take together after one moved is what they took, and no more than what that one takes
 sum_after : (f : Test → ℕ) (ts : List Test) (k : ℕ) (t : Test) → k < length ts
@@ -243,7 +176,8 @@ kept_admitted a k global group e kept = by_run (run_is a k global group e)
             → sum_by (taken_in g (slice_index a.limits g)) (set (tests a) k now) ≤ slice_index a.limits g
         in_group g below true is =
             let limit : ℕ = slice_index a.limits g in
-            let takes : taken_in g limit now ≡ min r.claim.weight limit = ap (λ b. if b then taken limit now else 0) is in
+            let takes : taken_in g limit now ≡ min r.claim.weight limit =
+            ap (λ b. if b then taken limit now else 0) is in
             let fits : fits_beside (group_weight_in_use a g) limit r.claim.weight ≡ true =
             ap (λ o. option_map_or
             (λ g. fits_beside (group_weight_in_use a g) (slice_index a.limits g) r.claim.weight) o true)

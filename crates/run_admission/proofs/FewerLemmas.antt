@@ -38,7 +38,8 @@ taken_below limit c Gone t h = omega arith
 taken_below limit c (InUse n m) t h =
     let same : taken limit (c, InUse n m) ≡ taken limit (c, t) = ap (λ s. taken limit (c, s)) (h refl) in omega arith
 
-taken_in_below : (g limit : ℕ) (c : Claim) (s t : Seat) → IsBelow s t → taken_in g limit (c, s) ≤ taken_in g limit (c, t)
+taken_in_below : (g limit : ℕ) (c : Claim) (s t : Seat) → IsBelow s t
+    → taken_in g limit (c, s) ≤ taken_in g limit (c, t)
 taken_in_below g limit c s t h = by_group (is_of g c)
   where
     by_group : (b : Bool) → (if b then taken limit (c, s) else 0) ≤ (if b then taken limit (c, t) else 0)
@@ -100,7 +101,11 @@ kept_below a ss h kept = (
     all = omega (arith, kept.0.all, sum_below (taken a.threads) (taken_below a.threads) a.claims ss a.seats h);
     groups = λ g within.
         let limit : ℕ = slice_index a.limits g in
-        omega (arith, kept.0.groups g within, sum_below (taken_in g limit) (taken_in_below g limit) a.claims ss a.seats h);
+        omega (
+          arith,
+          kept.0.groups g within,
+          sum_below (taken_in g limit) (taken_in_below g limit) a.claims ss a.seats h,
+        );
   },
   record {
     all = λ j k n e f. kept.1.all j k n (held_below slot_of slot_below a.claims ss a.seats h j n e)

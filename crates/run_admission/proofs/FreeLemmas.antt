@@ -1,6 +1,7 @@
 -- No test holds the least free slot, where one of the tests holds none.
 use Rattle.std.proofs.Common.{◌≡◌, ℕ, zero, suc, ◌+◌, ◌<◌, ◌≤◌, ◌==◌, ◌||◌, List, [], ◌∷◌, length, get_or, Bool, true}
-use Rattle.std.proofs.Common.{false, not, cond, Option, Some, None, is_some, nat_lt, count_by, refl, ap, sym, ◌∙◌, arith}
+use Rattle.std.proofs.Common.{false, not, cond, Option, Some, None, is_some, nat_lt, count_by}
+use Rattle.std.proofs.Common.{refl, ap, sym, ◌∙◌, arith}
 use Rattle.std.proofs.Common.{zero-add}
 use Rattle.std.specs.Option.{option_map_or}
 use Rattle.std.specs.List.{range_with_len, list_any}
@@ -85,8 +86,8 @@ held_within slot (t ∷ ts) n =
     )
 
 -- where one test holds no slot, not all do
-some_without : (slot : Test → Option ℕ) (ts : List Test) (k : ℕ) (d : Test) → k < length ts → slot (get_or ts k d) ≡ None
-    → count_by (λ t. is_some (slot t)) ts < length ts
+some_without : (slot : Test → Option ℕ) (ts : List Test) (k : ℕ) (d : Test) → k < length ts
+    → slot (get_or ts k d) ≡ None → count_by (λ t. is_some (slot t)) ts < length ts
 some_without slot [] k d inside none = absurd (omega arith)
 some_without slot (t ∷ ts) zero d inside none =
     let first : cond {A = ℕ} (is_some (slot t)) 1 0 ≡ 0 = ap (λ o. cond (is_some o) 1 0) none in
@@ -134,14 +135,16 @@ least_free_is slot ts k d inside none = by_end (nat_lt first (length ts)) refl
         let below : n < length ts = omega arith in
         not_free (list_any (holds slot n) ts)
         (ap (λ n. not (list_any (holds slot n) ts)) (sym (at n below))
-        ∙ fails_before_first (λ n. not (list_any (holds slot n) ts)) (range_with_len 0 (length ts)) n 0 (omega (arith, past)))
+        ∙ fails_before_first (λ n. not (list_any (holds slot n) ts)) (range_with_len 0 (length ts)) n 0
+        (omega (arith, past)))
 
     by_end : (b : Bool) → nat_lt first (length ts) ≡ b → list_any (holds slot first) ts ≡ false
     by_end true e =
         let below : first < length ts = grind (arith, e) in
         is_it (list_any (holds slot first) ts)
         (ap (λ n. not (list_any (holds slot n) ts)) (sym (at first below))
-        ∙ passes_at_first (λ n. not (list_any (holds slot n) ts)) (range_with_len 0 (length ts)) 0 (omega (arith, below, many)))
+        ∙ passes_at_first (λ n. not (list_any (holds slot n) ts)) (range_with_len 0 (length ts)) 0
+        (omega (arith, below, many)))
     by_end false e =
         let past : length ts ≤ first = grind (arith, e) in
         let all : count_by (λ n. list_any (holds slot n) ts) (range_with_len 0 (length ts)) ≡ length ts =

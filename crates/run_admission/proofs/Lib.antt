@@ -9,4 +9,5 @@ mod BegunLemmas
 mod LawLemmas
 pub mod FewerLemmas
 mod FreeLemmas
+mod OwnLemmas
 pub mod AdmittedLemmas

@@ -20,4 +20,6 @@ pub mod Admitted
 pub mod OpenSeats
 pub mod ToldSeats
 pub mod BoardSeats
+pub mod JoinSeats
+pub mod SeatMoves
 pub mod Limits

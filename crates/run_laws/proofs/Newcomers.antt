@@ -1,12 +1,13 @@
 -- Who is admitted, and as what.
-use Rattle.std.proofs.Common.{◌≡◌, ◌⊎◌, inl, inr, ℕ, ◌+◌, ◌-◌, ◌<◌, List, [], drop, length, get_or, map, Bool, true, false}
-use Rattle.std.proofs.Common.{if◌then◌else◌, Option, Some, None, option_and_then, option_map, is_none, is_some, slice_get}
+use Rattle.std.proofs.Common.{◌≡◌, ◌⊎◌, inl, inr, ℕ, ◌+◌, ◌-◌, ◌<◌, List, [], drop}
+use Rattle.std.proofs.Common.{length, get_or, map, Bool, true, false}
+use Rattle.std.proofs.Common.{if◌then◌else◌, Option, Some, None, option_and_then, option_map}
+use Rattle.std.proofs.Common.{is_none, is_some, slice_get}
 use Rattle.std.proofs.Common.{refl, ap, sym, subst, ◌∙◌, arith}
 use Rattle.std.proofs.lemmas.List.{get_or-drop, get_or-map, length-map}
 use Rattle.std.proofs.lemmas.Option.{slice_get_within, slice_get-map, same_Some}
 use Rattle.run_events.specs.declared.settings.Settings.{Settings}
 use Rattle.run_events.specs.declared.plan.PlanTest.{PlanTest}
-use Rattle.run_events.specs.declared.plan.TestSlotAssignment.{TestSlotAssignment}
 use Rattle.run_events.specs.declared.message.Message.{Message}
 use Rattle.run_admission.specs.declared.seat.Claim.{Claim}
 use Rattle.run_admission.specs.declared.seat.Seat.TheVariants.{InUse, Gone}
@@ -25,17 +26,22 @@ use Rattle.run_laws.proofs.AccountLemmas.{IsFirst}
 use Rattle.run_laws.proofs.Admitted.{IsAdmitted, runs, admitted_is}
 use Rattle.run_laws.proofs.OnBoard.{units-at}
 
+-- what becomes of a test that is admitted: it is skipped, or it starts in the slots that it gets
+abbrev pub Becomes : Settings → List (Option UnitView) → ℕ → PlanTest → Newcomer → Type 0
+Becomes p us place test new =
+    ((reason : List ℕ) × (test.skip ≡ Some reason)
+    × (new ≡ skipped_newcomer (skipped_view p (unit_of_test p place) test) reason))
+    ⊎ ((test.skip ≡ None)
+    × ((global : ℕ) × ((slot : Option ℕ) × (admitted (limits_of p us) ≡ Some (Run place global slot))
+    × (new ≡ started_newcomer (first_view p (unit_of_test p place) (slots_of test global slot) test)))))
+
 -- who is admitted: a test of the plan that wasn't yet
 pub record Newcomes (p : Settings) (us : List (Option UnitView)) (new : Newcomer) : Type 0 where
   pub place : ℕ
   pub test : PlanTest
   pub absent : get_or (drop (scripts_in p) us) place None ≡ None
   pub planned : slice_get p.plan.tests place ≡ Some test
-  pub is : ((reason : List ℕ) × (test.skip ≡ Some reason)
-      × (new ≡ skipped_newcomer (skipped_view p (unit_of_test p place) test) reason))
-      ⊎ ((test.skip ≡ None)
-      × ((global : ℕ) × ((slot : Option ℕ) × (admitted (limits_of p us) ≡ Some (Run place global slot))
-      × (new ≡ started_newcomer (first_view p (unit_of_test p place) (slots_of test global slot) test)))))
+  pub is : Becomes p us place test new
 
 -- a test that waits isn't a unit yet
 absent_where : (v : Option UnitView) → is_waiting (seat_of v) ≡ true → v ≡ None
@@ -147,12 +153,7 @@ new_unit p run new e = by_case found.is
     mismatched : is_mismatched p (place_of p k) ≡ is_some found.test.skip
     mismatched = ap (is_mismatched p) (place-of_test p found.place) ∙ ap is_skip found.planned
 
-    by_case : ((reason : List ℕ) × (found.test.skip ≡ Some reason)
-        × (new ≡ skipped_newcomer (skipped_view p k found.test) reason))
-        ⊎ ((found.test.skip ≡ None)
-        × ((global : ℕ) × ((slot : Option ℕ) × (admitted (limits_of p (units p run)) ≡ Some (Run found.place global slot))
-        × (new ≡ started_newcomer (first_view p k (slots_of found.test global slot) found.test)))))
-        → IsNew p run new.unit new.sent
+    by_case : Becomes p (units p run) found.place found.test new → IsNew p run new.unit new.sent
     by_case (inl (reason, skip, is)) =
         let mm : is_mismatched p (place_of p k) ≡ true = mismatched ∙ ap is_some skip in
         subst (λ (n : Newcomer). IsNew p run n.unit n.sent) (sym is) (record {

@@ -1,6 +1,6 @@
 -- The seats of the tests at each moment while the messages that wait are told.
 use Rattle.std.proofs.Common.{◌≡◌, ℕ, zero, suc, ◌==◌, List, [], ◌∷◌, ◌++◌, take, drop, Bool, true, false}
-use Rattle.std.proofs.Common.{if◌then◌else◌, Some, refl, ap, sym, subst}
+use Rattle.std.proofs.Common.{if◌then◌else◌, Some, refl}
 use Rattle.run_events.specs.declared.message.Message.{Message}
 use Rattle.run_events.specs.declared.message.Message.TheVariants.{Start, Finish}
 use Rattle.run_admission.specs.declared.seat.Seat.{Seat}
@@ -66,7 +66,8 @@ pub along-lower : (P : (ℕ → Seat) → Type 0) → IsOfFewer P → (ms : List
     → AreLower seat other → Along P other ms → Along P seat ms
 along-lower P fewer [] seat other h along = fewer seat other h along
 along-lower P fewer (m ∷ ms) seat other h along =
-    (fewer seat other h along.0, along-lower P fewer ms (opened m seat) (opened m other) (opened-lower m seat other h) along.1)
+    let next : AreLower (opened m seat) (opened m other) = opened-lower m seat other h in
+    (fewer seat other h along.0, along-lower P fewer ms (opened m seat) (opened m other) next along.1)
 
 -- one message more
 pub along-append : (P : (ℕ → Seat) → Type 0) (ms : List Message) (seat : ℕ → Seat) (m : Message) → Along P seat ms

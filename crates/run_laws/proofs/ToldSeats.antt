@@ -103,7 +103,8 @@ seat_told-finished k now es finish tally = by_unit (finish.test.unit == k) refl
         let stopped : is_running (es ++ event now (finished_event finish tally) ∷ []) k ≡ false =
         ap (λ b. list_any (starts k) (es ++ event now (finished_event finish tally) ∷ []) && not b) ends
         ∙ and_false (list_any (starts k) (es ++ event now (finished_event finish tally) ∷ [])) in
-        ap (λ b. if b then seat_in (slots_told k (es ++ event now (finished_event finish tally) ∷ [])) else Gone) stopped
+        ap (λ b. if b then seat_in (slots_told k (es ++ event now (finished_event finish tally) ∷ [])) else Gone)
+        stopped
       where
         or_true : (b : Bool) → (b || true) ≡ true
         or_true true = refl

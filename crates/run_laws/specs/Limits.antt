@@ -53,8 +53,8 @@ limits_with p seat = record {
 abbrev pub limits_told : Settings → List ReporterEvent → Admissions
 limits_told p events = limits_with p (seat_told events)
 
--- after each event that is told in a sub-run of a legal journal, the tests told started and not told finished keep every
--- limit, in the slots told, and each of these slots is of one of them
+-- after each event that is told in the newest sub-run of a legal journal, the tests told started and not told finished
+-- keep every limit, and in the slots that their starts were told with no two of them hold the same one
 abbrev pub LimitsHold : Type 0
 LimitsHold = (p : Settings) (journal : List Entry) (n : ℕ) → IsLegal p journal
     → KeepsLimits (limits_told p (take n (told (sub_run (past_of p journal)))))

@@ -36,8 +36,9 @@ pub fn each_test_has_its_fate()
     ensures over { OverHasEnded }
 {}
 
-/// After each event that is told in a sub-run, the tests told started and not told finished keep every limit in the
-/// slots that their starts were told with, and no two of them hold one slot, nor one group's slot.
+/// After each event that is told in the newest sub-run of a legal journal, the tests told started and not told finished
+/// keep the limit on all tests and that of each group, and no two of them hold the same slot among all tests or within
+/// a group, by the slots that their starts were told with.
 pub fn limits_hold()
     ensures { LimitsHold }
 {}
