@@ -53,6 +53,7 @@ came a k claim place at =
       second_so (is_waiting (get_or a.seats k Gone)) _ comes,
     )
 
+-- a test that is admitted to run is one that fits
 pub run_is : (a : Admissions) (k global : ℕ) (group : Option ℕ) → admitted a ≡ Some (Run k global group)
     → IsRun a k global group
 run_is a k global group e = by_place (position (may_come a) (tests a)) refl e
@@ -95,11 +96,12 @@ run_is a k global group e = by_place (position (may_come a) (tests a)) refl e
     by_place None place e = cc
     by_place (Some j) place e = by_claim j (slice_get a.claims j) refl place e
 
--- what tests take together after one moved is what they took, and no more than what that one takes
+-- tests take no more together, after one moved, than they took and what that one takes now
 sum_after : (f : Test → ℕ) (ts : List Test) (k : ℕ) (t : Test) → k < length ts
     → sum_by f (set ts k t) ≤ sum_by f ts + f t
 sum_after f ts k t inside = omega (arith, sum_by-set f ts k t nobody inside)
 
+-- what fits beside the weight in use is within the limit with it
 fits_is : (used limit weight : ℕ) → fits_beside used limit weight ≡ true → used + min weight limit ≤ limit
 fits_is used limit weight e = grind (arith, e)
 
@@ -109,6 +111,7 @@ waiting_slot c Waiting e = refl
 waiting_slot c (InUse n m) e = cc
 waiting_slot c Gone e = cc
 
+-- a test that waits holds no slot within a group
 waiting_slot_in : (g : ℕ) (c : Claim) (s : Seat) → is_waiting s ≡ true → slot_in g (c, s) ≡ None
 waiting_slot_in g c s e = by_group (is_of g c)
   where
@@ -121,7 +124,7 @@ waiting_slot_in g c s e = by_group (is_of g c)
     by_group true = by_seat s e
     by_group false = refl
 
--- an admission keeps the limits, and gives slots of their own
+-- the tests in use keep the limits and hold slots of their own, with the test that is admitted to run
 pub kept_admitted : (a : Admissions) (k global : ℕ) (group : Option ℕ) → admitted a ≡ Some (Run k global group)
     → AreKept a → AreKept (record a { seats = set a.seats k (InUse global group) })
 kept_admitted a k global group e kept = by_run (run_is a k global group e)

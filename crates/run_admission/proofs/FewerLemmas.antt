@@ -20,24 +20,25 @@ AreKept a = KeepsLimits a × HasOwnSlots a
 abbrev pub IsBelow : Seat → Seat → Type 0
 IsBelow s t = is_in_use s ≡ true → s ≡ t
 
--- the same of each of two lists of seats
+-- two lists of seats, as long, of which each seat of the first is below that of the second
 abbrev pub AreBelow : List Seat → List Seat → Type 0
 AreBelow [] [] = ⊤
 AreBelow (s ∷ ss) (t ∷ ts) = IsBelow s t × AreBelow ss ts
 AreBelow _ _ = ⊥
 
--- the same of the seats of numbers, listed
+-- the seats of some numbers, listed, are below those of the same numbers by a higher function
 pub below-map : (f g : ℕ → Seat) (ks : List ℕ) → ((k : ℕ) → IsBelow (f k) (g k)) → AreBelow (map f ks) (map g ks)
 below-map f g [] h = tt
 below-map f g (k ∷ ks) h = (h k, below-map f g ks h)
 
--- what a lower seat takes of a limit is no more
+-- a lower seat takes no more of a limit
 taken_below : (limit : ℕ) (c : Claim) (s t : Seat) → IsBelow s t → taken limit (c, s) ≤ taken limit (c, t)
 taken_below limit c Waiting t h = omega arith
 taken_below limit c Gone t h = omega arith
 taken_below limit c (InUse n m) t h =
     let same : taken limit (c, InUse n m) ≡ taken limit (c, t) = ap (λ s. taken limit (c, s)) (h refl) in omega arith
 
+-- a lower seat takes no more of the limit of a group
 taken_in_below : (g limit : ℕ) (c : Claim) (s t : Seat) → IsBelow s t
     → taken_in g limit (c, s) ≤ taken_in g limit (c, t)
 taken_in_below g limit c s t h = by_group (is_of g c)
@@ -46,7 +47,7 @@ taken_in_below g limit c s t h = by_group (is_of g c)
     by_group true = taken_below limit c s t h
     by_group false = omega arith
 
--- so lower seats take no more together
+-- lower seats take no more together
 sum_below : (f : Test → ℕ) → ((c : Claim) (s t : Seat) → IsBelow s t → f (c, s) ≤ f (c, t)) → (cs : List Claim)
     (ss ts : List Seat) → AreBelow ss ts → sum_by f (zip cs ss) ≤ sum_by f (zip cs ts)
 sum_below f le [] ss ts h = omega arith
@@ -62,12 +63,13 @@ sum_below f le (c ∷ cs) (s ∷ ss) (t ∷ ts) h =
       sum_by-cons f (c, t) (zip cs ts),
     )
 
--- a slot that a lower seat holds, the other holds
+-- a slot that a lower seat holds, the higher one holds
 slot_below : (c : Claim) (s t : Seat) (n : ℕ) → IsBelow s t → slot_of (c, s) ≡ Some n → slot_of (c, t) ≡ Some n
 slot_below c Waiting t n h e = cc
 slot_below c Gone t n h e = cc
 slot_below c (InUse i m) t n h e = ap seat_slot (sym (h refl)) ∙ e
 
+-- a slot within a group that a lower seat holds, the higher one holds
 slot_in_below : (g : ℕ) (c : Claim) (s t : Seat) (n : ℕ) → IsBelow s t → slot_in g (c, s) ≡ Some n
     → slot_in g (c, t) ≡ Some n
 slot_in_below g c s t n h e = by_group (is_of g c) e
@@ -82,7 +84,7 @@ slot_in_below g c s t n h e = by_group (is_of g c) e
     by_group true e = by_seat s h e
     by_group false e = e
 
--- and so at each place
+-- a slot that the test at a place holds by lower seats, it holds by the higher ones
 held_below : (slot : Test → Option ℕ)
     → ((c : Claim) (s t : Seat) (n : ℕ) → IsBelow s t → slot (c, s) ≡ Some n → slot (c, t) ≡ Some n)
     → (cs : List Claim) (ss ts : List Seat) → AreBelow ss ts → (k n : ℕ)
@@ -94,7 +96,7 @@ held_below slot holds (c ∷ cs) (s ∷ ss) [] h k n e = absurd h
 held_below slot holds (c ∷ cs) (s ∷ ss) (t ∷ ts) h zero n e = holds c s t n h.0 e
 held_below slot holds (c ∷ cs) (s ∷ ss) (t ∷ ts) h (suc k) n e = held_below slot holds cs ss ts h.1 k n e
 
--- lower seats keep the limits and hold slots of their own
+-- lower seats keep the limits and hold slots of their own, where the higher ones do
 pub kept_below : (a : Admissions) (ss : List Seat) → AreBelow ss a.seats → AreKept a → AreKept (record a { seats = ss })
 kept_below a ss h kept = (
   record {
@@ -129,7 +131,7 @@ gone_takes f none (c ∷ cs) (k ∷ ks) =
       sum_by-cons f (c, Gone) (zip cs (map (λ k. Gone) ks)),
     )
 
--- and hold nothing
+-- tests that are gone hold nothing
 gone_holds : (slot : Test → Option ℕ) → ((c : Claim) → slot (c, Gone) ≡ None) → (cs : List Claim) (ks : List ℕ)
     → (k n : ℕ) → option_and_then slot (slice_get (zip cs (map (λ k. Gone) ks)) k) ≡ Some n → ⊥
 gone_holds slot none [] ks k n e = cc

@@ -9,12 +9,12 @@ use Rattle.std.proofs.lemmas.List.FromFn.{get_or-range_with_len, length-range_wi
 use Rattle.std.proofs.lemmas.List.Sums.{sum_by-cons, count_by-le-length, passes_at_first, fails_before_first}
 use Rattle.run_admission.specs.InUse.{Test, holds, least_free}
 
--- the first of a range, and the rest
+-- how many of a range pass: the first, and those of the rest
 count-cons : (f : ℕ → Bool) (a n : ℕ)
     → count_by f (range_with_len a (suc n)) ≡ cond (f a) 1 0 + count_by f (range_with_len (a + 1) n)
 count-cons f a n = sum_by-cons (λ x. cond (f x) 1 0) a (range_with_len (a + 1) n)
 
--- each number of a range passes
+-- where each number of a range passes, as many pass as it has
 count-all : (f : ℕ → Bool) (n a : ℕ) → ((k : ℕ) → a ≤ k → k < a + n → f k ≡ true) → count_by f (range_with_len a n) ≡ n
 count-all f zero a all = refl
 count-all f (suc n) a all =
@@ -23,12 +23,12 @@ count-all f (suc n) a all =
     let first : cond {A = ℕ} (f a) 1 0 ≡ 1 = ap (λ b. cond b 1 0) (all a (omega arith) (omega arith)) in
     omega (arith, count-cons f a n)
 
--- none passes
+-- of a test that none passes, none of a range passes it
 count-none : (n a : ℕ) → count_by (λ k. false) (range_with_len a n) ≡ 0
 count-none zero a = refl
 count-none (suc n) a = omega (arith, count-cons (λ k. false) a n, count-none n (a + 1))
 
--- a number stands in a range once at most
+-- a number stands nowhere in a range that begins after it
 count-past : (j n a : ℕ) → j < a → count_by (λ k. j == k) (range_with_len a n) ≡ 0
 count-past j zero a h = refl
 count-past j (suc n) a h =
@@ -36,6 +36,7 @@ count-past j (suc n) a h =
     let first : cond {A = ℕ} (j == a) 1 0 ≡ 0 = ap (λ b. cond b 1 0) apart in
     omega (arith, count-cons (λ k. j == k) a n, count-past j n (a + 1) (omega arith))
 
+-- a number stands in a range once at most
 count-one : (j n a : ℕ) → count_by (λ k. j == k) (range_with_len a n) ≤ 1
 count-one j zero a = omega arith
 count-one j (suc n) a = by_first (j == a) refl (count-one j n (a + 1))
@@ -50,12 +51,13 @@ count-one j (suc n) a = by_first (j == a) refl (count-one j n (a + 1))
         let first : cond {A = ℕ} (j == a) 1 0 ≡ 0 = ap (λ b. cond b 1 0) e in
         omega (arith, count-cons (λ k. j == k) a n)
 
+-- one test holds one slot of a range at most, and none where it holds none
 count-held : (o : Option ℕ) (n : ℕ)
     → count_by (λ k. option_map_or (λ j. j == k) o false) (range_with_len 0 n) ≤ cond (is_some o) 1 0
 count-held None n = omega (arith, count-none n 0)
 count-held (Some j) n = count-one j n 0
 
--- what passes either of two tests passes one or the other
+-- no more pass either of two tests than pass the one and the other together
 count-either : (f g : ℕ → Bool) (ks : List ℕ) → count_by (λ k. f k || g k) ks ≤ count_by f ks + count_by g ks
 count-either f g [] = omega arith
 count-either f g (k ∷ ks) =
@@ -72,7 +74,7 @@ count-either f g (k ∷ ks) =
     either true b = omega arith
     either false b = omega arith
 
--- no more slots are held than tests hold one
+-- of a range of slots no more are held than there are tests that hold one
 held_within : (slot : Test → Option ℕ) (ts : List Test) (n : ℕ)
     → count_by (λ k. list_any (holds slot k) ts) (range_with_len 0 n) ≤ count_by (λ t. is_some (slot t)) ts
 held_within slot [] n = omega (arith, count-none n 0)
@@ -85,7 +87,7 @@ held_within slot (t ∷ ts) n =
       sum_by-cons (λ t. cond (is_some (slot t)) 1 0) t ts,
     )
 
--- where one test holds no slot, not all do
+-- where one test holds no slot, fewer hold one than there are tests
 some_without : (slot : Test → Option ℕ) (ts : List Test) (k : ℕ) (d : Test) → k < length ts
     → slot (get_or ts k d) ≡ None → count_by (λ t. is_some (slot t)) ts < length ts
 some_without slot [] k d inside none = absurd (omega arith)
@@ -108,7 +110,7 @@ some_without slot (t ∷ ts) (suc k) d inside none =
     at_most true = omega arith
     at_most false = omega arith
 
--- the least free slot is held by no test
+-- the least free slot is held by no test, where one of the tests holds none
 pub least_free_is : (slot : Test → Option ℕ) (ts : List Test) (k : ℕ) (d : Test) → k < length ts
     → slot (get_or ts k d) ≡ None → list_any (holds slot (least_free slot ts)) ts ≡ false
 least_free_is slot ts k d inside none = by_end (nat_lt first (length ts)) refl

@@ -20,7 +20,7 @@ held_at slot (t ∷ ts) (suc i) = held_at slot ts i
 abbrev AreOwn : List (Option ℕ) → Type 0
 AreOwn ss = (i j n : ℕ) → get_or ss i None ≡ Some n → get_or ss j None ≡ Some n → i ≡ j
 
--- nor after one came to hold a number that none held
+-- no two items hold one number after one came to hold a number that none held
 own_set : (ss : List (Option ℕ)) (k : ℕ) (o : Option ℕ) → k < length ss → AreOwn ss
     → ((n i : ℕ) → o ≡ Some n → get_or ss i None ≡ Some n → ⊥) → AreOwn (set ss k o)
 own_set ss k o inside own free i j n e f = by_places (i == k) (j == k) refl refl
@@ -46,7 +46,7 @@ own_set ss k o inside own free i j n e f = by_places (i == k) (j == k) refl refl
         let second : j ≢ k = grind arith in
         own i j n (there i first e) (there j second f)
 
--- a number that no test holds stands at no place
+-- a slot that no test holds is that of the test at no place
 none_holds : (slot : Test → Option ℕ) (ts : List Test) (n i : ℕ) → list_any (holds slot n) ts ≡ false
     → get_or (map slot ts) i None ≡ Some n → ⊥
 none_holds slot [] n i free e = cc

@@ -21,18 +21,19 @@ use Rattle.run_model.specs.Admission.{seat_of, tests_in, unit_of_test}
 use Rattle.run_laws.specs.Limits.{limits_with}
 use Rattle.run_laws.proofs.OpenSeats.{at_last, AreLower, IsOfFewer}
 
--- where each unit stands after a sub-run, and after the part of one more turn
+-- where each unit stands after a sub-run
 abbrev pub board_seat : List Happening → ℕ → Seat
 board_seat run k = seat_of (unit_of k run)
 
+-- where each unit stands after a sub-run and the part of one more turn
 abbrev pub seat_after : ℕ → Option UnitPart → List Happening → ℕ → Seat
 seat_after now part run k = seat_of (unit_after now k part (unit_of k run))
 
--- in these seats the tests in use keep the limits and hold slots of their own
+-- in such seats the tests in use keep the limits and hold slots of their own
 abbrev pub AreKeptIn : Settings → (ℕ → Seat) → Type 0
 AreKeptIn p seat = AreKept (limits_with p seat)
 
--- and in lower ones
+-- in lower seats the limits are kept where they are in higher ones
 pub kept_fewer : (p : Settings) → IsOfFewer (AreKeptIn p)
 kept_fewer p seat other h kept =
     kept_below (limits_with p other) (map (λ j. seat (unit_of_test p j)) (range_with_len 0 (tests_in p)))
@@ -46,7 +47,7 @@ row_lowers : (now : ℕ) (ph : Phase) (turn : UnitTurn) (u : UnitView) → u.pha
     → seat_of (Some (row_at now ph turn u).next) ≡ seat_of (Some u)
 row_lowers now ph turn u is used = grind (arith, common_steps)
 
--- where a row ends the use of a seat, it sends the finish
+-- a row that ends the use of a seat sends the finish that closes it: the last seat of its unit stays below the board's
 row_finishes : (now : ℕ) (ph : Phase) (turn : UnitTurn) (u : UnitView) (seat : ℕ → Seat) → u.phase ≡ ph
     → takes ph turn ≡ true → turn ≢ Answered false
     → (is_in_use (seat u.test.unit) ≡ true → seat u.test.unit ≡ seat_of (Some u))
@@ -54,7 +55,7 @@ row_finishes : (now : ℕ) (ph : Phase) (turn : UnitTurn) (u : UnitView) (seat :
     → at_last seat (option_to_list (row_at now ph turn u).sent) u.test.unit ≡ seat_of (Some (row_at now ph turn u).next)
 row_finishes now ph turn u seat is en goes below used = grind (arith, common_steps)
 
--- and what it sends leaves the seats of other units
+-- what a row sends leaves the seats of other units
 row_others : (now : ℕ) (ph : Phase) (turn : UnitTurn) (u : UnitView) (seat : ℕ → Seat) (k : ℕ)
     → (u.test.unit == k) ≡ false → at_last seat (option_to_list (row_at now ph turn u).sent) k ≡ seat k
 row_others now ph turn u seat k apart = grind (arith, common_steps)
@@ -70,7 +71,7 @@ acts_lower now j turn run k = by_unit (j == k) (unit_of k run)
     by_unit true (Some u) used = row_lowers now u.phase turn (at_moment now u) refl used
     by_unit false v used = refl
 
--- and so it leaves the last seats below the board's
+-- a unit's own turn leaves the last seats below the board's
 pub acts_last : (now j : ℕ) (turn : UnitTurn) (run : List Happening) (u : UnitView) (seat : ℕ → Seat)
     → unit_of j run ≡ Some u → takes u.phase turn ≡ true → turn ≢ Answered false → u.test.unit ≡ j
     → AreLower seat (board_seat run)

@@ -32,7 +32,7 @@ use Rattle.run_laws.proofs.AccountLemmas.{IsFirst}
 use Rattle.run_laws.proofs.Newcomers.{Becomes, Newcomes, newcomer_is, IsNew}
 use Rattle.run_laws.proofs.BoardSeats.{board_seat, seat_after, AreKeptIn, kept_fewer}
 
--- the seats on the board, one by one
+-- the seats of the tests on the board are those of the history, one by one
 seats_listed : (p : Settings) (run : List Happening)
     → map seat_of (drop (scripts_in p) (units p run))
     ≡ map (λ j. board_seat run (unit_of_test p j)) (range_with_len 0 (tests_in p))
@@ -52,11 +52,11 @@ seats_listed p run =
         get_or-map seat_of (drop (scripts_in p) (units p run)) k None Gone (omega (arith, some, h))
         ∙ ap seat_of (get_or-drop (scripts_in p) (units p run) k None ∙ units-at p run (unit_of_test p k) (omega arith))
 
--- so the limits on the board are those in these seats
+-- the limits on the board are those in the seats of the history
 pub limits_on_board : (p : Settings) (run : List Happening) → limits_of p (units p run) ≡ limits_with p (board_seat run)
 limits_on_board p run = ap (λ ss. record (limits_with p (board_seat run)) { seats = ss }) (seats_listed p run)
 
--- seats of which one was set
+-- seats of which one was set, one by one
 seats_set : (f g : ℕ → Seat) (n j : ℕ) (s : Seat) → j < n → g j ≡ s → ((k : ℕ) → k ≢ j → g k ≡ f k)
     → set (map f (range_with_len 0 n)) j s ≡ map g (range_with_len 0 n)
 seats_set f g n j s inside here others =
@@ -76,7 +76,7 @@ seats_set f g n j s inside here others =
         get_or-set_other (map f (range_with_len 0 n)) j k s Gone apart
         ∙ get_or-map-range_with_len f 0 n k k Gone h (omega arith) ∙ sym (others k apart)
 
--- the slot within a group that a test has is told with the group's name
+-- a slot within a group is kept beside the group's name, where none is given to a test with no group
 group_slot_is : (slot : Option ℕ) (name : Option (List ℕ)) → (name ≡ None → slot ≡ None)
     → option_map (λ g. g.slot) (group_slot slot name) ≡ slot
 group_slot_is None name h = refl
@@ -155,7 +155,7 @@ joins_kept p now run new e kept = by_case found.is
         subst (λ (n : Newcomer). AreKeptIn p (seat_after now (Some (Joins n.unit)) run)) (sym is)
         (starts global slot runs)
 
--- and it leaves the last seats below the board's: a start opens its seat
+-- an admission leaves the last seats below the board's: a start opens its seat
 pub joins_last : (p : Settings) (now : ℕ) (run : List Happening) (first : UnitView) (sent : Message) (seat : ℕ → Seat)
     → IsNew p run first sent → AreLower seat (board_seat run)
     → AreLower (at_last seat (sent ∷ [])) (seat_after now (Some (Joins first)) run)

@@ -55,7 +55,7 @@ prefixes P es o before now n = by_length (nat_lt (length es) n) refl
         let within : n ≤ length es = grind (arith, e) in
         subst P (sym (take-append-le n es (option_to_list o) within)) (before n)
 
--- the order of seats goes on
+-- seats below seats that are below others are below those
 lower-on : (a b c : ℕ → Seat) → AreLower a b → AreLower b c → AreLower a c
 lower-on a b c h i k used = let same : a k ≡ b k = h k used in same ∙ i k (ap is_in_use (sym same) ∙ used)
 
@@ -67,7 +67,7 @@ along_sent p seat other ms None along lower kept = subst (Along (AreKeptIn p) se
 along_sent p seat other ms (Some m) along lower kept =
     along-append (AreKeptIn p) ms seat m along (kept_fewer p (opened m (at_last seat ms)) other lower kept)
 
--- what holds after one more deed
+-- what holds of the seats after a sub-run holds after one more deed
 open-cons : (p : Settings) (over : Bool) (now : ℕ) (run : List Happening) (e : Entry) (d : Deed)
     → Does p over now run d → MovesSeats p now run d → AreOpen p run → AreOpen p (said now e d ∷ run)
 open-cons p over now run e d does moves o = record {
@@ -117,13 +117,14 @@ open-cons p over now run e d does moves o = record {
     board : AreKeptIn p (seat_after now d.part run)
     board = moves.keeps o.board
 
--- what holds of the empty sub-run: no test is in use
+-- where no seat is in use, the limits are kept
 gone : (p : Settings) (seat : ℕ → Seat) → ((k : ℕ) → is_in_use (seat k) ≡ false) → AreKeptIn p seat
 gone p seat none =
     kept_fewer p seat (λ k. Gone)
     (λ k used. let bad : true ≡ false = sym used ∙ none k in cc)
     (kept_gone (limits_with p seat) (range_with_len 0 (tests_in p)))
 
+-- the empty sub-run has no test in use, so that the limits are kept
 open-nil : (p : Settings) → AreOpen p []
 open-nil p = record {
   before = before;
@@ -136,7 +137,7 @@ open-nil p = record {
     before zero = gone p (seat_told []) (λ k. refl)
     before (suc n) = gone p (seat_told []) (λ k. refl)
 
--- what holds of the newest sub-run after every legal journal
+-- in the newest sub-run after every legal journal the limits are kept, on the board and as the messages are told
 opens : (p : Settings) (backward : List Entry) → IsLegalBackward p backward → AreOpen p (sub_run (history p backward))
 opens p [] legal = open-nil p
 opens p (e ∷ before) legal = one_more (opens p before legal.2) (holds p before legal.2)
@@ -154,7 +155,7 @@ opens p (e ∷ before) legal = one_more (opens p before legal.2) (holds p before
         (moves p (is_over past) (clock past) (sub_run past) e.turn h legal.0)
         o)
 
--- so the limits are kept after each event told
+-- the limits are kept after each event told in the newest sub-run after every legal journal
 pub limits : (p : Settings) (backward : List Entry) (n : ℕ) → IsLegalBackward p backward
     → AreKeptIn p (seat_told (take n (told (sub_run (history p backward)))))
 limits p backward n legal = (opens p backward legal).before n

@@ -40,7 +40,7 @@ pub record MovesSeats (p : Settings) (now : ℕ) (run : List Happening) (d : Dee
   pub sends : (seat : ℕ → Seat) → AreLower seat (board_seat run)
       → AreLower (at_last seat (option_to_list d.sent)) (seat_after now d.part run)
 
--- an admission
+-- what an admission does to the seats
 admits : (p : Settings) (now : ℕ) (run : List Happening) (o : Option Newcomer) → newcomer p (units p run) ≡ o
     → MovesSeats p now run (admission o)
 admits p now run None e = record { tells = λ k. seat_told-nothing k (told run); keeps = λ h. h; sends = λ seat h. h }
@@ -50,7 +50,7 @@ admits p now run (Some new) e = record {
   sends = λ seat h. joins_last p now run new.unit new.sent seat (new_unit p run new e) h;
 }
 
--- a unit's own turn
+-- what a unit's own turn does to the seats
 unit_moves : (p : Settings) (over : Bool) (now : ℕ) (run : List Happening) (j : ℕ) (turn : UnitTurn)
     (v : Option UnitView) → Holds p over now run → unit_of j run ≡ v → unit_takes v turn ≡ true
     → is_answer turn ≡ false → MovesSeats p now run (taken_by now j turn v)
@@ -62,7 +62,7 @@ unit_moves p over now run j turn (Some u) h e en other = record {
       (λ is. let same : is_answer turn ≡ true = ap is_answer is in cc) (h.named j u e).0 below;
 }
 
--- the delivery of a start
+-- what the delivery of a start does to the seats
 start_moves : (p : Settings) (over : Bool) (now : ℕ) (run : List Happening) (start : TestStart) (rest : List Message)
     (go : Bool) (w : Option UnitView) → Holds p over now run → go ≡ true → queue run ≡ Start start ∷ rest
     → unit_of start.test.unit run ≡ w
@@ -88,7 +88,7 @@ start_moves p over now run start rest true (Some u) h goes eq ew =
           (h.named start.test.unit u ew).0 below;
     }
 
--- a delivery
+-- what a delivery does to the seats
 delivers : (p : Settings) (over : Bool) (now : ℕ) (run : List Happening) (q : List Message) → Holds p over now run
     → queue run ≡ q → not (is_empty q) ≡ true → MovesSeats p now run (delivery (board_of p over now run) q)
 delivers p over now run [] h eq en = cc
@@ -109,7 +109,7 @@ delivers p over now run (Finish finish ∷ rest) h eq en = record {
 }
 delivers p over now run (m ∷ rest) h eq en = absurd (oldest_built p over now run m rest h eq)
 
--- each enabled turn
+-- what each enabled turn does to the seats
 pub moves : (p : Settings) (over : Bool) (now : ℕ) (run : List Happening) (turn : Turn) → Holds p over now run
     → enabled_on p (board_of p over now run) turn ≡ true
     → MovesSeats p now run (deed_on p (board_of p over now run) turn)

@@ -18,7 +18,7 @@ use Rattle.run_admission.specs.declared.seat.Seat.TheVariants.{Gone}
 use Rattle.run_laws.specs.Limits.{slots_by, slots_told, seat_in, seat_told}
 use Rattle.run_laws.proofs.Running.{is_start, is_finish, starts-account, finishes-account, running-other}
 
--- the slots told by events and later ones
+-- the slots told by events and later ones are those of the events, else of the later ones
 slots_told-append : (k : ℕ) (es fs : List ReporterEvent)
     → slots_told k (es ++ fs) ≡ option_or (slots_told k es) (slots_told k fs)
 slots_told-append k [] fs = refl
@@ -34,7 +34,7 @@ slots_told-append k (e ∷ es) fs = by_first (slots_by k e) (slots_told-append k
 no_slots : (k : ℕ) (e : ReporterEvent) → starts k e ≡ false → slots_by k e ≡ None
 no_slots k e s = grind (arith, common_steps)
 
--- nor do events that don't
+-- events of which none starts a test tell no slots of it
 none_told : (k : ℕ) (es : List ReporterEvent) → list_any (starts k) es ≡ false → slots_told k es ≡ None
 none_told k [] h = refl
 none_told k (e ∷ es) h = by_first (starts k e) refl (none_told k es) h
@@ -57,11 +57,11 @@ seat_told-other k es e s f =
     with_none None = refl
     with_none (Some slots) = refl
 
--- nothing told leaves all
+-- no event more leaves each seat
 pub seat_told-nothing : (k : ℕ) (es : List ReporterEvent) → seat_told (es ++ []) k ≡ seat_told es k
 seat_told-nothing k es = ap (λ es. seat_told es k) (append-nil es)
 
--- a test of which nothing was told, and then its start, is in use in its slots
+-- after its start was told, a test of which nothing was told before is in use in its slots; other seats stay
 pub seat_told-started : (k now : ℕ) (es : List ReporterEvent) (start : TestStart) (tally : Tally)
     → account_of start.test.unit es ≡ []
     → seat_told (es ++ event now (started_event start tally) ∷ []) k
@@ -88,7 +88,7 @@ seat_told-started k now es start tally none = by_unit (start.test.unit == k) ref
         ∙ ap seat_in slots
     by_unit false is = seat_told-other k es (event now (started_event start tally)) is refl
 
--- a test that was told finished is not in use
+-- after its finish was told, a test is not in use; other seats stay
 pub seat_told-finished : (k now : ℕ) (es : List ReporterEvent) (finish : TestFinish) (tally : Tally)
     → seat_told (es ++ event now (finished_event finish tally) ∷ []) k
     ≡ (if finish.test.unit == k then Gone else seat_told es k)

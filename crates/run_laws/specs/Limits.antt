@@ -17,11 +17,12 @@ use Rattle.run_model.specs.Words.{sub_run, told, is_running}
 use Rattle.run_model.specs.Admission.{tests_in, unit_of_test}
 use Rattle.run_model.specs.Journal.{IsLegal, past_of}
 
--- the slots with which an event tells the start of test k, if it does
+-- the slots with which an event of a test tells the start of test k, if it does
 abbrev pub slots_in : ℕ → TestEventKind → Option TestSlotAssignment
 slots_in k (TestStarted event) = if event.start.test.unit == k then Some event.start.slot else None
 slots_in k _ = None
 
+-- the slots with which an event of any kind tells the start of test k, if it does
 abbrev pub slots_by : ℕ → ReporterEvent → Option TestSlotAssignment
 slots_by k (Test event) = slots_in k event.kind
 slots_by k _ = None
@@ -49,7 +50,7 @@ limits_with p seat = record {
   seats = map (λ j. seat (unit_of_test p j)) (range_with_len 0 (tests_in p));
 }
 
--- what they hold of them by what was told
+-- what the tests of the plan hold of the limits by what was told
 abbrev pub limits_told : Settings → List ReporterEvent → Admissions
 limits_told p events = limits_with p (seat_told events)
 
