@@ -7,3 +7,7 @@ mod WholeLemmas
 mod RuleLemmas
 mod BegunLemmas
 mod LawLemmas
+pub mod FewerLemmas
+mod FreeLemmas
+mod OwnLemmas
+pub mod AdmittedLemmas

@@ -129,7 +129,7 @@ gives u weight slot claims seats k n heavy s same inside nothing nobodys weighs 
 holds_it : (m n : ℕ) (o : Option ℕ) → o ≡ Some n → m ≡ n → option_map_or (λ j. j == m) o false ≡ true
 holds_it m n o e same = ap (λ o. option_map_or (λ j. j == m) o false) e ∙ eq-eqb n m (sym same)
 
-held_is : (n : ℕ) (o : Option ℕ) → option_map_or (λ j. j == n) o false ≡ true → o ≡ Some n
+pub held_is : (n : ℕ) (o : Option ℕ) → option_map_or (λ j. j == n) o false ≡ true → o ≡ Some n
 held_is n None e = cc
 held_is n (Some m) e = let same : m ≡ n = grind (arith, e) in ap (λ n. Some n) same
 

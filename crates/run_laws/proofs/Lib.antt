@@ -17,3 +17,9 @@ pub mod Courses
 pub mod Prefix
 pub mod Outcomes
 pub mod Admitted
+pub mod OpenSeats
+pub mod ToldSeats
+pub mod BoardSeats
+pub mod JoinSeats
+pub mod SeatMoves
+pub mod Limits

@@ -1,12 +1,13 @@
 -- Who is admitted, and as what.
-use Rattle.std.proofs.Common.{◌≡◌, ◌⊎◌, inl, inr, ℕ, ◌+◌, ◌-◌, ◌<◌, List, [], drop, length, get_or, map, Bool, true, false}
-use Rattle.std.proofs.Common.{if◌then◌else◌, Option, Some, None, option_and_then, option_map, is_none, is_some, slice_get}
+use Rattle.std.proofs.Common.{◌≡◌, ◌⊎◌, inl, inr, ℕ, ◌+◌, ◌-◌, ◌<◌, List, [], drop}
+use Rattle.std.proofs.Common.{length, get_or, map, Bool, true, false}
+use Rattle.std.proofs.Common.{if◌then◌else◌, Option, Some, None, option_and_then, option_map}
+use Rattle.std.proofs.Common.{is_none, is_some, slice_get}
 use Rattle.std.proofs.Common.{refl, ap, sym, subst, ◌∙◌, arith}
 use Rattle.std.proofs.lemmas.List.{get_or-drop, get_or-map, length-drop, length-map}
 use Rattle.std.proofs.lemmas.Option.{slice_get_within, slice_get-map, same_Some}
 use Rattle.run_events.specs.declared.settings.Settings.{Settings}
 use Rattle.run_events.specs.declared.plan.PlanTest.{PlanTest}
-use Rattle.run_events.specs.declared.plan.TestSlotAssignment.{TestSlotAssignment}
 use Rattle.run_events.specs.declared.message.Message.{Message}
 use Rattle.run_admission.specs.declared.seat.Claim.{Claim}
 use Rattle.run_admission.specs.declared.seat.Seat.TheVariants.{InUse, Gone}
@@ -25,17 +26,22 @@ use Rattle.run_laws.proofs.AccountLemmas.{IsFirst}
 use Rattle.run_laws.proofs.Admitted.{IsAdmitted, runs, admitted_is}
 use Rattle.run_laws.proofs.OnBoard.{units-at}
 
+-- what becomes of a test that is admitted: it is skipped, or it starts in the slots that it gets
+abbrev pub Becomes : Settings → List (Option UnitView) → ℕ → PlanTest → Newcomer → Type 0
+Becomes p us place test new =
+    ((reason : List ℕ) × (test.skip ≡ Some reason)
+    × (new ≡ skipped_newcomer (skipped_view p (unit_of_test p place) test) reason))
+    ⊎ ((test.skip ≡ None)
+    × ((global : ℕ) × ((slot : Option ℕ) × (admitted (limits_of p us) ≡ Some (Run place global slot))
+    × (new ≡ started_newcomer (first_view p (unit_of_test p place) (slots_of test global slot) test)))))
+
 -- who is admitted: a test of the plan that wasn't yet
-record Newcomes (p : Settings) (us : List (Option UnitView)) (new : Newcomer) : Type 0 where
-  place : ℕ
-  test : PlanTest
-  absent : get_or (drop (scripts_in p) us) place None ≡ None
-  planned : slice_get p.plan.tests place ≡ Some test
-  is : ((reason : List ℕ) × (test.skip ≡ Some reason)
-      × (new ≡ skipped_newcomer (skipped_view p (unit_of_test p place) test) reason))
-      ⊎ ((test.skip ≡ None)
-      × ((slots : TestSlotAssignment)
-      × (new ≡ started_newcomer (first_view p (unit_of_test p place) slots test))))
+pub record Newcomes (p : Settings) (us : List (Option UnitView)) (new : Newcomer) : Type 0 where
+  pub place : ℕ
+  pub test : PlanTest
+  pub absent : get_or (drop (scripts_in p) us) place None ≡ None
+  pub planned : slice_get p.plan.tests place ≡ Some test
+  pub is : Becomes p us place test new
 
 -- a test that waits isn't a unit yet
 absent_where : (v : Option UnitView) → is_waiting (seat_of v) ≡ true → v ≡ None
@@ -109,7 +115,7 @@ becomes p us r e =
     made (Skipped j) test h = skipped j test test.skip h
     made (Run j global slot) test h = refl
 
-newcomer_is : (p : Settings) (us : List (Option UnitView)) (new : Newcomer) → newcomer p us ≡ Some new
+pub newcomer_is : (p : Settings) (us : List (Option UnitView)) (new : Newcomer) → newcomer p us ≡ Some new
     → Newcomes p us new
 newcomer_is p us new e = by_scripts (scripts_over p us) e
   where
@@ -126,17 +132,18 @@ newcomer_is p us new e = by_scripts (scripts_over p us) e
     }
 
     by_test : (r : Admitted) (o : Option PlanTest) → slice_get p.plan.tests (test_of r) ≡ o
+        → admitted (limits_of p us) ≡ Some r
         → IsAdmitted (limits_of p us) (test_of r) (runs r) → newcomer_as p r o ≡ Some new → Newcomes p us new
-    by_test r None planned it e = cc
-    by_test (Skipped j) (Some test) planned it e = skipped j test test.skip refl planned it e
-    by_test (Run j global slot) (Some test) planned it e = record {
+    by_test r None planned is it e = cc
+    by_test (Skipped j) (Some test) planned is it e = skipped j test test.skip refl planned it e
+    by_test (Run j global slot) (Some test) planned is it e = record {
       place = j;
       test = test;
       absent = absent p us j it.within it.waits;
       planned = planned;
       is = inr (
         none_there test.skip (ap (λ (c : Claim). c.matched) (claimed p j it.claim test planned it.claimed) ∙ it.matched),
-        (slots_of test global slot, cc),
+        (global, (slot, is, cc)),
       );
     }
 
@@ -144,7 +151,7 @@ newcomer_is p us new e = by_scripts (scripts_over p us) e
         → option_and_then (λ a. newcomer_as p a (slice_get p.plan.tests (test_of a))) o ≡ Some new → Newcomes p us new
     by_admitted None is e = cc
     by_admitted (Some r) is e =
-        by_test r (slice_get p.plan.tests (test_of r)) refl (admitted_is (limits_of p us) r is).0 e
+        by_test r (slice_get p.plan.tests (test_of r)) refl is (admitted_is (limits_of p us) r is).0 e
 
     by_scripts : (b : Bool) → (if b then option_and_then
         (λ a. newcomer_as p a (slice_get p.plan.tests (test_of a))) (admitted (limits_of p us)) else None) ≡ Some new
@@ -187,11 +194,7 @@ new_unit p run new e = by_case found.is
     mismatched : is_mismatched p (place_of p k) ≡ is_some found.test.skip
     mismatched = ap (is_mismatched p) (place-of_test p found.place) ∙ ap is_skip found.planned
 
-    by_case : ((reason : List ℕ) × (found.test.skip ≡ Some reason)
-        × (new ≡ skipped_newcomer (skipped_view p k found.test) reason))
-        ⊎ ((found.test.skip ≡ None)
-        × ((slots : TestSlotAssignment) × (new ≡ started_newcomer (first_view p k slots found.test))))
-        → IsNew p run new.unit new.sent
+    by_case : Becomes p (units p run) found.place found.test new → IsNew p run new.unit new.sent
     by_case (inl (reason, skip, is)) =
         let mm : is_mismatched p (place_of p k) ≡ true = mismatched ∙ ap is_some skip in
         subst (λ (n : Newcomer). IsNew p run n.unit n.sent) (sym is) (record {
@@ -203,7 +206,7 @@ new_unit p run new e = by_case found.is
           attempt = refl;
           statuses = refl;
         })
-    by_case (inr (skip, (slots, is))) =
+    by_case (inr (skip, (global, (slot, runs, is)))) =
         let mm : is_mismatched p (place_of p k) ≡ false = mismatched ∙ ap is_some skip in
         subst (λ (n : Newcomer). IsNew p run n.unit n.sent) (sym is) (record {
           below = below;

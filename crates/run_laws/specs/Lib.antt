@@ -1,3 +1,4 @@
 pub mod Laws
 pub mod Course
 pub mod Ready
+pub mod Limits

@@ -1,6 +1,7 @@
 // Theorems over every legal journal.
 ghost use Rattle.run_laws.specs.Laws.{AccountsHold, AttemptsAreOwnTurns, BoardsStep, EventsExtend};
 ghost use Rattle.run_laws.specs.Laws.{EachHasFate, OverHasEnded};
+ghost use Rattle.run_laws.specs.Limits.{LimitsHold};
 ghost use Rattle.run_laws.specs.Course.{CoursesExclude, NoneRefused};
 ghost use Rattle.run_laws.specs.Ready.{EnabledCan};
 
@@ -33,6 +34,13 @@ pub fn enabled_turns_can_be_taken()
 pub fn each_test_has_its_fate()
     ensures fates { EachHasFate }
     ensures over { OverHasEnded }
+{}
+
+/// After each event that is told in the newest sub-run of a legal journal, the tests told started and not told finished
+/// keep the limit on all tests and that of each group, and no two of them hold the same slot among all tests or within
+/// a group, by the slots that their starts were told with.
+pub fn limits_hold()
+    ensures { LimitsHold }
 {}
 
 /// The events of a legal journal are the first events of every legal journal that extends it.

@@ -1,0 +1,98 @@
+-- Where the tests stand on the board, after a turn of one.
+use Rattle.std.proofs.Common.{◌≡◌, ◌≢◌, ℕ, ◌==◌, List, map, Bool}
+use Rattle.std.proofs.Common.{true, false, if◌then◌else◌, Option, Some, None, option_map, option_to_list}
+use Rattle.std.proofs.Common.{refl, ap, sym, subst, ◌∙◌, arith}
+use Rattle.std.specs.List.{range_with_len}
+use Rattle.std.proofs.lemmas.Grind.{common_steps}
+use Rattle.run_events.specs.declared.settings.Settings.{Settings}
+use Rattle.run_admission.specs.declared.seat.Seat.{Seat}
+use Rattle.run_admission.specs.InUse.{is_in_use}
+use Rattle.run_admission.proofs.FewerLemmas.{AreKept, IsBelow, below-map, kept_below}
+use Rattle.run_model.specs.declared.happening.Happening.{Happening}
+use Rattle.run_model.specs.declared.happening.UnitPart.{UnitPart}
+use Rattle.run_model.specs.declared.happening.UnitPart.TheVariants.{Acts}
+use Rattle.run_model.specs.declared.phase.Phase.{Phase}
+use Rattle.run_model.specs.declared.unit_turn.UnitTurn.{UnitTurn}
+use Rattle.run_model.specs.declared.unit_turn.UnitTurn.TheVariants.{Answered}
+use Rattle.run_model.specs.declared.unit_view.UnitView.{UnitView}
+use Rattle.run_model.specs.Unit.{at_moment, row, row_at, takes}
+use Rattle.run_model.specs.Words.{unit_of, unit_after}
+use Rattle.run_model.specs.Admission.{seat_of, tests_in, unit_of_test}
+use Rattle.run_laws.specs.Limits.{limits_with}
+use Rattle.run_laws.proofs.OpenSeats.{at_last, AreLower, IsOfFewer}
+
+-- where each unit stands after a sub-run
+abbrev pub board_seat : List Happening → ℕ → Seat
+board_seat run k = seat_of (unit_of k run)
+
+-- where each unit stands after a sub-run and the part of one more turn
+abbrev pub seat_after : ℕ → Option UnitPart → List Happening → ℕ → Seat
+seat_after now part run k = seat_of (unit_after now k part (unit_of k run))
+
+-- in such seats the tests in use keep the limits and hold slots of their own
+abbrev pub AreKeptIn : Settings → (ℕ → Seat) → Type 0
+AreKeptIn p seat = AreKept (limits_with p seat)
+
+-- in lower seats the limits are kept where they are in higher ones
+pub kept_fewer : (p : Settings) → IsOfFewer (AreKeptIn p)
+kept_fewer p seat other h kept =
+    kept_below (limits_with p other) (map (λ j. seat (unit_of_test p j)) (range_with_len 0 (tests_in p)))
+    (below-map (λ j. seat (unit_of_test p j)) (λ j. other (unit_of_test p j)) (range_with_len 0 (tests_in p))
+    (λ j. h (unit_of_test p j)))
+    kept
+
+-- a row leaves a unit its seat, or ends its use
+row_lowers : (now : ℕ) (ph : Phase) (turn : UnitTurn) (u : UnitView) → u.phase ≡ ph
+    → is_in_use (seat_of (Some (row_at now ph turn u).next)) ≡ true
+    → seat_of (Some (row_at now ph turn u).next) ≡ seat_of (Some u)
+row_lowers now ph turn u is used = grind (arith, common_steps)
+
+-- a row that ends the use of a seat sends the finish that closes it: the last seat of its unit stays below the board's
+row_finishes : (now : ℕ) (ph : Phase) (turn : UnitTurn) (u : UnitView) (seat : ℕ → Seat) → u.phase ≡ ph
+    → takes ph turn ≡ true → turn ≢ Answered false
+    → (is_in_use (seat u.test.unit) ≡ true → seat u.test.unit ≡ seat_of (Some u))
+    → is_in_use (at_last seat (option_to_list (row_at now ph turn u).sent) u.test.unit) ≡ true
+    → at_last seat (option_to_list (row_at now ph turn u).sent) u.test.unit ≡ seat_of (Some (row_at now ph turn u).next)
+row_finishes now ph turn u seat is en goes below used = grind (arith, common_steps)
+
+-- what a row sends leaves the seats of other units
+row_others : (now : ℕ) (ph : Phase) (turn : UnitTurn) (u : UnitView) (seat : ℕ → Seat) (k : ℕ)
+    → (u.test.unit == k) ≡ false → at_last seat (option_to_list (row_at now ph turn u).sent) k ≡ seat k
+row_others now ph turn u seat k apart = grind (arith, common_steps)
+
+-- a unit's own turn leaves the board's seats, or ends the use of its own
+pub acts_lower : (now j : ℕ) (turn : UnitTurn) (run : List Happening)
+    → AreLower (seat_after now (Some (Acts j turn)) run) (board_seat run)
+acts_lower now j turn run k = by_unit (j == k) (unit_of k run)
+  where
+    by_unit : (b : Bool) (v : Option UnitView)
+        → IsBelow (seat_of (if b then option_map (λ v. (row now turn v).next) v else v)) (seat_of v)
+    by_unit true None used = refl
+    by_unit true (Some u) used = row_lowers now u.phase turn (at_moment now u) refl used
+    by_unit false v used = refl
+
+-- a unit's own turn leaves the last seats below the board's
+pub acts_last : (now j : ℕ) (turn : UnitTurn) (run : List Happening) (u : UnitView) (seat : ℕ → Seat)
+    → unit_of j run ≡ Some u → takes u.phase turn ≡ true → turn ≢ Answered false → u.test.unit ≡ j
+    → AreLower seat (board_seat run)
+    → AreLower (at_last seat (option_to_list (row now turn u).sent)) (seat_after now (Some (Acts j turn)) run)
+acts_last now j turn run u seat is en goes named below k = by_unit (j == k) refl
+  where
+    by_unit : (b : Bool) → (j == k) ≡ b
+        → IsBelow (at_last seat (option_to_list (row now turn u).sent) k)
+        (seat_of (if b then option_map (λ v. (row now turn v).next) (unit_of k run) else unit_of k run))
+    by_unit true e =
+        let own : u.test.unit ≡ k = grind arith in
+        let here : unit_of k run ≡ Some u = ap (λ k. unit_of k run) (sym own ∙ named) ∙ is in
+        let was : IsBelow (seat u.test.unit) (seat_of (Some u)) =
+        subst (λ i. IsBelow (seat i) (seat_of (Some u))) (sym own)
+        (subst (λ v. IsBelow (seat k) (seat_of v)) here (below k)) in
+        subst (λ v. IsBelow (at_last seat (option_to_list (row now turn u).sent) k)
+        (seat_of (option_map (λ v. (row now turn v).next) v))) (sym here)
+        (subst (λ i. IsBelow (at_last seat (option_to_list (row now turn u).sent) i)
+        (seat_of (Some (row now turn u).next))) own
+        (row_finishes now u.phase turn (at_moment now u) seat refl en goes was))
+    by_unit false e =
+        let apart : (u.test.unit == k) ≡ false = grind arith in
+        subst (λ s. IsBelow s (board_seat run k)) (sym (row_others now u.phase turn (at_moment now u) seat k apart))
+        (below k)

@@ -1,0 +1,161 @@
+-- After each event told in a legal journal the limits are kept.
+use Rattle.std.proofs.Common.{◌≡◌, ℕ, zero, suc, ◌<◌, ◌≤◌, List, [], ◌∷◌, ◌++◌, length, take, drop, Bool}
+use Rattle.std.proofs.Common.{true, false, if◌then◌else◌, Option, Some, None, option_to_list}
+use Rattle.std.proofs.Common.{nat_lt, refl, ap, sym, subst, ◌∙◌, arith, length-append}
+use Rattle.std.specs.List.{range_with_len}
+use Rattle.std.proofs.lemmas.List.{append-nil, take-append-le, take_all}
+use Rattle.run_events.specs.declared.settings.Settings.{Settings}
+use Rattle.run_events.specs.declared.message.Message.{Message}
+use Rattle.run_events.specs.declared.events.ReporterEvent.{ReporterEvent}
+use Rattle.run_admission.specs.declared.seat.Seat.{Seat}
+use Rattle.run_admission.specs.declared.seat.Seat.TheVariants.{Gone}
+use Rattle.run_admission.specs.InUse.{is_in_use}
+use Rattle.run_admission.proofs.FewerLemmas.{kept_gone}
+use Rattle.run_model.specs.declared.entry.Entry.{Entry}
+use Rattle.run_model.specs.declared.happening.Happening.{Happening}
+use Rattle.run_model.specs.Words.{clock, is_over, sub_run, queue, told}
+use Rattle.run_model.specs.Admission.{tests_in}
+use Rattle.run_model.specs.Board.{Deed, deed_events, said}
+use Rattle.run_model.specs.Turns.{deed_on}
+use Rattle.run_model.specs.Journal.{history, IsLegalBackward}
+use Rattle.run_laws.specs.Limits.{seat_told, limits_with}
+use Rattle.run_laws.proofs.Queue.{queue-cons}
+use Rattle.run_laws.proofs.OnBoard.{board_of}
+use Rattle.run_laws.proofs.Deeds.{Does}
+use Rattle.run_laws.proofs.Kept.{HoldsAfter, does_after, sub_run-after, holds}
+use Rattle.run_laws.proofs.OpenSeats.{opened, at_last, Along, AreLower, same_lower}
+use Rattle.run_laws.proofs.OpenSeats.{along-now, along-lower, along-append}
+use Rattle.run_laws.proofs.OpenSeats.{along-drop, at_last-lower, at_last-append, at_last-drop}
+use Rattle.run_laws.proofs.BoardSeats.{board_seat, seat_after, AreKeptIn, kept_fewer}
+use Rattle.run_laws.proofs.SeatMoves.{MovesSeats, moves}
+
+-- after each event told in a sub-run the limits are kept, and so they are while the messages that wait are told; the
+-- seats after the last of these are below the board's; and in the board's they are kept
+record AreOpen (p : Settings) (run : List Happening) : Type 0 where
+  before : (n : ℕ) → AreKeptIn p (seat_told (take n (told run)))
+  along : Along (AreKeptIn p) (seat_told (told run)) (queue run)
+  last : AreLower (at_last (seat_told (told run)) (queue run)) (board_seat run)
+  board : AreKeptIn p (board_seat run)
+
+-- what holds of each prefix of a list, and of the list with one event more, holds of each prefix of that
+prefixes : (P : List ReporterEvent → Type 0) (es : List ReporterEvent) (o : Option ReporterEvent)
+    → ((n : ℕ) → P (take n es)) → P (es ++ option_to_list o) → (n : ℕ) → P (take n (es ++ option_to_list o))
+prefixes P es o before now n = by_length (nat_lt (length es) n) refl
+  where
+    one : (o : Option ReporterEvent) → length (option_to_list o) ≤ 1
+    one None = omega arith
+    one (Some e) = omega arith
+
+    by_length : (b : Bool) → nat_lt (length es) n ≡ b → P (take n (es ++ option_to_list o))
+    by_length true e =
+        let longer : length es < n = grind (arith, e) in
+        let whole : length (es ++ option_to_list o) ≤ n = omega (arith, one o, length-append es (option_to_list o)) in
+        subst P (sym (take_all n (es ++ option_to_list o) whole)) now
+    by_length false e =
+        let within : n ≤ length es = grind (arith, e) in
+        subst P (sym (take-append-le n es (option_to_list o) within)) (before n)
+
+-- seats below seats that are below others are below those
+lower-on : (a b c : ℕ → Seat) → AreLower a b → AreLower b c → AreLower a c
+lower-on a b c h i k used = let same : a k ≡ b k = h k used in same ∙ i k (ap is_in_use (sym same) ∙ used)
+
+-- the seats along a queue with one message more, which leaves the last ones where they are kept
+along_sent : (p : Settings) (seat other : ℕ → Seat) (ms : List Message) (o : Option Message)
+    → Along (AreKeptIn p) seat ms → AreLower (at_last (at_last seat ms) (option_to_list o)) other → AreKeptIn p other
+    → Along (AreKeptIn p) seat (ms ++ option_to_list o)
+along_sent p seat other ms None along lower kept = subst (Along (AreKeptIn p) seat) (sym (append-nil ms)) along
+along_sent p seat other ms (Some m) along lower kept =
+    along-append (AreKeptIn p) ms seat m along (kept_fewer p (opened m (at_last seat ms)) other lower kept)
+
+-- what holds of the seats after a sub-run holds after one more deed
+open-cons : (p : Settings) (over : Bool) (now : ℕ) (run : List Happening) (e : Entry) (d : Deed)
+    → Does p over now run d → MovesSeats p now run d → AreOpen p run → AreOpen p (said now e d ∷ run)
+open-cons p over now run e d does moves o = record {
+  before = λ n. subst (λ es. AreKeptIn p (seat_told (take n (told run ++ es)))) (sym events)
+      (prefixes (λ es. AreKeptIn p (seat_told es)) (told run) d.told o.before
+      (subst (λ es. AreKeptIn p (seat_told (told run ++ es))) events
+      (along-now (AreKeptIn p) after rest along)) n);
+  along = subst (Along (AreKeptIn p) after) (sym waiting)
+      (along_sent p after (seat_after now d.part run) rest d.sent along sent board);
+  last = subst (λ q. AreLower (at_last after q) (seat_after now d.part run)) (sym waiting)
+      (subst (λ seat. AreLower seat (seat_after now d.part run))
+      (sym (at_last-append rest (option_to_list d.sent) after)) sent);
+  board = board;
+}
+  where
+    after : ℕ → Seat
+    after = seat_told (told run ++ deed_events d)
+
+    rest : List Message
+    rest = drop (if d.taken then 1 else 0) (queue run)
+
+    events : deed_events d ≡ option_to_list d.told
+    events = ap (λ c. option_to_list d.told ++ option_to_list c) does.marks.cancel ∙ append-nil (option_to_list d.told)
+
+    waiting : queue (said now e d ∷ run) ≡ rest ++ option_to_list d.sent
+    waiting = queue-cons (said now e d) run does.room
+
+    same : AreLower after (at_last (seat_told (told run)) (take (if d.taken then 1 else 0) (queue run)))
+    same = same_lower _ _ moves.tells
+
+    along : Along (AreKeptIn p) after rest
+    along = along-lower (AreKeptIn p) (kept_fewer p) rest after
+        (at_last (seat_told (told run)) (take (if d.taken then 1 else 0) (queue run))) same
+        (along-drop (AreKeptIn p) (if d.taken then 1 else 0) (queue run) (seat_told (told run)) o.along)
+
+    last : AreLower (at_last after rest) (board_seat run)
+    last = lower-on (at_last after rest) (at_last (seat_told (told run)) (queue run)) (board_seat run)
+        (subst (AreLower (at_last after rest))
+        (at_last-drop (if d.taken then 1 else 0) (queue run) (seat_told (told run)))
+        (at_last-lower rest after
+        (at_last (seat_told (told run)) (take (if d.taken then 1 else 0) (queue run))) same))
+        o.last
+
+    sent : AreLower (at_last (at_last after rest) (option_to_list d.sent)) (seat_after now d.part run)
+    sent = moves.sends (at_last after rest) last
+
+    board : AreKeptIn p (seat_after now d.part run)
+    board = moves.keeps o.board
+
+-- where no seat is in use, the limits are kept
+gone : (p : Settings) (seat : ℕ → Seat) → ((k : ℕ) → is_in_use (seat k) ≡ false) → AreKeptIn p seat
+gone p seat none =
+    kept_fewer p seat (λ k. Gone)
+    (λ k used. let bad : true ≡ false = sym used ∙ none k in cc)
+    (kept_gone (limits_with p seat) (range_with_len 0 (tests_in p)))
+
+-- the empty sub-run has no test in use, so that the limits are kept
+open-nil : (p : Settings) → AreOpen p []
+open-nil p = record {
+  before = before;
+  along = gone p (seat_told []) (λ k. refl);
+  last = λ k used. cc;
+  board = gone p (board_seat []) (λ k. refl);
+}
+  where
+    before : (n : ℕ) → AreKeptIn p (seat_told (take n []))
+    before zero = gone p (seat_told []) (λ k. refl)
+    before (suc n) = gone p (seat_told []) (λ k. refl)
+
+-- in the newest sub-run after every legal journal the limits are kept, on the board and as the messages are told
+opens : (p : Settings) (backward : List Entry) → IsLegalBackward p backward → AreOpen p (sub_run (history p backward))
+opens p [] legal = open-nil p
+opens p (e ∷ before) legal = one_more (opens p before legal.2) (holds p before legal.2)
+  where
+    past : List Happening
+    past = history p before
+
+    one_more : AreOpen p (sub_run (history p before)) → HoldsAfter p (history p before)
+        → AreOpen p (sub_run (history p (e ∷ before)))
+    one_more o h =
+        subst (AreOpen p) (sym (sub_run-after p (history p before) e h legal.0))
+        (open-cons p (is_over past) (clock past) (sub_run past) e
+        (deed_on p (board_of p (is_over past) (clock past) (sub_run past)) e.turn)
+        (does_after p past e h legal.0)
+        (moves p (is_over past) (clock past) (sub_run past) e.turn h legal.0)
+        o)
+
+-- the limits are kept after each event told in the newest sub-run after every legal journal
+pub limits : (p : Settings) (backward : List Entry) (n : ℕ) → IsLegalBackward p backward
+    → AreKeptIn p (seat_told (take n (told (sub_run (history p backward)))))
+limits p backward n legal = (opens p backward legal).before n
