@@ -11,11 +11,21 @@ use std::alloc::Global;
 use std::marker::Model;
 
 /// Joins the pieces of each captured stream of a child, until the stream ends or can't be read on.
-#[derive(Drop)]
 pub struct ChildAccumulator {
     output: ChildOutputMut,
     ended: Ended,
     errors: List<ChildFdError>,
+}
+
+// A call of its own, which keeps the proofs of all that hold a capture small.
+impl Drop for ChildAccumulator {
+    fn drop(self) {
+        let ChildAccumulator {
+            output: _,
+            ended: _,
+            errors: _,
+        } = self;
+    }
 }
 
 impl Model for ChildAccumulator {
@@ -142,7 +152,12 @@ impl ChildAccumulator {
         ensures output { result.0 ≡ self.output }
         ensures errors { result.1 ≡ self.errors }
     {
-        (self.output.freeze(), self.errors)
+        let ChildAccumulator {
+            output,
+            ended: _,
+            errors,
+        } = self;
+        (output.freeze(), errors)
     }
 }
 

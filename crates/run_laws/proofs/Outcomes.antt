@@ -1,5 +1,5 @@
 -- A run has an outcome exactly where it is over.
-use Rattle.std.proofs.Common.{◌≡◌, List, Bool, true, false, if◌then◌else◌, Option, Some, None, refl, ap, sym, ◌∙◌}
+use Rattle.std.proofs.Common.{◌≡◌, List, Bool, true, false, if◌then◌else◌, Some, None, refl, ap, sym, ◌∙◌}
 use Rattle.run_events.specs.Outcome.{outcome_of, summary}
 use Rattle.run_events.specs.declared.settings.Settings.{Settings}
 use Rattle.run_events.specs.declared.outcome.RunOutcome.{RunOutcome}
