@@ -11,12 +11,11 @@ use Rattle.std.proofs.lemmas.Grind.{get_or-set_at}
 use Rattle.std.specs.List.{list_all, list_any, position_or_len}
 use Rattle.std.proofs.lemmas.List.Sums.{sum_by-cons, sum_by-set, get_or-le-sum_by, position_or_len_is}
 use Rattle.std.proofs.lemmas.List.Folds.{list_all_at}
+use Rattle.run_capture.specs.Captured.{Captured}
 use Rattle.run_model.specs.declared.unit_view.UnitView.{UnitView}
 use Rattle.run_model.specs.declared.phase.Phase.{Phase}
-use Rattle.run_model.specs.declared.phase.Phase.TheVariants.{StartSent, Starting, Running, Deciding, Over}
+use Rattle.run_model.specs.declared.phase.Phase.TheVariants.{StartSent, Starting, Running, Leak, Deciding, Over}
 use Rattle.run_model.specs.declared.unit_turn.UnitTurn.{UnitTurn}
-use Rattle.run_model.specs.declared.unit_turn.UnitTurn.TheVariants.{Answered, Started, StartFailed, Exit, WaitFailed}
-use Rattle.run_model.specs.declared.unit_turn.UnitTurn.TheVariants.{Decide}
 use Rattle.run_model.specs.Unit.{takes}
 use Rattle.run_model.specs.Admission.{is_done, is_last, is_in_use, in_use, holds_slot}
 use Rattle.run_state.specs.Counted.{IsCounted, is_left}
@@ -151,17 +150,13 @@ set_first us k j v inside other = by_place (j == k) refl
         let apart : j ≢ k = grind arith in ap is_none (get_or-set_other us k j (Some v) None apart) ∙ other apart
 
 -- a unit that takes a turn isn't over
-pub not_last : (phase : Phase) (turn : UnitTurn) → takes phase turn ≡ true → is_last phase ≡ false
-not_last StartSent turn e = refl
-not_last Starting turn e = refl
-not_last Running turn e = refl
-not_last Deciding turn e = refl
-not_last Over (Answered go) e = cc
-not_last Over (Started pid) e = cc
-not_last Over (StartFailed error) e = cc
-not_last Over (Exit exit) e = cc
-not_last Over (WaitFailed error) e = cc
-not_last Over (Decide word) e = cc
+pub not_last : (phase : Phase) (c : Captured) (turn : UnitTurn) → takes phase c turn ≡ true → is_last phase ≡ false
+not_last StartSent c turn e = refl
+not_last Starting c turn e = refl
+not_last Running c turn e = refl
+not_last Leak c turn e = refl
+not_last Deciding c turn e = refl
+not_last Over c turn e = cc
 
 -- a unit that was admitted stands in the list
 pub stands_inside : (us : List (Option UnitView)) (k : ℕ) (u : UnitView) → get_or us k None ≡ Some u → k < length us
