@@ -164,6 +164,13 @@ stands_inside [] k u e = cc
 stands_inside (v ∷ us) zero u e = omega arith
 stands_inside (v ∷ us) (suc k) u e = let inside : k < length us = stands_inside us k u e in omega arith
 
+-- what stands there is the unit, whatever stands for a missing one
+pub stands_same : (us : List (Option UnitView)) (k : ℕ) (u : UnitView) (other : Option UnitView)
+    → get_or us k None ≡ Some u → get_or us k other ≡ Some u
+stands_same [] k u other e = cc
+stands_same (v ∷ us) zero u other e = e
+stands_same (v ∷ us) (suc k) u other e = stands_same us k u other e
+
 -- one that was admitted and isn't over takes a turn
 pub step_counted : (us : List (Option UnitView)) (a used rest k : ℕ) (u v : UnitView) (over : Bool)
     → IsCounted us a used rest → get_or us k None ≡ Some u → is_last u.phase ≡ false → is_last v.phase ≡ over
