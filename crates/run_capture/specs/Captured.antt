@@ -4,7 +4,7 @@ use Rattle.run_capture.specs.declared.test_output.Stream.{Stream}
 use Rattle.run_capture.specs.declared.test_output.Stream.TheVariants.{Stdout, Stderr, Combined}
 use Rattle.run_capture.specs.declared.test_output.ChildOutput.{ChildOutput}
 use Rattle.run_capture.specs.declared.test_output.ChildFdError.{ChildFdError}
-use Rattle.run_capture.specs.declared.test_output.ChildFdError.TheVariants.{ReadStdout, ReadStderr, ReadCombined}
+use Rattle.run_capture.specs.declared.test_output.ChildFdError.TheVariants.{ReadStdout, ReadStderr, ReadCombined, Wait}
 use Rattle.run_capture.specs.declared.ended.Ended.{Ended}
 use Rattle.run_capture.specs.Output.{is_captured, with_bytes}
 
@@ -62,3 +62,7 @@ with_error c stream text = record c {
   ended = with_ended c.ended stream;
   errors = c.errors ++ read_error stream text ∷ [];
 }
+
+-- after a failed wait, which ends no stream
+abbrev pub with_wait_error : Captured → List ℕ → Captured
+with_wait_error c text = record c { errors = c.errors ++ Wait text ∷ [] }

@@ -1,20 +1,31 @@
 // The capture of a child's output.
 ghost use Rattle.std.specs.Prelude.{◌≡◌, ◌≢◌, [], IsTrue, IfOk, OnOk, OnErr};
-ghost use Rattle.run_capture.specs.Output.{nothing_of, nothing_of_split};
+ghost use Rattle.run_capture.specs.Output.{uncaptured, nothing_of, nothing_of_split};
 ghost use Rattle.run_capture.specs.Captured.{begun, takes, is_done, read_error, with_piece, with_end, with_error};
+ghost use Rattle.run_capture.specs.Captured.{with_wait_error};
 
 use crate::child_output_mut::ChildOutputMut;
 use crate::ended::Ended;
-use crate::{CaptureStrategy, ChildFdError, ChildOutput, List, Mem, Stream, Text};
+use crate::{CaptureStrategy, ChildFdError, ChildOutput, Duplicate, List, Mem, Stream, Text};
 use std::alloc::Global;
 use std::marker::Model;
 
 /// Joins the pieces of each captured stream of a child, until the stream ends or can't be read on.
-#[derive(Drop)]
 pub struct ChildAccumulator {
     output: ChildOutputMut,
     ended: Ended,
     errors: List<ChildFdError>,
+}
+
+// A call of its own, which keeps the proofs of all that hold a capture small.
+impl Drop for ChildAccumulator {
+    fn drop(self) {
+        let ChildAccumulator {
+            output: _,
+            ended: _,
+            errors: _,
+        } = self;
+    }
 }
 
 impl Model for ChildAccumulator {
@@ -64,6 +75,13 @@ impl ChildAccumulator {
         Ok(ChildAccumulator::begin(ChildOutputMut::split(alloc, stdout, stderr)))
     }
 
+    /// Captures nothing. Takes no memory.
+    pub fn uncaptured() -> Self
+        ensures { result ≡ begun uncaptured }
+    {
+        ChildAccumulator::begin(ChildOutputMut::uncaptured())
+    }
+
     /// Whether a stream is captured and not done. A stream is done at its end or first error.
     pub fn takes(&self, stream: Stream) -> bool
         ensures { result ≡ takes self.now stream }
@@ -100,6 +118,14 @@ impl ChildAccumulator {
         Ok(())
     }
 
+    /// Keeps that the wait for the child failed, with its text. No stream ends by it.
+    pub fn wait_error(&mut self, alloc: Global, text: Text) -> Mem<()>
+        ensures ok { OnOk result (self.new ≡ with_wait_error self.old text) }
+        ensures err { OnErr result (self.new ≡ self.old) }
+    {
+        self.errors.push(alloc, ChildFdError::Wait(text))
+    }
+
     /// Whether no stream is taken any more.
     pub fn is_done(&self) -> bool
         ensures { result ≡ is_done self.now }
@@ -126,6 +152,23 @@ impl ChildAccumulator {
         ensures output { result.0 ≡ self.output }
         ensures errors { result.1 ≡ self.errors }
     {
-        (self.output.freeze(), self.errors)
+        let ChildAccumulator {
+            output,
+            ended: _,
+            errors,
+        } = self;
+        (output.freeze(), errors)
+    }
+}
+
+impl Duplicate for ChildAccumulator {
+    fn copy(&self, alloc: Global) -> Mem<ChildAccumulator> {
+        let output = self.output.copy(alloc)?;
+        let errors = self.errors.copy(alloc)?;
+        Ok(ChildAccumulator {
+            output,
+            ended: self.ended,
+            errors,
+        })
     }
 }

@@ -1,6 +1,6 @@
 // The output of a child while it is captured.
 ghost use Rattle.std.specs.Prelude.{◌≡◌, length, option_map, IfOk, OnOk, OnErr};
-ghost use Rattle.run_capture.specs.Output.{nothing_where, nothing_of, nothing_of_split, is_captured, joined};
+ghost use Rattle.run_capture.specs.Output.{uncaptured, nothing_where, nothing_of, nothing_of_split, is_captured, joined};
 ghost use Rattle.run_capture.specs.Output.{with_bytes, lengths_of};
 
 use crate::{Blob, CaptureStrategy, ChildOutput, ChildSplitOutput, Duplicate, Mem, Stream};
@@ -78,6 +78,15 @@ impl ChildOutputMut {
         }
     }
 
+    // Captures nothing.
+    pub(crate) fn uncaptured() -> ChildOutputMut
+        ensures { result ≡ uncaptured }
+    {
+        ChildOutputMut {
+            output: ChildOutput::uncaptured(),
+        }
+    }
+
     // Whether a stream is captured.
     pub(crate) fn captures(&self, stream: Stream) -> bool
         ensures { result ≡ is_captured self.now stream }
@@ -133,5 +142,12 @@ impl ChildOutputMut {
             ChildOutput::Split(split) => (len_of(&split.stdout), len_of(&split.stderr)),
             ChildOutput::Combined { output } => (Some(output.len() as u64), None),
         }
+    }
+}
+
+impl Duplicate for ChildOutputMut {
+    fn copy(&self, alloc: Global) -> Mem<ChildOutputMut> {
+        let output = self.snapshot(alloc)?;
+        Ok(ChildOutputMut { output })
     }
 }

@@ -5,6 +5,8 @@ use Rattle.std.specs.Prelude.{⊤}
 use Rattle.std.proofs.lemmas.List.Elements.{filter_map-append}
 use Rattle.std.proofs.lemmas.List.{append-nil}
 use Rattle.std.proofs.lemmas.Grind.{common_steps}
+use Rattle.run_capture.specs.Captured.{Captured, is_done, with_piece, with_end, with_error, with_wait_error}
+use Rattle.run_events.specs.declared.result.ChildExit.{ChildExit}
 use Rattle.run_events.specs.declared.message.Message.{Message}
 use Rattle.run_events.specs.declared.message.Message.TheVariants.{Start, Skip, Finish}
 use Rattle.run_events.specs.declared.message.TestStart.{TestStart}
@@ -15,11 +17,12 @@ use Rattle.run_events.specs.declared.result.ExecuteStatus.{ExecuteStatus}
 use Rattle.run_model.specs.declared.dispatcher_view.Tally.{Tally}
 use Rattle.run_model.specs.declared.happening.UnitPart.TheVariants.{Acts}
 use Rattle.run_model.specs.declared.phase.Phase.{Phase}
-use Rattle.run_model.specs.declared.phase.Phase.TheVariants.{StartSent, Over}
+use Rattle.run_model.specs.declared.phase.Phase.TheVariants.{StartSent, Starting, Running, Leak, Deciding, Over}
 use Rattle.run_model.specs.declared.unit_turn.UnitTurn.{UnitTurn}
-use Rattle.run_model.specs.declared.unit_turn.UnitTurn.TheVariants.{Answered}
+use Rattle.run_model.specs.declared.unit_turn.UnitTurn.TheVariants.{Answered, Started, Exit, WaitFailed, Piece}
+use Rattle.run_model.specs.declared.unit_turn.UnitTurn.TheVariants.{StreamEnd, ReadError, Decide}
 use Rattle.run_model.specs.declared.unit_view.UnitView.{UnitView}
-use Rattle.run_model.specs.Unit.{at_moment, row, row_at, takes}
+use Rattle.run_model.specs.Unit.{at_moment, row, row_at, takes, settled}
 use Rattle.run_model.specs.Words.{unit_after}
 use Rattle.run_model.specs.Admission.{start_message, skip_message}
 use Rattle.run_model.specs.Dispatch.{event, started_event, finished_event}
@@ -30,11 +33,11 @@ use Rattle.run_model.specs.Accounts.{News, HasAccount, HasAccountAt, account_of,
 -- a row other than an answer keeps the account of its unit
 pub row_accounted : (mm : Bool) (now : ℕ) (ph : Phase) (turn : UnitTurn) (u : UnitView) (ss : List ExecuteStatus)
     (t : List News) (q : List Message)
-    → u.statuses ≡ ss → takes ph turn ≡ true → is_answer turn ≡ false
+    → u.statuses ≡ ss → u.phase ≡ ph → takes ph u.capture turn ≡ true → is_answer turn ≡ false
     → HasAccountAt mm ph ss t (pending_of u.test.unit q)
     → HasAccountAt mm (row_at now ph turn u).next.phase (row_at now ph turn u).next.statuses t
     (pending_of u.test.unit (q ++ option_to_list (row_at now ph turn u).sent))
-row_accounted mm now ph turn u ss t q e en other h = grind (arith, common_steps, filter_map-append)
+row_accounted mm now ph turn u ss t q e is en other h = grind (arith, common_steps, filter_map-append)
 
 -- a row sends only messages of its own unit
 pub row_sends_own : (now : ℕ) (ph : Phase) (turn : UnitTurn) (u : UnitView) (k : ℕ) (q : List Message)
@@ -50,19 +53,49 @@ IsBuiltIf (Some m) = IsBuilt m
 pub row_sends_built : (now : ℕ) (ph : Phase) (turn : UnitTurn) (u : UnitView) → IsBuiltIf (row_at now ph turn u).sent
 row_sends_built now ph turn u = grind arith
 
+-- a unit that ends its attempt, or waits for its streams, keeps its name and the moment of its latest turn
+settled_keeps : (now : ℕ) (exit : Option ChildExit) (c : Captured) (u : UnitView)
+    → ((settled now exit c u).test ≡ u.test) × ((settled now exit c u).latest ≡ u.latest)
+settled_keeps now exit c u = by_done (is_done c) refl
+  where
+    by_done : (b : Bool) → is_done c ≡ b
+        → ((settled now exit c u).test ≡ u.test) × ((settled now exit c u).latest ≡ u.latest)
+    by_done true e = rw e (refl, refl)
+    by_done false e = rw e (refl, refl)
+
 -- a row leaves a unit its name
 pub row_keeps_unit : (now : ℕ) (ph : Phase) (turn : UnitTurn) (u : UnitView) → (row_at now ph turn u).next.test ≡ u.test
-row_keeps_unit now ph turn u = grind arith
+row_keeps_unit now StartSent (Answered true) u = refl
+row_keeps_unit now StartSent (Answered false) u = refl
+row_keeps_unit now Running (Exit exit) u = (settled_keeps now (Some exit) u.capture u).0
+row_keeps_unit now Running (WaitFailed error) u = (settled_keeps now None (with_wait_error u.capture error) u).0
+row_keeps_unit now Leak (Piece stream bytes) u = (settled_keeps now u.exit (with_piece u.capture stream bytes) u).0
+row_keeps_unit now Leak (StreamEnd stream) u = (settled_keeps now u.exit (with_end u.capture stream) u).0
+row_keeps_unit now Leak (ReadError stream error) u =
+    (settled_keeps now u.exit (with_error u.capture stream error) u).0
+row_keeps_unit now Starting (Started pid) u = refl
+row_keeps_unit now Deciding (Decide word) u = refl
+row_keeps_unit now ph turn u = refl
 
 -- a row leaves a unit the moment of its latest turn
 pub row_keeps_latest : (now : ℕ) (ph : Phase) (turn : UnitTurn) (u : UnitView)
     → (row_at now ph turn u).next.latest ≡ u.latest
-row_keeps_latest now ph turn u = grind arith
+row_keeps_latest now StartSent (Answered true) u = refl
+row_keeps_latest now StartSent (Answered false) u = refl
+row_keeps_latest now Running (Exit exit) u = (settled_keeps now (Some exit) u.capture u).1
+row_keeps_latest now Running (WaitFailed error) u = (settled_keeps now None (with_wait_error u.capture error) u).1
+row_keeps_latest now Leak (Piece stream bytes) u = (settled_keeps now u.exit (with_piece u.capture stream bytes) u).1
+row_keeps_latest now Leak (StreamEnd stream) u = (settled_keeps now u.exit (with_end u.capture stream) u).1
+row_keeps_latest now Leak (ReadError stream error) u =
+    (settled_keeps now u.exit (with_error u.capture stream error) u).1
+row_keeps_latest now Starting (Started pid) u = refl
+row_keeps_latest now Deciding (Decide word) u = refl
+row_keeps_latest now ph turn u = refl
 
 -- a unit's own turn keeps the account of each test
 pub of_row : (mm : Bool) (now j k : ℕ) (turn : UnitTurn) (u : UnitView) (v : Option UnitView) (t : List News)
     (q : List Message)
-    → takes u.phase turn ≡ true → is_answer turn ≡ false → u.test.unit ≡ j → ((j == k) ≡ true → v ≡ Some u)
+    → takes u.phase u.capture turn ≡ true → is_answer turn ≡ false → u.test.unit ≡ j → ((j == k) ≡ true → v ≡ Some u)
     → HasAccount mm v t (pending_of k q)
     → HasAccount mm (unit_after now k (Some (Acts j turn)) v) t
     (pending_of k (q ++ option_to_list (row now turn u).sent))
@@ -77,7 +110,7 @@ of_row mm now j k turn u v t q en other named same h = by_unit (j == k) refl
         subst (λ m. HasAccountAt mm u.phase u.statuses t (pending_of m q)) (sym own) (rw (same e) at h) in
         rw (e, same e) (subst (λ m. HasAccount mm (Some (row now turn u).next) t
         (pending_of m (q ++ option_to_list (row now turn u).sent))) own
-        (row_accounted mm now u.phase turn (at_moment now u) u.statuses t q refl en other was))
+        (row_accounted mm now u.phase turn (at_moment now u) u.statuses t q refl refl en other was))
     by_unit false e =
         let apart : (u.test.unit == k) ≡ false = grind arith in
         rw (e, row_sends_own now u.phase turn (at_moment now u) k q apart) h

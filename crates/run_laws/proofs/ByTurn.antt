@@ -3,7 +3,7 @@ use Rattle.std.proofs.Common.{◌≡◌, ℕ, Bool, true, false, Option, Some, N
 use Rattle.run_events.specs.declared.settings.Settings.{Settings}
 use Rattle.run_events.specs.declared.turn.Turn.{Turn}
 use Rattle.run_events.specs.declared.turn.Turn.TheVariants.{Begin, Admit, Deliver, Started, StartFailed, Exit}
-use Rattle.run_events.specs.declared.turn.Turn.TheVariants.{WaitFailed, Decide, End}
+use Rattle.run_events.specs.declared.turn.Turn.TheVariants.{WaitFailed, Piece, StreamEnd, ReadError, Decide, End}
 use Rattle.run_model.specs.declared.unit_turn.UnitTurn.{UnitTurn}
 use Rattle.run_model.specs.declared.unit_turn.UnitTurn.TheVariants.{Answered}
 use Rattle.run_model.specs.Board.{Board}
@@ -35,6 +35,9 @@ by_turn P c (Started unit pid) = c.named _ _ _ refl
 by_turn P c (StartFailed unit error) = c.named _ _ _ refl
 by_turn P c (Exit unit exit) = c.named _ _ _ refl
 by_turn P c (WaitFailed unit error) = c.named _ _ _ refl
+by_turn P c (Piece unit stream bytes) = c.named _ _ _ refl
+by_turn P c (StreamEnd unit stream) = c.named _ _ _ refl
+by_turn P c (ReadError unit stream error) = c.named _ _ _ refl
 by_turn P c (Decide unit word) = c.named _ _ _ refl
 by_turn P c End = c.end
 by_turn P c turn = c.unbuilt turn (λ p b. refl)

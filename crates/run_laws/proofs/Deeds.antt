@@ -42,7 +42,7 @@ use Rattle.run_laws.proofs.Facts.{start_waits, finish_follows, may_go-is, oldest
 pub record IsTaken (run : List Happening) (k : ℕ) (turn : UnitTurn) : Type 0 where
   pub unit : UnitView
   pub is : unit_of k run ≡ Some unit
-  pub takes : takes unit.phase turn ≡ true
+  pub takes : takes unit.phase unit.capture turn ≡ true
   pub goes : turn ≢ Answered false
 
 abbrev pub PartFits : Settings → List Happening → Option UnitPart → Type 0
@@ -164,8 +164,8 @@ start_does p over now run start rest true (Some u) h on goes eq ew =
       part = record {
         unit = u;
         is = ew;
-        takes = ap (λ (u : UnitView). takes u.phase (Answered true)) (sym same)
-            ∙ ap (λ ph. takes ph (Answered true)) waits.phase;
+        takes = ap (λ (u : UnitView). takes u.phase u.capture (Answered true)) (sym same)
+            ∙ ap (λ ph. takes ph waits.unit.capture (Answered true)) waits.phase;
         goes = λ is. cc;
       };
       room = lt-from_queue (delivered run) (sent run) rest _ eq;

@@ -7,6 +7,7 @@ use Rattle.std.specs.Cmp.{first_so, second_so}
 use Rattle.std.proofs.lemmas.List.{append-nil}
 use Rattle.std.proofs.lemmas.List.Elements.{filter_map-append, All-nil, All-cons, All-contains}
 use Rattle.std.proofs.lemmas.Grind.{common_steps}
+use Rattle.run_capture.specs.declared.test_output.CaptureStrategy.{CaptureStrategy}
 use Rattle.run_events.specs.declared.settings.Settings.{Settings}
 use Rattle.run_events.specs.declared.turn.Turn.TheVariants.{End}
 use Rattle.run_events.specs.declared.message.Message.{Message}
@@ -14,7 +15,7 @@ use Rattle.run_events.specs.declared.result.ExecuteStatus.{ExecuteStatus}
 use Rattle.run_model.specs.declared.entry.Entry.{Entry}
 use Rattle.run_model.specs.declared.happening.Happening.{Happening}
 use Rattle.run_model.specs.declared.phase.Phase.{Phase}
-use Rattle.run_model.specs.declared.phase.Phase.TheVariants.{StartSent, Starting, Running, Deciding, Over}
+use Rattle.run_model.specs.declared.phase.Phase.TheVariants.{StartSent, Starting, Running, Leak, Deciding, Over}
 use Rattle.run_model.specs.declared.unit_view.UnitView.{UnitView}
 use Rattle.run_model.specs.Words.{clock, is_over, sub_run, ended_runs, queue, told, unit_of, units}
 use Rattle.run_model.specs.Admission.{is_done, is_last, tests_in, unit_of_test}
@@ -34,12 +35,12 @@ use Rattle.run_laws.proofs.Kept.{HoldsAfter, does_after, sub_run-after, holds}
 abbrev HasFateWith : Bool → List News → List ExecuteStatus → Type 0
 HasFateWith mm t ss = (t ≡ account mm false false ss) × (mm ≡ false → MeetsAttemptLaw 0 ss)
 
-fate_of : (mm : Bool) (v : Option UnitView) (story : List OwnTurn) (t : List News) → is_done v ≡ true
-    → IsAttempted mm v → IsMadeIf v story
-    → HasAccount mm v t [] → HasFateWith mm t (ended_statuses 1 (pieces story))
-fate_of mm None story t d a made h = cc
-fate_of mm (Some u) story t d a made h =
-    subst (HasFateWith mm t) (made_statuses u (pieces story) made) (by_attempts mm u.phase u.statuses d a h)
+fate_of : (mm : Bool) (strategy : CaptureStrategy) (v : Option UnitView) (story : List OwnTurn) (t : List News) → is_done v ≡ true
+    → IsAttempted mm v → IsMadeIf strategy v story
+    → HasAccount mm v t [] → HasFateWith mm t (ended_statuses strategy 1 (pieces story))
+fate_of mm strategy None story t d a made h = cc
+fate_of mm strategy (Some u) story t d a made h =
+    subst (HasFateWith mm t) (made_statuses strategy u (pieces story) made) (by_attempts mm u.phase u.statuses d a h)
   where
     by_attempts : (mm : Bool) (ph : Phase) (ss : List ExecuteStatus) → is_last ph ≡ true → IsAttemptedIn mm ph ss
         → HasAccountAt mm ph ss t []
@@ -52,6 +53,7 @@ fate_of mm (Some u) story t d a made h =
     by_attempts mm StartSent ss l a h = cc
     by_attempts mm Starting ss l a h = cc
     by_attempts mm Running ss l a h = cc
+    by_attempts mm Leak ss l a h = cc
     by_attempts mm Deciding ss l a h = cc
 
 -- each item of a list on which a test holds throughout passes
@@ -78,7 +80,7 @@ end_fates p over now run e j h below complete =
     let done : is_done (unit_of k run) ≡ true =
     sym (ap is_done (units-at p run k (omega arith)))
     ∙ all_at is_done (units p run) k None all (omega (arith, units-length p run)) in
-    let fate = fate_of (is_mismatched p j) (unit_of k run) (story_of k run) (account_of k (told run)) done
+    let fate = fate_of (is_mismatched p j) p.capture (unit_of k run) (story_of k run) (account_of k (told run)) done
     (subst (λ j. IsAttempted (is_mismatched p j) (unit_of k run)) (place-of_test p j) (h.attempted k)) (h.made k)
     (subst (λ j. HasAccount (is_mismatched p j) (unit_of k run) (account_of k (told run)) []) (place-of_test p j)
     (rw empty at (h.accounts k))) in

@@ -49,7 +49,7 @@ pub record Holds (p : Settings) (over : Bool) (now : ℕ) (run : List Happening)
   pub heard : heard run ≤ now
   pub named : (k : ℕ) → IsNamed (units_in p) now k (unit_of k run)
   pub accounts : (k : ℕ) → IsAccountedAs p (place_of p k) k run
-  pub made : (k : ℕ) → IsMadeIf (unit_of k run) (story_of k run)
+  pub made : (k : ℕ) → IsMadeIf p.capture (unit_of k run) (story_of k run)
   -- before a sub-run is on, and the run not over, nothing has happened: no further sub-run begins yet
   pub fresh : is_on run ≡ false → over ≡ false → run ≡ []
   -- no other message is sent yet, and no turn is a cause, so no start is refused

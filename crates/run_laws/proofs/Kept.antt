@@ -7,6 +7,7 @@ use Rattle.std.specs.List.{All}
 use Rattle.std.proofs.lemmas.List.Elements.{filter_map-append, All-nil, All-cons, All-append}
 use Rattle.std.proofs.lemmas.List.Sums.{sum_by-append}
 use Rattle.std.proofs.lemmas.Grind.{common_steps}
+use Rattle.run_capture.specs.declared.test_output.CaptureStrategy.{CaptureStrategy}
 use Rattle.run_events.specs.Cancel.{greater}
 use Rattle.run_events.specs.declared.settings.Settings.{Settings}
 use Rattle.run_events.specs.declared.message.Message.{Message}
@@ -157,33 +158,34 @@ attempted_after p run now k (Some (Acts j turn)) v t q a h taken = moves (j == k
     moves false v a h = a
 
 -- a unit that begins is at its first attempt, of which there is none yet
-first_made : (mm : Bool) (u : UnitView) (sent : Message) → IsFirst mm u sent → u.attempt ≡ 1 → u.start ≡ 0
-    → u.statuses ≡ [] → IsMade u []
-first_made true u sent (ph, is) a s ss = record { attempt = a; start = s; has = rw ph ss }
-first_made false u sent (ph, is) a s ss = record { attempt = a; start = s; has = rw ph ss }
+first_made : (mm : Bool) (s : CaptureStrategy) (u : UnitView) (sent : Message) → IsFirst mm u sent → u.attempt ≡ 1
+    → u.start ≡ 0
+    → u.strategy ≡ s → u.statuses ≡ [] → IsMade s u []
+first_made true s u sent (ph, is) a st sg ss = record { attempt = a; start = st; strategy = sg; has = rw ph ss }
+first_made false s u sent (ph, is) a st sg ss = record { attempt = a; start = st; strategy = sg; has = rw ph ss }
 
 -- a part leaves each unit as its own turns make it
 made_after : (p : Settings) (run : List Happening) (now k : ℕ) (part : Option UnitPart)
-    → IsMadeIf (unit_of k run) (story_of k run) → PartFits p run part
-    → IsMadeIf (unit_after now k part (unit_of k run)) (option_to_list (own_turn k now part) ++ story_of k run)
+    → IsMadeIf p.capture (unit_of k run) (story_of k run) → PartFits p run part
+    → IsMadeIf p.capture (unit_after now k part (unit_of k run)) (option_to_list (own_turn k now part) ++ story_of k run)
 made_after p run now k None h fits = h
 made_after p run now k (Some (Joins first)) h (sent, new) = begins (first.test.unit == k) refl
   where
     begins : (b : Bool) → (first.test.unit == k) ≡ b
-        → IsMadeIf (if b then Some first else unit_of k run) (story_of k run)
+        → IsMadeIf p.capture (if b then Some first else unit_of k run) (story_of k run)
     begins true e =
         let here : k ≡ first.test.unit = grind arith in
         let none : unit_of k run ≡ None = ap (λ k. unit_of k run) here ∙ new.unknown in
-        rw (rw none at h) (first_made _ first sent new.first new.attempt new.start new.statuses)
+        rw (rw none at h) (first_made _ p.capture first sent new.first new.attempt new.start new.strategy new.statuses)
     begins false e = h
 made_after p run now k (Some (Acts j turn)) h taken = by_unit (j == k) refl
   where
     by_unit : (b : Bool) → (j == k) ≡ b
-        → IsMadeIf (if b then option_map (λ w. (row now turn w).next) (unit_of k run) else unit_of k run)
+        → IsMadeIf p.capture (if b then option_map (λ w. (row now turn w).next) (unit_of k run) else unit_of k run)
         (option_to_list (if b then Some (record { moment = now; turn = turn }) else None) ++ story_of k run)
     by_unit true e =
         let here : k ≡ j = grind arith in
-        row_made_if now turn taken.unit (unit_of k run) (story_of k run) (ap (λ k. unit_of k run) here ∙ taken.is)
+        row_made_if p.capture now turn taken.unit (unit_of k run) (story_of k run) (ap (λ k. unit_of k run) here ∙ taken.is)
         taken.takes h
     by_unit false e = h
 
@@ -300,5 +302,5 @@ pub made : (p : Settings) (backward : List Entry) → IsLegalBackward p backward
 made p backward legal j u is =
     let k : ℕ = unit_of_test p j in
     let ps : List (List OwnTurn) = pieces (story_of k (sub_run (history p backward))) in
-    let it : IsMade u ps = rw is at ((holds p backward legal).made k) in
-    record { statuses = made_statuses u ps it; attempt = it.attempt; start = it.start }
+    let it : IsMade p.capture u ps = rw is at ((holds p backward legal).made k) in
+    record { statuses = made_statuses p.capture u ps it; attempt = it.attempt; start = it.start }

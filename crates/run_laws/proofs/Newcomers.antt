@@ -171,6 +171,7 @@ pub record IsNew (p : Settings) (run : List Happening) (u : UnitView) (sent : Me
   pub start : u.start ≡ 0
   pub latest : u.latest ≡ 0
   pub attempt : u.attempt ≡ 1
+  pub strategy : u.strategy ≡ p.capture
   pub statuses : u.statuses ≡ []
 
 -- a newcomer begins
@@ -204,6 +205,7 @@ new_unit p run new e = by_case found.is
           start = refl;
           latest = refl;
           attempt = refl;
+          strategy = refl;
           statuses = refl;
         })
     by_case (inr (skip, (global, (slot, runs, is)))) =
@@ -215,5 +217,6 @@ new_unit p run new e = by_case found.is
           start = refl;
           latest = refl;
           attempt = refl;
+          strategy = refl;
           statuses = refl;
         })

@@ -92,7 +92,7 @@ oldest_ready p over now run (Start start ∷ rest) h on few short eq en =
       (on, omega (arith, length-range_with_len 0 n)),
       take_ready p over now run start.test.unit (Answered (may_go (tally p run))) (Some waits.unit) h
           (unit_in-is p over now run start.test.unit h ∙ waits.is)
-          (ap (λ ph. takes ph (Answered (may_go (tally p run)))) waits.phase),
+          (ap (λ ph. takes ph waits.unit.capture (Answered (may_go (tally p run)))) waits.phase),
     )
 oldest_ready p over now run (Skip skip ∷ rest) h on few short eq en =
     let counted = h.counted in

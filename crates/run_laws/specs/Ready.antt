@@ -22,7 +22,7 @@ pub record CanTake (b : Board) (k : ℕ) (turn : UnitTurn) : Type 0 where
   pub is : unit_in b k ≡ Some unit
   pub named : unit.test.unit ≡ k
   pub below : k < length b.units
-  pub takes : takes unit.phase turn ≡ true
+  pub takes : takes unit.phase unit.capture turn ≡ true
   pub later : unit.latest ≤ b.clock
 
 -- an answer can be given to the unit that waits for it

@@ -2,6 +2,8 @@
 use Rattle.std.specs.Prelude.{ℕ, ◌+◌, List, [], Bool, true, false, if◌then◌else◌, Option, Some, None, option_map}
 use Rattle.std.specs.Prelude.{option_and_then, map, length, take, drop, count_by, is_none, slice_get, unwrap_or}
 use Rattle.std.specs.List.{list_all}
+use Rattle.run_capture.specs.Output.{uncaptured}
+use Rattle.run_capture.specs.Captured.{begun}
 use Rattle.run_events.specs.declared.settings.Settings.{Settings}
 use Rattle.run_events.specs.declared.result.FlakyResult.{FlakyResult}
 use Rattle.run_events.specs.declared.plan.PlanTest.{PlanTest}
@@ -80,10 +82,13 @@ first_view p k slot test = record {
   flaky = flaky_of p test;
   run_id = p.plan.head.run_id;
   threads = p.threads;
+  strategy = p.capture;
   phase = StartSent;
   attempt = 1;
   start = 0;
   latest = 0;
+  capture = begun uncaptured;
+  exit = None;
   statuses = [];
 }
 

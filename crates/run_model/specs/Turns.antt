@@ -5,7 +5,7 @@ use Rattle.std.specs.List.{list_all}
 use Rattle.run_events.specs.declared.settings.Settings.{Settings}
 use Rattle.run_events.specs.declared.turn.Turn.{Turn}
 use Rattle.run_events.specs.declared.turn.Turn.TheVariants.{Begin, Admit, Deliver, Started, StartFailed, Exit}
-use Rattle.run_events.specs.declared.turn.Turn.TheVariants.{WaitFailed, Decide, End}
+use Rattle.run_events.specs.declared.turn.Turn.TheVariants.{WaitFailed, Piece, StreamEnd, ReadError, Decide, End}
 use Rattle.run_events.specs.declared.message.Message.{Message}
 use Rattle.run_events.specs.declared.message.Message.TheVariants.{Start}
 use Rattle.run_events.specs.declared.events.TestEventKind.{TestEventKind}
@@ -19,7 +19,9 @@ use Rattle.run_model.specs.declared.happening.UnitPart.TheVariants.{Joins, Acts}
 use Rattle.run_model.specs.declared.unit_turn.UnitTurn.{UnitTurn}
 use Rattle.run_model.specs.declared.unit_turn.UnitTurn.TheVariants.{Answered, Started as UnitStarted}
 use Rattle.run_model.specs.declared.unit_turn.UnitTurn.TheVariants.{StartFailed as UnitStartFailed, Exit as UnitExit}
-use Rattle.run_model.specs.declared.unit_turn.UnitTurn.TheVariants.{WaitFailed as UnitWaitFailed, Decide as UnitDecide}
+use Rattle.run_model.specs.declared.unit_turn.UnitTurn.TheVariants.{WaitFailed as UnitWaitFailed, Piece as UnitPiece}
+use Rattle.run_model.specs.declared.unit_turn.UnitTurn.TheVariants.{StreamEnd as UnitStreamEnd}
+use Rattle.run_model.specs.declared.unit_turn.UnitTurn.TheVariants.{ReadError as UnitReadError, Decide as UnitDecide}
 use Rattle.run_model.specs.declared.unit_view.UnitView.{UnitView}
 use Rattle.run_model.specs.Unit.{row, takes}
 use Rattle.run_model.specs.Admission.{is_done, Newcomer, newcomer}
@@ -33,13 +35,16 @@ turn_of_unit (Started unit pid) = Some (unit, UnitStarted pid)
 turn_of_unit (StartFailed unit error) = Some (unit, UnitStartFailed error)
 turn_of_unit (Exit unit exit) = Some (unit, UnitExit exit)
 turn_of_unit (WaitFailed unit error) = Some (unit, UnitWaitFailed error)
+turn_of_unit (Piece unit stream bytes) = Some (unit, UnitPiece stream bytes)
+turn_of_unit (StreamEnd unit stream) = Some (unit, UnitStreamEnd stream)
+turn_of_unit (ReadError unit stream error) = Some (unit, UnitReadError stream error)
 turn_of_unit (Decide unit word) = Some (unit, UnitDecide word)
 turn_of_unit _ = None
 
 -- whether a unit takes a turn; a test that wasn't admitted takes none
 abbrev pub unit_takes : Option UnitView → UnitTurn → Bool
 unit_takes None turn = false
-unit_takes (Some u) turn = takes u.phase turn
+unit_takes (Some u) turn = takes u.phase u.capture turn
 
 -- no message waits
 abbrev pub is_empty : List Message → Bool

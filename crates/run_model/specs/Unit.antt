@@ -1,6 +1,6 @@
 -- The unit table: what each turn does to a unit in each phase.
-use Rattle.std.specs.Prelude.{ℕ, ◌-◌, List, [], ◌∷◌, ◌++◌, Bool, true, false, Option, Some, None, codes}
-use Rattle.std.specs.Prelude.{decimal}
+use Rattle.std.specs.Prelude.{ℕ, ◌-◌, ◌==◌, List, [], ◌∷◌, ◌++◌, length, Bool, true, false, not, ◌&&◌}
+use Rattle.std.specs.Prelude.{if◌then◌else◌, Option, Some, None, codes, decimal}
 use Rattle.uuid.specs.Text.{hyphenated_text, lower}
 use Rattle.run_events.specs.Result.{execution_result}
 use Rattle.run_events.specs.declared.ask.Ask.{Ask}
@@ -8,9 +8,9 @@ use Rattle.run_events.specs.declared.ask.Ask.TheVariants.{Start as AskStart}
 use Rattle.run_events.specs.declared.plan.GroupSlot.{GroupSlot}
 use Rattle.run_events.specs.declared.message.Message.{Message}
 use Rattle.run_events.specs.declared.message.Message.TheVariants.{Finish}
-use Rattle.run_capture.specs.Output.{uncaptured}
-use Rattle.run_capture.specs.declared.test_output.ChildFdError.{ChildFdError}
-use Rattle.run_capture.specs.declared.test_output.ChildFdError.TheVariants.{Wait}
+use Rattle.run_capture.specs.Output.{uncaptured, nothing_of}
+use Rattle.run_capture.specs.Captured.{Captured, begun, takes as takes_stream, is_done, with_piece, with_end}
+use Rattle.run_capture.specs.Captured.{with_error, with_wait_error}
 use Rattle.run_events.specs.declared.result.ExecuteStatus.{ExecuteStatus}
 use Rattle.run_events.specs.declared.result.ChildExecutionOutput.{ChildExecutionOutput}
 use Rattle.run_events.specs.declared.result.ChildExecutionOutput.TheVariants.{Output, StartError}
@@ -19,10 +19,10 @@ use Rattle.run_events.specs.declared.result.ExecutionResult.{ExecutionResult}
 use Rattle.run_events.specs.declared.result.ExecutionResult.TheVariants.{ExecFail}
 use Rattle.run_events.specs.declared.result.LeakTimeoutResult.TheVariants.{Pass}
 use Rattle.run_model.specs.declared.phase.Phase.{Phase}
-use Rattle.run_model.specs.declared.phase.Phase.TheVariants.{StartSent, Starting, Running, Deciding, Over}
+use Rattle.run_model.specs.declared.phase.Phase.TheVariants.{StartSent, Starting, Running, Leak, Deciding, Over}
 use Rattle.run_model.specs.declared.unit_turn.UnitTurn.{UnitTurn}
 use Rattle.run_model.specs.declared.unit_turn.UnitTurn.TheVariants.{Answered, Started, StartFailed, Exit, WaitFailed}
-use Rattle.run_model.specs.declared.unit_turn.UnitTurn.TheVariants.{Decide}
+use Rattle.run_model.specs.declared.unit_turn.UnitTurn.TheVariants.{Piece, StreamEnd, ReadError, Decide}
 use Rattle.run_model.specs.declared.unit_view.UnitView.{UnitView}
 
 -- how many attempts a test has: no test has retries yet
@@ -99,14 +99,37 @@ status_at now result output u = record {
   time = now - u.start;
 }
 
--- a unit whose attempt ends at this moment with this result
+-- a unit whose attempt ends at this moment with this result: what was captured of its child is kept no longer
 abbrev pub ended : ℕ → ExecutionResult → ChildExecutionOutput → UnitView → UnitView
-ended now result output u =
-    record u { phase = Deciding; statuses = u.statuses ++ status_at now result output u ∷ [] }
+ended now result output u = record u {
+  phase = Deciding;
+  statuses = u.statuses ++ status_at now result output u ∷ [];
+  capture = begun uncaptured;
+  exit = None;
+}
 
--- a unit whose child ended so, none where the wait for it failed, with these faults: no output is captured yet
-abbrev pub exited : ℕ → Option ChildExit → List ChildFdError → UnitView → UnitView
-exited now exit errors u = ended now (execution_result exit errors false Pass) (Output uncaptured errors) u
+-- a unit whose attempt ends at this moment by how its child ended and what was captured of it: it left nothing open
+abbrev pub exited : ℕ → Option ChildExit → Captured → UnitView → UnitView
+exited now exit c u = ended now (execution_result exit c.errors false Pass) (Output c.output c.errors) u
+
+-- a unit whose child ended so, none where the wait for it failed, and of which this was captured: its attempt ends
+-- where all streams are done, and else it waits for them
+abbrev pub settled : ℕ → Option ChildExit → Captured → UnitView → UnitView
+settled now exit c u = if is_done c then exited now exit c u else record u { phase = Leak; capture = c; exit = exit }
+
+-- which turns a capture gets: those of a stream that is captured and not done, where a piece has bytes
+abbrev pub hears : Captured → UnitTurn → Bool
+hears c (Piece stream bytes) = takes_stream c stream && not (length bytes == 0)
+hears c (StreamEnd stream) = takes_stream c stream
+hears c (ReadError stream error) = takes_stream c stream
+hears c _ = false
+
+-- what was captured after such a turn
+abbrev pub having_heard : Captured → UnitTurn → Captured
+having_heard c (Piece stream bytes) = with_piece c stream bytes
+having_heard c (StreamEnd stream) = with_end c stream
+having_heard c (ReadError stream error) = with_error c stream error
+having_heard c _ = c
 
 -- what a row gives: the unit after it, the message that it sends and what it asks
 pub record Row : Type 0 where
@@ -126,15 +149,31 @@ quiet u = record { next = u; sent = None; asked = None }
 abbrev pub decided : UnitView → Row
 decided u = record { next = record u { phase = Over }; sent = Some (finish_message u); asked = None }
 
--- the rows, at a moment of the run's clock; what isn't enabled leaves all as it is
+-- it is let go at this moment: its capture begins anew
+abbrev pub let_go : ℕ → UnitView → UnitView
+let_go now u = record u { phase = Starting; start = now; capture = begun (nothing_of u.strategy) }
+
+-- its capture gets a turn, while its child runs and after it
+abbrev pub heard_running : UnitTurn → UnitView → UnitView
+heard_running turn u = record u { capture = having_heard u.capture turn }
+
+abbrev pub heard_after : ℕ → UnitTurn → UnitView → UnitView
+heard_after now turn u = settled now u.exit (having_heard u.capture turn) u
+
+-- the rows, at a moment of the run's clock; any other phase and turn leave all as it is
 abbrev pub row_at : ℕ → Phase → UnitTurn → UnitView → Row
-row_at now StartSent (Answered true) u =
-    record { next = record u { phase = Starting; start = now }; sent = None; asked = Some (start_ask u) }
+row_at now StartSent (Answered true) u = record { next = let_go now u; sent = None; asked = Some (start_ask u) }
 row_at now StartSent (Answered false) u = quiet (record u { phase = Over })
 row_at now Starting (Started pid) u = quiet (record u { phase = Running })
 row_at now Starting (StartFailed error) u = quiet (ended now ExecFail (StartError error) u)
-row_at now Running (Exit exit) u = quiet (exited now (Some exit) [] u)
-row_at now Running (WaitFailed error) u = quiet (exited now None (Wait error ∷ []) u)
+row_at now Running (Piece stream bytes) u = quiet (heard_running (Piece stream bytes) u)
+row_at now Running (StreamEnd stream) u = quiet (heard_running (StreamEnd stream) u)
+row_at now Running (ReadError stream error) u = quiet (heard_running (ReadError stream error) u)
+row_at now Running (Exit exit) u = quiet (settled now (Some exit) u.capture u)
+row_at now Running (WaitFailed error) u = quiet (settled now None (with_wait_error u.capture error) u)
+row_at now Leak (Piece stream bytes) u = quiet (heard_after now (Piece stream bytes) u)
+row_at now Leak (StreamEnd stream) u = quiet (heard_after now (StreamEnd stream) u)
+row_at now Leak (ReadError stream error) u = quiet (heard_after now (ReadError stream error) u)
 row_at now Deciding (Decide word) u = decided u
 row_at _ _ _ u = quiet u
 
@@ -146,12 +185,14 @@ at_moment now u = record u { latest = now }
 abbrev pub row : ℕ → UnitTurn → UnitView → Row
 row now turn u = row_at now u.phase turn (at_moment now u)
 
--- which turns a unit takes in which phase
-abbrev pub takes : Phase → UnitTurn → Bool
-takes StartSent (Answered _) = true
-takes Starting (Started _) = true
-takes Starting (StartFailed _) = true
-takes Running (Exit _) = true
-takes Running (WaitFailed _) = true
-takes Deciding (Decide _) = true
-takes _ _ = false
+-- which turns a unit takes in which phase, with this capture
+abbrev pub takes : Phase → Captured → UnitTurn → Bool
+takes StartSent c (Answered _) = true
+takes Starting c (Started _) = true
+takes Starting c (StartFailed _) = true
+takes Running c (Exit _) = true
+takes Running c (WaitFailed _) = true
+takes Running c turn = hears c turn
+takes Leak c turn = hears c turn
+takes Deciding c (Decide _) = true
+takes _ _ _ = false

@@ -9,6 +9,8 @@ pub enum Phase {
     Starting,
     /// Its child runs.
     Running,
+    /// Its child has ended, and a captured stream of it isn't done.
+    Leak,
     /// Its attempt has ended.
     Deciding,
     /// It is done.

@@ -1,5 +1,5 @@
 // What can happen to a unit.
-use run_capture::{Duplicate, Mem, Text};
+use run_capture::{Blob, Duplicate, Mem, Stream, Text};
 use run_events::ChildExit;
 use std::alloc::Global;
 
@@ -16,6 +16,12 @@ pub enum UnitTurn {
     Exit { exit: ChildExit },
     /// The wait for its child failed.
     WaitFailed { error: Text },
+    /// Its child wrote to a captured stream.
+    Piece { stream: Stream, bytes: Blob },
+    /// A captured stream of its child ended.
+    StreamEnd { stream: Stream },
+    /// Reading a captured stream of its child failed.
+    ReadError { stream: Stream, error: Text },
     /// It decides what comes after its attempt, with a random word.
     Decide { word: u32 },
 }
@@ -30,6 +36,15 @@ impl Duplicate for UnitTurn {
             },
             UnitTurn::Exit { exit } => UnitTurn::Exit { exit: *exit },
             UnitTurn::WaitFailed { error } => UnitTurn::WaitFailed {
+                error: error.copy(alloc)?,
+            },
+            UnitTurn::Piece { stream, bytes } => UnitTurn::Piece {
+                stream: *stream,
+                bytes: bytes.copy(alloc)?,
+            },
+            UnitTurn::StreamEnd { stream } => UnitTurn::StreamEnd { stream: *stream },
+            UnitTurn::ReadError { stream, error } => UnitTurn::ReadError {
+                stream: *stream,
                 error: error.copy(alloc)?,
             },
             UnitTurn::Decide { word } => UnitTurn::Decide { word: *word },

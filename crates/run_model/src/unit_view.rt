@@ -2,8 +2,8 @@
 ghost use Rattle.std.specs.Prelude.{◌≡◌, IfOk};
 
 use crate::Phase;
-use run_capture::{Duplicate, List, Mem, Text};
-use run_events::{ExecuteStatus, FlakyResult, TestSlotAssignment, TestUnit};
+use run_capture::{CaptureStrategy, ChildAccumulator, Duplicate, List, Mem, Text};
+use run_events::{ChildExit, ExecuteStatus, FlakyResult, TestSlotAssignment, TestUnit};
 use std::alloc::Global;
 use uuid::Uuid;
 
@@ -17,6 +17,8 @@ pub struct UnitView {
     pub flaky: FlakyResult,
     pub run_id: Uuid,
     pub threads: u32,
+    /// How the output of its child is captured.
+    pub strategy: CaptureStrategy,
     pub phase: Phase,
     /// Its current attempt, from 1.
     pub attempt: u32,
@@ -24,6 +26,10 @@ pub struct UnitView {
     pub start: u64,
     /// When it took its latest turn.
     pub latest: u64,
+    /// What was captured of its child so far.
+    pub capture: ChildAccumulator,
+    /// How its child ended, while a captured stream of it isn't done; none where the wait for it failed.
+    pub exit: Option<ChildExit>,
     /// The attempts that have ended, in order.
     pub statuses: List<ExecuteStatus>,
 }
@@ -38,23 +44,28 @@ impl Drop for UnitView {
             flaky: _,
             run_id: _,
             threads: _,
+            strategy: _,
             phase: _,
             attempt: _,
             start: _,
             latest: _,
+            capture: _,
+            exit: _,
             statuses: _,
         } = self;
     }
 }
 
-// A copy of a unit, with its command and its attempts, that are copied already.
+// A copy of a unit, with its command, its capture and its attempts, that are copied already.
 fn with_parts(
     alloc: Global,
     view: &UnitView,
     command: List<Text>,
+    capture: ChildAccumulator,
     statuses: List<ExecuteStatus>,
 ) -> Mem<UnitView>
-    ensures { IfOk result (λ u. u ≡ record view.now { command = command; statuses = statuses }) }
+    ensures { IfOk result (λ u. u
+        ≡ record view.now { command = command; capture = capture; statuses = statuses }) }
 {
     let slot = view.slot.copy(alloc)?;
     let test = view.test.copy(alloc)?;
@@ -65,10 +76,13 @@ fn with_parts(
         flaky: view.flaky,
         run_id: view.run_id,
         threads: view.threads,
+        strategy: view.strategy,
         phase: view.phase,
         attempt: view.attempt,
         start: view.start,
         latest: view.latest,
+        capture,
+        exit: view.exit,
         statuses,
     })
 }
@@ -76,7 +90,8 @@ fn with_parts(
 impl Duplicate for UnitView {
     fn copy(&self, alloc: Global) -> Mem<UnitView> {
         let command = self.command.copy(alloc)?;
+        let capture = self.capture.copy(alloc)?;
         let statuses = self.statuses.copy(alloc)?;
-        with_parts(alloc, self, command, statuses)
+        with_parts(alloc, self, command, capture, statuses)
     }
 }

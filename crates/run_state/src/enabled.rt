@@ -3,11 +3,11 @@ ghost use Rattle.std.specs.Prelude.{◌≤◌, ◌≡◌, length, IfOk};
 ghost use Rattle.run_model.specs.Admission.{units_in};
 ghost use Rattle.run_model.specs.Turns.{turn_of_unit, is_empty, facts, run_takes, enabled_on};
 ghost use Rattle.run_state.specs.Held.{IsSeated};
-ghost use Rattle.run_events.specs.declared.turn.Turn.TheVariants.{StartFailed, WaitFailed};
+ghost use Rattle.run_events.specs.declared.turn.Turn.TheVariants.{StartFailed, WaitFailed, Piece, ReadError};
 
 use crate::admission::can_admit;
 use crate::state::State;
-use run_capture::{Duplicate, Mem, Text};
+use run_capture::{Blob, Duplicate, Mem, Stream, Text};
 use run_dispatch::DispatchState;
 use run_events::{Settings, Turn};
 use run_model::{Facts, UnitTurn};
@@ -22,6 +22,19 @@ pub fn turn_of_unit(alloc: Global, turn: &Turn) -> Mem<Option<(u32, UnitTurn)>>
         Turn::StartFailed { unit, error } => start_failed(alloc, *unit, error),
         Turn::Exit { unit, exit } => Ok(Some((*unit, UnitTurn::Exit { exit: *exit }))),
         Turn::WaitFailed { unit, error } => wait_failed(alloc, *unit, error),
+        Turn::Piece {
+            unit,
+            stream,
+            bytes,
+        } => piece(alloc, *unit, *stream, bytes),
+        Turn::StreamEnd { unit, stream } => {
+            Ok(Some((*unit, UnitTurn::StreamEnd { stream: *stream })))
+        }
+        Turn::ReadError {
+            unit,
+            stream,
+            error,
+        } => read_error(alloc, *unit, *stream, error),
         Turn::Decide { unit, word } => Ok(Some((*unit, UnitTurn::Decide { word: *word }))),
         _ => Ok(None),
     }
@@ -39,6 +52,25 @@ fn wait_failed(alloc: Global, unit: u32, error: &Text) -> Mem<Option<(u32, UnitT
 {
     let error = error.copy(alloc)?;
     Ok(Some((unit, UnitTurn::WaitFailed { error })))
+}
+
+fn piece(alloc: Global, unit: u32, stream: Stream, bytes: &Blob) -> Mem<Option<(u32, UnitTurn)>>
+    ensures { IfOk result (λ named. named ≡ turn_of_unit (Piece unit stream bytes.now)) }
+{
+    let bytes = bytes.copy(alloc)?;
+    Ok(Some((unit, UnitTurn::Piece { stream, bytes })))
+}
+
+fn read_error(
+    alloc: Global,
+    unit: u32,
+    stream: Stream,
+    error: &Text,
+) -> Mem<Option<(u32, UnitTurn)>>
+    ensures { IfOk result (λ named. named ≡ turn_of_unit (ReadError unit stream error.now)) }
+{
+    let error = error.copy(alloc)?;
+    Ok(Some((unit, UnitTurn::ReadError { stream, error })))
 }
 
 // Whether no message waits.

@@ -89,7 +89,7 @@ impl Units {
 
     /// A unit takes a turn.
     pub fn step(&mut self, alloc: Global, unit: usize, turn: UnitTurn, now: u64) -> Mem<UnitEffects>
-        requires { (u : UnitView) × (slice_index_or self.old unit None ≡ Some u) × (takes u.phase turn ≡ true)
+        requires { (u : UnitView) × (slice_index_or self.old unit None ≡ Some u) × (takes u.phase u.capture turn ≡ true)
             × (u.latest ≤ now) }
         ensures after { OnOk result (self.new
             ≡ units_after now (taken_by now unit turn (slice_index_or self.old unit None)).part self.old) }
@@ -124,7 +124,7 @@ fn step_at(
     turn: UnitTurn,
     now: u64,
 ) -> Mem<UnitEffects>
-    requires { (u : UnitView) × (slice_index_or units.old.items unit None ≡ Some u) × (takes u.phase turn ≡ true)
+    requires { (u : UnitView) × (slice_index_or units.old.items unit None ≡ Some u) × (takes u.phase u.capture turn ≡ true)
         × (u.latest ≤ now) }
     ensures after { OnOk result (units.new.items
         ≡ units_after now (taken_by now unit turn (slice_index_or units.old.items unit None)).part units.old.items) }

@@ -5,6 +5,7 @@
 mod effects;
 mod ending;
 mod environment;
+mod hearing;
 mod unit;
 
 pub use effects::UnitEffects;

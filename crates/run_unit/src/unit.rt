@@ -8,11 +8,13 @@ ghost use Rattle.run_model.specs.declared.phase.Phase.TheVariants as phases;
 ghost use Rattle.run_model.specs.declared.unit_turn.UnitTurn.TheVariants as turns;
 ghost use Rattle.run_events.specs.declared.message.Message.TheVariants.{Finish};
 ghost use Rattle.run_unit.specs.Effects.{IsRow};
+ghost use Rattle.run_unit.specs.Heard.{is_heard};
 
 use crate::effects::{UnitEffects, quiet};
-use crate::ending::{end_child, end_wait, fail_start};
+use crate::ending::{end_child, end_wait, fail_start, hear_after};
 use crate::environment::start_of;
-use run_capture::{Duplicate, List, Mem, Text};
+use crate::hearing::{hear, hears, is_heard};
+use run_capture::{ChildAccumulator, Duplicate, List, Mem, Text};
 use run_events::{
     FlakyResult, Message, PlanTest, Settings, TestFinish, TestSkip, TestSlotAssignment, TestStart,
     TestUnit,
@@ -71,10 +73,13 @@ fn first_view(
         flaky: flaky_of(settings, planned),
         run_id: settings.plan.head.run_id,
         threads: settings.threads,
+        strategy: settings.capture,
         phase: Phase::StartSent,
         attempt: 1,
         start: 0,
         latest: 0,
+        capture: ChildAccumulator::uncaptured(),
+        exit: None,
         statuses: List::new(),
     })
 }
@@ -154,7 +159,7 @@ impl Unit {
 
     /// Whether the unit takes a turn.
     pub fn enabled(&self, turn: &UnitTurn) -> bool
-        ensures { result ≡ takes self.now.phase turn.now }
+        ensures { result ≡ takes self.now.phase self.now.capture turn.now }
     {
         match turn {
             UnitTurn::Answered { .. } => matches!(self.view.phase, Phase::StartSent),
@@ -163,13 +168,17 @@ impl Unit {
             UnitTurn::Exit { .. } => matches!(self.view.phase, Phase::Running),
             UnitTurn::WaitFailed { .. } => matches!(self.view.phase, Phase::Running),
             UnitTurn::Decide { .. } => matches!(self.view.phase, Phase::Deciding),
+            _ => {
+                matches!(self.view.phase, Phase::Running | Phase::Leak)
+                    && hears(&self.view.capture, turn)
+            }
         }
     }
 
     /// Takes a turn at a moment of the run's clock, in nanoseconds: one row of the unit table. No turn is earlier than
     /// the latest that the unit took. After want of memory the unit is unchanged.
     pub fn step(&mut self, alloc: Global, turn: UnitTurn, now: u64) -> Mem<UnitEffects>
-        requires enabled { takes self.old.phase turn ≡ true }
+        requires enabled { takes self.old.phase self.old.capture turn ≡ true }
         requires later { self.old.latest ≤ now }
         ensures row { IfOk result (IsRow (row now turn self.old) self.new) }
         ensures err { OnErr result (self.new ≡ self.old) }
@@ -188,7 +197,24 @@ impl Unit {
 
 // Takes a turn by the row of its phase.
 fn act(alloc: Global, view: &mut UnitView, turn: UnitTurn, now: u64) -> Mem<UnitEffects>
-    requires enabled { takes view.old.phase turn ≡ true }
+    requires enabled { takes view.old.phase view.old.capture turn ≡ true }
+    requires later { view.old.start ≤ now }
+    ensures row { IfOk result (IsRow (row_at now view.old.phase turn view.old) view.new) }
+    ensures early { OnOk result (view.new.start ≤ now) }
+    ensures latest { OnOk result (view.new.latest ≡ view.old.latest) }
+    ensures err { OnErr result (view.new ≡ view.old) }
+{
+    if is_heard(&turn) {
+        hear_turn(alloc, view, turn, now)
+    } else {
+        act_itself(alloc, view, turn, now)
+    }
+}
+
+// Takes a turn that is none of a stream.
+fn act_itself(alloc: Global, view: &mut UnitView, turn: UnitTurn, now: u64) -> Mem<UnitEffects>
+    requires other { is_heard turn ≡ false }
+    requires enabled { takes view.old.phase view.old.capture turn ≡ true }
     requires later { view.old.start ≤ now }
     ensures row { IfOk result (IsRow (row_at now view.old.phase turn view.old) view.new) }
     ensures early { OnOk result (view.new.start ≤ now) }
@@ -209,6 +235,27 @@ fn act(alloc: Global, view: &mut UnitView, turn: UnitTurn, now: u64) -> Mem<Unit
         UnitTurn::Exit { exit } => end_child(alloc, view, exit, now),
         UnitTurn::WaitFailed { error } => end_wait(alloc, view, error, now),
         UnitTurn::Decide { .. } => decide(alloc, view),
+        _ => unreachable!(),
+    }
+}
+
+// Its capture gets a turn.
+fn hear_turn(alloc: Global, view: &mut UnitView, turn: UnitTurn, now: u64) -> Mem<UnitEffects>
+    requires heard { is_heard turn ≡ true }
+    requires enabled { takes view.old.phase view.old.capture turn ≡ true }
+    requires later { view.old.start ≤ now }
+    ensures row { IfOk result (IsRow (row_at now view.old.phase turn view.old) view.new) }
+    ensures early { OnOk result (view.new.start ≤ now) }
+    ensures latest { OnOk result (view.new.latest ≡ view.old.latest) }
+    ensures err { OnErr result (view.new ≡ view.old) }
+{
+    match view.phase {
+        Phase::Running => {
+            hear(alloc, &mut view.capture, turn)?;
+            Ok(quiet(false))
+        }
+        Phase::Leak => hear_after(alloc, view, turn, now),
+        _ => unreachable!(),
     }
 }
 
@@ -217,9 +264,11 @@ fn let_go(alloc: Global, view: &mut UnitView, now: u64) -> Mem<UnitEffects>
     ensures row { IfOk result (IsRow (row_at now phases.StartSent (turns.Answered true) view.old) view.new) }
     ensures err { OnErr result (view.new ≡ view.old) }
 {
+    let capture = ChildAccumulator::new(alloc, view.strategy)?;
     let ask = start_of(alloc, view)?;
     view.phase = Phase::Starting;
     view.start = now;
+    view.capture = capture;
     Ok(UnitEffects {
         sent: None,
         asked: Some(ask),
