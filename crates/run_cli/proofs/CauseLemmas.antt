@@ -5,7 +5,7 @@ use Rattle.std.proofs.Common.{refl, ap, sym, subst, ◌∙◌, arith, length-app
 use Rattle.std.specs.List.{list_all}
 use Rattle.std.proofs.lemmas.List.{append-nil}
 use Rattle.run_capture.specs.Bytes.{Gives, AtEnd}
-use Rattle.run_capture.specs.declared.test_output.CaptureStrategy.{CaptureStrategy}
+use Rattle.run_input.specs.declared.plan_line.RunnerKeys.{RunnerKeys}
 use Rattle.run_events.specs.declared.plan.Plan.{Plan}
 use Rattle.run_events.specs.declared.settings.Settings.{Settings}
 use Rattle.run_events.specs.declared.turn.Turn.{Turn}
@@ -50,20 +50,20 @@ given_within left (Some rest) held bytes told given =
     omega (arith, length-append bytes rest)
 
 -- lines say one plan and one list of turns
-one_input : (lines : List (List ℕ)) (c d : CaptureStrategy) (p q : Plan) (ts us : List Turn) → IsInput lines c p ts
+one_input : (lines : List (List ℕ)) (c d : RunnerKeys) (p q : Plan) (ts us : List Turn) → IsInput lines c p ts
     → IsInput lines d q us
     → (d ≡ c) × (q ≡ p) × (us ≡ ts)
 one_input [] c d p q ts us i j = absurd i
 one_input (first ∷ others) c d p q ts us i j =
-    let one : CaptureStrategy × Plan = (c, p) in
-    let other : CaptureStrategy × Plan = (d, q) in
+    let one : RunnerKeys × Plan = (c, p) in
+    let other : RunnerKeys × Plan = (d, q) in
     let plans : Some other ≡ Some one = sym j.0 ∙ i.0 in
     let both : other ≡ one = cc in
     let turns : Some us ≡ Some ts = sym j.1 ∙ i.1 in
-    (ap (λ (x : CaptureStrategy × Plan). x.0) both, ap (λ (x : CaptureStrategy × Plan). x.1) both, cc)
+    (ap (λ (x : RunnerKeys × Plan). x.0) both, ap (λ (x : RunnerKeys × Plan). x.1) both, cc)
 
 -- so what was read is what the source had
-same_input : (r : Reading) (c d : CaptureStrategy) (p q : Plan) (ts us : List Turn)
+same_input : (r : Reading) (c d : RunnerKeys) (p q : Plan) (ts us : List Turn)
     → HasInput r.left c p ts → IsGiven r d q us → (d ≡ c) × (q ≡ p) × (us ≡ ts)
 same_input r c d p q ts us has given =
     let same : has.bytes ≡ given.bytes =
@@ -76,7 +76,7 @@ not_too_long : (r : Reading) (held : List ℕ) → r.left ≡ Some held → leng
 not_too_long r held told within (bytes, given, above) =
     let most = given_within r.left r.left_after held bytes told given in omega arith
 
-no_bad_line : (r : Reading) (c : CaptureStrategy) (p : Plan) (ts : List Turn) (n : ℕ)
+no_bad_line : (r : Reading) (c : RunnerKeys) (p : Plan) (ts : List Turn) (n : ℕ)
     → HasInput r.left c p ts → HasBadLine r n → ⊥
 no_bad_line r c p ts n has (bytes, given, end, within, bad) =
     let same : has.bytes ≡ bytes = all_given r.left r.left_after has.bytes bytes has.told given end in
@@ -95,7 +95,7 @@ false_at (false ∷ marks) zero none = refl
 false_at (false ∷ marks) (suc n) none = false_at marks n none
 
 -- want of memory is the status of any cause
-memory_gets : (c : CaptureStrategy) (p : Plan) (ts : List Turn) (w : Writing) → GetsByCourse c p ts w 11
+memory_gets : (c : RunnerKeys) (p : Plan) (ts : List Turn) (w : Writing) → GetsByCourse c p ts w 11
 memory_gets c p ts w = record {
   refuses = refuses_none;
   tied = λ calm n. refl;
@@ -113,16 +113,16 @@ journal_of p ts journal legal takes = record { legal = legal; takes = takes; ans
 
 -- what each ending of an accepted plan gets
 ended_gets : (c : Call) (r : Replays c) (o : RunOutcome) → IsWhole r o → c.sink.faults_after ≡ c.sink.faults
-    → GetsByCourse r.capture r.plan r.turns c.sink (outcome_status o)
+    → GetsByCourse r.keys r.plan r.turns c.sink (outcome_status o)
 ended_gets c r o whole stayed =
-    let p : Settings = settings_for r.capture r.plan in
+    let p : Settings = settings_for r.keys r.plan in
     let one : HasOneCourse p r.turns (refuses_as_in r.journal) = one_course p r.turns (refuses_as_in r.journal) in
     let ends : Ends p r.turns (refuses_as_in r.journal) o =
     (r.journal, journal_of p r.turns r.journal r.legal whole.all, whole.over) in
     record {
       refuses = refuses_as_in r.journal;
       tied = λ calm n. false_at (refusals r.journal) n (r.tied calm);
-      refused = λ e x. never_refused (refusal_for r.capture r.plan) e r.accepted x;
+      refused = λ e x. never_refused (refusal_for r.keys r.plan) e r.accepted x;
       stops = λ a k s. absurd (one.stop_or_end k o s ends);
       unfinished = λ a g. absurd (one.unfinished_or_end o g ends);
       ended = λ a u e calm. inl (ap outcome_status (one.one_end o u ends e));
@@ -130,16 +130,16 @@ ended_gets c r o whole stayed =
     }
 
 unreported_gets : (c : Call) (r : Replays c) (o : RunOutcome) → IsWhole r o → HasWriteFault c.sink
-    → GetsByCourse r.capture r.plan r.turns c.sink 9
+    → GetsByCourse r.keys r.plan r.turns c.sink 9
 unreported_gets c r o whole rose =
-    let p : Settings = settings_for r.capture r.plan in
+    let p : Settings = settings_for r.keys r.plan in
     let one : HasOneCourse p r.turns (refuses_as_in r.journal) = one_course p r.turns (refuses_as_in r.journal) in
     let ends : Ends p r.turns (refuses_as_in r.journal) o =
     (r.journal, journal_of p r.turns r.journal r.legal whole.all, whole.over) in
     record {
       refuses = refuses_as_in r.journal;
       tied = λ calm n. false_at (refusals r.journal) n (r.tied calm);
-      refused = λ e x. never_refused (refusal_for r.capture r.plan) e r.accepted x;
+      refused = λ e x. never_refused (refusal_for r.keys r.plan) e r.accepted x;
       stops = λ a k s. absurd (one.stop_or_end k o s ends);
       unfinished = λ a g. absurd (one.unfinished_or_end o g ends);
       ended = λ a u e calm. absurd (calm rose);
@@ -147,9 +147,9 @@ unreported_gets c r o whole rose =
     }
 
 stopped_gets : (c : Call) (r : Replays c) (place : ℕ) → StopsBefore r place
-    → GetsByCourse r.capture r.plan r.turns c.sink 6
+    → GetsByCourse r.keys r.plan r.turns c.sink 6
 stopped_gets c r place before =
-    let p : Settings = settings_for r.capture r.plan in
+    let p : Settings = settings_for r.keys r.plan in
     let one : HasOneCourse p r.turns (refuses_as_in r.journal) = one_course p r.turns (refuses_as_in r.journal) in
     let stops : Stops p r.turns (refuses_as_in r.journal) place = (
       r.journal,
@@ -159,30 +159,30 @@ stopped_gets c r place before =
     record {
       refuses = refuses_as_in r.journal;
       tied = λ calm n. false_at (refusals r.journal) n (r.tied calm);
-      refused = λ e x. never_refused (refusal_for r.capture r.plan) e r.accepted x;
+      refused = λ e x. never_refused (refusal_for r.keys r.plan) e r.accepted x;
       stops = λ a k s. inl refl;
       unfinished = λ a g. absurd (one.stop_or_unfinished place stops g);
       ended = λ a u e calm. absurd (one.stop_or_end place u stops e);
       unreported = λ a u e lt. absurd (one.stop_or_end place u stops e);
     }
 
-unfinished_gets : (c : Call) (r : Replays c) → IsUnfinished r → GetsByCourse r.capture r.plan r.turns c.sink 8
+unfinished_gets : (c : Call) (r : Replays c) → IsUnfinished r → GetsByCourse r.keys r.plan r.turns c.sink 8
 unfinished_gets c r still =
-    let p : Settings = settings_for r.capture r.plan in
+    let p : Settings = settings_for r.keys r.plan in
     let one : HasOneCourse p r.turns (refuses_as_in r.journal) = one_course p r.turns (refuses_as_in r.journal) in
     let goes : GoesOn p r.turns (refuses_as_in r.journal) =
     (r.journal, journal_of p r.turns r.journal r.legal still.all, still.goes_on) in
     record {
       refuses = refuses_as_in r.journal;
       tied = λ calm n. false_at (refusals r.journal) n (r.tied calm);
-      refused = λ e x. never_refused (refusal_for r.capture r.plan) e r.accepted x;
+      refused = λ e x. never_refused (refusal_for r.keys r.plan) e r.accepted x;
       stops = λ a k s. absurd (one.stop_or_unfinished k s goes);
       unfinished = λ a g. inl refl;
       ended = λ a u e calm. absurd (one.unfinished_or_end u goes e);
       unreported = λ a u e lt. absurd (one.unfinished_or_end u goes e);
     }
 
-refused_gets : (c : CaptureStrategy) (p : Plan) (ts : List Turn) (w : Writing) (error : TestRunnerBuildError)
+refused_gets : (c : RunnerKeys) (p : Plan) (ts : List Turn) (w : Writing) (error : TestRunnerBuildError)
     → refusal_for c p ≡ Some error → GetsByCourse c p ts w 5
 refused_gets c p ts w error refused = record {
   refuses = refuses_none;
@@ -195,7 +195,7 @@ refused_gets c p ts w error refused = record {
 }
 
 -- the same of the input that the source had
-moved : (c d : CaptureStrategy) (p q : Plan) (ts us : List Turn) (w : Writing) (status : ℕ)
+moved : (c d : RunnerKeys) (p q : Plan) (ts us : List Turn) (w : Writing) (status : ℕ)
     → (d ≡ c) × (q ≡ p) × (us ≡ ts)
     → GetsByCourse d q us w status → GetsByCourse c p ts w status
 moved c d p q ts us w status same gets =
@@ -205,24 +205,24 @@ moved c d p q ts us w status same gets =
 -- each course gets its status
 pub course_gets : (c : Call) (ending : Result RunOutcome Fault) → IsEnding c ending → CountsReadAtEnd c.source ending
     → IsReplay c.words
-    → ¬ HasReadFault c.source → (b : CaptureStrategy) (p : Plan) (ts : List Turn) → HasInput c.source.left b p ts
+    → ¬ HasReadFault c.source → (b : RunnerKeys) (p : Plan) (ts : List Turn) → HasInput c.source.left b p ts
     → GetsByCourse b p ts c.sink (status_of ending)
 course_gets c (Ok o) h n replay calm b p ts has =
-    moved b h.0.capture p h.0.plan ts h.0.turns c.sink (outcome_status o)
-    (same_input c.source b h.0.capture p h.0.plan ts h.0.turns has h.0.given) (ended_gets c h.0 o h.1 h.3)
+    moved b h.0.keys p h.0.plan ts h.0.turns c.sink (outcome_status o)
+    (same_input c.source b h.0.keys p h.0.plan ts h.0.turns has h.0.given) (ended_gets c h.0 o h.1 h.3)
 course_gets c (Err Report) h n replay calm b p ts has =
-    moved b h.0.capture p h.0.plan ts h.0.turns c.sink 9
-    (same_input c.source b h.0.capture p h.0.plan ts h.0.turns has h.0.given) (unreported_gets c h.0 h.1 h.2 h.4)
+    moved b h.0.keys p h.0.plan ts h.0.turns c.sink 9
+    (same_input c.source b h.0.keys p h.0.plan ts h.0.turns has h.0.given) (unreported_gets c h.0 h.1 h.2 h.4)
 course_gets c (Err (NotEnabled place)) h n replay calm b p ts has =
-    moved b h.0.capture p h.0.plan ts h.0.turns c.sink 6
-    (same_input c.source b h.0.capture p h.0.plan ts h.0.turns has h.0.given) (stopped_gets c h.0 place h.1)
+    moved b h.0.keys p h.0.plan ts h.0.turns c.sink 6
+    (same_input c.source b h.0.keys p h.0.plan ts h.0.turns has h.0.given) (stopped_gets c h.0 place h.1)
 course_gets c (Err Unfinished) h n replay calm b p ts has =
-    moved b h.0.capture p h.0.plan ts h.0.turns c.sink 8
-    (same_input c.source b h.0.capture p h.0.plan ts h.0.turns has h.0.given) (unfinished_gets c h.0 h.1)
+    moved b h.0.keys p h.0.plan ts h.0.turns c.sink 8
+    (same_input c.source b h.0.keys p h.0.plan ts h.0.turns has h.0.given) (unfinished_gets c h.0 h.1)
 course_gets c (Err (BadPlan f)) h n replay calm b p ts has =
-    moved b h.1.capture p h.1.plan ts h.1.turns c.sink 5
-    (same_input c.source b h.1.capture p h.1.plan ts h.1.turns has h.1.given)
-    (refused_gets h.1.capture h.1.plan h.1.turns c.sink h.1.refused.0 h.1.refused.1)
+    moved b h.1.keys p h.1.plan ts h.1.turns c.sink 5
+    (same_input c.source b h.1.keys p h.1.plan ts h.1.turns has h.1.given)
+    (refused_gets h.1.keys h.1.plan h.1.turns c.sink h.1.refused.0 h.1.refused.1)
 course_gets c (Err Memory) h n replay calm b p ts has = memory_gets b p ts c.sink
 course_gets c (Err Words) h n replay calm b p ts has = absurd (h.0 replay)
 course_gets c (Err Read) h n replay calm b p ts has = absurd (calm n)
@@ -232,7 +232,7 @@ course_gets c (Err (Line number)) h n replay calm b p ts has = absurd (no_bad_li
 course_gets c (Err (ThirdSignal place)) h n replay calm b p ts has = absurd h
 
 -- an input with a bad line says nothing else
-bad_excludes : (r : Reading) (c : CaptureStrategy) (p : Plan) (ts : List Turn) (n : ℕ) → HasBadInput r.left n
+bad_excludes : (r : Reading) (c : RunnerKeys) (p : Plan) (ts : List Turn) (n : ℕ) → HasBadInput r.left n
     → IsGiven r c p ts → ⊥
 bad_excludes r c p ts n has given =
     let same : has.bytes ≡ given.bytes =
@@ -267,7 +267,7 @@ too_much_excludes r bytes has given end within =
     let above : 16777216 < length has.bytes = has.above in
     omega arith
 
-given_excludes : (r : Reading) (c : CaptureStrategy) (p : Plan) (ts : List Turn) → HasTooMuch r.left → IsGiven r c p ts
+given_excludes : (r : Reading) (c : RunnerKeys) (p : Plan) (ts : List Turn) → HasTooMuch r.left → IsGiven r c p ts
     → ⊥
 given_excludes r c p ts has given = too_much_excludes r given.bytes has given.given given.end given.within
 

@@ -2,7 +2,7 @@
 use Rattle.std.proofs.Common.{◌≡◌, ℕ, nat_lt, suc, ◌+◌, ◌^◌, ◌<◌, ◌≤◌, ◌==◌, ◌⊎◌, inl, inr, List, [], ◌∷◌, ◌++◌, length}
 use Rattle.std.proofs.Common.{reverse, Bool, true, false, if◌then◌else◌, Option, Some, None, option_and_then, Result}
 use Rattle.std.proofs.Common.{Ok, Err, refl, ap, sym, subst, ◌∙◌, arith, codes}
-use Rattle.run_capture.specs.declared.test_output.CaptureStrategy.{CaptureStrategy}
+use Rattle.run_input.specs.declared.plan_line.RunnerKeys.{RunnerKeys}
 use Rattle.run_events.specs.Usual.{usual_plan}
 use Rattle.run_events.specs.declared.plan.Plan.{Plan}
 use Rattle.run_events.specs.declared.plan.PlanTest.{PlanTest}
@@ -83,71 +83,71 @@ few_plan_tests d tests e =
     subst (λ (ts : List PlanTest). length ts < 2 ^ 32) (same_Some read.0 tests last.2) fewer
 
 -- the plan that a line says has these tests and no scripts
-few_units : (capture other : CaptureStrategy) (run_id : List ℕ) (tests : List PlanTest) (plan : Plan)
+few_units : (keys other : RunnerKeys) (run_id : List ℕ) (tests : List PlanTest) (plan : Plan)
     → length tests < 2 ^ 32
-    → ◌≡◌ {A = Option (CaptureStrategy × Plan)} (Some (capture, usual_plan run_id tests)) (Some (other, plan))
+    → ◌≡◌ {A = Option (RunnerKeys × Plan)} (Some (keys, usual_plan run_id tests)) (Some (other, plan))
     → length plan.scripts + length plan.tests < 2 ^ 32
-few_units capture other run_id tests plan fewer e =
+few_units keys other run_id tests plan fewer e =
     let few : 0 + length tests < 2 ^ 32 = omega arith in
     let made : Plan = usual_plan run_id tests in
-    let pair : CaptureStrategy × Plan = (capture, made) in
+    let pair : RunnerKeys × Plan = (keys, made) in
     let both : pair ≡ (other, plan) = same_Some pair (other, plan) e in
-    let same : made ≡ plan = ap (λ (q : CaptureStrategy × Plan). q.1) both in
+    let same : made ≡ plan = ap (λ (q : RunnerKeys × Plan). q.1) both in
     subst (λ (p : Plan). length p.scripts + length p.tests < 2 ^ 32) same few
 
 -- a plan line has few tests
-few_tests : (d : Data) (capture : CaptureStrategy) (plan : Plan) → plan_of d ≡ Some (capture, plan)
+few_tests : (d : Data) (keys : RunnerKeys) (plan : Plan) → plan_of d ≡ Some (keys, plan)
     → length plan.scripts + length plan.tests < 2 ^ 32
 unfolding plan_of
-few_tests d capture plan e =
+few_tests d keys plan e =
     let tests : Option (List PlanTest) = plan_tests_of (get (codes "tests") d) in
     let run_ids : Option (List ℕ) = option_and_then run_id_of (get (codes "run_id") d) in
-    let captures : Option CaptureStrategy = option_and_then capture_of (get (codes "capture") d) in
-    let a = then_some (when (is_object_of (codes "capture" ∷ codes "run_id" ∷ codes "tests" ∷ []) d))
+    let captures : Option RunnerKeys = option_and_then capture_of (get (codes "keys") d) in
+    let a = then_some (when (is_object_of (codes "keys" ∷ codes "run_id" ∷ codes "tests" ∷ []) d))
     (λ _. option_and_then (λ c. option_and_then (λ r. option_and_then (λ ts. Some (c, usual_plan r ts)) tests) run_ids)
     captures)
-    (capture, plan) e in
+    (keys, plan) e in
     let b = then_some captures
     (λ c. option_and_then (λ r. option_and_then (λ ts. Some (c, usual_plan r ts)) tests) run_ids)
-    (capture, plan) a.2 in
-    let c = then_some run_ids (λ r. option_and_then (λ ts. Some (b.0, usual_plan r ts)) tests) (capture, plan) b.2 in
-    let f = then_some tests (λ ts. Some (b.0, usual_plan c.0 ts)) (capture, plan) c.2 in
-    few_units b.0 capture c.0 f.0 plan (few_plan_tests (get (codes "tests") d) f.0 f.1) f.2
+    (keys, plan) a.2 in
+    let c = then_some run_ids (λ r. option_and_then (λ ts. Some (b.0, usual_plan r ts)) tests) (keys, plan) b.2 in
+    let f = then_some tests (λ ts. Some (b.0, usual_plan c.0 ts)) (keys, plan) c.2 in
+    few_units b.0 keys c.0 f.0 plan (few_plan_tests (get (codes "tests") d) f.0 f.1) f.2
 
 -- an input has few tests and few turns
-pub given_few : (r : Reading) (capture : CaptureStrategy) (plan : Plan) (turns : List Turn)
-    → IsGiven r capture plan turns
+pub given_few : (r : Reading) (keys : RunnerKeys) (plan : Plan) (turns : List Turn)
+    → IsGiven r keys plan turns
     → (length plan.scripts + length plan.tests < 2 ^ 32) × (length turns < 2 ^ 32)
-given_few r capture plan turns g = by_lines (lines_of g.bytes) refl g.says
+given_few r keys plan turns g = by_lines (lines_of g.bytes) refl g.says
   where
-    by_lines : (lines : List (List ℕ)) → lines_of g.bytes ≡ lines → IsInput lines capture plan turns
+    by_lines : (lines : List (List ℕ)) → lines_of g.bytes ≡ lines → IsInput lines keys plan turns
         → (length plan.scripts + length plan.tests < 2 ^ 32) × (length turns < 2 ^ 32)
     by_lines [] e i = absurd i
     by_lines (first ∷ others) e i =
-        let read = then_some (value_of first) plan_of (capture, plan) i.0 in
-        let few : length plan.scripts + length plan.tests < 2 ^ 32 = few_tests read.0 capture plan read.2 in
+        let read = then_some (value_of first) plan_of (keys, plan) i.0 in
+        let few : length plan.scripts + length plan.tests < 2 ^ 32 = few_tests read.0 keys plan read.2 in
         let many : length turns ≡ length others = turns_length others turns i.1 in
         let same : length (lines_of g.bytes) ≡ length (first ∷ others) = ap length e in
         (few, omega (arith, lines_length g.bytes, g.within))
 
 -- a run that took every turn and has an outcome is whole
 whole : (c : Call) (r : Replays c) (o : RunOutcome) → journal_turns r.journal ≡ r.turns
-    → outcome (settings_for r.capture r.plan) (past_of (settings_for r.capture r.plan) r.journal) ≡ Some o → IsWhole r o
+    → outcome (settings_for r.keys r.plan) (past_of (settings_for r.keys r.plan) r.journal) ≡ Some o → IsWhole r o
 whole c r o all e = record {
   all = all;
   over = e;
-  accounts = ended_fates (settings_for r.capture r.plan) (reverse r.journal) r.legal;
-  ended = over_ended (settings_for r.capture r.plan) (reverse r.journal) r.legal
-      (over_is (settings_for r.capture r.plan) (past_of (settings_for r.capture r.plan) r.journal) o e);
+  accounts = ended_fates (settings_for r.keys r.plan) (reverse r.journal) r.legal;
+  ended = over_ended (settings_for r.keys r.plan) (reverse r.journal) r.legal
+      (over_is (settings_for r.keys r.plan) (past_of (settings_for r.keys r.plan) r.journal) o e);
 }
 
 -- the call whose input was good, with what its run has taken
-replays : (c : Call) (capture : CaptureStrategy) (plan : Plan) (turns : List Turn) → IsReplay c.words
-    → IsGiven c.source capture plan turns
-    → refusal_for capture plan ≡ None → IsReplayed (settings_for capture plan) c.sink → Replays c
-replays c capture plan turns replay given accepted r = record {
+replays : (c : Call) (keys : RunnerKeys) (plan : Plan) (turns : List Turn) → IsReplay c.words
+    → IsGiven c.source keys plan turns
+    → refusal_for keys plan ≡ None → IsReplayed (settings_for keys plan) c.sink → Replays c
+replays c keys plan turns replay given accepted r = record {
   replay = replay;
-  capture = capture;
+  keys = keys;
   plan = plan;
   turns = turns;
   given = given;
@@ -158,71 +158,74 @@ replays c capture plan turns replay given accepted r = record {
 }
 
 -- how a program ends whose input was good
-pub given_says : (c : Call) (capture : CaptureStrategy) (plan : Plan) (turns : List Turn)
+pub given_says : (c : Call) (keys : RunnerKeys) (plan : Plan) (turns : List Turn)
     (ending : Result RunOutcome Fault)
-    → IsReplay c.words → IsGiven c.source capture plan turns → IsInputEnding capture plan turns c.sink ending
+    → IsReplay c.words → IsGiven c.source keys plan turns → IsInputEnding keys plan turns c.sink ending
     → IsEnding c ending
 unfolding replays
-given_says c capture plan turns (Ok o) replay given (accepted, h) =
-    let r = replays c capture plan turns replay given accepted h.0 in
+given_says c keys plan turns (Ok o) replay given (accepted, h) =
+    let r = replays c keys plan turns replay given accepted h.0 in
     (r, whole c r o h.1 h.2, h.3, h.4)
-given_says c capture plan turns (Err Report) replay given (accepted, h) =
-    let r = replays c capture plan turns replay given accepted h.0 in
+given_says c keys plan turns (Err Report) replay given (accepted, h) =
+    let r = replays c keys plan turns replay given accepted h.0 in
     (r, h.2.0, whole c r h.2.0 h.1 h.2.1, h.2.2, h.3)
-given_says c capture plan turns (Err (NotEnabled place)) replay given (accepted, h) = (
-  replays c capture plan turns replay given accepted h.0,
+given_says c keys plan turns (Err (NotEnabled place)) replay given (accepted, h) = (
+  replays c keys plan turns replay given accepted h.0,
   record { before = h.1; turn = h.2.0; at = h.2.1; refused = h.2.2 },
   h.3,
 )
-given_says c capture plan turns (Err Unfinished) replay given (accepted, h) = (
-  replays c capture plan turns replay given accepted h.0,
+given_says c keys plan turns (Err Unfinished) replay given (accepted, h) = (
+  replays c keys plan turns replay given accepted h.0,
   record { all = h.1; goes_on = h.2 },
   h.3,
 )
-given_says c capture plan turns (Err (BadPlan f)) replay given h =
-    (replay, record { capture = capture; plan = plan; turns = turns; given = given; refused = h.0 }, h.1)
-given_says c capture plan turns (Err Memory) replay given h = tt
-given_says c capture plan turns (Err Words) replay given h = absurd h.1
-given_says c capture plan turns (Err (Line n)) replay given h = absurd h.1
-given_says c capture plan turns (Err Read) replay given h = absurd h.1
-given_says c capture plan turns (Err TooLong) replay given h = absurd h.1
-given_says c capture plan turns (Err (ThirdSignal n)) replay given h = absurd h.1
+given_says c keys plan turns (Err (BadPlan f)) replay given h =
+    (replay, record { keys = keys; plan = plan; turns = turns; given = given; refused = h.0 }, h.1)
+given_says c keys plan turns (Err Memory) replay given h = tt
+given_says c keys plan turns (Err Words) replay given h = absurd h.1
+given_says c keys plan turns (Err (Line n)) replay given h = absurd h.1
+given_says c keys plan turns (Err Read) replay given h = absurd h.1
+given_says c keys plan turns (Err TooLong) replay given h = absurd h.1
+given_says c keys plan turns (Err (ThirdSignal n)) replay given h = absurd h.1
 
 -- the end of the turns of a plan that was accepted
-pub accepted_ends : (capture : CaptureStrategy) (plan : Plan) (turns : List Turn) (w : Writing)
+pub accepted_ends : (keys : RunnerKeys) (plan : Plan) (turns : List Turn) (w : Writing)
     (ending : Result RunOutcome Fault)
-    → refusal_for capture plan ≡ None → IsReplayEnding (settings_for capture plan) turns w ending
-    → IsInputEnding capture plan turns w ending
-accepted_ends capture plan turns w (Ok o) accepted h = (accepted, h)
-accepted_ends capture plan turns w (Err Report) accepted h = (accepted, h)
-accepted_ends capture plan turns w (Err (NotEnabled place)) accepted h = (accepted, h)
-accepted_ends capture plan turns w (Err Unfinished) accepted h = (accepted, h)
-accepted_ends capture plan turns w (Err (BadPlan f)) accepted h = absurd h
-accepted_ends capture plan turns w (Err Memory) accepted h = tt
-accepted_ends capture plan turns w (Err Words) accepted h = absurd h
-accepted_ends capture plan turns w (Err (Line n)) accepted h = absurd h
-accepted_ends capture plan turns w (Err Read) accepted h = absurd h
-accepted_ends capture plan turns w (Err TooLong) accepted h = absurd h
-accepted_ends capture plan turns w (Err (ThirdSignal n)) accepted h = absurd h
+    → refusal_for keys plan ≡ None → IsReplayEnding (settings_for keys plan) turns w ending
+    → IsInputEnding keys plan turns w ending
+accepted_ends keys plan turns w (Ok o) accepted h = (accepted, h)
+accepted_ends keys plan turns w (Err Report) accepted h = (accepted, h)
+accepted_ends keys plan turns w (Err (NotEnabled place)) accepted h = (accepted, h)
+accepted_ends keys plan turns w (Err Unfinished) accepted h = (accepted, h)
+accepted_ends keys plan turns w (Err (BadPlan f)) accepted h = absurd h
+accepted_ends keys plan turns w (Err Memory) accepted h = tt
+accepted_ends keys plan turns w (Err Words) accepted h = absurd h
+accepted_ends keys plan turns w (Err (Line n)) accepted h = absurd h
+accepted_ends keys plan turns w (Err Read) accepted h = absurd h
+accepted_ends keys plan turns w (Err TooLong) accepted h = absurd h
+accepted_ends keys plan turns w (Err (ThirdSignal n)) accepted h = absurd h
 
 -- the end of a plan that is refused
-refusal_ends : (capture : CaptureStrategy) (plan : Plan) (turns : List Turn) (w : Writing)
+refusal_ends : (keys : RunnerKeys) (plan : Plan) (turns : List Turn) (w : Writing)
     (error : TestRunnerBuildError)
-    → IsBuilt (builder_of capture) plan (Err error) → Writes w (fault_only (fault_of_plan error))
-    → IsInputEnding capture plan turns w (Err (fault_of_plan error))
-refusal_ends capture plan turns w (build.DuplicateTest k) h writes = ((build.DuplicateTest k, h, refl), writes)
-refusal_ends capture plan turns w build.OutOfMemory h writes = tt
+    → IsBuilt (builder_of keys) plan (Err error) → Writes w (fault_only (fault_of_plan error))
+    → IsInputEnding keys plan turns w (Err (fault_of_plan error))
+refusal_ends keys plan turns w (build.ZeroLimit g) h writes = ((build.ZeroLimit g, h, refl), writes)
+refusal_ends keys plan turns w (build.DuplicateTest k) h writes = ((build.DuplicateTest k, h, refl), writes)
+refusal_ends keys plan turns w (build.UnknownGroup k) h writes = ((build.UnknownGroup k, h, refl), writes)
+refusal_ends keys plan turns w (build.ZeroWeight k) h writes = ((build.ZeroWeight k, h, refl), writes)
+refusal_ends keys plan turns w build.OutOfMemory h writes = tt
 
-pub refused_plan : (capture : CaptureStrategy) (plan : Plan) (turns : List Turn) (w : Writing)
+pub refused_plan : (keys : RunnerKeys) (plan : Plan) (turns : List Turn) (w : Writing)
     (error : TestRunnerBuildError)
-    (ending : Result RunOutcome Fault) → IsBuilt (builder_of capture) plan (Err error)
+    (ending : Result RunOutcome Fault) → IsBuilt (builder_of keys) plan (Err error)
     → EndsAtFault w [] (fault_of_plan error) ending
-    → IsInputEnding capture plan turns w ending
-refused_plan capture plan turns w error (Ok o) b e = absurd e
-refused_plan capture plan turns w error (Err d) b (inl m) =
-    subst (λ f. IsInputEnding capture plan turns w (Err f)) (sym m) tt
-refused_plan capture plan turns w error (Err d) b (inr h) =
-    subst (λ f. IsInputEnding capture plan turns w (Err f)) (sym h.0) (refusal_ends capture plan turns w error b h.2)
+    → IsInputEnding keys plan turns w ending
+refused_plan keys plan turns w error (Ok o) b e = absurd e
+refused_plan keys plan turns w error (Err d) b (inl m) =
+    subst (λ f. IsInputEnding keys plan turns w (Err f)) (sym m) tt
+refused_plan keys plan turns w error (Err d) b (inr h) =
+    subst (λ f. IsInputEnding keys plan turns w (Err f)) (sym h.0) (refusal_ends keys plan turns w error b h.2)
 
 -- how a program ends whose words or input were not
 fault_says : (c : Call) (fault : Fault) → IsGivenFault c.words c.source fault → Writes c.sink (fault_only fault)

@@ -1,6 +1,6 @@
 -- What status each cause gives, where the source's bytes are told and its count of faults didn't rise.
 use Rattle.std.specs.Prelude.{ℕ, ◌≡◌, ◌⊎◌, ◌≤◌, ◌<◌, List, length, Bool, false, Option, Some, None}
-use Rattle.run_capture.specs.declared.test_output.CaptureStrategy.{CaptureStrategy}
+use Rattle.run_input.specs.declared.plan_line.RunnerKeys.{RunnerKeys}
 use Rattle.run_events.specs.declared.plan.Plan.{Plan}
 use Rattle.run_events.specs.declared.turn.Turn.{Turn}
 use Rattle.run_events.specs.declared.outcome.RunOutcome.{RunOutcome}
@@ -18,12 +18,12 @@ abbrev pub Gets : ℕ → ℕ → Type 0
 Gets status expected = (status ≡ expected) ⊎ (status ≡ 11)
 
 -- the source has an input, whose lines say a plan and turns
-pub record HasInput (left : Option (List ℕ)) (capture : CaptureStrategy) (plan : Plan) (turns : List Turn) : Type 0
+pub record HasInput (left : Option (List ℕ)) (keys : RunnerKeys) (plan : Plan) (turns : List Turn) : Type 0
   where
     pub bytes : List ℕ
     pub told : left ≡ Some bytes
     pub within : length bytes ≤ input_limit
-    pub says : IsInput (lines_of bytes) capture plan turns
+    pub says : IsInput (lines_of bytes) keys plan turns
 
 -- the source has an input whose line of this number is the first bad one
 pub record HasBadInput (left : Option (List ℕ)) (number : ℕ) : Type 0 where
@@ -42,15 +42,15 @@ pub record HasTooMuch (left : Option (List ℕ)) : Type 0 where
 -- no event where it didn't fail, the turns stop at one that isn't enabled, or leave the run unfinished, or end it,
 -- where
 -- the sink's count of faults stayed or rose
-pub record GetsByCourse (capture : CaptureStrategy) (plan : Plan) (turns : List Turn) (w : Writing)
+pub record GetsByCourse (keys : RunnerKeys) (plan : Plan) (turns : List Turn) (w : Writing)
     (status : ℕ) : Type 0 where
   pub refuses : ℕ → Bool
   pub tied : ¬ HasWriteFault w → (n : ℕ) → refuses n ≡ false
-  pub refused : (error : TestRunnerBuildError) → refusal_for capture plan ≡ Some error → Gets status 5
-  pub stops : refusal_for capture plan ≡ None → (place : ℕ) → Stops (settings_for capture plan) turns refuses place
+  pub refused : (error : TestRunnerBuildError) → refusal_for keys plan ≡ Some error → Gets status 5
+  pub stops : refusal_for keys plan ≡ None → (place : ℕ) → Stops (settings_for keys plan) turns refuses place
       → Gets status 6
-  pub unfinished : refusal_for capture plan ≡ None → GoesOn (settings_for capture plan) turns refuses → Gets status 8
-  pub ended : refusal_for capture plan ≡ None → (o : RunOutcome) → Ends (settings_for capture plan) turns refuses o
+  pub unfinished : refusal_for keys plan ≡ None → GoesOn (settings_for keys plan) turns refuses → Gets status 8
+  pub ended : refusal_for keys plan ≡ None → (o : RunOutcome) → Ends (settings_for keys plan) turns refuses o
       → ¬ HasWriteFault w → Gets status (outcome_status o)
-  pub unreported : refusal_for capture plan ≡ None → (o : RunOutcome) → Ends (settings_for capture plan) turns refuses o
+  pub unreported : refusal_for keys plan ≡ None → (o : RunOutcome) → Ends (settings_for keys plan) turns refuses o
       → w.faults < w.faults_after → Gets status 9

@@ -1,7 +1,7 @@
 -- What each end of the program says, from the bytes that come in to the bytes that go out.
 use Rattle.std.specs.Prelude.{ℕ, ◌≡◌, List, take, slice_get, false, true, Some, None, Result, Ok, Err, ⊤}
 use Rattle.std.specs.List.{All, Contains}
-use Rattle.run_capture.specs.declared.test_output.CaptureStrategy.{CaptureStrategy}
+use Rattle.run_input.specs.declared.plan_line.RunnerKeys.{RunnerKeys}
 use Rattle.run_events.specs.declared.plan.Plan.{Plan}
 use Rattle.run_events.specs.declared.settings.Settings.{Settings}
 use Rattle.run_events.specs.declared.turn.Turn.{Turn}
@@ -27,21 +27,21 @@ use Rattle.run_cli.specs.Text.{fault_only, rest_text, history_text}
 -- legal journal has some of those turns, each with the reporter's answers; where the sink didn't fail, it refused none
 pub record Replays (c : Call) : Type 0 where
   pub replay : IsReplay c.words
-  pub capture : CaptureStrategy
+  pub keys : RunnerKeys
   pub plan : Plan
   pub turns : List Turn
-  pub given : IsGiven c.source capture plan turns
-  pub accepted : refusal_for capture plan ≡ None
+  pub given : IsGiven c.source keys plan turns
+  pub accepted : refusal_for keys plan ≡ None
   pub journal : List Entry
-  pub legal : IsLegal (settings_for capture plan) journal
+  pub legal : IsLegal (settings_for keys plan) journal
   pub tied : ¬ HasWriteFault c.sink → none_refused journal ≡ true
 
 -- the settings and the history of such a run
 abbrev pub settings_in : {c : Call} → Replays c → Settings
-settings_in r = settings_for r.capture r.plan
+settings_in r = settings_for r.keys r.plan
 
 abbrev pub history_in : {c : Call} → Replays c → List Happening
-history_in r = past_of (settings_for r.capture r.plan) r.journal
+history_in r = past_of (settings_for r.keys r.plan) r.journal
 
 -- the run took every turn of the input and is over with this outcome, and each test of the plan has its fate in each
 -- sub-run that has ended, the newest among them: one that doesn't match was skipped once; any other was started and
@@ -71,11 +71,11 @@ pub record IsUnfinished {c : Call} (r : Replays c) : Type 0 where
 
 -- the source was read to its end, and its lines say a plan that is refused, and turns
 pub record HasBadPlan (source : Reading) (fault : PlanFault) : Type 0 where
-  pub capture : CaptureStrategy
+  pub keys : RunnerKeys
   pub plan : Plan
   pub turns : List Turn
-  pub given : IsGiven source capture plan turns
-  pub refused : IsPlanFault capture plan fault
+  pub given : IsGiven source keys plan turns
+  pub refused : IsPlanFault keys plan fault
 
 -- what each end says
 abbrev pub IsEnding : Call → Result RunOutcome Fault → Type 0

@@ -1,7 +1,7 @@
 -- How the lines after a run end the program.
 use Rattle.std.specs.Prelude.{ℕ, ◌≡◌, ◌⊎◌, ◌≤◌, List, take, slice_get, ◌++◌, true, false, Some, None, Result, Ok, Err}
 use Rattle.std.specs.Prelude.{⊤}
-use Rattle.run_capture.specs.declared.test_output.CaptureStrategy.{CaptureStrategy}
+use Rattle.run_input.specs.declared.plan_line.RunnerKeys.{RunnerKeys}
 use Rattle.run_events.specs.declared.plan.Plan.{Plan}
 use Rattle.run_events.specs.declared.settings.Settings.{Settings}
 use Rattle.run_events.specs.declared.turn.Turn.{Turn}
@@ -73,11 +73,11 @@ fault_of_error engine.Unfinished = Unfinished
 fault_of_error engine.OutOfMemory = Memory
 
 -- how a plan and its turns end: the plan is refused, or its turns end so
-abbrev pub IsInputEnding : CaptureStrategy → Plan → List Turn → Writing → Result RunOutcome Fault → Type 0
-IsInputEnding capture plan turns w (Err (BadPlan fault)) = IsPlanFault capture plan fault
+abbrev pub IsInputEnding : RunnerKeys → Plan → List Turn → Writing → Result RunOutcome Fault → Type 0
+IsInputEnding keys plan turns w (Err (BadPlan fault)) = IsPlanFault keys plan fault
     × Writes w (fault_only (BadPlan fault))
-IsInputEnding capture plan turns w (Err Memory) = ⊤
-IsInputEnding capture plan turns w (Err fault) =
-    (refusal_for capture plan ≡ None) × IsReplayEnding (settings_for capture plan) turns w (Err fault)
-IsInputEnding capture plan turns w (Ok outcome) =
-    (refusal_for capture plan ≡ None) × IsReplayEnding (settings_for capture plan) turns w (Ok outcome)
+IsInputEnding keys plan turns w (Err Memory) = ⊤
+IsInputEnding keys plan turns w (Err fault) =
+    (refusal_for keys plan ≡ None) × IsReplayEnding (settings_for keys plan) turns w (Err fault)
+IsInputEnding keys plan turns w (Ok outcome) =
+    (refusal_for keys plan ≡ None) × IsReplayEnding (settings_for keys plan) turns w (Ok outcome)

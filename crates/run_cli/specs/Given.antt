@@ -1,7 +1,7 @@
 -- What the words and the source give.
 use Rattle.std.specs.Prelude.{ℕ, ◌≡◌, ◌≤◌, ◌<◌, List, [], ◌∷◌, length, Option, Result, Ok, Err, codes}
 use Rattle.run_capture.specs.Bytes.{AtEnd}
-use Rattle.run_capture.specs.declared.test_output.CaptureStrategy.{CaptureStrategy}
+use Rattle.run_input.specs.declared.plan_line.RunnerKeys.{RunnerKeys}
 use Rattle.run_events.specs.declared.plan.Plan.{Plan}
 use Rattle.run_events.specs.declared.turn.Turn.{Turn}
 use Rattle.run_input.specs.Lines.{lines_of}
@@ -19,12 +19,12 @@ abbrev pub input_limit : ℕ
 input_limit = 16777216
 
 -- the source was read to its end, and its lines say a plan and its turns
-pub record IsGiven (r : Reading) (capture : CaptureStrategy) (plan : Plan) (turns : List Turn) : Type 0 where
+pub record IsGiven (r : Reading) (keys : RunnerKeys) (plan : Plan) (turns : List Turn) : Type 0 where
   pub bytes : List ℕ
   pub given : HasGiven r bytes
   pub end : AtEnd r.left_after
   pub within : length bytes ≤ input_limit
-  pub says : IsInput (lines_of bytes) capture plan turns
+  pub says : IsInput (lines_of bytes) keys plan turns
 
 -- the source gave more than an input may have; it gave no more
 abbrev pub IsTooLong : Reading → Type 0

@@ -1,7 +1,7 @@
 -- What each status of the program says.
 use Rattle.std.specs.Prelude.{ℕ, ◌≡◌, ◌⊎◌, ◌<◌, List, [], ◌∷◌, ◌==◌, Ok, Err, true, Bool}
 use Rattle.std.specs.List.{list_any}
-use Rattle.run_capture.specs.declared.test_output.CaptureStrategy.{CaptureStrategy}
+use Rattle.run_input.specs.declared.plan_line.RunnerKeys.{RunnerKeys}
 use Rattle.run_events.specs.declared.plan.Plan.{Plan}
 use Rattle.run_events.specs.declared.turn.Turn.{Turn}
 use Rattle.run_events.specs.declared.outcome.RunOutcome.{RunOutcome}
@@ -82,5 +82,5 @@ pub record Answers (c : Call) (status : ℕ) : Type 0 where
   pub bad_line : IsReplay c.words → ¬ HasReadFault c.source → (number : ℕ) → HasBadInput c.source.left number
       → Gets status 3
   pub course : IsReplay c.words → ¬ HasReadFault c.source
-      → (capture : CaptureStrategy) (plan : Plan) (turns : List Turn)
-      → HasInput c.source.left capture plan turns → GetsByCourse capture plan turns c.sink status
+      → (keys : RunnerKeys) (plan : Plan) (turns : List Turn)
+      → HasInput c.source.left keys plan turns → GetsByCourse keys plan turns c.sink status

@@ -25,7 +25,7 @@ pub fn read_given<S: Source>(
     source: &mut S,
 ) -> Result<Input, Fault>
     ensures replay { IfOk result (λ _. IsReplay (map (λ w. string_bytes w) words.now)) }
-    ensures given { IfOk result (λ i. IsGiven (reading S.left S.faults source.old source.new) i.capture i.plan
+    ensures given { IfOk result (λ i. IsGiven (reading S.left S.faults source.old source.new) i.keys i.plan
         i.turns) }
     ensures refused { IfErr result (IsGivenFault (map (λ w. string_bytes w) words.now)
         (reading S.left S.faults source.old source.new)) }

@@ -5,18 +5,20 @@ ghost use Rattle.run_input.specs.ValueOf.{value_of};
 ghost use Rattle.run_input.specs.PlanLine.{plan_of};
 ghost use Rattle.run_cli.specs.Plans.{builder_of};
 
-use run_capture::CaptureStrategy;
 use run_engine::TestRunnerBuilder;
-use run_events::Plan;
-use run_input::LineError;
+use run_events::{Plan, TestThreads};
+use run_input::{LineError, RunnerKeys};
 use std::alloc::Global;
 
 /// The builder that a plan line sets.
-pub fn builder_of(capture: CaptureStrategy) -> TestRunnerBuilder
-    ensures { result ≡ builder_of capture }
+pub fn builder_of(keys: RunnerKeys) -> TestRunnerBuilder
+    ensures { result ≡ builder_of keys }
 {
     let mut builder = TestRunnerBuilder::default();
-    builder.set_capture_strategy(capture);
+    builder.set_capture_strategy(keys.capture);
+    if let Some(threads) = keys.threads {
+        builder.set_test_threads(TestThreads::Count(threads));
+    }
     builder
 }
 
@@ -27,7 +29,7 @@ pub fn read_plan_line(alloc: Global, line: &[u8]) -> Result<(TestRunnerBuilder, 
         (option_and_then plan_of (value_of line.now))) }
 {
     match run_input::read_plan_line(alloc, line) {
-        Ok((capture, plan)) => Ok((builder_of(capture), plan)),
+        Ok((keys, plan)) => Ok((builder_of(keys), plan)),
         Err(error) => Err(error),
     }
 }

@@ -59,9 +59,14 @@ fn fault_of_plan(error: TestRunnerBuildError) -> Fault
     ensures { result ≡ fault_of_plan error }
 {
     match error {
+        TestRunnerBuildError::ZeroLimit { group } => Fault::Plan(PlanFault::ZeroLimit { group }),
         TestRunnerBuildError::DuplicateTest { test } => {
             Fault::Plan(PlanFault::DuplicateTest { test })
         }
+        TestRunnerBuildError::UnknownGroup { test } => {
+            Fault::Plan(PlanFault::UnknownGroup { test })
+        }
+        TestRunnerBuildError::ZeroWeight { test } => Fault::Plan(PlanFault::ZeroWeight { test }),
         TestRunnerBuildError::OutOfMemory => Fault::Memory,
     }
 }
@@ -70,15 +75,15 @@ fn fault_of_plan(error: TestRunnerBuildError) -> Fault
 fn replay_input<K: Sink>(alloc: Global, input: Input, sink: K) -> Ended<K>
     requires units { length input.plan.scripts + length input.plan.tests < 2 ^ 32 }
     requires turns { length input.turns < 2 ^ 32 }
-    ensures { IsInputEnding input.capture input.plan input.turns (writing K.taken K.faults sink result.sink)
+    ensures { IsInputEnding input.keys input.plan input.turns (writing K.taken K.faults sink result.sink)
         result.ending }
 {
     let Input {
-        capture,
+        keys,
         plan,
         turns,
     } = input;
-    match builder_of(capture).build(alloc, plan) {
+    match builder_of(keys).build(alloc, plan) {
         Ok(runner) => replay(alloc, runner, turns.as_slice(), sink),
         Err(error) => end_at_fault(alloc, sink, &[], fault_of_plan(error)),
     }

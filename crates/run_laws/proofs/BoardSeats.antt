@@ -4,8 +4,10 @@ use Rattle.std.proofs.Common.{true, false, if◌then◌else◌, Option, Some, No
 use Rattle.std.proofs.Common.{refl, ap, sym, subst, ◌∙◌, arith}
 use Rattle.std.specs.List.{range_with_len}
 use Rattle.std.proofs.lemmas.Grind.{common_steps}
+use Rattle.run_capture.specs.Captured.{Captured}
 use Rattle.run_events.specs.declared.settings.Settings.{Settings}
 use Rattle.run_admission.specs.declared.seat.Seat.{Seat}
+use Rattle.run_admission.specs.declared.seat.Seat.TheVariants.{InUse, Gone}
 use Rattle.run_admission.specs.InUse.{is_in_use}
 use Rattle.run_admission.proofs.FewerLemmas.{AreKept, IsBelow, below-map, kept_below}
 use Rattle.run_model.specs.declared.happening.Happening.{Happening}
@@ -13,11 +15,11 @@ use Rattle.run_model.specs.declared.happening.UnitPart.{UnitPart}
 use Rattle.run_model.specs.declared.happening.UnitPart.TheVariants.{Acts}
 use Rattle.run_model.specs.declared.phase.Phase.{Phase}
 use Rattle.run_model.specs.declared.unit_turn.UnitTurn.{UnitTurn}
-use Rattle.run_model.specs.declared.unit_turn.UnitTurn.TheVariants.{Answered}
+use Rattle.run_model.specs.declared.unit_turn.UnitTurn.TheVariants.{Answered, Decide}
 use Rattle.run_model.specs.declared.unit_view.UnitView.{UnitView}
 use Rattle.run_model.specs.Unit.{at_moment, row, row_at, takes}
 use Rattle.run_model.specs.Words.{unit_of, unit_after}
-use Rattle.run_model.specs.Admission.{seat_of, tests_in, unit_of_test}
+use Rattle.run_model.specs.Admission.{is_last, seat_of, tests_in, unit_of_test}
 use Rattle.run_laws.specs.Limits.{limits_with}
 use Rattle.run_laws.proofs.OpenSeats.{at_last, AreLower, IsOfFewer}
 
@@ -41,19 +43,81 @@ kept_fewer p seat other h kept =
     (λ j. h (unit_of_test p j)))
     kept
 
+-- a row leaves a unit its slots
+pub row_keeps_slot : (now : ℕ) (ph : Phase) (turn : UnitTurn) (u : UnitView) → (row_at now ph turn u).next.slot ≡ u.slot
+row_keeps_slot now ph turn u = grind arith
+
+-- a unit that is over takes no turn
+row_over : (now : ℕ) (ph : Phase) (turn : UnitTurn) (u : UnitView) → is_last ph ≡ true → (row_at now ph turn u).next ≡ u
+row_over now ph turn u e = grind arith
+
+-- two units in the same slots, neither of which is over, are in the same seat
+pub seat_going : (u : UnitView) → is_last u.phase ≡ false
+    → seat_of (Some u) ≡ InUse u.slot.global (option_map (λ g. g.slot) u.slot.group)
+seat_going u e = ap (λ b. if b then Gone else InUse u.slot.global (option_map (λ g. g.slot) u.slot.group)) e
+
+same_seat : (u v : UnitView) → v.slot ≡ u.slot → is_last u.phase ≡ false → is_last v.phase ≡ false
+    → seat_of (Some v) ≡ seat_of (Some u)
+same_seat u v slots e f =
+    seat_going v f ∙ ap (λ s. InUse s.global (option_map (λ g. g.slot) s.group)) slots ∙ sym (seat_going u e)
+
 -- a row leaves a unit its seat, or ends its use
 row_lowers : (now : ℕ) (ph : Phase) (turn : UnitTurn) (u : UnitView) → u.phase ≡ ph
     → is_in_use (seat_of (Some (row_at now ph turn u).next)) ≡ true
     → seat_of (Some (row_at now ph turn u).next) ≡ seat_of (Some u)
-row_lowers now ph turn u is used = grind (arith, common_steps)
+row_lowers now ph turn u is used = by_last (is_last u.phase) refl
+  where
+    by_next : (b : Bool) → is_last (row_at now ph turn u).next.phase ≡ b → is_last u.phase ≡ false
+        → seat_of (Some (row_at now ph turn u).next) ≡ seat_of (Some u)
+    by_next false f e = same_seat u (row_at now ph turn u).next (row_keeps_slot now ph turn u) e f
+    by_next true f e =
+        let never : false ≡ true =
+        sym (ap (λ b. is_in_use (if b then Gone else InUse (row_at now ph turn u).next.slot.global
+        (option_map (λ g. g.slot) (row_at now ph turn u).next.slot.group))) f) ∙ used in cc
+
+    by_last : (b : Bool) → is_last u.phase ≡ b → seat_of (Some (row_at now ph turn u).next) ≡ seat_of (Some u)
+    by_last false e = by_next (is_last (row_at now ph turn u).next.phase) refl e
+    by_last true e = ap (λ (v : UnitView). seat_of (Some v)) (row_over now ph turn u (ap is_last (sym is) ∙ e))
+
+-- whether a turn is the decision
+abbrev is_decide : UnitTurn → Bool
+is_decide (Decide word) = true
+is_decide _ = false
+
+-- a row that is no decision sends nothing, and where it is no refused answer its unit goes on
+row_silent : (now : ℕ) (ph : Phase) (turn : UnitTurn) (u : UnitView) → is_decide turn ≡ false
+    → (row_at now ph turn u).sent ≡ None
+row_silent now ph turn u e = grind arith
+
+row_goes_on : (now : ℕ) (ph : Phase) (c : Captured) (turn : UnitTurn) (u : UnitView) → u.phase ≡ ph → takes ph c turn ≡ true
+    → turn ≢ Answered false → is_decide turn ≡ false → is_last (row_at now ph turn u).next.phase ≡ false
+row_goes_on now ph c turn u is en goes e = grind arith
+
+row_going : (ph : Phase) (c : Captured) (turn : UnitTurn) → takes ph c turn ≡ true → is_last ph ≡ false
+row_going ph c turn en = grind arith
 
 -- a row that ends the use of a seat sends the finish that closes it: the last seat of its unit stays below the board's
-row_finishes : (now : ℕ) (ph : Phase) (turn : UnitTurn) (u : UnitView) (seat : ℕ → Seat) → u.phase ≡ ph
-    → takes ph turn ≡ true → turn ≢ Answered false
+row_finishes : (now : ℕ) (ph : Phase) (c : Captured) (turn : UnitTurn) (u : UnitView) (seat : ℕ → Seat) → u.phase ≡ ph
+    → takes ph c turn ≡ true → turn ≢ Answered false
     → (is_in_use (seat u.test.unit) ≡ true → seat u.test.unit ≡ seat_of (Some u))
     → is_in_use (at_last seat (option_to_list (row_at now ph turn u).sent) u.test.unit) ≡ true
     → at_last seat (option_to_list (row_at now ph turn u).sent) u.test.unit ≡ seat_of (Some (row_at now ph turn u).next)
-row_finishes now ph turn u seat is en goes below used = grind (arith, common_steps)
+row_finishes now ph c turn u seat is en goes below used = by_decide turn (is_decide turn) refl en goes used
+  where
+    silent : (turn : UnitTurn) → is_decide turn ≡ false
+        → at_last seat (option_to_list (row_at now ph turn u).sent) u.test.unit ≡ seat u.test.unit
+    silent turn e = ap (λ m. at_last seat (option_to_list m) u.test.unit) (row_silent now ph turn u e)
+
+    by_decide : (turn : UnitTurn) (b : Bool) → is_decide turn ≡ b → takes ph c turn ≡ true → turn ≢ Answered false
+        → is_in_use (at_last seat (option_to_list (row_at now ph turn u).sent) u.test.unit) ≡ true
+        → at_last seat (option_to_list (row_at now ph turn u).sent) u.test.unit
+        ≡ seat_of (Some (row_at now ph turn u).next)
+    by_decide turn false e en goes used =
+        silent turn e ∙ below (ap is_in_use (sym (silent turn e)) ∙ used)
+        ∙ sym (same_seat u (row_at now ph turn u).next (row_keeps_slot now ph turn u)
+        (ap is_last is ∙ row_going ph c turn en) (row_goes_on now ph c turn u is en goes e))
+    by_decide (Decide word) true e en goes used = grind (arith, common_steps)
+    by_decide turn true e en goes used = cc
 
 -- what a row sends leaves the seats of other units
 row_others : (now : ℕ) (ph : Phase) (turn : UnitTurn) (u : UnitView) (seat : ℕ → Seat) (k : ℕ)
@@ -73,7 +137,7 @@ acts_lower now j turn run k = by_unit (j == k) (unit_of k run)
 
 -- a unit's own turn leaves the last seats below the board's
 pub acts_last : (now j : ℕ) (turn : UnitTurn) (run : List Happening) (u : UnitView) (seat : ℕ → Seat)
-    → unit_of j run ≡ Some u → takes u.phase turn ≡ true → turn ≢ Answered false → u.test.unit ≡ j
+    → unit_of j run ≡ Some u → takes u.phase u.capture turn ≡ true → turn ≢ Answered false → u.test.unit ≡ j
     → AreLower seat (board_seat run)
     → AreLower (at_last seat (option_to_list (row now turn u).sent)) (seat_after now (Some (Acts j turn)) run)
 acts_last now j turn run u seat is en goes named below k = by_unit (j == k) refl
@@ -91,7 +155,7 @@ acts_last now j turn run u seat is en goes named below k = by_unit (j == k) refl
         (seat_of (option_map (λ v. (row now turn v).next) v))) (sym here)
         (subst (λ i. IsBelow (at_last seat (option_to_list (row now turn u).sent) i)
         (seat_of (Some (row now turn u).next))) own
-        (row_finishes now u.phase turn (at_moment now u) seat refl en goes was))
+        (row_finishes now u.phase u.capture turn (at_moment now u) seat refl en goes was))
     by_unit false e =
         let apart : (u.test.unit == k) ≡ false = grind arith in
         subst (λ s. IsBelow s (board_seat run k)) (sym (row_others now u.phase turn (at_moment now u) seat k apart))

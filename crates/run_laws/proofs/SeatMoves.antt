@@ -77,9 +77,9 @@ start_moves p over now run start rest false (Some u) h goes eq ew = cc
 start_moves p over now run start rest true (Some u) h goes eq ew =
     let waits = start_waits p over now run start rest h eq in
     let same : waits.unit ≡ u = cc (sym waits.is ∙ ew) in
-    let waiting : takes u.phase (Answered true) ≡ true =
-    ap (λ (u : UnitView). takes u.phase (Answered true)) (sym same)
-    ∙ ap (λ ph. takes ph (Answered true)) waits.phase in
+    let waiting : takes u.phase u.capture (Answered true) ≡ true =
+    ap (λ (u : UnitView). takes u.phase u.capture (Answered true)) (sym same)
+    ∙ ap (λ ph. takes ph waits.unit.capture (Answered true)) waits.phase in
     record {
       tells = λ k. seat_told-started k now (told run) start (with_start (tally p run)) waits.untold
           ∙ ap (λ q. at_last (seat_told (told run)) (take 1 q) k) (sym eq);

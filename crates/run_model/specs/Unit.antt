@@ -8,6 +8,10 @@ use Rattle.run_events.specs.declared.ask.Ask.TheVariants.{Start as AskStart}
 use Rattle.run_events.specs.declared.plan.GroupSlot.{GroupSlot}
 use Rattle.run_events.specs.declared.message.Message.{Message}
 use Rattle.run_events.specs.declared.message.Message.TheVariants.{Finish}
+use Rattle.run_capture.specs.declared.test_output.Stream.{Stream}
+use Rattle.run_capture.specs.declared.test_output.Stream.TheVariants as streams
+use Rattle.run_capture.specs.declared.test_output.CaptureStrategy.{CaptureStrategy}
+use Rattle.run_capture.specs.declared.test_output.CaptureStrategy.TheVariants as strategies
 use Rattle.run_capture.specs.Output.{uncaptured, nothing_of}
 use Rattle.run_capture.specs.Captured.{Captured, begun, takes as takes_stream, is_done, with_piece, with_end}
 use Rattle.run_capture.specs.Captured.{with_error, with_wait_error}
@@ -73,6 +77,12 @@ version_variables =
 unfoldable pub environment : UnitView → List (List ℕ × List ℕ)
 environment u = identity_variables u ++ (place_variables u ++ version_variables)
 
+-- the streams that a strategy captures, in order
+abbrev pub streams_of : CaptureStrategy → List Stream
+streams_of strategies.None = []
+streams_of strategies.Split = streams.Stdout ∷ streams.Stderr ∷ []
+streams_of strategies.Combined = streams.Combined ∷ []
+
 -- the start of a test's child that is asked where its attempt is let go
 unfoldable pub start_ask : UnitView → Ask
 start_ask u = AskStart (record {
@@ -82,7 +92,7 @@ start_ask u = AskStart (record {
   env = environment u;
   group = true;
   stdin = false;
-  streams = [];
+  streams = streams_of u.strategy;
   env_path = None;
 })
 

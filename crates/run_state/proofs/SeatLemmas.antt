@@ -24,6 +24,7 @@ use Rattle.run_model.specs.Admission.{slots_of, group_slot, unit_of_test, newcom
 use Rattle.run_model.specs.Board.{units_after}
 use Rattle.run_model.specs.Turns.{taken_by}
 use Rattle.run_laws.proofs.Newcomers.{becomes}
+use Rattle.run_laws.proofs.BoardSeats.{row_keeps_slot, seat_going}
 use Rattle.run_laws.proofs.Admitted.{HasFreeSlots, admitted_is}
 use Rattle.run_state.specs.Held.{given_back, units_with}
 
@@ -34,15 +35,7 @@ acted now k turn us u at =
     ap (λ v. units_after now (option_map (λ w. Acts k turn) v) us) at
     ∙ ap (λ v. set us k (option_map (λ w. (row now turn w).next) v)) at
 
--- a row leaves a unit its slots
-row_keeps_slot : (now : ℕ) (ph : Phase) (turn : UnitTurn) (u : UnitView) → (row_at now ph turn u).next.slot ≡ u.slot
-row_keeps_slot now ph turn u = grind arith
-
--- a unit that isn't over holds its slots, and one that is over none
-seat_going : (u : UnitView) → is_last u.phase ≡ false
-    → seat_of (Some u) ≡ InUse u.slot.global (option_map (λ g. g.slot) u.slot.group)
-seat_going u e = ap (λ b. if b then Gone else InUse u.slot.global (option_map (λ g. g.slot) u.slot.group)) e
-
+-- a unit that is over holds no slots
 pub seat_over : (u : UnitView) → is_last u.phase ≡ true → seat_of (Some u) ≡ Gone
 seat_over u e = ap (λ b. if b then Gone else InUse u.slot.global (option_map (λ g. g.slot) u.slot.group)) e
 

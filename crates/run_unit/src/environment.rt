@@ -2,9 +2,9 @@
 ghost use Rattle.std.specs.Prelude.{◌≡◌, ◌++◌, ◌∷◌, [], IfOk, decimal, codes};
 ghost use Rattle.uuid.specs.Text.{hyphenated_text, lower};
 ghost use Rattle.run_model.specs.Unit.{start_ask, environment, identity_variables, place_variables, version_variables};
-ghost use Rattle.run_model.specs.Unit.{group_name, group_number};
+ghost use Rattle.run_model.specs.Unit.{group_name, group_number, streams_of};
 
-use run_capture::{Duplicate, List, Mem, Text};
+use run_capture::{CaptureStrategy, Duplicate, List, Mem, Stream, Text};
 use run_events::{Ask, GroupSlot, StartAsk};
 use run_model::UnitView;
 use std::alloc::Global;
@@ -141,12 +141,32 @@ fn environment(alloc: Global, unit: &UnitView) -> Mem<List<(Text, Text)>>
     Ok(List::from_vec(env))
 }
 
+// The streams that a strategy captures, in order.
+fn streams_of(alloc: Global, strategy: CaptureStrategy) -> Mem<List<Stream>>
+    ensures { IfOk result (λ streams. streams ≡ streams_of strategy) }
+{
+    let mut streams = List::new();
+    match strategy {
+        CaptureStrategy::None => Ok(streams),
+        CaptureStrategy::Split => {
+            streams.push(alloc, Stream::Stdout)?;
+            streams.push(alloc, Stream::Stderr)?;
+            Ok(streams)
+        }
+        CaptureStrategy::Combined => {
+            streams.push(alloc, Stream::Combined)?;
+            Ok(streams)
+        }
+    }
+}
+
 /// The start that is asked where an attempt is let go.
 #[tactic(auto, unfolding(run_model::specs::Unit::start_ask))]
 pub fn start_of(alloc: Global, unit: &UnitView) -> Mem<Ask>
     ensures { IfOk result (λ ask. ask ≡ start_ask unit.now) }
 {
     let command = unit.command.copy(alloc)?;
+    let streams = streams_of(alloc, unit.strategy)?;
     let env = environment(alloc, unit)?;
     Ok(Ask::Start(StartAsk {
         unit: unit.test.unit,
@@ -155,7 +175,7 @@ pub fn start_of(alloc: Global, unit: &UnitView) -> Mem<Ask>
         env,
         group: true,
         stdin: false,
-        streams: List::new(),
+        streams,
         env_path: None,
     }))
 }

@@ -10,8 +10,8 @@ pub returns-in-Ok : goal.returns-in-Ok
 returns-in-Ok g c =
     let input = c.args.input in
     let w = writing g.K.Sink.taken g.K.Sink.faults c.args.sink c.replay.result.sink in
-    let built : IsBuilt (builder_of input.capture) input.plan (Ok c.in-Ok.runner) =
+    let built : IsBuilt (builder_of input.keys) input.plan (Ok c.in-Ok.runner) =
     subst (λ b. IsBuilt b input.plan (Ok c.in-Ok.runner)) c.builder_of.ensures c.in-Ok.ensures.built in
-    accepted_ends input.capture input.plan input.turns w c.replay.result.ending built.0
+    accepted_ends input.keys input.plan input.turns w c.replay.result.ending built.0
     (subst (λ p. IsReplayEnding p input.turns w c.replay.result.ending) built.1
     (subst (λ ts. IsReplayEnding c.in-Ok.runner ts w c.replay.result.ending) c.as_slice.ensures c.replay.ensures))

@@ -4,15 +4,15 @@ use Rattle.run_cli.proofs.top.run_to_end.Goals as goal
 
 pub replay_input-requires-clause-units : goal.replay_input-requires-clause-units
 replay_input-requires-clause-units g c =
-    (given_few _ c.in-Ok.input.capture c.in-Ok.input.plan c.in-Ok.input.turns c.in-Ok.ensures.given).0
+    (given_few _ c.in-Ok.input.keys c.in-Ok.input.plan c.in-Ok.input.turns c.in-Ok.ensures.given).0
 
 pub replay_input-requires-clause-turns : goal.replay_input-requires-clause-turns
 replay_input-requires-clause-turns g c =
-    (given_few _ c.in-Ok.input.capture c.in-Ok.input.plan c.in-Ok.input.turns c.in-Ok.ensures.given).1
+    (given_few _ c.in-Ok.input.keys c.in-Ok.input.plan c.in-Ok.input.turns c.in-Ok.ensures.given).1
 
 pub returns-in-Ok-clause-says : goal.returns-in-Ok-clause-says
 returns-in-Ok-clause-says g c =
     let input = c.in-Ok.input in
-    given_says _ input.capture input.plan input.turns c.replay_input.result.ending c.in-Ok.ensures.replay
+    given_says _ input.keys input.plan input.turns c.replay_input.result.ending c.in-Ok.ensures.replay
     c.in-Ok.ensures.given
     c.replay_input.ensures
