@@ -19,7 +19,7 @@ ghost use Rattle.run_engine.specs.Refused.{IsRefused, IsNotNamed, IfNotMemory};
 
 use crate::errors::StepError;
 use crate::tell::{Told, ask, tell};
-use run_capture::{Mem, Whole};
+use run_capture::{Mem, OutOfMemory, Whole};
 use run_events::{Children, Reporter, RunOutcome, Settings, Turn};
 use run_model::{Entry, UnitTurn};
 use run_state::{Effects, State, advance, is_enabled, turn_of_unit};
@@ -113,7 +113,10 @@ fn act<C: Children, R: Reporter>(
     ensures same { journal.new.items ≡ journal.old.items }
     ensures room { OnOk result (vec_len journal.new < vec_capacity journal.new) }
 {
-    let place = make_room(journal)?;
+    let Ok(place) = make_room(journal) else {
+        drop(named);
+        return Err(OutOfMemory);
+    };
     let effects = advance(alloc, settings, state, turn, named)?;
     send(alloc, place, effects, children, report)
 }

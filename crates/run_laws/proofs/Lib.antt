@@ -4,6 +4,8 @@ pub mod Queue
 pub mod AccountLemmas
 pub mod Running
 pub mod Scan
+pub mod CaptureLemmas
+pub mod PieceLemmas
 pub mod AttemptLemmas
 pub mod OnBoard
 pub mod Newcomers

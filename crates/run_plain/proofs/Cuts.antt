@@ -1,6 +1,7 @@
 -- Where a story is cut.
 use Rattle.std.proofs.Common.{◌≡◌, ◌≢◌, ◌++◌, length, ℕ, ◌+◌, zero, suc, List, [], ◌∷◌, take, drop, Bool, true, false}
 use Rattle.std.proofs.Common.{if◌then◌else◌, arith, ap, refl, ◌∙◌, sym}
+use Rattle.run_capture.specs.declared.test_output.CaptureStrategy.{CaptureStrategy}
 use Rattle.run_model.specs.Attempts.{OwnTurn, begins_attempt, ended_statuses, has_ended, pieces, status_of, with_turn}
 use Rattle.run_plain.specs.Newest.{newest, with_one}
 
@@ -38,13 +39,13 @@ cut [] n is = absurd (omega arith)
 cut (t ∷ before) n is = cut_one (begins_attempt t.turn) (newest before) n t before is (cut before)
 
 -- the statuses of the earlier pieces, and that of the newest if it has ended
-pub statuses_cut : (attempts n m : ℕ) (story : List OwnTurn) → n ≡ newest story → n ≢ 0
+pub statuses_cut : (strategy : CaptureStrategy) (attempts n m : ℕ) (story : List OwnTurn) → n ≡ newest story → n ≢ 0
     → m ≡ length (pieces (drop n story)) + 1
-    → ended_statuses attempts (pieces (drop n story))
-    ++ (if has_ended (take n story) then status_of attempts m (take n story) ∷ [] else [])
-    ≡ ended_statuses attempts (pieces story)
-statuses_cut attempts zero m story is some count = absurd (some refl)
-statuses_cut attempts (suc n) m story is some count =
-    ap (λ k. ended_statuses attempts (pieces (drop (suc n) story))
-    ++ (if has_ended (take (suc n) story) then status_of attempts k (take (suc n) story) ∷ [] else [])) count
-    ∙ sym (ap (ended_statuses attempts) (cut story n (sym is)))
+    → ended_statuses strategy attempts (pieces (drop n story))
+    ++ (if has_ended strategy (take n story) then status_of strategy attempts m (take n story) ∷ [] else [])
+    ≡ ended_statuses strategy attempts (pieces story)
+statuses_cut strategy attempts zero m story is some count = absurd (some refl)
+statuses_cut strategy attempts (suc n) m story is some count =
+    ap (λ k. ended_statuses strategy attempts (pieces (drop (suc n) story))
+    ++ (if has_ended strategy (take (suc n) story) then status_of strategy attempts k (take (suc n) story) ∷ [] else [])) count
+    ∙ sym (ap (ended_statuses strategy attempts) (cut story n (sym is)))

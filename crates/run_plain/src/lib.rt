@@ -12,6 +12,7 @@ mod front;
 mod results;
 mod statistics;
 mod story;
+mod streams;
 
 pub use accounts::{News, account_of};
 pub use admission::{candidate, free_slot, in_use};

@@ -1,6 +1,6 @@
 // A unit's own turns, and how they are cut where it was let go.
 ghost use Rattle.std.specs.Prelude.{◌≡◌, ◌≤◌, length};
-ghost use Rattle.run_model.specs.Attempts.{begins_attempt, ends_attempt, pieces};
+ghost use Rattle.run_model.specs.Attempts.{begins_attempt, pieces};
 ghost use Rattle.run_plain.specs.Newest.{newest};
 
 use run_model::UnitTurn;
@@ -26,16 +26,6 @@ pub fn begins_attempt(turn: &UnitTurn) -> bool
     ensures { result ≡ begins_attempt turn.now }
 {
     matches!(turn, UnitTurn::Answered { go: true })
-}
-
-// Whether an attempt ends with a turn.
-pub fn ends_attempt(turn: &UnitTurn) -> bool
-    ensures { result ≡ ends_attempt turn.now }
-{
-    matches!(
-        turn,
-        UnitTurn::StartFailed { .. } | UnitTurn::Exit { .. } | UnitTurn::WaitFailed { .. }
-    )
 }
 
 // How many turns the newest piece of a story has, where the story has the newest turn first; 0 where it has no piece.
