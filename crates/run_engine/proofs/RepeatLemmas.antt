@@ -1,12 +1,16 @@
--- Ids in their order, and the test that has the id of an earlier one.
-use Rattle.std.proofs.Common.{◌≡◌, ◌&&◌, ◌||◌, cond, Bool, true, false, not, ap, sym, ◌∙◌, refl, nat_eq}
+-- Ids in their order, the test that has the id of an earlier one, and why it is refused.
+use Rattle.std.proofs.Common.{◌≡◌, ℕ, ◌&&◌, ◌||◌, cond, Bool, true, not, ap, sym, ◌∙◌, refl, nat_eq, List, take}
+use Rattle.std.proofs.Common.{false, slice_get, Some, option_and_then}
+use Rattle.std.specs.List.{list_any}
 use Rattle.std.specs.declared.cmp.Ordering.{Ordering}
 use Rattle.std.specs.declared.cmp.Ordering.TheVariants.{Less, Equal, Greater}
 use Rattle.std.specs.Ordering.{nat_cmp, ordering_then, is_eq}
 use Rattle.std.specs.Cmp.Lexicographic.{slice_cmp, texts_ties}
 use lib.Pointwise.{pointwise}
 use Rattle.run_events.specs.declared.plan.TestInstanceId.{TestInstanceId}
-use Rattle.run_engine.specs.Builder.{same_id}
+use Rattle.run_events.specs.declared.plan.PlanTest.{PlanTest}
+use Rattle.run_events.specs.declared.plan.Group.{Group}
+use Rattle.run_engine.specs.Builder.{same_id, is_among, is_repeat, refusal_at, test_refusal}
 
 -- the order of ids: by binary, then by name
 abbrev pub id_cmp : TestInstanceId → TestInstanceId → Ordering
@@ -35,12 +39,17 @@ pub one_more : (b had c d : Bool) → b ≡ d → had ≡ c → cond b true had 
 one_more b had c d e f = cond_or b had ∙ ap (λ h. h || b) f ∙ ap (λ b. c || b) e
 
 -- an insertion that adds nothing found what it inserts, and one that adds didn't
-pub found : (added had : Bool) → added ≡ not had → added ≡ false → had ≡ true
-found true had e f = cc
-found false true e f = refl
-found false false e f = cc
+pub found : (added had : Bool) → added ≡ not had → not added ≡ had
+found added had e = ap not e ∙ twice had
+  where
+    twice : (b : Bool) → not (not b) ≡ b
+    twice true = refl
+    twice false = refl
 
-pub unknown : (added had : Bool) → added ≡ not had → added ≡ true → had ≡ false
-unknown false had e f = cc
-unknown true true e f = cc
-unknown true false e f = refl
+-- why the test at a place is refused, by what it is and whether it repeats an id
+pub refusal_here : (groups : List Group) (tests : List PlanTest) (k : ℕ) (test : PlanTest) (repeats : Bool)
+    → slice_get tests k ≡ Some test → list_any (λ t. same_id t.id test.id) (take k tests) ≡ repeats
+    → test_refusal groups tests k ≡ refusal_at k repeats groups test
+refusal_here groups tests k test repeats at among =
+    ap (option_and_then (refusal_at k (is_repeat tests k) groups)) at
+    ∙ ap (λ r. refusal_at k r groups test) (ap (is_among (take k tests)) at ∙ among)

@@ -1,28 +1,50 @@
 -- Which plans are accepted, and the settings of a runner.
-use Rattle.std.specs.Prelude.{ℕ, ◌≡◌, List, length, take, slice_get, position, Bool, false, ◌&&◌, nat_eq, Option, Some}
-use Rattle.std.specs.Prelude.{None, option_map, Result, Ok, Err, ⊤}
+use Rattle.std.specs.Prelude.{ℕ, ◌≡◌, ◌==◌, List, length, take, slice_get, position, Bool, true, false, ◌&&◌, nat_eq}
+use Rattle.std.specs.Prelude.{if◌then◌else◌, Option, Some, None, is_none, is_some, unwrap_or, option_map}
+use Rattle.std.specs.Prelude.{option_and_then, Result, Ok, Err, ⊤}
+use Rattle.std.specs.Option.{option_or, option_map_or}
 use Rattle.std.specs.List.{range_with_len, list_any}
 use lib.Pointwise.{pointwise}
 use Rattle.run_capture.specs.declared.test_output.CaptureStrategy.{CaptureStrategy}
+use Rattle.run_capture.specs.declared.test_output.CaptureStrategy.TheVariants as strategies
 use Rattle.run_events.specs.declared.plan.Plan.{Plan}
+use Rattle.run_events.specs.declared.plan.Group.{Group}
 use Rattle.run_events.specs.declared.plan.PlanTest.{PlanTest}
 use Rattle.run_events.specs.declared.plan.TestInstanceId.{TestInstanceId}
 use Rattle.run_events.specs.declared.settings.Settings.{Settings}
 use Rattle.run_events.specs.declared.retry_policy.MaxFail.TheVariants.{All}
+use Rattle.run_events.specs.declared.retry_policy.TestThreads.{TestThreads}
+use Rattle.run_events.specs.declared.retry_policy.TestThreads.TheVariants.{Count}
 use Rattle.run_commands.specs.declared.interceptor.Interceptor.TheVariants as interceptors
+use Rattle.run_admission.specs.InUse.{group_of}
 use Rattle.run_engine.specs.declared.errors.TestRunnerBuildError.{TestRunnerBuildError}
-use Rattle.run_engine.specs.declared.errors.TestRunnerBuildError.TheVariants.{DuplicateTest, OutOfMemory}
+use Rattle.run_engine.specs.declared.errors.TestRunnerBuildError.TheVariants.{ZeroLimit, DuplicateTest, UnknownGroup}
+use Rattle.run_engine.specs.declared.errors.TestRunnerBuildError.TheVariants.{ZeroWeight, OutOfMemory}
 
 -- what is set of a runner beside its plan
 pub record Builder : Type 0 where
   pub capture : CaptureStrategy
+  pub threads : Option ℕ
 
--- the settings of a runner: what was set, and for what wasn't the usual. One thread, since tests run one at a time
+-- the number of threads that is set
+abbrev pub count_of : TestThreads → ℕ
+count_of (Count threads) = threads
+
+-- whether output is captured
+abbrev pub is_captured : CaptureStrategy → Bool
+is_captured strategies.None = false
+is_captured _ = true
+
+-- how many threads a run has: those that were set, and one where none were set or no output is captured
+abbrev pub threads_of : Builder → ℕ
+threads_of builder = if is_captured builder.capture then unwrap_or builder.threads 1 else 1
+
+-- the settings of a runner: what was set, and for what wasn't the usual
 abbrev pub settings_of : Builder → Plan → Settings
 settings_of builder plan = record {
   plan = plan;
   capture = builder.capture;
-  threads = 1;
+  threads = threads_of builder;
   max_fail = All;
   stress = None;
   interceptor = interceptors.None;
@@ -44,13 +66,39 @@ is_among earlier (Some test) = list_any (λ t. same_id t.id test.id) earlier
 abbrev pub is_repeat : List PlanTest → ℕ → Bool
 is_repeat tests k = is_among (take k tests) (slice_get tests k)
 
--- the first test that has the id of an earlier one
-abbrev pub first_repeat : List PlanTest → Option ℕ
-first_repeat tests = position (is_repeat tests) (range_with_len 0 (length tests))
+-- whether a test names a group that isn't among these
+abbrev pub names_no_group : List Group → PlanTest → Bool
+names_no_group groups test = option_map_or (λ name. is_none (group_of groups name)) test.group false
+
+-- why a test at this place is refused, where it is: it has the id of an earlier one, it names a group that the plan
+-- hasn't, or it has no weight
+abbrev pub refusal_at : ℕ → Bool → List Group → PlanTest → Option TestRunnerBuildError
+refusal_at k repeats groups test =
+    if repeats then Some (DuplicateTest k) else
+    (if names_no_group groups test then Some (UnknownGroup k) else
+    (if test.weight == 0 then Some (ZeroWeight k) else None))
+
+-- why the test of the plan at this place is refused, where it is
+abbrev pub test_refusal : List Group → List PlanTest → ℕ → Option TestRunnerBuildError
+test_refusal groups tests k = option_and_then (refusal_at k (is_repeat tests k) groups) (slice_get tests k)
+
+-- the first test that is refused
+abbrev pub first_refused : List Group → List PlanTest → Option ℕ
+first_refused groups tests = position (λ k. is_some (test_refusal groups tests k)) (range_with_len 0 (length tests))
+
+-- the first limit that is 0, by the place of its group: the limit on all tests comes before those of the groups
+abbrev pub zero_limit : ℕ → List Group → Option (Option ℕ)
+zero_limit threads groups = if threads == 0 then Some None else option_map Some (position (λ g. g.limit == 0) groups)
+
+-- why a plan with so many threads is refused, where it is: a limit that is 0, else the first test that is refused
+abbrev pub refusal_with : ℕ → List Group → List PlanTest → Option TestRunnerBuildError
+refusal_with threads groups tests =
+    option_or (option_map ZeroLimit (zero_limit threads groups))
+    (option_and_then (test_refusal groups tests) (first_refused groups tests))
 
 -- why a plan is refused, where it is: the first rule that it breaks
 abbrev pub refusal_of : Builder → Plan → Option TestRunnerBuildError
-refusal_of builder plan = option_map DuplicateTest (first_repeat plan.tests)
+refusal_of builder plan = refusal_with (threads_of builder) plan.groups plan.tests
 
 -- what `build` answers of a plan: a runner exactly where no rule is broken
 abbrev pub IsBuilt : Builder → Plan → Result Settings TestRunnerBuildError → Type 0

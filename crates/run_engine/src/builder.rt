@@ -1,20 +1,25 @@
 // How a runner is made of a plan.
-ghost use Rattle.std.specs.Prelude.{◌≡◌, ◌+◌, ◌<◌, ◌^◌, length, IfOk, IfSome};
-ghost use Rattle.run_engine.specs.Builder.{IsBuilt, first_repeat};
+ghost use Rattle.std.specs.Prelude.{◌≡◌, ◌+◌, ◌==◌, ◌<◌, ◌^◌, length, position, option_map, option_and_then};
+ghost use Rattle.std.specs.Prelude.{IfOk, IfSome, Some};
+ghost use Rattle.run_admission.specs.InUse.{group_of};
+ghost use Rattle.run_engine.specs.declared.errors.TestRunnerBuildError.TheVariants.{ZeroLimit};
+ghost use Rattle.run_engine.specs.Builder.{IsBuilt, count_of, threads_of, names_no_group, refusal_at, test_refusal};
+ghost use Rattle.run_engine.specs.Builder.{first_refused, zero_limit, refusal_with};
 
 use crate::errors::TestRunnerBuildError;
 use crate::runner::TestRunner;
-use run_capture::{CaptureStrategy, Mem};
+use run_capture::{CaptureStrategy, Mem, Text};
 use run_commands::Interceptor;
-use run_events::{MaxFail, Plan, PlanTest, Settings};
+use run_events::{Group, MaxFail, Plan, PlanTest, Settings, TestThreads};
 use std::alloc::Global;
 use std::collections::BTreeSet;
 use std::marker::Model;
 
-/// What is set of a runner beside its plan: how the output of tests is captured.
+/// What is set of a runner beside its plan: how the output of tests is captured, and how many tests run at a time.
 #[derive(Debug, Drop)]
 pub struct TestRunnerBuilder {
     capture: CaptureStrategy,
+    threads: Option<u32>,
 }
 
 impl Model for TestRunnerBuilder {
@@ -22,19 +27,20 @@ impl Model for TestRunnerBuilder {
 
     ghost Value = { Builder };
 
-    ghost view = { λ b. record { capture = b.capture } };
+    ghost view = { λ b. record { capture = b.capture; threads = b.threads } };
 }
 
-/// Each stream is captured by itself.
+/// Each stream is captured by itself, and the number of threads is unset.
 impl Default for TestRunnerBuilder {
-    ghost use Rattle.std.specs.Prelude.{◌≡◌};
+    ghost use Rattle.std.specs.Prelude.{◌≡◌, None};
     ghost use Rattle.run_capture.specs.declared.test_output.CaptureStrategy.TheVariants as strategies;
 
-    ghost is_default = { λ b. b ≡ record { capture = strategies.Split } };
+    ghost is_default = { λ b. b ≡ record { capture = strategies.Split; threads = None } };
 
     fn default() -> Self {
         TestRunnerBuilder {
             capture: CaptureStrategy::Split,
+            threads: None,
         }
     }
 }
@@ -49,26 +55,49 @@ impl TestRunnerBuilder {
         self
     }
 
-    /// The runner of a plan of fewer than 2^32 units. A plan is refused exactly where two of its tests have one id,
-    /// with
-    /// the place of the first test that repeats one.
+    /// Sets how many threads there are: the greatest sum of weights that may run at a time. Where it is unset, it is
+    /// one, and so it is wherever no output is captured.
+    pub fn set_test_threads(&mut self, threads: TestThreads) -> &mut Self
+        ensures same { result.ghost_name ≡ self.entry.ghost_name }
+        ensures set { result.now ≡ record self.old { threads = Some (count_of threads) } }
+    {
+        let TestThreads::Count(count) = threads;
+        self.threads = Some(count);
+        self
+    }
+
+    // How many threads there are.
+    fn effective_threads(&self) -> u32
+        ensures { result ≡ threads_of self.now }
+    {
+        match self.capture {
+            CaptureStrategy::None => 1,
+            CaptureStrategy::Split | CaptureStrategy::Combined => self.threads.unwrap_or(1),
+        }
+    }
+
+    /// The runner of a plan of fewer than 2^32 units and fewer than 2^32 groups. A plan is refused exactly where it
+    /// breaks a rule, with the first that it breaks: no limit is 0, no two tests have one id, each group that a test
+    /// names is there, and no weight is 0.
     pub fn build(self, alloc: Global, plan: Plan) -> Result<TestRunner, TestRunnerBuildError>
-        requires { length plan.scripts + length plan.tests < 2 ^ 32 }
+        requires units { length plan.scripts + length plan.tests < 2 ^ 32 }
+        requires groups { length plan.groups < 2 ^ 32 }
         ensures built { IsBuilt self plan result }
     {
-        match first_repeat(alloc, plan.tests.as_slice()) {
+        let threads = self.effective_threads();
+        match refusal(alloc, threads, &plan) {
             Err(_) => {
                 drop(plan);
                 Err(TestRunnerBuildError::OutOfMemory)
             }
-            Ok(Some(test)) => {
+            Ok(Some(error)) => {
                 drop(plan);
-                Err(TestRunnerBuildError::DuplicateTest { test: test as u32 })
+                Err(error)
             }
             Ok(None) => Ok(TestRunner::new(Settings {
                 plan,
                 capture: self.capture,
-                threads: 1,
+                threads,
                 max_fail: MaxFail::All,
                 stress: None,
                 interceptor: Interceptor::None,
@@ -80,15 +109,95 @@ impl TestRunnerBuilder {
     }
 }
 
-// The first test that has the id of an earlier one.
-fn first_repeat(alloc: Global, tests: &[PlanTest]) -> Mem<Option<usize>>
-    ensures first { IfOk result (λ place. place ≡ first_repeat tests.now) }
-    ensures inside { IfOk result (λ place. IfSome place (λ place. place < length tests.now)) }
+// Why a plan with so many threads is refused.
+fn refusal(alloc: Global, threads: u32, plan: &Plan) -> Mem<Option<TestRunnerBuildError>>
+    requires groups { length plan.now.groups < 2 ^ 32 }
+    requires tests { length plan.now.tests < 2 ^ 32 }
+    ensures { IfOk result (λ r. r ≡ refusal_with threads plan.now.groups plan.now.tests) }
+{
+    match zero_limit(threads, plan.groups.as_slice()) {
+        Some(error) => Ok(Some(error)),
+        None => tests_refusal(alloc, plan.groups.as_slice(), plan.tests.as_slice()),
+    }
+}
+
+// The first group whose limit is 0.
+fn zero_group(groups: &[Group]) -> Option<usize>
+    ensures first { result ≡ position (λ g. g.limit == 0) groups.now }
+    ensures inside { IfSome result (λ place. place < length groups.now) }
+{
+    groups.iter().position(|group| group.limit == 0)
+}
+
+// The first limit that is 0.
+fn zero_limit(threads: u32, groups: &[Group]) -> Option<TestRunnerBuildError>
+    requires { length groups.now < 2 ^ 32 }
+    ensures { result ≡ option_map ZeroLimit (zero_limit threads groups.now) }
+{
+    if threads == 0 {
+        return Some(TestRunnerBuildError::ZeroLimit { group: None });
+    }
+    match zero_group(groups) {
+        Some(place) => Some(TestRunnerBuildError::ZeroLimit {
+            group: Some(place as u32),
+        }),
+        None => None,
+    }
+}
+
+// The place of the first group of this name.
+fn place_of(groups: &[Group], name: &Text) -> Option<usize>
+    ensures { result ≡ group_of groups.now name.now }
+{
+    groups.iter().position(|group| group.name == *name)
+}
+
+// Whether a test names a group that isn't among these.
+fn names_no_group(groups: &[Group], test: &PlanTest) -> bool
+    ensures { result ≡ names_no_group groups.now test.now }
+{
+    match &test.group {
+        Some(name) => place_of(groups, name).is_none(),
+        None => false,
+    }
+}
+
+// Why a test at this place is refused.
+fn refusal_at(
+    test: u32,
+    repeats: bool,
+    groups: &[Group],
+    planned: &PlanTest,
+) -> Option<TestRunnerBuildError>
+    ensures { result ≡ refusal_at test repeats groups.now planned.now }
+{
+    if repeats {
+        Some(TestRunnerBuildError::DuplicateTest { test })
+    } else if names_no_group(groups, planned) {
+        Some(TestRunnerBuildError::UnknownGroup { test })
+    } else if planned.weight == 0 {
+        Some(TestRunnerBuildError::ZeroWeight { test })
+    } else {
+        None
+    }
+}
+
+// Why the first test that is refused is refused.
+fn tests_refusal(
+    alloc: Global,
+    groups: &[Group],
+    tests: &[PlanTest],
+) -> Mem<Option<TestRunnerBuildError>>
+    requires { length tests.now < 2 ^ 32 }
+    ensures { IfOk result (λ r. r ≡ option_and_then (test_refusal groups.now tests.now)
+        (first_refused groups.now tests.now)) }
 {
     let mut ids = BTreeSet::new(alloc);
     for (place, test) in tests.iter().enumerate() {
-        if !ids.insert(&test.id)? {
-            return Ok(Some(place));
+        let fresh = ids.insert(&test.id)?;
+        let refusal = refusal_at(place as u32, !fresh, groups, test);
+        if refusal.is_some() {
+            return Ok(refusal);
         }
     }
     Ok(None)

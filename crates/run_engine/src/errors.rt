@@ -16,12 +16,21 @@ pub enum StepError {
     OutOfMemory,
 }
 
-/// Why a plan is refused.
+/// Why a plan is refused: the first rule that it breaks, the limits before the tests. Places count from 0.
 #[derive(Debug, Drop, PartialEq, Eq, Error)]
 pub enum TestRunnerBuildError {
-    /// The test at this place is the first that has the id of an earlier one.
+    /// The number of threads is 0, or else the limit of the group at this place, the first such group.
+    #[error("a limit on the tests that run at a time is 0")]
+    ZeroLimit { group: Option<u32> },
+    /// The test at this place has the id of an earlier one.
     #[error("two tests of the plan have one id")]
     DuplicateTest { test: u32 },
+    /// The test at this place names a group that the plan has not.
+    #[error("a test names a group that the plan has not")]
+    UnknownGroup { test: u32 },
+    /// The test at this place has weight 0.
+    #[error("a test has weight 0")]
+    ZeroWeight { test: u32 },
     #[error("out of memory")]
     OutOfMemory,
 }
