@@ -37,6 +37,13 @@ stands_inside [] k u e = cc
 stands_inside (v ∷ us) zero u e = omega arith
 stands_inside (v ∷ us) (suc k) u e = let inside : k < length us = stands_inside us k u e in omega arith
 
+-- what stands there is the unit, whatever stands for a missing one
+pub stands_same : (us : List (Option UnitView)) (k : ℕ) (u : UnitView) (other : Option UnitView)
+    → get_or us k None ≡ Some u → get_or us k other ≡ Some u
+stands_same [] k u other e = cc
+stands_same (v ∷ us) zero u other e = e
+stands_same (v ∷ us) (suc k) u other e = stands_same us k u other e
+
 -- how many are left after one of them was set
 left_set : (us : List (Option UnitView)) (k : ℕ) (new : Option UnitView) → is_left (get_or us k None) ≡ true
     → k < length us → count_by is_left (set us k new) + 1 ≡ count_by is_left us + cond (is_left new) 1 0

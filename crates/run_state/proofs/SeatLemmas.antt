@@ -13,11 +13,10 @@ use Rattle.run_admission.specs.declared.seat.Admitted.TheVariants.{Skip as Skipp
 use Rattle.run_admission.specs.declared.seat.Seat.{Seat}
 use Rattle.run_admission.specs.InUse.{is_in_use, is_test_in_use, admitted, seats_after, after_admission}
 use Rattle.run_admission.specs.InUse.{claim_of, group_of, free_group_slot}
-use Rattle.run_model.specs.declared.phase.Phase.{Phase}
 use Rattle.run_model.specs.declared.unit_turn.UnitTurn.{UnitTurn}
 use Rattle.run_model.specs.declared.unit_view.UnitView.{UnitView}
 use Rattle.run_model.specs.declared.happening.UnitPart.TheVariants.{Acts}
-use Rattle.run_model.specs.Unit.{at_moment, row, row_at}
+use Rattle.run_model.specs.Unit.{at_moment, row}
 use Rattle.run_model.specs.Admission.{is_last, scripts_in, seat_of, limits_of, newcomer_as, test_of, Newcomer}
 use Rattle.run_model.specs.Admission.{newcomer_skipped, skipped_newcomer, started_newcomer, skipped_view, first_view}
 use Rattle.run_model.specs.Admission.{slots_of, group_slot, unit_of_test, newcomer, scripts_over}

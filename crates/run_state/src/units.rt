@@ -137,7 +137,10 @@ fn step_at(
     ensures err { OnErr result (units.new.items ≡ units.old.items) }
 {
     match &mut units[unit] {
-        Some(member) => member.step(alloc, turn, now),
+        Some(member) => {
+            let effects = member.step(alloc, turn, now)?;
+            Ok(effects)
+        }
         None => unreachable!(),
     }
 }

@@ -2,7 +2,7 @@
 use crate::made::{MEMORY, text};
 use crate::plan::Tests;
 use crate::steps::Walk;
-use run_capture::{ChildFdError, List, Text};
+use run_capture::{CaptureStrategy, ChildFdError, List, Text};
 use run_events::{ChildExecutionOutput, ExecuteStatus, ReporterEvent, TestEventKind};
 use run_plain::{News, OwnTurn, account, account_of, meets_attempt_law, statuses_of};
 use std::alloc::Global;
@@ -13,7 +13,7 @@ fn attempts(rt: &impl Abort, alloc: Global, story: &[OwnTurn]) -> List<ExecuteSt
     if story.len() > 100 {
         return List::new();
     }
-    statuses_of(alloc, 1, story).expect(rt, MEMORY)
+    statuses_of(alloc, CaptureStrategy::None, 1, story).expect(rt, MEMORY)
 }
 
 // Whether errors are the same; only those of waits come here.

@@ -69,7 +69,7 @@ const SECOND: &str = r#"{"turn":"admit"}
 
 // What the program is given: words, an input, and the numbers of the read and the write that fail, 0 for none.
 #[derive(Drop)]
-struct Row<'a> {
+pub struct Row<'a> {
     words: &'a [&'a str],
     input: &'a [&'a str],
     failing_read: u64,
@@ -77,7 +77,7 @@ struct Row<'a> {
 }
 
 // An input without failures.
-fn given<'a>(words: &'a [&'a str], input: &'a [&'a str]) -> Row<'a> {
+pub fn given<'a>(words: &'a [&'a str], input: &'a [&'a str]) -> Row<'a> {
     Row {
         words,
         input,
@@ -123,7 +123,7 @@ fn has_written(sink: &MemorySink, lines: usize, last: &str) -> bool {
     count == lines && written.ends_with(last.as_bytes())
 }
 
-fn ended(rt: &impl Abort, alloc: Global, row: &Row) -> Ran<MemorySink> {
+pub fn ended(rt: &impl Abort, alloc: Global, row: &Row) -> Ran<MemorySink> {
     let words = words_of(rt, alloc, row.words);
     let mut source = source_of(rt, alloc, row);
     let ran = run(
@@ -138,7 +138,7 @@ fn ended(rt: &impl Abort, alloc: Global, row: &Row) -> Ran<MemorySink> {
 }
 
 // A row ends with this status, and writes so many lines with this as the last.
-fn check(rt: &impl Abort, alloc: Global, row: &Row, status: u8, lines: usize, last: &str) {
+pub fn check(rt: &impl Abort, alloc: Global, row: &Row, status: u8, lines: usize, last: &str) {
     let Ran { status: got, sink } = ended(rt, alloc, row);
     let written = has_written(&sink, lines, last);
     drop(sink);

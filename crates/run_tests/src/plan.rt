@@ -2,7 +2,7 @@
 ghost use Rattle.std.specs.Prelude.{◌≡◌, ◌≤◌, [], length};
 
 use crate::made::{MEMORY, one, text};
-use run_capture::{List, Text};
+use run_capture::{CaptureStrategy, List, Text};
 use run_engine::{TestRunner, TestRunnerBuilder};
 use run_events::{ChildExit, Plan, PlanTest, TestInstanceId, Turn};
 use std::alloc::Global;
@@ -52,7 +52,9 @@ fn plan(rt: &impl Abort, alloc: Global, of: Tests) -> Plan
 }
 
 pub fn runner(rt: &impl Abort, alloc: Global, of: Tests) -> TestRunner {
-    TestRunnerBuilder::default()
+    let mut builder = TestRunnerBuilder::default();
+    builder.set_capture_strategy(CaptureStrategy::None);
+    builder
         .build(alloc, plan(rt, alloc, of))
         .expect(rt, MEMORY)
 }
