@@ -1,7 +1,7 @@
 // The output of a child while it is captured.
 ghost use Rattle.std.specs.Prelude.{◌≡◌, length, option_map, IfOk, OnOk, OnErr};
-ghost use Rattle.run_capture.specs.Output.{uncaptured, nothing_where, nothing_of, nothing_of_split, is_captured, joined};
-ghost use Rattle.run_capture.specs.Output.{with_bytes, lengths_of};
+ghost use Rattle.run_capture.specs.Output.{uncaptured, nothing_where, nothing_of, nothing_of_split, is_captured};
+ghost use Rattle.run_capture.specs.Output.{joined, with_bytes, lengths_of};
 
 use crate::{Blob, CaptureStrategy, ChildOutput, ChildSplitOutput, Duplicate, Mem, Stream};
 use std::alloc::Global;

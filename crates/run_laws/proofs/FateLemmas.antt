@@ -35,8 +35,8 @@ use Rattle.run_laws.proofs.Kept.{HoldsAfter, does_after, sub_run-after, holds}
 abbrev HasFateWith : Bool → List News → List ExecuteStatus → Type 0
 HasFateWith mm t ss = (t ≡ account mm false false ss) × (mm ≡ false → MeetsAttemptLaw 0 ss)
 
-fate_of : (mm : Bool) (strategy : CaptureStrategy) (v : Option UnitView) (story : List OwnTurn) (t : List News) → is_done v ≡ true
-    → IsAttempted mm v → IsMadeIf strategy v story
+fate_of : (mm : Bool) (strategy : CaptureStrategy) (v : Option UnitView) (story : List OwnTurn) (t : List News)
+    → is_done v ≡ true → IsAttempted mm v → IsMadeIf strategy v story
     → HasAccount mm v t [] → HasFateWith mm t (ended_statuses strategy 1 (pieces story))
 fate_of mm strategy None story t d a made h = cc
 fate_of mm strategy (Some u) story t d a made h =

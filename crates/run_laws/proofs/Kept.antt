@@ -167,7 +167,8 @@ first_made false s u sent (ph, is) a st sg ss = record { attempt = a; start = st
 -- a part leaves each unit as its own turns make it
 made_after : (p : Settings) (run : List Happening) (now k : ℕ) (part : Option UnitPart)
     → IsMadeIf p.capture (unit_of k run) (story_of k run) → PartFits p run part
-    → IsMadeIf p.capture (unit_after now k part (unit_of k run)) (option_to_list (own_turn k now part) ++ story_of k run)
+    → IsMadeIf p.capture (unit_after now k part (unit_of k run))
+    (option_to_list (own_turn k now part) ++ story_of k run)
 made_after p run now k None h fits = h
 made_after p run now k (Some (Joins first)) h (sent, new) = begins (first.test.unit == k) refl
   where
@@ -185,8 +186,8 @@ made_after p run now k (Some (Acts j turn)) h taken = by_unit (j == k) refl
         (option_to_list (if b then Some (record { moment = now; turn = turn }) else None) ++ story_of k run)
     by_unit true e =
         let here : k ≡ j = grind arith in
-        row_made_if p.capture now turn taken.unit (unit_of k run) (story_of k run) (ap (λ k. unit_of k run) here ∙ taken.is)
-        taken.takes h
+        row_made_if p.capture now turn taken.unit (unit_of k run) (story_of k run)
+        (ap (λ k. unit_of k run) here ∙ taken.is) taken.takes h
     by_unit false e = h
 
 -- what is no cause leaves the reason

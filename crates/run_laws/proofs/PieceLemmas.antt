@@ -68,8 +68,8 @@ end_more s t before b none is =
     ap (λ e. option_or e (if has_ended s (t ∷ before) then Some t.moment else None)) none
     ∙ ap (λ b. if b then Some t.moment else None) is
 
-pub going_more : (s : CaptureStrategy) (start : ℕ) (waited : Bool) (exit : Option ChildExit) (c : Captured) (t : OwnTurn)
-    (before : List OwnTurn)
+pub going_more : (s : CaptureStrategy) (start : ℕ) (waited : Bool) (exit : Option ChildExit) (c : Captured)
+    (t : OwnTurn) (before : List OwnTurn)
     → IsAt s start waited exit c (t ∷ before) → end_of s before ≡ None → (waited && is_done c) ≡ false
     → IsGoing s start waited exit c (t ∷ before)
 going_more s start waited exit c t before it none goes = record {

@@ -47,5 +47,6 @@ pub statuses_cut : (strategy : CaptureStrategy) (attempts n m : ℕ) (story : Li
 statuses_cut strategy attempts zero m story is some count = absurd (some refl)
 statuses_cut strategy attempts (suc n) m story is some count =
     ap (λ k. ended_statuses strategy attempts (pieces (drop (suc n) story))
-    ++ (if has_ended strategy (take (suc n) story) then status_of strategy attempts k (take (suc n) story) ∷ [] else [])) count
+    ++ (if has_ended strategy (take (suc n) story)
+    then status_of strategy attempts k (take (suc n) story) ∷ [] else [])) count
     ∙ sym (ap (ended_statuses strategy attempts) (cut story n (sym is)))

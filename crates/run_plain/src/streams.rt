@@ -3,7 +3,8 @@ ghost use Rattle.std.specs.Prelude.{◌≡◌, ◌++◌, IfOk, OnOk};
 ghost use Rattle.run_capture.specs.Heard.{is_stream};
 ghost use Rattle.run_capture.specs.declared.test_output.CaptureStrategy.TheVariants as strategies;
 ghost use Rattle.run_capture.specs.declared.test_output.ChildOutput.TheVariants.{Split};
-ghost use Rattle.run_model.specs.Attempts.{are_streams_done, bytes_in, bytes_of, ends_stream, is_stream_done, output_of};
+ghost use Rattle.run_model.specs.Attempts.{are_streams_done, bytes_in, bytes_of, ends_stream, is_stream_done};
+ghost use Rattle.run_model.specs.Attempts.{output_of};
 
 use crate::OwnTurn;
 use run_capture::{Blob, CaptureStrategy, ChildOutput, ChildSplitOutput, Mem, Stream};
