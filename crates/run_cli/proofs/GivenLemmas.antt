@@ -4,6 +4,7 @@ use Rattle.std.proofs.Common.{reverse, Bool, true, false, if◌then◌else◌, O
 use Rattle.std.proofs.Common.{Ok, Err, refl, ap, sym, subst, ◌∙◌, arith, codes}
 use Rattle.run_input.specs.declared.plan_line.RunnerKeys.{RunnerKeys}
 use Rattle.run_events.specs.Usual.{usual_plan}
+use Rattle.run_events.specs.declared.plan.Group.{Group}
 use Rattle.run_events.specs.declared.plan.Plan.{Plan}
 use Rattle.run_events.specs.declared.plan.PlanTest.{PlanTest}
 use Rattle.run_events.specs.declared.settings.Settings.{Settings}
@@ -22,8 +23,9 @@ use Rattle.run_engine.specs.declared.errors.TestRunnerBuildError.TheVariants as 
 use Rattle.std.proofs.lemmas.Option.{same_Some}
 use Rattle.run_input.specs.Lines.{lines_of, at_front}
 use Rattle.run_input.specs.Input.{IsInput, turns_of, turn_line_of}
-use Rattle.run_input.specs.PlanLine.{plan_tests_of, plan_of, capture_of, run_id_of, tests_of}
-use Rattle.run_input.specs.Fields.{when, is_object_of}
+use Rattle.run_input.specs.PlanLine.{plan_tests_of, plan_groups_of, groups_of, plan_with, plan_of, keys_of, run_id_of}
+use Rattle.run_input.specs.PlanLine.{tests_of}
+use Rattle.run_input.specs.Fields.{when, is_object_of, or_usual}
 use Rattle.run_input.specs.ValueOf.{value_of}
 use Rattle.serde_json.specs.Data.{Data}
 use Rattle.serde_json.specs.Find.{get}
@@ -82,50 +84,61 @@ few_plan_tests d tests e =
     let fewer : length read.0 < 2 ^ 32 = grind (arith, when_is (nat_lt (length read.0) 4294967296) last.0 last.1) in
     subst (λ (ts : List PlanTest). length ts < 2 ^ 32) (same_Some read.0 tests last.2) fewer
 
--- the plan that a line says has these tests and no scripts
-few_units : (keys other : RunnerKeys) (run_id : List ℕ) (tests : List PlanTest) (plan : Plan)
-    → length tests < 2 ^ 32
-    → ◌≡◌ {A = Option (RunnerKeys × Plan)} (Some (keys, usual_plan run_id tests)) (Some (other, plan))
-    → length plan.scripts + length plan.tests < 2 ^ 32
-few_units keys other run_id tests plan fewer e =
-    let few : 0 + length tests < 2 ^ 32 = omega arith in
-    let made : Plan = usual_plan run_id tests in
-    let pair : RunnerKeys × Plan = (keys, made) in
-    let both : pair ≡ (other, plan) = same_Some pair (other, plan) e in
-    let same : made ≡ plan = ap (λ (q : RunnerKeys × Plan). q.1) both in
-    subst (λ (p : Plan). length p.scripts + length p.tests < 2 ^ 32) same few
+-- the groups of a plan are few
+few_plan_groups : (d : Option Data) (groups : List Group) → plan_groups_of d ≡ Some groups → length groups < 2 ^ 32
+few_plan_groups d groups e =
+    let read = then_some (or_usual [] groups_of d)
+    (λ gs. option_and_then (λ _. Some gs) (when (nat_lt (length gs) 4294967296))) groups e in
+    let last = then_some (when (nat_lt (length read.0) 4294967296)) (λ _. Some read.0) groups read.2 in
+    let fewer : length read.0 < 2 ^ 32 = grind (arith, when_is (nat_lt (length read.0) 4294967296) last.0 last.1) in
+    subst (λ (gs : List Group). length gs < 2 ^ 32) (same_Some read.0 groups last.2) fewer
 
--- a plan line has few tests
-few_tests : (d : Data) (keys : RunnerKeys) (plan : Plan) → plan_of d ≡ Some (keys, plan)
-    → length plan.scripts + length plan.tests < 2 ^ 32
+-- a plan that a line says has few units and few groups
+abbrev pub IsFew : Plan → Type 0
+IsFew plan = (length plan.scripts + length plan.tests < 2 ^ 32) × (length plan.groups < 2 ^ 32)
+
+few_plan : (run_id : List ℕ) (groups tests : Option Data) (plan : Plan) → plan_with run_id groups tests ≡ Some plan
+    → IsFew plan
+few_plan run_id groups tests plan e =
+    let gs = then_some (plan_groups_of groups)
+    (λ gs. option_and_then (λ ts. Some (record (usual_plan run_id ts) { groups = gs })) (plan_tests_of tests)) plan e in
+    let ts = then_some (plan_tests_of tests) (λ ts. Some (record (usual_plan run_id ts) { groups = gs.0 })) plan gs.2 in
+    let fewer = few_plan_tests tests ts.0 ts.1 in
+    let few : 0 + length ts.0 < 2 ^ 32 = omega arith in
+    subst IsFew (same_Some (record (usual_plan run_id ts.0) { groups = gs.0 }) plan ts.2)
+    (few, few_plan_groups groups gs.0 gs.1)
+
+few_line : (d : Data) (keys : RunnerKeys) (plan : Plan) → plan_of d ≡ Some (keys, plan) → IsFew plan
 unfolding plan_of
-few_tests d keys plan e =
-    let tests : Option (List PlanTest) = plan_tests_of (get (codes "tests") d) in
+few_line d keys plan e =
+    let groups : Option Data = get (codes "groups") d in
+    let tests : Option Data = get (codes "tests") d in
     let run_ids : Option (List ℕ) = option_and_then run_id_of (get (codes "run_id") d) in
-    let captures : Option RunnerKeys = option_and_then capture_of (get (codes "keys") d) in
-    let a = then_some (when (is_object_of (codes "keys" ∷ codes "run_id" ∷ codes "tests" ∷ []) d))
-    (λ _. option_and_then (λ c. option_and_then (λ r. option_and_then (λ ts. Some (c, usual_plan r ts)) tests) run_ids)
-    captures)
+    let a = then_some (when (is_object_of (codes "capture" ∷ codes "groups" ∷ codes "run_id" ∷ codes "tests"
+    ∷ codes "threads" ∷ []) d))
+    (λ _. option_and_then (λ k. option_and_then (λ r. option_and_then (λ q. Some (k, q)) (plan_with r groups tests))
+    run_ids) (keys_of d))
     (keys, plan) e in
-    let b = then_some captures
-    (λ c. option_and_then (λ r. option_and_then (λ ts. Some (c, usual_plan r ts)) tests) run_ids)
+    let b = then_some (keys_of d)
+    (λ k. option_and_then (λ r. option_and_then (λ q. Some (k, q)) (plan_with r groups tests)) run_ids)
     (keys, plan) a.2 in
-    let c = then_some run_ids (λ r. option_and_then (λ ts. Some (b.0, usual_plan r ts)) tests) (keys, plan) b.2 in
-    let f = then_some tests (λ ts. Some (b.0, usual_plan c.0 ts)) (keys, plan) c.2 in
-    few_units b.0 keys c.0 f.0 plan (few_plan_tests (get (codes "tests") d) f.0 f.1) f.2
+    let c = then_some run_ids (λ r. option_and_then (λ q. Some (b.0, q)) (plan_with r groups tests)) (keys, plan) b.2 in
+    let f = then_some (plan_with c.0 groups tests) (λ q. Some (b.0, q)) (keys, plan) c.2 in
+    let pair : (b.0, f.0) ≡ (keys, plan) = same_Some (b.0, f.0) (keys, plan) f.2 in
+    subst IsFew (ap (λ (q : RunnerKeys × Plan). q.1) pair) (few_plan c.0 groups tests f.0 f.1)
 
--- an input has few tests and few turns
+-- an input has few units, few groups and few turns
 pub given_few : (r : Reading) (keys : RunnerKeys) (plan : Plan) (turns : List Turn)
     → IsGiven r keys plan turns
-    → (length plan.scripts + length plan.tests < 2 ^ 32) × (length turns < 2 ^ 32)
+    → IsFew plan × (length turns < 2 ^ 32)
 given_few r keys plan turns g = by_lines (lines_of g.bytes) refl g.says
   where
     by_lines : (lines : List (List ℕ)) → lines_of g.bytes ≡ lines → IsInput lines keys plan turns
-        → (length plan.scripts + length plan.tests < 2 ^ 32) × (length turns < 2 ^ 32)
+        → IsFew plan × (length turns < 2 ^ 32)
     by_lines [] e i = absurd i
     by_lines (first ∷ others) e i =
         let read = then_some (value_of first) plan_of (keys, plan) i.0 in
-        let few : length plan.scripts + length plan.tests < 2 ^ 32 = few_tests read.0 keys plan read.2 in
+        let few : IsFew plan = few_line read.0 keys plan read.2 in
         let many : length turns ≡ length others = turns_length others turns i.1 in
         let same : length (lines_of g.bytes) ≡ length (first ∷ others) = ap length e in
         (few, omega (arith, lines_length g.bytes, g.within))

@@ -101,10 +101,17 @@ plan_tests_of d = do
   _ ← when (nat_lt (length tests) 4294967296)
   Some tests
 
--- a plan of these groups, none where nothing is said, and of any number of tests below 2^32
+-- the groups of a plan, none where nothing is said, are fewer than 2^32
+abbrev pub plan_groups_of : Option Data → Option (List Group)
+plan_groups_of d = do
+  groups ← or_usual [] groups_of d
+  _ ← when (nat_lt (length groups) 4294967296)
+  Some groups
+
+-- a plan of these groups and tests
 abbrev pub plan_with : List ℕ → Option Data → Option Data → Option Plan
 plan_with run_id groups tests = do
-  groups ← or_usual [] groups_of groups
+  groups ← plan_groups_of groups
   tests ← plan_tests_of tests
   Some (record (usual_plan run_id tests) { groups = groups })
 

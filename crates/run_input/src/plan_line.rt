@@ -7,7 +7,7 @@ ghost use Rattle.run_input.specs.ReadsValue.{ReadsValue};
 ghost use Rattle.run_input.specs.ValueOf.{value_of};
 ghost use Rattle.uuid.specs.Text.{parsed};
 ghost use Rattle.run_input.specs.PlanLine.{uuid_of, capture_of, run_id_of, id_of, test_of, tests_of, tests_from};
-ghost use Rattle.run_input.specs.PlanLine.{plan_tests_of, plan_of, keys_of, plan_with, group_of, groups_of, groups_from};
+ghost use Rattle.run_input.specs.PlanLine.{plan_tests_of, plan_of, keys_of, plan_with, plan_groups_of, group_of, groups_of, groups_from};
 ghost use Rattle.run_input.specs.Fields.{u32_of, or_usual};
 
 use crate::LineError;
@@ -43,8 +43,8 @@ pub fn read_plan_line(alloc: Global, line: &[u8]) -> Result<(RunnerKeys, Plan), 
     }
 }
 
-/// The most tests that a plan may have. No input within its limit has as many.
-const MOST_TESTS: usize = 4_294_967_295;
+/// The most groups, and the most tests, that a plan may have. No input within its limit has as many.
+const MOST: usize = 4_294_967_295;
 
 #[tactic(auto, unfolding(crate::specs::PlanLine::plan_of))]
 fn plan_from(alloc: Global, value: &Value) -> Result<(RunnerKeys, Plan), LineError>
@@ -99,10 +99,22 @@ fn plan_with(
     ensures { ReadsValue result (plan_with run_id (option_map (λ v. view v.now) groups.entry)
         (option_map (λ v. view v.now) tests.entry)) }
 {
-    let groups = groups_at(alloc, groups)?;
+    let groups = groups_of_plan(alloc, groups)?;
     let tests = tests_of_plan(alloc, tests)?;
     let plan = Plan::usual(alloc, run_id, tests)?;
     Ok(grouped(plan, groups))
+}
+
+// The groups of a plan, which are fewer than 2^32.
+fn groups_of_plan(alloc: Global, value: Option<&Value>) -> Result<List<Group>, LineError>
+    ensures { ReadsValue result (plan_groups_of (option_map (λ v. view v.now) value.entry)) }
+{
+    let groups = groups_at(alloc, value)?;
+    if groups.len() > MOST {
+        Err(LineError::NotInTable)
+    } else {
+        Ok(groups)
+    }
 }
 
 // A plan with these groups.
@@ -249,7 +261,7 @@ fn tests_of_plan(alloc: Global, value: Option<&Value>) -> Result<List<PlanTest>,
     ensures { ReadsValue result (plan_tests_of (option_map (λ v. view v.now) value.entry)) }
 {
     let tests = tests_at(alloc, value)?;
-    if tests.len() > MOST_TESTS {
+    if tests.len() > MOST {
         Err(LineError::NotInTable)
     } else {
         Ok(tests)
