@@ -8,8 +8,8 @@ ghost use Rattle.run_capture.specs.StdStreams.{untold, writer_holds, sink_faults
 use crate::{Failed, Sink};
 use std::io::Write;
 
-/// Takes bytes into a writer of std, such as the standard output, and flushes it after each write, which no clause says.
-/// As a sink it tells nothing of what it has taken.
+/// Takes bytes into a writer of std, such as the standard output, and flushes it after each write, which no clause
+/// says. As a sink it tells nothing of what it has taken.
 #[derive(Drop)]
 pub struct StdSink<W: Write> {
     inner: W,

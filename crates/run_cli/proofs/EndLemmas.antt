@@ -14,6 +14,7 @@ use Rattle.run_model.specs.declared.happening.Happening.{Happening}
 use Rattle.run_model.specs.Words.{told, asked, is_over, sub_run, stats}
 use Rattle.run_model.specs.Journal.{past_of, outcome}
 use Rattle.run_laws.specs.Course.{none_refused}
+use Rattle.run_laws.proofs.Outcomes.{over_outcome}
 use Rattle.run_engine.specs.Execution.{UnlessMemory}
 use Rattle.run_engine.specs.declared.errors.TestRunnerExecuteErrors.{TestRunnerExecuteErrors}
 use Rattle.run_engine.specs.declared.errors.TestRunnerExecuteErrors.TheVariants as engine
@@ -35,14 +36,6 @@ rose_then a b c r le = omega arith
 some_is : (o : Option Failed) (d : Failed) → o ≡ Some d → IsSome o
 some_is None d e = cc
 some_is (Some x) d e = refl
-
--- a run that is over has an outcome
-over_outcome : (p : Settings) (past : List Happening) → is_over past ≡ true
-    → (o : RunOutcome) × (outcome p past ≡ Some o)
-over_outcome p past over = (
-  outcome_of (summary (stats p (sub_run past))),
-  ap (λ b. if b then Some (outcome_of (summary (stats p (sub_run past)))) else None) over,
-)
 
 -- the lines of a run whose events were all taken, and then those of its asks and its end; w is the run, v its last
 -- lines,
@@ -172,7 +165,8 @@ pub error_ends : (p : Settings) (turns : List Turn) (w v : Writing) (asks : List
     → EndsAtFault v asks (fault_of_error error) ending → IsReplayEnding p turns (joined w v) ending
 unfolding replayed
 error_ends p turns w v asks (engine.Report d) ending on from x h =
-    let end = over_outcome p (past_of p x.journal) x.says.1 in
+    let end : (o : RunOutcome) × (outcome p (past_of p x.journal) ≡ Some o) =
+    (_, over_outcome p (past_of p x.journal) x.says.1) in
     fault_ends p turns w v asks Report ending
     (λ le writes. (
       replayed p turns w v asks (Err (engine.Report d)) (omega arith) x,

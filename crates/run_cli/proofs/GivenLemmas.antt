@@ -15,6 +15,7 @@ use Rattle.run_model.specs.Words.{is_over, sub_run, stats}
 use Rattle.run_model.specs.Journal.{past_of, outcome}
 use Rattle.run_laws.specs.Course.{turns_of as journal_turns}
 use Rattle.run_laws.proofs.FateLemmas.{ended_fates, over_ended}
+use Rattle.run_laws.proofs.Outcomes.{over_is}
 use Rattle.run_engine.specs.Builder.{IsBuilt}
 use Rattle.run_engine.specs.declared.errors.TestRunnerBuildError.{TestRunnerBuildError}
 use Rattle.run_engine.specs.declared.errors.TestRunnerBuildError.TheVariants as build
@@ -128,16 +129,6 @@ given_few r capture plan turns g = by_lines (lines_of g.bytes) refl g.says
         let many : length turns ≡ length others = turns_length others turns i.1 in
         let same : length (lines_of g.bytes) ≡ length (first ∷ others) = ap length e in
         (few, omega (arith, lines_length g.bytes, g.within))
-
--- a run with an outcome is over
-pub over_is : (p : Settings) (past : List Happening) (o : RunOutcome) → outcome p past ≡ Some o → is_over past ≡ true
-over_is p past o e = by_end (is_over past) refl
-  where
-    by_end : (b : Bool) → is_over past ≡ b → is_over past ≡ true
-    by_end true h = h
-    by_end false h =
-        let none : None ≡ Some o =
-        sym (ap (λ b. if b then Some (outcome_of (summary (stats p (sub_run past)))) else None) h) ∙ e in cc
 
 -- a run that took every turn and has an outcome is whole
 whole : (c : Call) (r : Replays c) (o : RunOutcome) → journal_turns r.journal ≡ r.turns

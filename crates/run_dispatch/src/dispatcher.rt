@@ -130,8 +130,8 @@ impl Dispatcher {
         }
     }
 
-    /// Begins the run: run-started is told. As for each call at a moment of the run's clock, in nanoseconds, that moment
-    /// is no earlier than the latest before it.
+    /// Begins the run: run-started is told. As for each call at a moment of the run's clock, in nanoseconds, that
+    /// moment is no earlier than the latest before it.
     pub fn begin(&mut self, alloc: Global, now: u64) -> Fx
         requires idle { self.old.on ≡ false }
         requires later { self.old.latest ≤ now }

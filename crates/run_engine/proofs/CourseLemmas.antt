@@ -14,17 +14,13 @@ use Rattle.run_model.specs.Words.{is_over, sub_run, stats}
 use Rattle.run_model.specs.Journal.{past_of, IsLegal, outcome}
 use Rattle.run_laws.specs.Course.{AreAnswersOf, refuses_none, none_refused, Stops, GoesOn, Ends, HasOneCourse}
 use Rattle.run_laws.proofs.Courses.{one_course, unrefused}
+use Rattle.run_laws.proofs.Outcomes.{over_outcome}
 use Rattle.run_laws.proofs.FateLemmas.{ended_fates, over_ended}
 use Rattle.run_engine.specs.World.{Outside, CountsErrors}
 use Rattle.run_engine.specs.Execution.{IsAnswerOf, AnswersCourse, UnlessMemory, Carries, Executes}
 use Rattle.run_engine.specs.declared.errors.TestRunnerExecuteErrors.{TestRunnerExecuteErrors}
 use Rattle.run_engine.specs.declared.errors.TestRunnerExecuteErrors.TheVariants.{Report, NotEnabled, Unfinished}
 use Rattle.run_engine.specs.declared.errors.TestRunnerExecuteErrors.TheVariants.{OutOfMemory}
-
--- a run that is over has an outcome
-over_outcome : (p : Settings) (past : List Happening) → is_over past ≡ true
-    → outcome p past ≡ Some (outcome_of (summary (stats p (sub_run past))))
-over_outcome p past over = ap (λ b. if b then Some (outcome_of (summary (stats p (sub_run past)))) else None) over
 
 -- an error counts as a rise, none as no rise
 risen : {E : Type 0} (a b : ℕ) (refusal : Option E) (e : E) → refusal ≡ Some e → CountsErrors a b refusal → Rose a b

@@ -5,7 +5,6 @@ use run_capture::{Duplicate, List, Mem, Stream, Text};
 use std::alloc::Global;
 
 /// A child is to be started.
-#[derive(Drop)]
 pub struct StartAsk {
     pub unit: u32,
     /// Which attempt, from 1.
@@ -22,6 +21,22 @@ pub struct StartAsk {
     pub streams: List<Stream>,
     /// Where a script writes the variables that it hands on; none of a test. Not printed.
     pub env_path: Option<Text>,
+}
+
+// A call of its own, which keeps the proofs of all that hold an ask small.
+impl Drop for StartAsk {
+    fn drop(self) {
+        let StartAsk {
+            unit: _,
+            attempt: _,
+            command: _,
+            env: _,
+            group: _,
+            stdin: _,
+            streams: _,
+            env_path: _,
+        } = self;
+    }
 }
 
 impl Duplicate for StartAsk {

@@ -212,7 +212,6 @@ impl Duplicate for RunFinished {
 }
 
 /// What an event says.
-#[derive(Drop)]
 pub enum TestEventKind {
     RunStarted(RunStarted),
     StressSubRunStarted(StressProgress),
@@ -236,6 +235,35 @@ pub enum TestEventKind {
     RunPaused(JobControlled),
     RunContinued(JobControlled),
     RunFinished(RunFinished),
+}
+
+// A call of its own, which keeps the proofs of all that hold an event small.
+impl Drop for TestEventKind {
+    fn drop(self) {
+        match self {
+            TestEventKind::RunStarted(_) => {}
+            TestEventKind::StressSubRunStarted(_) => {}
+            TestEventKind::StressSubRunFinished(_) => {}
+            TestEventKind::SetupScriptStarted(_) => {}
+            TestEventKind::SetupScriptSlow(_) => {}
+            TestEventKind::SetupScriptFinished(_) => {}
+            TestEventKind::TestStarted(_) => {}
+            TestEventKind::TestSlow(_) => {}
+            TestEventKind::TestAttemptFailedWillRetry(_) => {}
+            TestEventKind::TestRetryStarted(_) => {}
+            TestEventKind::TestFinished(_) => {}
+            TestEventKind::TestSkipped(_) => {}
+            TestEventKind::InfoStarted(_) => {}
+            TestEventKind::InfoResponse(_) => {}
+            TestEventKind::InfoFinished { missing: _ } => {}
+            TestEventKind::InputEnter(_) => {}
+            TestEventKind::RunBeginCancel(_) => {}
+            TestEventKind::RunBeginKill(_) => {}
+            TestEventKind::RunPaused(_) => {}
+            TestEventKind::RunContinued(_) => {}
+            TestEventKind::RunFinished(_) => {}
+        }
+    }
 }
 
 // Whether an event is of one script or test.

@@ -218,7 +218,6 @@ pub struct Hearing {
 }
 
 /// What is to be run. With S scripts, script i is unit i, and the test at place j is unit S + j.
-#[derive(Drop)]
 pub struct Plan {
     pub head: RunHead,
     pub hearing: Hearing,
@@ -229,6 +228,21 @@ pub struct Plan {
     pub runners: TargetRunner,
     pub scripts: List<PlanScript>,
     pub tests: List<PlanTest>,
+}
+
+// A call of its own, which keeps the proofs of all that hold a plan small.
+impl Drop for Plan {
+    fn drop(self) {
+        let Plan {
+            head: _,
+            hearing: _,
+            global_timeout: _,
+            groups: _,
+            runners: _,
+            scripts: _,
+            tests: _,
+        } = self;
+    }
 }
 
 // What a plan lists.

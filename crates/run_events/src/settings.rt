@@ -8,7 +8,6 @@ use run_commands::{Interceptor, StressCondition};
 use std::alloc::Global;
 
 /// The effective settings of a run, with the plan that they belong to.
-#[derive(Drop)]
 pub struct Settings {
     pub plan: Plan,
     pub capture: CaptureStrategy,
@@ -24,6 +23,23 @@ pub struct Settings {
     pub retries: Option<RetryPolicy>,
     /// Where it is set, it replaces every test's.
     pub flaky_result: Option<FlakyResult>,
+}
+
+// A call of its own, which keeps the proofs of all that hold settings small.
+impl Drop for Settings {
+    fn drop(self) {
+        let Settings {
+            plan: _,
+            capture: _,
+            threads: _,
+            max_fail: _,
+            stress: _,
+            interceptor: _,
+            expected: _,
+            retries: _,
+            flaky_result: _,
+        } = self;
+    }
 }
 
 // What settings hold beside the plan.

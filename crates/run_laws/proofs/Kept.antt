@@ -25,7 +25,8 @@ use Rattle.run_model.specs.declared.unit_turn.UnitTurn.{UnitTurn}
 use Rattle.run_model.specs.declared.unit_turn.UnitTurn.TheVariants.{Answered}
 use Rattle.run_model.specs.declared.unit_view.UnitView.{UnitView}
 use Rattle.run_model.specs.Unit.{at_moment, row, row_at}
-use Rattle.run_model.specs.Words.{events_in, clock, ns_of, is_on, is_over, sub_run, is_heard, heard, reason, sent, delivered, queue}
+use Rattle.run_model.specs.Words.{events_in, clock, ns_of, is_on, is_over, sub_run, is_heard, heard, reason, sent}
+use Rattle.run_model.specs.Words.{delivered, queue}
 use Rattle.run_model.specs.Words.{told, finish_of, finished, skips, skipped, unit_of, unit_after}
 use Rattle.run_model.specs.Admission.{units_in, unit_of_test}
 use Rattle.run_model.specs.Dispatch.{event}

@@ -15,3 +15,4 @@ pub mod FateLemmas
 pub mod Ready
 pub mod Courses
 pub mod Prefix
+pub mod Outcomes

@@ -128,7 +128,10 @@ ready p over now run turn h few short en =
       begin = λ en. (h.heard, off (is_on run) (not over) en);
       admit = λ en. (
         h.heard,
-        record { candidate = second_so (is_on run) (is_some (newcomer p (units p run))) en; whole = units-length p run },
+        record {
+          candidate = second_so (is_on run) (is_some (newcomer p (units p run))) en;
+          whole = units-length p run;
+        },
       );
       deliver = λ en. (
         h.heard,

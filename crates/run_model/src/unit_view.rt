@@ -8,7 +8,6 @@ use std::alloc::Global;
 use uuid::Uuid;
 
 /// A test with its attempts, as the unit table sees it.
-#[derive(Drop)]
 pub struct UnitView {
     /// Its number and its name.
     pub test: TestUnit,
@@ -27,6 +26,25 @@ pub struct UnitView {
     pub latest: u64,
     /// The attempts that have ended, in order.
     pub statuses: List<ExecuteStatus>,
+}
+
+// A call of its own, which keeps the proofs of all that hold a unit small.
+impl Drop for UnitView {
+    fn drop(self) {
+        let UnitView {
+            test: _,
+            command: _,
+            slot: _,
+            flaky: _,
+            run_id: _,
+            threads: _,
+            phase: _,
+            attempt: _,
+            start: _,
+            latest: _,
+            statuses: _,
+        } = self;
+    }
 }
 
 // A copy of a unit, with its command and its attempts, that are copied already.

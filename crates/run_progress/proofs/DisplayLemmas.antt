@@ -1,5 +1,6 @@
 -- What one more event does to what a told list comes to.
-use Rattle.std.proofs.Common.{◌≡◌, ℕ, ◌+◌, ◌-◌, ◌^◌, min, Bool, true, false, List, [], ◌∷◌, ◌++◌, Option, Some, None, refl, append-nil, arith}
+use Rattle.std.proofs.Common.{◌≡◌, ℕ, ◌+◌, ◌-◌, ◌^◌, min, Bool, true, false, List, [], ◌∷◌, ◌++◌, Option, Some, None}
+use Rattle.std.proofs.Common.{refl, append-nil, arith}
 use Rattle.std.specs.Prelude.{if◌then◌else◌, unwrap_or, not, ◌||◌}
 use Rattle.std.specs.List.{filter_map, cons_option}
 use Rattle.std.proofs.lemmas.List.Elements.{filter_map-append}
@@ -12,8 +13,10 @@ use Rattle.run_progress.specs.declared.running_test.RunningTest.{RunningTest}
 use Rattle.run_progress.specs.declared.running_test.RunningTestStatus.{RunningTestStatus}
 use Rattle.run_progress.specs.declared.running_test.RunningTestStatus.TheVariants as statuses
 use Rattle.run_progress.specs.declared.seen.Seen.{Seen}
-use Rattle.run_progress.specs.Deeds.{Deed, starts, finishes, slows, continues, other, deed_of, is_same, is_slow_of, replaces, paused_in, paused_where}
-use Rattle.run_progress.specs.Display.{running_after, display, pauses, started_by, running_test, is_replaced, is_told_slow}
+use Rattle.run_progress.specs.Deeds.{Deed, starts, finishes, slows, continues, other, deed_of, is_same, is_slow_of}
+use Rattle.run_progress.specs.Deeds.{replaces, paused_in, paused_where}
+use Rattle.run_progress.specs.Display.{running_after, display, pauses, started_by, running_test, is_replaced}
+use Rattle.run_progress.specs.Display.{is_told_slow}
 use Rattle.run_progress.specs.Edits.{edited, edited_by, slowed, delayed, without, seen_after}
 use Rattle.run_progress.specs.Seen.{counts_in, info_in, last_told, no_counts, pause_in, script_in, seen_of, shows_tests}
 

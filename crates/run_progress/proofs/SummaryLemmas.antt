@@ -1,5 +1,6 @@
 -- Parts of a summary, joined.
-use Rattle.std.proofs.Common.{◌≡◌, ℕ, Bool, true, false, List, [], ◌∷◌, ◌++◌, refl, ap, sym, append-nil, append_assoc, ◌<◌, suc, arith}
+use Rattle.std.proofs.Common.{◌≡◌, ℕ, Bool, true, false, List, [], ◌∷◌, ◌++◌, refl, ap, sym, append-nil, append_assoc}
+use Rattle.std.proofs.Common.{◌<◌, suc, arith}
 use Rattle.std.specs.Prelude.{codes, decimal, nat_lt, length, ◌==◌, if◌then◌else◌}
 use Rattle.std.proofs.lemmas.Bool.{lt-ltb, ne_eqb}
 use Rattle.std.proofs.lemmas.List.Concat.{flat_map-append}

@@ -6,7 +6,8 @@ use Rattle.run_events.specs.declared.plan.TestInstanceId.{TestInstanceId}
 use Rattle.run_progress.specs.declared.running_test.RunningTest.{RunningTest}
 use Rattle.run_progress.specs.declared.running_test.RunningTestStatus.{RunningTestStatus}
 use Rattle.run_progress.specs.declared.running_test.RunningTestStatus.TheVariants as statuses
-use Rattle.run_progress.specs.Deeds.{Deed, starts, finishes, slows, continues, other, deed_of, replaces, is_slow_of, paused_in}
+use Rattle.run_progress.specs.Deeds.{Deed, starts, finishes, slows, continues, other, deed_of, replaces, is_slow_of}
+use Rattle.run_progress.specs.Deeds.{paused_in}
 
 -- whether a test starts again or finishes in these events
 abbrev pub is_replaced : TestInstanceId → List TestEvent → Bool

@@ -1,5 +1,6 @@
 -- Whether a terminal's own progress is shown.
-use Rattle.std.specs.Prelude.{ℕ, Bool, true, false, if◌then◌else◌, List, [], ◌∷◌, Option, None, Some, unwrap_or, option_and_then, codes}
+use Rattle.std.specs.Prelude.{ℕ, Bool, true, false, if◌then◌else◌, List, [], ◌∷◌, Option, None, Some, unwrap_or}
+use Rattle.std.specs.Prelude.{option_and_then, codes}
 use Rattle.std.specs.Str.{bytes_eq}
 use Rattle.run_progress.specs.declared.show.TermSetting.{TermSetting}
 use Rattle.run_progress.specs.declared.show.TermSetting.TheVariants.{CliOption, Env, File}

@@ -1,6 +1,7 @@
 -- What is counted of units, as they change.
 use Rattle.std.proofs.Common.{◌≡◌, ℕ, zero, suc, ◌+◌, ◌-◌, ◌<◌, ◌≤◌, ◌==◌, ◌||◌, List, [], ◌∷◌, length, get_or}
-use Rattle.std.proofs.Common.{set, take, drop, Bool, true, false, not, cond, if◌then◌else◌, Option, Some, None, is_none, option_map}
+use Rattle.std.proofs.Common.{set, take, drop, Bool, true, false, not, cond, if◌then◌else◌, Option, Some, None, is_none}
+use Rattle.std.proofs.Common.{option_map}
 use Rattle.std.proofs.Common.{nat_lt, count_by, position, refl, ap, sym, subst, ◌∙◌, ◌≢◌, arith, zero-add}
 use Rattle.std.proofs.Common.{length-take, length-drop, get_or-take, get_or-set_other}
 use Rattle.std.proofs.Math.ListN.{length-set}

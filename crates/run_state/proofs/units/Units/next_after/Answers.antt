@@ -4,8 +4,8 @@ use Rattle.run_state.proofs.units.Units.next_after.Goals as goal
 
 pub overflow_sub-result : goal.overflow_sub-result
 overflow_sub-result c =
-    first_over c.self.inside.items.items _ _ _ c.args.count c.self.invariant (rw (sym c.self.view_is) at c.requires.within)
-    (rw (sym c.self.view_is) at c.requires.over)
+    first_over c.self.inside.items.items _ _ _ c.args.count c.self.invariant
+    (rw (sym c.self.view_is) at c.requires.within) (rw (sym c.self.view_is) at c.requires.over)
 
 pub returns-then-self-len : goal.returns-then-self-len
 returns-then-self-len c =
