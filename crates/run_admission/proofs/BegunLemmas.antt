@@ -1,5 +1,6 @@
 -- The limits of a sub-run as it begins.
-use Rattle.std.proofs.Common.{◌≡◌, ℕ, zero, suc, ◌*◌, ◌<◌, ◌^◌, List, [], ◌∷◌, length, get_or, map, replicate, slice_get}
+use Rattle.std.proofs.Common.{◌≡◌, ℕ, zero, suc, ◌*◌, ◌<◌, ◌^◌, List, [], ◌∷◌, length, get_or, map, replicate}
+use Rattle.std.proofs.Common.{slice_get}
 use Rattle.std.proofs.Common.{Bool, true, false, if◌then◌else◌, Option, Some, None, refl, ap, sym, subst, ◌∙◌, arith}
 use Rattle.std.proofs.Common.{option_and_then, sum, nat_eq}
 use Rattle.std.specs.List.{position_or_len, zip}
@@ -11,7 +12,8 @@ use Rattle.run_events.specs.declared.plan.Group.{Group}
 use Rattle.run_events.specs.declared.plan.PlanTest.{PlanTest}
 use Rattle.run_admission.specs.declared.seat.Claim.{Claim}
 use Rattle.run_admission.specs.declared.seat.Seat.TheVariants.{Waiting}
-use Rattle.run_admission.specs.InUse.{Test, taken, taken_in, slot_of, slot_in, is_of, is_waiting, group_of, claim_of, begun}
+use Rattle.run_admission.specs.InUse.{Test, taken, taken_in, slot_of, slot_in, is_of, is_waiting, group_of, claim_of}
+use Rattle.run_admission.specs.InUse.{begun}
 use Rattle.run_admission.specs.Kept.{Use, IsKept, IsWhole, IsSeated, Points, nobody, unused, seen}
 
 -- of tests that all wait, each is the same to what looks at seats alone
@@ -48,7 +50,8 @@ unused_kept n limit = record {
 
 waiting_kept : (n limit : ℕ) (weight : Test → ℕ) (slot : Test → Option ℕ) (claims : List Claim) → length claims ≡ n
     → ((c : Claim) → weight (c, Waiting) ≡ 0) → ((c : Claim) → slot (c, Waiting) ≡ None)
-    → IsKept (unused n limit) (map weight (zip claims (replicate n Waiting))) (map slot (zip claims (replicate n Waiting)))
+    → IsKept (unused n limit) (map weight (zip claims (replicate n Waiting)))
+    (map slot (zip claims (replicate n Waiting)))
 waiting_kept n limit weight slot claims same light free =
     subst (λ ws. IsKept (unused n limit) ws (map slot (zip claims (replicate n Waiting))))
     (sym (waiting_same weight 0 light claims n same))
@@ -105,12 +108,14 @@ begun_whole threads groups tests few = record {
   all = waiting_kept (length tests) threads (taken threads) slot_of (map (claim_of groups) tests)
       (length-map tests (claim_of groups)) (λ c. refl) (λ c. refl);
   groups = λ g u e.
-      subst (λ v. IsKept v (map (taken_in g u.limit) (zip (map (claim_of groups) tests) (replicate (length tests) Waiting)))
+      subst (λ v. IsKept v (map (taken_in g u.limit)
+      (zip (map (claim_of groups) tests) (replicate (length tests) Waiting)))
       (map (slot_in g) (zip (map (claim_of groups) tests) (replicate (length tests) Waiting))))
       (sym (unused_at (length tests) groups g u e))
       (waiting_kept (length tests) u.limit (taken_in g u.limit) (slot_in g) (map (claim_of groups) tests)
       (length-map tests (claim_of groups)) (λ c. zero_both (is_of g c)) (λ c. none_both (is_of g c)));
-  members = λ k g e. omega (arith, members_inside groups tests k g e, length-map groups (λ g. unused (length tests) g.limit));
+  members = λ k g e. omega
+      (arith, members_inside groups tests k g e, length-map groups (λ g. unused (length tests) g.limit));
   seated = waiting_seated (map (claim_of groups) tests) (length tests);
 }
 
@@ -126,6 +131,7 @@ begun_seen threads groups tests =
       seats = replicate (length tests) Waiting;
     }) (limits_of groups)
   where
-    limits_of : (gs : List Group) → map (λ u. u.limit) (map (λ g. unused (length tests) g.limit) gs) ≡ map (λ g. g.limit) gs
+    limits_of : (gs : List Group)
+        → map (λ u. u.limit) (map (λ g. unused (length tests) g.limit) gs) ≡ map (λ g. g.limit) gs
     limits_of [] = refl
     limits_of (g ∷ gs) = ap (λ l. g.limit ∷ l) (limits_of gs)

@@ -42,7 +42,8 @@ points_given hs ss n k p held here i j at = by_place (i == n) refl
         (λ e. apart (same_Some i n (sym old ∙ ap (λ j. get_or ss j None) e ∙ held))) ∙ old
 
 -- how many places are taken, after one was set
-count_set : (xs : List (Option ℕ)) (k : ℕ) (was : Bool) (new : Option ℕ) → is_some (get_or xs k None) ≡ was → k < length xs
+count_set : (xs : List (Option ℕ)) (k : ℕ) (was : Bool) (new : Option ℕ) → is_some (get_or xs k None) ≡ was
+    → k < length xs
     → count_by is_some (set xs k new) + cond was 1 0 ≡ count_by is_some xs + cond (is_some new) 1 0
 count_set xs k was new is inside =
     ap (λ b. count_by is_some (set xs k new) + cond b 1 0) (sym is)

@@ -28,11 +28,13 @@ keeps_limits start whole us claims seats w = record {
 
 -- where two tests hold one slot, they are one
 own_slot : (u : Use) (ws : List ℕ) (slot : Test → Option ℕ) (ts : List Test) → IsKept u ws (map slot ts)
-    → (j k n : ℕ) → option_and_then slot (slice_get ts j) ≡ Some n → option_and_then slot (slice_get ts k) ≡ Some n → j ≡ k
+    → (j k n : ℕ) → option_and_then slot (slice_get ts j) ≡ Some n → option_and_then slot (slice_get ts k) ≡ Some n
+    → j ≡ k
 own_slot u ws slot ts kept j k n e f =
     same_Some j k (sym (kept.holds j n (stands ts j e)) ∙ kept.holds k n (stands ts k f))
   where
-    stands : (ts : List Test) (i : ℕ) → option_and_then slot (slice_get ts i) ≡ Some n → get_or (map slot ts) i None ≡ Some n
+    stands : (ts : List Test) (i : ℕ) → option_and_then slot (slice_get ts i) ≡ Some n
+        → get_or (map slot ts) i None ≡ Some n
     stands ts i e = by_place (slice_get ts i) refl e
       where
         by_place : (o : Option Test) → slice_get ts i ≡ o → option_and_then slot o ≡ Some n

@@ -41,7 +41,8 @@ pub length_zip : {X Y : Type 0} (xs : List X) (ys : List Y) → length xs ≡ le
 length_zip [] [] e = refl
 length_zip [] (y ∷ ys) e = cc
 length_zip (x ∷ xs) [] e = cc
-length_zip (x ∷ xs) (y ∷ ys) e = let rest : length xs ≡ length ys = omega arith in ap (λ n. suc n) (length_zip xs ys rest)
+length_zip (x ∷ xs) (y ∷ ys) e = let rest : length xs
+    ≡ length ys = omega arith in ap (λ n. suc n) (length_zip xs ys rest)
 
 pub get_or_zip : {X Y : Type 0} (xs : List X) (ys : List Y) (k : ℕ) (d : X) (e : Y) (f : X × Y) → k < length xs
     → k < length ys → get_or (zip xs ys) k f ≡ (get_or xs k d, get_or ys k e)

@@ -1,6 +1,8 @@
 -- What is kept says what the rule says.
-use Rattle.std.proofs.Common.{◌≡◌, ◌≢◌, ℕ, zero, suc, ◌+◌, ◌<◌, ◌≤◌, ◌==◌, ◌&&◌, ◌||◌, List, [], ◌∷◌, length, get_or, set, map}
-use Rattle.std.proofs.Common.{Bool, true, false, not, if◌then◌else◌, Option, Some, None, min, refl, ap, sym, subst, ◌∙◌, arith}
+use Rattle.std.proofs.Common.{◌≡◌, ◌≢◌, ℕ, zero, suc, ◌+◌, ◌<◌, ◌≤◌, ◌==◌, ◌&&◌, ◌||◌, List, [], ◌∷◌, length, get_or}
+use Rattle.std.proofs.Common.{set, map}
+use Rattle.std.proofs.Common.{Bool, true, false, not, if◌then◌else◌, Option, Some, None, min, refl, ap, sym, subst, ◌∙◌}
+use Rattle.std.proofs.Common.{arith}
 use Rattle.std.proofs.Common.{slice_get, slice_index, option_map, option_and_then, position, sum_by, nat_eq, nat_lt}
 use Rattle.std.proofs.Common.{eq-eqb, get_or-set_other}
 use Rattle.std.proofs.lemmas.Grind.{get_or-set_at}
@@ -17,9 +19,11 @@ use Rattle.run_admission.specs.declared.seat.Seat.TheVariants.{Waiting, InUse, G
 use Rattle.run_admission.specs.declared.seat.Candidate.{Candidate}
 use Rattle.run_admission.specs.declared.seat.Candidate.TheVariants.{Skip, Fits, Blocked}
 use Rattle.run_admission.specs.declared.seat.Admitted.TheVariants.{Run}
-use Rattle.run_admission.specs.InUse.{Admissions, Test, taken, taken_in, slot_of, slot_in, is_waiting, is_in_use, fits_beside, seat_group_slot}
+use Rattle.run_admission.specs.InUse.{Admissions, Test, taken, taken_in, slot_of, slot_in, is_waiting, is_in_use}
+use Rattle.run_admission.specs.InUse.{fits_beside, seat_group_slot}
 use Rattle.run_admission.specs.InUse.{group_weight_in_use, fits_its_group, fits_all, may_come, candidate_at}
-use Rattle.run_admission.specs.InUse.{candidate, free_slot, free_group_slot, admitted, admitted_as, seats_after, after_admission, released, least_free}
+use Rattle.run_admission.specs.InUse.{candidate, free_slot, free_group_slot, admitted, admitted_as, seats_after}
+use Rattle.run_admission.specs.InUse.{after_admission, released, least_free}
 use Rattle.run_admission.specs.Kept.{Use, IsWhole, IsOfAll, IsOfGroup, nobody, free_in, comes, fits_in, seen}
 use Rattle.run_admission.specs.Kept.{free_within, take_of, take_in, give_back, give_in}
 use Rattle.run_admission.proofs.ListLemmas.{position_same, get_or_zip, length_zip}
@@ -35,7 +39,8 @@ pub group_used : (g : ℕ) (u : Use) (ts : List Test) → IsOfGroup g u ts → s
 group_used g u ts kept = sym (kept.sum ∙ sum-map (taken_in g u.limit) ts)
 
 -- the limit of a group, as it is seen
-pub limit_is : (us : List Use) (g : ℕ) (u : Use) → slice_get us g ≡ Some u → slice_index (map (λ u. u.limit) us) g ≡ u.limit
+pub limit_is : (us : List Use) (g : ℕ) (u : Use) → slice_get us g ≡ Some u
+    → slice_index (map (λ u. u.limit) us) g ≡ u.limit
 limit_is [] g u e = cc
 limit_is (v ∷ us) zero u e = ap (λ u. u.limit) (same_Some v u e)
 limit_is (v ∷ us) (suc g) u e = limit_is us g u e
@@ -46,13 +51,15 @@ fits_same : (whole : Use) (us : List Use) (claims : List Claim) (seats : List Se
     → ((g : ℕ) (u : Use) → slice_get us g ≡ Some u → IsOfGroup g u (zip claims seats))
     → fits_in us claim ≡ fits_its_group (seen whole us claims seats) claim
 fits_same whole us claims seats claim None of there kept =
-    ap (λ o. option_map_or (λ g. option_map_or (λ u. fits_beside u.used u.limit claim.weight) (slice_get us g) true) o true) of
+    ap (λ o. option_map_or (λ g. option_map_or (λ u. fits_beside u.used u.limit claim.weight) (slice_get us g) true)
+    o true) of
     ∙ sym (ap (λ o. option_map_or (λ g. fits_beside (group_weight_in_use (seen whole us claims seats) g)
     (slice_index (map (λ u. u.limit) us) g) claim.weight) o true) of)
 fits_same whole us claims seats claim (Some g) of there kept =
     let u = limit_at us g (there g refl) in
     let limit : slice_index (map (λ u. u.limit) us) g ≡ u.0.limit = limit_is us g u.0 u.1 in
-    ap (λ o. option_map_or (λ g. option_map_or (λ u. fits_beside u.used u.limit claim.weight) (slice_get us g) true) o true) of
+    ap (λ o. option_map_or (λ g. option_map_or (λ u. fits_beside u.used u.limit claim.weight) (slice_get us g) true)
+    o true) of
     ∙ ap (λ o. option_map_or (λ u. fits_beside u.used u.limit claim.weight) o true) u.1
     ∙ ap (λ n. fits_beside n u.0.limit claim.weight) (sym (group_used g u.0 (zip claims seats) (kept g u.0 u.1)))
     ∙ ap (λ l. fits_beside (sum_by (taken_in g l) (zip claims seats)) l claim.weight) (sym limit)
@@ -62,14 +69,16 @@ fits_same whole us claims seats claim (Some g) of there kept =
 -- which tests may come next
 come_same : (start : ℕ) (whole : Use) (us : List Use) (claims : List Claim) (seats : List Seat)
     → IsWhole start whole us claims seats → (k : ℕ) → k < length (zip claims seats)
-    → comes us (get_or (zip claims seats) k nobody) ≡ may_come (seen whole us claims seats) (get_or (zip claims seats) k nobody)
+    → comes us (get_or (zip claims seats) k nobody)
+    ≡ may_come (seen whole us claims seats) (get_or (zip claims seats) k nobody)
 come_same start whole us claims seats w k h =
     let inside : k < length seats = omega (arith, length_zip claims seats w.paired) in
     let claim = get_or claims k nobody.0 in
     let s = get_or seats k Waiting in
     let at = get_or_zip claims seats k nobody.0 Waiting nobody (omega (arith, w.paired)) inside in
     ap (comes us) at
-    ∙ ap (λ b. is_waiting s && (not claim.matched || b)) (fits_same whole us claims seats claim _ refl (w.members k) w.groups)
+    ∙ ap (λ b. is_waiting s && (not claim.matched || b))
+    (fits_same whole us claims seats claim _ refl (w.members k) w.groups)
     ∙ sym (ap (may_come (seen whole us claims seats)) at)
 
 pub place_same : (start : ℕ) (whole : Use) (us : List Use) (claims : List Claim) (seats : List Seat)
@@ -84,26 +93,33 @@ pub no_candidate : (start : ℕ) (whole : Use) (us : List Use) (claims : List Cl
     → IsWhole start whole us claims seats → position (comes us) (zip claims seats) ≡ None
     → candidate (seen whole us claims seats) ≡ None
 no_candidate start whole us claims seats w e =
-    ap (option_and_then (λ test. option_map (λ claim. candidate_at test claim (fits_all (seen whole us claims seats) claim))
+    ap (option_and_then (λ test. option_map
+    (λ claim. candidate_at test claim (fits_all (seen whole us claims seats) claim))
     (slice_get claims test)))
     (sym (place_same start whole us claims seats w) ∙ e)
 
 -- the candidate at a place
-pub candidate_is : (start : ℕ) (whole : Use) (us : List Use) (claims : List Claim) (seats : List Seat) (k : ℕ) (claim : Claim)
-    → IsWhole start whole us claims seats → position (comes us) (zip claims seats) ≡ Some k → slice_get claims k ≡ Some claim
-    → candidate (seen whole us claims seats) ≡ Some (candidate_at k claim (fits_beside whole.used whole.limit claim.weight))
+pub candidate_is : (start : ℕ) (whole : Use) (us : List Use) (claims : List Claim) (seats : List Seat) (k : ℕ)
+    (claim : Claim)
+    → IsWhole start whole us claims seats → position (comes us) (zip claims seats) ≡ Some k
+    → slice_get claims k ≡ Some claim
+    → candidate (seen whole us claims seats)
+    ≡ Some (candidate_at k claim (fits_beside whole.used whole.limit claim.weight))
 candidate_is start whole us claims seats k claim w e at =
-    ap (option_and_then (λ test. option_map (λ claim. candidate_at test claim (fits_all (seen whole us claims seats) claim))
+    ap (option_and_then (λ test. option_map
+    (λ claim. candidate_at test claim (fits_all (seen whole us claims seats) claim))
     (slice_get claims test)))
     (sym (place_same start whole us claims seats w) ∙ e)
     ∙ ap (option_map (λ claim. candidate_at k claim (fits_all (seen whole us claims seats) claim))) at
-    ∙ ap (λ n. Some (candidate_at k claim (fits_beside n whole.limit claim.weight))) (all_used whole (zip claims seats) w.all)
+    ∙ ap (λ n. Some (candidate_at k claim (fits_beside n whole.limit claim.weight)))
+    (all_used whole (zip claims seats) w.all)
 
 -- a place that was found is that of a test
 pub place_inside : (us : List Use) (claims : List Claim) (seats : List Seat) (k : ℕ) → length claims ≡ length seats
     → position (comes us) (zip claims seats) ≡ Some k → k < length seats
 place_inside us claims seats k same e =
-    let found = position-Some (comes us) (zip claims seats) k nobody e in omega (arith, found.0, length_zip claims seats same)
+    let found = position-Some (comes us) (zip claims seats) k nobody e in omega
+    (arith, found.0, length_zip claims seats same)
 
 both_true : (a b : Bool) → (a && b) ≡ true → (a ≡ true) × (b ≡ true)
 both_true true b e = (refl, e)
@@ -115,14 +131,16 @@ is_waiting_true (InUse n m) e = cc
 is_waiting_true Gone e = cc
 
 -- a candidate is a test that waits, and has room in its group or is to be skipped
-record IsChosen (whole : Use) (us : List Use) (claims : List Claim) (seats : List Seat) (c : Candidate) (k : ℕ) : Type 0 where
+record IsChosen (whole : Use) (us : List Use) (claims : List Claim) (seats : List Seat) (c : Candidate) (k : ℕ) :
+    Type 0 where
   pub inside : k < length seats
   pub waits : get_or seats k Waiting ≡ Waiting
   pub fits : (not (get_or claims k nobody.0).matched || fits_in us (get_or claims k nobody.0)) ≡ true
   pub is : c ≡ candidate_at k (get_or claims k nobody.0)
       (fits_beside whole.used whole.limit (get_or claims k nobody.0).weight)
 
-chosen : (start : ℕ) (whole : Use) (us : List Use) (claims : List Claim) (seats : List Seat) (c : Candidate) (o : Option ℕ)
+chosen : (start : ℕ) (whole : Use) (us : List Use) (claims : List Claim) (seats : List Seat) (c : Candidate)
+    (o : Option ℕ)
     → IsWhole start whole us claims seats → position (comes us) (zip claims seats) ≡ o
     → candidate (seen whole us claims seats) ≡ Some c → (k : ℕ) × IsChosen whole us claims seats c k
 chosen start whole us claims seats c None w e is =
@@ -149,13 +167,15 @@ chosen start whole us claims seats c (Some k) w e is = (
         ap (comes us) (sym (get_or_zip claims seats k nobody.0 Waiting nobody (omega (arith, w.paired, inside)) inside))
         ∙ (position-Some (comes us) (zip claims seats) k nobody e).1
 
-    both : (is_waiting (get_or seats k Waiting) ≡ true) × ((not (get_or claims k nobody.0).matched || fits_in us (get_or claims k nobody.0)) ≡ true)
+    both : (is_waiting (get_or seats k Waiting) ≡ true)
+        × ((not (get_or claims k nobody.0).matched || fits_in us (get_or claims k nobody.0)) ≡ true)
     both = both_true _ _ passes
 
 -- the kind of a candidate says why it is one
 skips : (t k : ℕ) (claim : Claim) (b m : Bool) → m ≡ claim.matched → Skip t ≡ candidate_at k claim b → k ≡ t
 skips t k claim true true of e = let bad : Skip t ≡ Fits k = e ∙ ap (λ m. if m then Fits k else Skip k) (sym of) in cc
-skips t k claim false true of e = let bad : Skip t ≡ Blocked k = e ∙ ap (λ m. if m then Blocked k else Skip k) (sym of) in cc
+skips t k claim false true of e = let bad : Skip t ≡ Blocked k = e
+    ∙ ap (λ m. if m then Blocked k else Skip k) (sym of) in cc
 skips t k claim b false of e =
     let same : Skip t ≡ Skip k = e ∙ ap (λ m. if m then (if b then Fits k else Blocked k) else Skip k) (sym of) in cc
 
@@ -163,7 +183,8 @@ runs : (t k : ℕ) (claim : Claim) (b m : Bool) → m ≡ claim.matched → Fits
     → (k ≡ t) × (claim.matched ≡ true) × (b ≡ true)
 runs t k claim true true of e =
     let same : Fits t ≡ Fits k = e ∙ ap (λ m. if m then Fits k else Skip k) (sym of) in (cc, sym of, refl)
-runs t k claim false true of e = let bad : Fits t ≡ Blocked k = e ∙ ap (λ m. if m then Blocked k else Skip k) (sym of) in cc
+runs t k claim false true of e = let bad : Fits t ≡ Blocked k = e
+    ∙ ap (λ m. if m then Blocked k else Skip k) (sym of) in cc
 runs t k claim b false of e =
     let bad : Fits t ≡ Skip k = e ∙ ap (λ m. if m then (if b then Fits k else Blocked k) else Skip k) (sym of) in cc
 
@@ -186,7 +207,8 @@ pub can_run : (start : ℕ) (whole : Use) (us : List Use) (claims : List Claim) 
 can_run start whole us claims seats t w is =
     let found = chosen start whole us claims seats (Fits t) (position (comes us) (zip claims seats)) w refl is in
     let so = runs t found.0 (get_or claims found.0 nobody.0) _ _ refl found.1.is in
-    subst (CanRun whole us claims seats) so.0 (chosen_runs start whole us claims seats found.0 w found.1.inside found.1.waits
+    subst (CanRun whole us claims seats) so.0
+    (chosen_runs start whole us claims seats found.0 w found.1.inside found.1.waits
     (ap (λ m. not m || fits_in us (get_or claims found.0 nobody.0)) (sym so.1) ∙ found.1.fits) so.2)
   where
     chosen_runs : (start : ℕ) (whole : Use) (us : List Use) (claims : List Claim) (seats : List Seat) (k : ℕ)
@@ -203,7 +225,8 @@ can_run start whole us claims seats t w is =
           (ap (λ b. if b then seat_group_slot (get_or seats k Waiting) else None) (of_same g g _ of refl)
           ∙ ap seat_group_slot waits)
           (fits_is _ _ _ (sym (ap (λ o. option_map_or (λ u. fits_beside u.used u.limit claim.weight) o true) e)
-          ∙ sym (ap (λ o. option_map_or (λ g. option_map_or (λ u. fits_beside u.used u.limit claim.weight) (slice_get us g) true) o true) of)
+          ∙ sym (ap (λ o. option_map_or
+          (λ g. option_map_or (λ u. fits_beside u.used u.limit claim.weight) (slice_get us g) true) o true) of)
           ∙ within))
           (w.groups g u e);
     }
@@ -243,7 +266,8 @@ limits_set us g u v e same =
     map-set (λ u. u.limit) us g v ∙ ap (set (map (λ u. u.limit) us) g) (same ∙ sym (limit_is us g u e))
     ∙ set-get_or (map (λ u. u.limit) us) g 0
 
-pub limits_take : (us : List Use) (o : Option ℕ) (k w : ℕ) → map (λ u. u.limit) (take_in us o k w) ≡ map (λ u. u.limit) us
+pub limits_take : (us : List Use) (o : Option ℕ) (k w : ℕ)
+    → map (λ u. u.limit) (take_in us o k w) ≡ map (λ u. u.limit) us
 limits_take us None k w = refl
 limits_take us (Some g) k w = by_place (slice_get us g) refl
   where
@@ -252,7 +276,8 @@ limits_take us (Some g) k w = by_place (slice_get us g) refl
     by_place None e = refl
     by_place (Some u) e = limits_set us g u (take_of u k w) e refl
 
-pub limits_give : (us : List Use) (o m : Option ℕ) (w : ℕ) → map (λ u. u.limit) (give_in us o m w) ≡ map (λ u. u.limit) us
+pub limits_give : (us : List Use) (o m : Option ℕ) (w : ℕ)
+    → map (λ u. u.limit) (give_in us o m w) ≡ map (λ u. u.limit) us
 limits_give us None m w = refl
 limits_give us (Some g) None w = refl
 limits_give us (Some g) (Some n) w = by_place (slice_get us g) refl
@@ -263,13 +288,15 @@ limits_give us (Some g) (Some n) w = by_place (slice_get us g) refl
     by_place (Some u) e = limits_set us g u (give_back u n w) e refl
 
 -- no test waits exactly where the first place at which one does is past the end
-pub done_is : (seats : List Seat) → nat_eq (position_or_len is_waiting seats) (length seats) ≡ not (list_any is_waiting seats)
+pub done_is : (seats : List Seat)
+    → nat_eq (position_or_len is_waiting seats) (length seats) ≡ not (list_any is_waiting seats)
 done_is seats = by_any (list_any is_waiting seats) refl
   where
     within : position_or_len is_waiting seats ≤ length seats
     within = prefix_len-le-length (λ s. not (is_waiting s)) seats
 
-    by_any : (b : Bool) → list_any is_waiting seats ≡ b → nat_eq (position_or_len is_waiting seats) (length seats) ≡ not b
+    by_any : (b : Bool) → list_any is_waiting seats ≡ b
+        → nat_eq (position_or_len is_waiting seats) (length seats) ≡ not b
     by_any true e =
         let some = Any-from_list_any is_waiting seats e in
         let apart : position_or_len is_waiting seats ≢ length seats =
@@ -297,7 +324,8 @@ pub start_within : (start : ℕ) (seats : List Seat) → start ≡ position_or_l
 start_within start seats e = omega (arith, e, prefix_len-le-length (λ s. not (is_waiting s)) seats)
 
 pub none_waits : (start : ℕ) (seats : List Seat) (k : ℕ) (s : Seat) → start ≡ position_or_len is_waiting seats
-    → k < length seats → is_waiting s ≡ false → (j : ℕ) → j < start → is_waiting (get_or (set seats k s) j Waiting) ≡ false
+    → k < length seats → is_waiting s ≡ false → (j : ℕ) → j < start
+    → is_waiting (get_or (set seats k s) j Waiting) ≡ false
 none_waits start seats k s first inside not_so j h = by_place (j == k) refl
   where
     by_place : (b : Bool) → (j == k) ≡ b → is_waiting (get_or (set seats k s) j Waiting) ≡ false
@@ -313,7 +341,8 @@ abbrev made : ℕ → List ℕ → List Claim → List Seat → Admissions
 made threads limits claims seats = record { threads = threads; limits = limits; claims = claims; seats = seats }
 
 -- after a test runs: what is kept, what is said of it, and what is seen
-pub run_kept : (start next : ℕ) (whole after : Use) (us afters : List Use) (claims : List Claim) (seats : List Seat) (k n : ℕ)
+pub run_kept : (start next : ℕ) (whole after : Use) (us afters : List Use) (claims : List Claim) (seats : List Seat)
+    (k n : ℕ)
     (m : Option ℕ) (claim : Claim) → IsWhole start whole us claims seats
     → candidate (seen whole us claims seats) ≡ Some (Fits k) → claim ≡ get_or claims k nobody.0 → n ≡ free_in whole
     → m ≡ free_within us claim.group → after ≡ take_of whole k claim.weight
@@ -327,7 +356,8 @@ run_kept start next whole after us afters claims seats k n m claim w is of slot 
     (run_whole start next whole us claims seats k n m w (can_run start whole us claims seats k w is) slot
     (within ∙ ap (λ c. free_within us c.group) of) first))
 
-pub run_said : (start : ℕ) (whole : Use) (us : List Use) (claims : List Claim) (seats : List Seat) (k n : ℕ) (m : Option ℕ)
+pub run_said : (start : ℕ) (whole : Use) (us : List Use) (claims : List Claim) (seats : List Seat) (k n : ℕ)
+    (m : Option ℕ)
     (claim : Claim) → IsWhole start whole us claims seats → candidate (seen whole us claims seats) ≡ Some (Fits k)
     → claim ≡ get_or claims k nobody.0 → n ≡ free_in whole → m ≡ free_within us claim.group
     → admitted (seen whole us claims seats) ≡ Some (Run k n m)
@@ -336,7 +366,8 @@ run_said start whole us claims seats k n m claim w is of slot within =
     ∙ ap (λ n. Some (Run k n (free_within us (get_or claims k nobody.0).group))) (sym slot)
     ∙ ap (λ m. Some (Run k n m)) (sym (within ∙ ap (λ c. free_within us c.group) of))
 
-pub run_seen : (start : ℕ) (whole after : Use) (us afters : List Use) (claims : List Claim) (seats : List Seat) (k n : ℕ)
+pub run_seen : (start : ℕ) (whole after : Use) (us afters : List Use) (claims : List Claim) (seats : List Seat)
+    (k n : ℕ)
     (m : Option ℕ) (claim : Claim) → IsWhole start whole us claims seats
     → candidate (seen whole us claims seats) ≡ Some (Fits k) → claim ≡ get_or claims k nobody.0 → n ≡ free_in whole
     → m ≡ free_within us claim.group → after ≡ take_of whole k claim.weight
@@ -350,7 +381,8 @@ run_seen start whole after us afters claims seats k n m claim w is of slot withi
     (sym (run_said start whole us claims seats k n m claim w is of slot within))
 
 -- after a test was released
-pub release_kept : (start : ℕ) (whole after : Use) (us afters : List Use) (claims : List Claim) (seats : List Seat) (k n : ℕ)
+pub release_kept : (start : ℕ) (whole after : Use) (us afters : List Use) (claims : List Claim) (seats : List Seat)
+    (k n : ℕ)
     (m : Option ℕ) (claim : Claim) → IsWhole start whole us claims seats → CanLeave whole us claims seats k n m
     → claim ≡ get_or claims k nobody.0 → after ≡ give_back whole n claim.weight
     → afters ≡ give_in us claim.group m claim.weight → IsWhole start after afters claims (set seats k Gone)
@@ -361,7 +393,8 @@ release_kept start whole after us afters claims seats k n m claim w can of all p
     (release_whole start whole us claims seats k n m w can))
 
 pub release_seen : (whole after : Use) (us afters : List Use) (claims : List Claim) (seats : List Seat) (k n : ℕ)
-    (m : Option ℕ) (claim : Claim) → after ≡ give_back whole n claim.weight → afters ≡ give_in us claim.group m claim.weight
+    (m : Option ℕ) (claim : Claim) → after ≡ give_back whole n claim.weight
+    → afters ≡ give_in us claim.group m claim.weight
     → seen after afters claims (set seats k Gone) ≡ released (seen whole us claims seats) k
 release_seen whole after us afters claims seats k n m claim all parts =
     ap (λ u. seen u afters claims (set seats k Gone)) all
@@ -374,7 +407,8 @@ in_use_inside [] k e = cc
 in_use_inside (s ∷ seats) zero e = omega arith
 in_use_inside (s ∷ seats) (suc k) e = let rest : k < length seats = in_use_inside seats k e in omega arith
 
-pub may_leave : (start : ℕ) (whole : Use) (us : List Use) (claims : List Claim) (seats : List Seat) (k n : ℕ) (m : Option ℕ)
+pub may_leave : (start : ℕ) (whole : Use) (us : List Use) (claims : List Claim) (seats : List Seat) (k n : ℕ)
+    (m : Option ℕ)
     (s : Seat) → IsWhole start whole us claims seats → is_in_use (get_or seats k Gone) ≡ true → s ≡ get_or seats k s
     → s ≡ InUse n m → CanLeave whole us claims seats k n m
 may_leave start whole us claims seats k n m s w used read is =

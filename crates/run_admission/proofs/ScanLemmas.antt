@@ -8,7 +8,8 @@ use Rattle.run_admission.specs.declared.seat.Claim.{Claim}
 use Rattle.run_admission.specs.declared.seat.Seat.{Seat}
 use Rattle.run_admission.specs.declared.seat.Seat.TheVariants.{Gone}
 use Rattle.run_admission.specs.InUse.{is_waiting}
-use Rattle.run_admission.specs.Kept.{Use, IsWhole, comes, fits_in, nobody, take_of, give_back, take_in, give_in, free_in, free_within}
+use Rattle.run_admission.specs.Kept.{Use, IsWhole, comes, fits_in, nobody, take_of, give_back, take_in, give_in}
+use Rattle.run_admission.specs.Kept.{free_in, free_within}
 use Rattle.run_admission.proofs.ListLemmas.{get_or_zip}
 
 -- where no test before the start waits, none of them comes

@@ -37,7 +37,8 @@ lengths : {X Y : Type 0} (f : Test → X) (g : Test → Y) (ts : List Test) → 
 lengths f g ts = length-map ts f ∙ sym (length-map ts g)
 
 -- a test that moves between seats in which it takes and holds the same leaves the limit as it is
-pub stays : (u : Use) (weight : Test → ℕ) (slot : Test → Option ℕ) (claims : List Claim) (seats : List Seat) (k : ℕ) (s : Seat)
+pub stays : (u : Use) (weight : Test → ℕ) (slot : Test
+    → Option ℕ) (claims : List Claim) (seats : List Seat) (k : ℕ) (s : Seat)
     → length claims ≡ length seats → k < length seats
     → weight (get_or claims k nobody.0, get_or seats k Waiting) ≡ weight (get_or claims k nobody.0, s)
     → slot (get_or claims k nobody.0, get_or seats k Waiting) ≡ slot (get_or claims k nobody.0, s)
@@ -47,7 +48,8 @@ stays u weight slot claims seats k s same inside light free kept =
     let ws = map weight (zip claims seats) in
     let ss = map slot (zip claims seats) in
     let weights : ws ≡ map weight (zip claims (set seats k s)) =
-    sym (moved weight claims seats k s same inside ∙ ap (set ws k) (sym (stood weight claims seats k same inside ∙ light))
+    sym (moved weight claims seats k s same inside
+    ∙ ap (set ws k) (sym (stood weight claims seats k same inside ∙ light))
     ∙ set-get_or ws k (weight nobody)) in
     let slots : ss ≡ map slot (zip claims (set seats k s)) =
     sym (moved slot claims seats k s same inside ∙ ap (set ss k) (sym (stood slot claims seats k same inside ∙ free))
@@ -55,7 +57,8 @@ stays u weight slot claims seats k s same inside light free kept =
     subst (λ ws. IsKept u ws (map slot (zip claims (set seats k s)))) weights (subst (IsKept u ws) slots kept)
 
 -- a test comes to use
-pub may_take : (u : Use) (weight : Test → ℕ) (slot : Test → Option ℕ) (claims : List Claim) (seats : List Seat) (k heavy : ℕ)
+pub may_take : (u : Use) (weight : Test → ℕ) (slot : Test
+    → Option ℕ) (claims : List Claim) (seats : List Seat) (k heavy : ℕ)
     → length claims ≡ length seats → k < length seats → length seats < 2 ^ 32 → slot nobody ≡ None
     → slot (get_or claims k nobody.0, get_or seats k Waiting) ≡ None → u.used + min heavy u.limit ≤ u.limit
     → IsKept u (map weight (zip claims seats)) (map slot (zip claims seats)) → CanTake u heavy
@@ -66,7 +69,8 @@ may_take u weight slot claims seats k heavy same inside few nobodys free fits ke
     ap (get_or ss k) (sym nobodys) ∙ stood slot claims seats k same inside ∙ free in
     can_take u (map weight (zip claims seats)) ss k heavy kept (omega arith) none (omega arith) fits
 
-pub takes : (u : Use) (weight : Test → ℕ) (slot : Test → Option ℕ) (claims : List Claim) (seats : List Seat) (k heavy : ℕ) (s : Seat)
+pub takes : (u : Use) (weight : Test → ℕ) (slot : Test
+    → Option ℕ) (claims : List Claim) (seats : List Seat) (k heavy : ℕ) (s : Seat)
     → length claims ≡ length seats → k < length seats → weight nobody ≡ 0 → slot nobody ≡ None
     → weight (get_or claims k nobody.0, get_or seats k Waiting) ≡ 0
     → slot (get_or claims k nobody.0, get_or seats k Waiting) ≡ None
@@ -89,7 +93,8 @@ takes u weight slot claims seats k heavy s same inside nothing nobodys light fre
     (take_kept u ws ss k heavy kept (lengths weight slot (zip claims seats)) (omega arith) zero none can))
 
 -- a test leaves
-pub may_give : (u : Use) (weight : Test → ℕ) (slot : Test → Option ℕ) (claims : List Claim) (seats : List Seat) (k n heavy : ℕ)
+pub may_give : (u : Use) (weight : Test → ℕ) (slot : Test
+    → Option ℕ) (claims : List Claim) (seats : List Seat) (k n heavy : ℕ)
     → length claims ≡ length seats → k < length seats → weight nobody ≡ 0 → slot nobody ≡ None
     → weight (get_or claims k nobody.0, get_or seats k Waiting) ≡ min heavy u.limit
     → slot (get_or claims k nobody.0, get_or seats k Waiting) ≡ Some n
@@ -100,10 +105,12 @@ may_give u weight slot claims seats k n heavy same inside nothing nobodys weighs
     let many : length ss ≡ length seats = length-map (zip claims seats) slot ∙ length_zip claims seats same in
     let was : get_or ws k 0 ≡ min heavy u.limit =
     ap (get_or ws k) (sym nothing) ∙ stood weight claims seats k same inside ∙ weighs in
-    let at : get_or ss k None ≡ Some n = ap (get_or ss k) (sym nobodys) ∙ stood slot claims seats k same inside ∙ held in
+    let at : get_or ss k None ≡ Some n = ap (get_or ss k) (sym nobodys) ∙ stood slot claims seats k same inside
+    ∙ held in
     can_give u ws ss k n heavy kept (lengths weight slot (zip claims seats)) (omega arith) was at
 
-pub gives : (u : Use) (weight : Test → ℕ) (slot : Test → Option ℕ) (claims : List Claim) (seats : List Seat) (k n heavy : ℕ) (s : Seat)
+pub gives : (u : Use) (weight : Test → ℕ) (slot : Test
+    → Option ℕ) (claims : List Claim) (seats : List Seat) (k n heavy : ℕ) (s : Seat)
     → length claims ≡ length seats → k < length seats → weight nobody ≡ 0 → slot nobody ≡ None
     → weight (get_or claims k nobody.0, get_or seats k Waiting) ≡ min heavy u.limit
     → slot (get_or claims k nobody.0, get_or seats k Waiting) ≡ Some n
@@ -116,7 +123,8 @@ gives u weight slot claims seats k n heavy s same inside nothing nobodys weighs 
     let many : length ss ≡ length seats = length-map (zip claims seats) slot ∙ length_zip claims seats same in
     let was : get_or ws k 0 ≡ min heavy u.limit =
     ap (get_or ws k) (sym nothing) ∙ stood weight claims seats k same inside ∙ weighs in
-    let at : get_or ss k None ≡ Some n = ap (get_or ss k) (sym nobodys) ∙ stood slot claims seats k same inside ∙ held in
+    let at : get_or ss k None ≡ Some n = ap (get_or ss k) (sym nobodys) ∙ stood slot claims seats k same inside
+    ∙ held in
     let weights : set ws k 0 ≡ map weight (zip claims (set seats k s)) =
     sym (moved weight claims seats k s same inside ∙ ap (set ws k) light) in
     let slots : set ss k None ≡ map slot (zip claims (set seats k s)) =
@@ -188,6 +196,7 @@ least_is u ws slot ts nobodys kept =
             let bad : None ≡ Some some.0 = sym none ∙ kept.holds some.0 (free_in u) points in
             cc
           where
-            get_or-map-in : (k : ℕ) (t : Test) → k < length ts → get_or ts k t ≡ t → get_or (map slot ts) k None ≡ slot t
+            get_or-map-in : (k : ℕ) (t : Test) → k < length ts → get_or ts k t ≡ t
+                → get_or (map slot ts) k None ≡ slot t
             get_or-map-in k t h e = inner_map slot ts k t None h ∙ ap slot e
         by_case false e = refl

@@ -1,6 +1,7 @@
 -- The limits of a sub-run, as a test is skipped, runs and is released.
 use Rattle.std.proofs.Common.{◌≡◌, ◌≢◌, ℕ, zero, suc, ◌<◌, ◌==◌, List, [], ◌∷◌, length, get_or, set}
-use Rattle.std.proofs.Common.{Bool, true, false, if◌then◌else◌, Option, Some, None, is_some, refl, ap, sym, subst, ◌∙◌, arith}
+use Rattle.std.proofs.Common.{Bool, true, false, if◌then◌else◌, Option, Some, None, is_some, refl, ap, sym, subst, ◌∙◌}
+use Rattle.std.proofs.Common.{arith}
 use Rattle.std.proofs.Common.{slice_get, ◌⊎◌, inl, inr, get_or-set_other}
 use Rattle.std.proofs.Math.ListN.{length-set}
 use Rattle.std.specs.Option.{option_map_or}
@@ -45,7 +46,8 @@ of_other : (g h : ℕ) (o : Option ℕ) → o ≡ Some h → g ≢ h → option_
 of_other g h o e apart = ap (λ o. option_map_or (λ h. h == g) o false) e ∙ grind (arith, apart)
 
 -- a test that moves leaves the limits of other groups as they are
-group_stays : (g : ℕ) (u : Use) (claims : List Claim) (seats : List Seat) (k : ℕ) (s : Seat) → length claims ≡ length seats
+group_stays : (g : ℕ) (u : Use) (claims : List Claim) (seats : List Seat) (k : ℕ) (s : Seat)
+    → length claims ≡ length seats
     → k < length seats → is_of g (get_or claims k nobody.0) ≡ false → IsOfGroup g u (zip claims seats)
     → IsOfGroup g u (zip claims (set seats k s))
 group_stays g u claims seats k s same inside other kept =
@@ -81,9 +83,11 @@ seated_after : (claims : List Claim) (seats : List Seat) (k : ℕ) (s : Seat) �
     → k < length seats → ((j : ℕ) → IsSeated (get_or (zip claims seats) j nobody))
     → IsSeated (get_or claims k nobody.0, s) → (j : ℕ) → IsSeated (get_or (zip claims (set seats k s)) j nobody)
 seated_after claims seats k s same inside all new j =
-    subst (λ ts. IsSeated (get_or ts j nobody)) (sym (zip_set claims seats k nobody.0 s (omega arith))) (by_place (j == k) refl)
+    subst (λ ts. IsSeated (get_or ts j nobody)) (sym (zip_set claims seats k nobody.0 s (omega arith)))
+    (by_place (j == k) refl)
   where
-    by_place : (b : Bool) → (j == k) ≡ b → IsSeated (get_or (set (zip claims seats) k (get_or claims k nobody.0, s)) j nobody)
+    by_place : (b : Bool) → (j == k) ≡ b
+        → IsSeated (get_or (set (zip claims seats) k (get_or claims k nobody.0, s)) j nobody)
     by_place true e =
         let is : j ≡ k = grind arith in
         subst IsSeated
@@ -92,7 +96,8 @@ seated_after claims seats k s same inside all new j =
         new
     by_place false e =
         let apart : j ≢ k = grind arith in
-        subst IsSeated (sym (get_or-set_other (zip claims seats) k j (get_or claims k nobody.0, s) nobody apart)) (all j)
+        subst IsSeated (sym (get_or-set_other (zip claims seats) k j (get_or claims k nobody.0, s) nobody apart))
+        (all j)
 
 -- a test is skipped
 pub skip_whole : (start next : ℕ) (whole : Use) (us : List Use) (claims : List Claim) (seats : List Seat) (k : ℕ)
@@ -125,7 +130,8 @@ pub record CanRun (whole : Use) (us : List Use) (claims : List Claim) (seats : L
       → CanTake u (get_or claims k nobody.0).weight
 
 -- the limit of the group of a test that runs, and of another group
-group_run : (g n : ℕ) (m : Option ℕ) (u : Use) (us : List Use) (claims : List Claim) (seats : List Seat) (k : ℕ) (o : Option ℕ)
+group_run : (g n : ℕ) (m : Option ℕ) (u : Use) (us : List Use) (claims : List Claim) (seats : List Seat) (k : ℕ)
+    (o : Option ℕ)
     → length claims ≡ length seats → k < length seats → get_or seats k Waiting ≡ Waiting
     → (get_or claims k nobody.0).group ≡ o
     → ((h : ℕ) → o ≡ Some h → h < length us) → m ≡ free_within us o
@@ -136,7 +142,8 @@ group_run : (g n : ℕ) (m : Option ℕ) (u : Use) (us : List Use) (claims : Lis
 group_run g n m u us claims seats k None same inside waits of there slot cans old e =
     group_stays g u claims seats k (InUse n m) same inside (of_none g _ of) (old g u e)
 group_run g n m u us claims seats k (Some h) same inside waits of there slot cans old e =
-    elim (set_found us h g u (take_of v.0 k claim.weight) (sym (ap (λ l. slice_get l g) (take_is us h k claim.weight v.0 v.1)) ∙ e)) [
+    elim (set_found us h g u (take_of v.0 k claim.weight)
+    (sym (ap (λ l. slice_get l g) (take_is us h k claim.weight v.0 v.1)) ∙ e)) [
       | inl p ↦ subst (λ u. IsOfGroup g u (zip claims (set seats k (InUse n m)))) p.1 (mine p.0)
       | inr p ↦ group_stays g u claims seats k (InUse n m) same inside (of_other g h _ of p.0) (old g u p.1)
     ]
@@ -162,13 +169,15 @@ group_run g n m u us claims seats k (Some h) same inside waits of there slot can
         of_it = of_same g h _ of is
 
 -- a test that has a slot within its group where it has a group
-seat_of : (us : List Use) (o : Option ℕ) → ((h : ℕ) → o ≡ Some h → h < length us) → is_some (free_within us o) ≡ is_some o
+seat_of : (us : List Use) (o : Option ℕ) → ((h : ℕ) → o ≡ Some h → h < length us)
+    → is_some (free_within us o) ≡ is_some o
 seat_of us None there = refl
 seat_of us (Some h) there =
     let v = limit_at us h (there h refl) in ap is_some (free_is us h v.0 v.1)
 
 -- a test runs
-pub run_whole : (start next : ℕ) (whole : Use) (us : List Use) (claims : List Claim) (seats : List Seat) (k n : ℕ) (m : Option ℕ)
+pub run_whole : (start next : ℕ) (whole : Use) (us : List Use) (claims : List Claim) (seats : List Seat) (k n : ℕ)
+    (m : Option ℕ)
     → IsWhole start whole us claims seats → CanRun whole us claims seats k → n ≡ free_in whole
     → m ≡ free_within us (get_or claims k nobody.0).group
     → next ≡ position_or_len is_waiting (set seats k (InUse n m))
@@ -181,7 +190,8 @@ run_whole start next whole us claims seats k n m w can slot slot_within is = rec
   all = takes whole (taken whole.limit) slot_of claims seats k claim.weight (InUse n m) w.paired can.inside refl refl
       (ap (λ s. taken whole.limit (claim, s)) can.waits) (ap (λ s. slot_of (claim, s)) can.waits) refl
       (ap (λ n. Some n) slot) can.can w.all;
-  groups = λ g u e. group_run g n m u us claims seats k claim.group w.paired can.inside can.waits refl (w.members k) slot_within
+  groups = λ g u e. group_run g n m u us claims seats k claim.group w.paired can.inside can.waits refl (w.members k)
+      slot_within
       can.cans w.groups e;
   members = λ j g e. omega (arith, w.members j g e, length_take_in us claim.group k claim.weight);
   seated = seated_after claims seats k (InUse n m) w.paired can.inside w.seated
@@ -192,14 +202,16 @@ run_whole start next whole us claims seats k n m w can slot slot_within is = rec
     claim = get_or claims k nobody.0
 
 -- a test that is in use, in these slots, can give back
-pub record CanLeave (whole : Use) (us : List Use) (claims : List Claim) (seats : List Seat) (k n : ℕ) (m : Option ℕ) : Type 0 where
+pub record CanLeave (whole : Use) (us : List Use) (claims : List Claim) (seats : List Seat) (k n : ℕ) (m : Option ℕ)
+    : Type 0 where
   pub inside : k < length seats
   pub used : get_or seats k Waiting ≡ InUse n m
   pub can : CanGive whole n (get_or claims k nobody.0).weight
   pub cans : (g j : ℕ) (u : Use) → (get_or claims k nobody.0).group ≡ Some g → m ≡ Some j → slice_get us g ≡ Some u
       → CanGive u j (get_or claims k nobody.0).weight
 
-pub can_leave : (start : ℕ) (whole : Use) (us : List Use) (claims : List Claim) (seats : List Seat) (k n : ℕ) (m : Option ℕ)
+pub can_leave : (start : ℕ) (whole : Use) (us : List Use) (claims : List Claim) (seats : List Seat) (k n : ℕ)
+    (m : Option ℕ)
     → IsWhole start whole us claims seats → k < length seats → get_or seats k Waiting ≡ InUse n m
     → CanLeave whole us claims seats k n m
 can_leave start whole us claims seats k n m w inside used = record {
@@ -260,7 +272,8 @@ group_release g n (Some j) u us claims seats k (Some h) same inside used of seat
         of_it = of_same g h _ of is
 
 -- a test is released
-pub release_whole : (start : ℕ) (whole : Use) (us : List Use) (claims : List Claim) (seats : List Seat) (k n : ℕ) (m : Option ℕ)
+pub release_whole : (start : ℕ) (whole : Use) (us : List Use) (claims : List Claim) (seats : List Seat) (k n : ℕ)
+    (m : Option ℕ)
     → IsWhole start whole us claims seats → CanLeave whole us claims seats k n m
     → IsWhole start (give_back whole n (get_or claims k nobody.0).weight)
     (give_in us (get_or claims k nobody.0).group m (get_or claims k nobody.0).weight) claims (set seats k Gone)
@@ -270,7 +283,8 @@ release_whole start whole us claims seats k n m w can = record {
   first = w.first ∙ sym (position_or_len-set is_waiting seats k Gone Waiting (sym (ap is_waiting can.used)));
   all = gives whole (taken whole.limit) slot_of claims seats k n claim.weight Gone w.paired can.inside refl refl
       (ap (λ s. taken whole.limit (claim, s)) can.used) (ap (λ s. slot_of (claim, s)) can.used) refl refl can.can w.all;
-  groups = λ g u e. group_release g n m u us claims seats k claim.group w.paired can.inside can.used refl seated (w.members k)
+  groups = λ g u e. group_release g n m u us claims seats k claim.group w.paired can.inside can.used refl seated
+      (w.members k)
       can.cans w.groups e;
   members = λ j g e. omega (arith, w.members j g e, length_give_in us claim.group m claim.weight);
   seated = seated_after claims seats k Gone w.paired can.inside w.seated (λ e. absurd_seat e);

@@ -1,12 +1,15 @@
 -- What is kept of the limits, beside where the tests stand.
-use Rattle.std.specs.Prelude.{ℕ, ◌+◌, ◌-◌, ◌≡◌, ◌<◌, ◌≤◌, ◌^◌, List, length, Bool, true, false, not, ◌&&◌, ◌||◌, Option, Some, None, is_none, is_some}
-use Rattle.std.specs.Prelude.{slice_get, slice_set, slice_index_or, sum, count_by, replicate, min, map, option_map, option_and_then}
+use Rattle.std.specs.Prelude.{ℕ, ◌+◌, ◌-◌, ◌≡◌, ◌<◌, ◌≤◌, ◌^◌, List, length, Bool, true, false, not, ◌&&◌, ◌||◌, Option}
+use Rattle.std.specs.Prelude.{Some, None, is_none, is_some}
+use Rattle.std.specs.Prelude.{slice_get, slice_set, slice_index_or, sum, count_by, replicate, min, map, option_map}
+use Rattle.std.specs.Prelude.{option_and_then}
 use Rattle.std.specs.Option.{option_map_or}
 use Rattle.std.specs.List.{position_or_len, zip}
 use Rattle.run_admission.specs.declared.seat.Claim.{Claim}
 use Rattle.run_admission.specs.declared.seat.Seat.{Seat}
 use Rattle.run_admission.specs.declared.seat.Seat.TheVariants.{Gone}
-use Rattle.run_admission.specs.InUse.{Admissions, Test, fits_beside, taken, taken_in, slot_of, slot_in, is_waiting, is_in_use, seat_group_slot}
+use Rattle.run_admission.specs.InUse.{Admissions, Test, fits_beside, taken, taken_in, slot_of, slot_in, is_waiting}
+use Rattle.run_admission.specs.InUse.{is_in_use, seat_group_slot}
 
 -- a test that is none, for places past the end
 abbrev pub nobody : Test

@@ -2,7 +2,8 @@
 ghost use Rattle.std.specs.Prelude.{◌≡◌, ◌<◌, ◌^◌, length, IfOk, Some, true, slice_set};
 ghost use Rattle.run_admission.specs.declared.seat.Seat.TheVariants.{Gone};
 ghost use Rattle.run_admission.specs.declared.seat.Candidate.TheVariants.{Skip, Fits};
-ghost use Rattle.run_admission.specs.InUse.{begun, candidate, admitted, after_admission, is_test_in_use, released, is_done};
+ghost use Rattle.run_admission.specs.InUse.{begun, candidate, admitted, after_admission, is_test_in_use, released};
+ghost use Rattle.run_admission.specs.InUse.{is_done};
 ghost use Rattle.run_admission.specs.Laws.{KeepsLimits, HasOwnSlots};
 
 use crate::claims::{claims_of, rooms_of};

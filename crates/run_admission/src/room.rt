@@ -1,5 +1,6 @@
 // One limit on tests, with how much of it is in use, and which test holds each slot.
-ghost use Rattle.std.specs.Prelude.{◌≡◌, ◌<◌, ◌≤◌, ◌+◌, ◌-◌, ◌^◌, min, length, is_none, nat_le, slice_set, IfOk, Some, None};
+ghost use Rattle.std.specs.Prelude.{◌≡◌, ◌<◌, ◌≤◌, ◌+◌, ◌-◌, ◌^◌, min, length, is_none, nat_le, slice_set, IfOk, Some};
+ghost use Rattle.std.specs.Prelude.{None};
 ghost use Rattle.std.specs.Prelude.{replicate, position};
 ghost use Rattle.std.specs.List.{position_or_len};
 ghost use Rattle.run_admission.specs.InUse.{fits_beside};

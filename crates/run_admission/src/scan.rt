@@ -3,7 +3,8 @@ ghost use Rattle.std.specs.Prelude.{◌≡◌, ◌<◌, ◌≤◌, ℕ, length, 
 ghost use Rattle.std.specs.List.{zip, position_or_len};
 ghost use Rattle.run_admission.specs.declared.seat.Seat.TheVariants.{Waiting};
 ghost use Rattle.run_admission.specs.InUse.{is_waiting, fits_beside, candidate_at};
-ghost use Rattle.run_admission.specs.Kept.{Use, CanTake, CanGive, IsWhole, fits_in, comes, free_within, take_in, give_in};
+ghost use Rattle.run_admission.specs.Kept.{Use, CanTake, CanGive, IsWhole, fits_in, comes, free_within, take_in};
+ghost use Rattle.run_admission.specs.Kept.{give_in};
 
 use crate::room::Room;
 use crate::seat::{Candidate, Claim, Seat};

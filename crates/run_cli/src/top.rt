@@ -79,11 +79,7 @@ fn replay_input<K: Sink>(alloc: Global, input: Input, sink: K) -> Ended<K>
     ensures { IsInputEnding input.keys input.plan input.turns (writing K.taken K.faults sink result.sink)
         result.ending }
 {
-    let Input {
-        keys,
-        plan,
-        turns,
-    } = input;
+    let Input { keys, plan, turns } = input;
     match builder_of(keys).build(alloc, plan) {
         Ok(runner) => replay(alloc, runner, turns.as_slice(), sink),
         Err(error) => end_at_fault(alloc, sink, &[], fault_of_plan(error)),

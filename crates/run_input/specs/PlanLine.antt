@@ -74,7 +74,7 @@ id_of d = do
 unfoldable pub test_of : Data → Option PlanTest
 test_of d = do
   _ ← when (is_object_of (codes "binary" ∷ codes "command" ∷ codes "group" ∷ codes "name" ∷ codes "skip"
-    ∷ codes "weight" ∷ []) d)
+      ∷ codes "weight" ∷ []) d)
   weight ← or_usual 1 u32_of (get (codes "weight") d)
   id ← id_of d
   command ← option_and_then texts_of (get (codes "command") d)

@@ -78,9 +78,5 @@ pub fn read_input(alloc: Global, bytes: &[u8]) -> Result<Input, InputError>
         Err(e) => return Err(at_line(1, e)),
     };
     let ((keys, plan), turns) = both(first, read_turns(alloc, after))?;
-    Ok(Input {
-        keys,
-        plan,
-        turns,
-    })
+    Ok(Input { keys, plan, turns })
 }

@@ -7,7 +7,8 @@ ghost use Rattle.run_input.specs.ReadsValue.{ReadsValue};
 ghost use Rattle.run_input.specs.ValueOf.{value_of};
 ghost use Rattle.uuid.specs.Text.{parsed};
 ghost use Rattle.run_input.specs.PlanLine.{uuid_of, capture_of, run_id_of, id_of, test_of, tests_of, tests_from};
-ghost use Rattle.run_input.specs.PlanLine.{plan_tests_of, plan_of, keys_of, plan_with, plan_groups_of, group_of, groups_of, groups_from};
+ghost use Rattle.run_input.specs.PlanLine.{plan_tests_of, plan_of, keys_of, plan_with, plan_groups_of, group_of};
+ghost use Rattle.run_input.specs.PlanLine.{groups_of, groups_from};
 ghost use Rattle.run_input.specs.Fields.{u32_of, or_usual};
 
 use crate::LineError;
@@ -30,10 +31,10 @@ pub struct RunnerKeys {
 
 /// Reads a plan line: what it sets of a runner, and its plan.
 ///
-/// Its keys are `run_id` (a UUID) and `tests` (a list of tests, which may be empty), and it may have `capture` (the text
-/// `none`, `split` or `combined`; `split` where it is missing), `threads` (a number) and `groups` (a list of groups). A
-/// group has `limit` (a number) and `name`. A test has `binary`, `command` and `name`, and may have `group` (the name of
-/// one), `skip` (the reason for which it is skipped) and `weight` (a number, 1 where it is missing).
+/// Its keys are `run_id` (a UUID) and `tests` (a list of tests, which may be empty), and it may have `capture` (the
+/// text `none`, `split` or `combined`; `split` where it is missing), `threads` (a number) and `groups` (a list of
+/// groups). A group has `limit` (a number) and `name`. A test has `binary`, `command` and `name`, and may have `group`
+/// (the name of one), `skip` (the reason for which it is skipped) and `weight` (a number, 1 where it is missing).
 pub fn read_plan_line(alloc: Global, line: &[u8]) -> Result<(RunnerKeys, Plan), LineError>
     ensures { ReadsValue result (option_and_then plan_of (value_of line.now)) }
 {

@@ -89,7 +89,8 @@ row_silent : (now : ℕ) (ph : Phase) (turn : UnitTurn) (u : UnitView) → is_de
     → (row_at now ph turn u).sent ≡ None
 row_silent now ph turn u e = grind arith
 
-row_goes_on : (now : ℕ) (ph : Phase) (c : Captured) (turn : UnitTurn) (u : UnitView) → u.phase ≡ ph → takes ph c turn ≡ true
+row_goes_on : (now : ℕ) (ph : Phase) (c : Captured) (turn : UnitTurn) (u : UnitView) → u.phase ≡ ph
+    → takes ph c turn ≡ true
     → turn ≢ Answered false → is_decide turn ≡ false → is_last (row_at now ph turn u).next.phase ≡ false
 row_goes_on now ph c turn u is en goes e = grind arith
 

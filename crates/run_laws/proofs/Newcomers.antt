@@ -86,7 +86,8 @@ some_of : {A B : Type 0} (f : A → B) (o : Option A) (y : B) → option_map f o
 some_of f None y e = cc
 some_of f (Some x) y e = (x, refl)
 
-pub seats : (p : Settings) (us : List (Option UnitView)) (r : Admitted) → admitted (limits_of p us) ≡ Some r → Seats p us r
+pub seats : (p : Settings) (us : List (Option UnitView)) (r : Admitted) → admitted (limits_of p us) ≡ Some r
+    → Seats p us r
 seats p us r e =
     let it = (admitted_is (limits_of p us) r e).0 in
     let found = some_of (claim_of p.plan.groups) (slice_get p.plan.tests (test_of r)) it.claim
@@ -142,7 +143,8 @@ newcomer_is p us new e = by_scripts (scripts_over p us) e
       absent = absent p us j it.within it.waits;
       planned = planned;
       is = inr (
-        none_there test.skip (ap (λ (c : Claim). c.matched) (claimed p j it.claim test planned it.claimed) ∙ it.matched),
+        none_there test.skip (ap (λ (c : Claim). c.matched) (claimed p j it.claim test planned it.claimed)
+            ∙ it.matched),
         (global, (slot, is, cc)),
       );
     }

@@ -1,6 +1,8 @@
 -- What the tests hold of the limits, as the units change.
-use Rattle.std.proofs.Common.{◌≡◌, ℕ, ◌+◌, ◌-◌, ◌<◌, ◌≤◌, nat_le, List, length, get_or, set, map, drop, Bool, true, false}
-use Rattle.std.proofs.Common.{if◌then◌else◌, Option, Some, None, option_map, option_and_then, slice_get, is_none, is_some, refl, ap, sym}
+use Rattle.std.proofs.Common.{◌≡◌, ℕ, ◌+◌, ◌-◌, ◌<◌, ◌≤◌, nat_le, List, length, get_or, set, map, drop, Bool, true}
+use Rattle.std.proofs.Common.{false}
+use Rattle.std.proofs.Common.{if◌then◌else◌, Option, Some, None, option_map, option_and_then, slice_get, is_none}
+use Rattle.std.proofs.Common.{is_some, refl, ap, sym}
 use Rattle.std.proofs.Common.{subst, ◌∙◌, arith}
 use Rattle.std.proofs.lemmas.Option.{same_Some, slice_get-map}
 use Rattle.std.proofs.lemmas.List.{drop-set-lt, drop-set-add, map-set, get_or-drop, get_or-map, length-drop}
@@ -68,7 +70,8 @@ seats-going p us k u v at same = by_kind (nat_le (scripts_in p) k) refl
         (same ∙ sym (ap seat_of (get_or-drop (scripts_in p) us j None ∙ sym (ap (λ i. get_or us i None) here) ∙ at)))
 
 -- what is held of the limits after a unit took a turn
-pub limits-acted : (p : Settings) (us : List (Option UnitView)) (k now : ℕ) (turn : UnitTurn) (u : UnitView) (over : Bool)
+pub limits-acted : (p : Settings) (us : List (Option UnitView)) (k now : ℕ) (turn : UnitTurn) (u : UnitView)
+    (over : Bool)
     → get_or us k None ≡ Some u → is_last u.phase ≡ false → is_last (row now turn u).next.phase ≡ over
     → limits_of p (set us k (Some (row now turn u).next))
     ≡ (if over then given_back p (limits_of p us) k else limits_of p us)

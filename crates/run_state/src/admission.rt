@@ -129,7 +129,14 @@ pub fn newcomer_of(alloc: Global, settings: &Settings, admitted: Admitted) -> Me
     match (admitted, &planned.skip) {
         (Admitted::Skip { test }, Some(reason)) => skip_test(alloc, settings, test, reason),
         (Admitted::Skip { .. }, None) => unreachable!(),
-        (Admitted::Run { test, global_slot, group_slot }, _) => {
+        (
+            Admitted::Run {
+                test,
+                global_slot,
+                group_slot,
+            },
+            _,
+        ) => {
             let slots = slots_of(alloc, planned, global_slot, group_slot)?;
             start_test(alloc, settings, test, slots)
         }

@@ -13,7 +13,8 @@ use std::alloc::Global;
 use std::collections::VecDeque;
 use std::marker::Model;
 
-/// What a run keeps of its history. Contracts see it as the board that turns read, and what its tests hold of the limits.
+/// What a run keeps of its history. Contracts see it as the board that turns read, and what its tests hold of the
+/// limits.
 #[derive(Drop)]
 pub struct State {
     /// Each test of the plan, once it was admitted.

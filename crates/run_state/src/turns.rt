@@ -96,7 +96,13 @@ pub fn admit(alloc: Global, settings: &Settings, state: &mut State) -> Mem<()>
 {
     match state.admission.admit() {
         Some(admitted) => {
-            seat(alloc, settings, &mut state.units, &mut state.queue, admitted)?;
+            seat(
+                alloc,
+                settings,
+                &mut state.units,
+                &mut state.queue,
+                admitted,
+            )?;
             Ok(())
         }
         None => unreachable!(),
@@ -151,7 +157,13 @@ fn answer(
     ensures asked { IfOk result (λ asked. asked ≡ (answer_to state.old.board unit go).asked) }
 {
     match (unit, go) {
-        (Some(unit), Some(go)) => take_turn(alloc, settings, state, unit, UnitTurn::Answered { go }),
+        (Some(unit), Some(go)) => take_turn(
+            alloc,
+            settings,
+            state,
+            unit,
+            UnitTurn::Answered { go },
+        ),
         _ => Ok(None),
     }
 }

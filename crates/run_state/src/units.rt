@@ -124,8 +124,8 @@ fn step_at(
     turn: UnitTurn,
     now: u64,
 ) -> Mem<UnitEffects>
-    requires { (u : UnitView) × (slice_index_or units.old.items unit None ≡ Some u) × (takes u.phase u.capture turn ≡ true)
-        × (u.latest ≤ now) }
+    requires { (u : UnitView) × (slice_index_or units.old.items unit None ≡ Some u)
+        × (takes u.phase u.capture turn ≡ true) × (u.latest ≤ now) }
     ensures after { OnOk result (units.new.items
         ≡ units_after now (taken_by now unit turn (slice_index_or units.old.items unit None)).part units.old.items) }
     ensures sent { IfOk result (λ e. e.sent

@@ -55,7 +55,8 @@ const STARTED: &str = r#"{"turn":"begin"}
 {"turn":"deliver"}"#;
 
 // The last lines of an unfinished run whose last ask has these slots and so many threads.
-const IN_NO_GROUP: &str = "[\"NEXTEST_TEST_GLOBAL_SLOT\",\"1\"],[\"NEXTEST_TEST_GROUP\",\"@global\"],\
+const IN_NO_GROUP: &str =
+    "[\"NEXTEST_TEST_GLOBAL_SLOT\",\"1\"],[\"NEXTEST_TEST_GROUP\",\"@global\"],\
      [\"NEXTEST_TEST_GROUP_SLOT\",\"none\"],[\"NEXTEST_TEST_THREADS\",\"3\"],";
 
 const IN_GROUP: &str = "[\"NEXTEST_TEST_GLOBAL_SLOT\",\"0\"],[\"NEXTEST_TEST_GROUP\",\"g\"],\

@@ -54,9 +54,7 @@ fn plan(rt: &impl Abort, alloc: Global, of: Tests) -> Plan
 pub fn runner(rt: &impl Abort, alloc: Global, of: Tests) -> TestRunner {
     let mut builder = TestRunnerBuilder::default();
     builder.set_capture_strategy(CaptureStrategy::None);
-    builder
-        .build(alloc, plan(rt, alloc, of))
-        .expect(rt, MEMORY)
+    builder.build(alloc, plan(rt, alloc, of)).expect(rt, MEMORY)
 }
 
 fn exit(unit: u32, exit: ChildExit) -> Turn {

@@ -22,7 +22,8 @@ returns-then-may_come c =
     let ss = c.args.seats.now in
     let inside : c.loop-place.place < length cs = omega (arith, c.requires.1.paired) in
     let here : comes c.args.groups.now (get_or (zip cs ss) c.loop-place.place nobody) ≡ true =
-    ap (comes c.args.groups.now) (get_or_zip cs ss c.loop-place.place nobody.0 Waiting nobody inside c.loop-place-test.true)
+    ap (comes c.args.groups.now)
+    (get_or_zip cs ss c.loop-place.place nobody.0 Waiting nobody inside c.loop-place-test.true)
     ∙ sym c.may_come.ensures ∙ c.if-may_come.true in
     sym (found_at (comes c.args.groups.now) (zip cs ss) c.loop-place.place nobody
     (omega (arith, length_zip cs ss c.requires.1.paired)) c.loop-place.invariant here)
@@ -33,11 +34,13 @@ loop-place-preserved c =
     let ss = c.args.seats.now in
     let inside : c.loop-place.place < length cs = omega (arith, c.requires.1.paired) in
     let here : comes c.args.groups.now (get_or (zip cs ss) c.loop-place.place nobody) ≡ false =
-    ap (comes c.args.groups.now) (get_or_zip cs ss c.loop-place.place nobody.0 Waiting nobody inside c.loop-place-test.true)
+    ap (comes c.args.groups.now)
+    (get_or_zip cs ss c.loop-place.place nobody.0 Waiting nobody inside c.loop-place-test.true)
     ∙ sym c.may_come.ensures ∙ c.if-may_come.false in
     below_more _ _ c.loop-place.invariant here
 
 pub returns : goal.returns
 returns c =
     sym (found_none (comes c.args.groups.now) (zip c.args.claims.now c.args.seats.now) nobody
-    (λ k h. c.loop-place.invariant k (omega (arith, length_zip c.args.claims.now c.args.seats.now c.requires.1.paired))))
+    (λ k h. c.loop-place.invariant k
+    (omega (arith, length_zip c.args.claims.now c.args.seats.now c.requires.1.paired))))

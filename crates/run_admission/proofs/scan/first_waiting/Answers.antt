@@ -6,7 +6,8 @@ use Rattle.run_admission.proofs.scan.first_waiting.Goals as goal
 
 pub returns-then-is_waiting : goal.returns-then-is_waiting
 returns-then-is_waiting c =
-    sym (position_or_len_is is_waiting c.args.seats.now c.loop-place.place _ (omega arith) (λ k h. c.loop-place.invariant k h)
+    sym (position_or_len_is is_waiting c.args.seats.now c.loop-place.place _ (omega arith)
+    (λ k h. c.loop-place.invariant k h)
     (λ h. sym c.is_waiting.ensures ∙ c.if-is_waiting.true))
 
 pub returns : goal.returns

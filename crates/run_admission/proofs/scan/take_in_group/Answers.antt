@@ -7,7 +7,8 @@ use Rattle.run_admission.proofs.scan.take_in_group.Goals as goal
 pub take-requires : goal.take-requires
 take-requires c =
     let inside : c.in-Some.place < length c.args.groups.now = c.requires.there _ c.in-Some.is in
-    c.requires.room _ _ c.in-Some.is (slice_get-get_or c.args.groups.now c.in-Some.place c.index-groups-place.result inside)
+    c.requires.room _ _ c.in-Some.is
+    (slice_get-get_or c.args.groups.now c.in-Some.place c.index-groups-place.result inside)
 
 pub returns-in-Some-clause-slot : goal.returns-in-Some-clause-slot
 returns-in-Some-clause-slot c =

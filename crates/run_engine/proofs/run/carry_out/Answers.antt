@@ -22,7 +22,8 @@ returns-in-Ok-clause-takes g c =
     let told = c.in-Ok.ensures in
     takes_from g.R.Reporter.told g.C.Children.asked _ c.args.settings.now c.args.journal.now.items
     c.push_reserved.new.self.items c.args.state.now.board c.args.turn refused c.in-Ok.field-0.refusal
-    (ap (λ (h : Held). h.board) c.requires.stands) c.requires.enabled told.answered told.marked told.told told.asked told.faults
+    (ap (λ (h : Held). h.board) c.requires.stands) c.requires.enabled told.answered told.marked told.told told.asked
+    told.faults
     (c.push_reserved.ensures.items ∙ ap (λ j. j ++ entry_of c.args.turn refused ∷ []) c.act.ensures.same)
 
 pub returns-in-Ok-clause-runnable : goal.returns-in-Ok-clause-runnable

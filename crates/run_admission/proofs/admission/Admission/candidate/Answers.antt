@@ -32,8 +32,10 @@ returns-in-Some c =
     (sym c.first_to_come.ensures ∙ c.in-Some.is) in
     let inside = place_inside v.groups.items v.claims.items v.seats.items c.in-Some.place c.self.invariant.paired at in
     ap (λ x. Some x) c.candidate_at.ensures
-    ∙ sym (candidate_is v.first v.whole v.groups.items v.claims.items v.seats.items c.in-Some.place c.index-claim.result.now
-    c.self.invariant at (slice_get_read v.claims.items (length v.claims.items) c.in-Some.place c.index-claim.result.now refl
+    ∙ sym (candidate_is v.first v.whole v.groups.items v.claims.items v.seats.items c.in-Some.place
+    c.index-claim.result.now
+    c.self.invariant at (slice_get_read v.claims.items (length v.claims.items) c.in-Some.place
+    c.index-claim.result.now refl
     (omega (arith, inside, c.self.invariant.paired)) c.index-claim.ensures))
     ∙ ap candidate c.self.view_is
 
@@ -43,4 +45,5 @@ returns-in-None c =
     let at : position (comes v.groups.items) (zip v.claims.items v.seats.items) ≡ None =
     rw (sym c.deref.ensures.value, sym c.deref-2.ensures.value, sym c.deref-3.ensures.value)
     (sym c.first_to_come.ensures ∙ c.in-None.is) in
-    sym (no_candidate v.first v.whole v.groups.items v.claims.items v.seats.items c.self.invariant at) ∙ ap candidate c.self.view_is
+    sym (no_candidate v.first v.whole v.groups.items v.claims.items v.seats.items c.self.invariant at)
+    ∙ ap candidate c.self.view_is

@@ -12,8 +12,10 @@ pub give_back-requires : goal.give_back-requires
 give_back-requires c =
     let v = c.self.inside in
     let can = may_leave v.first v.whole v.groups.items v.claims.items v.seats.items c.args.test _ _ c.index.result.now
-    c.self.invariant (ap (λ a. is_test_in_use a c.args.test) c.self.view_is ∙ c.requires) c.index.ensures c.in-InUse.is in
-    let of = get_or_read v.claims.items c.args.test c.index-claim.result.now (omega (arith, can.inside, c.self.invariant.paired))
+    c.self.invariant (ap (λ a. is_test_in_use a c.args.test) c.self.view_is
+    ∙ c.requires) c.index.ensures c.in-InUse.is in
+    let of = get_or_read v.claims.items c.args.test c.index-claim.result.now
+    (omega (arith, can.inside, c.self.invariant.paired))
     c.index-claim.ensures nobody.0 in
     subst (λ (d : Claim). CanGive v.whole c.in-InUse.global d.weight) (sym of) can.can
 
@@ -21,8 +23,10 @@ pub give_in_group-requires-clause-there : goal.give_in_group-requires-clause-the
 give_in_group-requires-clause-there c =
     let v = c.self.inside in
     let can = may_leave v.first v.whole v.groups.items v.claims.items v.seats.items c.args.test _ _ c.index.result.now
-    c.self.invariant (ap (λ a. is_test_in_use a c.args.test) c.self.view_is ∙ c.requires) c.index.ensures c.in-InUse.is in
-    let of = get_or_read v.claims.items c.args.test c.index-claim.result.now (omega (arith, can.inside, c.self.invariant.paired))
+    c.self.invariant (ap (λ a. is_test_in_use a c.args.test) c.self.view_is
+    ∙ c.requires) c.index.ensures c.in-InUse.is in
+    let of = get_or_read v.claims.items c.args.test c.index-claim.result.now
+    (omega (arith, can.inside, c.self.invariant.paired))
     c.index-claim.ensures nobody.0 in
     λ g e. omega (
       arith,
@@ -34,8 +38,10 @@ pub give_in_group-requires-clause-held : goal.give_in_group-requires-clause-held
 give_in_group-requires-clause-held c =
     let v = c.self.inside in
     let can = may_leave v.first v.whole v.groups.items v.claims.items v.seats.items c.args.test _ _ c.index.result.now
-    c.self.invariant (ap (λ a. is_test_in_use a c.args.test) c.self.view_is ∙ c.requires) c.index.ensures c.in-InUse.is in
-    let of = get_or_read v.claims.items c.args.test c.index-claim.result.now (omega (arith, can.inside, c.self.invariant.paired))
+    c.self.invariant (ap (λ a. is_test_in_use a c.args.test) c.self.view_is
+    ∙ c.requires) c.index.ensures c.in-InUse.is in
+    let of = get_or_read v.claims.items c.args.test c.index-claim.result.now
+    (omega (arith, can.inside, c.self.invariant.paired))
     c.index-claim.ensures nobody.0 in
     λ g n u e slot at. subst (λ (d : Claim). CanGive u n d.weight) (sym of)
     (can.cans g n u (ap (λ (d : Claim). d.group) (sym of) ∙ e) slot
@@ -45,7 +51,8 @@ pub invariant_of-self : goal.invariant_of-self
 invariant_of-self c =
     let v = c.self.inside in
     let can = may_leave v.first v.whole v.groups.items v.claims.items v.seats.items c.args.test _ _ c.index.result.now
-    c.self.invariant (ap (λ a. is_test_in_use a c.args.test) c.self.view_is ∙ c.requires) c.index.ensures c.in-InUse.is in
+    c.self.invariant (ap (λ a. is_test_in_use a c.args.test) c.self.view_is
+    ∙ c.requires) c.index.ensures c.in-InUse.is in
     let claim = c.index-claim.result.now in
     let of = get_or_read v.claims.items c.args.test claim (omega (arith, can.inside, c.self.invariant.paired))
     c.index-claim.ensures nobody.0 in

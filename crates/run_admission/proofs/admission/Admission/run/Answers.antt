@@ -16,7 +16,8 @@ take-global-requires c =
     let v = c.self.inside in
     let can = can_run v.first v.whole v.groups.items v.claims.items v.seats.items c.args.test c.self.invariant
     (ap candidate c.self.view_is ∙ c.requires) in
-    let of = get_or_read v.claims.items c.args.test c.index-claim.result.now (omega (arith, can.inside, c.self.invariant.paired))
+    let of = get_or_read v.claims.items c.args.test c.index-claim.result.now
+    (omega (arith, can.inside, c.self.invariant.paired))
     c.index-claim.ensures nobody.0 in
     subst (λ (d : Claim). CanTake v.whole d.weight) (sym of) can.can
 
@@ -25,7 +26,8 @@ take_in_group-group-requires-clause-there c =
     let v = c.self.inside in
     let can = can_run v.first v.whole v.groups.items v.claims.items v.seats.items c.args.test c.self.invariant
     (ap candidate c.self.view_is ∙ c.requires) in
-    let of = get_or_read v.claims.items c.args.test c.index-claim.result.now (omega (arith, can.inside, c.self.invariant.paired))
+    let of = get_or_read v.claims.items c.args.test c.index-claim.result.now
+    (omega (arith, can.inside, c.self.invariant.paired))
     c.index-claim.ensures nobody.0 in
     λ g e. omega (
       arith,
@@ -38,10 +40,12 @@ take_in_group-group-requires-clause-room c =
     let v = c.self.inside in
     let can = can_run v.first v.whole v.groups.items v.claims.items v.seats.items c.args.test c.self.invariant
     (ap candidate c.self.view_is ∙ c.requires) in
-    let of = get_or_read v.claims.items c.args.test c.index-claim.result.now (omega (arith, can.inside, c.self.invariant.paired))
+    let of = get_or_read v.claims.items c.args.test c.index-claim.result.now
+    (omega (arith, can.inside, c.self.invariant.paired))
     c.index-claim.ensures nobody.0 in
     λ g u e at. subst (λ (d : Claim). CanTake u d.weight) (sym of)
-    (can.cans g u (ap (λ (d : Claim). d.group) (sym of) ∙ e) (ap (λ l. slice_get l g) (sym c.deref_mut.ensures.value) ∙ at))
+    (can.cans g u (ap (λ (d : Claim). d.group) (sym of) ∙ e) (ap (λ l. slice_get l g) (sym c.deref_mut.ensures.value)
+    ∙ at))
 
 pub index_mut-requires : goal.index_mut-requires
 index_mut-requires c =
@@ -82,7 +86,8 @@ invariant_of-self c =
     ∙ ap (λ l. take_in l claim.group c.args.test claim.weight) c.deref_mut.ensures.value in
     let many : length c.take_in_group-group.new.groups ≡ v.groups.len =
     omega (arith, ap length after, length_take_in v.groups.items claim.group c.args.test claim.weight) in
-    run_kept v.first _ v.whole _ v.groups.items (with_items v.groups c.take_in_group-group.new.groups).items v.claims.items
+    run_kept v.first _ v.whole _ v.groups.items (with_items v.groups c.take_in_group-group.new.groups).items
+    v.claims.items
     v.seats.items c.args.test _ _ claim c.self.invariant is of c.take-global.ensures.slot
     (c.take_in_group-group.ensures.slot ∙ ap (λ l. free_within l claim.group) c.deref_mut.ensures.value)
     c.take-global.ensures.after (with_items_is v.groups c.take_in_group-group.new.groups many ∙ after)
@@ -114,7 +119,8 @@ returns-clause-after c =
     ∙ ap (λ l. take_in l claim.group c.args.test claim.weight) c.deref_mut.ensures.value in
     let many : length c.take_in_group-group.new.groups ≡ v.groups.len =
     omega (arith, ap length after, length_take_in v.groups.items claim.group c.args.test claim.weight) in
-    run_seen v.first v.whole _ v.groups.items (with_items v.groups c.take_in_group-group.new.groups).items v.claims.items
+    run_seen v.first v.whole _ v.groups.items (with_items v.groups c.take_in_group-group.new.groups).items
+    v.claims.items
     v.seats.items c.args.test _ _ claim c.self.invariant is of c.take-global.ensures.slot
     (c.take_in_group-group.ensures.slot ∙ ap (λ l. free_within l claim.group) c.deref_mut.ensures.value)
     c.take-global.ensures.after (with_items_is v.groups c.take_in_group-group.new.groups many ∙ after)
