@@ -37,8 +37,8 @@ sample gives four events, one ask, and
   {\"outcome\":\"success\"}
 
 The status is 0 for success, 4 where no test was run, 100 for a failed or cancelled run, 105 for one that
-a setup script ended, and else the fault's: 2 for bad words, 3 for a bad line, 5 for a plan that repeats
-a test, 6 for a turn that is not enabled, 8 for a run that is not over, 9 for a failed write, 10 for a
+a setup script ended, and else the fault's: 2 for bad words, 3 for a bad line, 5 for a plan that breaks
+a rule, 6 for a turn that is not enabled, 8 for a run that is not over, 9 for a failed write, 10 for a
 failed read, 11 for want of memory, 12 for an input that is too long. Of each fault one sentence on standard
 error says what it means.
 
@@ -53,9 +53,9 @@ const LINE: &str = "a line of the input is not as docs/FORMATS.md says, and no t
     the fault's \"line\" is the number of the first such line, counted from 1, so that the plan \
     is line 1 and the turn t, counted from 0, is line t + 2";
 
-const PLAN: &str = "the plan, which is line 1 of the input, has two tests with one binary \
-    and one name, and no turn was taken: the fault's \"test\" is the place in \"tests\", counted \
-    from 0, of the first test that repeats an earlier one";
+const PLAN: &str = "the plan, which is line 1 of the input, breaks a rule, and no turn was taken: \
+    the fault's \"kind\" names the rule, and its \"test\" or \"group\" is the place in \"tests\" or \
+    \"groups\", counted from 0, of the first that breaks one; without either, \"threads\" is 0";
 
 const NOT_ENABLED: &str = "a turn of the input is not enabled after the turns before it, \
     which were all taken: the fault's \"turn\" is its place among the turns, counted from 0, and \
