@@ -26,10 +26,10 @@ pub enum TestRunnerBuildError {
     #[error("two tests of the plan have one id")]
     DuplicateTest { test: u32 },
     /// The test at this place names a group that the plan has not.
-    #[error("a test names a group that the plan has not")]
+    #[error("one of the tests names a group that the plan has not")]
     UnknownGroup { test: u32 },
     /// The test at this place has weight 0.
-    #[error("a test has weight 0")]
+    #[error("one of the tests has weight 0")]
     ZeroWeight { test: u32 },
     #[error("out of memory")]
     OutOfMemory,
