@@ -84,18 +84,9 @@ few_plan_tests d tests e =
     let fewer : length read.0 < 2 ^ 32 = grind (arith, when_is (nat_lt (length read.0) 4294967296) last.0 last.1) in
     subst (λ (ts : List PlanTest). length ts < 2 ^ 32) (same_Some read.0 tests last.2) fewer
 
--- the groups of a plan are few
-few_plan_groups : (d : Option Data) (groups : List Group) → plan_groups_of d ≡ Some groups → length groups < 2 ^ 32
-few_plan_groups d groups e =
-    let read = then_some (or_usual [] groups_of d)
-    (λ gs. option_and_then (λ _. Some gs) (when (nat_lt (length gs) 4294967296))) groups e in
-    let last = then_some (when (nat_lt (length read.0) 4294967296)) (λ _. Some read.0) groups read.2 in
-    let fewer : length read.0 < 2 ^ 32 = grind (arith, when_is (nat_lt (length read.0) 4294967296) last.0 last.1) in
-    subst (λ (gs : List Group). length gs < 2 ^ 32) (same_Some read.0 groups last.2) fewer
-
--- a plan that a line says has few units and few groups
+-- a plan that a line says has few units
 abbrev pub IsFew : Plan → Type 0
-IsFew plan = (length plan.scripts + length plan.tests < 2 ^ 32) × (length plan.groups < 2 ^ 32)
+IsFew plan = length plan.scripts + length plan.tests < 2 ^ 32
 
 few_plan : (run_id : List ℕ) (groups tests : Option Data) (plan : Plan) → plan_with run_id groups tests ≡ Some plan
     → IsFew plan
@@ -105,8 +96,7 @@ few_plan run_id groups tests plan e =
     let ts = then_some (plan_tests_of tests) (λ ts. Some (record (usual_plan run_id ts) { groups = gs.0 })) plan gs.2 in
     let fewer = few_plan_tests tests ts.0 ts.1 in
     let few : 0 + length ts.0 < 2 ^ 32 = omega arith in
-    subst IsFew (same_Some (record (usual_plan run_id ts.0) { groups = gs.0 }) plan ts.2)
-    (few, few_plan_groups groups gs.0 gs.1)
+    subst IsFew (same_Some (record (usual_plan run_id ts.0) { groups = gs.0 }) plan ts.2) few
 
 few_line : (d : Data) (keys : RunnerKeys) (plan : Plan) → plan_of d ≡ Some (keys, plan) → IsFew plan
 unfolding plan_of
@@ -127,7 +117,7 @@ few_line d keys plan e =
     let pair : (b.0, f.0) ≡ (keys, plan) = same_Some (b.0, f.0) (keys, plan) f.2 in
     subst IsFew (ap (λ (q : RunnerKeys × Plan). q.1) pair) (few_plan c.0 groups tests f.0 f.1)
 
--- an input has few units, few groups and few turns
+-- an input has few units and few turns
 pub given_few : (r : Reading) (keys : RunnerKeys) (plan : Plan) (turns : List Turn)
     → IsGiven r keys plan turns
     → IsFew plan × (length turns < 2 ^ 32)

@@ -74,7 +74,6 @@ fn fault_of_plan(error: TestRunnerBuildError) -> Fault
 // Carries out what an input says.
 fn replay_input<K: Sink>(alloc: Global, input: Input, sink: K) -> Ended<K>
     requires units { length input.plan.scripts + length input.plan.tests < 2 ^ 32 }
-    requires groups { length input.plan.groups < 2 ^ 32 }
     requires turns { length input.turns < 2 ^ 32 }
     ensures { IsInputEnding input.keys input.plan input.turns (writing K.taken K.faults sink result.sink)
         result.ending }

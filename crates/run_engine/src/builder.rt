@@ -15,6 +15,9 @@ use std::alloc::Global;
 use std::collections::BTreeSet;
 use std::marker::Model;
 
+// The most groups that refusals can number. A plan of more takes over 100 GB.
+const MOST_GROUPS: usize = 4_294_967_295;
+
 /// What is set of a runner beside its plan: how the output of tests is captured, and how many tests run at a time.
 #[derive(Debug, Drop)]
 pub struct TestRunnerBuilder {
@@ -76,15 +79,18 @@ impl TestRunnerBuilder {
         }
     }
 
-    /// The runner of a plan of fewer than 2^32 units and fewer than 2^32 groups. A plan is refused exactly where it
-    /// breaks a rule, with the first that it breaks: no limit is 0, no two tests have one id, each group that a test
-    /// names is there, and no weight is 0.
+    /// The runner of a plan of fewer than 2^32 units. A plan is refused exactly where it breaks a rule, with the first
+    /// that it breaks: no limit is 0, no two tests have one id, each group that a test names is there, and no weight is
+    /// 0. One of 2^32 groups or more, which refusals can't number, counts as too much for memory.
     pub fn build(self, alloc: Global, plan: Plan) -> Result<TestRunner, TestRunnerBuildError>
-        requires units { length plan.scripts + length plan.tests < 2 ^ 32 }
-        requires groups { length plan.groups < 2 ^ 32 }
+        requires { length plan.scripts + length plan.tests < 2 ^ 32 }
         ensures built { IsBuilt self plan result }
     {
         let threads = self.effective_threads();
+        if plan.groups.len() > MOST_GROUPS {
+            drop(plan);
+            return Err(TestRunnerBuildError::OutOfMemory);
+        }
         match refusal(alloc, threads, &plan) {
             Err(_) => {
                 drop(plan);

@@ -45,7 +45,6 @@ fn planned_tests(rt: &impl Abort, alloc: Global, of: Tests) -> List<PlanTest>
 
 fn plan(rt: &impl Abort, alloc: Global, of: Tests) -> Plan
     ensures scripts { result.scripts ≡ [] }
-    ensures groups { result.groups ≡ [] }
     ensures tests { length result.tests ≤ 2 }
 {
     let tests = planned_tests(rt, alloc, of);

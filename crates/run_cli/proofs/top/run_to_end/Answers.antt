@@ -4,11 +4,7 @@ use Rattle.run_cli.proofs.top.run_to_end.Goals as goal
 
 pub replay_input-requires-clause-units : goal.replay_input-requires-clause-units
 replay_input-requires-clause-units g c =
-    (given_few _ c.in-Ok.input.keys c.in-Ok.input.plan c.in-Ok.input.turns c.in-Ok.ensures.given).0.0
-
-pub replay_input-requires-clause-groups : goal.replay_input-requires-clause-groups
-replay_input-requires-clause-groups g c =
-    (given_few _ c.in-Ok.input.keys c.in-Ok.input.plan c.in-Ok.input.turns c.in-Ok.ensures.given).0.1
+    (given_few _ c.in-Ok.input.keys c.in-Ok.input.plan c.in-Ok.input.turns c.in-Ok.ensures.given).0
 
 pub replay_input-requires-clause-turns : goal.replay_input-requires-clause-turns
 replay_input-requires-clause-turns g c =
