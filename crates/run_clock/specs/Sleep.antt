@@ -12,6 +12,10 @@ pub record Sleep : Type 0 where
   pub last_duration : ℕ
   pub state : SleepState
 
+-- one of this duration that is set at this moment, running
+abbrev pub set_at : ℕ → ℕ → Sleep
+set_at now duration = record { latest = now; last_duration = duration; state = Running (now + duration) }
+
 -- whether a sleep is paused
 abbrev pub is_stopped : SleepState → Bool
 is_stopped (Running deadline) = false

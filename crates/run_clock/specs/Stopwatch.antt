@@ -1,5 +1,5 @@
 -- What contracts see of a stopwatch, and the history that it times.
-use Rattle.std.specs.Prelude.{ℕ, ◌≡◌, ◌-◌, List, ◌∷◌, Option, is_some, unwrap_or}
+use Rattle.std.specs.Prelude.{ℕ, ◌≡◌, ◌-◌, List, ◌∷◌, Option, None, is_some, unwrap_or}
 use Rattle.run_clock.specs.Counted.{Act, Mark, mark_of, is_paused, IsInOrder, counted_time}
 
 -- a stopwatch: the latest moment that it was given, its start, the time of its closed pauses, and where a pause
@@ -9,6 +9,10 @@ pub record Watch : Type 0 where
   pub start : ℕ
   pub paused : ℕ
   pub opened : Option ℕ
+
+-- one that starts at this moment, running
+abbrev pub started_at : ℕ → Watch
+started_at now = record { latest = now; start = now; paused = 0; opened = None }
 
 -- the active time by now
 abbrev pub active_by : Watch → ℕ → ℕ

@@ -1,8 +1,7 @@
 // A sleep that can be paused.
 ghost use Rattle.std.specs.Prelude.{◌≡◌, ◌+◌, ◌≤◌, []};
-ghost use Rattle.run_clock.specs.declared.sleep_state.SleepState.TheVariants.{Running};
 ghost use Rattle.run_clock.specs.Counted.{pause, resume, is_paused, is_due};
-ghost use Rattle.run_clock.specs.Sleep.{is_stopped, paused_at, resumed_at, reset_at, fires_at, IsOutOfReach};
+ghost use Rattle.run_clock.specs.Sleep.{set_at, is_stopped, paused_at, resumed_at, reset_at, fires_at, IsOutOfReach};
 ghost use Rattle.run_clock.specs.Sleep.{ready_where, Keeps, ForTimer, ForTimerBy, AddsToTimer, SetsAgain};
 
 use crate::poll::Poll;
@@ -32,11 +31,7 @@ impl Model for PausableSleep {
 impl PausableSleep {
     /// Starts a sleep, running, whose deadline is now plus its duration. One past the greatest `u64` never fires.
     pub fn new(now: u64, duration: u64) -> Self
-        ensures started { result ≡ record {
-          latest = now;
-          last_duration = duration;
-          state = Running (now + duration);
-        } }
+        ensures started { result ≡ set_at now duration }
         ensures timer { Keeps (record { set = now; duration = duration; past = [] }) result }
     {
         PausableSleep {

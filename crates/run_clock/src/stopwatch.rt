@@ -1,7 +1,7 @@
 // A stopwatch that can be paused.
 ghost use Rattle.std.specs.Prelude.{◌≡◌, ◌+◌, ◌-◌, ◌≤◌, [], is_some, IsSome, IsNone, IfSome, Option, Some, None};
 ghost use Rattle.run_clock.specs.Counted.{pause, resume, is_paused, counted_time, paused_time};
-ghost use Rattle.run_clock.specs.Stopwatch.{active_by, Times, ForHistory, ForHistoryBy, AddsToHistory};
+ghost use Rattle.run_clock.specs.Stopwatch.{started_at, active_by, Times, ForHistory, ForHistoryBy, AddsToHistory};
 
 use std::marker::Model;
 
@@ -41,7 +41,7 @@ pub struct StopwatchSnapshot {
 impl StopwatchStart {
     /// Starts a stopwatch, running.
     pub fn new(now: u64) -> Self
-        ensures started { result ≡ record { latest = now; start = now; paused = 0; opened = None } }
+        ensures started { result ≡ started_at now }
         ensures history { Times now [] result }
     {
         StopwatchStart {

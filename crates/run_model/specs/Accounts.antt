@@ -13,7 +13,8 @@ use Rattle.run_events.specs.declared.events.TestEventKind.TheVariants.{TestStart
 use Rattle.run_events.specs.declared.events.TestEventKind.TheVariants.{TestRetryStarted, TestFinished, TestSkipped}
 use Rattle.run_model.specs.declared.happening.Happening.{Happening}
 use Rattle.run_model.specs.declared.phase.Phase.{Phase}
-use Rattle.run_model.specs.declared.phase.Phase.TheVariants.{StartSent, Starting, Running, Leak, Deciding, Over}
+use Rattle.run_model.specs.declared.phase.Phase.TheVariants.{StartSent, Starting, Running, Grace, KillWait, Leak}
+use Rattle.run_model.specs.declared.phase.Phase.TheVariants.{Deciding, Over}
 use Rattle.run_model.specs.declared.unit_view.UnitView.{UnitView}
 use Rattle.run_model.specs.Admission.{unit_of_test}
 use Rattle.run_model.specs.Words.{told, queue, unit_of}
@@ -71,6 +72,8 @@ abbrev pub HasAccountIn : Phase → List ExecuteStatus → List News → List Ne
 HasAccountIn StartSent [] t q = (t ≡ []) × (q ≡ started ∷ [])
 HasAccountIn Starting [] t q = (t ≡ started ∷ []) × (q ≡ [])
 HasAccountIn Running [] t q = (t ≡ started ∷ []) × (q ≡ [])
+HasAccountIn Grace [] t q = (t ≡ started ∷ []) × (q ≡ [])
+HasAccountIn KillWait [] t q = (t ≡ started ∷ []) × (q ≡ [])
 HasAccountIn Leak [] t q = (t ≡ started ∷ []) × (q ≡ [])
 HasAccountIn Deciding (s ∷ []) t q = (t ≡ started ∷ []) × (q ≡ [])
 HasAccountIn Over [] t q = (t ≡ []) × (q ≡ [])

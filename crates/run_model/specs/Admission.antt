@@ -4,6 +4,8 @@ use Rattle.std.specs.Prelude.{option_and_then, map, length, take, drop, count_by
 use Rattle.std.specs.List.{list_all}
 use Rattle.run_capture.specs.Output.{uncaptured}
 use Rattle.run_capture.specs.Captured.{begun}
+use Rattle.run_clock.specs.Stopwatch.{started_at}
+use Rattle.run_events.specs.Usual.{usual_slow, usual_leak}
 use Rattle.run_events.specs.declared.settings.Settings.{Settings}
 use Rattle.run_events.specs.declared.result.FlakyResult.{FlakyResult}
 use Rattle.run_events.specs.declared.plan.PlanTest.{PlanTest}
@@ -18,6 +20,7 @@ use Rattle.run_admission.specs.declared.seat.Admitted.TheVariants.{Skip as Skipp
 use Rattle.run_admission.specs.InUse.{Admissions, claim_of, admitted}
 use Rattle.run_model.specs.declared.phase.Phase.{Phase}
 use Rattle.run_model.specs.declared.phase.Phase.TheVariants.{StartSent, Over}
+use Rattle.run_model.specs.declared.unit_view.AttemptTerms.{AttemptTerms}
 use Rattle.run_model.specs.declared.unit_view.UnitView.{UnitView}
 
 -- whether a phase is the last one
@@ -61,6 +64,17 @@ matched_in p = count_by is_matched p.plan.tests
 abbrev pub flaky_of : Settings → PlanTest → FlakyResult
 flaky_of p test = unwrap_or p.flaky_result test.flaky
 
+-- on which terms the attempts of a test run, and of the test at a place: where there is none, those of a usual test
+abbrev pub terms_of : Settings → PlanTest → AttemptTerms
+terms_of p test = record { strategy = p.capture; slow = test.slow; leak = test.leak }
+
+abbrev pub terms_if : Settings → Option PlanTest → AttemptTerms
+terms_if p None = record { strategy = p.capture; slow = usual_slow; leak = usual_leak }
+terms_if p (Some test) = terms_of p test
+
+abbrev pub terms_at : Settings → ℕ → AttemptTerms
+terms_at p j = terms_if p (slice_get p.plan.tests j)
+
 -- a slot outside of all groups
 abbrev pub global_slot : ℕ → TestSlotAssignment
 global_slot n = record { global = n; group = None }
@@ -82,10 +96,10 @@ first_view p k slot test = record {
   flaky = flaky_of p test;
   run_id = p.plan.head.run_id;
   threads = p.threads;
-  strategy = p.capture;
+  terms = terms_of p test;
   phase = StartSent;
   attempt = 1;
-  start = 0;
+  timers = record { stopwatch = started_at 0; slow = None; wait = None; slow_count = 0 };
   latest = 0;
   capture = begun uncaptured;
   exit = None;

@@ -1,7 +1,8 @@
--- The attempts of a unit by its own turns alone: its story, cut where it was let go. Nothing here knows the unit table.
-use Rattle.std.specs.Prelude.{ℕ, ◌+◌, ◌-◌, ◌==◌, List, [], ◌∷◌, ◌++◌, length, Bool, true, false, ◌&&◌, ◌||◌}
+-- The attempts of a unit by its own turns alone. Nothing here knows the unit table.
+use Rattle.std.specs.Prelude.{ℕ, ◌+◌, List, [], ◌∷◌, ◌++◌, length, Bool, true, false, not, ◌&&◌, ◌||◌, nat_lt}
 use Rattle.std.specs.Prelude.{if◌then◌else◌, Option, Some, None, option_to_list, is_some, unwrap_or}
 use Rattle.std.specs.Option.{option_or}
+use Rattle.run_clock.specs.Counted.{counted_time}
 use Rattle.run_capture.specs.Output.{uncaptured}
 use Rattle.run_capture.specs.Heard.{is_stream}
 use Rattle.run_capture.specs.Captured.{read_error}
@@ -19,56 +20,16 @@ use Rattle.run_events.specs.declared.result.ChildExecutionOutput.{ChildExecution
 use Rattle.run_events.specs.declared.result.ChildExecutionOutput.TheVariants.{Output, StartError}
 use Rattle.run_events.specs.declared.result.ExecuteStatus.{ExecuteStatus}
 use Rattle.run_events.specs.declared.result.ExecutionResult.{ExecutionResult}
-use Rattle.run_events.specs.declared.result.ExecutionResult.TheVariants.{ExecFail}
-use Rattle.run_events.specs.declared.result.LeakTimeoutResult.TheVariants.{Pass}
+use Rattle.run_events.specs.declared.result.ExecutionResult.TheVariants.{ExecFail, Timeout}
 use Rattle.run_events.specs.declared.settings.Settings.{Settings}
 use Rattle.run_model.specs.declared.happening.Happening.{Happening}
-use Rattle.run_model.specs.declared.happening.UnitPart.{UnitPart}
-use Rattle.run_model.specs.declared.happening.UnitPart.TheVariants.{Acts}
 use Rattle.run_model.specs.declared.unit_turn.UnitTurn.{UnitTurn}
-use Rattle.run_model.specs.declared.unit_turn.UnitTurn.TheVariants.{Answered, StartFailed, Exit, WaitFailed}
+use Rattle.run_model.specs.declared.unit_turn.UnitTurn.TheVariants.{StartFailed, Exit, WaitFailed}
 use Rattle.run_model.specs.declared.unit_turn.UnitTurn.TheVariants.{Piece, StreamEnd, ReadError}
-use Rattle.run_model.specs.Admission.{unit_of_test}
-
--- a unit's own turn, at a moment of the run's clock
-pub record OwnTurn : Type 0 where
-  pub moment : ℕ
-  pub turn : UnitTurn
-
--- the turn of unit k, if this part is its own
-abbrev pub own_turn : ℕ → ℕ → Option UnitPart → Option OwnTurn
-own_turn k now (Some (Acts j turn)) = if j == k then Some (record { moment = now; turn = turn }) else None
-own_turn k now _ = None
-
--- the story of unit k in a sub-run: its own turns, the newest first
-abbrev pub story_of : ℕ → List Happening → List OwnTurn
-story_of k [] = []
-story_of k (x ∷ run) = option_to_list (own_turn k x.moment x.part) ++ story_of k run
-
--- an attempt begins where its unit is let go
-abbrev pub begins_attempt : UnitTurn → Bool
-begins_attempt (Answered go) = go
-begins_attempt _ = false
-
--- the pieces of a story, one for each attempt: each begins with the turn that let it go, and what comes before the
--- first of these is in none. The newest piece stands first, and in each its newest turn
-abbrev pub with_turn : OwnTurn → List (List OwnTurn) → List (List OwnTurn)
-with_turn t [] = []
-with_turn t (piece ∷ earlier) = (t ∷ piece) ∷ earlier
-
-abbrev pub pieces : List OwnTurn → List (List OwnTurn)
-pieces [] = []
-pieces (t ∷ before) = if begins_attempt t.turn then (t ∷ []) ∷ pieces before else with_turn t (pieces before)
-
--- what the first of some turns that says anything says
-abbrev pub first_said : {X : Type 0} → (OwnTurn → Option X) → List OwnTurn → Option X
-first_said say [] = None
-first_said say (t ∷ before) = option_or (first_said say before) (say t)
-
--- whether one of some turns is such a turn
-abbrev pub any_is : (UnitTurn → Bool) → List OwnTurn → Bool
-any_is is [] = false
-any_is is (t ∷ before) = is t.turn || any_is is before
+use Rattle.run_model.specs.declared.unit_view.AttemptTerms.{AttemptTerms}
+use Rattle.run_model.specs.Story.{OwnTurn, story_of, pieces, begins_attempt, first_said, any_is}
+use Rattle.run_model.specs.Timing.{ends_wait, slow_count, has_timed_out, has_leaked, timer_of, is_timer_due_at}
+use Rattle.run_model.specs.Admission.{unit_of_test, terms_at}
 
 -- when an attempt began
 abbrev pub moment_if : (UnitTurn → Bool) → OwnTurn → Option ℕ
@@ -134,62 +95,57 @@ are_streams_done strategies.None piece = true
 are_streams_done strategies.Split piece = is_stream_done Stdout piece && is_stream_done Stderr piece
 are_streams_done strategies.Combined piece = is_stream_done Combined piece
 
--- a child is waited for until it ended, or the wait for it failed
-abbrev pub ends_wait : UnitTurn → Bool
-ends_wait (Exit exit) = true
-ends_wait (WaitFailed error) = true
-ends_wait _ = false
-
--- an attempt has ended where its start was refused, or its child is waited for no more and its streams are done
-abbrev pub has_ended : CaptureStrategy → List OwnTurn → Bool
-has_ended strategy piece =
-    is_some (start_error_of piece) || (any_is ends_wait piece && are_streams_done strategy piece)
+-- an attempt has ended where its start was refused, or its child is waited for no more and its streams are done or
+-- were waited for as long as they may be
+abbrev pub has_ended : AttemptTerms → List OwnTurn → Bool
+has_ended terms piece =
+    is_some (start_error_of piece)
+    || (any_is ends_wait piece && (are_streams_done terms.strategy piece || has_leaked piece))
 
 -- when it ended, if it has: at the first turn after which it has ended
-abbrev pub end_of : CaptureStrategy → List OwnTurn → Option ℕ
-end_of strategy [] = None
-end_of strategy (t ∷ before) =
-    option_or (end_of strategy before) (if has_ended strategy (t ∷ before) then Some t.moment else None)
+abbrev pub end_of : AttemptTerms → List OwnTurn → Option ℕ
+end_of terms [] = None
+end_of terms (t ∷ before) =
+    option_or (end_of terms before) (if has_ended terms (t ∷ before) then Some t.moment else None)
 
--- how long it took: no pause exists yet
-abbrev pub time_of : CaptureStrategy → List OwnTurn → ℕ
-time_of strategy piece = unwrap_or (end_of strategy piece) 0 - start_of piece
+-- how long it took: the counted time from its start to its end, in which there is no pause yet
+abbrev pub time_of : AttemptTerms → List OwnTurn → ℕ
+time_of terms piece = counted_time (start_of piece) [] (unwrap_or (end_of terms piece) 0)
 
--- its result: it failed to run where its start was refused, at an error, and where its child wasn't seen to end; else
--- it is as its child ended. It lasts until its streams are done, so nothing leaks
-abbrev pub result_by : Option (List ℕ) → Option ChildExit → List ChildFdError → ExecutionResult
-result_by (Some error) exit errors = ExecFail
-result_by None exit errors = execution_result exit errors false Pass
+-- its result: it failed to run where its start was refused, and is a timeout where it has run out of time, whatever its
+-- exit and its errors; else it is as its child ended, by its errors and by whether it leaked
+abbrev pub result_by : AttemptTerms → List OwnTurn → Option (List ℕ) → ExecutionResult
+result_by terms piece (Some error) = ExecFail
+result_by terms piece None =
+    if has_timed_out terms.slow piece
+    then Timeout terms.slow.on_timeout
+    else execution_result (exit_of piece) (errors_of piece) (has_leaked piece) terms.leak.result
 
 -- what came of its child
 abbrev pub output_by : Option (List ℕ) → ChildOutput → List ChildFdError → ChildExecutionOutput
 output_by (Some error) output errors = StartError error
 output_by None output errors = Output output errors
 
--- whether it was reported slow: no turn does that yet
-abbrev pub is_slow : List OwnTurn → Bool
-is_slow piece = false
-
--- the status of a piece as the attempt of this number, of so many at most, with this strategy: no delay comes before
--- one yet
-abbrev pub status_of : CaptureStrategy → ℕ → ℕ → List OwnTurn → ExecuteStatus
-status_of strategy attempts attempt piece = record {
+-- the status of a piece as the attempt of this number, of so many at most, on these terms: it is slow where it was
+-- so once at least, and no delay comes before one yet
+abbrev pub status_of : AttemptTerms → ℕ → ℕ → List OwnTurn → ExecuteStatus
+status_of terms attempts attempt piece = record {
   attempt = attempt;
   attempts = attempts;
   delay = 0;
-  result = result_by (start_error_of piece) (exit_of piece) (errors_of piece);
-  output = output_by (start_error_of piece) (output_of strategy piece) (errors_of piece);
-  slow = is_slow piece;
+  result = result_by terms piece (start_error_of piece);
+  output = output_by (start_error_of piece) (output_of terms.strategy piece) (errors_of piece);
+  slow = nat_lt 0 (slow_count terms.slow piece);
   start = start_of piece;
-  time = time_of strategy piece;
+  time = time_of terms piece;
 }
 
 -- the statuses of the pieces that have ended, in order: the first piece is attempt 1
-abbrev pub ended_statuses : CaptureStrategy → ℕ → List (List OwnTurn) → List ExecuteStatus
-ended_statuses strategy attempts [] = []
-ended_statuses strategy attempts (piece ∷ earlier) =
-    ended_statuses strategy attempts earlier
-    ++ (if has_ended strategy piece then status_of strategy attempts (length earlier + 1) piece ∷ [] else [])
+abbrev pub ended_statuses : AttemptTerms → ℕ → List (List OwnTurn) → List ExecuteStatus
+ended_statuses terms attempts [] = []
+ended_statuses terms attempts (piece ∷ earlier) =
+    ended_statuses terms attempts earlier
+    ++ (if has_ended terms piece then status_of terms attempts (length earlier + 1) piece ∷ [] else [])
 
 -- which attempt a unit is at, and when that began: before the first it is at attempt 1
 abbrev pub attempt_in : List (List OwnTurn) → ℕ
@@ -200,6 +156,11 @@ abbrev pub start_in : List (List OwnTurn) → ℕ
 start_in [] = 0
 start_in (piece ∷ earlier) = start_of piece
 
+-- whether the timer of its attempt is due at a moment: one that has ended has none
+abbrev pub is_due_in : AttemptTerms → ℕ → List (List OwnTurn) → Bool
+is_due_in terms now [] = false
+is_due_in terms now (piece ∷ earlier) = not (has_ended terms piece) && is_timer_due_at now (timer_of terms piece)
+
 -- how many retries the test at a place of the plan has: no plan gives any yet
 abbrev pub retries_of : Settings → ℕ → ℕ
 retries_of p j = 0
@@ -209,4 +170,4 @@ abbrev pub pieces_of : Settings → ℕ → List Happening → List (List OwnTur
 pieces_of p j run = pieces (story_of (unit_of_test p j) run)
 
 abbrev pub statuses_of : Settings → ℕ → List Happening → List ExecuteStatus
-statuses_of p j run = ended_statuses p.capture (1 + retries_of p j) (pieces_of p j run)
+statuses_of p j run = ended_statuses (terms_at p j) (1 + retries_of p j) (pieces_of p j run)

@@ -1,19 +1,20 @@
 -- The dispatcher's table: which turns it takes, what each tells, and what it leaves.
-use Rattle.std.specs.Prelude.{ℕ, ◌≡◌, ◌+◌, ◌-◌, ◌<◌, ◌^◌, length, Bool, true, false, ◌&&◌, not, if◌then◌else◌, Option}
+use Rattle.std.specs.Prelude.{⊤, ℕ, ◌≡◌, ◌+◌, ◌-◌, ◌<◌, ◌^◌, length, Bool, true, false, ◌&&◌, not, if◌then◌else◌, Option}
 use Rattle.std.specs.Prelude.{Some, None, is_none}
 use Rattle.run_events.specs.Stats.{AreBelow, FinishedTest, nothing, adds_of, plus}
 use Rattle.run_events.specs.declared.settings.Settings.{Settings}
 use Rattle.run_events.specs.declared.turn.Turn.{Turn}
 use Rattle.run_events.specs.declared.turn.Turn.TheVariants.{Begin, Deliver, End}
 use Rattle.run_events.specs.declared.message.Message.{Message}
-use Rattle.run_events.specs.declared.message.Message.TheVariants.{Start, Skip, Finish}
+use Rattle.run_events.specs.declared.message.Message.TheVariants.{Start, Slow, Skip, Finish}
 use Rattle.run_events.specs.declared.message.TestStart.{TestStart}
 use Rattle.run_events.specs.declared.message.TestFinish.{TestFinish}
 use Rattle.run_events.specs.declared.events.ReporterEvent.{ReporterEvent}
 use Rattle.run_events.specs.declared.events.ReporterEvent.TheVariants.{Test}
 use Rattle.run_events.specs.declared.events.RunStarted.{RunStarted}
 use Rattle.run_events.specs.declared.events.TestEventKind.{TestEventKind}
-use Rattle.run_events.specs.declared.events.TestEventKind.TheVariants.{TestStarted, TestFinished, TestSkipped}
+use Rattle.run_events.specs.declared.events.TestEventKind.TheVariants.{TestStarted, TestSlow, TestFinished}
+use Rattle.run_events.specs.declared.events.TestEventKind.TheVariants.{TestSkipped}
 use Rattle.run_model.specs.declared.dispatcher_view.DispatcherView.{DispatcherView}
 use Rattle.run_model.specs.declared.dispatcher_view.Tally.{Tally}
 use Rattle.run_model.specs.declared.dispatcher_view.Facts.{Facts}
@@ -88,6 +89,7 @@ finished_event finish t = TestFinished (record { finish = finish; running = t.ru
 abbrev pub told_of : Tally → Message → Option TestEventKind
 told_of t (Start start) = if may_go t then Some (started_event start (with_start t)) else None
 told_of t (Skip skip) = Some (TestSkipped skip)
+told_of t (Slow slow) = Some (TestSlow slow)
 told_of t (Finish finish) = Some (finished_event finish (with_finish t (finished_test finish)))
 told_of t _ = None
 
@@ -100,6 +102,7 @@ go_of t _ = None
 abbrev pub Fits : Tally → Message → Type 0
 Fits t (Start start) = t.running + 1 < 2 ^ 32
 Fits t (Skip skip) = t.stats.skipped < 2 ^ 32
+Fits t (Slow slow) = ⊤
 Fits t (Finish finish) = AreBelow (2 ^ 32) t.stats × (0 < length finish.statuses) × (0 < t.running)
 Fits t _ = ⊥
 

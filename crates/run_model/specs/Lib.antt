@@ -1,3 +1,5 @@
+pub mod Slow
+pub mod Environment
 pub mod Unit
 pub mod Words
 pub mod Admission
@@ -6,5 +8,7 @@ pub mod Board
 pub mod Turns
 pub mod Journal
 pub mod Accounts
+pub mod Story
+pub mod Timing
 pub mod Attempts
 pub mod Fates

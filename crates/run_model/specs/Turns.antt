@@ -1,11 +1,12 @@
 -- The tables of turns: which turn is enabled on a board, and what it does.
-use Rattle.std.specs.Prelude.{ℕ, List, [], ◌∷◌, Bool, true, false, ◌&&◌, not, Option, Some, None, is_some, option_map}
+use Rattle.std.specs.Prelude.{ℕ, ◌+◌, ◌^◌, nat_lt, List, [], ◌∷◌, Bool, true, false, ◌&&◌, not, Option, Some, None, is_some, option_map}
 use Rattle.std.specs.Prelude.{option_and_then}
 use Rattle.std.specs.List.{list_all}
 use Rattle.run_events.specs.declared.settings.Settings.{Settings}
 use Rattle.run_events.specs.declared.turn.Turn.{Turn}
 use Rattle.run_events.specs.declared.turn.Turn.TheVariants.{Begin, Admit, Deliver, Started, StartFailed, Exit}
-use Rattle.run_events.specs.declared.turn.Turn.TheVariants.{WaitFailed, Piece, StreamEnd, ReadError, Decide, End}
+use Rattle.run_events.specs.declared.turn.Turn.TheVariants.{WaitFailed, Piece, StreamEnd, ReadError, Decide, Clock, End}
+use Rattle.run_events.specs.declared.turn.Turn.TheVariants.{UnitDue as TurnDue}
 use Rattle.run_events.specs.declared.message.Message.{Message}
 use Rattle.run_events.specs.declared.message.Message.TheVariants.{Start}
 use Rattle.run_events.specs.declared.events.TestEventKind.{TestEventKind}
@@ -21,7 +22,7 @@ use Rattle.run_model.specs.declared.unit_turn.UnitTurn.TheVariants.{Answered, St
 use Rattle.run_model.specs.declared.unit_turn.UnitTurn.TheVariants.{StartFailed as UnitStartFailed, Exit as UnitExit}
 use Rattle.run_model.specs.declared.unit_turn.UnitTurn.TheVariants.{WaitFailed as UnitWaitFailed, Piece as UnitPiece}
 use Rattle.run_model.specs.declared.unit_turn.UnitTurn.TheVariants.{StreamEnd as UnitStreamEnd}
-use Rattle.run_model.specs.declared.unit_turn.UnitTurn.TheVariants.{ReadError as UnitReadError, Decide as UnitDecide}
+use Rattle.run_model.specs.declared.unit_turn.UnitTurn.TheVariants.{ReadError as UnitReadError, Decide as UnitDecide, Due as UnitDue}
 use Rattle.run_model.specs.declared.unit_view.UnitView.{UnitView}
 use Rattle.run_model.specs.Unit.{row, takes}
 use Rattle.run_model.specs.Admission.{is_done, Newcomer, newcomer}
@@ -38,13 +39,14 @@ turn_of_unit (WaitFailed unit error) = Some (unit, UnitWaitFailed error)
 turn_of_unit (Piece unit stream bytes) = Some (unit, UnitPiece stream bytes)
 turn_of_unit (StreamEnd unit stream) = Some (unit, UnitStreamEnd stream)
 turn_of_unit (ReadError unit stream error) = Some (unit, UnitReadError stream error)
+turn_of_unit (TurnDue unit) = Some (unit, UnitDue)
 turn_of_unit (Decide unit word) = Some (unit, UnitDecide word)
 turn_of_unit _ = None
 
 -- whether a unit takes a turn; a test that wasn't admitted takes none
-abbrev pub unit_takes : Option UnitView → UnitTurn → Bool
-unit_takes None turn = false
-unit_takes (Some u) turn = takes u.phase u.capture turn
+abbrev pub unit_takes : ℕ → Option UnitView → UnitTurn → Bool
+unit_takes now None turn = false
+unit_takes now (Some u) turn = takes now u turn
 
 -- no message waits
 abbrev pub is_empty : List Message → Bool
@@ -59,15 +61,16 @@ is_complete b = is_empty b.queue && list_all is_done b.units
 abbrev pub facts : Board → Facts
 facts b = record { message_waits = not (is_empty b.queue); complete = is_complete b }
 
--- which turns of the run's own are enabled where it isn't over
+-- which turns of the run's own are enabled where it isn't over; the clock moves while it fits in a u64
 abbrev pub run_takes : Settings → Board → Turn → Bool
 run_takes p b Admit = b.dispatcher.on && is_some (newcomer p b.units)
+run_takes p b (Clock ns) = nat_lt (b.clock + ns) (2 ^ 64)
 run_takes p b turn = dispatch_takes b.dispatcher (facts b) turn
 
 -- a unit's turn is enabled where the unit takes it
 abbrev pub takes_turn : Settings → Board → Turn → Option (ℕ × UnitTurn) → Bool
 takes_turn p b turn None = run_takes p b turn
-takes_turn p b turn (Some named) = unit_takes (unit_in b named.0) named.1
+takes_turn p b turn (Some named) = unit_takes b.clock (unit_in b named.0) named.1
 
 -- which turns are enabled: none once the run is over
 abbrev pub enabled_on : Settings → Board → Turn → Bool
@@ -142,7 +145,7 @@ ended b = record nothing_done {
       true;
 }
 
--- what a turn of the run's own does
+-- what a turn of the run's own does; the clock does nothing but move
 abbrev pub run_turn : Settings → Board → Turn → Deed
 run_turn p b Begin = begun b
 run_turn p b Admit = admission (newcomer p b.units)

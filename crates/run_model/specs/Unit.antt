@@ -1,100 +1,52 @@
 -- The unit table: what each turn does to a unit in each phase.
-use Rattle.std.specs.Prelude.{ℕ, ◌-◌, ◌==◌, List, [], ◌∷◌, ◌++◌, length, Bool, true, false, not, ◌&&◌}
-use Rattle.std.specs.Prelude.{if◌then◌else◌, Option, Some, None, codes, decimal}
-use Rattle.uuid.specs.Text.{hyphenated_text, lower}
-use Rattle.run_events.specs.Result.{execution_result}
-use Rattle.run_events.specs.declared.ask.Ask.{Ask}
-use Rattle.run_events.specs.declared.ask.Ask.TheVariants.{Start as AskStart}
-use Rattle.run_events.specs.declared.plan.GroupSlot.{GroupSlot}
-use Rattle.run_events.specs.declared.message.Message.{Message}
-use Rattle.run_events.specs.declared.message.Message.TheVariants.{Finish}
-use Rattle.run_capture.specs.declared.test_output.Stream.{Stream}
-use Rattle.run_capture.specs.declared.test_output.Stream.TheVariants as streams
-use Rattle.run_capture.specs.declared.test_output.CaptureStrategy.{CaptureStrategy}
-use Rattle.run_capture.specs.declared.test_output.CaptureStrategy.TheVariants as strategies
+use Rattle.std.specs.Prelude.{ℕ, ◌==◌, List, [], ◌∷◌, ◌++◌, length, nat_lt, Bool, true, false, not, ◌&&◌}
+use Rattle.std.specs.Prelude.{if◌then◌else◌, Option, Some, None}
+use Rattle.run_clock.specs.Stopwatch.{started_at, active_by}
+use Rattle.run_clock.specs.Sleep.{Sleep, set_at, fires_at}
 use Rattle.run_capture.specs.Output.{uncaptured, nothing_of}
 use Rattle.run_capture.specs.Captured.{Captured, begun, takes as takes_stream, is_done, with_piece, with_end}
 use Rattle.run_capture.specs.Captured.{with_error, with_wait_error}
+use Rattle.run_capture.specs.declared.test_output.ChildFdError.{ChildFdError}
+use Rattle.run_events.specs.Result.{execution_result}
+use Rattle.run_events.specs.declared.ask.Ask.{Ask}
+use Rattle.run_events.specs.declared.ask.Ask.TheVariants.{Signal as AskSignal}
+use Rattle.run_events.specs.declared.message.Message.{Message}
+use Rattle.run_events.specs.declared.message.Message.TheVariants.{Slow, Finish}
+use Rattle.run_events.specs.declared.request.ChildSignal.TheVariants.{End}
+use Rattle.run_events.specs.declared.request.TermSignal.{TermSignal}
+use Rattle.run_events.specs.declared.request.TermSignal.TheVariants.{Term, Kill}
 use Rattle.run_events.specs.declared.result.ExecuteStatus.{ExecuteStatus}
 use Rattle.run_events.specs.declared.result.ChildExecutionOutput.{ChildExecutionOutput}
 use Rattle.run_events.specs.declared.result.ChildExecutionOutput.TheVariants.{Output, StartError}
 use Rattle.run_events.specs.declared.result.ChildExit.{ChildExit}
 use Rattle.run_events.specs.declared.result.ExecutionResult.{ExecutionResult}
-use Rattle.run_events.specs.declared.result.ExecutionResult.TheVariants.{ExecFail}
-use Rattle.run_events.specs.declared.result.LeakTimeoutResult.TheVariants.{Pass}
+use Rattle.run_events.specs.declared.result.ExecutionResult.TheVariants.{ExecFail, Timeout}
 use Rattle.run_model.specs.declared.phase.Phase.{Phase}
-use Rattle.run_model.specs.declared.phase.Phase.TheVariants.{StartSent, Starting, Running, Leak, Deciding, Over}
+use Rattle.run_model.specs.declared.phase.Phase.TheVariants.{StartSent, Starting, Running, Grace, KillWait, Leak}
+use Rattle.run_model.specs.declared.phase.Phase.TheVariants.{Deciding, Over}
 use Rattle.run_model.specs.declared.unit_turn.UnitTurn.{UnitTurn}
 use Rattle.run_model.specs.declared.unit_turn.UnitTurn.TheVariants.{Answered, Started, StartFailed, Exit, WaitFailed}
-use Rattle.run_model.specs.declared.unit_turn.UnitTurn.TheVariants.{Piece, StreamEnd, ReadError, Decide}
+use Rattle.run_model.specs.declared.unit_turn.UnitTurn.TheVariants.{Piece, StreamEnd, ReadError, Due, Decide}
+use Rattle.run_model.specs.declared.unit_view.Timers.{Timers}
 use Rattle.run_model.specs.declared.unit_view.UnitView.{UnitView}
+use Rattle.run_model.specs.Slow.{one_more, is_out_of_time, slow_time}
+use Rattle.run_model.specs.Environment.{attempts, start_ask}
 
--- how many attempts a test has: no test has retries yet
-abbrev pub attempts : UnitView → ℕ
-attempts u = 1
+-- a signal that is asked for its child, and the group of its child's processes
+abbrev pub signal_ask : TermSignal → UnitView → Ask
+signal_ask signal u = AskSignal (record { unit = u.test.unit; signal = End signal; group = true })
 
--- the variables that a test's child gets: who it is
-unfoldable pub identity_variables : UnitView → List (List ℕ × List ℕ)
-identity_variables u =
-    (codes "NEXTEST_RUN_ID", hyphenated_text lower u.run_id)
-    ∷ (codes "NEXTEST_RUN_MODE", codes "test")
-    ∷ (codes "NEXTEST_BINARY_ID", u.test.id.binary)
-    ∷ (codes "NEXTEST_TEST_NAME", u.test.id.name)
-    ∷ (codes "NEXTEST_ATTEMPT", decimal u.attempt)
-    ∷ (codes "NEXTEST_TOTAL_ATTEMPTS", decimal (attempts u))
-    ∷ []
+-- whether its attempt has run out of time
+abbrev pub is_timed_out : UnitView → Bool
+is_timed_out u = is_out_of_time u.terms.slow u.timers.slow_count
 
--- the group that it runs in, and its slot there
-abbrev pub group_name : Option GroupSlot → List ℕ
-group_name (Some group) = group.name
-group_name None = codes "@global"
-
-abbrev pub group_number : Option GroupSlot → List ℕ
-group_number (Some group) = decimal group.slot
-group_number None = codes "none"
-
--- where it runs
-unfoldable pub place_variables : UnitView → List (List ℕ × List ℕ)
-place_variables u =
-    (codes "NEXTEST_STRESS_CURRENT", codes "none")
-    ∷ (codes "NEXTEST_STRESS_TOTAL", codes "none")
-    ∷ (codes "NEXTEST_TEST_GLOBAL_SLOT", decimal u.slot.global)
-    ∷ (codes "NEXTEST_TEST_GROUP", group_name u.slot.group)
-    ∷ (codes "NEXTEST_TEST_GROUP_SLOT", group_number u.slot.group)
-    ∷ (codes "NEXTEST_TEST_THREADS", decimal u.threads)
-    ∷ (codes "NEXTEST_WORKSPACE_ROOT", codes "/")
-    ∷ []
-
--- the versions of the runner: no plan gives them yet
-unfoldable pub version_variables : List (List ℕ × List ℕ)
-version_variables =
-    (codes "NEXTEST_VERSION", codes "0.0.0")
-    ∷ (codes "NEXTEST_REQUIRED_VERSION", codes "none")
-    ∷ (codes "NEXTEST_RECOMMENDED_VERSION", codes "none")
-    ∷ []
-
--- all of them, in order
-unfoldable pub environment : UnitView → List (List ℕ × List ℕ)
-environment u = identity_variables u ++ (place_variables u ++ version_variables)
-
--- the streams that a strategy captures, in order
-abbrev pub streams_of : CaptureStrategy → List Stream
-streams_of strategies.None = []
-streams_of strategies.Split = streams.Stdout ∷ streams.Stderr ∷ []
-streams_of strategies.Combined = streams.Combined ∷ []
-
--- the start of a test's child that is asked where its attempt is let go
-unfoldable pub start_ask : UnitView → Ask
-start_ask u = AskStart (record {
-  unit = u.test.unit;
-  attempt = u.attempt;
-  command = u.command;
-  env = environment u;
-  group = true;
-  stdin = false;
-  streams = streams_of u.strategy;
-  env_path = None;
-})
+-- the result of its attempt, whose child ended so, none where the wait for it failed, with these errors: one that has
+-- run out of time is a timeout whatever else is said of it
+abbrev pub result_of : Option ChildExit → List ChildFdError → Bool → UnitView → ExecutionResult
+result_of exit errors leaked u =
+    if is_timed_out u
+    then Timeout u.terms.slow.on_timeout
+    else execution_result exit errors leaked u.terms.leak.result
 
 -- the status of the current attempt where it ends at this moment with this result
 abbrev pub status_at : ℕ → ExecutionResult → ChildExecutionOutput → UnitView → ExecuteStatus
@@ -104,28 +56,43 @@ status_at now result output u = record {
   delay = 0;
   result = result;
   output = output;
-  slow = false;
-  start = u.start;
-  time = now - u.start;
+  slow = nat_lt 0 u.timers.slow_count;
+  start = u.timers.stopwatch.start;
+  time = active_by u.timers.stopwatch now;
 }
+
+-- timers of which none is due any more
+abbrev pub silent : Timers → Timers
+silent t = record t { slow = None; wait = None }
 
 -- a unit whose attempt ends at this moment with this result: what was captured of its child is kept no longer
 abbrev pub ended : ℕ → ExecutionResult → ChildExecutionOutput → UnitView → UnitView
 ended now result output u = record u {
   phase = Deciding;
+  timers = silent u.timers;
   statuses = u.statuses ++ status_at now result output u ∷ [];
   capture = begun uncaptured;
   exit = None;
 }
 
--- a unit whose attempt ends at this moment by how its child ended and what was captured of it: it left nothing open
-abbrev pub exited : ℕ → Option ChildExit → Captured → UnitView → UnitView
-exited now exit c u = ended now (execution_result exit c.errors false Pass) (Output c.output c.errors) u
+-- a unit whose attempt ends at this moment by how its child ended, what was captured of it, and whether it left a
+-- stream open for longer than its streams are waited for
+abbrev pub exited : ℕ → Option ChildExit → Bool → Captured → UnitView → UnitView
+exited now exit leaked c u = ended now (result_of exit c.errors leaked u) (Output c.output c.errors) u
+
+-- a unit whose child ended so at this moment, and that waits for its streams from then on
+abbrev pub leaking : ℕ → Option ChildExit → Captured → UnitView → UnitView
+leaking now exit c u = record u {
+  phase = Leak;
+  timers = record u.timers { slow = None; wait = Some (set_at now u.terms.leak.period) };
+  capture = c;
+  exit = exit;
+}
 
 -- a unit whose child ended so, none where the wait for it failed, and of which this was captured: its attempt ends
 -- where all streams are done, and else it waits for them
 abbrev pub settled : ℕ → Option ChildExit → Captured → UnitView → UnitView
-settled now exit c u = if is_done c then exited now exit c u else record u { phase = Leak; capture = c; exit = exit }
+settled now exit c u = if is_done c then exited now exit false c u else leaking now exit c u
 
 -- which turns a capture gets: those of a stream that is captured and not done, where a piece has bytes
 abbrev pub hears : Captured → UnitTurn → Bool
@@ -159,31 +126,104 @@ quiet u = record { next = u; sent = None; asked = None }
 abbrev pub decided : UnitView → Row
 decided u = record { next = record u { phase = Over }; sent = Some (finish_message u); asked = None }
 
--- it is let go at this moment: its capture begins anew
+-- it is let go at this moment: its stopwatch starts, and all else of an attempt begins anew
 abbrev pub let_go : ℕ → UnitView → UnitView
-let_go now u = record u { phase = Starting; start = now; capture = begun (nothing_of u.strategy) }
+let_go now u = record u {
+  phase = Starting;
+  timers = record { stopwatch = started_at now; slow = None; wait = None; slow_count = 0 };
+  capture = begun (nothing_of u.terms.strategy);
+}
 
--- its capture gets a turn, while its child runs and after it
-abbrev pub heard_running : UnitTurn → UnitView → UnitView
-heard_running turn u = record u { capture = having_heard u.capture turn }
+-- its child has started at this moment, from which on it may be slow
+abbrev pub started : ℕ → UnitView → UnitView
+started now u = record u {
+  phase = Running;
+  timers = record u.timers { slow = Some (set_at now u.terms.slow.period) };
+}
 
-abbrev pub heard_after : ℕ → UnitTurn → UnitView → UnitView
-heard_after now turn u = settled now u.exit (having_heard u.capture turn) u
+-- the message that its attempt was slow so often: none where it is given no time to end by itself
+abbrev pub slow_message : ℕ → UnitView → Option Message
+slow_message n u =
+    if u.terms.slow.grace == 0
+    then None
+    else Some (Slow (record {
+      test = u.test;
+      attempt = u.attempt;
+      attempts = attempts u;
+      elapsed_slow = slow_time u.terms.slow n;
+      terminates = is_out_of_time u.terms.slow n;
+    }))
 
--- the rows, at a moment of the run's clock; any other phase and turn leave all as it is
+-- it was slow so often at this moment: it goes on and is timed again
+abbrev pub slow_again : ℕ → ℕ → UnitView → Row
+slow_again now n u = record {
+  next =
+      record u { timers = record u.timers { slow = Some (set_at now u.terms.slow.period); slow_count = n } };
+  sent = slow_message n u;
+  asked = None;
+}
+
+-- it has run out of time, and is given some more to end by itself
+abbrev pub in_grace : ℕ → ℕ → UnitView → Row
+in_grace now n u = record {
+  next = record u {
+    phase = Grace;
+    timers = record u.timers { slow = None; wait = Some (set_at now u.terms.slow.grace); slow_count = n };
+  };
+  sent = slow_message n u;
+  asked = Some (signal_ask Term u);
+}
+
+-- it has run out of time, and is killed at once
+abbrev pub out_of_time : ℕ → UnitView → Row
+out_of_time n u = record {
+  next = record u { phase = KillWait; timers = record u.timers { slow = None; slow_count = n } };
+  sent = slow_message n u;
+  asked = Some (signal_ask Kill u);
+}
+
+-- it is slow, so often by now
+abbrev pub slow_row : ℕ → ℕ → UnitView → Row
+slow_row now n u =
+    if is_out_of_time u.terms.slow n
+    then (if u.terms.slow.grace == 0 then out_of_time n u else in_grace now n u)
+    else slow_again now n u
+
+-- its time to end by itself is over
+abbrev pub killed : UnitView → Row
+killed u = record {
+  next = record u { phase = Running; timers = record u.timers { wait = None } };
+  sent = None;
+  asked = Some (signal_ask Kill u);
+}
+
+-- its child ended, the wait for it failed, or its capture gets a turn, before its child has ended
+abbrev pub running_row : ℕ → UnitTurn → UnitView → Row
+running_row now (Exit exit) u = quiet (settled now (Some exit) u.capture u)
+running_row now (WaitFailed error) u = quiet (settled now None (with_wait_error u.capture error) u)
+running_row now turn u = quiet (record u { capture = having_heard u.capture turn })
+
+-- its capture, which is this by now, got a turn after its child has ended
+abbrev pub heard_with : ℕ → Captured → UnitView → UnitView
+heard_with now c u = if is_done c then exited now u.exit false c u else record u { capture = c }
+
+-- its capture gets a turn, or the wait for its streams is over, after its child has ended
+abbrev pub waited_row : ℕ → UnitTurn → UnitView → Row
+waited_row now Due u = quiet (exited now u.exit true u.capture u)
+waited_row now turn u = quiet (heard_with now (having_heard u.capture turn) u)
+
+-- the rows, at a moment of the run's clock; of a turn that isn't taken in a phase nothing is meant by them
 abbrev pub row_at : ℕ → Phase → UnitTurn → UnitView → Row
 row_at now StartSent (Answered true) u = record { next = let_go now u; sent = None; asked = Some (start_ask u) }
 row_at now StartSent (Answered false) u = quiet (record u { phase = Over })
-row_at now Starting (Started pid) u = quiet (record u { phase = Running })
+row_at now Starting (Started pid) u = quiet (started now u)
 row_at now Starting (StartFailed error) u = quiet (ended now ExecFail (StartError error) u)
-row_at now Running (Piece stream bytes) u = quiet (heard_running (Piece stream bytes) u)
-row_at now Running (StreamEnd stream) u = quiet (heard_running (StreamEnd stream) u)
-row_at now Running (ReadError stream error) u = quiet (heard_running (ReadError stream error) u)
-row_at now Running (Exit exit) u = quiet (settled now (Some exit) u.capture u)
-row_at now Running (WaitFailed error) u = quiet (settled now None (with_wait_error u.capture error) u)
-row_at now Leak (Piece stream bytes) u = quiet (heard_after now (Piece stream bytes) u)
-row_at now Leak (StreamEnd stream) u = quiet (heard_after now (StreamEnd stream) u)
-row_at now Leak (ReadError stream error) u = quiet (heard_after now (ReadError stream error) u)
+row_at now Running Due u = slow_row now (one_more u.timers.slow_count) u
+row_at now Running turn u = running_row now turn u
+row_at now Grace Due u = killed u
+row_at now Grace turn u = running_row now turn u
+row_at now KillWait turn u = running_row now turn u
+row_at now Leak turn u = waited_row now turn u
 row_at now Deciding (Decide word) u = decided u
 row_at _ _ _ u = quiet u
 
@@ -195,14 +235,30 @@ at_moment now u = record u { latest = now }
 abbrev pub row : ℕ → UnitTurn → UnitView → Row
 row now turn u = row_at now u.phase turn (at_moment now u)
 
--- which turns a unit takes in which phase, with this capture
-abbrev pub takes : Phase → Captured → UnitTurn → Bool
-takes StartSent c (Answered _) = true
-takes Starting c (Started _) = true
-takes Starting c (StartFailed _) = true
-takes Running c (Exit _) = true
-takes Running c (WaitFailed _) = true
-takes Running c turn = hears c turn
-takes Leak c turn = hears c turn
-takes Deciding c (Decide _) = true
-takes _ _ _ = false
+-- whether a timer is set and fires at this moment
+abbrev pub is_due : ℕ → Option Sleep → Bool
+is_due now None = false
+is_due now (Some timer) = fires_at timer.state now
+
+-- which turns a unit takes in which phase at this moment
+abbrev pub takes_at : ℕ → Phase → UnitView → UnitTurn → Bool
+takes_at now StartSent u (Answered _) = true
+takes_at now Starting u (Started _) = true
+takes_at now Starting u (StartFailed _) = true
+takes_at now Running u (Exit _) = true
+takes_at now Running u (WaitFailed _) = true
+takes_at now Running u Due = is_due now u.timers.slow
+takes_at now Running u turn = hears u.capture turn
+takes_at now Grace u (Exit _) = true
+takes_at now Grace u (WaitFailed _) = true
+takes_at now Grace u Due = is_due now u.timers.wait
+takes_at now Grace u turn = hears u.capture turn
+takes_at now KillWait u (Exit _) = true
+takes_at now KillWait u (WaitFailed _) = true
+takes_at now Leak u Due = is_due now u.timers.wait
+takes_at now Leak u turn = hears u.capture turn
+takes_at now Deciding u (Decide _) = true
+takes_at _ _ _ _ = false
+
+abbrev pub takes : ℕ → UnitView → UnitTurn → Bool
+takes now u turn = takes_at now u.phase u turn

@@ -7,6 +7,7 @@ use Rattle.run_events.specs.Cancel.{greater}
 use Rattle.run_events.specs.declared.stats.RunStats.{RunStats}
 use Rattle.run_events.specs.declared.settings.Settings.{Settings}
 use Rattle.run_events.specs.declared.turn.Turn.{Turn}
+use Rattle.run_events.specs.declared.turn.Turn.TheVariants.{Clock}
 use Rattle.run_events.specs.declared.message.Message.{Message}
 use Rattle.run_events.specs.declared.message.TestFinish.{TestFinish}
 use Rattle.run_events.specs.declared.ask.Ask.{Ask}
@@ -24,8 +25,9 @@ use Rattle.run_model.specs.declared.dispatcher_view.Tally.{Tally}
 use Rattle.run_model.specs.Unit.{row}
 use Rattle.run_model.specs.Admission.{units_in, matched_in}
 
--- how far a turn moves the clock, in nanoseconds: no turn does yet
+-- how far a turn moves the clock, in nanoseconds
 abbrev pub ns_of : Turn → ℕ
+ns_of (Clock ns) = ns
 ns_of _ = 0
 
 -- the clock is the sum of what the turns moved it
@@ -42,10 +44,15 @@ abbrev pub is_over : List Happening → Bool
 is_over [] = false
 is_over (x ∷ past) = x.over || is_over past
 
+-- a turn that begins no sub-run joins the one before it; before the first begin there is none
+abbrev pub joined : Happening → List Happening → List Happening
+joined x [] = []
+joined x (y ∷ run) = x ∷ y ∷ run
+
 -- the newest sub-run: the history from its begin on
 abbrev pub sub_run : List Happening → List Happening
 sub_run [] = []
-sub_run (x ∷ past) = x ∷ (if x.begins then [] else sub_run past)
+sub_run (x ∷ past) = if x.begins then x ∷ [] else joined x (sub_run past)
 
 -- a sub-run is on where it has begun and not ended
 abbrev pub is_on : List Happening → Bool

@@ -9,6 +9,10 @@ pub enum Phase {
     Starting,
     /// Its child runs.
     Running,
+    /// Its child runs, and was asked to end: it is given some time for that.
+    Grace,
+    /// Its child was killed with no time to end by itself, and it waits for that end.
+    KillWait,
     /// Its child has ended, and a captured stream of it isn't done.
     Leak,
     /// Its attempt has ended.

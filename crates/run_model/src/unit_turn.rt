@@ -22,6 +22,8 @@ pub enum UnitTurn {
     StreamEnd { stream: Stream },
     /// Reading a captured stream of its child failed.
     ReadError { stream: Stream, error: Text },
+    /// The timer of its phase is due.
+    Due,
     /// It decides what comes after its attempt, with a random word.
     Decide { word: u32 },
 }
@@ -47,6 +49,7 @@ impl Duplicate for UnitTurn {
                 stream: *stream,
                 error: error.copy(alloc)?,
             },
+            UnitTurn::Due => UnitTurn::Due,
             UnitTurn::Decide { word } => UnitTurn::Decide { word: *word },
         })
     }

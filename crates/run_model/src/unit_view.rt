@@ -1,11 +1,35 @@
 // A unit as the tables see it.
-ghost use Rattle.std.specs.Prelude.{◌≡◌, IfOk};
-
 use crate::Phase;
-use run_capture::{CaptureStrategy, ChildAccumulator, Duplicate, List, Mem, Text};
-use run_events::{ChildExit, ExecuteStatus, FlakyResult, TestSlotAssignment, TestUnit};
-use std::alloc::Global;
+use run_capture::{CaptureStrategy, ChildAccumulator, List, Text};
+use run_clock::{PausableSleep, StopwatchStart};
+use run_events::{
+    ChildExit, ExecuteStatus, FlakyResult, LeakTimeout, SlowTimeout, TestSlotAssignment, TestUnit,
+};
 use uuid::Uuid;
+
+/// By which settings each attempt of a test runs.
+#[derive(Clone, Copy, Drop)]
+pub struct AttemptTerms {
+    /// How the output of its child is captured.
+    pub strategy: CaptureStrategy,
+    /// When it is slow, and what comes of that.
+    pub slow: SlowTimeout,
+    /// How long the streams of its ended child are waited for.
+    pub leak: LeakTimeout,
+}
+
+/// The time of the current attempt, by the run's clock.
+#[derive(Drop)]
+pub struct Timers {
+    /// It runs from where the attempt was let go.
+    pub stopwatch: StopwatchStart,
+    /// It is due where the attempt is slow, for the first time or again; none where it can't be.
+    pub slow: Option<PausableSleep>,
+    /// It is due where the time to end by itself, or the wait for the streams, is over; none outside of these.
+    pub wait: Option<PausableSleep>,
+    /// How often it was slow.
+    pub slow_count: u32,
+}
 
 /// A test with its attempts, as the unit table sees it.
 pub struct UnitView {
@@ -17,13 +41,11 @@ pub struct UnitView {
     pub flaky: FlakyResult,
     pub run_id: Uuid,
     pub threads: u32,
-    /// How the output of its child is captured.
-    pub strategy: CaptureStrategy,
+    pub terms: AttemptTerms,
     pub phase: Phase,
     /// Its current attempt, from 1.
     pub attempt: u32,
-    /// When the current attempt was let go, by the run's clock.
-    pub start: u64,
+    pub timers: Timers,
     /// When it took its latest turn.
     pub latest: u64,
     /// What was captured of its child so far.
@@ -44,54 +66,14 @@ impl Drop for UnitView {
             flaky: _,
             run_id: _,
             threads: _,
-            strategy: _,
+            terms: _,
             phase: _,
             attempt: _,
-            start: _,
+            timers: _,
             latest: _,
             capture: _,
             exit: _,
             statuses: _,
         } = self;
-    }
-}
-
-// A copy of a unit, with its command, its capture and its attempts, that are copied already.
-fn with_parts(
-    alloc: Global,
-    view: &UnitView,
-    command: List<Text>,
-    capture: ChildAccumulator,
-    statuses: List<ExecuteStatus>,
-) -> Mem<UnitView>
-    ensures { IfOk result (λ u. u
-        ≡ record view.now { command = command; capture = capture; statuses = statuses }) }
-{
-    let slot = view.slot.copy(alloc)?;
-    let test = view.test.copy(alloc)?;
-    Ok(UnitView {
-        test,
-        command,
-        slot,
-        flaky: view.flaky,
-        run_id: view.run_id,
-        threads: view.threads,
-        strategy: view.strategy,
-        phase: view.phase,
-        attempt: view.attempt,
-        start: view.start,
-        latest: view.latest,
-        capture,
-        exit: view.exit,
-        statuses,
-    })
-}
-
-impl Duplicate for UnitView {
-    fn copy(&self, alloc: Global) -> Mem<UnitView> {
-        let command = self.command.copy(alloc)?;
-        let capture = self.capture.copy(alloc)?;
-        let statuses = self.statuses.copy(alloc)?;
-        with_parts(alloc, self, command, capture, statuses)
     }
 }

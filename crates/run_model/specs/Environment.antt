@@ -1,0 +1,78 @@
+-- What the child of a test is started with: its command, its variables and its streams.
+use Rattle.std.specs.Prelude.{ℕ, List, [], ◌∷◌, ◌++◌, true, false, Option, Some, None, codes, decimal}
+use Rattle.uuid.specs.Text.{hyphenated_text, lower}
+use Rattle.run_capture.specs.declared.test_output.Stream.{Stream}
+use Rattle.run_capture.specs.declared.test_output.Stream.TheVariants as streams
+use Rattle.run_capture.specs.declared.test_output.CaptureStrategy.{CaptureStrategy}
+use Rattle.run_capture.specs.declared.test_output.CaptureStrategy.TheVariants as strategies
+use Rattle.run_events.specs.declared.ask.Ask.{Ask}
+use Rattle.run_events.specs.declared.ask.Ask.TheVariants.{Start as AskStart}
+use Rattle.run_events.specs.declared.plan.GroupSlot.{GroupSlot}
+use Rattle.run_model.specs.declared.unit_view.UnitView.{UnitView}
+
+-- how many attempts a test has: no test has retries yet
+abbrev pub attempts : UnitView → ℕ
+attempts u = 1
+
+-- the variables that a test's child gets: who it is
+unfoldable pub identity_variables : UnitView → List (List ℕ × List ℕ)
+identity_variables u =
+    (codes "NEXTEST_RUN_ID", hyphenated_text lower u.run_id)
+    ∷ (codes "NEXTEST_RUN_MODE", codes "test")
+    ∷ (codes "NEXTEST_BINARY_ID", u.test.id.binary)
+    ∷ (codes "NEXTEST_TEST_NAME", u.test.id.name)
+    ∷ (codes "NEXTEST_ATTEMPT", decimal u.attempt)
+    ∷ (codes "NEXTEST_TOTAL_ATTEMPTS", decimal (attempts u))
+    ∷ []
+
+-- the group that it runs in, and its slot there
+abbrev pub group_name : Option GroupSlot → List ℕ
+group_name (Some group) = group.name
+group_name None = codes "@global"
+
+abbrev pub group_number : Option GroupSlot → List ℕ
+group_number (Some group) = decimal group.slot
+group_number None = codes "none"
+
+-- where it runs
+unfoldable pub place_variables : UnitView → List (List ℕ × List ℕ)
+place_variables u =
+    (codes "NEXTEST_STRESS_CURRENT", codes "none")
+    ∷ (codes "NEXTEST_STRESS_TOTAL", codes "none")
+    ∷ (codes "NEXTEST_TEST_GLOBAL_SLOT", decimal u.slot.global)
+    ∷ (codes "NEXTEST_TEST_GROUP", group_name u.slot.group)
+    ∷ (codes "NEXTEST_TEST_GROUP_SLOT", group_number u.slot.group)
+    ∷ (codes "NEXTEST_TEST_THREADS", decimal u.threads)
+    ∷ (codes "NEXTEST_WORKSPACE_ROOT", codes "/")
+    ∷ []
+
+-- the versions of the runner: no plan gives them yet
+unfoldable pub version_variables : List (List ℕ × List ℕ)
+version_variables =
+    (codes "NEXTEST_VERSION", codes "0.0.0")
+    ∷ (codes "NEXTEST_REQUIRED_VERSION", codes "none")
+    ∷ (codes "NEXTEST_RECOMMENDED_VERSION", codes "none")
+    ∷ []
+
+-- all of them, in order
+unfoldable pub environment : UnitView → List (List ℕ × List ℕ)
+environment u = identity_variables u ++ (place_variables u ++ version_variables)
+
+-- the streams that a strategy captures, in order
+abbrev pub streams_of : CaptureStrategy → List Stream
+streams_of strategies.None = []
+streams_of strategies.Split = streams.Stdout ∷ streams.Stderr ∷ []
+streams_of strategies.Combined = streams.Combined ∷ []
+
+-- the start of a test's child that is asked where its attempt is let go
+unfoldable pub start_ask : UnitView → Ask
+start_ask u = AskStart (record {
+  unit = u.test.unit;
+  attempt = u.attempt;
+  command = u.command;
+  env = environment u;
+  group = true;
+  stdin = false;
+  streams = streams_of u.terms.strategy;
+  env_path = None;
+})
