@@ -4,8 +4,9 @@ use Rattle.std.proofs.Common.{true, false, if◌then◌else◌, Option, Some, No
 use Rattle.std.proofs.Common.{refl, ap, sym, subst, ◌∙◌, arith}
 use Rattle.std.specs.List.{range_with_len}
 use Rattle.std.proofs.lemmas.Grind.{common_steps}
-use Rattle.run_capture.specs.Captured.{Captured}
 use Rattle.run_events.specs.declared.settings.Settings.{Settings}
+use Rattle.run_events.specs.declared.message.Message.{Message}
+use Rattle.run_events.specs.declared.message.Message.TheVariants.{Slow}
 use Rattle.run_admission.specs.declared.seat.Seat.{Seat}
 use Rattle.run_admission.specs.declared.seat.Seat.TheVariants.{InUse, Gone}
 use Rattle.run_admission.specs.InUse.{is_in_use}
@@ -14,13 +15,16 @@ use Rattle.run_model.specs.declared.happening.Happening.{Happening}
 use Rattle.run_model.specs.declared.happening.UnitPart.{UnitPart}
 use Rattle.run_model.specs.declared.happening.UnitPart.TheVariants.{Acts}
 use Rattle.run_model.specs.declared.phase.Phase.{Phase}
+use Rattle.run_model.specs.declared.phase.Phase.TheVariants.{StartSent, Over}
 use Rattle.run_model.specs.declared.unit_turn.UnitTurn.{UnitTurn}
-use Rattle.run_model.specs.declared.unit_turn.UnitTurn.TheVariants.{Answered, Decide}
+use Rattle.run_model.specs.declared.unit_turn.UnitTurn.TheVariants.{Answered}
 use Rattle.run_model.specs.declared.unit_view.UnitView.{UnitView}
-use Rattle.run_model.specs.Unit.{at_moment, row, row_at, takes}
+use Rattle.run_model.specs.Unit.{Row, at_moment, row, row_at, takes, takes_at}
 use Rattle.run_model.specs.Words.{unit_of, unit_after}
 use Rattle.run_model.specs.Admission.{is_last, seat_of, tests_in, unit_of_test}
 use Rattle.run_laws.specs.Limits.{limits_with}
+use Rattle.run_laws.proofs.Rows.{IsReport, open_on, row_keeps, row_moves, Continues, continues, Takes, answers, opens}
+use Rattle.run_laws.proofs.Rows.{decides, row_takes, takes_moment}
 use Rattle.run_laws.proofs.OpenSeats.{at_last, AreLower, IsOfFewer}
 
 -- where each unit stands after a sub-run
@@ -43,13 +47,10 @@ kept_fewer p seat other h kept =
     (λ j. h (unit_of_test p j)))
     kept
 
--- a row leaves a unit its slots
-pub row_keeps_slot : (now : ℕ) (ph : Phase) (turn : UnitTurn) (u : UnitView) → (row_at now ph turn u).next.slot ≡ u.slot
-row_keeps_slot now ph turn u = grind arith
-
 -- a unit that is over takes no turn
 row_over : (now : ℕ) (ph : Phase) (turn : UnitTurn) (u : UnitView) → is_last ph ≡ true → (row_at now ph turn u).next ≡ u
-row_over now ph turn u e = grind arith
+row_over now Over turn u e = refl
+row_over now ph turn u e = cc
 
 -- two units in the same slots, neither of which is over, are in the same seat
 pub seat_going : (u : UnitView) → is_last u.phase ≡ false
@@ -69,7 +70,7 @@ row_lowers now ph turn u is used = by_last (is_last u.phase) refl
   where
     by_next : (b : Bool) → is_last (row_at now ph turn u).next.phase ≡ b → is_last u.phase ≡ false
         → seat_of (Some (row_at now ph turn u).next) ≡ seat_of (Some u)
-    by_next false f e = same_seat u (row_at now ph turn u).next (row_keeps_slot now ph turn u) e f
+    by_next false f e = same_seat u (row_at now ph turn u).next (row_keeps now ph turn u is).slot e f
     by_next true f e =
         let never : false ≡ true =
         sym (ap (λ b. is_in_use (if b then Gone else InUse (row_at now ph turn u).next.slot.global
@@ -79,51 +80,53 @@ row_lowers now ph turn u is used = by_last (is_last u.phase) refl
     by_last false e = by_next (is_last (row_at now ph turn u).next.phase) refl e
     by_last true e = ap (λ (v : UnitView). seat_of (Some v)) (row_over now ph turn u (ap is_last (sym is) ∙ e))
 
--- whether a turn is the decision
-abbrev is_decide : UnitTurn → Bool
-is_decide (Decide word) = true
-is_decide _ = false
-
--- a row that is no decision sends nothing, and where it is no refused answer its unit goes on
-row_silent : (now : ℕ) (ph : Phase) (turn : UnitTurn) (u : UnitView) → is_decide turn ≡ false
-    → (row_at now ph turn u).sent ≡ None
-row_silent now ph turn u e = grind arith
-
-row_goes_on : (now : ℕ) (ph : Phase) (c : Captured) (turn : UnitTurn) (u : UnitView) → u.phase ≡ ph
-    → takes ph c turn ≡ true
-    → turn ≢ Answered false → is_decide turn ≡ false → is_last (row_at now ph turn u).next.phase ≡ false
-row_goes_on now ph c turn u is en goes e = grind arith
-
-row_going : (ph : Phase) (c : Captured) (turn : UnitTurn) → takes ph c turn ≡ true → is_last ph ≡ false
-row_going ph c turn en = grind arith
+-- a slow report leaves all seats
+report_leaves : (seat : ℕ → Seat) (m : Option Message) (k : ℕ) → IsReport m
+    → at_last seat (option_to_list m) k ≡ seat k
+report_leaves seat None k h = refl
+report_leaves seat (Some (Slow slow)) k h = refl
+report_leaves seat (Some m) k h = absurd h
 
 -- a row that ends the use of a seat sends the finish that closes it: the last seat of its unit stays below the board's
-row_finishes : (now : ℕ) (ph : Phase) (c : Captured) (turn : UnitTurn) (u : UnitView) (seat : ℕ → Seat) → u.phase ≡ ph
-    → takes ph c turn ≡ true → turn ≢ Answered false
-    → (is_in_use (seat u.test.unit) ≡ true → seat u.test.unit ≡ seat_of (Some u))
-    → is_in_use (at_last seat (option_to_list (row_at now ph turn u).sent) u.test.unit) ≡ true
-    → at_last seat (option_to_list (row_at now ph turn u).sent) u.test.unit ≡ seat_of (Some (row_at now ph turn u).next)
-row_finishes now ph c turn u seat is en goes below used = by_decide turn (is_decide turn) refl en goes used
+row_finishes : (now : ℕ) (ph : Phase) (turn : UnitTurn) (u : UnitView) (seat : ℕ → Seat) → u.phase ≡ ph
+    → takes_at now ph u turn ≡ true → turn ≢ Answered false
+    → IsBelow (seat u.test.unit) (seat_of (Some u))
+    → IsBelow (at_last seat (option_to_list (row_at now ph turn u).sent) u.test.unit)
+    (seat_of (Some (row_at now ph turn u).next))
+row_finishes now ph turn u seat is en goes below = by_take (row_takes now ph turn u en)
   where
-    silent : (turn : UnitTurn) → is_decide turn ≡ false
-        → at_last seat (option_to_list (row_at now ph turn u).sent) u.test.unit ≡ seat u.test.unit
-    silent turn e = ap (λ m. at_last seat (option_to_list m) u.test.unit) (row_silent now ph turn u e)
+    stays : (r : Row) → r ≡ row_at now ph turn u → is_last ph ≡ false → Continues r
+        → IsBelow (at_last seat (option_to_list r.sent) u.test.unit) (seat_of (Some r.next))
+    stays r same before on used =
+        let quiet = report_leaves seat r.sent u.test.unit on.sent in
+        let slot : r.next.slot ≡ u.slot =
+        ap (λ (r : Row). r.next.slot) same ∙ (row_keeps now ph turn u is).slot in
+        quiet ∙ below (ap is_in_use (sym quiet) ∙ used) ∙ sym (same_seat u r.next slot (ap is_last is ∙ before) on.phase)
 
-    by_decide : (turn : UnitTurn) (b : Bool) → is_decide turn ≡ b → takes ph c turn ≡ true → turn ≢ Answered false
-        → is_in_use (at_last seat (option_to_list (row_at now ph turn u).sent) u.test.unit) ≡ true
-        → at_last seat (option_to_list (row_at now ph turn u).sent) u.test.unit
-        ≡ seat_of (Some (row_at now ph turn u).next)
-    by_decide turn false e en goes used =
-        silent turn e ∙ below (ap is_in_use (sym (silent turn e)) ∙ used)
-        ∙ sym (same_seat u (row_at now ph turn u).next (row_keeps_slot now ph turn u)
-        (ap is_last is ∙ row_going ph c turn en) (row_goes_on now ph c turn u is en goes e))
-    by_decide (Decide word) true e en goes used = grind (arith, common_steps)
-    by_decide turn true e en goes used = cc
+    by_take : Takes ph turn
+        → IsBelow (at_last seat (option_to_list (row_at now ph turn u).sent) u.test.unit)
+        (seat_of (Some (row_at now ph turn u).next))
+    by_take (answers true at to) =
+        stays (row_at now ph turn u) refl (ap is_last at) (rw (at, to) (record { phase = refl; sent = tt }))
+    by_take (answers false at to) = absurd (goes to)
+    by_take (opens on) =
+        stays (row_at now ph turn u) refl (open_on ph on) (continues u _ (row_moves now ph turn u is on))
+    by_take (decides word at to) = rw (at, to) (grind (arith, common_steps))
 
 -- what a row sends leaves the seats of other units
-row_others : (now : ℕ) (ph : Phase) (turn : UnitTurn) (u : UnitView) (seat : ℕ → Seat) (k : ℕ)
+row_others : (now : ℕ) (ph : Phase) (turn : UnitTurn) (u : UnitView) (seat : ℕ → Seat) (k : ℕ) → u.phase ≡ ph
+    → takes_at now ph u turn ≡ true
     → (u.test.unit == k) ≡ false → at_last seat (option_to_list (row_at now ph turn u).sent) k ≡ seat k
-row_others now ph turn u seat k apart = grind (arith, common_steps)
+row_others now ph turn u seat k is en apart = by_take (row_takes now ph turn u en)
+  where
+    by_go : (go : Bool) → at_last seat (option_to_list (row_at now StartSent (Answered go) u).sent) k ≡ seat k
+    by_go true = refl
+    by_go false = refl
+
+    by_take : Takes ph turn → at_last seat (option_to_list (row_at now ph turn u).sent) k ≡ seat k
+    by_take (answers go at to) = rw (at, to) (by_go go)
+    by_take (opens on) = report_leaves seat _ k (continues u _ (row_moves now ph turn u is on)).sent
+    by_take (decides word at to) = rw (at, to) (ap (λ b. if b then Gone else seat k) apart)
 
 -- a unit's own turn leaves the board's seats, or ends the use of its own
 pub acts_lower : (now j : ℕ) (turn : UnitTurn) (run : List Happening)
@@ -138,7 +141,7 @@ acts_lower now j turn run k = by_unit (j == k) (unit_of k run)
 
 -- a unit's own turn leaves the last seats below the board's
 pub acts_last : (now j : ℕ) (turn : UnitTurn) (run : List Happening) (u : UnitView) (seat : ℕ → Seat)
-    → unit_of j run ≡ Some u → takes u.phase u.capture turn ≡ true → turn ≢ Answered false → u.test.unit ≡ j
+    → unit_of j run ≡ Some u → takes now u turn ≡ true → turn ≢ Answered false → u.test.unit ≡ j
     → AreLower seat (board_seat run)
     → AreLower (at_last seat (option_to_list (row now turn u).sent)) (seat_after now (Some (Acts j turn)) run)
 acts_last now j turn run u seat is en goes named below k = by_unit (j == k) refl
@@ -156,8 +159,9 @@ acts_last now j turn run u seat is en goes named below k = by_unit (j == k) refl
         (seat_of (option_map (λ v. (row now turn v).next) v))) (sym here)
         (subst (λ i. IsBelow (at_last seat (option_to_list (row now turn u).sent) i)
         (seat_of (Some (row now turn u).next))) own
-        (row_finishes now u.phase u.capture turn (at_moment now u) seat refl en goes was))
+        (row_finishes now u.phase turn (at_moment now u) seat refl (takes_moment now u.phase u turn en) goes was))
     by_unit false e =
         let apart : (u.test.unit == k) ≡ false = grind arith in
-        subst (λ s. IsBelow s (board_seat run k)) (sym (row_others now u.phase turn (at_moment now u) seat k apart))
+        subst (λ s. IsBelow s (board_seat run k))
+        (sym (row_others now u.phase turn (at_moment now u) seat k refl (takes_moment now u.phase u turn en) apart))
         (below k)

@@ -1,5 +1,5 @@
 -- The board after one more turn: a field at a time.
-use Rattle.std.proofs.Common.{◌≡◌, ◌≢◌, ℕ, add-zero, ◌+◌, ◌<◌, ◌==◌, ◌||◌, List, [], ◌∷◌, ◌++◌, length, get_or, set}
+use Rattle.std.proofs.Common.{◌≡◌, ◌≢◌, ◌⊎◌, inl, inr, ℕ, add-zero, ◌+◌, ◌<◌, ◌==◌, ◌||◌, List, [], ◌∷◌, ◌++◌, length, get_or, set}
 use Rattle.std.proofs.Common.{Bool, true, false, if◌then◌else◌, Option, Some, None, option_map, option_to_list}
 use Rattle.std.proofs.Common.{filter_map, count_by, sum_by, cond, refl, ap, sym, ◌∙◌, arith, get_or-set_other}
 use Rattle.std.proofs.Math.ListN.{length-set}
@@ -29,13 +29,13 @@ use Rattle.run_model.specs.Words.{finished_test, skips, stats_after, tally}
 use Rattle.run_model.specs.Admission.{units_in}
 use Rattle.run_model.specs.Dispatch.{tallied, having_told}
 use Rattle.run_model.specs.Board.{Deed, deed_events, board, said, units_after, step}
-use Rattle.run_model.specs.Turns.{enabled, deed_on, happening}
+use Rattle.run_model.specs.Turns.{nothing_done, enabled, deed_on, happening}
 use Rattle.run_model.specs.Journal.{history, IsLegalBackward}
 use Rattle.run_laws.proofs.Queue.{queue-cons}
 use Rattle.run_laws.proofs.Running.{running_in_told, running-started, running-finished, running-kept}
 use Rattle.run_laws.proofs.OnBoard.{board_of, units-length, units-at}
 use Rattle.run_laws.proofs.Deeds.{ToldFits, ToldFitsIn, Does}
-use Rattle.run_laws.proofs.Kept.{greater-None, HoldsAfter, does_after, sub_run-after, holds}
+use Rattle.run_laws.proofs.Kept.{greater-None, HoldsAfter, does_after, IsOfRun, IsBeforeRuns, where_joins, holds}
 
 -- the list of units after a part, at one of them
 at_part : (now : ℕ) (part : Option UnitPart) (us : List (Option UnitView)) (k : ℕ) → k < length us
@@ -172,11 +172,19 @@ board-cons p over now run e d does =
 -- so each enabled turn after a history that holds moves the board by its step
 board_step : (p : Settings) (past : List Happening) (e : Entry) → HoldsAfter p past → enabled p past e.turn ≡ true
     → board p (happening p past e ∷ past) ≡ step (board p past) e.turn (deed_on p (board p past) e.turn)
-board_step p past e h en =
-    ap (board_of p (is_over (happening p past e ∷ past)) (clock (happening p past e ∷ past)))
-    (sub_run-after p past e h en)
-    ∙ board-cons p (is_over past) (clock past) (sub_run past) e (deed_on p (board p past) e.turn)
-    (does_after p past e h en)
+board_step p past e h en = by_run (where_joins p past e h en)
+  where
+    by_run : IsOfRun p past e ⊎ IsBeforeRuns p past e
+        → board p (happening p past e ∷ past) ≡ step (board p past) e.turn (deed_on p (board p past) e.turn)
+    by_run (inl of) =
+        ap (board_of p (is_over (happening p past e ∷ past)) (clock (happening p past e ∷ past))) of.joins
+        ∙ board-cons p (is_over past) (clock past) (sub_run past) e (deed_on p (board p past) e.turn)
+        (does_after p past e h en)
+    by_run (inr before) =
+        ap (board_of p (is_over (happening p past e ∷ past)) (clock (happening p past e ∷ past))) before.still
+        ∙ ap (λ (d : Deed). board_of p (d.over || is_over past) (clock past + ns_of e.turn) []) before.idle
+        ∙ ap (λ run. step (board_of p (is_over past) (clock past) run) e.turn nothing_done) (sym before.none)
+        ∙ ap (step (board p past) e.turn) (sym before.idle)
 
 pub board-steps : (p : Settings) (backward : List Entry) (e : Entry) → IsLegalBackward p backward
     → enabled p (history p backward) e.turn ≡ true

@@ -3,7 +3,8 @@ use Rattle.std.proofs.Common.{◌≡◌, ℕ, Bool, true, false, Option, Some, N
 use Rattle.run_events.specs.declared.settings.Settings.{Settings}
 use Rattle.run_events.specs.declared.turn.Turn.{Turn}
 use Rattle.run_events.specs.declared.turn.Turn.TheVariants.{Begin, Admit, Deliver, Started, StartFailed, Exit}
-use Rattle.run_events.specs.declared.turn.Turn.TheVariants.{WaitFailed, Piece, StreamEnd, ReadError, Decide, End}
+use Rattle.run_events.specs.declared.turn.Turn.TheVariants.{WaitFailed, Piece, StreamEnd, ReadError, Decide, UnitDue}
+use Rattle.run_events.specs.declared.turn.Turn.TheVariants.{Clock, End}
 use Rattle.run_model.specs.declared.unit_turn.UnitTurn.{UnitTurn}
 use Rattle.run_model.specs.declared.unit_turn.UnitTurn.TheVariants.{Answered}
 use Rattle.run_model.specs.Board.{Board}
@@ -23,6 +24,7 @@ pub record Cases (P : Turn → Option (ℕ × UnitTurn) → Type 0) : Type 0 whe
   pub begin : P Begin None
   pub admit : P Admit None
   pub deliver : P Deliver None
+  pub clock : (ns : ℕ) → P (Clock ns) None
   pub end : P End None
   pub named : (turn : Turn) (k : ℕ) (to : UnitTurn) → is_answer to ≡ false → P turn (Some (k, to))
   pub unbuilt : (turn : Turn) → IsUnbuilt turn → P turn None
@@ -38,6 +40,8 @@ by_turn P c (WaitFailed unit error) = c.named _ _ _ refl
 by_turn P c (Piece unit stream bytes) = c.named _ _ _ refl
 by_turn P c (StreamEnd unit stream) = c.named _ _ _ refl
 by_turn P c (ReadError unit stream error) = c.named _ _ _ refl
+by_turn P c (UnitDue unit) = c.named _ _ _ refl
 by_turn P c (Decide unit word) = c.named _ _ _ refl
+by_turn P c (Clock ns) = c.clock ns
 by_turn P c End = c.end
 by_turn P c turn = c.unbuilt turn (λ p b. refl)

@@ -9,7 +9,7 @@ use Rattle.run_events.specs.declared.settings.Settings.{Settings}
 use Rattle.run_events.specs.declared.turn.Turn.{Turn}
 use Rattle.run_events.specs.declared.turn.Turn.TheVariants.{Begin, End}
 use Rattle.run_events.specs.declared.message.Message.{Message}
-use Rattle.run_events.specs.declared.message.Message.TheVariants.{Start, Skip, Finish}
+use Rattle.run_events.specs.declared.message.Message.TheVariants.{Start, Slow, Skip, Finish}
 use Rattle.run_events.specs.declared.message.TestStart.{TestStart}
 use Rattle.run_events.specs.declared.events.ReporterEvent.{ReporterEvent}
 use Rattle.run_events.specs.declared.events.ReporterEvent.TheVariants.{Test}
@@ -21,34 +21,35 @@ use Rattle.run_model.specs.declared.happening.UnitPart.TheVariants.{Joins, Acts}
 use Rattle.run_model.specs.declared.unit_turn.UnitTurn.{UnitTurn}
 use Rattle.run_model.specs.declared.unit_turn.UnitTurn.TheVariants.{Answered}
 use Rattle.run_model.specs.declared.unit_view.UnitView.{UnitView}
-use Rattle.run_model.specs.Unit.{at_moment, takes}
+use Rattle.run_model.specs.Unit.{at_moment, takes, takes_at}
 use Rattle.run_model.specs.Words.{is_on, finished_test, sent, delivered, queue, told, unit_of, units, unit_after, tally}
 use Rattle.run_model.specs.Admission.{units_in, Newcomer, newcomer}
 use Rattle.run_model.specs.Dispatch.{may_go, event, with_start, with_finish, started_event}
 use Rattle.run_model.specs.Board.{Board, Deed, deed_events}
 use Rattle.run_model.specs.Turns.{enabled_on, is_empty, is_complete, takes_turn, turn_of_unit, unit_takes, taken_by}
-use Rattle.run_model.specs.Turns.{admission, delivery, run_turn, done_by, deed_on}
+use Rattle.run_model.specs.Turns.{nothing_done, admission, delivery, run_turn, done_by, deed_on}
 use Rattle.run_model.specs.Accounts.{started, HasAccount, is_mismatched, account_of, pending_of}
 use Rattle.run_laws.proofs.Holds.{Holds, place_of}
 use Rattle.run_laws.proofs.Queue.{lt-from_queue}
 use Rattle.run_laws.proofs.ByTurn.{is_answer, by_turn}
-use Rattle.run_laws.proofs.AccountLemmas.{of_row, of_start, of_finish, of_skip, begins, first_built, IsBuiltIf}
+use Rattle.run_laws.proofs.AccountLemmas.{of_row, of_start, of_slow, of_finish, of_skip, begins, first_built, IsBuiltIf}
 use Rattle.run_laws.proofs.AccountLemmas.{row_sends_built}
+use Rattle.run_laws.proofs.Rows.{takes_moment}
 use Rattle.run_laws.proofs.OnBoard.{board_of, unit_in-is}
 use Rattle.run_laws.proofs.Newcomers.{IsNew, new_unit}
 use Rattle.run_laws.proofs.Facts.{start_waits, finish_follows, may_go-is, oldest_built}
 
 -- a unit that takes a turn was admitted and takes it, and no start is refused
-pub record IsTaken (run : List Happening) (k : ℕ) (turn : UnitTurn) : Type 0 where
+pub record IsTaken (now : ℕ) (run : List Happening) (k : ℕ) (turn : UnitTurn) : Type 0 where
   pub unit : UnitView
   pub is : unit_of k run ≡ Some unit
-  pub takes : takes unit.phase unit.capture turn ≡ true
+  pub takes : takes now unit turn ≡ true
   pub goes : turn ≢ Answered false
 
-abbrev pub PartFits : Settings → List Happening → Option UnitPart → Type 0
-PartFits p run None = ⊤
-PartFits p run (Some (Joins first)) = (sent : Message) × IsNew p run first sent
-PartFits p run (Some (Acts k turn)) = IsTaken run k turn
+abbrev pub PartFits : Settings → ℕ → List Happening → Option UnitPart → Type 0
+PartFits p now run None = ⊤
+PartFits p now run (Some (Joins first)) = (sent : Message) × IsNew p run first sent
+PartFits p now run (Some (Acts k turn)) = IsTaken now run k turn
 
 -- a start is told of a test of which nothing was told, a finish of one that was told started
 abbrev pub ToldFitsIn : ℕ → List ReporterEvent → TestEventKind → Type 0
@@ -60,20 +61,20 @@ abbrev pub ToldFits : ℕ → List ReporterEvent → Option ReporterEvent → Ty
 ToldFits n es (Some (Test e)) = ToldFitsIn n es e.kind
 ToldFits n es _ = ⊤
 
--- a deed cancels nothing; a sub-run begins with it where nothing has happened, and else one is on; it ends the run only
--- as the end of a complete run does
+-- a deed cancels nothing; a sub-run begins with it where nothing has happened, and else one is on, or nothing has
+-- happened and nothing is done; it ends the run only as the end of a complete run does
 pub record Marks (p : Settings) (over : Bool) (now : ℕ) (run : List Happening) (d : Deed) : Type 0 where
   pub cause : d.cause ≡ None
   pub cancel : d.cancel ≡ None
   pub begins : d.begins ≡ true → run ≡ []
-  pub on : (d.begins || is_on run) ≡ true
+  pub still : (d.begins || is_on run) ≡ false → (run ≡ []) × (d ≡ nothing_done)
   pub finishes : d.over ≡ d.ends
   pub ends : d.ends ≡ true → (d ≡ run_turn p (board_of p over now run) End)
       × (is_complete (board_of p over now run) ≡ true)
 
 -- what a deed does fits a sub-run
 pub record Does (p : Settings) (over : Bool) (now : ℕ) (run : List Happening) (d : Deed) : Type 0 where
-  pub part : PartFits p run d.part
+  pub part : PartFits p now run d.part
   pub room : delivered run + (if d.taken then 1 else 0) ≤ length (sent run)
   pub sends : IsBuiltIf d.sent
   pub tells : ToldFits (units_in p) (told run) d.told
@@ -89,7 +90,7 @@ quiet p over now run d on cause cancel begins over_not ends = record {
   cause = cause;
   cancel = cancel;
   begins = λ h. cc;
-  on = ap (λ b. b || is_on run) begins ∙ on;
+  still = λ off. let never : true ≡ false = sym (ap (λ b. b || is_on run) begins ∙ on) ∙ off in cc;
   finishes = over_not ∙ sym ends;
   ends = λ h. cc;
 }
@@ -118,7 +119,7 @@ admits p over now run (Some new) h on e en =
 -- what a unit's own turn does
 unit_does : (p : Settings) (over : Bool) (now : ℕ) (run : List Happening) (j : ℕ) (turn : UnitTurn)
     (v : Option UnitView) → Holds p over now run
-    → over ≡ false → unit_of j run ≡ v → unit_takes v turn ≡ true → is_answer turn ≡ false
+    → over ≡ false → unit_of j run ≡ v → unit_takes now v turn ≡ true → is_answer turn ≡ false
     → Does p over now run (taken_by now j turn v)
 unit_does p over now run j turn None h going e en other = cc
 unit_does p over now run j turn (Some u) h going e en other = record {
@@ -130,7 +131,7 @@ unit_does p over now run j turn (Some u) h going e en other = record {
         cc;
   };
   room = omega (arith, h.fits);
-  sends = row_sends_built now u.phase turn (at_moment now u);
+  sends = row_sends_built now u.phase turn (at_moment now u) refl (takes_moment now u.phase u turn en);
   tells = tt;
   accounts = λ k. rw append-nil (of_row (is_mismatched p (place_of p k)) now j k turn u (unit_of k run)
       (account_of k (told run)) (queue run)
@@ -160,16 +161,19 @@ start_does p over now run start rest false (Some u) h on goes eq ew = cc
 start_does p over now run start rest true (Some u) h on goes eq ew =
     let waits = start_waits p over now run start rest h eq in
     let same : waits.unit ≡ u = cc (sym waits.is ∙ ew) in
+    let waiting : takes now u (Answered true) ≡ true =
+    ap (λ (u : UnitView). takes now u (Answered true)) (sym same)
+    ∙ ap (λ ph. takes_at now ph waits.unit (Answered true)) waits.phase in
     record {
       part = record {
         unit = u;
         is = ew;
-        takes = ap (λ (u : UnitView). takes u.phase u.capture (Answered true)) (sym same)
-            ∙ ap (λ ph. takes ph waits.unit.capture (Answered true)) waits.phase;
+        takes = waiting;
         goes = λ is. cc;
       };
       room = lt-from_queue (delivered run) (sent run) rest _ eq;
-      sends = row_sends_built now u.phase (Answered true) (at_moment now u);
+      sends = row_sends_built now u.phase (Answered true) (at_moment now u) refl
+          (takes_moment now u.phase u (Answered true) waiting);
       tells = (waits.below, waits.untold);
       accounts = λ k. rw eq (of_start (is_mismatched p (place_of p k)) now k true u (unit_of k run)
           (account_of k (told run)) rest start (with_start (tally p run))
@@ -193,6 +197,15 @@ delivers p over now run (Skip skip ∷ rest) h on eq en = record {
   tells = tt;
   accounts = λ k. rw eq (of_skip (is_mismatched p (place_of p k)) now k (unit_of k run) (account_of k (told run)) rest
       skip (rw eq at (h.accounts k)));
+  marks = quiet p over now run _ on refl refl refl refl refl;
+}
+delivers p over now run (Slow slow ∷ rest) h on eq en = record {
+  part = tt;
+  room = lt-from_queue (delivered run) (sent run) rest _ eq;
+  sends = tt;
+  tells = tt;
+  accounts = λ k. rw eq (of_slow (is_mismatched p (place_of p k)) now k (unit_of k run) (account_of k (told run)) rest
+      slow (rw eq at (h.accounts k)));
   marks = quiet p over now run _ on refl refl refl refl refl;
 }
 delivers p over now run (Finish finish ∷ rest) h on eq en =
@@ -224,6 +237,7 @@ does p over now run turn h en =
           (second_so (is_on run) (not (is_empty (queue run))) en);
       named = λ turn k to other en. unit_does p over now run k to _ h going (sym (unit_in-is p over now run k h)) en
           other;
+      clock = λ ns en. passes (is_on run) refl;
       end = λ en. record {
         part = tt;
         room = omega (arith, h.fits);
@@ -234,7 +248,7 @@ does p over now run turn h en =
           cause = refl;
           cancel = refl;
           begins = λ h. cc;
-          on = first_so (is_on run) (is_complete b) en;
+          still = λ off. let never : true ≡ false = sym (first_so (is_on run) (is_complete b) en) ∙ off in cc;
           finishes = refl;
           ends = λ _. (refl, second_so (is_on run) (is_complete b) en);
         };
@@ -253,6 +267,27 @@ does p over now run turn h en =
     going : over ≡ false
     going = not_true over (first_so (not over) (takes_turn p b turn (turn_of_unit turn)) en)
 
+    passes : (b : Bool) → is_on run ≡ b → Does p over now run nothing_done
+    passes b on = record {
+      part = tt;
+      room = omega (arith, h.fits);
+      sends = tt;
+      tells = tt;
+      accounts = λ k. simp append-nil (h.accounts k);
+      marks = by_on b on;
+    }
+      where
+        by_on : (b : Bool) → is_on run ≡ b → Marks p over now run nothing_done
+        by_on true on = quiet p over now run nothing_done on refl refl refl refl refl
+        by_on false off = record {
+          cause = refl;
+          cancel = refl;
+          begins = λ h. cc;
+          still = λ _. (h.fresh off going, refl);
+          finishes = refl;
+          ends = λ h. cc;
+        }
+
     begun : run ≡ [] → Does p over now run (run_turn p b Begin)
     begun empty = record {
       part = tt;
@@ -264,7 +299,7 @@ does p over now run turn h en =
         cause = refl;
         cancel = refl;
         begins = λ _. empty;
-        on = refl;
+        still = λ off. cc;
         finishes = refl;
         ends = λ h. cc;
       };

@@ -1,5 +1,5 @@
 -- Every test of a sub-run that has ended has its fate.
-use Rattle.std.proofs.Common.{◌≡◌, inr, ℕ, zero, suc, ◌<◌, ◌||◌, List, [], ◌∷◌, length, get_or, Bool, true, false, not}
+use Rattle.std.proofs.Common.{◌≡◌, ◌⊎◌, inl, inr, ℕ, zero, suc, ◌<◌, ◌||◌, List, [], ◌∷◌, length, get_or, Bool, true, false, not}
 use Rattle.std.proofs.Common.{if◌then◌else◌, Option, Some, None, refl, ap, sym, subst, ◌∙◌, arith}
 use Rattle.std.specs.Prelude.{IsTrue}
 use Rattle.std.specs.List.{list_all, All, Contains}
@@ -7,7 +7,6 @@ use Rattle.std.specs.Cmp.{first_so, second_so}
 use Rattle.std.proofs.lemmas.List.{append-nil}
 use Rattle.std.proofs.lemmas.List.Elements.{filter_map-append, All-nil, All-cons, All-contains}
 use Rattle.std.proofs.lemmas.Grind.{common_steps}
-use Rattle.run_capture.specs.declared.test_output.CaptureStrategy.{CaptureStrategy}
 use Rattle.run_events.specs.declared.settings.Settings.{Settings}
 use Rattle.run_events.specs.declared.turn.Turn.TheVariants.{End}
 use Rattle.run_events.specs.declared.message.Message.{Message}
@@ -15,32 +14,34 @@ use Rattle.run_events.specs.declared.result.ExecuteStatus.{ExecuteStatus}
 use Rattle.run_model.specs.declared.entry.Entry.{Entry}
 use Rattle.run_model.specs.declared.happening.Happening.{Happening}
 use Rattle.run_model.specs.declared.phase.Phase.{Phase}
-use Rattle.run_model.specs.declared.phase.Phase.TheVariants.{StartSent, Starting, Running, Leak, Deciding, Over}
+use Rattle.run_model.specs.declared.phase.Phase.TheVariants.{Over}
+use Rattle.run_model.specs.declared.unit_view.AttemptTerms.{AttemptTerms}
 use Rattle.run_model.specs.declared.unit_view.UnitView.{UnitView}
 use Rattle.run_model.specs.Words.{clock, is_over, sub_run, ended_runs, queue, told, unit_of, units}
-use Rattle.run_model.specs.Admission.{is_done, is_last, tests_in, unit_of_test}
-use Rattle.run_model.specs.Board.{board, said}
-use Rattle.run_model.specs.Turns.{enabled, is_complete, is_empty, takes_turn, turn_of_unit, run_turn, happening}
+use Rattle.run_model.specs.Admission.{is_done, is_last, tests_in, unit_of_test, terms_at}
+use Rattle.run_model.specs.Board.{Deed, board, said}
+use Rattle.run_model.specs.Turns.{enabled, is_complete, is_empty, takes_turn, turn_of_unit, run_turn, deed_on, happening}
 use Rattle.run_model.specs.Journal.{history, IsLegalBackward}
 use Rattle.run_model.specs.Accounts.{News, news_of, HasAccount, HasAccountAt, is_mismatched, account_of}
-use Rattle.run_model.specs.Attempts.{OwnTurn, story_of, pieces, ended_statuses, statuses_of}
+use Rattle.run_model.specs.Story.{OwnTurn, story_of, pieces}
+use Rattle.run_model.specs.Attempts.{ended_statuses, statuses_of}
 use Rattle.run_model.specs.Fates.{was_left, account, MeetsAttemptLaw, HasFate, HaveFates}
 use Rattle.run_laws.proofs.Holds.{Holds, IsAttempted, IsAttemptedIn}
 use Rattle.run_laws.proofs.AttemptLemmas.{IsMadeIf, made_statuses}
 use Rattle.run_laws.proofs.OnBoard.{board_of, units-length, units-at}
 use Rattle.run_laws.proofs.Newcomers.{place-of_test}
-use Rattle.run_laws.proofs.Kept.{HoldsAfter, does_after, sub_run-after, holds}
+use Rattle.run_laws.proofs.Kept.{HoldsAfter, does_after, IsOfRun, IsBeforeRuns, where_joins, holds}
 
 -- a test that is done, of which nothing waits to be told, has its account and its one attempt, by its own turns
 abbrev HasFateWith : Bool → List News → List ExecuteStatus → Type 0
 HasFateWith mm t ss = (t ≡ account mm false false ss) × (mm ≡ false → MeetsAttemptLaw 0 ss)
 
-fate_of : (mm : Bool) (strategy : CaptureStrategy) (v : Option UnitView) (story : List OwnTurn) (t : List News)
-    → is_done v ≡ true → IsAttempted mm v → IsMadeIf strategy v story
-    → HasAccount mm v t [] → HasFateWith mm t (ended_statuses strategy 1 (pieces story))
-fate_of mm strategy None story t d a made h = cc
-fate_of mm strategy (Some u) story t d a made h =
-    subst (HasFateWith mm t) (made_statuses strategy u (pieces story) made) (by_attempts mm u.phase u.statuses d a h)
+fate_of : (mm : Bool) (terms : AttemptTerms) (v : Option UnitView) (story : List OwnTurn) (t : List News)
+    → is_done v ≡ true → IsAttempted mm v → IsMadeIf terms v story
+    → HasAccount mm v t [] → HasFateWith mm t (ended_statuses terms 1 (pieces story))
+fate_of mm terms None story t d a made h = cc
+fate_of mm terms (Some u) story t d a made h =
+    subst (HasFateWith mm t) (made_statuses terms u (pieces story) made) (by_attempts mm u.phase u.statuses d a h)
   where
     by_attempts : (mm : Bool) (ph : Phase) (ss : List ExecuteStatus) → is_last ph ≡ true → IsAttemptedIn mm ph ss
         → HasAccountAt mm ph ss t []
@@ -50,11 +51,7 @@ fate_of mm strategy (Some u) story t d a made h =
     by_attempts false Over [] l a h = absurd a
     by_attempts false Over (s ∷ []) l a h = (grind (arith, common_steps), λ e. inr refl)
     by_attempts false Over (s ∷ t ∷ ss) l a h = absurd h
-    by_attempts mm StartSent ss l a h = cc
-    by_attempts mm Starting ss l a h = cc
-    by_attempts mm Running ss l a h = cc
-    by_attempts mm Leak ss l a h = cc
-    by_attempts mm Deciding ss l a h = cc
+    by_attempts mm ph ss l a h = cc
 
 -- each item of a list on which a test holds throughout passes
 all_at : {X : Type 0} (f : X → Bool) (xs : List X) (k : ℕ) (d : X) → list_all f xs ≡ true → k < length xs
@@ -80,8 +77,9 @@ end_fates p over now run e j h below complete =
     let done : is_done (unit_of k run) ≡ true =
     sym (ap is_done (units-at p run k (omega arith)))
     ∙ all_at is_done (units p run) k None all (omega (arith, units-length p run)) in
-    let fate = fate_of (is_mismatched p j) p.capture (unit_of k run) (story_of k run) (account_of k (told run)) done
-    (subst (λ j. IsAttempted (is_mismatched p j) (unit_of k run)) (place-of_test p j) (h.attempted k)) (h.made k)
+    let fate = fate_of (is_mismatched p j) (terms_at p j) (unit_of k run) (story_of k run) (account_of k (told run)) done
+    (subst (λ j. IsAttempted (is_mismatched p j) (unit_of k run)) (place-of_test p j) (h.attempted k))
+    (subst (λ j. IsMadeIf (terms_at p j) (unit_of k run) (story_of k run)) (place-of_test p j) (h.made k))
     (subst (λ j. HasAccount (is_mismatched p j) (unit_of k run) (account_of k (told run)) []) (place-of_test p j)
     (rw empty at (h.accounts k))) in
     record {
@@ -97,10 +95,16 @@ ends_fates : (p : Settings) (past : List Happening) (e : Entry) (j : ℕ) → Ho
     → IsTrue (enabled p past e.turn)
     → (happening p past e).ends ≡ true → j < tests_in p → HasFate p (sub_run (happening p past e ∷ past)) j
 ends_fates p past e j h en ends below =
-    let end = (does_after p past e h en).marks.ends ends in
-    subst (λ run. HasFate p run j) (sym (sub_run-after p past e h en))
-    (subst (λ d. HasFate p (said (clock past) e d ∷ sub_run past) j) (sym end.0)
-    (end_fates p (is_over past) (clock past) (sub_run past) e j h below end.1))
+    let end = (does_after p past e h en).marks.ends ends in by_run end (where_joins p past e h en)
+  where
+    by_run : (deed_on p (board p past) e.turn ≡ run_turn p (board p past) End) × (is_complete (board p past) ≡ true)
+        → IsOfRun p past e ⊎ IsBeforeRuns p past e → HasFate p (sub_run (happening p past e ∷ past)) j
+    by_run end (inl of) =
+        subst (λ run. HasFate p run j) (sym of.joins)
+        (subst (λ d. HasFate p (said (clock past) e d ∷ sub_run past) j) (sym end.0)
+        (end_fates p (is_over past) (clock past) (sub_run past) e j h below end.1))
+    by_run end (inr before) =
+        let never : false ≡ true = sym (ap (λ (d : Deed). d.ends) before.idle) ∙ ends in cc
 
 -- each test has its fate in each sub-run that has ended
 pub ended_fates : (p : Settings) (backward : List Entry) → IsLegalBackward p backward

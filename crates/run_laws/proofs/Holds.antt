@@ -2,17 +2,17 @@
 use Rattle.std.specs.Prelude.{ℕ, ◌≡◌, ◌+◌, ◌-◌, ◌<◌, ◌≤◌, List, [], length, Bool, false, Option, Some, None, ⊤}
 use Rattle.std.specs.List.{All}
 use Rattle.run_events.specs.declared.message.Message.{Message}
-use Rattle.run_events.specs.declared.message.Message.TheVariants.{Start, Skip, Finish}
+use Rattle.run_events.specs.declared.message.Message.TheVariants.{Start, Slow, Skip, Finish}
 use Rattle.run_events.specs.declared.settings.Settings.{Settings}
 use Rattle.run_events.specs.declared.result.ExecuteStatus.{ExecuteStatus}
 use Rattle.run_model.specs.declared.happening.Happening.{Happening}
 use Rattle.run_model.specs.declared.phase.Phase.{Phase}
 use Rattle.run_model.specs.declared.phase.Phase.TheVariants.{Over}
 use Rattle.run_model.specs.declared.unit_view.UnitView.{UnitView}
-use Rattle.run_model.specs.Admission.{scripts_in, units_in}
+use Rattle.run_model.specs.Admission.{scripts_in, units_in, terms_at}
 use Rattle.run_model.specs.Words.{is_on, heard, sent, delivered, skipped, finished, reason, unit_of}
 use Rattle.run_model.specs.Accounts.{is_mismatched, IsAccountedAs}
-use Rattle.run_model.specs.Attempts.{story_of}
+use Rattle.run_model.specs.Story.{story_of}
 use Rattle.run_model.specs.Fates.{never_started, was_left}
 use Rattle.run_laws.proofs.AttemptLemmas.{IsMadeIf}
 
@@ -33,9 +33,10 @@ abbrev pub IsAttempted : Bool → Option UnitView → Type 0
 IsAttempted mm None = ⊤
 IsAttempted mm (Some u) = IsAttemptedIn mm u.phase u.statuses
 
--- a message that is sent yet: a start, a skip or a finish
+-- a message that is sent yet: a start, a slow report, a skip or a finish
 abbrev pub IsBuilt : Message → Type 0
 IsBuilt (Start start) = ⊤
+IsBuilt (Slow slow) = ⊤
 IsBuilt (Skip skip) = ⊤
 IsBuilt (Finish finish) = ⊤
 IsBuilt m = ⊥
@@ -49,7 +50,7 @@ pub record Holds (p : Settings) (over : Bool) (now : ℕ) (run : List Happening)
   pub heard : heard run ≤ now
   pub named : (k : ℕ) → IsNamed (units_in p) now k (unit_of k run)
   pub accounts : (k : ℕ) → IsAccountedAs p (place_of p k) k run
-  pub made : (k : ℕ) → IsMadeIf p.capture (unit_of k run) (story_of k run)
+  pub made : (k : ℕ) → IsMadeIf (terms_at p (place_of p k)) (unit_of k run) (story_of k run)
   -- before a sub-run is on, and the run not over, nothing has happened: no further sub-run begins yet
   pub fresh : is_on run ≡ false → over ≡ false → run ≡ []
   -- no other message is sent yet, and no turn is a cause, so no start is refused

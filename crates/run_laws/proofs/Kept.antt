@@ -1,5 +1,5 @@
 -- Each enabled turn keeps what holds of the newest sub-run.
-use Rattle.std.proofs.Common.{◌≡◌, ◌≢◌, ℕ, ◌+◌, ◌<◌, ◌≤◌, ◌==◌, ◌&&◌, ◌||◌, List, [], ◌∷◌, ◌++◌, length, drop, Bool}
+use Rattle.std.proofs.Common.{◌≡◌, ◌⊎◌, inl, inr, ℕ, ◌+◌, ◌<◌, ◌≤◌, ◌==◌, ◌&&◌, ◌||◌, List, [], ◌∷◌, ◌++◌, length, drop, Bool}
 use Rattle.std.proofs.Common.{true, false, not, if◌then◌else◌, Option, Some, None, option_to_list, option_map}
 use Rattle.std.proofs.Common.{filter_map, count_by, cond, is_some, nat_lt, refl, ap, sym, subst, ◌∙◌, arith}
 use Rattle.std.proofs.Common.{length-append}
@@ -7,7 +7,6 @@ use Rattle.std.specs.List.{All}
 use Rattle.std.proofs.lemmas.List.Elements.{filter_map-append, All-nil, All-cons, All-append}
 use Rattle.std.proofs.lemmas.List.Sums.{sum_by-append}
 use Rattle.std.proofs.lemmas.Grind.{common_steps}
-use Rattle.run_capture.specs.declared.test_output.CaptureStrategy.{CaptureStrategy}
 use Rattle.run_events.specs.Cancel.{greater}
 use Rattle.run_events.specs.declared.settings.Settings.{Settings}
 use Rattle.run_events.specs.declared.message.Message.{Message}
@@ -21,28 +20,28 @@ use Rattle.run_model.specs.declared.entry.Entry.{Entry}
 use Rattle.run_model.specs.declared.happening.Happening.{Happening}
 use Rattle.run_model.specs.declared.happening.UnitPart.{UnitPart}
 use Rattle.run_model.specs.declared.happening.UnitPart.TheVariants.{Joins, Acts}
-use Rattle.run_model.specs.declared.phase.Phase.{Phase}
-use Rattle.run_model.specs.declared.unit_turn.UnitTurn.{UnitTurn}
-use Rattle.run_model.specs.declared.unit_turn.UnitTurn.TheVariants.{Answered}
+use Rattle.run_model.specs.declared.unit_view.AttemptTerms.{AttemptTerms}
 use Rattle.run_model.specs.declared.unit_view.UnitView.{UnitView}
-use Rattle.run_model.specs.Unit.{at_moment, row, row_at}
-use Rattle.run_model.specs.Words.{events_in, clock, ns_of, is_on, is_over, sub_run, is_heard, heard, reason, sent}
+use Rattle.run_model.specs.Unit.{at_moment, row}
+use Rattle.run_model.specs.Words.{events_in, clock, ns_of, is_on, is_over, joined, sub_run, is_heard, heard, reason, sent}
 use Rattle.run_model.specs.Words.{delivered, queue}
 use Rattle.run_model.specs.Words.{told, finish_of, finished, skips, skipped, unit_of, unit_after}
-use Rattle.run_model.specs.Admission.{units_in, unit_of_test}
+use Rattle.run_model.specs.Admission.{units_in, unit_of_test, terms_at}
 use Rattle.run_model.specs.Dispatch.{event}
 use Rattle.run_model.specs.Board.{Deed, said}
-use Rattle.run_model.specs.Turns.{enabled, deed_on, happening}
+use Rattle.run_model.specs.Turns.{nothing_done, enabled, deed_on, happening}
 use Rattle.run_model.specs.Journal.{history, IsLegalBackward}
-use Rattle.run_model.specs.Accounts.{News, HasAccount, HasAccountAt, IsAccounted, IsAccountedAs, is_mismatched}
+use Rattle.run_model.specs.Accounts.{HasAccount, IsAccounted, IsAccountedAs, is_mismatched}
 use Rattle.run_model.specs.Accounts.{account_of, pending_of}
-use Rattle.run_model.specs.Attempts.{OwnTurn, own_turn, story_of, pieces}
+use Rattle.run_model.specs.Story.{OwnTurn, own_turn, story_of, pieces}
 use Rattle.run_model.specs.Fates.{lets_go, deliveries, never_started, was_left}
 use Rattle.run_laws.specs.Laws.{IsMadeByItsTurns}
-use Rattle.run_laws.proofs.Holds.{Holds, IsBuilt, IsNamed, IsAttempted, IsAttemptedIn, place_of}
-use Rattle.run_laws.proofs.AttemptLemmas.{IsMade, IsMadeIf, made_statuses, row_made_if}
+use Rattle.run_laws.proofs.Holds.{Holds, IsBuilt, IsNamed, place_of}
+use Rattle.run_laws.proofs.AttemptLemmas.{IsMade, IsMadeIf, made_statuses, made_due, row_made_if}
 use Rattle.run_laws.proofs.Queue.{queue-cons}
-use Rattle.run_laws.proofs.AccountLemmas.{IsFirst, IsBuiltIf, row_keeps_unit, row_keeps_latest}
+use Rattle.run_laws.proofs.AccountLemmas.{IsFirst, IsBuiltIf}
+use Rattle.run_laws.proofs.Rows.{row_keeps}
+use Rattle.run_laws.proofs.Attempted.{attempted_after}
 use Rattle.run_laws.proofs.OnBoard.{board_of}
 use Rattle.run_laws.proofs.Newcomers.{place-of_test}
 use Rattle.run_laws.proofs.Deeds.{PartFits, Does, does}
@@ -93,7 +92,7 @@ built_if (Some m) h = All-cons IsBuilt m [] h (All-nil IsBuilt)
 -- a part keeps the name of each unit
 named_after : (p : Settings) (run : List Happening) (now later k : ℕ) (part : Option UnitPart) (v : Option UnitView)
     → now ≤ later
-    → IsNamed (units_in p) now k v → PartFits p run part → IsNamed (units_in p) later k (unit_after now k part v)
+    → IsNamed (units_in p) now k v → PartFits p now run part → IsNamed (units_in p) later k (unit_after now k part v)
 named_after p run now later k None v le h fits u e = let at = h u e in (at.0, at.1, omega arith)
 named_after p run now later k (Some (Joins first)) v le h (sent, new) u e = at_once (first.test.unit == k) refl e
   where
@@ -113,81 +112,51 @@ named_after p run now later k (Some (Acts j turn)) v le h fits u e = by_unit (j 
     by_view (Some w) h e =
         let same : (row now turn w).next ≡ u = cc in
         let named : (w.test.unit ≡ k) × (k < units_in p) × (w.latest ≤ now) = h w refl in
-        let early : (row now turn w).next.latest ≡ now = row_keeps_latest now w.phase turn (at_moment now w) in
+        let keeps = row_keeps now w.phase turn (at_moment now w) refl in
+        let early : (row now turn w).next.latest ≡ now = keeps.latest in
         subst (λ (v : UnitView). (v.test.unit ≡ k) × (k < units_in p) × (v.latest ≤ later)) same
-        (ap (λ t. t.unit) (row_keeps_unit now w.phase turn (at_moment now w)) ∙ named.0, named.1, omega arith)
+        (ap (λ t. t.unit) keeps.test ∙ named.0, named.1, omega arith)
 
     by_unit : (b : Bool) → (if b then option_map (λ w. (row now turn w).next) v else v) ≡ Some u
         → (u.test.unit ≡ k) × (k < units_in p) × (u.latest ≤ later)
     by_unit true e = by_view v h e
     by_unit false e = let at = h u e in (at.0, at.1, omega arith)
 
--- a row of a unit that has its account keeps that it has made an attempt where it is over, unless it is a refused start
-row_attempted : (mm : Bool) (now : ℕ) (ph : Phase) (turn : UnitTurn) (u : UnitView) (ss : List ExecuteStatus)
-    (t q : List News)
-    → u.statuses ≡ ss → u.phase ≡ ph → turn ≢ Answered false → HasAccountAt mm ph ss t q → IsAttemptedIn mm ph ss
-    → IsAttemptedIn mm (row_at now ph turn u).next.phase (row_at now ph turn u).next.statuses
-row_attempted mm now ph turn u ss t q e f go h a = grind (arith, common_steps)
-
-first_attempted : (mm : Bool) (u : UnitView) (sent : Message) → IsFirst mm u sent → IsAttempted mm (Some u)
-first_attempted true u sent first = tt
-first_attempted false u sent (ph, is) = rw ph tt
-
-attempted_after : (p : Settings) (run : List Happening) (now k : ℕ) (part : Option UnitPart) (v : Option UnitView)
-    (t q : List News)
-    → IsAttempted (is_mismatched p (place_of p k)) v → HasAccount (is_mismatched p (place_of p k)) v t q
-    → PartFits p run part
-    → IsAttempted (is_mismatched p (place_of p k)) (unit_after now k part v)
-attempted_after p run now k None v t q a h fits = a
-attempted_after p run now k (Some (Joins first)) v t q a h (sent, new) = begins (first.test.unit == k) refl
-  where
-    begins : (b : Bool) → (first.test.unit == k) ≡ b
-        → IsAttempted (is_mismatched p (place_of p k)) (if b then Some first else v)
-    begins true e =
-        let here : first.test.unit ≡ k = grind arith in
-        subst (λ k. IsAttempted (is_mismatched p (place_of p k)) (Some first)) here
-        (first_attempted _ first sent new.first)
-    begins false e = a
-attempted_after p run now k (Some (Acts j turn)) v t q a h taken = moves (j == k) v a h
-  where
-    moves : (b : Bool) (v : Option UnitView) → IsAttempted (is_mismatched p (place_of p k)) v
-        → HasAccount (is_mismatched p (place_of p k)) v t q
-        → IsAttempted (is_mismatched p (place_of p k)) (if b then option_map (λ w. (row now turn w).next) v else v)
-    moves true None a h = tt
-    moves true (Some u) a h = row_attempted _ now u.phase turn (at_moment now u) u.statuses t q refl refl taken.goes h a
-    moves false v a h = a
-
 -- a unit that begins is at its first attempt, of which there is none yet
-first_made : (mm : Bool) (s : CaptureStrategy) (u : UnitView) (sent : Message) → IsFirst mm u sent → u.attempt ≡ 1
-    → u.start ≡ 0
-    → u.strategy ≡ s → u.statuses ≡ [] → IsMade s u []
-first_made true s u sent (ph, is) a st sg ss = record { attempt = a; start = st; strategy = sg; has = rw ph ss }
-first_made false s u sent (ph, is) a st sg ss = record { attempt = a; start = st; strategy = sg; has = rw ph ss }
+first_made : (mm : Bool) (s : AttemptTerms) (u : UnitView) (sent : Message) → IsFirst mm u sent → u.attempt ≡ 1
+    → u.timers.stopwatch.start ≡ 0 → u.terms ≡ s → u.statuses ≡ [] → IsMade s u []
+first_made true s u sent (ph, is) a st terms ss =
+    record { attempt = a; start = st; terms = terms; has = rw ph ss }
+first_made false s u sent (ph, is) a st terms ss =
+    record { attempt = a; start = st; terms = terms; has = rw ph ss }
 
 -- a part leaves each unit as its own turns make it
 made_after : (p : Settings) (run : List Happening) (now k : ℕ) (part : Option UnitPart)
-    → IsMadeIf p.capture (unit_of k run) (story_of k run) → PartFits p run part
-    → IsMadeIf p.capture (unit_after now k part (unit_of k run))
+    → IsMadeIf (terms_at p (place_of p k)) (unit_of k run) (story_of k run)
+    → IsNamed (units_in p) now k (unit_of k run) → PartFits p now run part
+    → IsMadeIf (terms_at p (place_of p k)) (unit_after now k part (unit_of k run))
     (option_to_list (own_turn k now part) ++ story_of k run)
-made_after p run now k None h fits = h
-made_after p run now k (Some (Joins first)) h (sent, new) = begins (first.test.unit == k) refl
+made_after p run now k None h named fits = h
+made_after p run now k (Some (Joins first)) h named (sent, new) = begins (first.test.unit == k) refl
   where
     begins : (b : Bool) → (first.test.unit == k) ≡ b
-        → IsMadeIf p.capture (if b then Some first else unit_of k run) (story_of k run)
+        → IsMadeIf (terms_at p (place_of p k)) (if b then Some first else unit_of k run) (story_of k run)
     begins true e =
         let here : k ≡ first.test.unit = grind arith in
         let none : unit_of k run ≡ None = ap (λ k. unit_of k run) here ∙ new.unknown in
-        rw (rw none at h) (first_made _ p.capture first sent new.first new.attempt new.start new.strategy new.statuses)
+        rw (rw none at h) (first_made _ _ first sent new.first new.attempt new.start
+        (new.terms ∙ ap (λ k. terms_at p (place_of p k)) (sym here)) new.statuses)
     begins false e = h
-made_after p run now k (Some (Acts j turn)) h taken = by_unit (j == k) refl
+made_after p run now k (Some (Acts j turn)) h named taken = by_unit (j == k) refl
   where
     by_unit : (b : Bool) → (j == k) ≡ b
-        → IsMadeIf p.capture (if b then option_map (λ w. (row now turn w).next) (unit_of k run) else unit_of k run)
+        → IsMadeIf (terms_at p (place_of p k)) (if b then option_map (λ w. (row now turn w).next) (unit_of k run) else unit_of k run)
         (option_to_list (if b then Some (record { moment = now; turn = turn }) else None) ++ story_of k run)
     by_unit true e =
         let here : k ≡ j = grind arith in
-        row_made_if p.capture now turn taken.unit (unit_of k run) (story_of k run)
-        (ap (λ k. unit_of k run) here ∙ taken.is) taken.takes h
+        let is : unit_of k run ≡ Some taken.unit = ap (λ k. unit_of k run) here ∙ taken.is in
+        row_made_if (terms_at p (place_of p k)) now turn taken.unit (unit_of k run) (story_of k run)
+        is taken.takes (named taken.unit is).2 h
     by_unit false e = h
 
 -- what is no cause leaves the reason
@@ -215,18 +184,17 @@ heard-within false now ns was h = omega arith
 
 -- what holds after one more deed that fits
 pub holds-cons : (p : Settings) (over : Bool) (now : ℕ) (run : List Happening) (e : Entry) (d : Deed)
-    → Holds p over now run → Does p over now run d
+    → Holds p over now run → Does p over now run d → (d.begins || is_on run) ≡ true
     → Holds p (d.over || over) (now + ns_of e.turn) (said now e d ∷ run)
-holds-cons p over now run e d h does = record {
+holds-cons p over now run e d h does on = record {
   fits = let room = does.room in omega (arith, length-append (sent run) (option_to_list d.sent));
   counted = counted-cons (said now e d) run does.marks.cancel h.counted;
   heard = heard-within (is_heard (said now e d)) now (ns_of e.turn) (heard run) h.heard;
   named = λ k. named_after p run now (now + ns_of e.turn) k d.part (unit_of k run) (omega arith) (h.named k)
       does.part;
   accounts = λ k. accounted-cons p (place_of p k) k (said now e d) run does.room (does.accounts k);
-  made = λ k. made_after p run now k d.part (h.made k) does.part;
-  fresh = λ off going. absurd (stays_on d.begins (is_on run) d.ends d.over over does.marks.finishes does.marks.on off
-      going);
+  made = λ k. made_after p run now k d.part (h.made k) (h.named k) does.part;
+  fresh = λ off going. absurd (stays_on d.begins (is_on run) d.ends d.over over does.marks.finishes on off going);
   built = All-append IsBuilt (sent run) (option_to_list d.sent) h.built (built_if d.sent does.sends);
   calm = ap (greater (reason run)) does.marks.cause ∙ greater-None (reason run) ∙ h.calm;
   let_go = λ k. let none : is_some (reason run) ≡ false = ap is_some h.calm in (
@@ -235,17 +203,23 @@ holds-cons p over now run e d h does = record {
     stays_let_go (lets_go k d.part) (nat_lt 0 (deliveries k run)) (is_some (reason run)) (was_left k run) none
         (h.let_go k).1,
   );
-  attempted = λ k. attempted_after p run now k d.part (unit_of k run) _ _ (h.attempted k) (h.accounts k) does.part;
+  attempted = λ k. attempted_after p run now k d.part (unit_of k run) _ _ (h.attempted k) (h.accounts k) refl
+      does.part;
 }
 
--- the newest sub-run after a turn that begins one only where nothing has happened
-pub sub_run-cons : (x : Happening) (past : List Happening) → (x.begins ≡ true → sub_run past ≡ [])
-    → sub_run (x ∷ past) ≡ x ∷ sub_run past
-sub_run-cons x past fresh = by_begin x.begins refl
+-- the newest sub-run after a turn that begins one where nothing has happened, or finds one that is on
+sub_run-cons : (x : Happening) (past : List Happening) → (x.begins ≡ true → sub_run past ≡ [])
+    → (x.begins || is_on (sub_run past)) ≡ true → sub_run (x ∷ past) ≡ x ∷ sub_run past
+sub_run-cons x past fresh on = by_begin x.begins refl on
   where
-    by_begin : (b : Bool) → x.begins ≡ b → x ∷ (if b then [] else sub_run past) ≡ x ∷ sub_run past
-    by_begin true is = ap (λ run. x ∷ run) (sym (fresh is))
-    by_begin false is = refl
+    joins : (run : List Happening) → is_on run ≡ true → joined x run ≡ x ∷ run
+    joins [] on = cc
+    joins (y ∷ run) on = refl
+
+    by_begin : (b : Bool) → x.begins ≡ b → (b || is_on (sub_run past)) ≡ true
+        → (if b then x ∷ [] else joined x (sub_run past)) ≡ x ∷ sub_run past
+    by_begin true is on = ap (λ run. x ∷ run) (sym (fresh is))
+    by_begin false is on = joins (sub_run past) on
 
 -- what holds after a history, and what an enabled turn does to it
 abbrev pub HoldsAfter : Settings → List Happening → Type 0
@@ -256,21 +230,40 @@ pub does_after : (p : Settings) (past : List Happening) (e : Entry) → HoldsAft
     (deed_on p (board_of p (is_over past) (clock past) (sub_run past)) e.turn)
 does_after p past e h en = does p (is_over past) (clock past) (sub_run past) e.turn h en
 
-pub sub_run-after : (p : Settings) (past : List Happening) (e : Entry) → HoldsAfter p past
-    → enabled p past e.turn ≡ true
-    → sub_run (happening p past e ∷ past) ≡ happening p past e ∷ sub_run past
-sub_run-after p past e h en = sub_run-cons (happening p past e) past (does_after p past e h en).marks.begins
+-- a turn joins the newest sub-run, or comes before the first one and does nothing but move the clock
+pub record IsOfRun (p : Settings) (past : List Happening) (e : Entry) : Type 0 where
+  pub on : ((happening p past e).begins || is_on (sub_run past)) ≡ true
+  pub joins : sub_run (happening p past e ∷ past) ≡ happening p past e ∷ sub_run past
 
-pub kept : (p : Settings) (past : List Happening) (e : Entry) → HoldsAfter p past → enabled p past e.turn ≡ true
-    → HoldsAfter p (happening p past e ∷ past)
-kept p past e h en =
-    subst (Holds p (is_over (happening p past e ∷ past)) (clock (happening p past e ∷ past)))
-    (sym (sub_run-after p past e h en))
-    (holds-cons p (is_over past) (clock past) (sub_run past) e _ h (does_after p past e h en))
+pub record IsBeforeRuns (p : Settings) (past : List Happening) (e : Entry) : Type 0 where
+  pub none : sub_run past ≡ []
+  pub idle : deed_on p (board_of p (is_over past) (clock past) (sub_run past)) e.turn ≡ nothing_done
+  pub still : sub_run (happening p past e ∷ past) ≡ []
 
--- what holds of the empty history
-holds-nil : (p : Settings) → Holds p false 0 []
-holds-nil p = record {
+pub where_joins : (p : Settings) (past : List Happening) (e : Entry) → HoldsAfter p past
+    → enabled p past e.turn ≡ true → IsOfRun p past e ⊎ IsBeforeRuns p past e
+where_joins p past e h en = by_on ((happening p past e).begins || is_on (sub_run past)) refl
+  where
+    does : Does p (is_over past) (clock past) (sub_run past)
+        (deed_on p (board_of p (is_over past) (clock past) (sub_run past)) e.turn)
+    does = does_after p past e h en
+
+    by_on : (b : Bool) → ((happening p past e).begins || is_on (sub_run past)) ≡ b
+        → IsOfRun p past e ⊎ IsBeforeRuns p past e
+    by_on true on = inl (record { on = on; joins = sub_run-cons (happening p past e) past does.marks.begins on })
+    by_on false off =
+        let still = does.marks.still off in
+        let begins : (happening p past e).begins ≡ false = ap (λ (d : Deed). d.begins) still.1 in
+        inr (record {
+          none = still.0;
+          idle = still.1;
+          still = ap (λ b. if b then happening p past e ∷ [] else joined (happening p past e) (sub_run past)) begins
+              ∙ ap (joined (happening p past e)) still.0;
+        })
+
+-- what holds where no sub-run has begun
+holds-none : (p : Settings) (over : Bool) (now : ℕ) → Holds p over now []
+holds-none p over now = record {
   fits = omega arith;
   counted = omega arith;
   heard = omega arith;
@@ -284,9 +277,21 @@ holds-nil p = record {
   attempted = λ k. tt;
 }
 
+pub kept : (p : Settings) (past : List Happening) (e : Entry) → HoldsAfter p past → enabled p past e.turn ≡ true
+    → HoldsAfter p (happening p past e ∷ past)
+kept p past e h en = by_run (where_joins p past e h en)
+  where
+    by_run : IsOfRun p past e ⊎ IsBeforeRuns p past e → HoldsAfter p (happening p past e ∷ past)
+    by_run (inl of) =
+        subst (Holds p (is_over (happening p past e ∷ past)) (clock (happening p past e ∷ past))) (sym of.joins)
+        (holds-cons p (is_over past) (clock past) (sub_run past) e _ h (does_after p past e h en) of.on)
+    by_run (inr before) =
+        subst (Holds p (is_over (happening p past e ∷ past)) (clock (happening p past e ∷ past))) (sym before.still)
+        (holds-none p (is_over (happening p past e ∷ past)) (clock (happening p past e ∷ past)))
+
 -- what holds after every legal journal
 pub holds : (p : Settings) (backward : List Entry) → IsLegalBackward p backward → HoldsAfter p (history p backward)
-holds p [] legal = holds-nil p
+holds p [] legal = holds-none p false 0
 holds p (e ∷ before) legal = kept p (history p before) e (holds p before legal.2) legal.0
 
 -- so each test has its account
@@ -303,5 +308,11 @@ pub made : (p : Settings) (backward : List Entry) → IsLegalBackward p backward
 made p backward legal j u is =
     let k : ℕ = unit_of_test p j in
     let ps : List (List OwnTurn) = pieces (story_of k (sub_run (history p backward))) in
-    let it : IsMade p.capture u ps = rw is at ((holds p backward legal).made k) in
-    record { statuses = made_statuses p.capture u ps it; attempt = it.attempt; start = it.start }
+    let it : IsMade (terms_at p j) u ps =
+    subst (λ i. IsMade (terms_at p i) u ps) (place-of_test p j) (rw is at ((holds p backward legal).made k)) in
+    record {
+      statuses = made_statuses (terms_at p j) u ps it;
+      attempt = it.attempt;
+      start = it.start;
+      due = made_due (terms_at p j) u ps it;
+    }

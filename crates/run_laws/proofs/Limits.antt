@@ -1,5 +1,5 @@
 -- After each event told in a legal journal the limits are kept.
-use Rattle.std.proofs.Common.{◌≡◌, ℕ, zero, suc, ◌<◌, ◌≤◌, List, [], ◌∷◌, ◌++◌, length, take, drop, Bool}
+use Rattle.std.proofs.Common.{◌≡◌, ◌⊎◌, inl, inr, ℕ, zero, suc, ◌<◌, ◌≤◌, List, [], ◌∷◌, ◌++◌, length, take, drop, Bool}
 use Rattle.std.proofs.Common.{true, false, if◌then◌else◌, Option, Some, None, option_to_list}
 use Rattle.std.proofs.Common.{nat_lt, refl, ap, sym, subst, ◌∙◌, arith, length-append}
 use Rattle.std.specs.List.{range_with_len}
@@ -22,7 +22,7 @@ use Rattle.run_laws.specs.Limits.{seat_told, limits_with}
 use Rattle.run_laws.proofs.Queue.{queue-cons}
 use Rattle.run_laws.proofs.OnBoard.{board_of}
 use Rattle.run_laws.proofs.Deeds.{Does}
-use Rattle.run_laws.proofs.Kept.{HoldsAfter, does_after, sub_run-after, holds}
+use Rattle.run_laws.proofs.Kept.{HoldsAfter, does_after, IsOfRun, IsBeforeRuns, where_joins, holds}
 use Rattle.run_laws.proofs.OpenSeats.{opened, at_last, Along, AreLower, same_lower}
 use Rattle.run_laws.proofs.OpenSeats.{along-now, along-lower, along-append}
 use Rattle.run_laws.proofs.OpenSeats.{along-drop, at_last-lower, at_last-append, at_last-drop}
@@ -147,13 +147,17 @@ opens p (e ∷ before) legal = one_more (opens p before legal.2) (holds p before
 
     one_more : AreOpen p (sub_run (history p before)) → HoldsAfter p (history p before)
         → AreOpen p (sub_run (history p (e ∷ before)))
-    one_more o h =
-        subst (AreOpen p) (sym (sub_run-after p (history p before) e h legal.0))
-        (open-cons p (is_over past) (clock past) (sub_run past) e
-        (deed_on p (board_of p (is_over past) (clock past) (sub_run past)) e.turn)
-        (does_after p past e h legal.0)
-        (moves p (is_over past) (clock past) (sub_run past) e.turn h legal.0)
-        o)
+    one_more o h = by_run (where_joins p past e h legal.0)
+      where
+        by_run : IsOfRun p past e ⊎ IsBeforeRuns p past e → AreOpen p (sub_run (history p (e ∷ before)))
+        by_run (inl of) =
+            subst (AreOpen p) (sym of.joins)
+            (open-cons p (is_over past) (clock past) (sub_run past) e
+            (deed_on p (board_of p (is_over past) (clock past) (sub_run past)) e.turn)
+            (does_after p past e h legal.0)
+            (moves p (is_over past) (clock past) (sub_run past) e.turn h legal.0)
+            o)
+        by_run (inr before) = subst (AreOpen p) (sym before.still) (open-nil p)
 
 -- the limits are kept after each event told in the newest sub-run after every legal journal
 pub limits : (p : Settings) (backward : List Entry) (n : ℕ) → IsLegalBackward p backward

@@ -19,7 +19,7 @@ use Rattle.run_model.specs.declared.unit_view.UnitView.{UnitView}
 use Rattle.run_model.specs.Words.{unit_of, units}
 use Rattle.run_model.specs.Admission.{is_last, scripts_in, units_in, unit_of_test, scripts_over, seat_of, limits_of}
 use Rattle.run_model.specs.Admission.{slots_of, first_view, skipped_view, Newcomer, skipped_newcomer, started_newcomer}
-use Rattle.run_model.specs.Admission.{newcomer_skipped, newcomer_as, test_of, newcomer}
+use Rattle.run_model.specs.Admission.{terms_of, terms_if, terms_at, newcomer_skipped, newcomer_as, test_of, newcomer}
 use Rattle.run_model.specs.Accounts.{is_skip, is_mismatched}
 use Rattle.run_laws.proofs.Holds.{place_of}
 use Rattle.run_laws.proofs.AccountLemmas.{IsFirst}
@@ -170,10 +170,10 @@ pub record IsNew (p : Settings) (run : List Happening) (u : UnitView) (sent : Me
   pub below : u.test.unit < units_in p
   pub unknown : unit_of u.test.unit run ≡ None
   pub first : IsFirst (is_mismatched p (place_of p u.test.unit)) u sent
-  pub start : u.start ≡ 0
+  pub start : u.timers.stopwatch.start ≡ 0
   pub latest : u.latest ≡ 0
   pub attempt : u.attempt ≡ 1
-  pub strategy : u.strategy ≡ p.capture
+  pub terms : u.terms ≡ terms_at p (place_of p u.test.unit)
   pub statuses : u.statuses ≡ []
 
 -- a newcomer begins
@@ -197,6 +197,9 @@ new_unit p run new e = by_case found.is
     mismatched : is_mismatched p (place_of p k) ≡ is_some found.test.skip
     mismatched = ap (is_mismatched p) (place-of_test p found.place) ∙ ap is_skip found.planned
 
+    terms : terms_of p found.test ≡ terms_at p (place_of p k)
+    terms = sym (ap (terms_at p) (place-of_test p found.place) ∙ ap (terms_if p) found.planned)
+
     by_case : Becomes p (units p run) found.place found.test new → IsNew p run new.unit new.sent
     by_case (inl (reason, skip, is)) =
         let mm : is_mismatched p (place_of p k) ≡ true = mismatched ∙ ap is_some skip in
@@ -207,7 +210,7 @@ new_unit p run new e = by_case found.is
           start = refl;
           latest = refl;
           attempt = refl;
-          strategy = refl;
+          terms = terms;
           statuses = refl;
         })
     by_case (inr (skip, (global, (slot, runs, is)))) =
@@ -219,6 +222,6 @@ new_unit p run new e = by_case found.is
           start = refl;
           latest = refl;
           attempt = refl;
-          strategy = refl;
+          terms = terms;
           statuses = refl;
         })

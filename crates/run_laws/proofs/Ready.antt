@@ -14,14 +14,14 @@ use Rattle.run_events.specs.declared.stats.RunStats.{RunStats}
 use Rattle.run_events.specs.declared.cancel.CancelReason.{CancelReason}
 use Rattle.run_events.specs.declared.turn.Turn.{Turn}
 use Rattle.run_events.specs.declared.message.Message.{Message}
-use Rattle.run_events.specs.declared.message.Message.TheVariants.{Start, Skip, Finish}
+use Rattle.run_events.specs.declared.message.Message.TheVariants.{Start, Slow, Skip, Finish}
 use Rattle.run_model.specs.declared.entry.Entry.{Entry}
 use Rattle.run_model.specs.declared.happening.Happening.{Happening}
 use Rattle.run_model.specs.declared.unit_turn.UnitTurn.{UnitTurn}
 use Rattle.run_model.specs.declared.unit_turn.UnitTurn.TheVariants.{Answered}
 use Rattle.run_model.specs.declared.unit_view.UnitView.{UnitView}
-use Rattle.run_model.specs.Unit.{takes}
-use Rattle.run_model.specs.Words.{clock, is_on, is_over, sub_run, told, queue, reason, units, skipped, finished}
+use Rattle.run_model.specs.Unit.{takes_at}
+use Rattle.run_model.specs.Words.{clock, is_on, is_over, joined, sub_run, told, queue, reason, units, skipped, finished}
 use Rattle.run_model.specs.Words.{stats_after, tally}
 use Rattle.run_model.specs.Admission.{is_matched, tests_in, units_in, newcomer}
 use Rattle.run_model.specs.Dispatch.{event, may_go, started_event, finished_event}
@@ -29,7 +29,7 @@ use Rattle.run_model.specs.Board.{board}
 use Rattle.run_model.specs.Turns.{enabled, enabled_on, takes_turn, turn_of_unit, unit_takes, is_empty, is_complete}
 use Rattle.run_model.specs.Journal.{history, past_of, IsLegal}
 use Rattle.run_laws.proofs.Holds.{Holds}
-use Rattle.run_laws.specs.Ready.{CanTake, CanDeliverOldest, CanAdvance}
+use Rattle.run_laws.specs.Ready.{IsTimely, CanTake, CanDeliverOldest, CanAdvance}
 use Rattle.run_laws.proofs.ByTurn.{by_turn}
 use Rattle.run_laws.proofs.OnBoard.{board_of, units-length, unit_in-is}
 use Rattle.run_laws.proofs.Facts.{start_waits, finish_follows, oldest_built}
@@ -39,7 +39,7 @@ use Rattle.run_laws.proofs.Running.{running_in_told, running-started, running-fi
 -- an admitted unit is one of them, and was let go before now
 take_ready : (p : Settings) (over : Bool) (now : ℕ) (run : List Happening) (k : ℕ) (turn : UnitTurn)
     (v : Option UnitView) → Holds p over now run
-    → get_or (units p run) k None ≡ v → unit_takes v turn ≡ true → CanTake (board_of p over now run) k turn
+    → get_or (units p run) k None ≡ v → unit_takes now v turn ≡ true → CanTake (board_of p over now run) k turn
 take_ready p over now run k turn None h e t = cc
 take_ready p over now run k turn (Some u) h e t =
     let named = h.named k u (sym (unit_in-is p over now run k h) ∙ e) in
@@ -92,8 +92,9 @@ oldest_ready p over now run (Start start ∷ rest) h on few short eq en =
       (on, omega (arith, length-range_with_len 0 n)),
       take_ready p over now run start.test.unit (Answered (may_go (tally p run))) (Some waits.unit) h
           (unit_in-is p over now run start.test.unit h ∙ waits.is)
-          (ap (λ ph. takes ph waits.unit.capture (Answered (may_go (tally p run)))) waits.phase),
+          (ap (λ ph. takes_at now ph waits.unit (Answered (may_go (tally p run)))) waits.phase),
     )
+oldest_ready p over now run (Slow slow ∷ rest) h on few short eq en = ((on, tt), tt)
 oldest_ready p over now run (Skip skip ∷ rest) h on few short eq en =
     let counted = h.counted in
     ((on, (stats_below p (reason run) (skipped run) (2 ^ 32) (finished run) (omega arith) (omega arith)).skipped), tt)
@@ -139,6 +140,7 @@ ready p over now run turn h few short en =
             (second_so (is_on run) (not (is_empty (queue run))) en),
       );
       named = λ turn k to other en. take_ready p over now run k to _ h refl en;
+      clock = λ ns en. (h.heard, grind (arith, en));
       end = λ en. (h.heard, first_so (is_on run) (is_complete (board_of p over now run)) en);
       unbuilt = λ turn never en. let no : false ≡ true = sym (never p (board_of p over now run)) ∙ en in cc;
     })
@@ -158,17 +160,26 @@ past_of-length p journal = history-length p (reverse journal) ∙ length-reverse
 
 sub_run-length : (past : List Happening) → length (sub_run past) ≤ length past
 sub_run-length [] = omega arith
-sub_run-length (x ∷ past) = by_begin x.begins (sub_run-length past)
+sub_run-length (x ∷ past) = by_begin x.begins (sub_run past) (sub_run-length past)
   where
-    by_begin : (b : Bool) → length (sub_run past) ≤ length past
-        → length (x ∷ (if b then [] else sub_run past)) ≤ length (x ∷ past)
-    by_begin true h = omega arith
-    by_begin false h = omega arith
+    by_begin : (b : Bool) (run : List Happening) → length run ≤ length past
+        → length (if b then x ∷ [] else joined x run) ≤ length (x ∷ past)
+    by_begin true run h = omega arith
+    by_begin false [] h = omega arith
+    by_begin false (y ∷ run) h = omega arith
 
--- the dispatcher heard no turn later than the clock is
-pub heard_by_now : (p : Settings) (journal : List Entry) → IsLegal p journal
-    → (board p (past_of p journal)).dispatcher.latest ≤ (board p (past_of p journal)).clock
-heard_by_now p journal legal = (holds p (reverse journal) legal).heard
+-- neither the dispatcher nor a unit took a turn later than the clock is
+timely_board : (p : Settings) (over : Bool) (now : ℕ) (run : List Happening) → Holds p over now run
+    → IsTimely (board_of p over now run)
+timely_board p over now run h = record {
+  dispatcher = h.heard;
+  units = λ k u is. let named = h.named k u (sym (unit_in-is p over now run k h) ∙ is) in named.2;
+}
+
+pub timely : (p : Settings) (journal : List Entry) → IsLegal p journal → IsTimely (board p (past_of p journal))
+timely p journal legal =
+    let past : List Happening = past_of p journal in
+    timely_board p (is_over past) (clock past) (sub_run past) (holds p (reverse journal) legal)
 
 pub ready_after : (p : Settings) (journal : List Entry) (turn : Turn) → IsLegal p journal → units_in p < 2 ^ 32
     → length journal < 2 ^ 32

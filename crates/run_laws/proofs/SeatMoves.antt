@@ -6,14 +6,14 @@ use Rattle.std.specs.Cmp.{second_so}
 use Rattle.run_events.specs.declared.settings.Settings.{Settings}
 use Rattle.run_events.specs.declared.turn.Turn.{Turn}
 use Rattle.run_events.specs.declared.message.Message.{Message}
-use Rattle.run_events.specs.declared.message.Message.TheVariants.{Start, Skip, Finish}
+use Rattle.run_events.specs.declared.message.Message.TheVariants.{Start, Slow, Skip, Finish}
 use Rattle.run_events.specs.declared.message.TestStart.{TestStart}
 use Rattle.run_admission.specs.declared.seat.Seat.{Seat}
 use Rattle.run_model.specs.declared.happening.Happening.{Happening}
 use Rattle.run_model.specs.declared.unit_turn.UnitTurn.{UnitTurn}
 use Rattle.run_model.specs.declared.unit_turn.UnitTurn.TheVariants.{Answered}
 use Rattle.run_model.specs.declared.unit_view.UnitView.{UnitView}
-use Rattle.run_model.specs.Unit.{takes}
+use Rattle.run_model.specs.Unit.{takes, takes_at}
 use Rattle.run_model.specs.Words.{is_on, finished_test, queue, told, unit_of, units, tally}
 use Rattle.run_model.specs.Admission.{Newcomer, newcomer}
 use Rattle.run_model.specs.Dispatch.{may_go, event, with_start, with_finish, started_event}
@@ -52,7 +52,7 @@ admits p now run (Some new) e = record {
 
 -- what a unit's own turn does to the seats
 unit_moves : (p : Settings) (over : Bool) (now : ℕ) (run : List Happening) (j : ℕ) (turn : UnitTurn)
-    (v : Option UnitView) → Holds p over now run → unit_of j run ≡ v → unit_takes v turn ≡ true
+    (v : Option UnitView) → Holds p over now run → unit_of j run ≡ v → unit_takes now v turn ≡ true
     → is_answer turn ≡ false → MovesSeats p now run (taken_by now j turn v)
 unit_moves p over now run j turn None h e en other = cc
 unit_moves p over now run j turn (Some u) h e en other = record {
@@ -77,9 +77,9 @@ start_moves p over now run start rest false (Some u) h goes eq ew = cc
 start_moves p over now run start rest true (Some u) h goes eq ew =
     let waits = start_waits p over now run start rest h eq in
     let same : waits.unit ≡ u = cc (sym waits.is ∙ ew) in
-    let waiting : takes u.phase u.capture (Answered true) ≡ true =
-    ap (λ (u : UnitView). takes u.phase u.capture (Answered true)) (sym same)
-    ∙ ap (λ ph. takes ph waits.unit.capture (Answered true)) waits.phase in
+    let waiting : takes now u (Answered true) ≡ true =
+    ap (λ (u : UnitView). takes now u (Answered true)) (sym same)
+    ∙ ap (λ ph. takes_at now ph waits.unit (Answered true)) waits.phase in
     record {
       tells = λ k. seat_told-started k now (told run) start (with_start (tally p run)) waits.untold
           ∙ ap (λ q. at_last (seat_told (told run)) (take 1 q) k) (sym eq);
@@ -96,6 +96,12 @@ delivers p over now run (Start start ∷ rest) h eq en =
     start_moves p over now run start rest (may_go (tally p run)) (get_or (units p run) start.test.unit None) h
     (may_go-is p run ∙ ap is_none h.calm) eq (sym (unit_in-is p over now run start.test.unit h))
 delivers p over now run (Skip skip ∷ rest) h eq en = record {
+  tells = λ k. seat_told-other k (told run) _ refl refl
+      ∙ ap (λ q. at_last (seat_told (told run)) (take 1 q) k) (sym eq);
+  keeps = λ kept. kept;
+  sends = λ seat below. below;
+}
+delivers p over now run (Slow slow ∷ rest) h eq en = record {
   tells = λ k. seat_told-other k (told run) _ refl refl
       ∙ ap (λ q. at_last (seat_told (told run)) (take 1 q) k) (sym eq);
   keeps = λ kept. kept;
@@ -125,6 +131,11 @@ moves p over now run turn h en =
       deliver = λ en. delivers p over now run (queue run) h refl
           (second_so (is_on run) (not (is_empty (queue run))) en);
       named = λ turn k to other en. unit_moves p over now run k to _ h (sym (unit_in-is p over now run k h)) en other;
+      clock = λ ns en. record {
+        tells = λ k. seat_told-nothing k (told run);
+        keeps = λ kept. kept;
+        sends = λ seat below. below;
+      };
       end = λ en. record {
         tells = λ k. seat_told-other k (told run) _ refl refl;
         keeps = λ kept. kept;

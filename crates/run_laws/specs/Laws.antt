@@ -1,12 +1,14 @@
 -- The laws of every legal journal.
-use Rattle.std.specs.Prelude.{ℕ, ◌≡◌, List, ◌∷◌, ◌++◌, true, Some}
+use Rattle.std.specs.Prelude.{ℕ, ◌≡◌, ◌≤◌, List, ◌∷◌, ◌++◌, true, Some}
 use Rattle.std.specs.List.{All, Contains}
 use Rattle.run_events.specs.declared.settings.Settings.{Settings}
 use Rattle.run_model.specs.declared.entry.Entry.{Entry}
 use Rattle.run_model.specs.declared.happening.Happening.{Happening}
+use Rattle.run_model.specs.declared.unit_turn.UnitTurn.TheVariants.{Due}
 use Rattle.run_model.specs.declared.unit_view.UnitView.{UnitView}
-use Rattle.run_model.specs.Admission.{unit_of_test}
-use Rattle.run_model.specs.Attempts.{pieces_of, statuses_of, attempt_in, start_in}
+use Rattle.run_model.specs.Unit.{takes}
+use Rattle.run_model.specs.Admission.{unit_of_test, terms_at}
+use Rattle.run_model.specs.Attempts.{pieces_of, statuses_of, attempt_in, start_in, is_due_in}
 use Rattle.run_model.specs.Board.{board, step}
 use Rattle.run_model.specs.Turns.{enabled, happening, deed_on}
 use Rattle.run_model.specs.Journal.{IsLegal, past_of}
@@ -19,11 +21,13 @@ abbrev pub AccountsHold : Type 0
 AccountsHold = (p : Settings) (journal : List Entry) → IsLegal p journal → (j : ℕ)
     → IsAccounted p j (sub_run (past_of p journal))
 
--- a test is at the attempt that its own turns in a sub-run say, and those that have ended are as they say
+-- a test is at the attempt that its own turns in a sub-run say, and those that have ended are as they say; its timer is
+-- due at a moment from its latest turn on exactly where they say so
 pub record IsMadeByItsTurns (p : Settings) (run : List Happening) (j : ℕ) (u : UnitView) : Type 0 where
   pub statuses : u.statuses ≡ statuses_of p j run
   pub attempt : u.attempt ≡ attempt_in (pieces_of p j run)
-  pub start : u.start ≡ start_in (pieces_of p j run)
+  pub start : u.timers.stopwatch.start ≡ start_in (pieces_of p j run)
+  pub due : (now : ℕ) → u.latest ≤ now → takes now u Due ≡ is_due_in (terms_at p j) now (pieces_of p j run)
 
 -- after every legal journal that holds of each admitted test in the newest sub-run
 abbrev pub AttemptsAreOwnTurns : Type 0

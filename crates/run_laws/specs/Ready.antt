@@ -1,9 +1,9 @@
 -- When a turn can be taken, on a board.
-use Rattle.std.specs.Prelude.{ℕ, ◌≡◌, ◌<◌, ◌≤◌, ◌^◌, List, [], ◌∷◌, length, Bool, true, false, Option, Some, None}
+use Rattle.std.specs.Prelude.{ℕ, ◌≡◌, ◌+◌, ◌<◌, ◌≤◌, ◌^◌, List, [], ◌∷◌, length, Bool, true, false, Option, Some, None}
 use Rattle.std.specs.Prelude.{is_some, ⊤}
 use Rattle.run_events.specs.declared.settings.Settings.{Settings}
 use Rattle.run_events.specs.declared.turn.Turn.{Turn}
-use Rattle.run_events.specs.declared.turn.Turn.TheVariants.{Begin, Admit, Deliver, End}
+use Rattle.run_events.specs.declared.turn.Turn.TheVariants.{Begin, Admit, Deliver, Clock, End}
 use Rattle.run_events.specs.declared.message.Message.{Message}
 use Rattle.run_model.specs.declared.entry.Entry.{Entry}
 use Rattle.run_model.specs.declared.unit_turn.UnitTurn.{UnitTurn}
@@ -16,13 +16,18 @@ use Rattle.run_model.specs.Board.{Board, board, unit_in}
 use Rattle.run_model.specs.Turns.{starting, enabled, turn_of_unit}
 use Rattle.run_model.specs.Journal.{past_of, IsLegal}
 
+-- neither the dispatcher nor a unit took a turn later than the clock is
+pub record IsTimely (b : Board) : Type 0 where
+  pub dispatcher : b.dispatcher.latest ≤ b.clock
+  pub units : (k : ℕ) (u : UnitView) → unit_in b k ≡ Some u → u.latest ≤ b.clock
+
 -- the unit of this number is one of the plan and can take a turn
 pub record CanTake (b : Board) (k : ℕ) (turn : UnitTurn) : Type 0 where
   pub unit : UnitView
   pub is : unit_in b k ≡ Some unit
   pub named : unit.test.unit ≡ k
   pub below : k < length b.units
-  pub takes : takes unit.phase unit.capture turn ≡ true
+  pub takes : takes b.clock unit turn ≡ true
   pub later : unit.latest ≤ b.clock
 
 -- an answer can be given to the unit that waits for it
@@ -45,6 +50,7 @@ abbrev pub CanRun : Settings → Board → Turn → Type 0
 CanRun p b Begin = b.dispatcher.on ≡ false
 CanRun p b Admit = CanAdmit p b
 CanRun p b Deliver = CanDeliverOldest b b.queue
+CanRun p b (Clock ns) = b.clock + ns < 2 ^ 64
 CanRun p b End = b.dispatcher.on ≡ true
 CanRun p b _ = ⊥
 
@@ -52,6 +58,10 @@ CanRun p b _ = ⊥
 abbrev pub CanAdvance : Settings → Board → Turn → Option (ℕ × UnitTurn) → Type 0
 CanAdvance p b turn None = (b.dispatcher.latest ≤ b.clock) × CanRun p b turn
 CanAdvance p b turn (Some named) = CanTake b named.0 named.1
+
+-- after every legal journal no turn was taken later than the clock is
+abbrev pub AllAreTimely : Type 0
+AllAreTimely = (p : Settings) (journal : List Entry) → IsLegal p journal → IsTimely (board p (past_of p journal))
 
 -- after a legal journal each enabled turn can be taken
 abbrev pub EnabledCan : Type 0

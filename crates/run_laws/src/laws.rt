@@ -3,7 +3,7 @@ ghost use Rattle.run_laws.specs.Laws.{AccountsHold, AttemptsAreOwnTurns, BoardsS
 ghost use Rattle.run_laws.specs.Laws.{EachHasFate, OverHasEnded};
 ghost use Rattle.run_laws.specs.Limits.{LimitsHold};
 ghost use Rattle.run_laws.specs.Course.{CoursesExclude, NoneRefused};
-ghost use Rattle.run_laws.specs.Ready.{EnabledCan};
+ghost use Rattle.run_laws.specs.Ready.{AllAreTimely, EnabledCan};
 
 /// What is told of each test in the newest sub-run, and what waits to be told, is its account, after every legal
 /// journal.
@@ -12,7 +12,7 @@ pub fn accounts_hold()
 {}
 
 /// The attempts of each test in the newest sub-run are its own turns, cut where it was let go: their results, outputs,
-/// starts and times, after every legal journal.
+/// starts and times, and where their timers are due, after every legal journal.
 pub fn attempts_are_their_own_turns()
     ensures { AttemptsAreOwnTurns }
 {}
@@ -25,6 +25,11 @@ pub fn boards_step()
 /// Each turn that is enabled after a legal journal can be taken: what its parts need holds.
 pub fn enabled_turns_can_be_taken()
     ensures { EnabledCan }
+{}
+
+/// After every legal journal neither the dispatcher nor a unit has taken a turn later than the clock is.
+pub fn turns_are_timely()
+    ensures { AllAreTimely }
 {}
 
 /// In every sub-run that has ended, also in the newest of a run that is over, each test has its fate: one that doesn't

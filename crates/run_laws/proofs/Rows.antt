@@ -1,0 +1,222 @@
+-- What a row of the unit table does to a unit, apart from its attempt.
+use Rattle.std.proofs.Common.{◌≡◌, ◌⊎◌, inl, inr, ℕ, ◌==◌, List, [], ◌∷◌, ◌++◌, Bool, true, false, if◌then◌else◌}
+use Rattle.std.proofs.Common.{Option, Some, None, refl, ap, sym, subst, ◌∙◌, arith}
+use Rattle.std.specs.Prelude.{⊤}
+use Rattle.run_capture.specs.Captured.{Captured, is_done, with_wait_error}
+use Rattle.run_events.specs.declared.result.ChildExit.{ChildExit}
+use Rattle.run_events.specs.declared.result.ExecuteStatus.{ExecuteStatus}
+use Rattle.run_events.specs.declared.message.TestSlow.{TestSlow}
+use Rattle.run_events.specs.declared.message.Message.{Message}
+use Rattle.run_events.specs.declared.message.Message.TheVariants.{Slow}
+use Rattle.run_model.specs.declared.phase.Phase.{Phase}
+use Rattle.run_model.specs.declared.phase.Phase.TheVariants.{StartSent, Starting, Running, Grace, KillWait, Leak}
+use Rattle.run_model.specs.declared.phase.Phase.TheVariants.{Deciding, Over}
+use Rattle.run_model.specs.declared.unit_turn.UnitTurn.{UnitTurn}
+use Rattle.run_model.specs.declared.unit_turn.UnitTurn.TheVariants.{Answered, Started, StartFailed, Exit, WaitFailed}
+use Rattle.run_model.specs.declared.unit_turn.UnitTurn.TheVariants.{Piece, StreamEnd, ReadError, Due, Decide}
+use Rattle.run_model.specs.declared.unit_view.UnitView.{UnitView}
+use Rattle.run_model.specs.Slow.{one_more, is_out_of_time}
+use Rattle.run_model.specs.Unit.{Row, at_moment, row_at, takes_at, settled, exited, leaking, having_heard, heard_with, running_row}
+use Rattle.run_model.specs.Unit.{waited_row, slow_message, slow_row, slow_again, in_grace, out_of_time, quiet}
+use Rattle.run_model.specs.Admission.{is_last}
+
+-- whether an attempt goes on in a phase
+abbrev pub is_open : Phase → Bool
+is_open Starting = true
+is_open Running = true
+is_open Grace = true
+is_open KillWait = true
+is_open Leak = true
+is_open _ = false
+
+-- a unit keeps its name, its slot and the moment of its latest turn
+pub record Keeps (u v : UnitView) : Type 0 where
+  pub test : v.test ≡ u.test
+  pub slot : v.slot ≡ u.slot
+  pub latest : v.latest ≡ u.latest
+
+same : (u : UnitView) → Keeps u u
+same u = record { test = refl; slot = refl; latest = refl }
+
+-- a message that reports that a unit is slow, or none
+abbrev pub IsReport : Option Message → Type 0
+IsReport None = ⊤
+IsReport (Some (Slow slow)) = ⊤
+IsReport _ = ⊥
+
+-- what a row leaves of an attempt: it goes on, or ends
+pub record GoesOn (u : UnitView) (r : Row) : Type 0 where
+  pub phase : is_open r.next.phase ≡ true
+  pub statuses : r.next.statuses ≡ u.statuses
+  pub sent : IsReport r.sent
+
+pub record Ends (u : UnitView) (r : Row) : Type 0 where
+  pub phase : r.next.phase ≡ Deciding
+  pub status : ExecuteStatus
+  pub statuses : r.next.statuses ≡ u.statuses ++ status ∷ []
+  pub sent : r.sent ≡ None
+
+abbrev pub Moves : UnitView → Row → Type 0
+Moves u r = GoesOn u r ⊎ Ends u r
+
+-- both of these
+record IsOwn (u : UnitView) (r : Row) : Type 0 where
+  keeps : Keeps u r.next
+  moves : Moves u r
+
+ends : (now : ℕ) (exit : Option ChildExit) (leaked : Bool) (c : Captured) (u : UnitView)
+    → IsOwn u (quiet (exited now exit leaked c u))
+ends now exit leaked c u = record {
+  keeps = record { test = refl; slot = refl; latest = refl };
+  moves = inr (record { phase = refl; status = _; statuses = refl; sent = refl });
+}
+
+settles : (now : ℕ) (exit : Option ChildExit) (c : Captured) (u : UnitView) → IsOwn u (quiet (settled now exit c u))
+settles now exit c u = by_done (is_done c)
+  where
+    by_done : (b : Bool) → IsOwn u (quiet (if b then exited now exit false c u else leaking now exit c u))
+    by_done true = ends now exit false c u
+    by_done false = record {
+      keeps = record { test = refl; slot = refl; latest = refl };
+      moves = inl (record { phase = refl; statuses = refl; sent = tt });
+    }
+
+hears : (now : ℕ) (c : Captured) (u : UnitView) → is_open u.phase ≡ true → IsOwn u (quiet (heard_with now c u))
+hears now c u on = by_done (is_done c)
+  where
+    by_done : (b : Bool) → IsOwn u (quiet (if b then exited now u.exit false c u else record u { capture = c }))
+    by_done true = ends now u.exit false c u
+    by_done false = record {
+      keeps = record { test = refl; slot = refl; latest = refl };
+      moves = inl (record { phase = on; statuses = refl; sent = tt });
+    }
+
+-- a report of a unit that is slow
+reports : (n : ℕ) (u : UnitView) → IsReport (slow_message n u)
+reports n u = by_grace (u.terms.slow.grace == 0) _
+  where
+    by_grace : (b : Bool) (slow : TestSlow) → IsReport (if b then None else Some (Slow slow))
+    by_grace true slow = tt
+    by_grace false slow = tt
+
+slows : (now n : ℕ) (u : UnitView) → is_open u.phase ≡ true → IsOwn u (slow_row now n u)
+slows now n u on = by_time (is_out_of_time u.terms.slow n) (u.terms.slow.grace == 0)
+  where
+    by_time : (out none : Bool)
+        → IsOwn u (if out then (if none then out_of_time n u else in_grace now n u) else slow_again now n u)
+    by_time false none = record {
+      keeps = record { test = refl; slot = refl; latest = refl };
+      moves = inl (record { phase = on; statuses = refl; sent = reports n u });
+    }
+    by_time true true = record {
+      keeps = record { test = refl; slot = refl; latest = refl };
+      moves = inl (record { phase = refl; statuses = refl; sent = reports n u });
+    }
+    by_time true false = record {
+      keeps = record { test = refl; slot = refl; latest = refl };
+      moves = inl (record { phase = refl; statuses = refl; sent = reports n u });
+    }
+
+runs : (now : ℕ) (turn : UnitTurn) (u : UnitView) → is_open u.phase ≡ true → IsOwn u (running_row now turn u)
+runs now (Exit exit) u on = settles now (Some exit) u.capture u
+runs now (WaitFailed error) u on = settles now None (with_wait_error u.capture error) u
+runs now turn u on = record {
+  keeps = record { test = refl; slot = refl; latest = refl };
+  moves = inl (record { phase = on; statuses = refl; sent = tt });
+}
+
+waits : (now : ℕ) (turn : UnitTurn) (u : UnitView) → is_open u.phase ≡ true → IsOwn u (waited_row now turn u)
+waits now Due u on = ends now u.exit true u.capture u
+waits now turn u on = hears now (having_heard u.capture turn) u on
+
+-- each row of an attempt that goes on
+own : (now : ℕ) (ph : Phase) (turn : UnitTurn) (u : UnitView) → u.phase ≡ ph → is_open ph ≡ true
+    → IsOwn u (row_at now ph turn u)
+own now Starting (Started pid) u is on = record {
+  keeps = record { test = refl; slot = refl; latest = refl };
+  moves = inl (record { phase = refl; statuses = refl; sent = tt });
+}
+own now Starting (StartFailed error) u is on = record {
+  keeps = record { test = refl; slot = refl; latest = refl };
+  moves = inr (record { phase = refl; status = _; statuses = refl; sent = refl });
+}
+own now Starting turn u is on = record {
+  keeps = same u;
+  moves = inl (record { phase = ap is_open is; statuses = refl; sent = tt });
+}
+own now Running Due u is on = slows now (one_more u.timers.slow_count) u (ap is_open is)
+own now Running turn u is on = runs now turn u (ap is_open is)
+own now Grace Due u is on = record {
+  keeps = record { test = refl; slot = refl; latest = refl };
+  moves = inl (record { phase = refl; statuses = refl; sent = tt });
+}
+own now Grace turn u is on = runs now turn u (ap is_open is)
+own now KillWait turn u is on = runs now turn u (ap is_open is)
+own now Leak turn u is on = waits now turn u (ap is_open is)
+own now ph turn u is on = cc
+
+-- a row leaves a unit its name, its slot and the moment of its latest turn
+pub row_keeps : (now : ℕ) (ph : Phase) (turn : UnitTurn) (u : UnitView) → u.phase ≡ ph
+    → Keeps u (row_at now ph turn u).next
+row_keeps now ph turn u is = by_open ph turn is (is_open ph) refl
+  where
+    closed : (ph : Phase) (turn : UnitTurn) → is_open ph ≡ false → Keeps u (row_at now ph turn u).next
+    closed StartSent (Answered true) e = record { test = refl; slot = refl; latest = refl }
+    closed StartSent (Answered false) e = record { test = refl; slot = refl; latest = refl }
+    closed StartSent turn e = same u
+    closed Deciding (Decide word) e = record { test = refl; slot = refl; latest = refl }
+    closed Deciding turn e = same u
+    closed Over turn e = same u
+    closed ph turn e = cc
+
+    by_open : (ph : Phase) (turn : UnitTurn) → u.phase ≡ ph → (b : Bool) → is_open ph ≡ b
+        → Keeps u (row_at now ph turn u).next
+    by_open ph turn is true e = (own now ph turn u is e).keeps
+    by_open ph turn is false e = closed ph turn e
+
+-- a row of an attempt that goes on leaves it so, or ends it, and sends nothing but a slow report
+pub row_moves : (now : ℕ) (ph : Phase) (turn : UnitTurn) (u : UnitView) → u.phase ≡ ph → is_open ph ≡ true
+    → Moves u (row_at now ph turn u)
+row_moves now ph turn u is on = (own now ph turn u is on).moves
+
+-- so it isn't over, and what it sends is a slow report
+pub record Continues (r : Row) : Type 0 where
+  pub phase : is_last r.next.phase ≡ false
+  pub sent : IsReport r.sent
+
+pub open_on : (ph : Phase) → is_open ph ≡ true → is_last ph ≡ false
+open_on Over e = cc
+open_on ph e = refl
+
+pub continues : (u : UnitView) (r : Row) → Moves u r → Continues r
+continues u r (inl on) = record { phase = open_on r.next.phase on.phase; sent = on.sent }
+continues u r (inr end) = record { phase = ap is_last end.phase; sent = subst IsReport (sym end.sent) tt }
+
+-- a unit that takes a turn waits for an answer and gets it, has an attempt that goes on, or decides
+pub data Takes (ph : Phase) (turn : UnitTurn) : Type 0 where
+  answers : (go : Bool) → ph ≡ StartSent → turn ≡ Answered go → Takes ph turn
+  opens : is_open ph ≡ true → Takes ph turn
+  decides : (word : ℕ) → ph ≡ Deciding → turn ≡ Decide word → Takes ph turn
+
+pub row_takes : (now : ℕ) (ph : Phase) (turn : UnitTurn) (u : UnitView) → takes_at now ph u turn ≡ true
+    → Takes ph turn
+row_takes now StartSent (Answered go) u en = answers go refl refl
+row_takes now Deciding (Decide word) u en = decides word refl refl
+row_takes now Starting turn u en = opens refl
+row_takes now Running turn u en = opens refl
+row_takes now Grace turn u en = opens refl
+row_takes now KillWait turn u en = opens refl
+row_takes now Leak turn u en = opens refl
+row_takes now ph turn u en = cc
+
+-- the moment of its latest turn says nothing of which turns a unit takes
+pub takes_moment : (now : ℕ) (ph : Phase) (u : UnitView) (turn : UnitTurn) → takes_at now ph u turn ≡ true
+    → takes_at now ph (at_moment now u) turn ≡ true
+takes_moment now StartSent u turn en = en
+takes_moment now Starting u turn en = en
+takes_moment now Running u turn en = en
+takes_moment now Grace u turn en = en
+takes_moment now KillWait u turn en = en
+takes_moment now Leak u turn en = en
+takes_moment now Deciding u turn en = en
+takes_moment now Over u turn en = en
