@@ -17,7 +17,7 @@ use crate::view::DispatchState;
 use run_capture::{Duplicate, Mem};
 use run_events::{
     CancelReason, Message, RunFinished, RunFinishedStats, RunStarted, RunStats, Settings,
-    TestEventKind, TestFinish, TestFinished, TestSkip, TestStart, TestStarted, Turn,
+    TestEventKind, TestFinish, TestFinished, TestSkip, TestSlow, TestStart, TestStarted, Turn,
 };
 use run_model::{DispatcherView, Facts, Tally};
 use std::alloc::Global;
@@ -147,8 +147,8 @@ impl Dispatcher {
         Ok(effects)
     }
 
-    /// Delivers a message: a start is told and let go where nothing cancels the run; a skip and a finish are counted
-    /// and told.
+    /// Delivers a message: a start is told and let go where nothing cancels the run; a slow report is told; a skip and
+    /// a finish are counted and told.
     pub fn deliver(&mut self, alloc: Global, message: Message, now: u64) -> Fx
         requires fits { CanDeliver self.old message }
         requires later { self.old.latest ≤ now }
@@ -157,6 +157,7 @@ impl Dispatcher {
     {
         match message {
             Message::Start(start) => self.deliver_start(alloc, start, now),
+            Message::Slow(slow) => self.deliver_slow(alloc, slow, now),
             Message::Skip(skip) => self.deliver_skip(alloc, skip, now),
             Message::Finish(finish) => self.deliver_finish(alloc, finish, now),
             _ => unreachable!(),
@@ -181,6 +182,15 @@ impl Dispatcher {
         });
         let effects = telling(alloc, now, kind, Some(true))?;
         self.view.tally = tally;
+        self.view.latest = now;
+        Ok(effects)
+    }
+
+    fn deliver_slow(&mut self, alloc: Global, slow: TestSlow, now: u64) -> Fx
+        ensures delivers { IfOk result (Delivers now self.old (messages.Slow slow) self.new) }
+        ensures err { OnErr result (self.new ≡ self.old) }
+    {
+        let effects = telling(alloc, now, TestEventKind::TestSlow(slow), None)?;
         self.view.latest = now;
         Ok(effects)
     }

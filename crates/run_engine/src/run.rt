@@ -5,7 +5,7 @@ ghost use Rattle.std.specs.Prelude.{vec_len, vec_capacity, IfOk, IfErr, OnOk, On
 ghost use Rattle.std.specs.Prelude.{None, true, false};
 ghost use Rattle.std.specs.List.{list_all};
 ghost use Rattle.run_events.specs.Tell.{Adds};
-ghost use Rattle.run_laws.specs.Ready.{CanAdvance};
+ghost use Rattle.run_laws.specs.Ready.{CanAdvance, IsTimely};
 ghost use Rattle.run_model.specs.Journal.{past_of, IsLegal, outcome};
 ghost use Rattle.run_model.specs.Admission.{units_in};
 ghost use Rattle.run_model.specs.Turns.{enabled, enabled_on, turn_of_unit, deed_on};
@@ -169,7 +169,7 @@ fn named_if_enabled(
 ) -> Result<Option<(u32, UnitTurn)>, StepError>
     requires whole { length state.now.board.units ≡ units_in settings.now }
     requires seated { IsSeated settings.now state.now }
-    requires later { state.now.board.dispatcher.latest ≤ state.now.board.clock }
+    requires timely { IsTimely state.now.board }
     ensures named { IfOk result (λ named. named ≡ turn_of_unit turn.now) }
     ensures enabled { OnOk result (enabled_on settings.now state.now.board turn.now ≡ true) }
     ensures refused { IfErr result (IsNotNamed settings.now state.now.board turn.now) }

@@ -1,42 +1,137 @@
--- STUB
-use Rattle.std.proofs.Common.{◌≡◌, ℕ, ◌≤◌, List, [], ◌∷◌, true, Option, Some, None, option_map}
-use Rattle.run_model.specs.declared.unit_turn.UnitTurn.{UnitTurn}
+-- The attempts of a unit are what its own turns made them.
+use Rattle.std.proofs.Common.{◌≡◌, ℕ, ◌≤◌, List, [], ◌∷◌, true, false}
+use Rattle.std.proofs.Common.{if◌then◌else◌, Option, Some, None, option_map, refl, sym, subst}
+use Rattle.std.proofs.Common.{arith}
+use Rattle.run_capture.specs.Captured.{with_wait_error}
 use Rattle.run_model.specs.declared.phase.Phase.{Phase}
-use Rattle.run_model.specs.declared.phase.Phase.TheVariants.{StartSent, Over}
-use Rattle.run_model.specs.declared.unit_turn.UnitTurn.TheVariants.{Due}
+use Rattle.run_model.specs.declared.phase.Phase.TheVariants.{StartSent, Starting, Running, Grace, KillWait, Leak}
+use Rattle.run_model.specs.declared.phase.Phase.TheVariants.{Deciding, Over}
+use Rattle.run_model.specs.declared.unit_turn.UnitTurn.{UnitTurn}
+use Rattle.run_model.specs.declared.unit_turn.UnitTurn.TheVariants.{Answered, Started, StartFailed, Exit, WaitFailed}
+use Rattle.run_model.specs.declared.unit_turn.UnitTurn.TheVariants.{Piece, StreamEnd, ReadError, Due, Decide}
 use Rattle.run_model.specs.declared.unit_view.AttemptTerms.{AttemptTerms}
 use Rattle.run_model.specs.declared.unit_view.UnitView.{UnitView}
-use Rattle.run_model.specs.Unit.{row, takes}
-use Rattle.run_model.specs.Environment.{attempts}
-use Rattle.run_model.specs.Story.{OwnTurn, pieces}
-use Rattle.run_model.specs.Attempts.{ended_statuses, attempt_in, start_in, is_due_in}
+use Rattle.run_model.specs.Unit.{at_moment, row, row_at, takes, takes_at}
+use Rattle.run_model.specs.Unit.{let_go, decided}
+use Rattle.run_model.specs.Story.{OwnTurn, begins_attempt, with_turn, pieces}
+use Rattle.run_model.specs.Attempts.{attempt_in, start_in}
+use Rattle.run_laws.proofs.CaptureLemmas.{taken, captured_first}
+use Rattle.run_laws.proofs.TimerLemmas.{timer_first}
+use Rattle.run_laws.proofs.PieceLemmas.{quiet_said}
+use Rattle.run_laws.proofs.GoingLemmas.{past_refused}
+use Rattle.run_laws.proofs.GoingLemmas.{past_decided}
+use Rattle.run_laws.proofs.MadeLemmas.{later_pieces}
+use Rattle.run_laws.proofs.RowLemmas.{made_more, exit_made, heard_running, heard_made, started_made}
+use Rattle.run_laws.proofs.DueLemmas.{leaked_made, killed_made, slow_made}
+pub use Rattle.run_laws.proofs.MadeLemmas.{HasPieces, IsMade, made_first, made_statuses, made_due}
 
-abbrev pub HasPieces : AttemptTerms → Phase → UnitView → List (List OwnTurn) → Type 0
-HasPieces s StartSent u [] = u.statuses ≡ []
-HasPieces s Over u ps = u.statuses ≡ ended_statuses s (attempts u) ps
-HasPieces s _ u ps = u.statuses ≡ ended_statuses s (attempts u) ps
+-- the pieces after one more turn
+abbrev pub more : OwnTurn → List (List OwnTurn) → List (List OwnTurn)
+more t ps = if begins_attempt t.turn then (t ∷ []) ∷ ps else with_turn t ps
 
-pub record IsMade (planned : AttemptTerms) (u : UnitView) (ps : List (List OwnTurn)) : Type 0 where
-  pub attempt : u.attempt ≡ attempt_in ps
-  pub start : u.timers.stopwatch.start ≡ start_in ps
-  pub terms : u.terms ≡ planned
-  pub has : HasPieces planned u.phase u ps
+-- each row of a unit that takes its turn keeps that
+row_made : (now : ℕ) (ph : Phase) (turn : UnitTurn) (before u : UnitView) (ps : List (List OwnTurn))
+    → before.timers ≡ u.timers → takes_at now ph before turn ≡ true → u.phase ≡ ph → now ≤ u.latest
+    → u.attempt ≡ attempt_in ps → u.timers.stopwatch.start ≡ start_in ps → HasPieces u.terms ph u ps
+    → IsMade u.terms (row_at now ph turn u).next (more (taken now turn) ps)
+row_made now StartSent (Answered true) before u [] same en is le a st h = record {
+  attempt = a;
+  start = refl;
+  terms = refl;
+  has = (
+    record {
+      is_at = record {
+        let_go = refl;
+        not_refused = refl;
+        wait_over = refl;
+        ended_so = refl;
+        leaked_so = refl;
+        counted = refl;
+        captured = captured_first u.terms.strategy now;
+      };
+      not_ended = refl;
+      watch = refl;
+      timer = timer_first u.terms (let_go now u).timers now u.latest;
+    },
+    h,
+  );
+}
+row_made now StartSent (Answered false) before u [] same en is le a st h = record {
+  attempt = a;
+  start = st;
+  terms = refl;
+  has = h;
+}
+row_made now Starting (Started pid) before u (piece ∷ earlier) same en is le a st (on, ss) =
+    started_made now pid u piece earlier le a (on, ss)
+row_made now Starting (StartFailed error) before u (piece ∷ earlier) same en is le a st (on, ss) =
+    made_more (row_at now Starting (StartFailed error) u).next Deciding (taken now (StartFailed error)) piece earlier refl
+    a (simp quiet_said st) (past_refused now error None u piece earlier on a ss)
+row_made now Running Due before u (piece ∷ earlier) same en is le a st h = slow_made now u piece earlier is le (rw same at en) a h
+row_made now Running (Exit exit) before u (piece ∷ earlier) same en is le a st h =
+    exit_made Running now (Some exit) u.capture (Exit exit) u piece earlier le a h refl refl refl refl refl
+row_made now Running (WaitFailed error) before u (piece ∷ earlier) same en is le a st h =
+    exit_made Running now None (with_wait_error u.capture error) (WaitFailed error) u piece earlier le a h refl refl refl
+    refl refl
+row_made now Running (Piece stream bytes) before u (piece ∷ earlier) same en is le a st h =
+    heard_running Running now (Piece stream bytes) u piece earlier (λ h. h) is a h refl refl refl refl refl refl
+row_made now Running (StreamEnd stream) before u (piece ∷ earlier) same en is le a st h =
+    heard_running Running now (StreamEnd stream) u piece earlier (λ h. h) is a h refl refl refl refl refl refl
+row_made now Running (ReadError stream error) before u (piece ∷ earlier) same en is le a st h =
+    heard_running Running now (ReadError stream error) u piece earlier (λ h. h) is a h refl refl refl refl refl refl
+row_made now Grace Due before u (piece ∷ earlier) same en is le a st h = killed_made now u piece earlier a h
+row_made now Grace (Exit exit) before u (piece ∷ earlier) same en is le a st h =
+    exit_made Grace now (Some exit) u.capture (Exit exit) u piece earlier le a h refl refl refl refl refl
+row_made now Grace (WaitFailed error) before u (piece ∷ earlier) same en is le a st h =
+    exit_made Grace now None (with_wait_error u.capture error) (WaitFailed error) u piece earlier le a h refl refl refl
+    refl refl
+row_made now Grace (Piece stream bytes) before u (piece ∷ earlier) same en is le a st h =
+    heard_running Grace now (Piece stream bytes) u piece earlier (λ h. h) is a h refl refl refl refl refl refl
+row_made now Grace (StreamEnd stream) before u (piece ∷ earlier) same en is le a st h =
+    heard_running Grace now (StreamEnd stream) u piece earlier (λ h. h) is a h refl refl refl refl refl refl
+row_made now Grace (ReadError stream error) before u (piece ∷ earlier) same en is le a st h =
+    heard_running Grace now (ReadError stream error) u piece earlier (λ h. h) is a h refl refl refl refl refl refl
+row_made now KillWait (Exit exit) before u (piece ∷ earlier) same en is le a st h =
+    exit_made KillWait now (Some exit) u.capture (Exit exit) u piece earlier le a h refl refl refl refl refl
+row_made now KillWait (WaitFailed error) before u (piece ∷ earlier) same en is le a st h =
+    exit_made KillWait now None (with_wait_error u.capture error) (WaitFailed error) u piece earlier le a h refl refl refl
+    refl refl
+row_made now Leak (Piece stream bytes) before u (piece ∷ earlier) same en is le a st h =
+    heard_made now (Piece stream bytes) u piece earlier is a h refl refl refl refl refl refl
+row_made now Leak (StreamEnd stream) before u (piece ∷ earlier) same en is le a st h =
+    heard_made now (StreamEnd stream) u piece earlier is a h refl refl refl refl refl refl
+row_made now Leak (ReadError stream error) before u (piece ∷ earlier) same en is le a st h =
+    heard_made now (ReadError stream error) u piece earlier is a h refl refl refl refl refl refl
+row_made now Leak Due before u (piece ∷ earlier) same en is le a st h = leaked_made now u piece earlier a h
+row_made now Deciding (Decide word) before u (piece ∷ earlier) same en is le a st h =
+    made_more (decided u).next Over (taken now (Decide word)) piece earlier refl a (simp quiet_said st)
+    (past_decided now word u piece earlier h)
+row_made now StartSent turn before u (piece ∷ ps) same en is le a st h = absurd h
+row_made now Starting turn before u [] same en is le a st h = absurd h
+row_made now Running turn before u [] same en is le a st h = absurd h
+row_made now Grace turn before u [] same en is le a st h = absurd h
+row_made now KillWait turn before u [] same en is le a st h = absurd h
+row_made now Leak turn before u [] same en is le a st h = absurd h
+row_made now Deciding turn before u [] same en is le a st h = absurd h
+row_made now ph turn before u ps same en is le a st h = cc
 
-pub made_statuses : (s : AttemptTerms) (u : UnitView) (ps : List (List OwnTurn)) → IsMade s u ps
-    → u.statuses ≡ ended_statuses s (attempts u) ps
-made_statuses s u ps made = ?
-
-pub made_due : (s : AttemptTerms) (u : UnitView) (ps : List (List OwnTurn)) → IsMade s u ps
-    → (now : ℕ) → u.latest ≤ now → takes now u Due ≡ is_due_in s now ps
-made_due s u ps made now le = ?
-
+-- of a unit that wasn't admitted there is no story
 abbrev pub IsMadeIf : AttemptTerms → Option UnitView → List OwnTurn → Type 0
-IsMadeIf s None story = story ≡ []
-IsMadeIf s (Some u) story = IsMade s u (pieces story)
+IsMadeIf terms None story = story ≡ []
+IsMadeIf terms (Some u) story = IsMade terms u (pieces story)
 
-pub row_made_if : (s : AttemptTerms) (now : ℕ) (turn : UnitTurn) (u : UnitView) (v : Option UnitView)
-    (story : List OwnTurn) → v ≡ Some u
-    → takes now u turn ≡ true → u.latest ≤ now
-    → IsMadeIf s v story → IsMadeIf s (option_map (λ w. (row now turn w).next) v)
-    (record { moment = now; turn = turn } ∷ story)
-row_made_if s now turn u v story is en le h = ?
+-- a row keeps the attempts of a unit what its own turns make them
+pub row_made_if : (terms : AttemptTerms) (now : ℕ) (turn : UnitTurn) (u : UnitView) (v : Option UnitView)
+    (story : List OwnTurn) → v ≡ Some u → takes now u turn ≡ true → u.latest ≤ now → IsMadeIf terms v story
+    → IsMadeIf terms (option_map (λ w. (row now turn w).next) v) (record { moment = now; turn = turn } ∷ story)
+row_made_if terms now turn u v story is en le h = rw is (by_terms (rw is at h))
+  where
+    after : UnitView
+    after = at_moment now u
+
+    by_terms : IsMade terms u (pieces story) → IsMade terms (row now turn u).next (more (taken now turn) (pieces story))
+    by_terms made =
+        subst (λ terms. IsMade terms (row now turn u).next (more (taken now turn) (pieces story))) made.terms
+        (row_made now u.phase turn u after (pieces story) refl en refl (omega arith) made.attempt made.start
+        (later_pieces u.terms now u.phase u (pieces story) le
+        (subst (λ terms. HasPieces terms u.phase u (pieces story)) (sym made.terms) made.has)))

@@ -21,9 +21,10 @@ use Rattle.run_model.specs.declared.happening.UnitPart.TheVariants.{Joins, Acts}
 use Rattle.run_model.specs.declared.unit_turn.UnitTurn.{UnitTurn}
 use Rattle.run_model.specs.declared.unit_turn.UnitTurn.TheVariants.{Answered}
 use Rattle.run_model.specs.declared.unit_view.UnitView.{UnitView}
-use Rattle.run_model.specs.Unit.{at_moment, takes, takes_at}
+use Rattle.run_model.specs.Unit.{at_moment, row, takes, takes_at}
+use Rattle.run_model.specs.Story.{story_of}
 use Rattle.run_model.specs.Words.{is_on, finished_test, sent, delivered, queue, told, unit_of, units, unit_after, tally}
-use Rattle.run_model.specs.Admission.{units_in, Newcomer, newcomer}
+use Rattle.run_model.specs.Admission.{units_in, terms_at, Newcomer, newcomer}
 use Rattle.run_model.specs.Dispatch.{may_go, event, with_start, with_finish, started_event}
 use Rattle.run_model.specs.Board.{Board, Deed, deed_events}
 use Rattle.run_model.specs.Turns.{enabled_on, is_empty, is_complete, takes_turn, turn_of_unit, unit_takes, taken_by}
@@ -32,9 +33,11 @@ use Rattle.run_model.specs.Accounts.{started, HasAccount, is_mismatched, account
 use Rattle.run_laws.proofs.Holds.{Holds, place_of}
 use Rattle.run_laws.proofs.Queue.{lt-from_queue}
 use Rattle.run_laws.proofs.ByTurn.{is_answer, by_turn}
-use Rattle.run_laws.proofs.AccountLemmas.{of_row, of_start, of_slow, of_finish, of_skip, begins, first_built, IsBuiltIf}
+use Rattle.run_laws.proofs.AccountLemmas.{of_row, of_start, of_slow, of_finish, of_skip, begins, IsFirst, first_built, IsBuiltIf}
 use Rattle.run_laws.proofs.AccountLemmas.{row_sends_built}
 use Rattle.run_laws.proofs.Rows.{takes_moment}
+use Rattle.run_laws.specs.Reports.{reports_told, reports_waiting}
+use Rattle.run_laws.proofs.Reported.{DoesReport, still_reports, acts_report, told_report}
 use Rattle.run_laws.proofs.OnBoard.{board_of, unit_in-is}
 use Rattle.run_laws.proofs.Newcomers.{IsNew, new_unit}
 use Rattle.run_laws.proofs.Facts.{start_waits, finish_follows, may_go-is, oldest_built}
@@ -81,6 +84,7 @@ pub record Does (p : Settings) (over : Bool) (now : ℕ) (run : List Happening) 
   pub accounts : (k : ℕ) → HasAccount (is_mismatched p (place_of p k)) (unit_after now k d.part (unit_of k run))
       (account_of k (told run) ++ account_of k (deed_events d))
       (pending_of k (drop (if d.taken then 1 else 0) (queue run) ++ option_to_list d.sent))
+  pub reported : (k : ℕ) → DoesReport (terms_at p (place_of p k)).slow k now run d
   pub marks : Marks p over now run d
 
 -- a deed that neither cancels nor begins nor ends
@@ -94,6 +98,24 @@ quiet p over now run d on cause cancel begins over_not ends = record {
   finishes = over_not ∙ sym ends;
   ends = λ h. cc;
 }
+
+-- what a unit's own turn asks and reports, in a deed that tells no report
+acts_reported : (p : Settings) (over : Bool) (now : ℕ) (run : List Happening) (j : ℕ) (turn : UnitTurn) (u : UnitView)
+    (k : ℕ) (d : Deed) → Holds p over now run → unit_of j run ≡ Some u → takes now u turn ≡ true
+    → d.part ≡ Some (Acts j turn) → d.asked ≡ (row now turn u).asked → d.sent ≡ (row now turn u).sent
+    → reports_told k (deed_events d) ++ reports_waiting k (drop (if d.taken then 1 else 0) (queue run))
+    ≡ reports_waiting k (queue run)
+    → DoesReport (terms_at p (place_of p k)).slow k now run d
+acts_reported p over now run j turn u k d h is en part asked sent tells =
+    let it = acts_report (terms_at p (place_of p k)) k now j turn u (unit_of k run) (story_of k run) en
+    (h.named j u is).0 (λ same. let here : k ≡ j = grind arith in ap (λ k. unit_of k run) here ∙ is) (h.made k) in
+    record { asks = rw (part, asked) it.asks; sends = rw (part, sent) it.sends; tells = tells }
+
+-- the first message of a unit is no slow report
+first_reports : (mm : Bool) (u : UnitView) (sent : Message) (k : ℕ) → IsFirst mm u sent
+    → reports_waiting k (sent ∷ []) ≡ []
+first_reports true u sent k (ph, (reason, is)) = rw is refl
+first_reports false u sent k (ph, is) = rw is refl
 
 -- what an admission does
 admits : (p : Settings) (over : Bool) (now : ℕ) (run : List Happening) (o : Option Newcomer) → Holds p over now run
@@ -113,6 +135,7 @@ admits p over now run (Some new) h on e en =
           (λ same. let here : k ≡ new.unit.test.unit = grind arith in ap (λ k. is_mismatched p (place_of p k)) here)
           (λ same. let here : k ≡ new.unit.test.unit = grind arith in ap (λ k. unit_of k run) here ∙ it.unknown)
           (h.accounts k);
+      reported = λ k. still_reports _ k now run _ refl refl (first_reports _ new.unit new.sent k it.first) refl;
       marks = quiet p over now run _ on refl refl refl refl refl;
     }
 
@@ -137,6 +160,8 @@ unit_does p over now run j turn (Some u) h going e en other = record {
       (account_of k (told run)) (queue run)
       en other (h.named j u e).0 (λ same. let here : k ≡ j = grind arith in ap (λ k. unit_of k run) here ∙ e)
       (h.accounts k));
+  reported = λ k. acts_reported p over now run j turn u k _ h e en refl refl refl
+      refl;
   marks = quiet p over now run _ (by_on (is_on run) refl) refl refl refl refl refl;
 }
   where
@@ -179,6 +204,8 @@ start_does p over now run start rest true (Some u) h on goes eq ew =
           (account_of k (told run)) rest start (with_start (tally p run))
           (λ same. let here : k ≡ start.test.unit = grind arith in ap (λ k. unit_of k run) here ∙ ew)
           (rw eq at (h.accounts k)));
+      reported = λ k. acts_reported p over now run start.test.unit (Answered true) u k _ h ew waiting refl refl refl
+          (rw eq refl);
       marks = quiet p over now run _ on refl refl refl refl refl;
     }
 
@@ -197,6 +224,7 @@ delivers p over now run (Skip skip ∷ rest) h on eq en = record {
   tells = tt;
   accounts = λ k. rw eq (of_skip (is_mismatched p (place_of p k)) now k (unit_of k run) (account_of k (told run)) rest
       skip (rw eq at (h.accounts k)));
+  reported = λ k. still_reports _ k now run _ refl refl refl (rw eq refl);
   marks = quiet p over now run _ on refl refl refl refl refl;
 }
 delivers p over now run (Slow slow ∷ rest) h on eq en = record {
@@ -206,6 +234,7 @@ delivers p over now run (Slow slow ∷ rest) h on eq en = record {
   tells = tt;
   accounts = λ k. rw eq (of_slow (is_mismatched p (place_of p k)) now k (unit_of k run) (account_of k (told run)) rest
       slow (rw eq at (h.accounts k)));
+  reported = λ k. still_reports _ k now run _ refl refl refl (rw eq (told_report k now slow rest));
   marks = quiet p over now run _ on refl refl refl refl refl;
 }
 delivers p over now run (Finish finish ∷ rest) h on eq en =
@@ -218,6 +247,7 @@ delivers p over now run (Finish finish ∷ rest) h on eq en =
       accounts = λ k. rw eq (of_finish (is_mismatched p (place_of p k)) now k (unit_of k run)
           (account_of k (told run)) rest finish (with_finish (tally p run) (finished_test finish))
           (rw eq at (h.accounts k)));
+      reported = λ k. still_reports _ k now run _ refl refl refl (rw eq refl);
       marks = quiet p over now run _ on refl refl refl refl refl;
     }
 delivers p over now run (m ∷ rest) h on eq en = absurd (oldest_built p over now run m rest h eq)
@@ -244,6 +274,7 @@ does p over now run turn h en =
         sends = tt;
         tells = tt;
         accounts = λ k. simp append-nil (h.accounts k);
+      reported = λ k. still_reports _ k now run _ refl refl refl refl;
         marks = record {
           cause = refl;
           cancel = refl;
@@ -274,6 +305,7 @@ does p over now run turn h en =
       sends = tt;
       tells = tt;
       accounts = λ k. simp append-nil (h.accounts k);
+      reported = λ k. still_reports _ k now run _ refl refl refl refl;
       marks = by_on b on;
     }
       where
@@ -295,6 +327,7 @@ does p over now run turn h en =
       sends = tt;
       tells = tt;
       accounts = λ k. simp append-nil (h.accounts k);
+      reported = λ k. still_reports _ k now run _ refl refl refl refl;
       marks = record {
         cause = refl;
         cancel = refl;

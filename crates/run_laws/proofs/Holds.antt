@@ -1,8 +1,10 @@
 -- What holds of the newest sub-run after every legal journal.
-use Rattle.std.specs.Prelude.{ℕ, ◌≡◌, ◌+◌, ◌-◌, ◌<◌, ◌≤◌, List, [], length, Bool, false, Option, Some, None, ⊤}
+use Rattle.std.specs.Prelude.{ℕ, ◌≡◌, ◌+◌, ◌-◌, ◌<◌, ◌≤◌, List, [], ◌++◌, map, length, Bool, false, Option, Some, None, ⊤}
 use Rattle.std.specs.List.{All}
 use Rattle.run_events.specs.declared.message.Message.{Message}
 use Rattle.run_events.specs.declared.message.Message.TheVariants.{Start, Slow, Skip, Finish}
+use Rattle.run_events.specs.declared.plan.SlowTimeout.{SlowTimeout}
+use Rattle.run_events.specs.declared.request.ChildSignal.TheVariants.{End}
 use Rattle.run_events.specs.declared.settings.Settings.{Settings}
 use Rattle.run_events.specs.declared.result.ExecuteStatus.{ExecuteStatus}
 use Rattle.run_model.specs.declared.happening.Happening.{Happening}
@@ -10,10 +12,11 @@ use Rattle.run_model.specs.declared.phase.Phase.{Phase}
 use Rattle.run_model.specs.declared.phase.Phase.TheVariants.{Over}
 use Rattle.run_model.specs.declared.unit_view.UnitView.{UnitView}
 use Rattle.run_model.specs.Admission.{scripts_in, units_in, terms_at}
-use Rattle.run_model.specs.Words.{is_on, heard, sent, delivered, skipped, finished, reason, unit_of}
+use Rattle.run_model.specs.Words.{is_on, heard, sent, delivered, queue, told, skipped, finished, reason, unit_of}
 use Rattle.run_model.specs.Accounts.{is_mismatched, IsAccountedAs}
-use Rattle.run_model.specs.Story.{story_of}
+use Rattle.run_model.specs.Story.{story_of, pieces}
 use Rattle.run_model.specs.Fates.{never_started, was_left}
+use Rattle.run_laws.specs.Reports.{signals_asked, signals_by, reports_told, reports_waiting, reports_by}
 use Rattle.run_laws.proofs.AttemptLemmas.{IsMadeIf}
 
 -- the place of a unit among the tests of the plan, where it is a test
@@ -41,15 +44,22 @@ IsBuilt (Skip skip) = ⊤
 IsBuilt (Finish finish) = ⊤
 IsBuilt m = ⊥
 
+-- the signals asked for unit k, and its slow reports that were told or wait, are those of its own turns
+pub record IsReported (slow : SlowTimeout) (k : ℕ) (run : List Happening) : Type 0 where
+  pub signals : signals_asked k run ≡ map End (signals_by slow (pieces (story_of k run)))
+  pub reports : reports_told k (told run) ++ reports_waiting k (queue run)
+      ≡ reports_by slow (pieces (story_of k run))
+
 -- of a sub-run at this moment, by whether the run is over: no more messages are delivered than sent, no more skips and
 -- finishes are told than it has turns, the dispatcher heard none later, units are named, each test has its account, and
--- its attempts are its own turns. No script is a unit yet, so of a number that is no test's nothing is told
+-- its attempts, signals and slow reports are its own turns. No script is a unit yet, so of a number that is no test's nothing is told
 pub record Holds (p : Settings) (over : Bool) (now : ℕ) (run : List Happening) : Type 0 where
   pub fits : delivered run ≤ length (sent run)
   pub counted : skipped run + length (finished run) ≤ length run
   pub heard : heard run ≤ now
   pub named : (k : ℕ) → IsNamed (units_in p) now k (unit_of k run)
   pub accounts : (k : ℕ) → IsAccountedAs p (place_of p k) k run
+  pub reported : (k : ℕ) → IsReported (terms_at p (place_of p k)).slow k run
   pub made : (k : ℕ) → IsMadeIf (terms_at p (place_of p k)) (unit_of k run) (story_of k run)
   -- before a sub-run is on, and the run not over, nothing has happened: no further sub-run begins yet
   pub fresh : is_on run ≡ false → over ≡ false → run ≡ []

@@ -36,7 +36,8 @@ use Rattle.run_model.specs.Accounts.{account_of, pending_of}
 use Rattle.run_model.specs.Story.{OwnTurn, own_turn, story_of, pieces}
 use Rattle.run_model.specs.Fates.{lets_go, deliveries, never_started, was_left}
 use Rattle.run_laws.specs.Laws.{IsMadeByItsTurns}
-use Rattle.run_laws.proofs.Holds.{Holds, IsBuilt, IsNamed, place_of}
+use Rattle.run_laws.specs.Reports.{IsReportedByItsTurns}
+use Rattle.run_laws.proofs.Holds.{Holds, IsBuilt, IsNamed, IsReported, place_of}
 use Rattle.run_laws.proofs.AttemptLemmas.{IsMade, IsMadeIf, made_statuses, made_due, row_made_if}
 use Rattle.run_laws.proofs.Queue.{queue-cons}
 use Rattle.run_laws.proofs.AccountLemmas.{IsFirst, IsBuiltIf}
@@ -44,6 +45,7 @@ use Rattle.run_laws.proofs.Rows.{row_keeps}
 use Rattle.run_laws.proofs.Attempted.{attempted_after}
 use Rattle.run_laws.proofs.OnBoard.{board_of}
 use Rattle.run_laws.proofs.Newcomers.{place-of_test}
+use Rattle.run_laws.proofs.Reported.{reported_after}
 use Rattle.run_laws.proofs.Deeds.{PartFits, Does, does}
 
 -- the account of a test after one more turn, from the parts of that turn
@@ -193,6 +195,8 @@ holds-cons p over now run e d h does on = record {
   named = λ k. named_after p run now (now + ns_of e.turn) k d.part (unit_of k run) (omega arith) (h.named k)
       does.part;
   accounts = λ k. accounted-cons p (place_of p k) k (said now e d) run does.room (does.accounts k);
+  reported = λ k. reported_after (terms_at p (place_of p k)).slow k now run e d does.room (h.reported k)
+      (does.reported k);
   made = λ k. made_after p run now k d.part (h.made k) (h.named k) does.part;
   fresh = λ off going. absurd (stays_on d.begins (is_on run) d.ends d.over over does.marks.finishes on off going);
   built = All-append IsBuilt (sent run) (option_to_list d.sent) h.built (built_if d.sent does.sends);
@@ -269,6 +273,7 @@ holds-none p over now = record {
   heard = omega arith;
   named = λ k u e. cc;
   accounts = λ k. (refl, refl);
+  reported = λ k. record { signals = refl; reports = refl };
   made = λ k. refl;
   fresh = λ off going. refl;
   built = All-nil IsBuilt;
@@ -316,3 +321,11 @@ made p backward legal j u is =
       start = it.start;
       due = made_due (terms_at p j) u ps it;
     }
+
+-- and what is asked and told of it is what its own turns say
+pub reported : (p : Settings) (backward : List Entry) → IsLegalBackward p backward → (j : ℕ)
+    → IsReportedByItsTurns p (sub_run (history p backward)) j
+reported p backward legal j =
+    let it = subst (λ i. IsReported (terms_at p i).slow (unit_of_test p j) (sub_run (history p backward)))
+    (place-of_test p j) ((holds p backward legal).reported (unit_of_test p j)) in
+    record { signals = it.signals; reports = it.reports }

@@ -5,6 +5,8 @@ use Rattle.std.specs.Prelude.{⊤}
 use Rattle.run_capture.specs.Captured.{Captured, is_done, with_wait_error}
 use Rattle.run_events.specs.declared.result.ChildExit.{ChildExit}
 use Rattle.run_events.specs.declared.result.ExecuteStatus.{ExecuteStatus}
+use Rattle.run_events.specs.declared.ask.Ask.{Ask}
+use Rattle.run_events.specs.declared.ask.Ask.TheVariants.{Signal}
 use Rattle.run_events.specs.declared.message.TestSlow.{TestSlow}
 use Rattle.run_events.specs.declared.message.Message.{Message}
 use Rattle.run_events.specs.declared.message.Message.TheVariants.{Slow}
@@ -15,7 +17,8 @@ use Rattle.run_model.specs.declared.unit_turn.UnitTurn.{UnitTurn}
 use Rattle.run_model.specs.declared.unit_turn.UnitTurn.TheVariants.{Answered, Started, StartFailed, Exit, WaitFailed}
 use Rattle.run_model.specs.declared.unit_turn.UnitTurn.TheVariants.{Piece, StreamEnd, ReadError, Due, Decide}
 use Rattle.run_model.specs.declared.unit_view.UnitView.{UnitView}
-use Rattle.run_model.specs.Slow.{one_more, is_out_of_time}
+use Rattle.run_model.specs.Environment.{attempts, start_ask}
+use Rattle.run_model.specs.Slow.{one_more, is_out_of_time, slow_time}
 use Rattle.run_model.specs.Unit.{Row, at_moment, row_at, takes_at, settled, exited, leaking, having_heard, heard_with, running_row}
 use Rattle.run_model.specs.Unit.{waited_row, slow_message, slow_row, slow_again, in_grace, out_of_time, quiet}
 use Rattle.run_model.specs.Admission.{is_last}
@@ -59,16 +62,30 @@ pub record Ends (u : UnitView) (r : Row) : Type 0 where
 abbrev pub Moves : UnitView → Row → Type 0
 Moves u r = GoesOn u r ⊎ Ends u r
 
--- both of these
+-- a signal that is asked is for the unit's own child
+abbrev pub IsForOwn : ℕ → Option Ask → Type 0
+IsForOwn k (Some (Signal ask)) = ask.unit ≡ k
+IsForOwn k _ = ⊤
+
+-- a slow report is of the unit itself
+abbrev pub IsReportOf : ℕ → Option Message → Type 0
+IsReportOf k (Some (Slow slow)) = slow.test.unit ≡ k
+IsReportOf k _ = ⊤
+
+-- all of these
 record IsOwn (u : UnitView) (r : Row) : Type 0 where
   keeps : Keeps u r.next
   moves : Moves u r
+  asks : IsForOwn u.test.unit r.asked
+  reports : IsReportOf u.test.unit r.sent
 
 ends : (now : ℕ) (exit : Option ChildExit) (leaked : Bool) (c : Captured) (u : UnitView)
     → IsOwn u (quiet (exited now exit leaked c u))
 ends now exit leaked c u = record {
   keeps = record { test = refl; slot = refl; latest = refl };
   moves = inr (record { phase = refl; status = _; statuses = refl; sent = refl });
+  asks = tt;
+  reports = tt;
 }
 
 settles : (now : ℕ) (exit : Option ChildExit) (c : Captured) (u : UnitView) → IsOwn u (quiet (settled now exit c u))
@@ -79,6 +96,8 @@ settles now exit c u = by_done (is_done c)
     by_done false = record {
       keeps = record { test = refl; slot = refl; latest = refl };
       moves = inl (record { phase = refl; statuses = refl; sent = tt });
+      asks = tt;
+      reports = tt;
     }
 
 hears : (now : ℕ) (c : Captured) (u : UnitView) → is_open u.phase ≡ true → IsOwn u (quiet (heard_with now c u))
@@ -89,6 +108,8 @@ hears now c u on = by_done (is_done c)
     by_done false = record {
       keeps = record { test = refl; slot = refl; latest = refl };
       moves = inl (record { phase = on; statuses = refl; sent = tt });
+      asks = tt;
+      reports = tt;
     }
 
 -- a report of a unit that is slow
@@ -99,6 +120,19 @@ reports n u = by_grace (u.terms.slow.grace == 0) _
     by_grace true slow = tt
     by_grace false slow = tt
 
+own_report : (n : ℕ) (u : UnitView) → IsReportOf u.test.unit (slow_message n u)
+own_report n u = by_grace (u.terms.slow.grace == 0)
+  where
+    by_grace : (b : Bool) → IsReportOf u.test.unit (if b then None else Some (Slow (record {
+      test = u.test;
+      attempt = u.attempt;
+      attempts = attempts u;
+      elapsed_slow = slow_time u.terms.slow n;
+      terminates = is_out_of_time u.terms.slow n;
+    })))
+    by_grace true = tt
+    by_grace false = refl
+
 slows : (now n : ℕ) (u : UnitView) → is_open u.phase ≡ true → IsOwn u (slow_row now n u)
 slows now n u on = by_time (is_out_of_time u.terms.slow n) (u.terms.slow.grace == 0)
   where
@@ -107,14 +141,20 @@ slows now n u on = by_time (is_out_of_time u.terms.slow n) (u.terms.slow.grace =
     by_time false none = record {
       keeps = record { test = refl; slot = refl; latest = refl };
       moves = inl (record { phase = on; statuses = refl; sent = reports n u });
+      asks = tt;
+      reports = own_report n u;
     }
     by_time true true = record {
       keeps = record { test = refl; slot = refl; latest = refl };
       moves = inl (record { phase = refl; statuses = refl; sent = reports n u });
+      asks = refl;
+      reports = own_report n u;
     }
     by_time true false = record {
       keeps = record { test = refl; slot = refl; latest = refl };
       moves = inl (record { phase = refl; statuses = refl; sent = reports n u });
+      asks = refl;
+      reports = own_report n u;
     }
 
 runs : (now : ℕ) (turn : UnitTurn) (u : UnitView) → is_open u.phase ≡ true → IsOwn u (running_row now turn u)
@@ -123,6 +163,8 @@ runs now (WaitFailed error) u on = settles now None (with_wait_error u.capture e
 runs now turn u on = record {
   keeps = record { test = refl; slot = refl; latest = refl };
   moves = inl (record { phase = on; statuses = refl; sent = tt });
+  asks = tt;
+  reports = tt;
 }
 
 waits : (now : ℕ) (turn : UnitTurn) (u : UnitView) → is_open u.phase ≡ true → IsOwn u (waited_row now turn u)
@@ -135,20 +177,28 @@ own : (now : ℕ) (ph : Phase) (turn : UnitTurn) (u : UnitView) → u.phase ≡ 
 own now Starting (Started pid) u is on = record {
   keeps = record { test = refl; slot = refl; latest = refl };
   moves = inl (record { phase = refl; statuses = refl; sent = tt });
+  asks = tt;
+  reports = tt;
 }
 own now Starting (StartFailed error) u is on = record {
   keeps = record { test = refl; slot = refl; latest = refl };
   moves = inr (record { phase = refl; status = _; statuses = refl; sent = refl });
+  asks = tt;
+  reports = tt;
 }
 own now Starting turn u is on = record {
   keeps = same u;
   moves = inl (record { phase = ap is_open is; statuses = refl; sent = tt });
+  asks = tt;
+  reports = tt;
 }
 own now Running Due u is on = slows now (one_more u.timers.slow_count) u (ap is_open is)
 own now Running turn u is on = runs now turn u (ap is_open is)
 own now Grace Due u is on = record {
   keeps = record { test = refl; slot = refl; latest = refl };
   moves = inl (record { phase = refl; statuses = refl; sent = tt });
+  asks = refl;
+  reports = tt;
 }
 own now Grace turn u is on = runs now turn u (ap is_open is)
 own now KillWait turn u is on = runs now turn u (ap is_open is)
@@ -220,3 +270,21 @@ takes_moment now KillWait u turn en = en
 takes_moment now Leak u turn en = en
 takes_moment now Deciding u turn en = en
 takes_moment now Over u turn en = en
+
+-- a start is no signal
+asks_start : (u : UnitView) → IsForOwn u.test.unit (Some (start_ask u))
+unfolding start_ask
+asks_start u = tt
+
+-- what a row asks and reports is of the unit itself
+pub row_asks_own : (now : ℕ) (ph : Phase) (turn : UnitTurn) (u : UnitView) → u.phase ≡ ph
+    → takes_at now ph u turn ≡ true
+    → IsForOwn u.test.unit (row_at now ph turn u).asked × IsReportOf u.test.unit (row_at now ph turn u).sent
+row_asks_own now ph turn u is en = by_take (row_takes now ph turn u en)
+  where
+    by_take : Takes ph turn
+        → IsForOwn u.test.unit (row_at now ph turn u).asked × IsReportOf u.test.unit (row_at now ph turn u).sent
+    by_take (answers true at to) = rw (at, to) (asks_start u, tt)
+    by_take (answers false at to) = rw (at, to) (tt, tt)
+    by_take (opens on) = let it = own now ph turn u is on in (it.asks, it.reports)
+    by_take (decides word at to) = rw (at, to) (tt, tt)

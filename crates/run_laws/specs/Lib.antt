@@ -2,3 +2,4 @@ pub mod Laws
 pub mod Course
 pub mod Ready
 pub mod Limits
+pub mod Reports

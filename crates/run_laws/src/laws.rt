@@ -2,6 +2,7 @@
 ghost use Rattle.run_laws.specs.Laws.{AccountsHold, AttemptsAreOwnTurns, BoardsStep, EventsExtend};
 ghost use Rattle.run_laws.specs.Laws.{EachHasFate, OverHasEnded};
 ghost use Rattle.run_laws.specs.Limits.{LimitsHold};
+ghost use Rattle.run_laws.specs.Reports.{ReportsAreOwnTurns};
 ghost use Rattle.run_laws.specs.Course.{CoursesExclude, NoneRefused};
 ghost use Rattle.run_laws.specs.Ready.{AllAreTimely, EnabledCan};
 
@@ -15,6 +16,12 @@ pub fn accounts_hold()
 /// starts and times, and where their timers are due, after every legal journal.
 pub fn attempts_are_their_own_turns()
     ensures { AttemptsAreOwnTurns }
+{}
+
+/// The signals that are asked for each test's child in the newest sub-run, and the reports that it is slow, told and
+/// waiting, are those of its own turns, after every legal journal.
+pub fn reports_are_own_turns()
+    ensures { ReportsAreOwnTurns }
 {}
 
 /// Each enabled turn after a legal journal moves the board by its step.

@@ -2,12 +2,11 @@
 use Rattle.std.proofs.Common.{◌≡◌, ℕ, zero, suc, ◌+◌, ◌-◌, ◌<◌, ◌≤◌, List, [], ◌∷◌, length, get_or, set, Bool, true}
 use Rattle.std.proofs.Common.{false, not, cond, Option, Some, None, count_by, refl, ap, sym, ◌∙◌, arith}
 use Rattle.std.proofs.lemmas.List.Sums.{sum_by-cons, sum_by-set, get_or-le-sum_by}
-use Rattle.run_capture.specs.Captured.{Captured}
 use Rattle.run_model.specs.declared.unit_view.UnitView.{UnitView}
 use Rattle.run_model.specs.declared.phase.Phase.{Phase}
-use Rattle.run_model.specs.declared.phase.Phase.TheVariants.{StartSent, Starting, Running, Leak, Deciding, Over}
+use Rattle.run_model.specs.declared.phase.Phase.TheVariants.{Over}
 use Rattle.run_model.specs.declared.unit_turn.UnitTurn.{UnitTurn}
-use Rattle.run_model.specs.Unit.{takes}
+use Rattle.run_model.specs.Unit.{takes, takes_at}
 use Rattle.run_model.specs.Admission.{is_last}
 use Rattle.run_state.specs.Counted.{is_left}
 
@@ -23,13 +22,12 @@ absent_left (u ∷ us) none =
     one_more n = omega arith
 
 -- a unit that takes a turn isn't over
-pub not_last : (phase : Phase) (c : Captured) (turn : UnitTurn) → takes phase c turn ≡ true → is_last phase ≡ false
-not_last StartSent c turn e = refl
-not_last Starting c turn e = refl
-not_last Running c turn e = refl
-not_last Leak c turn e = refl
-not_last Deciding c turn e = refl
-not_last Over c turn e = cc
+pub not_last : (now : ℕ) (u : UnitView) (turn : UnitTurn) → takes now u turn ≡ true → is_last u.phase ≡ false
+not_last now u turn e = by_phase u.phase e
+  where
+    by_phase : (ph : Phase) → takes_at now ph u turn ≡ true → is_last ph ≡ false
+    by_phase Over e = cc
+    by_phase ph e = refl
 
 -- a unit that was admitted stands in the list
 pub stands_inside : (us : List (Option UnitView)) (k : ℕ) (u : UnitView) → get_or us k None ≡ Some u → k < length us

@@ -25,7 +25,8 @@ use Rattle.run_model.specs.Admission.{slots_of, group_slot, unit_of_test, newcom
 use Rattle.run_model.specs.Board.{units_after}
 use Rattle.run_model.specs.Turns.{taken_by}
 use Rattle.run_laws.proofs.Newcomers.{becomes}
-use Rattle.run_laws.proofs.BoardSeats.{row_keeps_slot, seat_going}
+use Rattle.run_laws.proofs.Rows.{row_keeps}
+use Rattle.run_laws.proofs.BoardSeats.{seat_going}
 use Rattle.run_laws.proofs.Admitted.{HasFreeSlots, admitted_is}
 use Rattle.run_state.specs.Held.{given_back, units_with}
 
@@ -79,7 +80,7 @@ limits-acted p us k now turn u false at going ends =
     ap (λ seats. record (limits_of p us) { seats = seats }) (seats-going p us k u (row now turn u).next at
     (seat_going (row now turn u).next ends
     ∙ ap (λ s. InUse s.global (option_map (λ g. g.slot) s.group))
-    (row_keeps_slot now u.phase turn (at_moment now u))
+    (row_keeps now u.phase turn (at_moment now u) refl).slot
     ∙ sym (seat_going u going)))
 limits-acted p us k now turn u true at going ends = by_kind (nat_le (scripts_in p) k) refl
   where

@@ -2,6 +2,7 @@
 ghost use Rattle.std.specs.Prelude.{◌≤◌, ◌≡◌, length, IfOk};
 ghost use Rattle.run_model.specs.Admission.{units_in};
 ghost use Rattle.run_model.specs.Turns.{turn_of_unit, is_empty, facts, run_takes, enabled_on};
+ghost use Rattle.run_laws.specs.Ready.{IsTimely};
 ghost use Rattle.run_state.specs.Held.{IsSeated};
 ghost use Rattle.run_events.specs.declared.turn.Turn.TheVariants.{StartFailed, WaitFailed, Piece, ReadError};
 
@@ -35,6 +36,7 @@ pub fn turn_of_unit(alloc: Global, turn: &Turn) -> Mem<Option<(u32, UnitTurn)>>
             stream,
             error,
         } => read_error(alloc, *unit, *stream, error),
+        Turn::UnitDue { unit } => Ok(Some((*unit, UnitTurn::Due))),
         Turn::Decide { unit, word } => Ok(Some((*unit, UnitTurn::Decide { word: *word }))),
         _ => Ok(None),
     }
@@ -103,11 +105,12 @@ fn is_run_enabled(settings: &Settings, state: &State, turn: &Turn) -> bool
             state.dispatcher.state() == DispatchState::Main
                 && can_admit(settings, &state.units, &state.admission)
         }
+        Turn::Clock { ns } => state.clock.checked_add(*ns).is_some(),
         _ => state.dispatcher.enabled(turn, facts_of(state), state.clock),
     }
 }
 
-/// Whether a turn is enabled, by the unit that it names.
+/// Whether a turn is enabled, by the unit that it names. No turn was taken later than the clock is.
 pub fn is_enabled(
     settings: &Settings,
     state: &State,
@@ -116,7 +119,7 @@ pub fn is_enabled(
 ) -> bool
     requires whole { length state.now.board.units ≡ units_in settings.now }
     requires seated { IsSeated settings.now state.now }
-    requires later { state.now.board.dispatcher.latest ≤ state.now.board.clock }
+    requires timely { IsTimely state.now.board }
     requires named { named.now ≡ turn_of_unit turn.now }
     ensures { result ≡ enabled_on settings.now state.now.board turn.now }
 {
@@ -124,7 +127,7 @@ pub fn is_enabled(
         return false;
     }
     match named {
-        Some((unit, own)) => state.units.takes(*unit, own),
+        Some((unit, own)) => state.units.takes(*unit, own, state.clock),
         None => is_run_enabled(settings, state, turn),
     }
 }

@@ -222,14 +222,14 @@ pub fn advance(
     }
 }
 
-// Takes a turn of the run's own.
+// Takes a turn of the run's own; the clock moves where it is one of the clock.
 fn advance_run(alloc: Global, settings: &Settings, state: &mut State, turn: &Turn) -> Mem<Effects>
     requires can { CanRun settings.now state.old.board turn.now }
     requires seated { IsSeated settings.now state.old }
     requires later { state.old.board.dispatcher.latest ≤ state.old.board.clock }
     requires few { units_in settings.now < 2 ^ 32 }
     ensures after { OnOk result (state.new.board
-        ≡ moved state.old.board (run_turn settings.now state.old.board turn.now)) }
+        ≡ step state.old.board turn.now (run_turn settings.now state.old.board turn.now)) }
     ensures seated { OnOk result (IsSeated settings.now state.new) }
     ensures told { IfOk result (λ effects. effects.events
         ≡ deed_events (run_turn settings.now state.old.board turn.now)) }
@@ -243,8 +243,12 @@ fn advance_run(alloc: Global, settings: &Settings, state: &mut State, turn: &Tur
             Ok(asking(None))
         }
         Turn::Deliver => deliver(alloc, settings, state),
+        Turn::Clock { ns } => {
+            state.clock += *ns;
+            Ok(asking(None))
+        }
         Turn::End => end(alloc, state),
-        _ => Ok(asking(None)),
+        _ => unreachable!(),
     }
 }
 

@@ -61,12 +61,14 @@ impl Units {
         Units { items, left }
     }
 
-    /// Whether a unit takes a turn; a number of no admitted unit takes none.
-    pub fn takes(&self, unit: u32, turn: &UnitTurn) -> bool
-        ensures { result ≡ unit_takes (slice_index_or self.now unit None) turn.now }
+    /// Whether a unit takes a turn at a moment of the run's clock, no earlier than its latest turn; a number of no
+    /// admitted unit takes none.
+    pub fn takes(&self, unit: u32, turn: &UnitTurn, now: u64) -> bool
+        requires later { (u : UnitView) → slice_index_or self.now unit None ≡ Some u → u.latest ≤ now }
+        ensures { result ≡ unit_takes now (slice_index_or self.now unit None) turn.now }
     {
         match self.items.get(unit as usize) {
-            Some(Some(unit)) => unit.enabled(turn),
+            Some(Some(unit)) => unit.enabled(turn, now),
             _ => false,
         }
     }
@@ -89,7 +91,7 @@ impl Units {
 
     /// A unit takes a turn.
     pub fn step(&mut self, alloc: Global, unit: usize, turn: UnitTurn, now: u64) -> Mem<UnitEffects>
-        requires { (u : UnitView) × (slice_index_or self.old unit None ≡ Some u) × (takes u.phase u.capture turn ≡ true)
+        requires { (u : UnitView) × (slice_index_or self.old unit None ≡ Some u) × (takes now u turn ≡ true)
             × (u.latest ≤ now) }
         ensures after { OnOk result (self.new
             ≡ units_after now (taken_by now unit turn (slice_index_or self.old unit None)).part self.old) }
@@ -125,7 +127,7 @@ fn step_at(
     now: u64,
 ) -> Mem<UnitEffects>
     requires { (u : UnitView) × (slice_index_or units.old.items unit None ≡ Some u)
-        × (takes u.phase u.capture turn ≡ true) × (u.latest ≤ now) }
+        × (takes now u turn ≡ true) × (u.latest ≤ now) }
     ensures after { OnOk result (units.new.items
         ≡ units_after now (taken_by now unit turn (slice_index_or units.old.items unit None)).part units.old.items) }
     ensures sent { IfOk result (λ e. e.sent

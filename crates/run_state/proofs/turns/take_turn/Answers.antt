@@ -14,7 +14,7 @@ release-requires c over le =
     let u = c.requires.can.unit in
     let at : get_or us c.args.unit None ≡ Some u = rw (sym c.state.view_is) at c.requires.can.is in
     let seated = rw (sym c.state.view_is) at c.requires.seated in
-    rw seated (test_in_use p us c.args.unit u at (not_last u.phase u.capture c.args.turn c.requires.can.takes)
+    rw seated (test_in_use p us c.args.unit u at (not_last c.state.inside.clock u c.args.turn (rw (sym c.state.view_is) at c.requires.can.takes))
     (rw (sym c.state.view_is) at c.requires.can.below) le)
 
 pub returns-clause-seated : goal.returns-clause-seated
@@ -30,6 +30,6 @@ returns-clause-seated c =
     let over = c.in_ok-sent.field-0.over in
     c.release.ensures
     ∙ ap (λ (a : Admissions). if over then given_back p a k else a) seated
-    ∙ sym (limits-acted p us k now turn u over at (not_last u.phase u.capture turn c.requires.can.takes)
+    ∙ sym (limits-acted p us k now turn u over at (not_last now u turn (rw (sym c.state.view_is) at c.requires.can.takes))
     (sym (c.in_ok-sent.ensures.over ∙ ap (λ v. is_done (option_map (λ u. (row now turn u).next) v)) at)))
     ∙ sym (ap (limits_of p) (c.in_ok-sent.ensures.after ∙ acted now k turn us u at))

@@ -1,10 +1,11 @@
-use Rattle.std.proofs.Common.{◌≤◌, length, refl, ap, sym, subst, ◌∙◌}
+use Rattle.std.proofs.Common.{length, refl, ap, sym, subst, ◌∙◌}
+use Rattle.run_laws.specs.Ready.{IsTimely}
 use Rattle.run_state.specs.Held.{Held, IsSeated}
 use Rattle.run_model.specs.Admission.{units_in}
 use Rattle.run_model.specs.Journal.{past_of}
 use Rattle.run_model.specs.Words.{sub_run}
 use Rattle.run_laws.proofs.OnBoard.{units-length}
-use Rattle.run_laws.proofs.Ready.{heard_by_now}
+use Rattle.run_laws.proofs.Ready.{timely}
 use Rattle.run_engine.proofs.run.Run.admit.Goals as goal
 
 pub named_if_enabled-requires-clause-whole : goal.named_if_enabled-requires-clause-whole
@@ -13,10 +14,10 @@ named_if_enabled-requires-clause-whole c =
     ∙ units-length c.self.inside.settings (sub_run (past_of c.self.inside.settings c.self.inside.journal.items))
     ∙ ap units_in (sym c.get.ensures)
 
-pub named_if_enabled-requires-clause-later : goal.named_if_enabled-requires-clause-later
-named_if_enabled-requires-clause-later c =
-    subst (λ (h : Held). h.board.dispatcher.latest ≤ h.board.clock) (sym (c.self.invariant.stands c.if-self.false))
-    (heard_by_now c.self.inside.settings c.self.inside.journal.items c.self.invariant.runnable.legal)
+pub named_if_enabled-requires-clause-timely : goal.named_if_enabled-requires-clause-timely
+named_if_enabled-requires-clause-timely c =
+    subst (λ (h : Held). IsTimely h.board) (sym (c.self.invariant.stands c.if-self.false))
+    (timely c.self.inside.settings c.self.inside.journal.items c.self.invariant.runnable.legal)
 
 pub named_if_enabled-requires-clause-seated : goal.named_if_enabled-requires-clause-seated
 named_if_enabled-requires-clause-seated c =

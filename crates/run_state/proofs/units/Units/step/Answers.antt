@@ -12,7 +12,7 @@ left_after-self-inside-requires c over =
     let u = c.requires.0 in
     let at : get_or us c.args.unit None ≡ Some u = rw (sym c.self.view_is) at c.requires.1 in
     some_left us c.args.unit c.self.inside.left c.self.invariant
-    (ap is_left at ∙ ap not (not_last u.phase u.capture c.args.turn c.requires.2)) (stands_inside us c.args.unit u at)
+    (ap is_left at ∙ ap not (not_last c.args.now u c.args.turn c.requires.2)) (stands_inside us c.args.unit u at)
 
 pub invariant_of-self-2 : goal.invariant_of-self-2
 invariant_of-self-2 c =
@@ -23,6 +23,6 @@ invariant_of-self-2 c =
     let at : get_or us c.args.unit None ≡ Some u = rw (sym c.self.view_is) at c.requires.1 in
     c.left_after-self-inside.ensures
     ∙ set_left us c.args.unit c.self.inside.left (row now turn u).next c.in_ok-effects.effects.over c.self.invariant
-    (ap is_left at ∙ ap not (not_last u.phase u.capture turn c.requires.2)) (stands_inside us c.args.unit u at)
+    (ap is_left at ∙ ap not (not_last now u turn c.requires.2)) (stands_inside us c.args.unit u at)
     (sym (c.in_ok-effects.ensures.over ∙ ap (λ v. is_done (option_map (λ u. (row now turn u).next) v)) at))
     ∙ sym (ap (count_by is_left) (c.in_ok-effects.ensures.after ∙ acted now c.args.unit turn us u at))

@@ -1,0 +1,126 @@
+-- A unit at the attempt that its pieces say, after a row of a timer that is due.
+use Rattle.std.proofs.Common.{◌≡◌, ℕ, ◌+◌, ◌==◌, ◌≤◌, List, ◌∷◌, length, Bool, true, false, ◌||◌}
+use Rattle.std.proofs.Common.{if◌then◌else◌, None, refl, ap, ◌∙◌}
+use Rattle.run_capture.specs.Captured.{is_done}
+use Rattle.run_model.specs.declared.phase.Phase.{Phase}
+use Rattle.run_model.specs.declared.phase.Phase.TheVariants.{Running, Grace, KillWait, Leak}
+use Rattle.run_model.specs.declared.phase.Phase.TheVariants.{Deciding}
+use Rattle.run_model.specs.declared.unit_turn.UnitTurn.TheVariants.{Due}
+use Rattle.run_model.specs.declared.unit_view.UnitView.{UnitView}
+use Rattle.run_model.specs.Slow.{one_more, is_out_of_time}
+use Rattle.run_model.specs.Unit.{is_due, exited}
+use Rattle.run_model.specs.Unit.{slow_row, slow_again, in_grace, out_of_time, killed}
+use Rattle.run_model.specs.Story.{OwnTurn, any_is}
+use Rattle.run_model.specs.Timing.{has_timed_out}
+use Rattle.run_model.specs.Timing.{ends_wait, slow_count}
+use Rattle.run_model.specs.Attempts.{start_of}
+use Rattle.run_laws.proofs.CaptureLemmas.{taken}
+use Rattle.run_laws.proofs.TimerLemmas.{timer_killed}
+use Rattle.run_laws.proofs.TimerLemmas.{count_killed, in_time, count_slow, timer_again, timer_grace, timer_kill_wait}
+use Rattle.run_laws.proofs.TimerLemmas.{HasTimer}
+use Rattle.run_laws.proofs.PieceLemmas.{IsAt, at_due}
+use Rattle.run_laws.proofs.GoingLemmas.{IsGoing, going_more, past_exited}
+use Rattle.run_laws.proofs.MadeLemmas.{GoesOn, IsMade}
+use Rattle.run_laws.proofs.RowLemmas.{made_more, began}
+
+-- the wait for its streams is over
+pub leaked_made : (now : ℕ) (u : UnitView) (piece : List OwnTurn) (earlier : List (List OwnTurn))
+    → u.attempt ≡ length earlier + 1 → GoesOn u.terms Leak true u.exit u piece earlier
+    → IsMade u.terms (exited now u.exit true u.capture u) ((taken now Due ∷ piece) ∷ earlier)
+leaked_made now u piece earlier a (on, ss) =
+    made_more (exited now u.exit true u.capture u) Deciding (taken now Due) piece earlier refl a
+    (began u.terms u.timers.stopwatch.start true u.exit true u.timers.slow_count u.capture (taken now Due ∷ piece) it)
+    (past_exited now u.exit true u.capture Due u piece earlier it on.not_ended (or_true (is_done u.capture)) on.watch a
+    ss)
+  where
+    or_true : (b : Bool) → (b || true) ≡ true
+    or_true true = refl
+    or_true false = refl
+
+    count : slow_count u.terms.slow (taken now Due ∷ piece) ≡ u.timers.slow_count
+    count = rw on.is_at.wait_over on.is_at.counted
+
+    it : IsAt u.terms u.timers.stopwatch.start true u.exit true u.timers.slow_count u.capture (taken now Due ∷ piece)
+    it =
+        at_due u.terms u.timers.stopwatch.start true u.exit u.timers.slow_count u.timers.slow_count u.capture now piece
+        on.is_at count
+
+-- its time to end by itself is over
+pub killed_made : (now : ℕ) (u : UnitView) (piece : List OwnTurn) (earlier : List (List OwnTurn))
+    → u.attempt ≡ length earlier + 1 → GoesOn u.terms Grace false None u piece earlier
+    → IsMade u.terms (killed u).next ((taken now Due ∷ piece) ∷ earlier)
+killed_made now u piece earlier a (on, ss) =
+    made_more (killed u).next Running (taken now Due) piece earlier refl a
+    (began u.terms u.timers.stopwatch.start false None false u.timers.slow_count u.capture (taken now Due ∷ piece) it) (
+      going_more u.terms Running false None (killed u).next (taken now Due) piece it on.not_ended refl on.watch
+          (timer_killed u.terms u.timers (killed u).next.timers now u.latest piece refl on.is_at.wait_over on.timer.stage),
+      ss,
+    )
+  where
+    it : IsAt u.terms u.timers.stopwatch.start false None false u.timers.slow_count u.capture (taken now Due ∷ piece)
+    it =
+        at_due u.terms u.timers.stopwatch.start false None u.timers.slow_count u.timers.slow_count u.capture now piece
+        on.is_at (count_killed u.terms now piece on.timer.stage.1 ∙ on.is_at.counted)
+
+-- it is slow
+pub slow_made : (now : ℕ) (u : UnitView) (piece : List OwnTurn) (earlier : List (List OwnTurn))
+    → u.phase ≡ Running → now ≤ u.latest → is_due now u.timers.slow ≡ true → u.attempt ≡ length earlier + 1
+    → GoesOn u.terms Running false None u piece earlier
+    → IsMade u.terms (slow_row now (one_more u.timers.slow_count) u).next ((taken now Due ∷ piece) ∷ earlier)
+slow_made now u piece earlier ph le due a (on, ss) =
+    by_out (is_out_of_time u.terms.slow n) (u.terms.slow.grace == 0) refl refl
+  where
+    n : ℕ
+    n = one_more u.timers.slow_count
+
+    t : OwnTurn
+    t = taken now Due
+
+    waited : any_is ends_wait piece ≡ false
+    waited = on.is_at.wait_over
+
+    out : has_timed_out u.terms.slow piece ≡ false
+    out = in_time u.terms u.timers now u.latest piece waited on.timer due
+
+    it : IsAt u.terms u.timers.stopwatch.start false None false n u.capture (t ∷ piece)
+    it =
+        at_due u.terms u.timers.stopwatch.start false None u.timers.slow_count n u.capture now piece on.is_at
+        (count_slow u.terms now piece waited out ∙ ap one_more on.is_at.counted)
+
+    start : u.timers.stopwatch.start ≡ start_of (t ∷ piece)
+    start = began u.terms u.timers.stopwatch.start false None false n u.capture (t ∷ piece) it
+
+    next : (b : Bool) → is_out_of_time u.terms.slow n ≡ b
+        → is_out_of_time u.terms.slow (one_more (slow_count u.terms.slow piece)) ≡ b
+    next b e = ap (λ k. is_out_of_time u.terms.slow (one_more k)) on.is_at.counted ∙ e
+
+    goes : (ph : Phase) (v : UnitView) → v.timers.stopwatch ≡ u.timers.stopwatch → v.timers.slow_count ≡ n
+        → v.capture ≡ u.capture → HasTimer u.terms ph v.timers v.latest (t ∷ piece)
+        → IsGoing u.terms ph false None v (t ∷ piece)
+    goes ph v watch count capture timer =
+        going_more u.terms ph false None v t piece (rw (watch, count, capture) it) on.not_ended refl
+        (rw watch on.watch) timer
+
+    by_out : (o g : Bool) → is_out_of_time u.terms.slow n ≡ o → (u.terms.slow.grace == 0) ≡ g
+        → IsMade u.terms (if o then (if g then out_of_time n u else in_grace now n u) else slow_again now n u).next
+        ((t ∷ piece) ∷ earlier)
+    by_out true true e g =
+        made_more (out_of_time n u).next KillWait t piece earlier refl a start (
+          goes KillWait (out_of_time n u).next refl refl refl
+              (timer_kill_wait u.terms (out_of_time n u).next.timers now u.latest piece waited out (next true e) g),
+          ss,
+        )
+    by_out true false e g =
+        made_more (in_grace now n u).next Grace t piece earlier refl a start (
+          goes Grace (in_grace now n u).next refl refl refl
+              (timer_grace u.terms (in_grace now n u).next.timers now u.latest piece le refl refl waited out on.timer.stage
+              (next true e) g),
+          ss,
+        )
+    by_out false g e eg =
+        made_more (slow_again now n u).next Running t piece earlier ph a start (
+          goes Running (slow_again now n u).next refl refl refl
+              (timer_again u.terms (slow_again now n u).next.timers now u.latest piece le refl waited out on.timer.stage
+              (next false e)),
+          ss,
+        )

@@ -1,0 +1,146 @@
+-- An attempt that goes on, and one that has ended, after one more turn.
+use Rattle.std.proofs.Common.{◌≡◌, ℕ, ◌+◌, ◌≤◌, List, [], ◌∷◌, ◌++◌, length, Bool, true, false, ◌&&◌, ◌||◌}
+use Rattle.std.proofs.Common.{if◌then◌else◌, Option, Some, None, refl, ap, sym, ◌∙◌}
+use Rattle.run_clock.specs.Stopwatch.{started_at}
+use Rattle.run_capture.specs.Captured.{Captured, is_done}
+use Rattle.run_events.specs.declared.result.ChildExit.{ChildExit}
+use Rattle.run_events.specs.declared.result.ChildExecutionOutput.TheVariants.{Output, StartError}
+use Rattle.run_events.specs.declared.result.ExecuteStatus.{ExecuteStatus}
+use Rattle.run_events.specs.declared.result.ExecutionResult.TheVariants.{ExecFail}
+use Rattle.run_model.specs.declared.phase.Phase.{Phase}
+use Rattle.run_model.specs.declared.phase.Phase.TheVariants.{Starting}
+use Rattle.run_model.specs.declared.unit_turn.UnitTurn.{UnitTurn}
+use Rattle.run_model.specs.declared.unit_turn.UnitTurn.TheVariants.{StartFailed, Decide}
+use Rattle.run_model.specs.declared.unit_view.AttemptTerms.{AttemptTerms}
+use Rattle.run_model.specs.declared.unit_view.UnitView.{UnitView}
+use Rattle.run_model.specs.Environment.{attempts}
+use Rattle.run_model.specs.Unit.{at_moment, result_of, status_at, ended, exited, decided}
+use Rattle.run_model.specs.Story.{OwnTurn}
+use Rattle.run_model.specs.Timing.{timer_of}
+use Rattle.run_model.specs.Attempts.{has_ended, end_of, status_of, ended_statuses}
+use Rattle.run_laws.proofs.CaptureLemmas.{taken}
+use Rattle.run_laws.proofs.TimerLemmas.{HasTimer, set_by_later}
+use Rattle.run_laws.proofs.PieceLemmas.{IsAt, ended_as, end_more, status_as, refused_as, ended_decided, decided_same}
+
+-- the attempt of a unit goes on after the turns of a piece, on these terms and in this phase: whether its child is waited
+-- for no more, and how that ended
+pub record IsGoing (terms : AttemptTerms) (ph : Phase) (waited : Bool) (exit : Option ChildExit) (u : UnitView)
+    (piece : List OwnTurn) : Type 0 where
+  pub is_at : IsAt terms u.timers.stopwatch.start waited exit false u.timers.slow_count u.capture piece
+  pub not_ended : end_of terms piece ≡ None
+  pub watch : u.timers.stopwatch ≡ started_at u.timers.stopwatch.start
+  pub timer : HasTimer terms ph u.timers u.latest piece
+
+-- the attempt of this piece has ended, and the statuses of a unit are those of its pieces
+abbrev pub IsPast : AttemptTerms → UnitView → List OwnTurn → List (List OwnTurn) → Type 0
+IsPast terms u piece earlier =
+    (has_ended terms piece ≡ true) × (u.statuses ≡ ended_statuses terms (attempts u) (piece ∷ earlier))
+
+-- the moment of the latest turn may be later
+pub going_later : (terms : AttemptTerms) (ph : Phase) (waited : Bool) (exit : Option ChildExit) (now : ℕ)
+    (u : UnitView) (piece : List OwnTurn) → u.latest ≤ now
+    → IsGoing terms ph waited exit u piece → IsGoing terms ph waited exit (at_moment now u) piece
+going_later terms ph waited exit now u piece le on = record {
+  is_at = on.is_at;
+  not_ended = on.not_ended;
+  watch = on.watch;
+  timer = record {
+    set_by = set_by_later u.latest now le (timer_of terms piece) on.timer.set_by;
+    waits_for = on.timer.waits_for;
+    stage = on.timer.stage;
+  };
+}
+
+-- it goes on where its child is waited for, or some stream isn't done
+unsettled : (waited done : Bool) → (waited && done) ≡ false → (waited && (done || false)) ≡ false
+unsettled true true e = cc
+unsettled true false e = refl
+unsettled false done e = refl
+
+pub going_more : (terms : AttemptTerms) (ph : Phase) (waited : Bool) (exit : Option ChildExit) (u : UnitView)
+    (t : OwnTurn) (before : List OwnTurn)
+    → IsAt terms u.timers.stopwatch.start waited exit false u.timers.slow_count u.capture (t ∷ before)
+    → end_of terms before ≡ None → (waited && is_done u.capture) ≡ false
+    → u.timers.stopwatch ≡ started_at u.timers.stopwatch.start
+    → HasTimer terms ph u.timers u.latest (t ∷ before)
+    → IsGoing terms ph waited exit u (t ∷ before)
+going_more terms ph waited exit u t before it none goes watch timer = record {
+  is_at = it;
+  not_ended =
+      end_more terms t before false none
+      (ended_as terms u.timers.stopwatch.start waited exit false u.timers.slow_count u.capture (t ∷ before) it
+      ∙ unsettled waited (is_done u.capture) goes);
+  watch = watch;
+  timer = timer;
+}
+
+-- the statuses of pieces of which the newest has ended
+ended_statuses-past : (terms : AttemptTerms) (n : ℕ) (piece : List OwnTurn) (earlier : List (List OwnTurn))
+    → has_ended terms piece ≡ true
+    → ended_statuses terms n (piece ∷ earlier)
+    ≡ ended_statuses terms n earlier ++ status_of terms n (length earlier + 1) piece ∷ []
+ended_statuses-past terms n piece earlier ends =
+    ap (λ b. ended_statuses terms n earlier
+    ++ (if b then status_of terms n (length earlier + 1) piece ∷ [] else [])) ends
+
+past_with : (terms : AttemptTerms) (n : ℕ) (statuses : List ExecuteStatus) (status : ExecuteStatus)
+    (piece : List OwnTurn) (earlier : List (List OwnTurn))
+    → has_ended terms piece ≡ true → status ≡ status_of terms n (length earlier + 1) piece
+    → statuses ≡ ended_statuses terms n earlier
+    → statuses ++ status ∷ [] ≡ ended_statuses terms n (piece ∷ earlier)
+past_with terms n statuses status piece earlier ends is ss =
+    ap (λ ss. ss ++ status ∷ []) ss
+    ∙ ap (λ status. ended_statuses terms n earlier ++ status ∷ []) is
+    ∙ sym (ended_statuses-past terms n piece earlier ends)
+
+-- it ends where its child is waited for no more, and its streams are done or were waited for as long as they may be
+pub past_exited : (now : ℕ) (exit : Option ChildExit) (leaked : Bool) (c : Captured) (turn : UnitTurn) (u : UnitView)
+    (piece : List OwnTurn) (earlier : List (List OwnTurn))
+    → IsAt u.terms u.timers.stopwatch.start true exit leaked u.timers.slow_count c (taken now turn ∷ piece)
+    → end_of u.terms piece ≡ None → (is_done c || leaked) ≡ true
+    → u.timers.stopwatch ≡ started_at u.timers.stopwatch.start → u.attempt ≡ length earlier + 1
+    → u.statuses ≡ ended_statuses u.terms (attempts u) earlier
+    → IsPast u.terms (exited now exit leaked c u) (taken now turn ∷ piece) earlier
+past_exited now exit leaked c turn u piece earlier it none done watch a ss = (
+  ends,
+  past_with u.terms (attempts u) u.statuses
+      (status_at now (result_of exit c.errors leaked u) (Output c.output c.errors) u) (taken now turn ∷ piece) earlier ends
+      (status_as true exit leaked c now (length earlier + 1) (taken now turn ∷ piece) u it watch end a) ss,
+)
+  where
+    ends : has_ended u.terms (taken now turn ∷ piece) ≡ true
+    ends =
+        ended_as u.terms u.timers.stopwatch.start true exit leaked u.timers.slow_count c (taken now turn ∷ piece) it
+        ∙ done
+
+    end : end_of u.terms (taken now turn ∷ piece) ≡ Some now
+    end = end_more u.terms (taken now turn) piece true none ends
+
+-- it ends where its start was refused
+pub past_refused : (now : ℕ) (error : List ℕ) (exit : Option ChildExit) (u : UnitView) (piece : List OwnTurn)
+    (earlier : List (List OwnTurn)) → IsGoing u.terms Starting false exit u piece
+    → u.attempt ≡ length earlier + 1 → u.statuses ≡ ended_statuses u.terms (attempts u) earlier
+    → IsPast u.terms (ended now ExecFail (StartError error) u) (taken now (StartFailed error) ∷ piece) earlier
+past_refused now error exit u piece earlier on a ss = (
+  ends,
+  past_with u.terms (attempts u) u.statuses (status_at now ExecFail (StartError error) u)
+      (taken now (StartFailed error) ∷ piece) earlier ends
+      (refused_as now (length earlier + 1) error exit u.capture piece u on.is_at on.watch on.not_ended a) ss,
+)
+  where
+    ends : has_ended u.terms (taken now (StartFailed error) ∷ piece) ≡ true
+    ends = rw on.is_at.not_refused refl
+
+-- it stays so where it decides
+pub past_decided : (now word : ℕ) (u : UnitView) (piece : List OwnTurn) (earlier : List (List OwnTurn))
+    → IsPast u.terms u piece earlier → IsPast u.terms (decided u).next (taken now (Decide word) ∷ piece) earlier
+past_decided now word u piece earlier (ends, ss) = (
+  more,
+  ss ∙ ended_statuses-past u.terms (attempts u) piece earlier ends
+      ∙ ap (λ status. ended_statuses u.terms (attempts u) earlier ++ status ∷ [])
+      (decided_same u.terms (attempts u) (length earlier + 1) now word piece ends)
+      ∙ sym (ended_statuses-past u.terms (attempts u) (taken now (Decide word) ∷ piece) earlier more),
+)
+  where
+    more : has_ended u.terms (taken now (Decide word) ∷ piece) ≡ true
+    more = ended_decided u.terms now word piece ∙ ends

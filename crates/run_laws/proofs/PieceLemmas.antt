@@ -1,0 +1,174 @@
+-- An attempt after the turns of a piece of a story.
+use Rattle.std.proofs.Common.{◌≡◌, ℕ, List, [], ◌∷◌, Bool, true, false, ◌&&◌, ◌||◌, if◌then◌else◌}
+use Rattle.std.proofs.Common.{Option, Some, None, refl, ap, sym, ◌∙◌}
+use Rattle.std.specs.Option.{option_or}
+use Rattle.std.proofs.lemmas.List.{append-nil}
+use Rattle.run_clock.specs.Stopwatch.{started_at}
+use Rattle.run_capture.specs.Captured.{Captured, is_done}
+use Rattle.run_capture.specs.declared.test_output.CaptureStrategy.{CaptureStrategy}
+use Rattle.run_capture.specs.declared.test_output.CaptureStrategy.TheVariants as strategies
+use Rattle.run_events.specs.declared.result.ChildExit.{ChildExit}
+use Rattle.run_events.specs.declared.result.ChildExecutionOutput.TheVariants.{Output, StartError}
+use Rattle.run_events.specs.declared.result.ExecutionResult.TheVariants.{ExecFail}
+use Rattle.run_model.specs.declared.unit_turn.UnitTurn.{UnitTurn}
+use Rattle.run_model.specs.declared.unit_turn.UnitTurn.TheVariants.{StartFailed, Due, Decide}
+use Rattle.run_model.specs.declared.unit_view.AttemptTerms.{AttemptTerms}
+use Rattle.run_model.specs.declared.unit_view.UnitView.{UnitView}
+use Rattle.run_model.specs.Environment.{attempts}
+use Rattle.run_model.specs.Unit.{result_of, status_at}
+use Rattle.run_model.specs.Story.{OwnTurn, begins_attempt, first_said, any_is}
+use Rattle.run_model.specs.Timing.{ends_wait, is_due_turn, slow_count, has_leaked}
+use Rattle.run_model.specs.Attempts.{moment_if, start_error_in, start_error_of, exit_in, exit_of, output_of}
+use Rattle.run_model.specs.Attempts.{are_streams_done, has_ended, end_of, result_by, status_of}
+use Rattle.run_laws.proofs.CaptureLemmas.{captured_by, heard_by, taken, captured_more, done_as}
+use Rattle.run_laws.proofs.TimerLemmas.{active_since}
+
+-- an attempt after the turns of a piece: it was let go at this moment and not refused; whether its child is waited for
+-- no more, how that ended, whether it leaked, how often it was slow, and what was captured of it
+pub record IsAt (terms : AttemptTerms) (start : ℕ) (waited : Bool) (exit : Option ChildExit) (leaked : Bool)
+    (count : ℕ) (capture : Captured) (piece : List OwnTurn) : Type 0 where
+  pub let_go : first_said (moment_if begins_attempt) piece ≡ Some start
+  pub not_refused : start_error_of piece ≡ None
+  pub wait_over : any_is ends_wait piece ≡ waited
+  pub ended_so : exit_of piece ≡ exit
+  pub leaked_so : has_leaked piece ≡ leaked
+  pub counted : slow_count terms.slow piece ≡ count
+  pub captured : capture ≡ captured_by terms.strategy piece
+
+-- a turn that neither lets go nor ends says nothing of it
+pub quiet_said : {X : Type 0} (said : Option X) → option_or said None ≡ said
+quiet_said None = refl
+quiet_said (Some x) = refl
+
+-- an attempt after one more turn that neither refuses it nor is due
+pub at_more : (terms : AttemptTerms) (start : ℕ) (waited : Bool) (exit : Option ChildExit) (leaked : Bool) (count : ℕ)
+    (c : Captured) (now : ℕ) (turn : UnitTurn) (piece : List OwnTurn)
+    → IsAt terms start waited exit leaked count c piece
+    → start_error_in turn ≡ None → is_due_turn turn ≡ false
+    → IsAt terms start (ends_wait turn || waited) (option_or exit (exit_in turn)) leaked count (heard_by c turn)
+    (taken now turn ∷ piece)
+at_more terms start waited exit leaked count c now turn piece it unrefused due = record {
+  let_go = rw it.let_go refl;
+  not_refused = rw it.not_refused unrefused;
+  wait_over = ap (λ w. ends_wait turn || w) it.wait_over;
+  ended_so = ap (λ e. option_or e (exit_in turn)) it.ended_so;
+  leaked_so = rw due it.leaked_so;
+  counted = rw due it.counted;
+  captured = ap (λ c. heard_by c turn) it.captured ∙ captured_more terms.strategy now turn piece;
+}
+
+-- an attempt after one more turn that is due, by how often it was slow after that
+pub at_due : (terms : AttemptTerms) (start : ℕ) (waited : Bool) (exit : Option ChildExit) (count more : ℕ)
+    (c : Captured) (now : ℕ) (piece : List OwnTurn)
+    → IsAt terms start waited exit false count c piece → slow_count terms.slow (taken now Due ∷ piece) ≡ more
+    → IsAt terms start waited exit waited more c (taken now Due ∷ piece)
+at_due terms start waited exit count more c now piece it counted = record {
+  let_go = rw it.let_go refl;
+  not_refused = rw it.not_refused refl;
+  wait_over = it.wait_over;
+  ended_so = quiet_said (exit_of piece) ∙ it.ended_so;
+  leaked_so = rw (it.wait_over, it.leaked_so) (or_false waited);
+  counted = counted;
+  captured = it.captured ∙ captured_more terms.strategy now Due piece;
+}
+  where
+    or_false : (b : Bool) → (b || false) ≡ b
+    or_false true = refl
+    or_false false = refl
+
+-- it has ended where its child is waited for no more, and its capture is done or it leaked
+pub ended_as : (terms : AttemptTerms) (start : ℕ) (waited : Bool) (exit : Option ChildExit) (leaked : Bool) (count : ℕ)
+    (c : Captured) (piece : List OwnTurn) → IsAt terms start waited exit leaked count c piece
+    → has_ended terms piece ≡ (waited && (is_done c || leaked))
+ended_as terms start waited exit leaked count c piece it =
+    rw (it.not_refused, it.wait_over, it.leaked_so)
+    (ap (λ d. waited && (d || leaked)) (sym (done_as terms.strategy piece) ∙ ap is_done (sym it.captured)))
+
+-- when it ended, where it had not before its newest turn
+pub end_more : (terms : AttemptTerms) (t : OwnTurn) (before : List OwnTurn) (b : Bool) → end_of terms before ≡ None
+    → has_ended terms (t ∷ before) ≡ b → end_of terms (t ∷ before) ≡ (if b then Some t.moment else None)
+end_more terms t before b none is =
+    ap (λ e. option_or e (if has_ended terms (t ∷ before) then Some t.moment else None)) none
+    ∙ ap (λ b. if b then Some t.moment else None) is
+
+-- its status where it ended at a moment
+pub status_as : (waited : Bool) (exit : Option ChildExit) (leaked : Bool) (c : Captured) (now k : ℕ)
+    (piece : List OwnTurn) (u : UnitView)
+    → IsAt u.terms u.timers.stopwatch.start waited exit leaked u.timers.slow_count c piece
+    → u.timers.stopwatch ≡ started_at u.timers.stopwatch.start
+    → end_of u.terms piece ≡ Some now → u.attempt ≡ k
+    → status_at now (result_of exit c.errors leaked u) (Output c.output c.errors) u
+    ≡ status_of u.terms (attempts u) k piece
+status_as waited exit leaked c now k piece u it watch end at =
+    rw (
+      active_since u.timers.stopwatch now watch,
+      it.captured,
+      it.not_refused,
+      it.ended_so,
+      it.leaked_so,
+      it.counted,
+      it.let_go,
+      end,
+      at,
+    ) refl
+
+-- its status where its start was refused
+pub refused_as : (now k : ℕ) (error : List ℕ) (exit : Option ChildExit) (c : Captured) (piece : List OwnTurn)
+    (u : UnitView)
+    → IsAt u.terms u.timers.stopwatch.start false exit false u.timers.slow_count c piece
+    → u.timers.stopwatch ≡ started_at u.timers.stopwatch.start
+    → end_of u.terms piece ≡ None → u.attempt ≡ k
+    → status_at now ExecFail (StartError error) u
+    ≡ status_of u.terms (attempts u) k (taken now (StartFailed error) ∷ piece)
+refused_as now k error exit c piece u it watch end at =
+    rw (active_since u.timers.stopwatch now watch, it.not_refused, it.counted, it.let_go, end, at) refl
+
+-- an attempt that has ended stays so
+ended_once : (o : Option ℕ) (m : ℕ) (b : Bool) (x : Option ℕ) → b ≡ true
+    → option_or (option_or o (if b then Some m else None)) x ≡ option_or o (if b then Some m else None)
+ended_once None m true x e = refl
+ended_once (Some n) m true x e = refl
+ended_once o m false x e = cc
+
+pub ended_stays : (terms : AttemptTerms) (piece : List OwnTurn) → has_ended terms piece ≡ true → (x : Option ℕ)
+    → option_or (end_of terms piece) x ≡ end_of terms piece
+ended_stays terms [] e x = cc
+ended_stays terms (t ∷ before) e x = ended_once (end_of terms before) t.moment (has_ended terms (t ∷ before)) x e
+
+-- one with no end hasn't ended
+not_yet : (o : Option ℕ) (m : ℕ) (b : Bool) → option_or o (if b then Some m else None) ≡ None → b ≡ false
+not_yet None m true e = cc
+not_yet (Some n) m true e = cc
+not_yet o m false e = refl
+
+pub unended_has : (terms : AttemptTerms) (piece : List OwnTurn) → end_of terms piece ≡ None
+    → has_ended terms piece ≡ false
+unended_has terms [] e = refl
+unended_has terms (t ∷ before) e = not_yet (end_of terms before) t.moment (has_ended terms (t ∷ before)) e
+
+-- a turn that decides leaves the status of a piece
+done_decided : (s : CaptureStrategy) (now word : ℕ) (piece : List OwnTurn)
+    → are_streams_done s (taken now (Decide word) ∷ piece) ≡ are_streams_done s piece
+done_decided strategies.None now word piece = refl
+done_decided strategies.Split now word piece = refl
+done_decided strategies.Combined now word piece = refl
+
+pub ended_decided : (terms : AttemptTerms) (now word : ℕ) (piece : List OwnTurn)
+    → has_ended terms (taken now (Decide word) ∷ piece) ≡ has_ended terms piece
+ended_decided terms now word piece = simp (quiet_said, done_decided)
+
+result_decided : (terms : AttemptTerms) (now word : ℕ) (piece : List OwnTurn) (error : Option (List ℕ))
+    → result_by terms (taken now (Decide word) ∷ piece) error ≡ result_by terms piece error
+result_decided terms now word piece (Some error) = refl
+result_decided terms now word piece None = simp (quiet_said, append-nil)
+
+pub decided_same : (terms : AttemptTerms) (n k now word : ℕ) (piece : List OwnTurn) → has_ended terms piece ≡ true
+    → status_of terms n k piece ≡ status_of terms n k (taken now (Decide word) ∷ piece)
+decided_same terms n k now word piece e =
+    sym (simp (quiet_said, append-nil, output, count, result_decided, ended_stays terms piece e))
+  where
+    output : output_of terms.strategy (taken now (Decide word) ∷ piece) ≡ output_of terms.strategy piece
+    output = sym (ap (λ (c : Captured). c.output) (captured_more terms.strategy now (Decide word) piece))
+
+    count : slow_count terms.slow (taken now (Decide word) ∷ piece) ≡ slow_count terms.slow piece
+    count = refl

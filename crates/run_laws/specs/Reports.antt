@@ -1,0 +1,117 @@
+-- The signals that are asked for the child of a test, and the reports that it is slow, by its own turns alone, and as they
+-- were asked and told.
+use Rattle.std.specs.Prelude.{ℕ, ◌≡◌, ◌+◌, ◌==◌, List, [], ◌∷◌, ◌++◌, map, length, Bool, not, ◌&&◌, if◌then◌else◌, Option}
+use Rattle.std.specs.Prelude.{Some, None, option_to_list, filter_map}
+use Rattle.run_events.specs.declared.plan.SlowTimeout.{SlowTimeout}
+use Rattle.run_events.specs.declared.settings.Settings.{Settings}
+use Rattle.run_events.specs.declared.ask.Ask.{Ask}
+use Rattle.run_events.specs.declared.ask.Ask.TheVariants.{Signal}
+use Rattle.run_events.specs.declared.request.ChildSignal.{ChildSignal}
+use Rattle.run_events.specs.declared.request.ChildSignal.TheVariants.{End}
+use Rattle.run_events.specs.declared.request.TermSignal.{TermSignal}
+use Rattle.run_events.specs.declared.request.TermSignal.TheVariants.{Term, Kill}
+use Rattle.run_events.specs.declared.message.Message.{Message}
+use Rattle.run_events.specs.declared.message.Message.TheVariants.{Slow}
+use Rattle.run_events.specs.declared.events.ReporterEvent.{ReporterEvent}
+use Rattle.run_events.specs.declared.events.ReporterEvent.TheVariants.{Test}
+use Rattle.run_events.specs.declared.events.TestEventKind.{TestEventKind}
+use Rattle.run_events.specs.declared.events.TestEventKind.TheVariants.{TestSlow}
+use Rattle.run_model.specs.declared.entry.Entry.{Entry}
+use Rattle.run_model.specs.declared.happening.Happening.{Happening}
+use Rattle.run_model.specs.Slow.{slow_time}
+use Rattle.run_model.specs.Story.{OwnTurn}
+use Rattle.run_model.specs.Timing.{slow_count, has_timed_out, is_slow_turn, is_timeout, ends_grace}
+use Rattle.run_model.specs.Attempts.{pieces_of}
+use Rattle.run_model.specs.Admission.{unit_of_test, terms_at}
+use Rattle.run_model.specs.Words.{sub_run, told, queue, asked}
+use Rattle.run_model.specs.Journal.{IsLegal, past_of}
+
+-- the signal that comes with a turn of an attempt, after the turns before it: where it runs out of time its child is asked
+-- to end, or is killed where it is given no time for that, and where that time is over it is killed
+abbrev pub signal_with : SlowTimeout → OwnTurn → List OwnTurn → Option TermSignal
+signal_with slow t before =
+    if is_timeout slow t before then Some (if slow.grace == 0 then Kill else Term)
+    else if ends_grace slow t before then Some Kill
+    else None
+
+-- the signals of an attempt, and of all attempts, in order
+abbrev pub signals_in : SlowTimeout → List OwnTurn → List TermSignal
+signals_in slow [] = []
+signals_in slow (t ∷ before) = signals_in slow before ++ option_to_list (signal_with slow t before)
+
+abbrev pub signals_by : SlowTimeout → List (List OwnTurn) → List TermSignal
+signals_by slow [] = []
+signals_by slow (piece ∷ earlier) = signals_by slow earlier ++ signals_in slow piece
+
+-- a report that an attempt is slow: of this attempt, after this time, and whether it has run out of time with that
+pub record SlowReport : Type 0 where
+  pub attempt : ℕ
+  pub elapsed : ℕ
+  pub terminates : Bool
+
+-- the report that comes with a turn of an attempt: where it is slow, unless it is given no time to end by itself
+abbrev pub report_with : SlowTimeout → ℕ → OwnTurn → List OwnTurn → Option SlowReport
+report_with slow attempt t before =
+    if is_slow_turn slow t before && not (slow.grace == 0)
+    then Some (record {
+      attempt = attempt;
+      elapsed = slow_time slow (slow_count slow (t ∷ before));
+      terminates = has_timed_out slow (t ∷ before);
+    })
+    else None
+
+-- the reports of an attempt, and of all attempts, in order
+abbrev pub reports_in : SlowTimeout → ℕ → List OwnTurn → List SlowReport
+reports_in slow attempt [] = []
+reports_in slow attempt (t ∷ before) =
+    reports_in slow attempt before ++ option_to_list (report_with slow attempt t before)
+
+abbrev pub reports_by : SlowTimeout → List (List OwnTurn) → List SlowReport
+reports_by slow [] = []
+reports_by slow (piece ∷ earlier) = reports_by slow earlier ++ reports_in slow (length earlier + 1) piece
+
+-- the signal for the child of unit k that is asked, if this asks one, and all of a sub-run
+abbrev pub signal_for : ℕ → Ask → Option ChildSignal
+signal_for k (Signal ask) = if ask.unit == k then Some ask.signal else None
+signal_for k _ = None
+
+abbrev pub signals_for : ℕ → Option Ask → List ChildSignal
+signals_for k ask = filter_map (signal_for k) (option_to_list ask)
+
+abbrev pub signals_asked : ℕ → List Happening → List ChildSignal
+signals_asked k run = filter_map (λ a. signal_for k a.1) (asked run)
+
+-- the slow report of unit k that a message sends, if it sends one, and all that wait
+abbrev pub report_in : ℕ → Message → Option SlowReport
+report_in k (Slow slow) =
+    if slow.test.unit == k
+    then Some (record { attempt = slow.attempt; elapsed = slow.elapsed_slow; terminates = slow.terminates })
+    else None
+report_in k _ = None
+
+abbrev pub reports_waiting : ℕ → List Message → List SlowReport
+reports_waiting k messages = filter_map (report_in k) messages
+
+-- the slow report of unit k that an event tells, if it tells one, and all that were told
+abbrev pub report_of_kind : ℕ → TestEventKind → Option SlowReport
+report_of_kind k (TestSlow slow) = report_in k (Slow slow)
+report_of_kind k _ = None
+
+abbrev pub report_of : ℕ → ReporterEvent → Option SlowReport
+report_of k (Test event) = report_of_kind k event.kind
+report_of k _ = None
+
+abbrev pub reports_told : ℕ → List ReporterEvent → List SlowReport
+reports_told k events = filter_map (report_of k) events
+
+-- the signals that were asked for the child of a test are those of its own turns, and so are the slow reports of it that
+-- were told, followed by those that wait to be told
+pub record IsReportedByItsTurns (p : Settings) (run : List Happening) (j : ℕ) : Type 0 where
+  pub signals : signals_asked (unit_of_test p j) run ≡ map End (signals_by (terms_at p j).slow (pieces_of p j run))
+  pub reports : reports_told (unit_of_test p j) (told run) ++ reports_waiting (unit_of_test p j) (queue run)
+      ≡ reports_by (terms_at p j).slow (pieces_of p j run)
+
+-- after every legal journal that holds of each test in the newest sub-run
+abbrev pub ReportsAreOwnTurns : Type 0
+ReportsAreOwnTurns = (p : Settings) (journal : List Entry) → IsLegal p journal → (j : ℕ)
+    → IsReportedByItsTurns p (sub_run (past_of p journal)) j
