@@ -1,2 +1,4 @@
 pub mod Effects
 pub mod Heard
+pub mod Terminate
+pub mod Timely

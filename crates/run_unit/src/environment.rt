@@ -1,8 +1,8 @@
 // The start of a test's child: its command and its variables.
 ghost use Rattle.std.specs.Prelude.{◌≡◌, ◌++◌, ◌∷◌, [], IfOk, decimal, codes};
 ghost use Rattle.uuid.specs.Text.{hyphenated_text, lower};
-ghost use Rattle.run_model.specs.Unit.{start_ask, environment, identity_variables, place_variables, version_variables};
-ghost use Rattle.run_model.specs.Unit.{group_name, group_number, streams_of};
+ghost use Rattle.run_model.specs.Environment.{start_ask, environment, identity_variables, place_variables, version_variables};
+ghost use Rattle.run_model.specs.Environment.{group_name, group_number, streams_of};
 
 use run_capture::{CaptureStrategy, Duplicate, List, Mem, Stream, Text};
 use run_events::{Ask, GroupSlot, StartAsk};
@@ -59,7 +59,7 @@ fn id_pair(alloc: Global, key: &str, value: Uuid) -> Mem<(Text, Text)>
     Ok((Text::from_str(alloc, key)?, Text::from_string(text)))
 }
 
-#[tactic(auto, unfolding(run_model::specs::Unit::identity_variables))]
+#[tactic(auto, unfolding(run_model::specs::Environment::identity_variables))]
 fn identity_variables(alloc: Global, unit: &UnitView) -> Mem<Vec<(Text, Text)>>
     ensures { IfOk result (λ v. v.items ≡ identity_variables unit.now) }
 {
@@ -106,7 +106,7 @@ fn with_group(alloc: Global, list: Variables, group: &Option<GroupSlot>) -> Mem<
     }
 }
 
-#[tactic(auto, unfolding(run_model::specs::Unit::place_variables))]
+#[tactic(auto, unfolding(run_model::specs::Environment::place_variables))]
 fn place_variables(alloc: Global, unit: &UnitView) -> Mem<Vec<(Text, Text)>>
     ensures { IfOk result (λ v. v.items ≡ place_variables unit.now) }
 {
@@ -118,7 +118,7 @@ fn place_variables(alloc: Global, unit: &UnitView) -> Mem<Vec<(Text, Text)>>
     Ok(list)
 }
 
-#[tactic(auto, unfolding(run_model::specs::Unit::version_variables))]
+#[tactic(auto, unfolding(run_model::specs::Environment::version_variables))]
 fn version_variables(alloc: Global) -> Mem<Vec<(Text, Text)>>
     ensures { IfOk result (λ v. v.items ≡ version_variables) }
 {
@@ -129,7 +129,7 @@ fn version_variables(alloc: Global) -> Mem<Vec<(Text, Text)>>
     Ok(list)
 }
 
-#[tactic(auto, unfolding(run_model::specs::Unit::environment))]
+#[tactic(auto, unfolding(run_model::specs::Environment::environment))]
 fn environment(alloc: Global, unit: &UnitView) -> Mem<List<(Text, Text)>>
     ensures { IfOk result (λ v. v ≡ environment unit.now) }
 {
@@ -161,12 +161,12 @@ fn streams_of(alloc: Global, strategy: CaptureStrategy) -> Mem<List<Stream>>
 }
 
 /// The start that is asked where an attempt is let go.
-#[tactic(auto, unfolding(run_model::specs::Unit::start_ask))]
+#[tactic(auto, unfolding(run_model::specs::Environment::start_ask))]
 pub fn start_of(alloc: Global, unit: &UnitView) -> Mem<Ask>
     ensures { IfOk result (λ ask. ask ≡ start_ask unit.now) }
 {
     let command = unit.command.copy(alloc)?;
-    let streams = streams_of(alloc, unit.strategy)?;
+    let streams = streams_of(alloc, unit.terms.strategy)?;
     let env = environment(alloc, unit)?;
     Ok(Ask::Start(StartAsk {
         unit: unit.test.unit,

@@ -2,10 +2,16 @@
 //! the message that it sends and what it asks. The engine uses these contracts and nothing else.
 #![tactic(auto)]
 
+mod acting;
 mod effects;
 mod ending;
 mod environment;
+mod first;
 mod hearing;
+mod slow;
+mod status;
+mod terminate;
+mod timing;
 mod unit;
 
 pub use effects::UnitEffects;
@@ -13,4 +19,5 @@ pub use effects::UnitEffects;
 pub use environment::start_of;
 pub use run_events::create_execution_result;
 pub use run_model::{Phase, UnitTurn};
+pub use terminate::terminate_method;
 pub use unit::Unit;

@@ -1,0 +1,85 @@
+-- A row leaves no timer that was given a later moment than that of the unit's latest turn.
+use Rattle.std.proofs.Common.{ℕ, ◌≤◌, ◌==◌, true, false, if◌then◌else◌, Option, Some, None, IfSome, arith}
+use Rattle.run_clock.specs.Sleep.{Sleep}
+use Rattle.run_capture.specs.Captured.{Captured, is_done, with_wait_error}
+use Rattle.run_events.specs.declared.result.ChildExit.{ChildExit}
+use Rattle.run_model.specs.declared.phase.Phase.{Phase}
+use Rattle.run_model.specs.declared.phase.Phase.TheVariants.{StartSent, Starting, Running, Grace, KillWait, Leak}
+use Rattle.run_model.specs.declared.phase.Phase.TheVariants.{Deciding}
+use Rattle.run_model.specs.declared.unit_turn.UnitTurn.{UnitTurn}
+use Rattle.run_model.specs.declared.unit_turn.UnitTurn.TheVariants.{Answered, Started, StartFailed, Exit, WaitFailed}
+use Rattle.run_model.specs.declared.unit_turn.UnitTurn.TheVariants.{Due, Decide}
+use Rattle.run_model.specs.declared.unit_view.Timers.{Timers}
+use Rattle.run_model.specs.declared.unit_view.UnitView.{UnitView}
+use Rattle.run_model.specs.Slow.{one_more, is_out_of_time}
+use Rattle.run_model.specs.Unit.{row_at, running_row, slow_row, slow_again, in_grace, out_of_time, settled, exited}
+use Rattle.run_model.specs.Unit.{leaking, heard_with, having_heard, at_moment}
+use Rattle.run_unit.specs.Timely.{IsTimely, IsCurrent}
+
+-- a timer that was given no moment after this one was given none after a later one
+set_later : (s : Option Sleep) (before now : ℕ) → before ≤ now → IfSome s (λ timer. timer.latest ≤ before)
+    → IfSome s (λ timer. timer.latest ≤ now)
+set_later None before now le h = h
+set_later (Some s) before now le h = let was : s.latest ≤ before = h in omega arith
+
+-- timers that are timely at a moment are so at a later one
+timely_later : (t : Timers) (before now : ℕ) → before ≤ now → IsTimely t before → IsTimely t now
+timely_later t before now le h =
+    let was : t.stopwatch.latest ≤ before = h.0 in
+    (omega arith, set_later t.slow before now le h.1, set_later t.wait before now le h.2)
+
+-- a unit stays current at a later moment
+pub at_moment_current : (now : ℕ) (u : UnitView) → u.latest ≤ now → IsCurrent u → IsCurrent (at_moment now u)
+at_moment_current now u le h = timely_later u.timers u.latest now le h
+
+-- a unit stays current where its child ends
+settled_current : (now : ℕ) (exit : Option ChildExit) (c : Captured) (u : UnitView) → now ≤ u.latest → IsCurrent u
+    → IsCurrent (settled now exit c u)
+settled_current now exit c u le h =
+    elim (is_done c) as (λ b. IsCurrent (if b then exited now exit false c u else leaking now exit c u))
+    [ true ↦ (h.0, tt, tt) | false ↦ (h.0, tt, le) ]
+
+-- a unit stays current where it hears a turn of a stream after its child ended
+heard_current : (now : ℕ) (c : Captured) (u : UnitView) → IsCurrent u → IsCurrent (heard_with now c u)
+heard_current now c u h =
+    elim (is_done c) as (λ b. IsCurrent (if b then exited now u.exit false c u else record u { capture = c }))
+    [ true ↦ (h.0, tt, tt) | false ↦ h ]
+
+-- a unit stays current where it runs out of time
+out_of_time_current : (now n : ℕ) (u : UnitView) → now ≤ u.latest → IsCurrent u
+    → IsCurrent (if u.terms.slow.grace == 0 then out_of_time n u else in_grace now n u).next
+out_of_time_current now n u le h =
+    elim (u.terms.slow.grace == 0) as (λ b. IsCurrent (if b then out_of_time n u else in_grace now n u).next)
+    [ true ↦ (h.0, tt, h.2) | false ↦ (h.0, tt, le) ]
+
+-- a unit stays current where it is slow
+slow_current : (now n : ℕ) (u : UnitView) → now ≤ u.latest → IsCurrent u → IsCurrent (slow_row now n u).next
+slow_current now n u le h =
+    elim (is_out_of_time u.terms.slow n) as (λ b. IsCurrent (if b
+    then (if u.terms.slow.grace == 0 then out_of_time n u else in_grace now n u)
+    else slow_again now n u).next)
+    [ true ↦ out_of_time_current now n u le h | false ↦ (h.0, le, h.2) ]
+
+-- a unit stays current where it takes a turn while its child runs
+running_current : (now : ℕ) (turn : UnitTurn) (u : UnitView) → now ≤ u.latest → IsCurrent u
+    → IsCurrent (running_row now turn u).next
+running_current now (Exit exit) u le h = settled_current now (Some exit) u.capture u le h
+running_current now (WaitFailed error) u le h = settled_current now None (with_wait_error u.capture error) u le h
+running_current now turn u le h = h
+
+-- a row leaves a unit current
+pub row_current : (now : ℕ) (ph : Phase) (turn : UnitTurn) (u : UnitView) → now ≤ u.latest → IsCurrent u
+    → IsCurrent (row_at now ph turn u).next
+row_current now StartSent (Answered true) u le h = (le, tt, tt)
+row_current now StartSent (Answered false) u le h = h
+row_current now Starting (Started pid) u le h = (h.0, le, h.2)
+row_current now Starting (StartFailed error) u le h = (h.0, tt, tt)
+row_current now Running Due u le h = slow_current now (one_more u.timers.slow_count) u le h
+row_current now Running turn u le h = running_current now turn u le h
+row_current now Grace Due u le h = (h.0, h.1, tt)
+row_current now Grace turn u le h = running_current now turn u le h
+row_current now KillWait turn u le h = running_current now turn u le h
+row_current now Leak Due u le h = (h.0, tt, tt)
+row_current now Leak turn u le h = heard_current now (having_heard u.capture turn) u h
+row_current now Deciding (Decide word) u le h = h
+row_current now ph turn u le h = h

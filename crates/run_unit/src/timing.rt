@@ -1,0 +1,44 @@
+// The timers of a unit.
+ghost use Rattle.std.specs.Prelude.{◌≡◌, ◌≤◌, IfSome, None, true};
+ghost use Rattle.run_clock.specs.Stopwatch.{started_at};
+ghost use Rattle.run_model.specs.Unit.{is_due, takes_at};
+ghost use Rattle.run_model.specs.declared.unit_turn.UnitTurn.TheVariants.{Due};
+ghost use Rattle.run_unit.specs.Timely.{IsTimely};
+
+use run_clock::{PausableSleep, Poll, StopwatchStart};
+use run_model::{Phase, Timers, UnitView};
+
+/// The timers of an attempt that is let go now.
+pub fn timers_from(now: u64) -> Timers
+    ensures { result ≡ record { stopwatch = started_at now; slow = None; wait = None; slow_count = 0 } }
+{
+    Timers {
+        stopwatch: StopwatchStart::new(now),
+        slow: None,
+        wait: None,
+        slow_count: 0,
+    }
+}
+
+// Whether a timer is set and fires now.
+fn is_due(timer: &Option<PausableSleep>, now: u64) -> bool
+    requires { IfSome timer.now (λ timer. timer.latest ≤ now) }
+    ensures { result ≡ is_due now timer.now }
+{
+    match timer {
+        Some(timer) => matches!(timer.poll_at(now), Poll::Ready(())),
+        None => false,
+    }
+}
+
+/// Whether the timer of its phase is due.
+pub fn is_timer_due(view: &UnitView, now: u64) -> bool
+    requires { IsTimely view.now.timers now }
+    ensures { result ≡ takes_at now view.now.phase view.now Due }
+{
+    match view.phase {
+        Phase::Running => is_due(&view.timers.slow, now),
+        Phase::Grace | Phase::Leak => is_due(&view.timers.wait, now),
+        _ => false,
+    }
+}
