@@ -10,10 +10,16 @@ use Rattle.run_capture.specs.declared.test_output.CaptureStrategy.TheVariants as
 use Rattle.run_events.specs.declared.plan.Group.{Group}
 use Rattle.run_events.specs.declared.plan.Plan.{Plan}
 use Rattle.run_events.specs.declared.plan.PlanTest.{PlanTest}
+use Rattle.run_events.specs.declared.plan.SlowTimeout.{SlowTimeout}
+use Rattle.run_events.specs.declared.plan.LeakTimeout.{LeakTimeout}
 use Rattle.run_events.specs.declared.plan.TestInstanceId.{TestInstanceId}
-use Rattle.run_events.specs.Usual.{usual_test, usual_plan}
+use Rattle.run_events.specs.declared.result.SlowTimeoutResult.{SlowTimeoutResult}
+use Rattle.run_events.specs.declared.result.SlowTimeoutResult.TheVariants as timeouts
+use Rattle.run_events.specs.declared.result.LeakTimeoutResult.{LeakTimeoutResult}
+use Rattle.run_events.specs.declared.result.LeakTimeoutResult.TheVariants as leaks
+use Rattle.run_events.specs.Usual.{usual_slow, usual_leak, usual_test, usual_plan}
 use Rattle.run_input.specs.declared.plan_line.RunnerKeys.{RunnerKeys}
-use Rattle.run_input.specs.Fields.{◌>>=◌, when, is_object_of, optional, or_usual, u32_of, texts_of}
+use Rattle.run_input.specs.Fields.{◌>>=◌, when, is_object_of, optional, or_usual, u32_of, u64_of, texts_of}
 use lib.Pointwise.{pointwise}
 
 -- the way of capture that a text names
@@ -69,18 +75,69 @@ id_of d = do
   name ← option_and_then as_str (get (codes "name") d)
   Some (record { binary = binary; name = name })
 
--- a test, with its name and its command, the reason for which it is skipped where it doesn't match, its weight (1 where
--- nothing is said) and its group
-unfoldable pub test_of : Data → Option PlanTest
-test_of d = do
-  _ ← when (is_object_of (codes "binary" ∷ codes "command" ∷ codes "group" ∷ codes "name" ∷ codes "skip"
-      ∷ codes "weight" ∷ []) d)
+-- what a text says that a time-out counts as
+abbrev pub timeout_named : List ℕ → Option SlowTimeoutResult
+timeout_named name =
+    if pointwise nat_eq name (codes "fail") then Some timeouts.Fail
+    else if pointwise nat_eq name (codes "pass") then Some timeouts.Pass
+    else None
+
+abbrev pub timeout_of : Data → Option SlowTimeoutResult
+timeout_of d = option_and_then timeout_named (as_str d)
+
+-- what a text says that a leak counts as
+abbrev pub leak_named : List ℕ → Option LeakTimeoutResult
+leak_named name =
+    if pointwise nat_eq name (codes "fail") then Some leaks.Fail
+    else if pointwise nat_eq name (codes "pass") then Some leaks.Pass
+    else None
+
+abbrev pub leak_result_of : Data → Option LeakTimeoutResult
+leak_result_of d = option_and_then leak_named (as_str d)
+
+-- when a test is slow, and what comes of that, as usual where nothing else is said
+unfoldable pub slow_of : Data → Option SlowTimeout
+slow_of d = do
+  _ ← when (is_object_of (codes "grace" ∷ codes "on_timeout" ∷ codes "period" ∷ codes "terminate_after" ∷ []) d)
+  period ← or_usual usual_slow.period u64_of (get (codes "period") d)
+  terminate_after ← optional u32_of (get (codes "terminate_after") d)
+  grace ← or_usual usual_slow.grace u64_of (get (codes "grace") d)
+  on_timeout ← or_usual usual_slow.on_timeout timeout_of (get (codes "on_timeout") d)
+  Some (record { period = period; terminate_after = terminate_after; grace = grace; on_timeout = on_timeout })
+
+-- how long open descriptors are waited for, and what a leak counts as, as usual where nothing else is said
+unfoldable pub leak_of : Data → Option LeakTimeout
+leak_of d = do
+  _ ← when (is_object_of (codes "period" ∷ codes "result" ∷ []) d)
+  period ← or_usual usual_leak.period u64_of (get (codes "period") d)
+  result ← or_usual usual_leak.result leak_result_of (get (codes "result") d)
+  Some (record { period = period; result = result })
+
+-- the weight of a test, 1 where nothing is said, and its time-outs
+abbrev pub terms_of : Data → Option (ℕ × SlowTimeout × LeakTimeout)
+terms_of d = do
   weight ← or_usual 1 u32_of (get (codes "weight") d)
+  slow ← or_usual usual_slow slow_of (get (codes "slow") d)
+  leak ← or_usual usual_leak leak_of (get (codes "leak") d)
+  Some (weight, slow, leak)
+
+-- a test with its name and its command, and the reason for which it is skipped where it doesn't match
+abbrev pub named_of : Data → Option PlanTest
+named_of d = do
   id ← id_of d
   command ← option_and_then texts_of (get (codes "command") d)
   skip ← optional as_str (get (codes "skip") d)
+  Some (usual_test id command skip)
+
+-- a test in its group, with its weight and its time-outs
+unfoldable pub test_of : Data → Option PlanTest
+test_of d = do
+  _ ← when (is_object_of (codes "binary" ∷ codes "command" ∷ codes "group" ∷ codes "leak" ∷ codes "name" ∷ codes "skip"
+      ∷ codes "slow" ∷ codes "weight" ∷ []) d)
+  terms ← terms_of d
   group ← optional as_str (get (codes "group") d)
-  Some (record (usual_test id command skip) { weight = weight; group = group })
+  test ← named_of d
+  Some (record test { weight = terms.0; slow = terms.1; leak = terms.2; group = group })
 
 -- the tests of items, each of which is one
 abbrev pub tests_from : Items → Option (List PlanTest)

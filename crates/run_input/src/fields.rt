@@ -3,7 +3,7 @@
 ghost use Rattle.std.specs.Prelude.{◌≡◌, List, ℕ, option_map, option_and_then};
 ghost use Rattle.serde_json.specs.Find.{as_str};
 ghost use Rattle.serde_json.specs.View.{view, items_view};
-ghost use Rattle.run_input.specs.Fields.{optional, u32_of, u64_of, truth_of, i32_of, texts_of, texts_from};
+ghost use Rattle.run_input.specs.Fields.{optional, or_usual, u32_of, u64_of, truth_of, i32_of, texts_of, texts_from};
 ghost use Rattle.run_input.specs.ReadsValue.{ReadsValue};
 
 use crate::LineError;
@@ -33,6 +33,16 @@ pub fn u64_at(value: Option<&Value>) -> Option<u64>
     ensures { result ≡ option_and_then u64_of (option_map (λ v. view v.now) value.entry) }
 {
     value?.as_u64()
+}
+
+/// A whole number from 0 to 18446744073709551615, and the usual one where it is missing.
+pub fn u64_or(usual: u64, value: Option<&Value>) -> Option<u64>
+    ensures { result ≡ or_usual usual u64_of (option_map (λ v. view v.now) value.entry) }
+{
+    match value {
+        Some(_) => u64_at(value),
+        None => Some(usual),
+    }
 }
 
 /// A truth value.

@@ -11,6 +11,7 @@ mod laws;
 mod lines;
 mod objects;
 mod plan_line;
+mod plan_test;
 mod reading;
 mod turn_fields;
 mod turn_line;

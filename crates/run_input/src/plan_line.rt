@@ -6,17 +6,18 @@ ghost use Rattle.serde_json.specs.View.{view, items_view};
 ghost use Rattle.run_input.specs.ReadsValue.{ReadsValue};
 ghost use Rattle.run_input.specs.ValueOf.{value_of};
 ghost use Rattle.uuid.specs.Text.{parsed};
-ghost use Rattle.run_input.specs.PlanLine.{uuid_of, capture_of, run_id_of, id_of, test_of, tests_of, tests_from};
+ghost use Rattle.run_input.specs.PlanLine.{uuid_of, capture_of, run_id_of, tests_of, tests_from};
 ghost use Rattle.run_input.specs.PlanLine.{plan_tests_of, plan_of, keys_of, plan_with, plan_groups_of, group_of};
 ghost use Rattle.run_input.specs.PlanLine.{groups_of, groups_from};
-ghost use Rattle.run_input.specs.Fields.{u32_of, or_usual};
+ghost use Rattle.run_input.specs.Fields.{or_usual};
 
 use crate::LineError;
-use crate::fields::{optional_text_at, optional_u32_at, str_at, text_at, texts_at, u32_at};
+use crate::fields::{optional_u32_at, str_at, text_at, u32_at};
 use crate::objects::has_keys_of;
+use crate::plan_test::test_from;
 use crate::value::read_value;
-use run_capture::{CaptureStrategy, List, Text};
-use run_events::{Group, Plan, PlanTest, TestInstanceId};
+use run_capture::{CaptureStrategy, List};
+use run_events::{Group, Plan, PlanTest};
 use serde_json::Value;
 use std::alloc::Global;
 use uuid::Uuid;
@@ -34,7 +35,9 @@ pub struct RunnerKeys {
 /// Its keys are `run_id` (a UUID) and `tests` (a list of tests, which may be empty), and it may have `capture` (the
 /// text `none`, `split` or `combined`; `split` where it is missing), `threads` (a number) and `groups` (a list of
 /// groups). A group has `limit` (a number) and `name`. A test has `binary`, `command` and `name`, and may have `group`
-/// (the name of one), `skip` (the reason for which it is skipped) and `weight` (a number, 1 where it is missing).
+/// (the name of one), `leak`, `skip` (the reason for which it is skipped), `slow` and `weight` (a number, 1 where it is
+/// missing). `slow` may have `grace`, `on_timeout` (the text `fail` or `pass`), `period` and `terminate_after`, and
+/// `leak` may have `period` and `result` (the text `fail` or `pass`); what is missing is as usual.
 pub fn read_plan_line(alloc: Global, line: &[u8]) -> Result<(RunnerKeys, Plan), LineError>
     ensures { ReadsValue result (option_and_then plan_of (value_of line.now)) }
 {
@@ -188,53 +191,6 @@ fn run_id_at(value: Option<&Value>) -> Option<Uuid>
     ensures { result ≡ option_and_then run_id_of (option_map (λ v. view v.now) value.entry) }
 {
     parse_run_id(str_at(value)?)
-}
-
-#[tactic(auto, unfolding(crate::specs::PlanLine::test_of))]
-fn test_from(alloc: Global, value: &Value) -> Result<PlanTest, LineError>
-    ensures { ReadsValue result (test_of (view value.now)) }
-{
-    if !has_keys_of(
-        value,
-        &["binary", "command", "group", "name", "skip", "weight"],
-    ) {
-        return Err(LineError::NotInTable);
-    }
-    let weight = weight_at(value.get("weight")).ok_or(LineError::NotInTable)?;
-    let id = id_from(alloc, value)?;
-    let command = texts_at(alloc, value.get("command"))?;
-    let skip = optional_text_at(alloc, value.get("skip"))?;
-    let group = optional_text_at(alloc, value.get("group"))?;
-    Ok(weighed(PlanTest::usual(id, command, skip), weight, group))
-}
-
-// A weight, and 1 where there is none.
-fn weight_at(value: Option<&Value>) -> Option<u32>
-    ensures { result ≡ or_usual 1 u32_of (option_map (λ v. view v.now) value.entry) }
-{
-    match value {
-        Some(_) => u32_at(value),
-        None => Some(1),
-    }
-}
-
-// A test of this weight, in this group.
-fn weighed(test: PlanTest, weight: u32, group: Option<Text>) -> PlanTest
-    ensures { result ≡ record test { weight = weight; group = group } }
-{
-    let mut test = test;
-    test.weight = weight;
-    test.group = group;
-    test
-}
-
-// The name of a test.
-fn id_from(alloc: Global, value: &Value) -> Result<TestInstanceId, LineError>
-    ensures { ReadsValue result (id_of (view value.now)) }
-{
-    let binary = text_at(alloc, value.get("binary"))?;
-    let name = text_at(alloc, value.get("name"))?;
-    Ok(TestInstanceId { binary, name })
 }
 
 fn tests_in(alloc: Global, items: &[Value]) -> Result<List<PlanTest>, LineError>

@@ -34,6 +34,20 @@ const REPEATED: &str =
      {\"binary\":\"b\",\"command\":[\"true\"],\"name\":\"t\"},\
      {\"binary\":\"b\",\"command\":[\"true\"],\"name\":\"t\"}]}";
 
+// A test with all keys of its time-outs, one with an unknown key, and one with a time above the greatest.
+const TIMED: &str =
+    "{\"capture\":\"none\",\"run_id\":\"00000000-0000-4000-8000-000000000001\",\"tests\":[\
+     {\"binary\":\"b\",\"command\":[\"true\"],\"leak\":{\"period\":0,\"result\":\"fail\"},\"name\":\"t\",\
+     \"slow\":{\"grace\":0,\"on_timeout\":\"pass\",\"period\":1,\"terminate_after\":0}}]}";
+
+const UNKNOWN_KEY: &str =
+    "{\"capture\":\"none\",\"run_id\":\"00000000-0000-4000-8000-000000000001\",\"tests\":[\
+     {\"binary\":\"b\",\"command\":[\"true\"],\"name\":\"t\",\"slow\":{\"result\":\"pass\"}}]}";
+
+const TOO_LONG: &str =
+    "{\"capture\":\"none\",\"run_id\":\"00000000-0000-4000-8000-000000000001\",\"tests\":[\
+     {\"binary\":\"b\",\"command\":[\"true\"],\"leak\":{\"period\":18446744073709551616},\"name\":\"t\"}]}";
+
 // Two tests that match, and one that doesn't.
 const THREE: &str =
     "{\"capture\":\"none\",\"run_id\":\"00000000-0000-4000-8000-000000000001\",\"tests\":[\
@@ -216,6 +230,17 @@ fn refused_inputs(rt: HostRuntime) {
     let unfinished = given(&["replay"], &[PLAN]);
     let last = "{\"fault\":\"unfinished\",\"status\":8}\n";
     check(&rt, alloc, &unfinished, 8, 1, last);
+}
+
+#[test]
+fn time_outs_of_a_plan(rt: HostRuntime) {
+    let alloc = rt.alloc();
+    let last = "{\"fault\":\"unfinished\",\"status\":8}\n";
+    check(&rt, alloc, &given(&["replay"], &[TIMED]), 8, 1, last);
+
+    let last = "{\"fault\":\"line\",\"line\":1,\"status\":3}\n";
+    check(&rt, alloc, &given(&["replay"], &[UNKNOWN_KEY]), 3, 1, last);
+    check(&rt, alloc, &given(&["replay"], &[TOO_LONG]), 3, 1, last);
 }
 
 #[test]

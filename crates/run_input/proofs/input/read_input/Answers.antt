@@ -1,4 +1,4 @@
-use Rattle.std.proofs.Common.{rules, ◌≡◌, Some, Ok, ap, sym, ◌∙◌}
+use Rattle.std.proofs.Common.{rules, ◌≡◌, Some, ap, sym, ◌∙◌}
 use Rattle.run_input.specs.Input.{plan_line_of, turns_of}
 use Rattle.run_input.specs.Lines.{lines_of}
 use Rattle.run_input.proofs.input.read_input.Goals as goal

@@ -1,4 +1,4 @@
-use Rattle.std.proofs.Common.{rules, ℕ, None, Some, List, [], ◌∷◌, slice_get, ◌≡◌, ap, sym, subst, ◌∙◌}
+use Rattle.std.proofs.Common.{rules, ℕ, None, Some, List, [], ◌∷◌, slice_get, ◌≡◌, ap, sym, ◌∙◌}
 use Rattle.std.specs.Str.{chars}
 use Rattle.std.proofs.lemmas.Str.{chars_past_char}
 use Rattle.run_input.specs.TurnLine.{only_one}

@@ -1,0 +1,180 @@
+// A test of a plan line.
+ghost use Rattle.std.specs.Prelude.{◌≡◌, option_map, option_and_then};
+ghost use Rattle.serde_json.specs.View.{view};
+ghost use Rattle.run_events.specs.Usual.{usual_slow, usual_leak};
+ghost use Rattle.run_input.specs.ReadsValue.{ReadsValue};
+ghost use Rattle.run_input.specs.PlanLine.{id_of, named_of, terms_of, test_of};
+ghost use Rattle.run_input.specs.PlanLine.{slow_of, leak_of, timeout_of, leak_result_of};
+ghost use Rattle.run_input.specs.Fields.{u32_of, or_usual};
+
+use crate::LineError;
+use crate::fields::{optional_text_at, optional_u32_at, str_at, text_at, texts_at, u32_at, u64_or};
+use crate::objects::has_keys_of;
+use run_capture::Text;
+use run_events::{
+    LeakTimeout, LeakTimeoutResult, PlanTest, SlowTimeout, SlowTimeoutResult, TestInstanceId,
+};
+use serde_json::Value;
+use std::alloc::Global;
+
+/// A test, by its keys.
+#[tactic(auto, unfolding(crate::specs::PlanLine::test_of))]
+pub fn test_from(alloc: Global, value: &Value) -> Result<PlanTest, LineError>
+    ensures { ReadsValue result (test_of (view value.now)) }
+{
+    if !has_keys_of(
+        value,
+        &[
+            "binary", "command", "group", "leak", "name", "skip", "slow", "weight",
+        ],
+    ) {
+        return Err(LineError::NotInTable);
+    }
+    let terms = terms_from(value).ok_or(LineError::NotInTable)?;
+    let group = optional_text_at(alloc, value.get("group"))?;
+    let test = named_from(alloc, value)?;
+    Ok(set(test, terms, group))
+}
+
+// A test of this weight and with these time-outs, in this group.
+fn set(test: PlanTest, terms: (u32, SlowTimeout, LeakTimeout), group: Option<Text>) -> PlanTest
+    ensures { result ≡ record test
+        { weight = terms.0; slow = terms.1; leak = terms.2; group = group } }
+{
+    let mut test = test;
+    (test.weight, test.slow, test.leak) = terms;
+    test.group = group;
+    test
+}
+
+// The name of a test, its command, and why it is skipped.
+fn named_from(alloc: Global, value: &Value) -> Result<PlanTest, LineError>
+    ensures { ReadsValue result (named_of (view value.now)) }
+{
+    let id = id_from(alloc, value)?;
+    let command = texts_at(alloc, value.get("command"))?;
+    let skip = optional_text_at(alloc, value.get("skip"))?;
+    Ok(PlanTest::usual(id, command, skip))
+}
+
+// The weight of a test, and its time-outs.
+fn terms_from(value: &Value) -> Option<(u32, SlowTimeout, LeakTimeout)>
+    ensures { result ≡ terms_of (view value.now) }
+{
+    let weight = weight_at(value.get("weight"))?;
+    let slow = slow_at(value.get("slow"))?;
+    let leak = leak_at(value.get("leak"))?;
+    Some((weight, slow, leak))
+}
+
+// A weight, and 1 where there is none.
+fn weight_at(value: Option<&Value>) -> Option<u32>
+    ensures { result ≡ or_usual 1 u32_of (option_map (λ v. view v.now) value.entry) }
+{
+    match value {
+        Some(_) => u32_at(value),
+        None => Some(1),
+    }
+}
+
+// The name of a test.
+fn id_from(alloc: Global, value: &Value) -> Result<TestInstanceId, LineError>
+    ensures { ReadsValue result (id_of (view value.now)) }
+{
+    let binary = text_at(alloc, value.get("binary"))?;
+    let name = text_at(alloc, value.get("name"))?;
+    Ok(TestInstanceId { binary, name })
+}
+
+// When a test is slow, and as usual where nothing is said.
+fn slow_at(value: Option<&Value>) -> Option<SlowTimeout>
+    ensures { result ≡ or_usual usual_slow slow_of (option_map (λ v. view v.now) value.entry) }
+{
+    match value {
+        Some(slow) => slow_from(slow),
+        None => Some(SlowTimeout::usual()),
+    }
+}
+
+#[tactic(auto, unfolding(crate::specs::PlanLine::slow_of))]
+fn slow_from(value: &Value) -> Option<SlowTimeout>
+    ensures { result ≡ slow_of (view value.now) }
+{
+    if !has_keys_of(value, &["grace", "on_timeout", "period", "terminate_after"]) {
+        return None;
+    }
+    let usual = SlowTimeout::usual();
+    let period = u64_or(usual.period, value.get("period"))?;
+    let terminate_after = optional_u32_at(value.get("terminate_after"))?;
+    let grace = u64_or(usual.grace, value.get("grace"))?;
+    let on_timeout = timeout_at(value.get("on_timeout"))?;
+    Some(SlowTimeout {
+        period,
+        terminate_after,
+        grace,
+        on_timeout,
+    })
+}
+
+// What a time-out counts as, and as usual where nothing is said.
+fn timeout_at(value: Option<&Value>) -> Option<SlowTimeoutResult>
+    ensures { result ≡ or_usual usual_slow.on_timeout timeout_of (option_map (λ v. view v.now) value.entry) }
+{
+    match value {
+        Some(_) => named_timeout(value),
+        None => Some(SlowTimeout::usual().on_timeout),
+    }
+}
+
+fn named_timeout(value: Option<&Value>) -> Option<SlowTimeoutResult>
+    ensures { result ≡ option_and_then timeout_of (option_map (λ v. view v.now) value.entry) }
+{
+    match str_at(value)? {
+        "fail" => Some(SlowTimeoutResult::Fail),
+        "pass" => Some(SlowTimeoutResult::Pass),
+        _ => None,
+    }
+}
+
+// How long open descriptors are waited for, and as usual where nothing is said.
+fn leak_at(value: Option<&Value>) -> Option<LeakTimeout>
+    ensures { result ≡ or_usual usual_leak leak_of (option_map (λ v. view v.now) value.entry) }
+{
+    match value {
+        Some(leak) => leak_from(leak),
+        None => Some(LeakTimeout::usual()),
+    }
+}
+
+#[tactic(auto, unfolding(crate::specs::PlanLine::leak_of))]
+fn leak_from(value: &Value) -> Option<LeakTimeout>
+    ensures { result ≡ leak_of (view value.now) }
+{
+    if !has_keys_of(value, &["period", "result"]) {
+        return None;
+    }
+    let usual = LeakTimeout::usual();
+    let period = u64_or(usual.period, value.get("period"))?;
+    let result = leak_result_at(value.get("result"))?;
+    Some(LeakTimeout { period, result })
+}
+
+// What a leak counts as, and as usual where nothing is said.
+fn leak_result_at(value: Option<&Value>) -> Option<LeakTimeoutResult>
+    ensures { result ≡ or_usual usual_leak.result leak_result_of (option_map (λ v. view v.now) value.entry) }
+{
+    match value {
+        Some(_) => named_leak_result(value),
+        None => Some(LeakTimeout::usual().result),
+    }
+}
+
+fn named_leak_result(value: Option<&Value>) -> Option<LeakTimeoutResult>
+    ensures { result ≡ option_and_then leak_result_of (option_map (λ v. view v.now) value.entry) }
+{
+    match str_at(value)? {
+        "fail" => Some(LeakTimeoutResult::Fail),
+        "pass" => Some(LeakTimeoutResult::Pass),
+        _ => None,
+    }
+}
