@@ -108,7 +108,7 @@ acts_reported : (p : Settings) (over : Bool) (now : ℕ) (run : List Happening) 
     → DoesReport (terms_at p (place_of p k)).slow k now run d
 acts_reported p over now run j turn u k d h is en part asked sent tells =
     let it = acts_report (terms_at p (place_of p k)) k now j turn u (unit_of k run) (story_of k run) en
-    (h.named j u is).0 (λ same. let here : k ≡ j = grind arith in ap (λ k. unit_of k run) here ∙ is) (h.made k) in
+    (h.named j u is).2 (h.named j u is).0 (λ same. let here : k ≡ j = grind arith in ap (λ k. unit_of k run) here ∙ is) (h.made k) in
     record { asks = rw (part, asked) it.asks; sends = rw (part, sent) it.sends; tells = tells }
 
 -- the first message of a unit is no slow report

@@ -2,6 +2,7 @@ pub mod Holds
 pub mod ByTurn
 pub mod Queue
 pub mod Rows
+pub mod ReportLemmas
 pub mod AccountLemmas
 pub mod Running
 pub mod Scan
@@ -13,7 +14,6 @@ pub mod MadeLemmas
 pub mod RowLemmas
 pub mod DueLemmas
 pub mod AttemptLemmas
-pub mod ReportLemmas
 pub mod OnBoard
 pub mod Newcomers
 pub mod Reported

@@ -31,7 +31,7 @@ use Rattle.run_laws.proofs.Holds.{IsReported}
 use Rattle.run_laws.proofs.Queue.{queue-cons}
 use Rattle.run_laws.proofs.Rows.{IsForOwn, IsReportOf, row_asks_own, takes_moment}
 use Rattle.run_laws.proofs.AttemptLemmas.{IsMadeIf}
-use Rattle.run_laws.proofs.ReportLemmas.{row_signals, row_reports}
+use Rattle.run_laws.proofs.ReportLemmas.{own_said}
 
 -- the story of unit k with its own turn of a part
 abbrev pub story_with : ℕ → ℕ → Option UnitPart → List OwnTurn → List OwnTurn
@@ -85,10 +85,10 @@ pub record ActsReport (slow : SlowTimeout) (k now : ℕ) (part : Option UnitPart
       ≡ reports_by slow (pieces story) ++ reports_waiting k (option_to_list sent)
 
 pub acts_report : (terms : AttemptTerms) (k now j : ℕ) (turn : UnitTurn) (u : UnitView) (v : Option UnitView)
-    (story : List OwnTurn) → takes now u turn ≡ true → u.test.unit ≡ j → ((j == k) ≡ true → v ≡ Some u)
-    → IsMadeIf terms v story
+    (story : List OwnTurn) → takes now u turn ≡ true → u.latest ≤ now → u.test.unit ≡ j
+    → ((j == k) ≡ true → v ≡ Some u) → IsMadeIf terms v story
     → ActsReport terms.slow k now (Some (Acts j turn)) story (row now turn u).asked (row now turn u).sent
-acts_report terms k now j turn u v story en named same made = by_unit (j == k) refl
+acts_report terms k now j turn u v story en le named same made = by_unit (j == k) refl
   where
     own : IsForOwn u.test.unit (row now turn u).asked × IsReportOf u.test.unit (row now turn u).sent
     own = row_asks_own now u.phase turn (at_moment now u) refl (takes_moment now u.phase u turn en)
@@ -98,10 +98,11 @@ acts_report terms k now j turn u v story en named same made = by_unit (j == k) r
     by_unit true e =
         let here : u.test.unit ≡ k = grind arith in
         let is_made : IsMadeIf terms (Some u) story = subst (λ w. IsMadeIf terms w story) (same e) made in
+        let said = own_said terms now turn u story en le is_made in
         record {
-          asks = rw e (row_signals terms now turn u story en is_made
+          asks = rw e (said.asks
               ∙ ap (λ i. map End (signals_by terms.slow (pieces story)) ++ signals_for i (row now turn u).asked) here);
-          sends = rw e (row_reports terms now turn u story en is_made
+          sends = rw e (said.sends
               ∙ ap (λ i. reports_by terms.slow (pieces story)
               ++ reports_waiting i (option_to_list (row now turn u).sent)) here);
         }
