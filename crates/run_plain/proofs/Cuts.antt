@@ -1,8 +1,10 @@
 -- Where a story is cut.
-use Rattle.std.proofs.Common.{◌≡◌, ◌≢◌, ◌++◌, length, ℕ, ◌+◌, zero, suc, List, [], ◌∷◌, take, drop, Bool, true, false}
+use Rattle.std.proofs.Common.{◌≡◌, ◌≢◌, ◌++◌, length, ℕ, ◌+◌, zero, suc, List, [], ◌∷◌, take, drop, Bool, true, false, not, ◌&&◌}
 use Rattle.std.proofs.Common.{if◌then◌else◌, arith, ap, refl, ◌∙◌, sym}
-use Rattle.run_capture.specs.declared.test_output.CaptureStrategy.{CaptureStrategy}
-use Rattle.run_model.specs.Attempts.{OwnTurn, begins_attempt, ended_statuses, has_ended, pieces, status_of, with_turn}
+use Rattle.run_model.specs.declared.unit_view.AttemptTerms.{AttemptTerms}
+use Rattle.run_model.specs.Story.{OwnTurn, begins_attempt, pieces, with_turn}
+use Rattle.run_model.specs.Timing.{is_timer_due_at, timer_of}
+use Rattle.run_model.specs.Attempts.{ended_statuses, has_ended, is_due_in, status_of}
 use Rattle.run_plain.specs.Newest.{newest, with_one}
 
 with_one-suc : (n : ℕ) → with_one (suc n) ≡ suc n + 1
@@ -39,14 +41,21 @@ cut [] n is = absurd (omega arith)
 cut (t ∷ before) n is = cut_one (begins_attempt t.turn) (newest before) n t before is (cut before)
 
 -- the statuses of the earlier pieces, and that of the newest if it has ended
-pub statuses_cut : (strategy : CaptureStrategy) (attempts n m : ℕ) (story : List OwnTurn) → n ≡ newest story → n ≢ 0
+pub statuses_cut : (terms : AttemptTerms) (attempts n m : ℕ) (story : List OwnTurn) → n ≡ newest story → n ≢ 0
     → m ≡ length (pieces (drop n story)) + 1
-    → ended_statuses strategy attempts (pieces (drop n story))
-    ++ (if has_ended strategy (take n story) then status_of strategy attempts m (take n story) ∷ [] else [])
-    ≡ ended_statuses strategy attempts (pieces story)
-statuses_cut strategy attempts zero m story is some count = absurd (some refl)
-statuses_cut strategy attempts (suc n) m story is some count =
-    ap (λ k. ended_statuses strategy attempts (pieces (drop (suc n) story))
-    ++ (if has_ended strategy (take (suc n) story)
-    then status_of strategy attempts k (take (suc n) story) ∷ [] else [])) count
-    ∙ sym (ap (ended_statuses strategy attempts) (cut story n (sym is)))
+    → ended_statuses terms attempts (pieces (drop n story))
+    ++ (if has_ended terms (take n story) then status_of terms attempts m (take n story) ∷ [] else [])
+    ≡ ended_statuses terms attempts (pieces story)
+statuses_cut terms attempts zero m story is some count = absurd (some refl)
+statuses_cut terms attempts (suc n) m story is some count =
+    ap (λ k. ended_statuses terms attempts (pieces (drop (suc n) story))
+    ++ (if has_ended terms (take (suc n) story)
+    then status_of terms attempts k (take (suc n) story) ∷ [] else [])) count
+    ∙ sym (ap (ended_statuses terms attempts) (cut story n (sym is)))
+
+-- the timer of an attempt is that of the newest piece
+pub due_cut : (terms : AttemptTerms) (now n : ℕ) (story : List OwnTurn) → n ≡ newest story → n ≢ 0
+    → (not (has_ended terms (take n story)) && is_timer_due_at now (timer_of terms (take n story)))
+    ≡ is_due_in terms now (pieces story)
+due_cut terms now zero story is some = absurd (some refl)
+due_cut terms now (suc n) story is some = sym (ap (is_due_in terms now) (cut story n (sym is)))

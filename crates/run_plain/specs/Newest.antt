@@ -1,6 +1,6 @@
 -- The newest piece of a story.
 use Rattle.std.specs.Prelude.{ℕ, ◌+◌, ◌==◌, List, [], ◌∷◌, if◌then◌else◌}
-use Rattle.run_model.specs.Attempts.{OwnTurn, begins_attempt}
+use Rattle.run_model.specs.Story.{OwnTurn, begins_attempt}
 
 -- how many of a story's newest turns are in its newest piece; 0 where it has no piece
 abbrev pub with_one : ℕ → ℕ

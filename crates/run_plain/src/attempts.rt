@@ -1,31 +1,36 @@
 // What came of each attempt of a unit, by its own turns.
 ghost use Rattle.std.specs.Prelude.{◌≡◌, ◌+◌, ◌<◌, ◌^◌, ◌∷◌, ◌++◌, [], length, if◌then◌else◌, is_some, IfOk};
 ghost use Rattle.run_capture.specs.Captured.{read_error};
+ghost use Rattle.run_events.specs.Result.{execution_result};
+ghost use Rattle.run_events.specs.declared.result.ExecutionResult.TheVariants.{Timeout};
 ghost use Rattle.run_model.specs.Attempts.{
-  any_is,
-  begins_attempt,
   end_of,
   ended_statuses,
-  ends_wait,
   error_in,
   errors_of,
   exit_of,
-  first_said,
   has_ended,
+  is_due_in,
   moment_if,
   output_by,
-  pieces,
+  output_of,
+  result_by,
   start_error_of,
   status_of,
 };
+ghost use Rattle.run_model.specs.Story.{begins_attempt, first_said, pieces};
+ghost use Rattle.run_model.specs.Timing.{has_leaked, has_timed_out};
 
 use crate::OwnTurn;
-use crate::results::result_by;
+use crate::results::execution_result;
 use crate::story::{begins_attempt, count_pieces, newest};
 use crate::streams::{are_streams_done, output_of};
-use run_capture::{CaptureStrategy, ChildFdError, ChildOutput, Duplicate, List, Mem, Stream, Text};
-use run_events::{ChildExecutionOutput, ChildExit, ExecuteStatus};
-use run_model::UnitTurn;
+use crate::timing::{
+    has_leaked, has_timed_out, is_timer_due_at, is_wait_over, slow_count, timer_of,
+};
+use run_capture::{ChildFdError, Duplicate, List, Mem, Stream, Text};
+use run_events::{ChildExecutionOutput, ChildExit, ExecuteStatus, ExecutionResult};
+use run_model::{AttemptTerms, UnitTurn};
 use std::alloc::Global;
 
 // When an attempt began: at the first of its turns that begins an attempt.
@@ -48,33 +53,22 @@ fn is_refused(piece: &[OwnTurn]) -> bool
     is_refused(before) || matches!(turn.turn, UnitTurn::StartFailed { .. })
 }
 
-// Whether its child is waited for no more.
-fn is_wait_over(piece: &[OwnTurn]) -> bool
-    ensures { result ≡ any_is ends_wait piece.now }
+// Whether it has ended.
+fn has_ended(terms: AttemptTerms, piece: &[OwnTurn]) -> bool
+    ensures { result ≡ has_ended terms piece.now }
 {
-    let [turn, before @ ..] = piece else {
-        return false;
-    };
-    matches!(
-        turn.turn,
-        UnitTurn::Exit { .. } | UnitTurn::WaitFailed { .. }
-    ) || is_wait_over(before)
-}
-
-fn has_ended(strategy: CaptureStrategy, piece: &[OwnTurn]) -> bool
-    ensures { result ≡ has_ended strategy piece.now }
-{
-    is_refused(piece) || is_wait_over(piece) && are_streams_done(strategy, piece)
+    is_refused(piece)
+        || is_wait_over(piece) && (are_streams_done(terms.strategy, piece) || has_leaked(piece))
 }
 
 // When it ended: at the first turn after which it has ended.
-fn ended_at(strategy: CaptureStrategy, piece: &[OwnTurn]) -> Option<u64>
-    ensures { result ≡ end_of strategy piece.now }
+fn ended_at(terms: AttemptTerms, piece: &[OwnTurn]) -> Option<u64>
+    ensures { result ≡ end_of terms piece.now }
 {
     let [turn, before @ ..] = piece else {
         return None;
     };
-    ended_at(strategy, before).or(has_ended(strategy, piece).then_some(turn.moment))
+    ended_at(terms, before).or(has_ended(terms, piece).then_some(turn.moment))
 }
 
 // The error that refused the start of its child, if one did.
@@ -139,43 +133,61 @@ fn errors_of(alloc: Global, piece: &[OwnTurn]) -> Mem<List<ChildFdError>>
     Ok(errors)
 }
 
-// What came of its child.
-fn output_by(
-    refusal: Option<Text>,
-    output: ChildOutput,
-    errors: List<ChildFdError>,
-) -> ChildExecutionOutput
-    ensures { result ≡ output_by refusal output errors }
+// The result of an attempt whose start was not refused.
+fn result_of(terms: AttemptTerms, piece: &[OwnTurn], errors: &[ChildFdError]) -> ExecutionResult
+    ensures { result ≡ (if has_timed_out terms.slow piece.now then Timeout terms.slow.on_timeout
+        else execution_result (exit_of piece.now) errors.now (has_leaked piece.now) terms.leak.result) }
 {
-    match refusal {
-        Some(error) => ChildExecutionOutput::StartError(error),
-        None => ChildExecutionOutput::Output { output, errors },
+    if has_timed_out(terms.slow, piece) {
+        return ExecutionResult::Timeout {
+            result: terms.slow.on_timeout,
+        };
     }
+    execution_result(exit_of(piece), errors, has_leaked(piece), terms.leak.result)
+}
+
+// The result of an attempt, and what came of its child.
+fn outcome_of(
+    alloc: Global,
+    terms: AttemptTerms,
+    piece: &[OwnTurn],
+) -> Mem<(ExecutionResult, ChildExecutionOutput)>
+    ensures result { IfOk result (λ pair. pair.0 ≡ result_by terms piece.now (start_error_of piece.now)) }
+    ensures output { IfOk result (λ pair. pair.1 ≡ output_by (start_error_of piece.now)
+        (output_of terms.strategy piece.now) (errors_of piece.now)) }
+{
+    if let Some(error) = refusal_of(alloc, piece)? {
+        return Ok((
+            ExecutionResult::ExecFail,
+            ChildExecutionOutput::StartError(error),
+        ));
+    }
+    let output = output_of(alloc, terms.strategy, piece)?;
+    let errors = errors_of(alloc, piece)?;
+    let outcome = result_of(terms, piece, errors.as_slice());
+    Ok((outcome, ChildExecutionOutput::Output { output, errors }))
 }
 
 // The status of an attempt of this number, of so many at most.
 fn status_of(
     alloc: Global,
-    strategy: CaptureStrategy,
+    terms: AttemptTerms,
     attempts: u32,
     attempt: u32,
     piece: &[OwnTurn],
 ) -> Mem<ExecuteStatus>
-    ensures { IfOk result (λ s. s ≡ status_of strategy attempts attempt piece.now) }
+    ensures { IfOk result (λ s. s ≡ status_of terms attempts attempt piece.now) }
 {
-    let refusal = refusal_of(alloc, piece)?;
-    let output = output_of(alloc, strategy, piece)?;
-    let errors = errors_of(alloc, piece)?;
+    let (outcome, output) = outcome_of(alloc, terms, piece)?;
     let start = begun_at(piece).unwrap_or(0);
-    let end = ended_at(strategy, piece).unwrap_or(0);
-    let outcome = result_by(&refusal, exit_of(piece), errors.as_slice());
+    let end = ended_at(terms, piece).unwrap_or(0);
     Ok(ExecuteStatus {
         attempt,
         attempts,
         delay: 0,
         result: outcome,
-        output: output_by(refusal, output, errors),
-        slow: false,
+        output,
+        slow: slow_count(terms.slow, piece) > 0,
         start,
         time: end.saturating_sub(start),
     })
@@ -184,18 +196,18 @@ fn status_of(
 // The statuses of earlier attempts, and that of one more if it has ended.
 fn with_status(
     alloc: Global,
-    strategy: CaptureStrategy,
+    terms: AttemptTerms,
     attempts: u32,
     attempt: u32,
     piece: &[OwnTurn],
     statuses: List<ExecuteStatus>,
 ) -> Mem<List<ExecuteStatus>>
     ensures { IfOk result (λ l. l ≡ statuses
-        ++ (if has_ended strategy piece.now then status_of strategy attempts attempt piece.now ∷ [] else [])) }
+        ++ (if has_ended terms piece.now then status_of terms attempts attempt piece.now ∷ [] else [])) }
 {
     let mut statuses = statuses;
-    if has_ended(strategy, piece) {
-        let status = status_of(alloc, strategy, attempts, attempt, piece)?;
+    if has_ended(terms, piece) {
+        let status = status_of(alloc, terms, attempts, attempt, piece)?;
         statuses.push(alloc, status)?;
     }
     Ok(statuses)
@@ -203,15 +215,15 @@ fn with_status(
 
 #[tactic(auto, using(crate::proofs::Cuts::statuses_cut, crate::proofs::Cuts::no_piece))]
 /// What came of the attempts of a unit that have ended, in order, by its story, the newest turn first. It has so many
-/// attempts at most, and its output is captured by this strategy.
+/// attempts at most, and they run on these terms.
 pub fn statuses_of(
     alloc: Global,
-    strategy: CaptureStrategy,
+    terms: AttemptTerms,
     attempts: u32,
     story: &[OwnTurn],
 ) -> Mem<List<ExecuteStatus>>
     requires few { length story.now < 2 ^ 32 }
-    ensures { IfOk result (λ l. l ≡ ended_statuses strategy attempts (pieces story.now)) }
+    ensures { IfOk result (λ l. l ≡ ended_statuses terms attempts (pieces story.now)) }
 {
     let newest = newest(story);
     if newest == 0 {
@@ -219,6 +231,20 @@ pub fn statuses_of(
     }
     let (piece, before) = story.split_at(newest);
     let attempt = count_pieces(before) as u32 + 1;
-    let statuses = statuses_of(alloc, strategy, attempts, before)?;
-    with_status(alloc, strategy, attempts, attempt, piece, statuses)
+    let statuses = statuses_of(alloc, terms, attempts, before)?;
+    with_status(alloc, terms, attempts, attempt, piece, statuses)
+}
+
+#[tactic(auto, using(crate::proofs::Cuts::due_cut, crate::proofs::Cuts::no_piece))]
+/// Whether the timer of a unit's attempt is due at a moment, by its story, the newest turn first. An attempt that has
+/// ended has none.
+pub fn is_due(terms: AttemptTerms, now: u64, story: &[OwnTurn]) -> bool
+    ensures { result ≡ is_due_in terms now (pieces story.now) }
+{
+    let newest = newest(story);
+    if newest == 0 {
+        return false;
+    }
+    let (piece, _) = story.split_at(newest);
+    !has_ended(terms, piece) && is_timer_due_at(now, timer_of(terms, piece))
 }

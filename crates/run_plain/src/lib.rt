@@ -1,7 +1,8 @@
 //! Definitions of a run that a reader could doubt, as plain, slow functions over plain data: the statistics and the
 //! account that a list of told events comes to, a fate's account and the attempt law, the weights in use, the
-//! admission's candidate and its slots, and the attempts of a unit by its own turns. Each answers the defined value.
-//! None calls the code that it is compared with, so that tests and readers can run the definitions beside the engine.
+//! admission's candidate and its slots, and the attempts of a unit, with their timers, by its own turns. Each answers
+//! the defined value. None calls the code that it is compared with, so that tests and readers can run the definitions
+//! beside the engine.
 #![tactic(auto)]
 
 mod accounts;
@@ -14,10 +15,11 @@ mod slots;
 mod statistics;
 mod story;
 mod streams;
+mod timing;
 
 pub use accounts::{News, account_of};
 pub use admission::{Admissions, candidate, group_weight_in_use, weight_in_use};
-pub use attempts::statuses_of;
+pub use attempts::{is_due, statuses_of};
 pub use fates::{account, meets_attempt_law};
 pub use slots::{free_group_slot, free_slot};
 pub use statistics::{stats_are_of_told_events, stats_told};

@@ -1,11 +1,8 @@
 // Results of attempts.
 ghost use Rattle.std.specs.Prelude.{◌≡◌};
-ghost use Rattle.run_events.specs.Result.{exit_result, is_success};
-ghost use Rattle.run_model.specs.Attempts.{result_by};
-ghost use Rattle.std.specs.Prelude.{false};
-ghost use Rattle.run_events.specs.declared.result.LeakTimeoutResult.TheVariants.{Pass};
+ghost use Rattle.run_events.specs.Result.{execution_result, exit_result, is_success};
 
-use run_capture::{ChildFdError, Text};
+use run_capture::ChildFdError;
 use run_events::{ChildExit, ExecutionResult, FailureStatus, LeakTimeoutResult, SlowTimeoutResult};
 
 // Whether an attempt with this result passed.
@@ -21,32 +18,34 @@ pub fn passes(outcome: ExecutionResult) -> bool
     }
 }
 
-// What the end of a child means that left nothing open.
-fn exit_result(exit: ChildExit) -> ExecutionResult
-    ensures { result ≡ exit_result exit false Pass }
+// What the end of a child means, by whether it left a descriptor open, and what that is to mean.
+fn exit_result(exit: ChildExit, leaked: bool, leak: LeakTimeoutResult) -> ExecutionResult
+    ensures { result ≡ exit_result exit leaked leak }
 {
     let failure_status = match exit {
+        ChildExit::Code(0) if leaked => return ExecutionResult::Leak { result: leak },
         ChildExit::Code(0) => return ExecutionResult::Pass,
         ChildExit::Code(code) => FailureStatus::ExitCode(code),
         ChildExit::Signal(signal) => FailureStatus::Abort(signal),
     };
     ExecutionResult::Fail {
         failure_status,
-        leaked: false,
+        leaked,
     }
 }
 
-// The result of an attempt: it failed to run where its start was refused, where its child wasn't seen to end, and at an
-// error; else it is as its child ended.
-pub fn result_by(
-    refusal: &Option<Text>,
+/// The result of an attempt whose start wasn't refused and that didn't run out of time: it failed to run where its child
+/// wasn't seen to end, and at an error; else it is as its child ended.
+pub fn execution_result(
     exit: Option<ChildExit>,
     errors: &[ChildFdError],
+    leaked: bool,
+    leak: LeakTimeoutResult,
 ) -> ExecutionResult
-    ensures { result ≡ result_by refusal.now exit errors.now }
+    ensures { result ≡ execution_result exit errors.now leaked leak }
 {
-    match (refusal, exit, errors) {
-        (None, Some(exit), []) => exit_result(exit),
+    match (exit, errors) {
+        (Some(exit), []) => exit_result(exit, leaked, leak),
         _ => ExecutionResult::ExecFail,
     }
 }

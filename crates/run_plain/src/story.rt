@@ -1,6 +1,6 @@
 // A unit's own turns, and how they are cut where it was let go.
 ghost use Rattle.std.specs.Prelude.{◌≡◌, ◌≤◌, length};
-ghost use Rattle.run_model.specs.Attempts.{begins_attempt, pieces};
+ghost use Rattle.run_model.specs.Story.{begins_attempt, pieces};
 ghost use Rattle.run_plain.specs.Newest.{newest};
 
 use run_model::UnitTurn;
@@ -14,7 +14,7 @@ pub struct OwnTurn {
 }
 
 impl Model for OwnTurn {
-    ghost use Rattle.run_model.specs.Attempts.{OwnTurn as Defined};
+    ghost use Rattle.run_model.specs.Story.{OwnTurn as Defined};
 
     ghost Value = { Defined };
 

@@ -3,17 +3,29 @@ use crate::made::{MEMORY, text};
 use crate::plan::Tests;
 use crate::steps::Walk;
 use run_capture::{CaptureStrategy, ChildFdError, List, Text};
-use run_events::{ChildExecutionOutput, ExecuteStatus, ReporterEvent, TestEventKind};
+use run_events::{
+    ChildExecutionOutput, ExecuteStatus, LeakTimeout, ReporterEvent, SlowTimeout, TestEventKind,
+};
+use run_model::AttemptTerms;
 use run_plain::{News, OwnTurn, account, account_of, meets_attempt_law, statuses_of};
 use std::alloc::Global;
 use std::process::Abort;
+
+// The terms of a usual test, of which no output is captured.
+fn usual_terms() -> AttemptTerms {
+    AttemptTerms {
+        strategy: CaptureStrategy::None,
+        slow: SlowTimeout::usual(),
+        leak: LeakTimeout::usual(),
+    }
+}
 
 // The attempts of the first unit, by its own turns.
 fn attempts(rt: &impl Abort, alloc: Global, story: &[OwnTurn]) -> List<ExecuteStatus> {
     if story.len() > 100 {
         return List::new();
     }
-    statuses_of(alloc, CaptureStrategy::None, 1, story).expect(rt, MEMORY)
+    statuses_of(alloc, usual_terms(), 1, story).expect(rt, MEMORY)
 }
 
 // Whether errors are the same; only those of waits come here.

@@ -54,7 +54,8 @@ fn own_turn(
     }
 }
 
-// Puts a turn before the first unit's story, the newest turn first, where it is its own. No turn moves the clock.
+// Puts a turn before the first unit's story, the newest turn first, where it is its own. No turn that is tried moves the
+// clock.
 pub fn put_own(
     rt: &impl Abort,
     alloc: Global,
