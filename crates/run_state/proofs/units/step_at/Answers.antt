@@ -2,10 +2,19 @@ use Rattle.std.proofs.Common.{◌≡◌, Some, sym, ap, ◌∙◌, option_and_th
 use Rattle.std.proofs.lemmas.Option.{same_Some}
 use Rattle.run_model.specs.declared.unit_view.UnitView.{UnitView}
 use Rattle.run_model.specs.Admission.{is_done}
-use Rattle.run_model.specs.Unit.{row}
+use Rattle.run_model.specs.Unit.{row, takes}
 use Rattle.run_state.proofs.CountedLemmas.{stands_same}
 use Rattle.run_state.proofs.SeatLemmas.{acted}
 use Rattle.run_state.proofs.units.step_at.Goals as goal
+
+pub step-requires-clause-enabled : goal.step-requires-clause-enabled
+step-requires-clause-enabled c =
+    let us = c.args.units.now.items in
+    let u = c.requires.0 in
+    let same : Some c.in-Some.member ≡ Some u =
+    sym c.in-Some.is ∙ c.index_mut.ensures.value
+    ∙ stands_same us c.args.unit u c.index_mut.result.now c.requires.1 in
+    ap (λ (v : UnitView). takes c.args.now v c.args.turn) (same_Some _ _ same) ∙ c.requires.2
 
 pub returns-clause-sent : goal.returns-clause-sent
 returns-clause-sent c =
