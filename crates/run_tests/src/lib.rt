@@ -26,6 +26,8 @@ mod statistics;
 #[cfg(test)]
 mod steps;
 #[cfg(test)]
+mod timeouts;
+#[cfg(test)]
 mod units;
 #[cfg(test)]
 mod walks;

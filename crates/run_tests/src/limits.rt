@@ -79,7 +79,7 @@ fn has_text(bytes: &[u8], text: &str) -> bool {
 }
 
 // What an input writes has this text in it.
-fn check_text(rt: &impl Abort, alloc: Global, input: &[&str], text: &str) {
+pub fn check_text(rt: &impl Abort, alloc: Global, input: &[&str], text: &str) {
     let Ran { status: _, sink } = ended(rt, alloc, &given(&["replay"], input));
     let is_there = has_text(sink.bytes(), text);
     drop(sink);
