@@ -158,8 +158,11 @@ of_row mm now j k turn u v t q en other named same h = by_unit (j == k) refl
         (row_accounted mm now u.phase turn (at_moment now u) t q refl (takes_moment now u.phase u turn en) other was))
     by_unit false e =
         let apart : (u.test.unit == k) ≡ false = grind arith in
-        rw (e, row_sends_own now u.phase turn (at_moment now u) k q refl (takes_moment now u.phase u turn en) other
-        apart) h
+        rw (
+          e,
+          row_sends_own now u.phase turn (at_moment now u) k q refl (takes_moment now u.phase u turn en) other
+              apart,
+        ) h
 
 -- the delivery of the start message of a unit keeps the account of test k, v, let go or not
 pub of_start : (mm : Bool) (now k : ℕ) (go : Bool) (u : UnitView) (v : Option UnitView) (t : List News)

@@ -3,12 +3,15 @@ use crate::inputs::{check, given};
 use crate::limits::check_text;
 
 // A test that is slow after each second, and is ended after two of them; it is given 10 s for that.
-const SLOW: &str = r#"{"capture":"none","run_id":"00000000-0000-4000-8000-000000000001","tests":[{"binary":"b","command":["true"],"name":"t","slow":{"grace":10000000000,"period":1000000000,"terminate_after":2}}]}"#;
+const SLOW: &str =
+    r#"{"capture":"none","run_id":"00000000-0000-4000-8000-000000000001","tests":[{"binary":"b","command":["true"],"name":"t","slow":{"grace":10000000000,"period":1000000000,"terminate_after":2}}]}"#;
 
 // One that is killed after a second, with no time to end by itself.
-const KILLED: &str = r#"{"run_id":"00000000-0000-4000-8000-000000000001","tests":[{"binary":"b","command":["true"],"name":"t","slow":{"grace":0,"period":1000000000,"terminate_after":1}}]}"#;
+const KILLED: &str =
+    r#"{"run_id":"00000000-0000-4000-8000-000000000001","tests":[{"binary":"b","command":["true"],"name":"t","slow":{"grace":0,"period":1000000000,"terminate_after":1}}]}"#;
 
-const USUAL: &str = r#"{"run_id":"00000000-0000-4000-8000-000000000001","tests":[{"binary":"b","command":["true"],"name":"t"}]}"#;
+const USUAL: &str =
+    r#"{"run_id":"00000000-0000-4000-8000-000000000001","tests":[{"binary":"b","command":["true"],"name":"t"}]}"#;
 
 const STARTED: &str = r#"{"turn":"begin"}
 {"turn":"admit"}
@@ -34,6 +37,7 @@ const LEAKS: &str = r#"{"code":0,"turn":"exit","unit":0}
 {"turn":"due","unit":0}"#;
 
 const SUCCESS: &str = "{\"outcome\":\"success\"}\n";
+
 const FAILED: &str = "{\"outcome\":\"failed\",\"step\":\"test\"}\n";
 
 #[test]
@@ -73,13 +77,19 @@ fn leaks(rt: HostRuntime) {
     let end = r#"{"stream":"stderr","turn":"stream-end","unit":0}"#;
     let leaked = [USUAL, STARTED, end, LEAKS, DONE];
     check(&rt, alloc, &given(&["replay"], &leaked), 0, 6, SUCCESS);
-    let status = r#""result":"leak-pass","slow":false,"start":0,"stderr":"","stdout":"","time":200000000"#;
+    let status =
+        r#""result":"leak-pass","slow":false,"start":0,"stderr":"","stdout":"","time":200000000"#;
     check_text(&rt, alloc, &leaked, status);
 
     let error = r#"{"stream":"stderr","text":"x","turn":"read-error","unit":0}"#;
     let faulty = [USUAL, STARTED, error, LEAKS, DONE];
     check(&rt, alloc, &given(&["replay"], &faulty), 100, 6, FAILED);
-    check_text(&rt, alloc, &faulty, r#""errors":["stderr: x"],"result":"exec-fail""#);
+    check_text(
+        &rt,
+        alloc,
+        &faulty,
+        r#""errors":["stderr: x"],"result":"exec-fail""#,
+    );
 }
 
 #[test]
