@@ -66,9 +66,9 @@ fn killed_at_once(rt: HostRuntime) {
     check_text(&rt, alloc, &killed, ask);
 
     let piece = r#"{"hex":"61","stream":"stdout","turn":"piece","unit":0}"#;
-    let unheard = given(&["replay"], &[KILLED, STARTED, SECOND_DUE, piece]);
+    let unheard = [KILLED, STARTED, SECOND_DUE, piece];
     let last = "{\"fault\":\"not-enabled\",\"status\":6,\"turn\":6}\n";
-    check(&rt, alloc, &unheard, 6, 5, last);
+    check(&rt, alloc, &given(&["replay"], &unheard), 6, 5, last);
 }
 
 #[test]
@@ -98,16 +98,16 @@ fn the_clock_ends(rt: HostRuntime) {
     let begin = r#"{"turn":"begin"}"#;
     let most = r#"{"ns":18446744073709551615,"turn":"clock"}"#;
     let one = r#"{"ns":1,"turn":"clock"}"#;
-    let past = given(&["replay"], &[USUAL, begin, most, one]);
+    let past = [USUAL, begin, most, one];
     let last = "{\"fault\":\"not-enabled\",\"status\":6,\"turn\":2}\n";
-    check(&rt, alloc, &past, 6, 2, last);
+    check(&rt, alloc, &given(&["replay"], &past), 6, 2, last);
 
     let deliver = r#"{"turn":"begin"}
 {"turn":"admit"}
 {"turn":"deliver"}"#;
     let late = r#"{"pid":100,"turn":"started","unit":0}
 {"turn":"due","unit":0}"#;
-    let never = given(&["replay"], &[USUAL, deliver, most, late]);
+    let never = [USUAL, deliver, most, late];
     let last = "{\"fault\":\"not-enabled\",\"status\":6,\"turn\":5}\n";
-    check(&rt, alloc, &never, 6, 4, last);
+    check(&rt, alloc, &given(&["replay"], &never), 6, 4, last);
 }
