@@ -38,9 +38,9 @@ sample gives four events, one ask, and
 
 The status is 0 for success, 4 where no test was run, 100 for a failed or cancelled run, 105 for one that
 a setup script ended, and else the fault's: 2 for bad words, 3 for a bad line, 5 for a plan that breaks
-a rule, 6 for a turn that is not enabled, 8 for a run that is not over, 9 for a failed write, 10 for a
-failed read, 11 for want of memory, 12 for an input that is too long. Of each fault one sentence on standard
-error says what it means.
+a rule, 6 for a turn that is not enabled, 7 for a third shutdown signal, 8 for a run that is not over, 9
+for a failed write, 10 for a failed read, 11 for want of memory, 12 for an input that is too long. Of each
+fault one sentence on standard error says what it means.
 
 The repository describes the formats of all lines in docs/FORMATS.md.";
 
@@ -61,6 +61,11 @@ const NOT_ENABLED: &str = "a turn of the input is not enabled after the turns be
     which were all taken: the fault's \"turn\" is its place among the turns, counted from 0, and \
     the turn t stands on line t + 2 of the input, since the plan stands on line 1";
 
+const THIRD_SIGNAL: &str =
+    "a turn of the input is a third shutdown signal: the first asked the tests that ran \
+    to end and the second killed them, and no third is taken; the turns before it were all taken, and \
+    the fault's \"turn\" is its place among the turns, counted from 0";
+
 const UNFINISHED: &str = "each turn of the input was taken, and the run is not over \
     after the input's last line";
 
@@ -80,6 +85,7 @@ fn meaning(status: u8) -> Option<&'static str> {
         3 => Some(LINE),
         5 => Some(PLAN),
         6 => Some(NOT_ENABLED),
+        7 => Some(THIRD_SIGNAL),
         8 => Some(UNFINISHED),
         9 => Some(REPORT),
         10 => Some(READ),

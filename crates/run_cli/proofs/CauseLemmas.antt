@@ -1,6 +1,6 @@
 -- Each cause gives its status.
-use Rattle.std.proofs.Common.{◌≡◌, ℕ, zero, suc, ◌+◌, ◌<◌, ◌≤◌, ◌⊎◌, inl, inr, List, [], ◌∷◌, ◌++◌, length, take}
-use Rattle.std.proofs.Common.{slice_index_or, Bool, true, false, not, Option, Some, None, option_map, Result, Ok, Err}
+use Rattle.std.proofs.Common.{◌≡◌, ℕ, zero, suc, ◌<◌, ◌≤◌, inl, inr, List, [], ◌∷◌, ◌++◌, length, take}
+use Rattle.std.proofs.Common.{slice_index_or, Bool, true, false, not, Option, Some, None, Result, Ok, Err}
 use Rattle.std.proofs.Common.{refl, ap, sym, subst, ◌∙◌, arith, length-append}
 use Rattle.std.specs.List.{list_all}
 use Rattle.std.proofs.lemmas.List.{append-nil}
@@ -27,7 +27,7 @@ use Rattle.run_cli.specs.Plans.{settings_for, refusal_for}
 use Rattle.run_cli.specs.Text.{outcome_status, status_of}
 use Rattle.run_cli.specs.Given.{IsReplay, IsGiven, IsTooLong, HasBadLine, CountsReadAtEnd}
 use Rattle.run_cli.specs.Ending.{Replays, IsWhole, StopsBefore, IsUnfinished, IsEnding}
-use Rattle.run_cli.specs.Cause.{Gets, HasInput, HasBadInput, HasTooMuch, GetsByCourse}
+use Rattle.run_cli.specs.Cause.{Gets, HasInput, HasBadInput, HasTooMuch, GetsByCourse, stop_status}
 
 -- what a source that is at its end has given is all that it had
 all_given : (left left_after : Option (List ℕ)) (held bytes : List ℕ) → left ≡ Some held → Gives left left_after bytes
@@ -100,7 +100,7 @@ memory_gets c p ts w = record {
   refuses = refuses_none;
   tied = λ calm n. refl;
   refused = λ e r. inr refl;
-  stops = λ a k s. inr refl;
+  stops = λ a k third s. inr refl;
   unfinished = λ a g. inr refl;
   ended = λ a o e calm. inr refl;
   unreported = λ a o e lt. inr refl;
@@ -123,7 +123,7 @@ ended_gets c r o whole stayed =
       refuses = refuses_as_in r.journal;
       tied = λ calm n. false_at (refusals r.journal) n (r.tied calm);
       refused = λ e x. never_refused (refusal_for r.keys r.plan) e r.accepted x;
-      stops = λ a k s. absurd (one.stop_or_end k o s ends);
+      stops = λ a k third s. absurd (one.stop_or_end k third o s ends);
       unfinished = λ a g. absurd (one.unfinished_or_end o g ends);
       ended = λ a u e calm. inl (ap outcome_status (one.one_end o u ends e));
       unreported = λ a u e lt. absurd (omega arith);
@@ -140,30 +140,32 @@ unreported_gets c r o whole rose =
       refuses = refuses_as_in r.journal;
       tied = λ calm n. false_at (refusals r.journal) n (r.tied calm);
       refused = λ e x. never_refused (refusal_for r.keys r.plan) e r.accepted x;
-      stops = λ a k s. absurd (one.stop_or_end k o s ends);
+      stops = λ a k third s. absurd (one.stop_or_end k third o s ends);
       unfinished = λ a g. absurd (one.unfinished_or_end o g ends);
       ended = λ a u e calm. absurd (calm rose);
       unreported = λ a u e lt. inl refl;
     }
 
-stopped_gets : (c : Call) (r : Replays c) (place : ℕ) → StopsBefore r place
-    → GetsByCourse r.keys r.plan r.turns c.sink 6
-stopped_gets c r place before =
+stopped_gets : (c : Call) (r : Replays c) (place : ℕ) (third : Bool) → StopsBefore r place third
+    → GetsByCourse r.keys r.plan r.turns c.sink (stop_status third)
+stopped_gets c r place third before =
     let p : Settings = settings_for r.keys r.plan in
     let one : HasOneCourse p r.turns (refuses_as_in r.journal) = one_course p r.turns (refuses_as_in r.journal) in
-    let stops : Stops p r.turns (refuses_as_in r.journal) place = (
+    let stops : Stops p r.turns (refuses_as_in r.journal) place third = (
       r.journal,
       journal_of p (take place r.turns) r.journal r.legal before.before,
-      (before.turn, before.at, before.refused),
+      (before.turn, before.at, before.refused, before.whether),
     ) in
     record {
       refuses = refuses_as_in r.journal;
       tied = λ calm n. false_at (refusals r.journal) n (r.tied calm);
       refused = λ e x. never_refused (refusal_for r.keys r.plan) e r.accepted x;
-      stops = λ a k s. inl refl;
-      unfinished = λ a g. absurd (one.stop_or_unfinished place stops g);
-      ended = λ a u e calm. absurd (one.stop_or_end place u stops e);
-      unreported = λ a u e lt. absurd (one.stop_or_end place u stops e);
+      stops = λ a k t s.
+          let same : (place ≡ k) × (third ≡ t) = one.one_stop place k third t stops s in
+          inl (ap stop_status same.1);
+      unfinished = λ a g. absurd (one.stop_or_unfinished place third stops g);
+      ended = λ a u e calm. absurd (one.stop_or_end place third u stops e);
+      unreported = λ a u e lt. absurd (one.stop_or_end place third u stops e);
     }
 
 unfinished_gets : (c : Call) (r : Replays c) → IsUnfinished r → GetsByCourse r.keys r.plan r.turns c.sink 8
@@ -176,7 +178,7 @@ unfinished_gets c r still =
       refuses = refuses_as_in r.journal;
       tied = λ calm n. false_at (refusals r.journal) n (r.tied calm);
       refused = λ e x. never_refused (refusal_for r.keys r.plan) e r.accepted x;
-      stops = λ a k s. absurd (one.stop_or_unfinished k s goes);
+      stops = λ a k third s. absurd (one.stop_or_unfinished k third s goes);
       unfinished = λ a g. inl refl;
       ended = λ a u e calm. absurd (one.unfinished_or_end u goes e);
       unreported = λ a u e lt. absurd (one.unfinished_or_end u goes e);
@@ -188,7 +190,7 @@ refused_gets c p ts w error refused = record {
   refuses = refuses_none;
   tied = λ calm n. refl;
   refused = λ e x. inl refl;
-  stops = λ a k s. never_refused (refusal_for c p) error a refused;
+  stops = λ a k third s. never_refused (refusal_for c p) error a refused;
   unfinished = λ a g. never_refused (refusal_for c p) error a refused;
   ended = λ a u e calm. never_refused (refusal_for c p) error a refused;
   unreported = λ a u e lt. never_refused (refusal_for c p) error a refused;
@@ -215,7 +217,10 @@ course_gets c (Err Report) h n replay calm b p ts has =
     (same_input c.source b h.0.keys p h.0.plan ts h.0.turns has h.0.given) (unreported_gets c h.0 h.1 h.2 h.4)
 course_gets c (Err (NotEnabled place)) h n replay calm b p ts has =
     moved b h.0.keys p h.0.plan ts h.0.turns c.sink 6
-    (same_input c.source b h.0.keys p h.0.plan ts h.0.turns has h.0.given) (stopped_gets c h.0 place h.1)
+    (same_input c.source b h.0.keys p h.0.plan ts h.0.turns has h.0.given) (stopped_gets c h.0 place false h.1)
+course_gets c (Err (ThirdSignal place)) h n replay calm b p ts has =
+    moved b h.0.keys p h.0.plan ts h.0.turns c.sink 7
+    (same_input c.source b h.0.keys p h.0.plan ts h.0.turns has h.0.given) (stopped_gets c h.0 place true h.1)
 course_gets c (Err Unfinished) h n replay calm b p ts has =
     moved b h.0.keys p h.0.plan ts h.0.turns c.sink 8
     (same_input c.source b h.0.keys p h.0.plan ts h.0.turns has h.0.given) (unfinished_gets c h.0 h.1)
@@ -229,7 +234,6 @@ course_gets c (Err Read) h n replay calm b p ts has = absurd (calm n)
 course_gets c (Err TooLong) h n replay calm b p ts has =
     absurd (not_too_long c.source has.bytes has.told has.within h.1)
 course_gets c (Err (Line number)) h n replay calm b p ts has = absurd (no_bad_line c.source b p ts number has h.1)
-course_gets c (Err (ThirdSignal place)) h n replay calm b p ts has = absurd h
 
 -- an input with a bad line says nothing else
 bad_excludes : (r : Reading) (c : RunnerKeys) (p : Plan) (ts : List Turn) (n : ℕ) → HasBadInput r.left n
@@ -256,7 +260,8 @@ bad_line_gets c (Err Read) h n replay calm number has = absurd (calm n)
 bad_line_gets c (Err TooLong) h n replay calm number has =
     absurd (not_too_long c.source has.bytes has.told has.within h.1)
 bad_line_gets c (Err (Line m)) h n replay calm number has = inl refl
-bad_line_gets c (Err (ThirdSignal m)) h n replay calm number has = absurd h
+bad_line_gets c (Err (ThirdSignal m)) h n replay calm number has =
+    absurd (bad_excludes c.source _ _ _ number has h.0.given)
 
 -- a source with too much isn't read to its end within the limit
 too_much_excludes : (r : Reading) (bytes : List ℕ) → HasTooMuch r.left → HasGiven r bytes → AtEnd r.left_after
@@ -285,7 +290,7 @@ too_much_gets c (Err Words) h n replay calm has = absurd (h.0 replay)
 too_much_gets c (Err Read) h n replay calm has = absurd (calm n)
 too_much_gets c (Err TooLong) h n replay calm has = inl refl
 too_much_gets c (Err (Line m)) h n replay calm has = absurd (too_much_excludes c.source h.1.0 has h.1.1 h.1.2 h.1.3)
-too_much_gets c (Err (ThirdSignal m)) h n replay calm has = absurd h
+too_much_gets c (Err (ThirdSignal m)) h n replay calm has = absurd (given_excludes c.source _ _ _ has h.0.given)
 
 -- 10
 pub unread_gets : (r : Reading) (ending : Result RunOutcome Fault) → CountsReadAtEnd r ending

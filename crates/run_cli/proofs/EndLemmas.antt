@@ -1,5 +1,5 @@
 -- The run, and then its last lines.
-use Rattle.std.proofs.Common.{◌≡◌, ℕ, ◌+◌, ◌<◌, ◌≤◌, ◌⊎◌, inl, inr, List, [], ◌∷◌, ◌++◌, if◌then◌else◌, true, false}
+use Rattle.std.proofs.Common.{◌≡◌, ℕ, ◌≤◌, inl, inr, List, ◌++◌, if◌then◌else◌, true, false}
 use Rattle.std.proofs.Common.{Bool, Option, Some, None, is_none, IsSome, Result, Ok, Err, refl, ap, sym, subst, ◌∙◌}
 use Rattle.std.proofs.Common.{arith}
 use Rattle.run_capture.specs.Faults.{Rose}
@@ -9,11 +9,9 @@ use Rattle.run_events.specs.declared.settings.Settings.{Settings}
 use Rattle.run_events.specs.declared.turn.Turn.{Turn}
 use Rattle.run_events.specs.declared.ask.Ask.{Ask}
 use Rattle.run_events.specs.declared.outcome.RunOutcome.{RunOutcome}
-use Rattle.run_events.specs.Outcome.{outcome_of, summary}
 use Rattle.run_model.specs.declared.happening.Happening.{Happening}
-use Rattle.run_model.specs.Words.{told, asked, is_over, sub_run, stats}
+use Rattle.run_model.specs.Words.{told, asked}
 use Rattle.run_model.specs.Journal.{past_of, outcome}
-use Rattle.run_laws.specs.Course.{none_refused}
 use Rattle.run_laws.proofs.Outcomes.{over_outcome}
 use Rattle.run_engine.specs.Execution.{UnlessMemory}
 use Rattle.run_engine.specs.declared.errors.TestRunnerExecuteErrors.{TestRunnerExecuteErrors}
@@ -23,9 +21,8 @@ use Rattle.run_output.specs.declared.fault.Fault.TheVariants.{Words, Line, Plan 
 use Rattle.run_output.specs.declared.fault.Fault.TheVariants.{Unfinished, Report, Read, Memory, TooLong}
 use Rattle.run_output.specs.Fields.{line_of}
 use Rattle.run_output.specs.Outcomes.{outcome_text}
-use Rattle.run_output.specs.Faults.{fault_text}
 use Rattle.run_cli.specs.Call.{Writing, joined, TakesFront, HasTaken, HasTakenFront, HasWriteFault, Writes}
-use Rattle.run_cli.specs.Text.{event_lines, ask_lines, fault_only, rest_text, history_text}
+use Rattle.run_cli.specs.Text.{event_lines, ask_lines, fault_only, rest_text}
 use Rattle.run_cli.specs.Executed.{IsExecuted, TookParts, WritesRun, report_ending}
 use Rattle.run_cli.specs.Finish.{fault_of_error, EndsAtFault, EndsAtOutcome, IsReplayed, IsReplayEnding}
 
@@ -183,9 +180,15 @@ error_ends p turns w v asks (engine.NotEnabled place) ending on from x h =
     fault_ends p turns w v asks (NotEnabled place) ending
     (λ le writes. (
       replayed p turns w v asks (Err (engine.NotEnabled place)) (omega arith) x,
-      x.says.0,
-      x.says.1,
+      x.says,
       fault_writes p turns w v asks (Err (engine.NotEnabled place)) (NotEnabled place) on from x le writes,
+    )) h
+error_ends p turns w v asks (engine.ThirdSignal place) ending on from x h =
+    fault_ends p turns w v asks (ThirdSignal place) ending
+    (λ le writes. (
+      replayed p turns w v asks (Err (engine.ThirdSignal place)) (omega arith) x,
+      x.says,
+      fault_writes p turns w v asks (Err (engine.ThirdSignal place)) (ThirdSignal place) on from x le writes,
     )) h
 error_ends p turns w v asks engine.Unfinished ending on from x h =
     fault_ends p turns w v asks Unfinished ending

@@ -1,42 +1,40 @@
 -- What the words and the source give, and how the program ends by it.
-use Rattle.std.proofs.Common.{◌≡◌, ℕ, nat_lt, suc, ◌+◌, ◌^◌, ◌<◌, ◌≤◌, ◌==◌, ◌⊎◌, inl, inr, List, [], ◌∷◌, ◌++◌, length}
+use Rattle.std.proofs.Common.{◌≡◌, ℕ, nat_lt, suc, ◌+◌, ◌^◌, ◌<◌, ◌≤◌, ◌==◌, inl, inr, List, [], ◌∷◌, length}
 use Rattle.std.proofs.Common.{reverse, Bool, true, false, if◌then◌else◌, Option, Some, None, option_and_then, Result}
 use Rattle.std.proofs.Common.{Ok, Err, refl, ap, sym, subst, ◌∙◌, arith, codes}
 use Rattle.run_input.specs.declared.plan_line.RunnerKeys.{RunnerKeys}
-use Rattle.run_events.specs.Usual.{usual_plan}
+use Rattle.run_events.specs.Usual.{usual_hearing, usual_plan}
 use Rattle.run_events.specs.declared.plan.Group.{Group}
 use Rattle.run_events.specs.declared.plan.Plan.{Plan}
 use Rattle.run_events.specs.declared.plan.PlanTest.{PlanTest}
-use Rattle.run_events.specs.declared.settings.Settings.{Settings}
+use Rattle.run_events.specs.declared.signal.SignalHandlerKind.{SignalHandlerKind}
 use Rattle.run_events.specs.declared.turn.Turn.{Turn}
 use Rattle.run_events.specs.declared.outcome.RunOutcome.{RunOutcome}
-use Rattle.run_events.specs.Outcome.{outcome_of, summary}
-use Rattle.run_model.specs.declared.happening.Happening.{Happening}
-use Rattle.run_model.specs.Words.{is_over, sub_run, stats}
 use Rattle.run_model.specs.Journal.{past_of, outcome}
 use Rattle.run_laws.specs.Course.{turns_of as journal_turns}
 use Rattle.run_laws.proofs.FateLemmas.{ended_fates, over_ended}
 use Rattle.run_laws.proofs.Outcomes.{over_is}
 use Rattle.run_engine.specs.Builder.{IsBuilt}
+use Rattle.run_engine.specs.Execution.{IsRefusedAt}
 use Rattle.run_engine.specs.declared.errors.TestRunnerBuildError.{TestRunnerBuildError}
 use Rattle.run_engine.specs.declared.errors.TestRunnerBuildError.TheVariants as build
 use Rattle.std.proofs.lemmas.Option.{same_Some}
 use Rattle.run_input.specs.Lines.{lines_of, at_front}
 use Rattle.run_input.specs.Input.{IsInput, turns_of, turn_line_of}
-use Rattle.run_input.specs.PlanLine.{plan_tests_of, plan_groups_of, groups_of, plan_with, plan_of, keys_of, run_id_of}
-use Rattle.run_input.specs.PlanLine.{tests_of}
-use Rattle.run_input.specs.Fields.{when, is_object_of, or_usual}
+use Rattle.run_input.specs.PlanLine.{plan_tests_of, plan_groups_of, plan_with, plan_of, keys_of, run_id_of}
+use Rattle.run_input.specs.PlanLine.{tests_of, rules_of}
+use Rattle.run_input.specs.Fields.{when, is_object_of}
 use Rattle.run_input.specs.ValueOf.{value_of}
 use Rattle.serde_json.specs.Data.{Data}
 use Rattle.serde_json.specs.Find.{get}
 use Rattle.run_output.specs.declared.fault.Fault.{Fault}
 use Rattle.run_output.specs.declared.fault.Fault.TheVariants.{Words, Line, Plan as BadPlan, NotEnabled, ThirdSignal}
 use Rattle.run_output.specs.declared.fault.Fault.TheVariants.{Unfinished, Report, Read, Memory, TooLong}
-use Rattle.run_cli.specs.Call.{Call, Reading, Writing, HasReadFault, Writes}
+use Rattle.run_cli.specs.Call.{Call, Reading, Writing, Writes}
 use Rattle.run_cli.specs.Plans.{builder_of, settings_for, refusal_for, fault_of_plan}
 use Rattle.run_cli.specs.Text.{fault_only}
 use Rattle.run_cli.specs.Given.{IsReplay, IsGiven, IsGivenFault, CountsRead, CountsReadAtEnd}
-use Rattle.run_cli.specs.Ending.{Replays, IsWhole, IsEnding}
+use Rattle.run_cli.specs.Ending.{Replays, IsWhole, StopsBefore, IsEnding}
 use Rattle.run_cli.specs.Finish.{EndsAtFault, IsReplayed, IsReplayEnding, IsInputEnding}
 
 -- no more lines than bytes
@@ -88,15 +86,23 @@ few_plan_tests d tests e =
 abbrev pub IsFew : Plan → Type 0
 IsFew plan = length plan.scripts + length plan.tests < 2 ^ 32
 
-few_plan : (run_id : List ℕ) (groups tests : Option Data) (plan : Plan) → plan_with run_id groups tests ≡ Some plan
-    → IsFew plan
-few_plan run_id groups tests plan e =
+-- the plan that a line with these rules says, of these groups and tests
+abbrev planned : List ℕ → SignalHandlerKind × Option ℕ → List Group → List PlanTest → Plan
+planned run_id rules groups tests = record (usual_plan run_id tests)
+    { hearing = record usual_hearing { signals = rules.0 }; global_timeout = rules.1; groups = groups }
+
+few_plan : (run_id : List ℕ) (rules : SignalHandlerKind × Option ℕ) (groups tests : Option Data) (plan : Plan)
+    → plan_with run_id rules groups tests ≡ Some plan → IsFew plan
+few_plan run_id rules groups tests plan e =
     let gs = then_some (plan_groups_of groups)
-    (λ gs. option_and_then (λ ts. Some (record (usual_plan run_id ts) { groups = gs })) (plan_tests_of tests)) plan e in
-    let ts = then_some (plan_tests_of tests) (λ ts. Some (record (usual_plan run_id ts) { groups = gs.0 })) plan gs.2 in
+    (λ gs. option_and_then (λ ts. Some (planned run_id rules gs ts)) (plan_tests_of tests)) plan e in
+    let ts = then_some (plan_tests_of tests) (λ ts. Some (planned run_id rules gs.0 ts)) plan gs.2 in
     let fewer = few_plan_tests tests ts.0 ts.1 in
     let few : 0 + length ts.0 < 2 ^ 32 = omega arith in
-    subst IsFew (same_Some (record (usual_plan run_id ts.0) { groups = gs.0 }) plan ts.2) few
+    subst IsFew (same_Some (planned run_id rules gs.0 ts.0) plan ts.2) few
+
+few_as : (k l : RunnerKeys) (p q : Plan) → ◌≡◌ {A = RunnerKeys × Plan} (k, p) (l, q) → IsFew p → IsFew q
+few_as k l p q e few = subst IsFew (ap (λ (x : RunnerKeys × Plan). x.1) e) few
 
 few_line : (d : Data) (keys : RunnerKeys) (plan : Plan) → plan_of d ≡ Some (keys, plan) → IsFew plan
 unfolding plan_of
@@ -104,18 +110,23 @@ few_line d keys plan e =
     let groups : Option Data = get (codes "groups") d in
     let tests : Option Data = get (codes "tests") d in
     let run_ids : Option (List ℕ) = option_and_then run_id_of (get (codes "run_id") d) in
-    let a = then_some (when (is_object_of (codes "capture" ∷ codes "groups" ∷ codes "run_id" ∷ codes "tests"
-    ∷ codes "threads" ∷ []) d))
-    (λ _. option_and_then (λ k. option_and_then (λ r. option_and_then (λ q. Some (k, q)) (plan_with r groups tests))
-    run_ids) (keys_of d))
+    let a = then_some (when (is_object_of (codes "capture" ∷ codes "global_timeout" ∷ codes "groups" ∷ codes "max_fail"
+    ∷ codes "run_id" ∷ codes "signals" ∷ codes "tests" ∷ codes "threads" ∷ []) d))
+    (λ _. option_and_then (λ k. option_and_then (λ o. option_and_then (λ r. option_and_then (λ q. Some (k, q))
+    (plan_with r o groups tests)) run_ids) (rules_of d)) (keys_of d))
     (keys, plan) e in
     let b = then_some (keys_of d)
-    (λ k. option_and_then (λ r. option_and_then (λ q. Some (k, q)) (plan_with r groups tests)) run_ids)
+    (λ k. option_and_then (λ o. option_and_then (λ r. option_and_then (λ q. Some (k, q)) (plan_with r o groups tests))
+    run_ids) (rules_of d))
     (keys, plan) a.2 in
-    let c = then_some run_ids (λ r. option_and_then (λ q. Some (b.0, q)) (plan_with r groups tests)) (keys, plan) b.2 in
-    let f = then_some (plan_with c.0 groups tests) (λ q. Some (b.0, q)) (keys, plan) c.2 in
+    let o = then_some (rules_of d)
+    (λ o. option_and_then (λ r. option_and_then (λ q. Some (b.0, q)) (plan_with r o groups tests)) run_ids)
+    (keys, plan) b.2 in
+    let c = then_some run_ids (λ r. option_and_then (λ q. Some (b.0, q)) (plan_with r o.0 groups tests)) (keys, plan)
+    o.2 in
+    let f = then_some (plan_with c.0 o.0 groups tests) (λ q. Some (b.0, q)) (keys, plan) c.2 in
     let pair : (b.0, f.0) ≡ (keys, plan) = same_Some (b.0, f.0) (keys, plan) f.2 in
-    subst IsFew (ap (λ (q : RunnerKeys × Plan). q.1) pair) (few_plan c.0 groups tests f.0 f.1)
+    few_as b.0 keys f.0 plan pair (few_plan c.0 o.0 groups tests f.0 f.1)
 
 -- an input has few units and few turns
 pub given_few : (r : Reading) (keys : RunnerKeys) (plan : Plan) (turns : List Turn)
@@ -160,6 +171,11 @@ replays c keys plan turns replay given accepted r = record {
   tied = r.tied;
 }
 
+stops_before : (c : Call) (r : Replays c) (place : ℕ) (third : Bool)
+    → IsRefusedAt (settings_for r.keys r.plan) r.turns r.journal place third → StopsBefore r place third
+stops_before c r place third h =
+    record { before = h.0; turn = h.1.0; at = h.1.1; refused = h.1.2; whether = h.1.3 }
+
 -- how a program ends whose input was good
 pub given_says : (c : Call) (keys : RunnerKeys) (plan : Plan) (turns : List Turn)
     (ending : Result RunOutcome Fault)
@@ -174,8 +190,13 @@ given_says c keys plan turns (Err Report) replay given (accepted, h) =
     (r, h.2.0, whole c r h.2.0 h.1 h.2.1, h.2.2, h.3)
 given_says c keys plan turns (Err (NotEnabled place)) replay given (accepted, h) = (
   replays c keys plan turns replay given accepted h.0,
-  record { before = h.1; turn = h.2.0; at = h.2.1; refused = h.2.2 },
-  h.3,
+  stops_before c (replays c keys plan turns replay given accepted h.0) place false h.1,
+  h.2,
+)
+given_says c keys plan turns (Err (ThirdSignal place)) replay given (accepted, h) = (
+  replays c keys plan turns replay given accepted h.0,
+  stops_before c (replays c keys plan turns replay given accepted h.0) place true h.1,
+  h.2,
 )
 given_says c keys plan turns (Err Unfinished) replay given (accepted, h) = (
   replays c keys plan turns replay given accepted h.0,
@@ -189,7 +210,6 @@ given_says c keys plan turns (Err Words) replay given h = absurd h.1
 given_says c keys plan turns (Err (Line n)) replay given h = absurd h.1
 given_says c keys plan turns (Err Read) replay given h = absurd h.1
 given_says c keys plan turns (Err TooLong) replay given h = absurd h.1
-given_says c keys plan turns (Err (ThirdSignal n)) replay given h = absurd h.1
 
 -- the end of the turns of a plan that was accepted
 pub accepted_ends : (keys : RunnerKeys) (plan : Plan) (turns : List Turn) (w : Writing)
@@ -206,7 +226,7 @@ accepted_ends keys plan turns w (Err Words) accepted h = absurd h
 accepted_ends keys plan turns w (Err (Line n)) accepted h = absurd h
 accepted_ends keys plan turns w (Err Read) accepted h = absurd h
 accepted_ends keys plan turns w (Err TooLong) accepted h = absurd h
-accepted_ends keys plan turns w (Err (ThirdSignal n)) accepted h = absurd h
+accepted_ends keys plan turns w (Err (ThirdSignal n)) accepted h = (accepted, h)
 
 -- the end of a plan that is refused
 refusal_ends : (keys : RunnerKeys) (plan : Plan) (turns : List Turn) (w : Writing)

@@ -1,6 +1,6 @@
 -- What each status says, by how the program ended.
-use Rattle.std.proofs.Common.{◌≡◌, ℕ, ◌<◌, ◌≤◌, ◌==◌, ◌⊎◌, inl, inr, List, [], ◌∷◌, Bool, true, false, Option, Result}
-use Rattle.std.proofs.Common.{Ok, Err, refl, ap, sym, subst, ◌∙◌, arith}
+use Rattle.std.proofs.Common.{◌≡◌, ℕ, ◌<◌, ◌⊎◌, inl, inr, true, Result}
+use Rattle.std.proofs.Common.{Ok, Err, refl, subst, arith}
 use Rattle.run_events.specs.declared.outcome.RunOutcome.{RunOutcome}
 use Rattle.run_events.specs.declared.outcome.RunOutcome.TheVariants as outcomes
 use Rattle.run_events.specs.declared.outcome.RunStep.TheVariants as steps
@@ -12,7 +12,7 @@ use Rattle.run_cli.specs.Text.{fault_only, outcome_status, status_of}
 use Rattle.run_cli.specs.Given.{IsReplay, IsTooLong, IsWithin, CountsReadAtEnd}
 use Rattle.run_cli.specs.Ending.{IsEnding}
 use Rattle.run_cli.specs.Status.{IsOutcomeStatus, is_status, Headline, SaysBadLine, SaysBadPlan, SaysNotEnabled}
-use Rattle.run_cli.specs.Status.{SaysUnfinished, SaysReport, Answers}
+use Rattle.run_cli.specs.Status.{SaysThirdSignal, SaysUnfinished, SaysReport, Answers}
 use Rattle.run_cli.proofs.CauseLemmas.{unread_gets, too_much_gets, bad_line_gets, course_gets}
 
 -- an outcome's status is one
@@ -58,7 +58,7 @@ status_known c (Err Report) h = refl
 status_known c (Err Read) h = refl
 status_known c (Err Memory) h = refl
 status_known c (Err TooLong) h = refl
-status_known c (Err (ThirdSignal n)) h = absurd h
+status_known c (Err (ThirdSignal n)) h = refl
 
 -- an outcome's status comes from an outcome
 pub headline_says : (c : Call) (ending : Result RunOutcome Fault)
@@ -75,7 +75,7 @@ headline_says c (Err Report) h s = absurd (no_outcome_above 9 s (omega arith) (o
 headline_says c (Err Read) h s = absurd (no_outcome_above 10 s (omega arith) (omega arith))
 headline_says c (Err Memory) h s = absurd (no_outcome_above 11 s (omega arith) (omega arith))
 headline_says c (Err TooLong) h s = absurd (no_outcome_above 12 s (omega arith) (omega arith))
-headline_says c (Err (ThirdSignal n)) h s = absurd h
+headline_says c (Err (ThirdSignal n)) h s = absurd (no_outcome_above 7 s (omega arith) (omega arith))
 
 -- 2: the words
 pub words_say : (c : Call) (ending : Result RunOutcome Fault)
@@ -90,7 +90,7 @@ words_say c (Err Report) h s = absurd (omega arith)
 words_say c (Err Read) h s = absurd (omega arith)
 words_say c (Err Memory) h s = absurd (omega arith)
 words_say c (Err TooLong) h s = absurd (omega arith)
-words_say c (Err (ThirdSignal n)) h s = absurd h
+words_say c (Err (ThirdSignal n)) h s = absurd (omega arith)
 
 -- and other words give no other status but that of wanting memory
 pub no_words : (c : Call) (ending : Result RunOutcome Fault)
@@ -105,7 +105,7 @@ no_words c (Err Report) h bad = absurd (bad h.0.replay)
 no_words c (Err Read) h bad = absurd (bad h.0)
 no_words c (Err Memory) h bad = inr refl
 no_words c (Err TooLong) h bad = absurd (bad h.0)
-no_words c (Err (ThirdSignal n)) h bad = absurd h
+no_words c (Err (ThirdSignal n)) h bad = absurd (bad h.0.replay)
 
 -- 3: a bad line
 pub line_says : (c : Call) (ending : Result RunOutcome Fault)
@@ -120,7 +120,7 @@ line_says c (Err Report) h s = absurd (omega arith)
 line_says c (Err Read) h s = absurd (omega arith)
 line_says c (Err Memory) h s = absurd (omega arith)
 line_says c (Err TooLong) h s = absurd (omega arith)
-line_says c (Err (ThirdSignal n)) h s = absurd h
+line_says c (Err (ThirdSignal n)) h s = absurd (omega arith)
 
 -- 5: a plan that is refused
 pub plan_says : (c : Call) (ending : Result RunOutcome Fault)
@@ -135,7 +135,7 @@ plan_says c (Err Report) h s = absurd (omega arith)
 plan_says c (Err Read) h s = absurd (omega arith)
 plan_says c (Err Memory) h s = absurd (omega arith)
 plan_says c (Err TooLong) h s = absurd (omega arith)
-plan_says c (Err (ThirdSignal n)) h s = absurd h
+plan_says c (Err (ThirdSignal n)) h s = absurd (omega arith)
 
 -- 6: a turn that isn't enabled
 pub not_enabled_says : (c : Call) (ending : Result RunOutcome Fault)
@@ -150,7 +150,22 @@ not_enabled_says c (Err Report) h s = absurd (omega arith)
 not_enabled_says c (Err Read) h s = absurd (omega arith)
 not_enabled_says c (Err Memory) h s = absurd (omega arith)
 not_enabled_says c (Err TooLong) h s = absurd (omega arith)
-not_enabled_says c (Err (ThirdSignal n)) h s = absurd h
+not_enabled_says c (Err (ThirdSignal n)) h s = absurd (omega arith)
+
+-- 7: a third signal
+pub third_signal_says : (c : Call) (ending : Result RunOutcome Fault)
+    → IsEnding c ending → status_of ending ≡ 7 → SaysThirdSignal c
+third_signal_says c (Ok o) h s = absurd (no_outcome_above 7 (apart _ 7 (outcome_is o) s) (omega arith) (omega arith))
+third_signal_says c (Err Words) h s = absurd (omega arith)
+third_signal_says c (Err (Line n)) h s = absurd (omega arith)
+third_signal_says c (Err (BadPlan f)) h s = absurd (omega arith)
+third_signal_says c (Err (NotEnabled n)) h s = absurd (omega arith)
+third_signal_says c (Err (ThirdSignal n)) h s = (n, h.0, h.1, h.2)
+third_signal_says c (Err Unfinished) h s = absurd (omega arith)
+third_signal_says c (Err Report) h s = absurd (omega arith)
+third_signal_says c (Err Read) h s = absurd (omega arith)
+third_signal_says c (Err Memory) h s = absurd (omega arith)
+third_signal_says c (Err TooLong) h s = absurd (omega arith)
 
 -- 8: a run that isn't over
 pub unfinished_says : (c : Call) (ending : Result RunOutcome Fault)
@@ -165,7 +180,7 @@ unfinished_says c (Err Report) h s = absurd (omega arith)
 unfinished_says c (Err Read) h s = absurd (omega arith)
 unfinished_says c (Err Memory) h s = absurd (omega arith)
 unfinished_says c (Err TooLong) h s = absurd (omega arith)
-unfinished_says c (Err (ThirdSignal n)) h s = absurd h
+unfinished_says c (Err (ThirdSignal n)) h s = absurd (omega arith)
 
 -- 9: a sink that failed
 pub report_says : (c : Call) (ending : Result RunOutcome Fault)
@@ -180,7 +195,7 @@ report_says c (Err Report) h s = h
 report_says c (Err Read) h s = absurd (omega arith)
 report_says c (Err Memory) h s = absurd (omega arith)
 report_says c (Err TooLong) h s = absurd (omega arith)
-report_says c (Err (ThirdSignal n)) h s = absurd h
+report_says c (Err (ThirdSignal n)) h s = absurd (omega arith)
 
 -- 10: a source that failed
 pub read_says : (c : Call) (ending : Result RunOutcome Fault)
@@ -195,7 +210,7 @@ read_says c (Err Report) h s = absurd (omega arith)
 read_says c (Err Read) h s = h
 read_says c (Err Memory) h s = absurd (omega arith)
 read_says c (Err TooLong) h s = absurd (omega arith)
-read_says c (Err (ThirdSignal n)) h s = absurd h
+read_says c (Err (ThirdSignal n)) h s = absurd (omega arith)
 
 -- 12: an input that is too long
 pub too_long_says : (c : Call) (ending : Result RunOutcome Fault)
@@ -211,7 +226,7 @@ too_long_says c (Err Report) h s = absurd (omega arith)
 too_long_says c (Err Read) h s = absurd (omega arith)
 too_long_says c (Err Memory) h s = absurd (omega arith)
 too_long_says c (Err TooLong) h s = h
-too_long_says c (Err (ThirdSignal n)) h s = absurd h
+too_long_says c (Err (ThirdSignal n)) h s = absurd (omega arith)
 
 -- the source's count rose where the status is 10
 pub read_rose : (r : Reading) (ending : Result RunOutcome Fault) → CountsReadAtEnd r ending → status_of ending ≡ 10
@@ -255,6 +270,7 @@ answers c ending h n = record {
   line = line_says c ending h;
   plan = plan_says c ending h;
   not_enabled = not_enabled_says c ending h;
+  third_signal = third_signal_says c ending h;
   unfinished = unfinished_says c ending h;
   report = report_says c ending h;
   read = λ s. (read_says c ending h s, read_rose c.source ending n s);

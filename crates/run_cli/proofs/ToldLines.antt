@@ -1,6 +1,6 @@
 -- The lines that a reporter wrote are those of the events that the journal told.
-use Rattle.std.proofs.Common.{◌≡◌, ℕ, suc, List, [], ◌∷◌, ◌++◌, length, map, zip, Bool, Option, Some, None, is_none}
-use Rattle.std.proofs.Common.{reverse, Result, Ok, Err, IsSome, ◌<◌, refl, ap, sym, subst, ◌∙◌, arith}
+use Rattle.std.proofs.Common.{◌≡◌, ℕ, List, [], ◌∷◌, ◌++◌, length, map, zip, Option, Some, None, is_none}
+use Rattle.std.proofs.Common.{reverse, Result, IsSome, ◌<◌, refl, ap, sym, subst, ◌∙◌, arith}
 use Rattle.std.proofs.lemmas.List.{map-append}
 use Rattle.run_events.specs.declared.settings.Settings.{Settings}
 use Rattle.run_events.specs.declared.events.ReporterEvent.{ReporterEvent}
@@ -22,10 +22,8 @@ use Rattle.run_events.specs.declared.turn.Turn.{Turn}
 use Rattle.run_events.specs.declared.ask.Ask.{Ask}
 use Rattle.run_events.specs.declared.outcome.RunOutcome.{RunOutcome}
 use Rattle.run_engine.specs.Standing.{IsRunnable}
-use Rattle.run_engine.specs.Execution.{IsAnswerOf, UnlessMemory}
+use Rattle.run_engine.specs.Execution.{IsAnswerOf}
 use Rattle.run_engine.specs.declared.errors.TestRunnerExecuteErrors.{TestRunnerExecuteErrors}
-use Rattle.run_engine.specs.declared.errors.TestRunnerExecuteErrors.TheVariants.{Report, NotEnabled, Unfinished}
-use Rattle.run_engine.specs.declared.errors.TestRunnerExecuteErrors.TheVariants.{OutOfMemory}
 use Rattle.run_output.specs.Refusals.{CountsSince}
 
 -- events beside as many answers are the events

@@ -1,5 +1,5 @@
 -- What status each cause gives, where the source's bytes are told and its count of faults didn't rise.
-use Rattle.std.specs.Prelude.{ℕ, ◌≡◌, ◌⊎◌, ◌≤◌, ◌<◌, List, length, Bool, false, Option, Some, None}
+use Rattle.std.specs.Prelude.{ℕ, ◌≡◌, ◌⊎◌, ◌≤◌, ◌<◌, List, length, Bool, true, false, Option, Some, None}
 use Rattle.run_input.specs.declared.plan_line.RunnerKeys.{RunnerKeys}
 use Rattle.run_events.specs.declared.plan.Plan.{Plan}
 use Rattle.run_events.specs.declared.turn.Turn.{Turn}
@@ -38,17 +38,21 @@ pub record HasTooMuch (left : Option (List ℕ)) : Type 0 where
   pub told : left ≡ Some bytes
   pub above : input_limit < length bytes
 
+-- the status of turns that stop: at a third shutdown signal, or at another turn
+abbrev pub stop_status : Bool → ℕ
+stop_status true = 7
+stop_status false = 6
+
 -- the status that a plan and its turns get: the plan is refused; or with the answers that the sink gave, which refused
--- no event where it didn't fail, the turns stop at one that isn't enabled, or leave the run unfinished, or end it,
--- where
+-- no event where it didn't fail, the turns stop at one that isn't enabled, or leave the run unfinished, or end it, where
 -- the sink's count of faults stayed or rose
 pub record GetsByCourse (keys : RunnerKeys) (plan : Plan) (turns : List Turn) (w : Writing)
     (status : ℕ) : Type 0 where
   pub refuses : ℕ → Bool
   pub tied : ¬ HasWriteFault w → (n : ℕ) → refuses n ≡ false
   pub refused : (error : TestRunnerBuildError) → refusal_for keys plan ≡ Some error → Gets status 5
-  pub stops : refusal_for keys plan ≡ None → (place : ℕ) → Stops (settings_for keys plan) turns refuses place
-      → Gets status 6
+  pub stops : refusal_for keys plan ≡ None → (place : ℕ) (third : Bool)
+      → Stops (settings_for keys plan) turns refuses place third → Gets status (stop_status third)
   pub unfinished : refusal_for keys plan ≡ None → GoesOn (settings_for keys plan) turns refuses → Gets status 8
   pub ended : refusal_for keys plan ≡ None → (o : RunOutcome) → Ends (settings_for keys plan) turns refuses o
       → ¬ HasWriteFault w → Gets status (outcome_status o)

@@ -1,5 +1,5 @@
 -- What each end of the program says, from the bytes that come in to the bytes that go out.
-use Rattle.std.specs.Prelude.{ℕ, ◌≡◌, List, take, slice_get, false, true, Some, None, Result, Ok, Err, ⊤}
+use Rattle.std.specs.Prelude.{ℕ, ◌≡◌, List, take, slice_get, Bool, false, true, Some, None, Result, Ok, Err, ⊤}
 use Rattle.std.specs.List.{All, Contains}
 use Rattle.run_input.specs.declared.plan_line.RunnerKeys.{RunnerKeys}
 use Rattle.run_events.specs.declared.plan.Plan.{Plan}
@@ -12,7 +12,7 @@ use Rattle.run_model.specs.Words.{is_over, sub_run, ended_runs}
 use Rattle.run_model.specs.Turns.{enabled}
 use Rattle.run_model.specs.Journal.{past_of, IsLegal, outcome}
 use Rattle.run_model.specs.Fates.{HaveFates}
-use Rattle.run_laws.specs.Course.{turns_of, none_refused}
+use Rattle.run_laws.specs.Course.{turns_of, none_refused, is_third}
 use Rattle.run_output.specs.declared.fault.Fault.{Fault}
 use Rattle.run_output.specs.declared.fault.Fault.TheVariants.{Words, Line, Plan as BadPlan, NotEnabled, ThirdSignal}
 use Rattle.run_output.specs.declared.fault.Fault.TheVariants.{Unfinished, Report, Read, Memory, TooLong}
@@ -57,12 +57,14 @@ pub record IsWhole {c : Call} (r : Replays c) (o : RunOutcome) : Type 0 where
 abbrev pub WritesReport : {c : Call} → Replays c → RunOutcome → Type 0
 WritesReport {c} r o = TookParts (history_in r) (rest_text (history_in r) (report_ending r.journal o)) c.sink
 
--- the turn at this place is the first that isn't enabled
-pub record StopsBefore {c : Call} (r : Replays c) (place : ℕ) : Type 0 where
+-- the turn at this place is the first that isn't enabled, and is a shutdown signal that would be taken, but that two
+-- came before it, or not
+pub record StopsBefore {c : Call} (r : Replays c) (place : ℕ) (third : Bool) : Type 0 where
   pub before : turns_of r.journal ≡ take place r.turns
   pub turn : Turn
   pub at : slice_get r.turns place ≡ Some turn
   pub refused : enabled (settings_in r) (history_in r) turn ≡ false
+  pub whether : is_third (settings_in r) (history_in r) turn ≡ third
 
 -- every turn was enabled, and the run isn't over after the last
 pub record IsUnfinished {c : Call} (r : Replays c) : Type 0 where
@@ -84,7 +86,9 @@ IsEnding c (Ok o) =
     × (c.sink.faults_after ≡ c.sink.faults)
 IsEnding c (Err Report) = (r : Replays c) × (o : RunOutcome) × IsWhole r o × WritesReport r o × HasWriteFault c.sink
 IsEnding c (Err (NotEnabled place)) =
-    (r : Replays c) × StopsBefore r place × WritesRun (history_in r) (Err (NotEnabled place)) c.sink
+    (r : Replays c) × StopsBefore r place false × WritesRun (history_in r) (Err (NotEnabled place)) c.sink
+IsEnding c (Err (ThirdSignal place)) =
+    (r : Replays c) × StopsBefore r place true × WritesRun (history_in r) (Err (ThirdSignal place)) c.sink
 IsEnding c (Err Unfinished) = (r : Replays c) × IsUnfinished r × WritesRun (history_in r) (Err Unfinished) c.sink
 IsEnding c (Err Words) = (¬ IsReplay c.words) × Writes c.sink (fault_only Words)
 IsEnding c (Err Read) = IsReplay c.words × IsWithin c.source × Writes c.sink (fault_only Read)
@@ -93,5 +97,4 @@ IsEnding c (Err (Line number)) = IsReplay c.words × HasBadLine c.source number
     × Writes c.sink (fault_only (Line number))
 IsEnding c (Err (BadPlan fault)) = IsReplay c.words × HasBadPlan c.source fault
     × Writes c.sink (fault_only (BadPlan fault))
-IsEnding c (Err (ThirdSignal place)) = ⊥
 IsEnding c (Err Memory) = ⊤

@@ -1,5 +1,5 @@
 -- How the lines after a run end the program.
-use Rattle.std.specs.Prelude.{ℕ, ◌≡◌, ◌⊎◌, ◌≤◌, List, take, slice_get, ◌++◌, true, false, Some, None, Result, Ok, Err}
+use Rattle.std.specs.Prelude.{ℕ, ◌≡◌, ◌⊎◌, ◌≤◌, List, ◌++◌, true, false, Some, None, Result, Ok, Err}
 use Rattle.std.specs.Prelude.{⊤}
 use Rattle.run_input.specs.declared.plan_line.RunnerKeys.{RunnerKeys}
 use Rattle.run_events.specs.declared.plan.Plan.{Plan}
@@ -9,14 +9,14 @@ use Rattle.run_events.specs.declared.ask.Ask.{Ask}
 use Rattle.run_events.specs.declared.outcome.RunOutcome.{RunOutcome}
 use Rattle.run_model.specs.declared.entry.Entry.{Entry}
 use Rattle.run_model.specs.Words.{is_over}
-use Rattle.run_model.specs.Turns.{enabled}
 use Rattle.run_model.specs.Journal.{past_of, IsLegal, outcome}
 use Rattle.run_laws.specs.Course.{turns_of, none_refused}
+use Rattle.run_engine.specs.Execution.{IsRefusedAt}
 use Rattle.run_engine.specs.declared.errors.TestRunnerExecuteErrors.{TestRunnerExecuteErrors}
 use Rattle.run_engine.specs.declared.errors.TestRunnerExecuteErrors.TheVariants as engine
 use Rattle.run_output.specs.declared.fault.Fault.{Fault}
-use Rattle.run_output.specs.declared.fault.Fault.TheVariants.{Words, Line, Plan as BadPlan, NotEnabled, Unfinished}
-use Rattle.run_output.specs.declared.fault.Fault.TheVariants.{Report, Read, Memory, TooLong}
+use Rattle.run_output.specs.declared.fault.Fault.TheVariants.{Plan as BadPlan, NotEnabled, ThirdSignal}
+use Rattle.run_output.specs.declared.fault.Fault.TheVariants.{Unfinished, Report, Memory}
 use Rattle.run_output.specs.Fields.{line_of}
 use Rattle.run_output.specs.Outcomes.{outcome_text}
 use Rattle.run_cli.specs.Call.{Writing, HasTaken, HasTakenFront, HasWriteFault, Writes}
@@ -56,9 +56,11 @@ IsReplayEnding p turns w (Err Report) =
     × TookParts (past_of p r.journal) (rest_text (past_of p r.journal) (report_ending r.journal o)) w)
     × HasWriteFault w
 IsReplayEnding p turns w (Err (NotEnabled place)) =
-    (r : IsReplayed p w) × (turns_of r.journal ≡ take place turns)
-    × ((turn : Turn) × (slice_get turns place ≡ Some turn) × (enabled p (past_of p r.journal) turn ≡ false))
+    (r : IsReplayed p w) × IsRefusedAt p turns r.journal place false
     × WritesRun (past_of p r.journal) (Err (NotEnabled place)) w
+IsReplayEnding p turns w (Err (ThirdSignal place)) =
+    (r : IsReplayed p w) × IsRefusedAt p turns r.journal place true
+    × WritesRun (past_of p r.journal) (Err (ThirdSignal place)) w
 IsReplayEnding p turns w (Err Unfinished) =
     (r : IsReplayed p w) × (turns_of r.journal ≡ turns) × (is_over (past_of p r.journal) ≡ false)
     × WritesRun (past_of p r.journal) (Err Unfinished) w
@@ -69,6 +71,7 @@ IsReplayEnding p turns w (Err _) = ⊥
 abbrev pub fault_of_error : {E : Type 0} → TestRunnerExecuteErrors E → Fault
 fault_of_error (engine.Report e) = Report
 fault_of_error (engine.NotEnabled place) = NotEnabled place
+fault_of_error (engine.ThirdSignal place) = ThirdSignal place
 fault_of_error engine.Unfinished = Unfinished
 fault_of_error engine.OutOfMemory = Memory
 

@@ -1,5 +1,5 @@
 -- The settings of a plan line, and why its plan is refused.
-use Rattle.std.specs.Prelude.{ℕ, ◌≡◌, Option, Some, None}
+use Rattle.std.specs.Prelude.{◌≡◌, Option, Some}
 use Rattle.run_input.specs.declared.plan_line.RunnerKeys.{RunnerKeys}
 use Rattle.run_events.specs.declared.plan.Plan.{Plan}
 use Rattle.run_events.specs.declared.settings.Settings.{Settings}
@@ -13,7 +13,7 @@ use Rattle.run_output.specs.declared.fault.PlanFault.TheVariants.{ZeroLimit, Dup
 
 -- the builder that a plan line sets
 abbrev pub builder_of : RunnerKeys → Builder
-builder_of keys = record { capture = keys.capture; threads = keys.threads }
+builder_of keys = record { capture = keys.capture; threads = keys.threads; max_fail = keys.max_fail }
 
 -- the settings of a plan with these keys, and why it is refused, where it is
 abbrev pub settings_for : RunnerKeys → Plan → Settings

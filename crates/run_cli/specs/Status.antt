@@ -1,12 +1,12 @@
 -- What each status of the program says.
-use Rattle.std.specs.Prelude.{ℕ, ◌≡◌, ◌⊎◌, ◌<◌, List, [], ◌∷◌, ◌==◌, Ok, Err, true, Bool}
+use Rattle.std.specs.Prelude.{ℕ, ◌≡◌, ◌⊎◌, ◌<◌, List, [], ◌∷◌, ◌==◌, Ok, Err, true, false, Bool}
 use Rattle.std.specs.List.{list_any}
 use Rattle.run_input.specs.declared.plan_line.RunnerKeys.{RunnerKeys}
 use Rattle.run_events.specs.declared.plan.Plan.{Plan}
 use Rattle.run_events.specs.declared.turn.Turn.{Turn}
 use Rattle.run_events.specs.declared.outcome.RunOutcome.{RunOutcome}
-use Rattle.run_output.specs.declared.fault.Fault.TheVariants.{Words, Line, Plan as BadPlan, NotEnabled, Unfinished}
-use Rattle.run_output.specs.declared.fault.Fault.TheVariants.{Read, TooLong}
+use Rattle.run_output.specs.declared.fault.Fault.TheVariants.{Words, Line, Plan as BadPlan, NotEnabled, ThirdSignal}
+use Rattle.run_output.specs.declared.fault.Fault.TheVariants.{Unfinished, Read, TooLong}
 use Rattle.run_output.specs.declared.fault.PlanFault.{PlanFault}
 use Rattle.run_cli.specs.Call.{Call, HasTaken, HasReadFault, HasWriteFault, Writes}
 use Rattle.run_cli.specs.Text.{fault_only, history_text, outcome_status}
@@ -21,7 +21,7 @@ IsOutcomeStatus status = (status ≡ 0) ⊎ ((status ≡ 4) ⊎ ((status ≡ 100
 
 -- every status of the program
 abbrev pub is_status : ℕ → Bool
-is_status status = list_any (λ known. known == status) (0 ∷ 2 ∷ 3 ∷ 4 ∷ 5 ∷ 6 ∷ 8 ∷ 9 ∷ 10 ∷ 11 ∷ 12 ∷ 100 ∷ 105 ∷ [])
+is_status status = list_any (λ known. known == status) (0 ∷ 2 ∷ 3 ∷ 4 ∷ 5 ∷ 6 ∷ 7 ∷ 8 ∷ 9 ∷ 10 ∷ 11 ∷ 12 ∷ 100 ∷ 105 ∷ [])
 
 -- every turn of the input was enabled and the run is over after the last, the bytes that the sink took are the lines of
 -- what the journal told and asked and of the outcome, and nothing else, each test has its fate, by its own turns'
@@ -44,11 +44,16 @@ SaysBadPlan c = IsReplay c.words × ((fault : PlanFault) × HasBadPlan c.source 
     × Writes c.sink (fault_only (BadPlan fault)))
 
 -- the turns up to a first one that isn't enabled were taken, and the lines are theirs and a fault line that names its
--- place
+-- place; it is no third shutdown signal, or it is one
 abbrev pub SaysNotEnabled : Call → Type 0
 SaysNotEnabled c =
-    (place : ℕ) × (r : Replays c) × StopsBefore r place
+    (place : ℕ) × (r : Replays c) × StopsBefore r place false
     × WritesRun (history_in r) (Err (NotEnabled place)) c.sink
+
+abbrev pub SaysThirdSignal : Call → Type 0
+SaysThirdSignal c =
+    (place : ℕ) × (r : Replays c) × StopsBefore r place true
+    × WritesRun (history_in r) (Err (ThirdSignal place)) c.sink
 
 -- all turns were taken, the run isn't over, and the lines are theirs and the fault line
 abbrev pub SaysUnfinished : Call → Type 0
@@ -69,6 +74,7 @@ pub record Answers (c : Call) (status : ℕ) : Type 0 where
   pub line : status ≡ 3 → SaysBadLine c
   pub plan : status ≡ 5 → SaysBadPlan c
   pub not_enabled : status ≡ 6 → SaysNotEnabled c
+  pub third_signal : status ≡ 7 → SaysThirdSignal c
   pub unfinished : status ≡ 8 → SaysUnfinished c
   pub report : status ≡ 9 → SaysReport c
   pub read : status ≡ 10 → (IsReplay c.words × IsWithin c.source × Writes c.sink (fault_only Read))

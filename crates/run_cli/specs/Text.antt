@@ -2,7 +2,6 @@
 use Rattle.std.specs.Prelude.{ℕ, List, [], ◌∷◌, ◌++◌, Result, Ok, Err}
 use Rattle.run_events.specs.declared.ask.Ask.{Ask}
 use Rattle.run_events.specs.declared.events.ReporterEvent.{ReporterEvent}
-use Rattle.run_events.specs.declared.outcome.RunStep.{RunStep}
 use Rattle.run_events.specs.declared.outcome.RunStep.TheVariants as steps
 use Rattle.run_events.specs.declared.outcome.RunOutcome.{RunOutcome}
 use Rattle.run_events.specs.declared.outcome.RunOutcome.TheVariants as outcomes

@@ -60,6 +60,7 @@ fn fault_of(error: TestRunnerExecuteErrors<Failed>) -> Fault
     match error {
         TestRunnerExecuteErrors::Report(_) => Fault::Report,
         TestRunnerExecuteErrors::NotEnabled { turn } => Fault::NotEnabled { turn },
+        TestRunnerExecuteErrors::ThirdSignal { turn } => Fault::ThirdSignal { turn },
         TestRunnerExecuteErrors::Unfinished => Fault::Unfinished,
         TestRunnerExecuteErrors::OutOfMemory => Fault::Memory,
     }

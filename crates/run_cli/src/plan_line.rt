@@ -19,6 +19,7 @@ pub fn builder_of(keys: RunnerKeys) -> TestRunnerBuilder
     if let Some(threads) = keys.threads {
         builder.set_test_threads(TestThreads::Count(threads));
     }
+    builder.set_max_fail(keys.max_fail);
     builder
 }
 

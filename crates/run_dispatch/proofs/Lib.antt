@@ -1,0 +1,3 @@
+pub mod BoardLemmas
+mod FinishLemmas
+mod SignalLemmas

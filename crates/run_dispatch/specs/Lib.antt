@@ -1,2 +1,3 @@
 pub mod Dispatch
-pub mod Delivered
+pub mod Deeds
+pub mod Timely

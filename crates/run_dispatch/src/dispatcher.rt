@@ -1,25 +1,24 @@
 // The dispatcher and its rows.
-ghost use Rattle.std.specs.Prelude.{◌≡◌, ◌+◌, ◌<◌, ◌≤◌, ◌^◌, ◌∷◌, [], length, IfOk, OnOk, OnErr, None, true, false};
-ghost use Rattle.std.specs.Prelude.{option_map, option_to_list};
-ghost use Rattle.run_events.specs.Stats.{AreBelow};
-ghost use Rattle.run_events.specs.declared.events.TestEventKind.TheVariants as kinds;
-ghost use Rattle.run_events.specs.declared.message.Message.TheVariants as messages;
+ghost use Rattle.std.specs.Prelude.{◌≡◌, ◌<◌, ◌≤◌, ◌^◌, IfOk, OnErr, None, true, false};
 ghost use Rattle.run_model.specs.Admission.{tests_in};
-ghost use Rattle.run_model.specs.Turns.{finale};
-ghost use Rattle.run_model.specs.Dispatch.{head_of, unbegun, dispatch_takes, event, having_told, told_of, go_of};
-ghost use Rattle.run_model.specs.Dispatch.{CanDeliver};
-ghost use Rattle.run_dispatch.specs.Dispatch.{state_of};
-ghost use Rattle.run_dispatch.specs.Delivered.{Delivers};
+ghost use Rattle.run_model.specs.Cancel.{time_is_up, event_refused, signal_cause};
+ghost use Rattle.run_model.specs.Dispatch.{head_of, unbegun, dispatch_takes, go_of, shuts_down, CanDeliver};
+ghost use Rattle.run_model.specs.Words.{armed};
+ghost use Rattle.run_dispatch.specs.Deeds.{Does, begins, ends, delivers, cancels};
+ghost use Rattle.run_dispatch.specs.Dispatch.{state_of, is_third};
 
-use crate::effects::{Fx, silent, telling};
-use crate::tally::{count_matched, with_finish, with_skip, with_start};
+use crate::cancel::{hear_signal, is_due, refuse, run_out, shuts_down};
+use crate::deliver::hear;
+use crate::effects::{Fx, one_event, telling};
+use crate::tally::count_matched;
 use crate::view::DispatchState;
 use run_capture::{Duplicate, Mem};
+use run_clock::PausableSleep;
 use run_events::{
-    CancelReason, Message, RunFinished, RunFinishedStats, RunStarted, RunStats, Settings,
-    TestEventKind, TestFinish, TestFinished, TestSkip, TestSlow, TestStart, TestStarted, Turn,
+    CancelReason, Message, RunFinished, RunFinishedStats, RunStarted, RunStats, Settings, Signal,
+    TestEventKind, Turn,
 };
-use run_model::{DispatcherView, Facts, Tally};
+use run_model::{CancelRules, Causes, DispatcherView, Facts, Tally};
 use std::alloc::Global;
 use std::marker::Model;
 
@@ -31,10 +30,13 @@ pub struct Dispatcher {
 
 impl Model for Dispatcher {
     ghost use Rattle.run_model.specs.declared.dispatcher_view.DispatcherView.{DispatcherView};
+    ghost use Rattle.run_dispatch.specs.Timely.{IsCurrent};
 
     ghost Value = { DispatcherView };
 
     ghost view = { λ d. d.view };
+
+    ghost invariant = { λ d. IsCurrent d.view };
 }
 
 // What is told of a run as it starts.
@@ -65,8 +67,18 @@ impl Dispatcher {
         Ok(Dispatcher {
             view: DispatcherView {
                 head,
+                rules: CancelRules {
+                    hearing: settings.plan.hearing,
+                    max_fail: settings.max_fail,
+                    global_timeout: settings.plan.global_timeout,
+                },
                 on: false,
                 over: false,
+                causes: Causes {
+                    signals: 0,
+                    reported: false,
+                    global: None,
+                },
                 tally: Tally {
                     running: 0,
                     stats: RunStats::started(0, matched),
@@ -119,129 +131,122 @@ impl Dispatcher {
     /// run's clock in nanoseconds. False for all other turns.
     pub fn enabled(&self, turn: &Turn, facts: Facts, now: u64) -> bool
         requires later { self.now.latest ≤ now }
-        ensures { result ≡ dispatch_takes self.now facts turn.now }
+        ensures { result ≡ dispatch_takes self.now facts now turn.now }
     {
-        let _now = now;
         match turn {
             Turn::Begin => !self.view.on && !self.view.over,
             Turn::Deliver => self.view.on && facts.message_waits,
+            Turn::Signal { signal } => {
+                self.view.on
+                    && shuts_down(&self.view.rules.hearing, *signal)
+                    && self.view.causes.signals < 2
+            }
+            Turn::GlobalDue => self.view.on && is_due(&self.view.causes.global, now),
+            Turn::ReportCancel => self.view.on && facts.refused && !self.view.causes.reported,
             Turn::End => self.view.on && facts.complete,
             _ => false,
         }
     }
 
-    /// Begins the run: run-started is told. As for each call at a moment of the run's clock, in nanoseconds, that
-    /// moment is no earlier than the latest before it.
+    /// Whether a turn is a shutdown signal that would be taken, but that two came before it.
+    pub fn is_third_signal(&self, turn: &Turn) -> bool
+        ensures { result ≡ is_third self.now turn.now }
+    {
+        match turn {
+            Turn::Signal { signal } => {
+                !self.view.over
+                    && self.view.on
+                    && shuts_down(&self.view.rules.hearing, *signal)
+                    && self.view.causes.signals >= 2
+            }
+            _ => false,
+        }
+    }
+
+    /// Begins the run: run-started is told, and the global timer is set. As for each call at a moment of the run's
+    /// clock, in nanoseconds, that moment is no earlier than the latest before it.
     pub fn begin(&mut self, alloc: Global, now: u64) -> Fx
         requires idle { self.old.on ≡ false }
         requires later { self.old.latest ≤ now }
-        ensures told { IfOk result (λ fx. fx ≡ record
-            { events = event now (kinds.RunStarted self.old.head) ∷ []; go = None }) }
-        ensures begun { OnOk result (self.new ≡ record self.old { on = true; latest = now }) }
+        ensures does { IfOk result (Does now self.old (begins now self.old) None self.new) }
         ensures err { OnErr result (self.new ≡ self.old) }
     {
         let head = self.view.head.copy(alloc)?;
-        let effects = telling(alloc, now, TestEventKind::RunStarted(head), None)?;
+        let events = one_event(alloc, now, TestEventKind::RunStarted(head))?;
         self.view.on = true;
+        self.view.causes.global = armed(now, self.view.rules.global_timeout);
         self.view.latest = now;
-        Ok(effects)
+        Ok(telling(events, None))
     }
 
     /// Delivers a message: a start is told and let go where nothing cancels the run; a slow report is told; a skip and
-    /// a finish are counted and told.
+    /// a finish are counted and told; and a finish may be the last failure, which cancels the run.
     pub fn deliver(&mut self, alloc: Global, message: Message, now: u64) -> Fx
         requires fits { CanDeliver self.old message }
         requires later { self.old.latest ≤ now }
-        ensures delivers { IfOk result (Delivers now self.old message self.new) }
+        ensures does { IfOk result
+            (Does now self.old (delivers now self.old message) (go_of self.old.tally message) self.new) }
         ensures err { OnErr result (self.new ≡ self.old) }
     {
-        match message {
-            Message::Start(start) => self.deliver_start(alloc, start, now),
-            Message::Slow(slow) => self.deliver_slow(alloc, slow, now),
-            Message::Skip(skip) => self.deliver_skip(alloc, skip, now),
-            Message::Finish(finish) => self.deliver_finish(alloc, finish, now),
-            _ => unreachable!(),
-        }
+        hear(alloc, &mut self.view, message, now)
     }
 
-    // A start is told and let go, unless a reason cancels the run.
-    fn deliver_start(&mut self, alloc: Global, start: TestStart, now: u64) -> Fx
-        requires { self.old.tally.running + 1 < 2 ^ 32 }
-        ensures delivers { IfOk result (Delivers now self.old (messages.Start start) self.new) }
+    /// A shutdown signal came: the first asks each child to end, and the second kills it.
+    pub fn signal(&mut self, alloc: Global, signal: Signal, now: u64) -> Fx
+        requires on { self.old.on ≡ true }
+        requires shuts_down { shuts_down self.old.rules.hearing signal ≡ true }
+        requires few { self.old.causes.signals < 2 }
+        requires later { self.old.latest ≤ now }
+        ensures does { IfOk result
+            (Does now self.old (cancels now self.old (signal_cause self.old.causes.signals signal)) None self.new) }
         ensures err { OnErr result (self.new ≡ self.old) }
     {
-        if self.view.tally.stats.cancel_reason.is_some() {
-            self.view.latest = now;
-            return Ok(silent(Some(false)));
-        }
-        let tally = with_start(self.view.tally);
-        let kind = TestEventKind::TestStarted(TestStarted {
-            start,
-            running: tally.running,
-            stats: tally.stats,
-        });
-        let effects = telling(alloc, now, kind, Some(true))?;
-        self.view.tally = tally;
-        self.view.latest = now;
-        Ok(effects)
+        hear_signal(alloc, &mut self.view, signal, now)
     }
 
-    fn deliver_slow(&mut self, alloc: Global, slow: TestSlow, now: u64) -> Fx
-        ensures delivers { IfOk result (Delivers now self.old (messages.Slow slow) self.new) }
+    /// Cancels the run since the reporter refused an event.
+    pub fn report_cancel(&mut self, alloc: Global, now: u64) -> Fx
+        requires later { self.old.latest ≤ now }
+        ensures does { IfOk result (Does now self.old (cancels now self.old event_refused) None self.new) }
         ensures err { OnErr result (self.new ≡ self.old) }
     {
-        let effects = telling(alloc, now, TestEventKind::TestSlow(slow), None)?;
-        self.view.latest = now;
-        Ok(effects)
+        refuse(alloc, &mut self.view, now)
     }
 
-    fn deliver_skip(&mut self, alloc: Global, skip: TestSkip, now: u64) -> Fx
-        requires { self.old.tally.stats.skipped < 2 ^ 32 }
-        ensures delivers { IfOk result (Delivers now self.old (messages.Skip skip) self.new) }
+    /// Cancels the run since the sub-run has run out of its time.
+    pub fn global_due(&mut self, alloc: Global, now: u64) -> Fx
+        requires later { self.old.latest ≤ now }
+        ensures does { IfOk result (Does now self.old (cancels now self.old time_is_up) None self.new) }
         ensures err { OnErr result (self.new ≡ self.old) }
     {
-        let effects = telling(alloc, now, TestEventKind::TestSkipped(skip), None)?;
-        self.view.tally = with_skip(self.view.tally);
-        self.view.latest = now;
-        Ok(effects)
-    }
-
-    fn deliver_finish(&mut self, alloc: Global, finish: TestFinish, now: u64) -> Fx
-        requires counts { AreBelow (2 ^ 32) self.old.tally.stats }
-        requires attempts { 0 < length finish.statuses }
-        requires runs { 0 < self.old.tally.running }
-        ensures delivers { IfOk result (Delivers now self.old (messages.Finish finish) self.new) }
-        ensures err { OnErr result (self.new ≡ self.old) }
-    {
-        let tally = with_finish(alloc, self.view.tally, &finish)?;
-        let kind = TestEventKind::TestFinished(TestFinished {
-            finish,
-            running: tally.running,
-            stats: tally.stats,
-        });
-        let effects = telling(alloc, now, kind, None)?;
-        self.view.tally = tally;
-        self.view.latest = now;
-        Ok(effects)
+        run_out(alloc, &mut self.view, now)
     }
 
     /// Ends the run: run-finished is told, with the statistics.
     pub fn end(&mut self, alloc: Global, now: u64) -> Fx
         requires on { self.old.on ≡ true }
         requires later { self.old.latest ≤ now }
-        ensures told { IfOk result (λ fx. fx ≡ record
-            { events = event now (finale self.old.tally.stats) ∷ []; go = None }) }
-        ensures over { OnOk result (self.new ≡ record self.old { on = false; over = true; latest = now }) }
+        ensures does { IfOk result (Does now self.old (ends now self.old) None self.new) }
         ensures err { OnErr result (self.new ≡ self.old) }
     {
         let kind = TestEventKind::RunFinished(RunFinished {
             stats: RunFinishedStats::Single(self.view.tally.stats),
             not_seen: None,
         });
-        let effects = telling(alloc, now, kind, None)?;
+        let events = one_event(alloc, now, kind)?;
         self.view.on = false;
         self.view.over = true;
         self.view.latest = now;
-        Ok(effects)
+        Ok(telling(events, None))
+    }
+}
+
+// The timer of a sub-run that begins now.
+fn armed(now: u64, timeout: Option<u64>) -> Option<PausableSleep>
+    ensures { result ≡ armed now timeout }
+{
+    match timeout {
+        Some(duration) => Some(PausableSleep::new(now, duration)),
+        None => None,
     }
 }

@@ -9,7 +9,7 @@ use Rattle.run_events.specs.declared.events.ReporterEvent.{ReporterEvent}
 use Rattle.run_events.specs.declared.turn.Turn.{Turn}
 use Rattle.run_model.specs.declared.entry.Entry.{Entry}
 use Rattle.run_model.specs.Words.{events_in}
-use Rattle.run_model.specs.Board.{Board, board, step, deed_events}
+use Rattle.run_model.specs.Board.{Board, board, step, answered, deed_events}
 use Rattle.run_model.specs.Turns.{enabled, turn_of_unit, deed_on, happening}
 use Rattle.run_model.specs.Journal.{past_of}
 use Rattle.run_laws.specs.Ready.{CanAdvance}
@@ -34,10 +34,10 @@ can_advance p journal b turn r st en =
 -- the board after a turn is that of the longer journal
 pub stands_next : (p : Settings) (journal : List Entry) (old new : Board) (turn : Turn) (refused : List Bool)
     → IsRunnable p journal → old ≡ board p (past_of p journal) → enabled p (past_of p journal) turn ≡ true
-    → new ≡ step old turn (deed_on p old turn)
+    → new ≡ answered (step old turn (deed_on p old turn)) refused
     → new ≡ board p (past_of p (journal ++ entry_of turn refused ∷ []))
 stands_next p journal old new turn refused r st en after =
-    after ∙ ap (λ b. step b turn (deed_on p b turn)) st
+    after ∙ ap (λ b. answered (step b turn (deed_on p b turn)) refused) st
     ∙ sym (board-steps p (reverse journal) (entry_of turn refused) r.legal en)
     ∙ ap (board p) (sym (past_of-push p journal (entry_of turn refused)))
 

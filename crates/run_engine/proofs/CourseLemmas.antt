@@ -1,6 +1,6 @@
 -- The answer to a list of turns goes by its course.
-use Rattle.std.proofs.Common.{◌≡◌, ℕ, ◌<◌, inl, inr, List, reverse, Bool, true, sym, is_none, Option, Some, None}
-use Rattle.std.proofs.Common.{Result, Ok, Err, refl, ap, arith, if◌then◌else◌}
+use Rattle.std.proofs.Common.{◌≡◌, ℕ, ◌<◌, inl, inr, List, reverse, Bool, true, false, sym, is_none, Option, Some, None}
+use Rattle.std.proofs.Common.{Result, Ok, Err, refl, ap, ap₂, arith}
 use Rattle.run_capture.specs.Faults.{Rose}
 use Rattle.run_events.specs.Outcome.{outcome_of, summary}
 use Rattle.run_events.specs.declared.settings.Settings.{Settings}
@@ -9,18 +9,17 @@ use Rattle.run_events.specs.declared.ask.Ask.{Ask}
 use Rattle.run_events.specs.declared.events.ReporterEvent.{ReporterEvent}
 use Rattle.run_events.specs.declared.outcome.RunOutcome.{RunOutcome}
 use Rattle.run_model.specs.declared.entry.Entry.{Entry}
-use Rattle.run_model.specs.declared.happening.Happening.{Happening}
-use Rattle.run_model.specs.Words.{is_over, sub_run, stats}
-use Rattle.run_model.specs.Journal.{past_of, IsLegal, outcome}
+use Rattle.run_model.specs.Words.{sub_run, stats}
+use Rattle.run_model.specs.Journal.{past_of, IsLegal}
 use Rattle.run_laws.specs.Course.{AreAnswersOf, refuses_none, none_refused, Stops, GoesOn, Ends, HasOneCourse}
 use Rattle.run_laws.proofs.Courses.{one_course, unrefused}
 use Rattle.run_laws.proofs.Outcomes.{over_outcome}
 use Rattle.run_laws.proofs.FateLemmas.{ended_fates, over_ended}
 use Rattle.run_engine.specs.World.{Outside, CountsErrors}
-use Rattle.run_engine.specs.Execution.{IsAnswerOf, AnswersCourse, UnlessMemory, Carries, Executes}
+use Rattle.run_engine.specs.Execution.{IsAnswerOf, IsRefusedAt, stopped_at, AnswersCourse, UnlessMemory, Carries, Executes}
 use Rattle.run_engine.specs.declared.errors.TestRunnerExecuteErrors.{TestRunnerExecuteErrors}
-use Rattle.run_engine.specs.declared.errors.TestRunnerExecuteErrors.TheVariants.{Report, NotEnabled, Unfinished}
-use Rattle.run_engine.specs.declared.errors.TestRunnerExecuteErrors.TheVariants.{OutOfMemory}
+use Rattle.run_engine.specs.declared.errors.TestRunnerExecuteErrors.TheVariants.{Report, NotEnabled, ThirdSignal}
+use Rattle.run_engine.specs.declared.errors.TestRunnerExecuteErrors.TheVariants.{Unfinished, OutOfMemory}
 
 -- an error counts as a rise, none as no rise
 risen : {E : Type 0} (a b : ℕ) (refusal : Option E) (e : E) → refusal ≡ Some e → CountsErrors a b refusal → Rose a b
@@ -35,11 +34,28 @@ stayed a b (Some d) is h lt = cc
 memory_course : {R E C : Type 0} (o : Outside R C) (p : Settings) (turns : List Turn) (refuses : ℕ → Bool)
     → AnswersCourse {E = E} o p turns refuses (Err OutOfMemory)
 memory_course o p turns refuses = record {
-  stops = λ place s. inr refl;
+  stops = λ place third s. inr refl;
   unfinished = λ g. inr refl;
   ended = λ u e calm. inr refl;
   refused = λ u e lt. inr refl;
 }
+
+-- a list of turns that stops answers where, and at what
+stopped_course : {R E C : Type 0} (o : Outside R C) (p : Settings) (turns : List Turn) (refuses : ℕ → Bool)
+    (journal : List Entry) (i : ℕ) (third : Bool) → IsLegal p journal → AreAnswersOf refuses journal
+    → IsRefusedAt p turns journal i third → AnswersCourse {E = E} o p turns refuses (Err (stopped_at i third))
+stopped_course o p turns refuses journal i third legal answers says =
+    let one : HasOneCourse p turns refuses = one_course p turns refuses in
+    let stops : Stops p turns refuses i third =
+    (journal, record { legal = legal; takes = says.0; answers = answers }, says.1) in
+    record {
+      stops = λ place t s.
+          let same : (i ≡ place) × (third ≡ t) = one.one_stop i place third t stops s in
+          inl (ap₂ (λ k t. Err (stopped_at k t)) same.0 same.1);
+      unfinished = λ g. absurd (one.stop_or_unfinished i third stops g);
+      ended = λ u e calm. absurd (one.stop_or_end i third u stops e);
+      refused = λ u e lt. absurd (one.stop_or_end i third u stops e);
+    }
 
 -- the answer goes by the course of the journal's turns
 pub course_of : {R E C : Type 0} (o : Outside R C) (p : Settings) (turns : List Turn) (refuses : ℕ → Bool)
@@ -51,7 +67,7 @@ course_of o p turns refuses journal refusal (Ok end) legal answers says counted 
     let ends : Ends p turns refuses end =
     (journal, record { legal = legal; takes = says.0; answers = answers }, says.1) in
     record {
-      stops = λ place s. absurd (one.stop_or_end place end s ends);
+      stops = λ place third s. absurd (one.stop_or_end place third end s ends);
       unfinished = λ g. absurd (one.unfinished_or_end end g ends);
       ended = λ u e calm. inl (ap Ok (one.one_end end u ends e));
       refused = λ u e lt. absurd (stayed o.faults o.faults_after refusal says.2 counted lt);
@@ -65,27 +81,21 @@ course_of o p turns refuses journal refusal (Err (Report d)) legal answers says 
       over_outcome p (past_of p journal) says.1,
     ) in
     record {
-      stops = λ place s. absurd (one.stop_or_end place end s ends);
+      stops = λ place third s. absurd (one.stop_or_end place third end s ends);
       unfinished = λ g. absurd (one.unfinished_or_end end g ends);
       ended = λ u e calm. absurd (calm (risen o.faults o.faults_after refusal d says.2 counted));
       refused = λ u e lt. inl (d, refl);
     }
 course_of o p turns refuses journal refusal (Err (NotEnabled i)) legal answers says counted =
-    let one : HasOneCourse p turns refuses = one_course p turns refuses in
-    let stops : Stops p turns refuses i =
-    (journal, record { legal = legal; takes = says.0; answers = answers }, says.1) in
-    record {
-      stops = λ place s. inl (ap (λ k. Err (NotEnabled k)) (one.one_stop i place stops s));
-      unfinished = λ g. absurd (one.stop_or_unfinished i stops g);
-      ended = λ u e calm. absurd (one.stop_or_end i u stops e);
-      refused = λ u e lt. absurd (one.stop_or_end i u stops e);
-    }
+    stopped_course o p turns refuses journal i false legal answers says
+course_of o p turns refuses journal refusal (Err (ThirdSignal i)) legal answers says counted =
+    stopped_course o p turns refuses journal i true legal answers says
 course_of o p turns refuses journal refusal (Err Unfinished) legal answers says counted =
     let one : HasOneCourse p turns refuses = one_course p turns refuses in
     let goes : GoesOn p turns refuses =
     (journal, record { legal = legal; takes = says.0; answers = answers }, says.1) in
     record {
-      stops = λ place s. absurd (one.stop_or_unfinished place s goes);
+      stops = λ place third s. absurd (one.stop_or_unfinished place third s goes);
       unfinished = λ g. inl refl;
       ended = λ u e calm. absurd (one.unfinished_or_end u goes e);
       refused = λ u e lt. absurd (one.unfinished_or_end u goes e);
@@ -117,6 +127,8 @@ executed_course tells asks o p turns (Err (Report d)) x still =
     carried_course tells asks o p turns (Err (Report d)) x still
 executed_course tells asks o p turns (Err (NotEnabled i)) x still =
     carried_course tells asks o p turns (Err (NotEnabled i)) x still
+executed_course tells asks o p turns (Err (ThirdSignal i)) x still =
+    carried_course tells asks o p turns (Err (ThirdSignal i)) x still
 executed_course tells asks o p turns (Err Unfinished) x still =
     carried_course tells asks o p turns (Err Unfinished) x still
 executed_course tells asks o p turns (Err OutOfMemory) x still = memory_course o p turns refuses_none
@@ -127,6 +139,7 @@ pub unless_weaker : {E : Type 0} (r : Result RunOutcome (TestRunnerExecuteErrors
 unless_weaker (Ok o) P Q f h = f h
 unless_weaker (Err (Report e)) P Q f h = f h
 unless_weaker (Err (NotEnabled i)) P Q f h = f h
+unless_weaker (Err (ThirdSignal i)) P Q f h = f h
 unless_weaker (Err Unfinished) P Q f h = f h
 unless_weaker (Err OutOfMemory) P Q f h = h
 

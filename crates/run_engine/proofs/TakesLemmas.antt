@@ -1,5 +1,5 @@
 -- Turns taken one after another.
-use Rattle.std.proofs.Common.{◌≡◌, ℕ, ◌+◌, ◌^◌, ◌<◌, ◌&&◌, List, [], ◌∷◌, ◌++◌, length, map, zip, take, get_or, Bool}
+use Rattle.std.proofs.Common.{◌≡◌, ℕ, ◌+◌, ◌^◌, ◌<◌, ◌&&◌, List, [], ◌∷◌, ◌++◌, length, map, zip, take, get_or, slice_get, Bool}
 use Rattle.std.proofs.Common.{not, Option, Some, None, is_none, option_to_list, refl, ap, sym, subst, ◌∙◌, arith}
 use Rattle.std.proofs.Common.{append_assoc, length-append}
 use Rattle.std.specs.List.{list_all}
@@ -14,11 +14,12 @@ use Rattle.run_model.specs.declared.entry.Entry.{Entry}
 use Rattle.run_model.specs.Words.{answers, asked, events_in}
 use Rattle.run_model.specs.Turns.{happening}
 use Rattle.run_model.specs.Journal.{past_of}
-use Rattle.run_engine.specs.World.{World, outside, flagged, earlier, first_error, TellsEvents, CountsErrors, TakesTurn}
+use Rattle.run_engine.specs.World.{World, outside, flagged, earlier, first_error, TellsEvents, CountsErrors, TakesTurn, IsUntouched}
 use Rattle.run_engine.specs.World.{entry_of}
 use Rattle.run_engine.specs.Standing.{sound}
 use Rattle.run_laws.specs.Course.{turns_of, refusals, none_refused}
-use Rattle.run_engine.specs.Execution.{TakesTurns}
+use Rattle.run_engine.specs.Execution.{TakesTurns, StopsHere}
+use Rattle.run_engine.specs.Refused.{IsNotTaken}
 use Rattle.run_laws.proofs.Courses.{refusals-append}
 use Rattle.run_laws.proofs.Ready.{past_of-length}
 use Rattle.run_engine.proofs.JournalLemmas.{past_of-push, legal-push}
@@ -114,6 +115,22 @@ takes-more tells asks faults p journal a b c d e f first later turn new so_far s
           (adds_both asks d e f (asked (past_of p journal)) _ so_far.asked step.asked);
       counted = counts_both (faults a) (faults b) (faults c) first later so_far.counted step.counted;
     })
+
+-- where the turn at a place isn't taken the turns stop there
+pub stops_here : {R E C : Type 0} (tells : R → List (ReporterEvent × Option E) → Type 0)
+    (asks : C → List (ℕ × Ask) → Type 0) (faults : R → ℕ) (p : Settings) (turns : List Turn) (was new : World)
+    (a b c : R) (d e f : C) (first : Option E) (place : ℕ) (turn : Turn) (third : Bool)
+    → TakesTurns tells asks (outside faults a b d e) p was.journal first → turns_of was.journal ≡ take place turns
+    → was ≡ sound p was.journal → slice_get turns place ≡ Some turn → IsNotTaken was turn third
+    → IsUntouched was new (outside faults b c e f)
+    → StopsHere tells asks (outside faults a c d f) p turns new.journal place third
+stops_here tells asks faults p turns was new a b c d e f first place turn third so_far all is at refused same =
+    let stays : IsNotTaken (sound p was.journal) turn third =
+    subst (λ (w : World). IsNotTaken w turn third) is refused in
+    subst (λ (w : World). StopsHere tells asks (outside faults a c d f) p turns w.journal place third) (sym same.0)
+    (subst (λ r. StopsHere tells asks (outside faults a r d f) p turns was.journal place third) (sym same.1)
+    (subst (λ g. StopsHere tells asks (outside faults a b d g) p turns was.journal place third) (sym same.2)
+    ((first, so_far), (all, (turn, at, stays.0, stays.1)))))
 
 -- the turns of a journal with one more entry
 pub turns-push : (journal : List Entry) (turns : List Turn) (place : ℕ) (turn d : Turn) (refused : List Bool)

@@ -12,7 +12,7 @@ use Rattle.run_events.specs.declared.plan.Group.{Group}
 use Rattle.run_events.specs.declared.plan.PlanTest.{PlanTest}
 use Rattle.run_events.specs.declared.plan.TestInstanceId.{TestInstanceId}
 use Rattle.run_events.specs.declared.settings.Settings.{Settings}
-use Rattle.run_events.specs.declared.retry_policy.MaxFail.TheVariants.{All}
+use Rattle.run_events.specs.declared.retry_policy.MaxFail.{MaxFail}
 use Rattle.run_events.specs.declared.retry_policy.TestThreads.{TestThreads}
 use Rattle.run_events.specs.declared.retry_policy.TestThreads.TheVariants.{Count}
 use Rattle.run_commands.specs.declared.interceptor.Interceptor.TheVariants as interceptors
@@ -25,6 +25,7 @@ use Rattle.run_engine.specs.declared.errors.TestRunnerBuildError.TheVariants.{Ze
 pub record Builder : Type 0 where
   pub capture : CaptureStrategy
   pub threads : Option ℕ
+  pub max_fail : MaxFail
 
 -- the number of threads that is set
 abbrev pub count_of : TestThreads → ℕ
@@ -45,7 +46,7 @@ settings_of builder plan = record {
   plan = plan;
   capture = builder.capture;
   threads = threads_of builder;
-  max_fail = All;
+  max_fail = builder.max_fail;
   stress = None;
   interceptor = interceptors.None;
   expected = None;

@@ -14,14 +14,14 @@ use Rattle.run_model.specs.Fates.{HaveFates}
 use Rattle.run_model.specs.Turns.{enabled}
 use Rattle.run_model.specs.Journal.{past_of, outcome}
 use Rattle.run_capture.specs.Faults.{Rose}
-use Rattle.run_laws.specs.Course.{turns_of, none_refused, AreAnswersOf, Stops, GoesOn, Ends}
+use Rattle.run_laws.specs.Course.{turns_of, is_third, none_refused, AreAnswersOf, Stops, GoesOn, Ends}
 use Rattle.run_engine.specs.World.{Outside, TellsEvents, CountsErrors}
 use Rattle.run_engine.specs.Standing.{IsRunnable}
 use Rattle.run_engine.specs.declared.runner.Stop.{Stop}
 use Rattle.run_engine.specs.declared.runner.Stop.TheVariants as stops
 use Rattle.run_engine.specs.declared.errors.TestRunnerExecuteErrors.{TestRunnerExecuteErrors}
-use Rattle.run_engine.specs.declared.errors.TestRunnerExecuteErrors.TheVariants.{Report, NotEnabled, Unfinished}
-use Rattle.run_engine.specs.declared.errors.TestRunnerExecuteErrors.TheVariants.{OutOfMemory}
+use Rattle.run_engine.specs.declared.errors.TestRunnerExecuteErrors.TheVariants.{Report, NotEnabled, ThirdSignal}
+use Rattle.run_engine.specs.declared.errors.TestRunnerExecuteErrors.TheVariants.{Unfinished, OutOfMemory}
 
 -- a run of this plan has taken the turns of a journal: the reporter has told its events and the children were asked
 -- its asks, in order, and nothing else; the refusal is the reporter's first error, and there is one where an event was
@@ -35,6 +35,12 @@ pub record TakesTurns {R E C : Type 0} (tells : R → List (ReporterEvent × Opt
   pub asked : Adds asks o.children o.children_after (asked (past_of p journal))
   pub counted : CountsErrors o.faults o.faults_after refusal
 
+-- the turns before a place were taken, and the turn there isn't enabled after them, and is a third signal or not
+abbrev pub IsRefusedAt : Settings → List Turn → List Entry → ℕ → Bool → Type 0
+IsRefusedAt p turns journal place third = (turns_of journal ≡ take place turns) × ((turn : Turn)
+    × (slice_get turns place ≡ Some turn) × (enabled p (past_of p journal) turn ≡ false)
+    × (is_third p (past_of p journal) turn ≡ third))
+
 -- what each answer says of the turns given, the journal of the call and the reporter's first error
 abbrev pub IsAnswerOf : {E : Type 0} → Settings → List Turn → List Entry → Option E
     → Result RunOutcome (TestRunnerExecuteErrors E) → Type 0
@@ -42,9 +48,8 @@ IsAnswerOf p turns journal refusal (Ok o) =
     (turns_of journal ≡ turns) × (outcome p (past_of p journal) ≡ Some o) × (refusal ≡ None)
 IsAnswerOf p turns journal refusal (Err (Report e)) =
     (turns_of journal ≡ turns) × (is_over (past_of p journal) ≡ true) × (refusal ≡ Some e)
-IsAnswerOf p turns journal refusal (Err (NotEnabled i)) =
-    (turns_of journal ≡ take i turns) × ((turn : Turn) × (slice_get turns i ≡ Some turn)
-    × (enabled p (past_of p journal) turn ≡ false))
+IsAnswerOf p turns journal refusal (Err (NotEnabled i)) = IsRefusedAt p turns journal i false
+IsAnswerOf p turns journal refusal (Err (ThirdSignal i)) = IsRefusedAt p turns journal i true
 IsAnswerOf p turns journal refusal (Err Unfinished) =
     (turns_of journal ≡ turns) × (is_over (past_of p journal) ≡ false)
 IsAnswerOf p turns journal refusal (Err OutOfMemory) = ⊤
@@ -54,15 +59,21 @@ abbrev pub UnlessMemory : {E : Type 0} → Result RunOutcome (TestRunnerExecuteE
 UnlessMemory (Ok o) fact = fact
 UnlessMemory (Err (Report e)) fact = fact
 UnlessMemory (Err (NotEnabled i)) fact = fact
+UnlessMemory (Err (ThirdSignal i)) fact = fact
 UnlessMemory (Err Unfinished) fact = fact
 UnlessMemory (Err OutOfMemory) fact = ⊤
+
+-- the answer to turns that stop at a place, at a third signal or at another turn
+abbrev pub stopped_at : {E : Type 0} → ℕ → Bool → TestRunnerExecuteErrors E
+stopped_at place true = ThirdSignal place
+stopped_at place false = NotEnabled place
 
 -- what each course of the turns with a reporter answers, unless memory was wanting: it stops, it leaves the run
 -- unfinished, or it ends the run, where the reporter's count of faults stayed or rose
 pub record AnswersCourse {R E C : Type 0} (o : Outside R C) (p : Settings) (turns : List Turn) (refuses : ℕ → Bool)
     (answer : Result RunOutcome (TestRunnerExecuteErrors E)) : Type 0 where
-  pub stops : (place : ℕ) → Stops p turns refuses place
-      → (answer ≡ Err (NotEnabled place)) ⊎ (answer ≡ Err OutOfMemory)
+  pub stops : (place : ℕ) (third : Bool) → Stops p turns refuses place third
+      → (answer ≡ Err (stopped_at place third)) ⊎ (answer ≡ Err OutOfMemory)
   pub unfinished : GoesOn p turns refuses → (answer ≡ Err Unfinished) ⊎ (answer ≡ Err OutOfMemory)
   pub ended : (outcome : RunOutcome) → Ends p turns refuses outcome → ¬ Rose o.faults o.faults_after
       → (answer ≡ Ok outcome) ⊎ (answer ≡ Err OutOfMemory)
@@ -90,11 +101,15 @@ pub record Executes {R E C : Type 0} (tells : R → List (ReporterEvent × Optio
   pub course : (refuses : ℕ → Bool) → AreAnswersOf refuses call.journal → AnswersCourse o p turns refuses answer
 
 -- a list of turns stops where the turn at that place isn't enabled after the turns before it
+abbrev pub StopsHere : {R E C : Type 0} → (R → List (ReporterEvent × Option E) → Type 0)
+    → (C → List (ℕ × Ask) → Type 0) → Outside R C → Settings → List Turn → List Entry → ℕ → Bool → Type 0
+StopsHere {R} {E} tells asks o p turns journal place third =
+    ((refusal : Option E) × TakesTurns tells asks o p journal refusal) × IsRefusedAt p turns journal place third
+
 abbrev pub StopsAt : {R E C : Type 0} → (R → List (ReporterEvent × Option E) → Type 0) → (C → List (ℕ × Ask) → Type 0)
     → Outside R C → Settings → List Turn → List Entry → Stop → Type 0
-StopsAt {R} {E} tells asks o p turns journal (stops.NotEnabled i) =
-    ((refusal : Option E) × TakesTurns tells asks o p journal refusal) × (turns_of journal ≡ take i turns)
-    × ((turn : Turn) × (slice_get turns i ≡ Some turn) × (enabled p (past_of p journal) turn ≡ false))
+StopsAt tells asks o p turns journal (stops.NotEnabled i) = StopsHere tells asks o p turns journal i false
+StopsAt tells asks o p turns journal (stops.ThirdSignal i) = StopsHere tells asks o p turns journal i true
 StopsAt tells asks o p turns journal stops.OutOfMemory = ⊤
 
 -- what is answered at the end of all turns, by the run's outcome and the reporter's first error

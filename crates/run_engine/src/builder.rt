@@ -13,16 +13,20 @@ use run_commands::Interceptor;
 use run_events::{Group, MaxFail, Plan, PlanTest, Settings, TestThreads};
 use std::alloc::Global;
 use std::collections::BTreeSet;
+use std::fmt;
+use std::fmt::{Debug, Write};
 use std::marker::Model;
 
 // The most groups that refusals can number. A plan of more takes over 100 GB.
 const MOST_GROUPS: usize = 4_294_967_295;
 
-/// What is set of a runner beside its plan: how the output of tests is captured, and how many tests run at a time.
-#[derive(Debug, Drop)]
+/// What is set of a runner beside its plan: how the output of tests is captured, how many tests run at a time, and
+/// after how many failures no test starts any more.
+#[derive(Drop)]
 pub struct TestRunnerBuilder {
     capture: CaptureStrategy,
     threads: Option<u32>,
+    max_fail: MaxFail,
 }
 
 impl Model for TestRunnerBuilder {
@@ -30,20 +34,28 @@ impl Model for TestRunnerBuilder {
 
     ghost Value = { Builder };
 
-    ghost view = { λ b. record { capture = b.capture; threads = b.threads } };
+    ghost view = { λ b. record { capture = b.capture; threads = b.threads; max_fail = b.max_fail } };
 }
 
-/// Each stream is captured by itself, and the number of threads is unset.
+impl Debug for TestRunnerBuilder {
+    fn fmt<W: Write>(&self, f: &mut fmt::Formatter<W>) -> fmt::Result {
+        f.write_str("TestRunnerBuilder { .. }")
+    }
+}
+
+/// Each stream is captured by itself, the number of threads is unset, and all tests run, whatever fails.
 impl Default for TestRunnerBuilder {
     ghost use Rattle.std.specs.Prelude.{◌≡◌, None};
     ghost use Rattle.run_capture.specs.declared.test_output.CaptureStrategy.TheVariants as strategies;
+    ghost use Rattle.run_events.specs.declared.retry_policy.MaxFail.TheVariants.{All};
 
-    ghost is_default = { λ b. b ≡ record { capture = strategies.Split; threads = None } };
+    ghost is_default = { λ b. b ≡ record { capture = strategies.Split; threads = None; max_fail = All } };
 
     fn default() -> Self {
         TestRunnerBuilder {
             capture: CaptureStrategy::Split,
             threads: None,
+            max_fail: MaxFail::All,
         }
     }
 }
@@ -66,6 +78,15 @@ impl TestRunnerBuilder {
     {
         let TestThreads::Count(count) = threads;
         self.threads = Some(count);
+        self
+    }
+
+    /// Sets after how many failures no test starts any more, and what becomes then of those that run.
+    pub fn set_max_fail(&mut self, max_fail: MaxFail) -> &mut Self
+        ensures same { result.ghost_name ≡ self.entry.ghost_name }
+        ensures set { result.now ≡ record self.old { max_fail = max_fail } }
+    {
+        self.max_fail = max_fail;
         self
     }
 
@@ -104,7 +125,7 @@ impl TestRunnerBuilder {
                 plan,
                 capture: self.capture,
                 threads,
-                max_fail: MaxFail::All,
+                max_fail: self.max_fail,
                 stress: None,
                 interceptor: Interceptor::None,
                 expected: None,

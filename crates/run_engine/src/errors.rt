@@ -8,6 +8,10 @@ pub enum StepError {
     /// The turn isn't enabled. The run is unchanged.
     #[error("the turn is not enabled")]
     NotEnabled,
+    /// The turn is a shutdown signal that would be taken, but that two came before it in this sub-run. The run is
+    /// unchanged.
+    #[error("a third shutdown signal")]
+    ThirdSignal,
     /// The journal has 4,294,967,295 entries. The run is unchanged.
     #[error("the journal is full")]
     Full,
@@ -44,6 +48,9 @@ pub enum TestRunnerExecuteErrors<E> {
     /// The turn at this place, from 0, is the first that isn't enabled.
     #[error("turn {turn} is not enabled")]
     NotEnabled { turn: u64 },
+    /// The same, and the turn is a shutdown signal that would be taken, but that two came before it in its sub-run.
+    #[error("turn {turn} is a third shutdown signal")]
+    ThirdSignal { turn: u64 },
     /// Each turn is enabled, and the run isn't over after the last.
     #[error("the run is not over")]
     Unfinished,

@@ -10,7 +10,7 @@ ghost use Rattle.run_model.specs.Journal.{past_of, IsLegal, outcome};
 ghost use Rattle.run_model.specs.Admission.{units_in};
 ghost use Rattle.run_model.specs.Turns.{enabled, enabled_on, turn_of_unit, deed_on};
 ghost use Rattle.run_model.specs.Words.{is_over};
-ghost use Rattle.run_model.specs.Board.{board, step, deed_events};
+ghost use Rattle.run_model.specs.Board.{board, step, answered, deed_events};
 ghost use Rattle.run_engine.specs.World.{TakesTurn, TellsEvents, CountsErrors, IsUntouched, Breaks, outside};
 ghost use Rattle.run_engine.specs.World.{history_of};
 ghost use Rattle.run_state.specs.Held.{IsSeated, held};
@@ -82,7 +82,8 @@ fn make_room(journal: &mut Vec<Entry>) -> Mem<u64>
     Ok(place)
 }
 
-// Does what an enabled turn does to the state, the children and the reporter, and makes room for it in the journal.
+// Does what an enabled turn does to the state, the children and the reporter, whose answers the state hears, and makes
+// room for it in the journal.
 fn act<C: Children, R: Reporter>(
     alloc: Global,
     settings: &Settings,
@@ -98,8 +99,8 @@ fn act<C: Children, R: Reporter>(
     requires seated { IsSeated settings.now state.old }
     requires few { units_in settings.now < 2 ^ 32 }
     requires short { length journal.old.items < 2 ^ 32 }
-    ensures after { OnOk result (state.new.board
-        ≡ step state.old.board turn.now (deed_on settings.now state.old.board turn.now)) }
+    ensures after { IfOk result (λ t. state.new.board
+        ≡ answered (step state.old.board turn.now (deed_on settings.now state.old.board turn.now)) t.refused) }
     ensures seated { OnOk result (IsSeated settings.now state.new) }
     ensures asked { OnOk result (Adds C.asked children.old children.new
         (map (λ ask. (length journal.old.items, ask))
@@ -118,7 +119,9 @@ fn act<C: Children, R: Reporter>(
         return Err(OutOfMemory);
     };
     let effects = advance(alloc, settings, state, turn, named)?;
-    send(alloc, place, effects, children, report)
+    let told = send(alloc, place, effects, children, report)?;
+    state.hear_answers(told.refused.as_slice());
+    Ok(told)
 }
 
 // Takes an enabled turn: the state moves, what it asks and tells goes out, and the journal grows. The answer is the
@@ -181,7 +184,12 @@ fn named_if_enabled(
         return Err(StepError::OutOfMemory);
     };
     if !is_enabled(settings, state, turn, &named) {
-        return Err(StepError::NotEnabled);
+        drop(named);
+        return Err(if state.is_third_signal(turn) {
+            StepError::ThirdSignal
+        } else {
+            StepError::NotEnabled
+        });
     }
     Ok(named)
 }

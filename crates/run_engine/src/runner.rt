@@ -57,6 +57,8 @@ impl Debug for TestRunner {
 pub enum Stop {
     /// The turn at this place isn't enabled.
     NotEnabled { turn: u64 },
+    /// The turn at this place is a third shutdown signal.
+    ThirdSignal { turn: u64 },
     OutOfMemory,
 }
 
@@ -105,6 +107,7 @@ fn take_all<C: Children, R: Reporter>(
         match take_copy(alloc, run, turn, children, report) {
             Ok(refusal) => first = first_of(first, refusal),
             Err(StepError::NotEnabled) => return Err(Stop::NotEnabled { turn: place as u64 }),
+            Err(StepError::ThirdSignal) => return Err(Stop::ThirdSignal { turn: place as u64 }),
             Err(StepError::Full) => unreachable!(),
             Err(StepError::OutOfMemory) => return Err(Stop::OutOfMemory),
         }
@@ -141,6 +144,7 @@ fn run_all<C: Children, R: Reporter>(
     match take_all(alloc, run, turns, children, report) {
         Ok(refusal) => answer(run, refusal),
         Err(Stop::NotEnabled { turn }) => Err(TestRunnerExecuteErrors::NotEnabled { turn }),
+        Err(Stop::ThirdSignal { turn }) => Err(TestRunnerExecuteErrors::ThirdSignal { turn }),
         Err(Stop::OutOfMemory) => Err(TestRunnerExecuteErrors::OutOfMemory),
     }
 }
@@ -191,7 +195,8 @@ impl TestRunner {
     }
 
     /// Carries out the turns of a run, fewer than 2^32. The reporter is told each event, also after it refused one. The
-    /// answer is the outcome of a run that is over; else the first turn that isn't enabled, or that the run isn't over,
+    /// answer is the outcome of a run that is over; else the first turn that isn't enabled, as a third shutdown signal
+    /// where it is one, or that the run isn't over,
     /// or
     /// the reporter's first error in a run that is over. What was told and asked by then stands after each of these;
     /// after

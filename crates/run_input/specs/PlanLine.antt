@@ -17,7 +17,13 @@ use Rattle.run_events.specs.declared.result.SlowTimeoutResult.{SlowTimeoutResult
 use Rattle.run_events.specs.declared.result.SlowTimeoutResult.TheVariants as timeouts
 use Rattle.run_events.specs.declared.result.LeakTimeoutResult.{LeakTimeoutResult}
 use Rattle.run_events.specs.declared.result.LeakTimeoutResult.TheVariants as leaks
-use Rattle.run_events.specs.Usual.{usual_slow, usual_leak, usual_test, usual_plan}
+use Rattle.run_events.specs.declared.retry_policy.MaxFail.{MaxFail}
+use Rattle.run_events.specs.declared.retry_policy.MaxFail.TheVariants.{All, Count}
+use Rattle.run_events.specs.declared.retry_policy.TerminateMode.{TerminateMode}
+use Rattle.run_events.specs.declared.retry_policy.TerminateMode.TheVariants as modes
+use Rattle.run_events.specs.declared.signal.SignalHandlerKind.{SignalHandlerKind}
+use Rattle.run_events.specs.declared.signal.SignalHandlerKind.TheVariants as handlers
+use Rattle.run_events.specs.Usual.{usual_slow, usual_leak, usual_hearing, usual_test, usual_plan}
 use Rattle.run_input.specs.declared.plan_line.RunnerKeys.{RunnerKeys}
 use Rattle.run_input.specs.Fields.{◌>>=◌, when, is_object_of, optional, or_usual, u32_of, u64_of, texts_of}
 use lib.Pointwise.{pointwise}
@@ -33,12 +39,49 @@ capture_named name =
 abbrev pub capture_of : Data → Option CaptureStrategy
 capture_of d = option_and_then capture_named (as_str d)
 
--- what the keys of a plan line set of a runner: output is captured split where nothing else is said
+-- what a text says of the tests that run where too many have failed
+abbrev pub terminate_named : List ℕ → Option TerminateMode
+terminate_named name =
+    if pointwise nat_eq name (codes "wait") then Some modes.Wait
+    else if pointwise nat_eq name (codes "immediate") then Some modes.Immediate
+    else None
+
+abbrev pub terminate_of : Data → Option TerminateMode
+terminate_of d = option_and_then terminate_named (as_str d)
+
+-- after how many failures no test starts any more, and what becomes then of those that run
+unfoldable pub max_fail_of : Data → Option MaxFail
+max_fail_of d = do
+  _ ← when (is_object_of (codes "count" ∷ codes "mode" ∷ []) d)
+  count ← option_and_then u32_of (get (codes "count") d)
+  mode ← option_and_then terminate_of (get (codes "mode") d)
+  Some (Count count mode)
+
+-- what the keys of a plan line set of a runner: where nothing else is said output is captured split, and all tests run
 abbrev pub keys_of : Data → Option RunnerKeys
 keys_of d = do
   capture ← or_usual capture.Split capture_of (get (codes "capture") d)
   threads ← optional u32_of (get (codes "threads") d)
-  Some (record { capture = capture; threads = threads })
+  max_fail ← or_usual All max_fail_of (get (codes "max_fail") d)
+  Some (record { capture = capture; threads = threads; max_fail = max_fail })
+
+-- the signals that a text names
+abbrev pub signals_named : List ℕ → Option SignalHandlerKind
+signals_named name =
+    if pointwise nat_eq name (codes "standard") then Some handlers.Standard
+    else if pointwise nat_eq name (codes "debugger") then Some handlers.DebuggerMode
+    else if pointwise nat_eq name (codes "noop") then Some handlers.Noop
+    else None
+
+abbrev pub signals_of : Data → Option SignalHandlerKind
+signals_of d = option_and_then signals_named (as_str d)
+
+-- which signals a run hears, all of them where nothing is said, and how long it may take
+abbrev pub rules_of : Data → Option (SignalHandlerKind × Option ℕ)
+rules_of d = do
+  signals ← or_usual handlers.Standard signals_of (get (codes "signals") d)
+  global_timeout ← optional u64_of (get (codes "global_timeout") d)
+  Some (signals, global_timeout)
 
 -- a group, with its limit
 unfoldable pub group_of : Data → Option Group
@@ -165,18 +208,21 @@ plan_groups_of d = do
   _ ← when (nat_lt (length groups) 4294967296)
   Some groups
 
--- a plan of these groups and tests
-abbrev pub plan_with : List ℕ → Option Data → Option Data → Option Plan
-plan_with run_id groups tests = do
+-- a plan with these rules, of these groups and tests
+abbrev pub plan_with : List ℕ → SignalHandlerKind × Option ℕ → Option Data → Option Data → Option Plan
+plan_with run_id rules groups tests = do
   groups ← plan_groups_of groups
   tests ← plan_tests_of tests
-  Some (record (usual_plan run_id tests) { groups = groups })
+  Some (record (usual_plan run_id tests)
+      { hearing = record usual_hearing { signals = rules.0 }; global_timeout = rules.1; groups = groups })
 
 -- a plan line: what it sets of a runner, and its plan
 unfoldable pub plan_of : Data → Option (RunnerKeys × Plan)
 plan_of d = do
-  _ ← when (is_object_of (codes "capture" ∷ codes "groups" ∷ codes "run_id" ∷ codes "tests" ∷ codes "threads" ∷ []) d)
+  _ ← when (is_object_of (codes "capture" ∷ codes "global_timeout" ∷ codes "groups" ∷ codes "max_fail" ∷ codes "run_id"
+      ∷ codes "signals" ∷ codes "tests" ∷ codes "threads" ∷ []) d)
   keys ← keys_of d
+  rules ← rules_of d
   run_id ← option_and_then run_id_of (get (codes "run_id") d)
-  plan ← plan_with run_id (get (codes "groups") d) (get (codes "tests") d)
+  plan ← plan_with run_id rules (get (codes "groups") d) (get (codes "tests") d)
   Some (keys, plan)

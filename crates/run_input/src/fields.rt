@@ -45,6 +45,16 @@ pub fn u64_or(usual: u64, value: Option<&Value>) -> Option<u64>
     }
 }
 
+/// A whole number from 0 to 18446744073709551615 that may be missing.
+pub fn optional_u64_at(value: Option<&Value>) -> Option<Option<u64>>
+    ensures { result ≡ optional u64_of (option_map (λ v. view v.now) value.entry) }
+{
+    match value {
+        Some(_) => Some(Some(u64_at(value)?)),
+        None => Some(None),
+    }
+}
+
 /// A truth value.
 pub fn truth_at(value: Option<&Value>) -> Option<bool>
     ensures { result ≡ option_and_then truth_of (option_map (λ v. view v.now) value.entry) }

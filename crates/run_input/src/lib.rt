@@ -10,6 +10,7 @@ mod input;
 mod laws;
 mod lines;
 mod objects;
+mod plan_keys;
 mod plan_line;
 mod plan_test;
 mod reading;

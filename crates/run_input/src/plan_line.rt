@@ -1,23 +1,23 @@
 // The plan line: the first line of an input.
 ghost use Rattle.std.specs.Prelude.{◌≡◌, [], option_map, option_and_then};
-ghost use Rattle.run_capture.specs.declared.test_output.CaptureStrategy.TheVariants as capture;
 ghost use Rattle.serde_json.specs.Find.{as_str};
 ghost use Rattle.serde_json.specs.View.{view, items_view};
 ghost use Rattle.run_input.specs.ReadsValue.{ReadsValue};
 ghost use Rattle.run_input.specs.ValueOf.{value_of};
 ghost use Rattle.uuid.specs.Text.{parsed};
-ghost use Rattle.run_input.specs.PlanLine.{uuid_of, capture_of, run_id_of, tests_of, tests_from};
+ghost use Rattle.run_input.specs.PlanLine.{uuid_of, run_id_of, tests_of, tests_from, rules_of};
 ghost use Rattle.run_input.specs.PlanLine.{plan_tests_of, plan_of, keys_of, plan_with, plan_groups_of, group_of};
 ghost use Rattle.run_input.specs.PlanLine.{groups_of, groups_from};
 ghost use Rattle.run_input.specs.Fields.{or_usual};
 
 use crate::LineError;
-use crate::fields::{optional_u32_at, str_at, text_at, u32_at};
+use crate::fields::{optional_u32_at, optional_u64_at, str_at, text_at, u32_at};
 use crate::objects::has_keys_of;
+use crate::plan_keys::{capture_at, max_fail_at, signals_at};
 use crate::plan_test::test_from;
 use crate::value::read_value;
 use run_capture::{CaptureStrategy, List};
-use run_events::{Group, Plan, PlanTest};
+use run_events::{Group, MaxFail, Plan, PlanTest, SignalHandlerKind};
 use serde_json::Value;
 use std::alloc::Global;
 use uuid::Uuid;
@@ -28,16 +28,19 @@ pub struct RunnerKeys {
     pub capture: CaptureStrategy,
     /// How much may run at a time, where it is given.
     pub threads: Option<u32>,
+    pub max_fail: MaxFail,
 }
 
 /// Reads a plan line: what it sets of a runner, and its plan.
 ///
 /// Its keys are `run_id` (a UUID) and `tests` (a list of tests, which may be empty), and it may have `capture` (the
-/// text `none`, `split` or `combined`; `split` where it is missing), `threads` (a number) and `groups` (a list of
-/// groups). A group has `limit` (a number) and `name`. A test has `binary`, `command` and `name`, and may have `group`
-/// (the name of one), `leak`, `skip` (the reason for which it is skipped), `slow` and `weight` (a number, 1 where it is
-/// missing). `slow` may have `grace`, `on_timeout` (the text `fail` or `pass`), `period` and `terminate_after`, and
-/// `leak` may have `period` and `result` (the text `fail` or `pass`); what is missing is as usual.
+/// text `none`, `split` or `combined`; `split` where it is missing), `threads` (a number), `max_fail`, `signals` (the
+/// text `standard`, `debugger` or `noop`; `standard` where it is missing), `global_timeout` (a number) and `groups` (a
+/// list of groups). `max_fail` has `count` (a number) and `mode` (the text `wait` or `immediate`). A group has `limit`
+/// (a number) and `name`. A test has `binary`, `command` and `name`, and may have `group` (the name of one), `leak`,
+/// `skip` (the reason for which it is skipped), `slow` and `weight` (a number, 1 where it is missing). `slow` may have
+/// `grace`, `on_timeout` (the text `fail` or `pass`), `period` and `terminate_after`, and `leak` may have `period` and
+/// `result` (the text `fail` or `pass`); what is missing is as usual.
 pub fn read_plan_line(alloc: Global, line: &[u8]) -> Result<(RunnerKeys, Plan), LineError>
     ensures { ReadsValue result (option_and_then plan_of (value_of line.now)) }
 {
@@ -54,12 +57,31 @@ const MOST: usize = 4_294_967_295;
 fn plan_from(alloc: Global, value: &Value) -> Result<(RunnerKeys, Plan), LineError>
     ensures { ReadsValue result (plan_of (view value.now)) }
 {
-    if !has_keys_of(value, &["capture", "groups", "run_id", "tests", "threads"]) {
+    if !has_keys_of(
+        value,
+        &[
+            "capture",
+            "global_timeout",
+            "groups",
+            "max_fail",
+            "run_id",
+            "signals",
+            "tests",
+            "threads",
+        ],
+    ) {
         return Err(LineError::NotInTable);
     }
     let keys = runner_keys(value).ok_or(LineError::NotInTable)?;
+    let rules = rules_from(value).ok_or(LineError::NotInTable)?;
     let run_id = run_id_at(value.get("run_id")).ok_or(LineError::NotInTable)?;
-    let plan = plan_with(alloc, run_id, value.get("groups"), value.get("tests"))?;
+    let plan = plan_with(
+        alloc,
+        run_id,
+        rules,
+        value.get("groups"),
+        value.get("tests"),
+    )?;
     Ok((keys, plan))
 }
 
@@ -69,44 +91,38 @@ fn runner_keys(value: &Value) -> Option<RunnerKeys>
 {
     let capture = capture_at(value.get("capture"))?;
     let threads = optional_u32_at(value.get("threads"))?;
-    Some(RunnerKeys { capture, threads })
+    let max_fail = max_fail_at(value.get("max_fail"))?;
+    Some(RunnerKeys {
+        capture,
+        threads,
+        max_fail,
+    })
 }
 
-// The way of capture that a text names, and split where there is none.
-fn capture_at(value: Option<&Value>) -> Option<CaptureStrategy>
-    ensures { result ≡ or_usual capture.Split capture_of (option_map (λ v. view v.now) value.entry) }
+// Which signals a run hears, and how long it may take.
+fn rules_from(value: &Value) -> Option<(SignalHandlerKind, Option<u64>)>
+    ensures { result ≡ rules_of (view value.now) }
 {
-    match value {
-        Some(_) => named_capture(value),
-        None => Some(CaptureStrategy::Split),
-    }
+    let signals = signals_at(value.get("signals"))?;
+    let global_timeout = optional_u64_at(value.get("global_timeout"))?;
+    Some((signals, global_timeout))
 }
 
-fn named_capture(value: Option<&Value>) -> Option<CaptureStrategy>
-    ensures { result ≡ option_and_then capture_of (option_map (λ v. view v.now) value.entry) }
-{
-    match str_at(value)? {
-        "none" => Some(CaptureStrategy::None),
-        "split" => Some(CaptureStrategy::Split),
-        "combined" => Some(CaptureStrategy::Combined),
-        _ => None,
-    }
-}
-
-// A plan of these groups and tests.
+// A plan with these rules, of these groups and tests.
 fn plan_with(
     alloc: Global,
     run_id: Uuid,
+    rules: (SignalHandlerKind, Option<u64>),
     groups: Option<&Value>,
     tests: Option<&Value>,
 ) -> Result<Plan, LineError>
-    ensures { ReadsValue result (plan_with run_id (option_map (λ v. view v.now) groups.entry)
+    ensures { ReadsValue result (plan_with run_id rules (option_map (λ v. view v.now) groups.entry)
         (option_map (λ v. view v.now) tests.entry)) }
 {
     let groups = groups_of_plan(alloc, groups)?;
     let tests = tests_of_plan(alloc, tests)?;
     let plan = Plan::usual(alloc, run_id, tests)?;
-    Ok(grouped(plan, groups))
+    Ok(set(plan, rules, groups))
 }
 
 // The groups of a plan, which are fewer than 2^32.
@@ -121,11 +137,13 @@ fn groups_of_plan(alloc: Global, value: Option<&Value>) -> Result<List<Group>, L
     }
 }
 
-// A plan with these groups.
-fn grouped(plan: Plan, groups: List<Group>) -> Plan
-    ensures { result ≡ record plan { groups = groups } }
+// A plan with these rules and groups.
+fn set(plan: Plan, rules: (SignalHandlerKind, Option<u64>), groups: List<Group>) -> Plan
+    ensures { result ≡ record plan
+        { hearing = record plan.hearing { signals = rules.0 }; global_timeout = rules.1; groups = groups } }
 {
     let mut plan = plan;
+    (plan.hearing.signals, plan.global_timeout) = rules;
     plan.groups = groups;
     plan
 }

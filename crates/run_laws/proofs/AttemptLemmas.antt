@@ -1,29 +1,31 @@
 -- The attempts of a unit are what its own turns made them.
-use Rattle.std.proofs.Common.{◌≡◌, ℕ, ◌≤◌, List, [], ◌∷◌, true, false}
+use Rattle.std.proofs.Common.{◌≡◌, ℕ, ◌≤◌, List, [], ◌∷◌, ◌++◌, Bool, true, false}
 use Rattle.std.proofs.Common.{if◌then◌else◌, Option, Some, None, option_map, refl, sym, subst}
 use Rattle.std.proofs.Common.{arith}
 use Rattle.run_capture.specs.Captured.{with_wait_error}
+use Rattle.run_events.specs.declared.request.Request.{Request}
 use Rattle.run_model.specs.declared.phase.Phase.{Phase}
 use Rattle.run_model.specs.declared.phase.Phase.TheVariants.{StartSent, Starting, Running, Grace, KillWait, Leak}
 use Rattle.run_model.specs.declared.phase.Phase.TheVariants.{Deciding, Over}
 use Rattle.run_model.specs.declared.unit_turn.UnitTurn.{UnitTurn}
 use Rattle.run_model.specs.declared.unit_turn.UnitTurn.TheVariants.{Answered, Started, StartFailed, Exit, WaitFailed}
-use Rattle.run_model.specs.declared.unit_turn.UnitTurn.TheVariants.{Piece, StreamEnd, ReadError, Due, Decide}
+use Rattle.run_model.specs.declared.unit_turn.UnitTurn.TheVariants.{Piece, StreamEnd, ReadError, Due, Take, Decide}
 use Rattle.run_model.specs.declared.unit_view.AttemptTerms.{AttemptTerms}
 use Rattle.run_model.specs.declared.unit_view.UnitView.{UnitView}
 use Rattle.run_model.specs.Unit.{at_moment, row, row_at, takes, takes_at}
-use Rattle.run_model.specs.Unit.{let_go, decided}
-use Rattle.run_model.specs.Story.{OwnTurn, begins_attempt, with_turn, pieces}
+use Rattle.run_model.specs.Unit.{let_go, decided, is_live, reach}
+use Rattle.run_model.specs.Story.{OwnTurn, request_of, begins_attempt, with_turn, pieces}
 use Rattle.run_model.specs.Attempts.{attempt_in, start_in}
 use Rattle.run_laws.proofs.CaptureLemmas.{taken, captured_first}
 use Rattle.run_laws.proofs.TimerLemmas.{timer_first}
 use Rattle.run_laws.proofs.PieceLemmas.{quiet_said}
 use Rattle.run_laws.proofs.GoingLemmas.{past_refused}
 use Rattle.run_laws.proofs.GoingLemmas.{past_decided}
-use Rattle.run_laws.proofs.MadeLemmas.{later_pieces}
+use Rattle.run_laws.proofs.MadeLemmas.{later_pieces, made_lined}
 use Rattle.run_laws.proofs.RowLemmas.{made_more, exit_made, heard_running, heard_made, started_made}
-use Rattle.run_laws.proofs.DueLemmas.{leaked_made, killed_made, slow_made}
-pub use Rattle.run_laws.proofs.MadeLemmas.{HasPieces, IsMade, made_first, made_statuses, made_due}
+use Rattle.run_laws.proofs.DueLemmas.{leaked_made, killed_due, slow_made}
+use Rattle.run_laws.proofs.RequestLemmas.{take_running, take_grace, take_leak}
+pub use Rattle.run_laws.proofs.MadeLemmas.{HasPieces, IsMade, made_first, made_statuses, made_ended, made_due}
 
 -- the pieces after one more turn
 abbrev pub more : OwnTurn → List (List OwnTurn) → List (List OwnTurn)
@@ -33,7 +35,7 @@ more t ps = if begins_attempt t.turn then (t ∷ []) ∷ ps else with_turn t ps
 row_made : (now : ℕ) (ph : Phase) (turn : UnitTurn) (before u : UnitView) (ps : List (List OwnTurn))
     → before.timers ≡ u.timers → takes_at now ph before turn ≡ true → u.phase ≡ ph → now ≤ u.latest
     → u.attempt ≡ attempt_in ps → u.timers.stopwatch.start ≡ start_in ps → HasPieces u.terms ph u ps
-    → IsMade u.terms (row_at now ph turn u).next (more (taken now turn) ps)
+    → IsMade u.terms (row_at now ph turn u).next (more (taken now turn (request_of turn u.line)) ps)
 row_made now StartSent (Answered true) before u [] same en is le a st h = record {
   attempt = a;
   start = refl;
@@ -65,9 +67,11 @@ row_made now StartSent (Answered false) before u [] same en is le a st h = recor
 row_made now Starting (Started pid) before u (piece ∷ earlier) same en is le a st (on, ss) =
     started_made now pid u piece earlier le a (on, ss)
 row_made now Starting (StartFailed error) before u (piece ∷ earlier) same en is le a st (on, ss) =
-    made_more (row_at now Starting (StartFailed error) u).next Deciding (taken now (StartFailed error)) piece earlier refl
+    made_more (row_at now Starting (StartFailed error) u).next Deciding (taken now (StartFailed error) None) piece earlier refl
     a (simp quiet_said st) (past_refused now error None u piece earlier on a ss)
 row_made now Running Due before u (piece ∷ earlier) same en is le a st h = slow_made now u piece earlier is le (rw same at en) a h
+row_made now Running Take before u (piece ∷ earlier) same en is le a st h =
+    take_running now u.line u piece earlier is le a h
 row_made now Running (Exit exit) before u (piece ∷ earlier) same en is le a st h =
     exit_made Running now (Some exit) u.capture (Exit exit) u piece earlier le a h refl refl refl refl refl
 row_made now Running (WaitFailed error) before u (piece ∷ earlier) same en is le a st h =
@@ -79,7 +83,8 @@ row_made now Running (StreamEnd stream) before u (piece ∷ earlier) same en is 
     heard_running Running now (StreamEnd stream) u piece earlier (λ h. h) is a h refl refl refl refl refl refl
 row_made now Running (ReadError stream error) before u (piece ∷ earlier) same en is le a st h =
     heard_running Running now (ReadError stream error) u piece earlier (λ h. h) is a h refl refl refl refl refl refl
-row_made now Grace Due before u (piece ∷ earlier) same en is le a st h = killed_made now u piece earlier a h
+row_made now Grace Due before u (piece ∷ earlier) same en is le a st h = killed_due now u piece earlier a h
+row_made now Grace Take before u (piece ∷ earlier) same en is le a st h = take_grace now u.line u piece earlier is a h
 row_made now Grace (Exit exit) before u (piece ∷ earlier) same en is le a st h =
     exit_made Grace now (Some exit) u.capture (Exit exit) u piece earlier le a h refl refl refl refl refl
 row_made now Grace (WaitFailed error) before u (piece ∷ earlier) same en is le a st h =
@@ -102,9 +107,10 @@ row_made now Leak (StreamEnd stream) before u (piece ∷ earlier) same en is le 
     heard_made now (StreamEnd stream) u piece earlier is a h refl refl refl refl refl refl
 row_made now Leak (ReadError stream error) before u (piece ∷ earlier) same en is le a st h =
     heard_made now (ReadError stream error) u piece earlier is a h refl refl refl refl refl refl
+row_made now Leak Take before u (piece ∷ earlier) same en is le a st h = take_leak now u.line u piece earlier is a h
 row_made now Leak Due before u (piece ∷ earlier) same en is le a st h = leaked_made now u piece earlier a h
 row_made now Deciding (Decide word) before u (piece ∷ earlier) same en is le a st h =
-    made_more (decided u).next Over (taken now (Decide word)) piece earlier refl a (simp quiet_said st)
+    made_more (decided u).next Over (taken now (Decide word) None) piece earlier refl a (simp quiet_said st)
     (past_decided now word u piece earlier h)
 row_made now StartSent turn before u (piece ∷ ps) same en is le a st h = absurd h
 row_made now Starting turn before u [] same en is le a st h = absurd h
@@ -123,15 +129,31 @@ IsMadeIf terms (Some u) story = IsMade terms u (pieces story)
 -- a row keeps the attempts of a unit what its own turns make them
 pub row_made_if : (terms : AttemptTerms) (now : ℕ) (turn : UnitTurn) (u : UnitView) (v : Option UnitView)
     (story : List OwnTurn) → v ≡ Some u → takes now u turn ≡ true → u.latest ≤ now → IsMadeIf terms v story
-    → IsMadeIf terms (option_map (λ w. (row now turn w).next) v) (record { moment = now; turn = turn } ∷ story)
+    → IsMadeIf terms (option_map (λ w. (row now turn w).next) v)
+    (record { moment = now; turn = turn; request = request_of turn u.line } ∷ story)
 row_made_if terms now turn u v story is en le h = rw is (by_terms (rw is at h))
   where
     after : UnitView
     after = at_moment now u
 
-    by_terms : IsMade terms u (pieces story) → IsMade terms (row now turn u).next (more (taken now turn) (pieces story))
+    after_turn : List (List OwnTurn)
+    after_turn = more (taken now turn (request_of turn u.line)) (pieces story)
+
+    by_terms : IsMade terms u (pieces story) → IsMade terms (row now turn u).next after_turn
     by_terms made =
-        subst (λ terms. IsMade terms (row now turn u).next (more (taken now turn) (pieces story))) made.terms
+        subst (λ terms. IsMade terms (row now turn u).next after_turn) made.terms
         (row_made now u.phase turn u after (pieces story) refl en refl (omega arith) made.attempt made.start
         (later_pieces u.terms now u.phase u (pieces story) le
         (subst (λ terms. HasPieces terms u.phase u (pieces story)) (sym made.terms) made.has)))
+
+-- a request that reaches its line says nothing of its attempts
+pub reach_made_if : (terms : AttemptTerms) (request : Option Request) (v : Option UnitView) (story : List OwnTurn)
+    → IsMadeIf terms v story → IsMadeIf terms (reach request v) story
+reach_made_if terms None v story h = h
+reach_made_if terms (Some request) None story h = h
+reach_made_if terms (Some request) (Some u) story h = by_live (is_live u.phase)
+  where
+    by_live : (b : Bool)
+        → IsMade terms (if b then record u { line = u.line ++ request ∷ [] } else u) (pieces story)
+    by_live true = made_lined terms (u.line ++ request ∷ []) u (pieces story) h
+    by_live false = h

@@ -165,3 +165,21 @@ acts_last now j turn run u seat is en goes named below k = by_unit (j == k) refl
         subst (λ s. IsBelow s (board_seat run k))
         (sym (row_others now u.phase turn (at_moment now u) seat k refl (takes_moment now u.phase u turn en) apart))
         (below k)
+
+-- a unit whose start is refused gives its seat back: the last seats stay below the board's where it is in none of them
+pub acts_refused : (now j : ℕ) (run : List Happening) (u : UnitView) (seat : ℕ → Seat)
+    → unit_of j run ≡ Some u → u.phase ≡ StartSent → seat j ≡ Gone → AreLower seat (board_seat run)
+    → AreLower (at_last seat (option_to_list (row now (Answered false) u).sent))
+    (seat_after now (Some (Acts j (Answered false))) run)
+acts_refused now j run u seat is waits gone below k = by_unit (j == k) refl
+  where
+    quiet : at_last seat (option_to_list (row now (Answered false) u).sent) k ≡ seat k
+    quiet = ap (λ ph. at_last seat (option_to_list (row_at now ph (Answered false) (at_moment now u)).sent) k) waits
+
+    by_unit : (b : Bool) → (j == k) ≡ b
+        → IsBelow (at_last seat (option_to_list (row now (Answered false) u).sent) k)
+        (seat_of (if b then option_map (λ v. (row now (Answered false) v).next) (unit_of k run) else unit_of k run))
+    by_unit true e used =
+        let here : k ≡ j = grind arith in
+        let never : false ≡ true = sym (ap is_in_use (quiet ∙ ap seat here ∙ gone)) ∙ used in cc
+    by_unit false e used = subst (λ s. IsBelow s (board_seat run k)) (sym quiet) (below k) used

@@ -1,22 +1,25 @@
 -- The board after one more turn: a field at a time.
 use Rattle.std.proofs.Common.{◌≡◌, ◌≢◌, ◌⊎◌, inl, inr, ℕ, add-zero, ◌+◌, ◌<◌, ◌==◌, ◌||◌, List, [], ◌∷◌, ◌++◌, length, get_or, set}
 use Rattle.std.proofs.Common.{Bool, true, false, if◌then◌else◌, Option, Some, None, option_map, option_to_list}
-use Rattle.std.proofs.Common.{filter_map, count_by, sum_by, cond, refl, ap, sym, ◌∙◌, arith, get_or-set_other}
+use Rattle.std.proofs.Common.{filter_map, count_by, sum_by, cond, refl, ap, sym, subst, ◌∙◌, arith, get_or-set_other}
 use Rattle.std.proofs.Math.ListN.{length-set}
-use Rattle.std.proofs.lemmas.List.{append-nil}
+use Rattle.std.proofs.lemmas.List.{append-nil, append_assoc, get_or-map, length-map}
 use Rattle.std.proofs.lemmas.List.Elements.{filter_map-append}
 use Rattle.std.proofs.lemmas.List.FromFn.{fill_by_all}
 use Rattle.std.proofs.lemmas.Grind.{get_or-set_at}
-use Rattle.std.proofs.lemmas.List.Sums.{sum_by-append}
+use Rattle.std.proofs.lemmas.List.Sums.{sum_by-append, sum_by-cons}
 use Rattle.run_events.specs.Cancel.{greater}
 use Rattle.run_events.specs.Stats.{FinishedTest, adds_of, total_by}
 use Rattle.run_events.proofs.StatsLemmas.{total_push}
 use Rattle.run_events.specs.declared.settings.Settings.{Settings}
+use Rattle.run_events.specs.declared.turn.Turn.{Turn}
 use Rattle.run_events.specs.declared.cancel.CancelReason.{CancelReason}
+use Rattle.run_events.specs.declared.request.Request.{Request}
 use Rattle.run_events.specs.declared.events.ReporterEvent.{ReporterEvent}
 use Rattle.run_events.specs.declared.events.ReporterEvent.TheVariants.{Tick, Test}
 use Rattle.run_events.specs.declared.events.TestEventKind.{TestEventKind}
-use Rattle.run_events.specs.declared.events.TestEventKind.TheVariants.{TestStarted, TestFinished, TestSkipped}
+use Rattle.run_events.specs.declared.events.TestEventKind.TheVariants.{RunBeginCancel, RunBeginKill, TestStarted, TestFinished}
+use Rattle.run_events.specs.declared.events.TestEventKind.TheVariants.{TestSkipped}
 use Rattle.run_model.specs.declared.dispatcher_view.Tally.{Tally}
 use Rattle.run_model.specs.declared.entry.Entry.{Entry}
 use Rattle.run_model.specs.declared.happening.Happening.{Happening}
@@ -25,17 +28,21 @@ use Rattle.run_model.specs.declared.happening.UnitPart.TheVariants.{Joins, Acts}
 use Rattle.run_model.specs.declared.unit_view.UnitView.{UnitView}
 use Rattle.run_model.specs.Unit.{row}
 use Rattle.run_model.specs.Words.{clock, ns_of, is_over, sub_run, told, reason, unit_after, unit_of, units, finish_of}
-use Rattle.run_model.specs.Words.{finished_test, skips, stats_after, tally}
+use Rattle.run_model.specs.Words.{finished_test, skips, stats_after, tally, was_refused, is_by_signal, is_by_report}
+use Rattle.run_model.specs.Words.{is_by_time, signals_heard, was_reported, armed, global_timer, causes_of}
 use Rattle.run_model.specs.Admission.{units_in}
-use Rattle.run_model.specs.Dispatch.{tallied, having_told}
-use Rattle.run_model.specs.Board.{Deed, deed_events, board, said, units_after, step}
+use Rattle.run_model.specs.Unit.{reached, reach}
+use Rattle.run_model.specs.Dispatch.{rules_of, tallied, having_told}
+use Rattle.run_model.specs.Board.{Board, Deed, deed_events, board, said, units_after, reach_all, causes_after, with_cause}
+use Rattle.run_model.specs.Board.{step, answered}
 use Rattle.run_model.specs.Turns.{nothing_done, enabled, deed_on, happening}
 use Rattle.run_model.specs.Journal.{history, IsLegalBackward}
 use Rattle.run_laws.proofs.Queue.{queue-cons}
 use Rattle.run_laws.proofs.Running.{running_in_told, running-started, running-finished, running-kept}
 use Rattle.run_laws.proofs.OnBoard.{board_of, units-length, units-at}
+use Rattle.run_laws.proofs.Cancels.{IsCancel, IsCancelKind, cancel_is}
 use Rattle.run_laws.proofs.Deeds.{ToldFits, ToldFitsIn, Does}
-use Rattle.run_laws.proofs.Kept.{greater-None, HoldsAfter, does_after, IsOfRun, IsBeforeRuns, where_joins, holds}
+use Rattle.run_laws.proofs.Kept.{HoldsAfter, does_after, IsOfRun, IsBeforeRuns, where_joins, holds}
 
 -- the list of units after a part, at one of them
 at_part : (now : ℕ) (part : Option UnitPart) (us : List (Option UnitView)) (k : ℕ) → k < length us
@@ -67,17 +74,33 @@ length-units_after now None us = refl
 length-units_after now (Some (Joins first)) us = length-set us first.test.unit (Some first)
 length-units_after now (Some (Acts j turn)) us = length-set us j _
 
+-- and after a broadcast
+at_reach : (request : Option Request) (us : List (Option UnitView)) (k : ℕ) → k < length us
+    → get_or (reach_all request us) k None ≡ reach request (get_or us k None)
+at_reach None us k h = refl
+at_reach (Some request) us k h = get_or-map (option_map (reached request)) us k None None h
+
+length-reach_all : (request : Option Request) (us : List (Option UnitView))
+    → length (reach_all request us) ≡ length us
+length-reach_all None us = refl
+length-reach_all (Some request) us = length-map us (option_map (reached request))
+
 -- the units after one more turn
 units-cons : (p : Settings) (x : Happening) (run : List Happening)
-    → units_after x.moment x.part (units p run) ≡ units p (x ∷ run)
+    → reach_all x.request (units_after x.moment x.part (units p run)) ≡ units p (x ∷ run)
 units-cons p x run =
-    fill_by_all (λ k. unit_of k (x ∷ run)) (units_after x.moment x.part (units p run)) (units_in p) None
-    (length-units_after x.moment x.part (units p run) ∙ units-length p run)
-    (λ k h. at_part x.moment x.part (units p run) k (omega (arith, units-length p run))
-    ∙ ap (unit_after x.moment k x.part) (units-at p run k h))
+    fill_by_all (λ k. unit_of k (x ∷ run)) (reach_all x.request (units_after x.moment x.part (units p run))) (units_in p)
+    None
+    (length-reach_all x.request (units_after x.moment x.part (units p run)) ∙ moved)
+    (λ k h. at_reach x.request (units_after x.moment x.part (units p run)) k (omega (arith, moved))
+    ∙ ap (reach x.request) (at_part x.moment x.part (units p run) k (omega (arith, units-length p run))
+    ∙ ap (unit_after x.moment k x.part) (units-at p run k h)))
+  where
+    moved : length (units_after x.moment x.part (units p run)) ≡ units_in p
+    moved = length-units_after x.moment x.part (units p run) ∙ units-length p run
 
 -- what a dispatcher counts, by the events that were told
-abbrev counts : Settings → Option CancelReason → List ReporterEvent → Tally
+abbrev pub counts : Settings → Option CancelReason → List ReporterEvent → Tally
 counts p why events = record {
   running = running_in_told (units_in p) events;
   stats = stats_after p why (count_by skips events) (filter_map finish_of events);
@@ -126,7 +149,7 @@ same_counts a b running stats =
     ∙ ap (λ s. record { running = b.running; stats = s }) stats
 
 -- so what is counted after one more event is what the dispatcher makes of it
-counts-more : (p : Settings) (why : Option CancelReason) (o : Option ReporterEvent) (es : List ReporterEvent)
+pub counts-more : (p : Settings) (why : Option CancelReason) (o : Option ReporterEvent) (es : List ReporterEvent)
     → ToldFits (units_in p) es o
     → counts p why (es ++ option_to_list o) ≡ having_told (counts p why es) o
 counts-more p why None es fits = ap (counts p why) (append-nil es)
@@ -145,17 +168,59 @@ counts-more p why (Some (Test e)) es fits =
     ∙ stats_one p why (count_by skips es) e.clock e.elapsed (running_in_told (units_in p) es) e.kind
     (filter_map finish_of es))
 
+-- a cause sets the reason of the statistics alone
+stats-cause : (p : Settings) (why cause : Option CancelReason) (n : ℕ) (fs : List FinishedTest)
+    → stats_after p (greater why cause) n fs
+    ≡ record (stats_after p why n fs) { cancel_reason = greater (stats_after p why n fs).cancel_reason cause }
+unfolding total_by
+stats-cause p why cause n fs = refl
+
+counts-cause : (p : Settings) (why cause : Option CancelReason) (es : List ReporterEvent)
+    → counts p (greater why cause) es ≡ with_cause cause (counts p why es)
+counts-cause p why cause es =
+    ap (λ s. record { running = running_in_told (units_in p) es; stats = s })
+    (stats-cause p why cause (count_by skips es) (filter_map finish_of es))
+
+-- an event that the run is cancelled counts nothing
+cancel_fits : (n : ℕ) (es : List ReporterEvent) (o : Option ReporterEvent) → IsCancel o → ToldFits n es o
+cancel_fits n es None h = tt
+cancel_fits n es (Some Tick) h = absurd h
+cancel_fits n es (Some (Test e)) h = by_kind e.kind h
+  where
+    by_kind : (kind : TestEventKind) → IsCancelKind kind → ToldFitsIn n es kind
+    by_kind (RunBeginCancel cancelled) h = tt
+    by_kind (RunBeginKill cancelled) h = tt
+    by_kind kind h = absurd h
+
 -- what is counted after one more deed
 tally-cons : (p : Settings) (over : Bool) (now : ℕ) (run : List Happening) (e : Entry) (d : Deed)
     → Does p over now run d
-    → tally p (said now e d ∷ run) ≡ having_told (having_told (tally p run) d.told) d.cancel
+    → tally p (said now e d ∷ run) ≡ with_cause d.cause (having_told (having_told (tally p run) d.told) d.cancel)
 tally-cons p over now run e d does =
-    ap (λ why. counts p why (told run ++ deed_events d))
-    (ap (greater (reason run)) does.marks.cause ∙ greater-None (reason run))
-    ∙ ap (λ c. counts p (reason run) (told run ++ (option_to_list d.told ++ option_to_list c))) does.marks.cancel
-    ∙ ap (λ es. counts p (reason run) (told run ++ es)) (append-nil (option_to_list d.told))
-    ∙ counts-more p (reason run) d.told (told run) does.tells
-    ∙ ap (having_told (having_told (tally p run) d.told)) (sym does.marks.cancel)
+    counts-cause p (reason run) d.cause (told run ++ deed_events d)
+    ∙ ap (with_cause d.cause)
+    (ap (counts p (reason run)) (sym (append_assoc (told run) (option_to_list d.told) (option_to_list d.cancel)))
+    ∙ counts-more p (reason run) d.cancel (told run ++ option_to_list d.told)
+    (cancel_fits (units_in p) (told run ++ option_to_list d.told) d.cancel
+    (subst IsCancel (sym does.marks.cancel) (cancel_is now (having_told (tally p run) d.told) d.cause)))
+    ∙ ap (λ t. having_told t d.cancel) (counts-more p (reason run) d.told (told run) does.tells))
+
+-- what cancels the run after one more deed
+causes-cons : (p : Settings) (now : ℕ) (run : List Happening) (e : Entry) (d : Deed)
+    → causes_of p (said now e d ∷ run) ≡ causes_after now (rules_of p) (causes_of p run) d
+causes-cons p now run e d =
+    ap (λ n. record {
+      signals = n;
+      reported = is_by_report d.cause || was_reported run;
+      global =
+          if d.begins then armed now p.plan.global_timeout
+          else if is_by_time d.cause then None
+          else global_timer p run;
+    }) (sum_by-cons (λ (x : Happening). cond (is_by_signal x.cause) 1 0) (said now e d) run
+    ∙ one_first (cond (is_by_signal d.cause) 1 0) (signals_heard run))
+  where
+    one_first : (a b : ℕ) → a + b ≡ b + a
+    one_first a b = omega arith
 
 -- the board after one more deed
 board-cons : (p : Settings) (over : Bool) (now : ℕ) (run : List Happening) (e : Entry) (d : Deed)
@@ -165,29 +230,57 @@ board-cons p over now run e d does =
     rw (
       sym (units-cons p (said now e d) run),
       queue-cons (said now e d) run does.room,
-      tally-cons p over now run e d
-          does,
+      tally-cons p over now run e d does,
+      causes-cons p now run e d,
     ) refl
+
+-- where nothing has begun, a turn that does nothing moves the clock alone
+greater-none : (r : Option CancelReason) → greater r None ≡ r
+greater-none None = refl
+greater-none (Some r) = refl
+
+pub with_cause-none : (t : Tally) → with_cause None t ≡ t
+with_cause-none t =
+    ap (λ r. record t { stats = record t.stats { cancel_reason = r } }) (greater-none t.stats.cancel_reason)
+
+idle_step : (p : Settings) (over : Bool) (now : ℕ) (turn : Turn)
+    → board_of p over (now + ns_of turn) [] ≡ step (board_of p over now []) turn nothing_done
+idle_step p over now turn =
+    ap (λ t. record (board_of p over (now + ns_of turn) []) {
+      dispatcher = record (board_of p over now []).dispatcher { tally = t };
+    }) (sym (with_cause-none (tally p [])))
 
 -- so each enabled turn after a history that holds moves the board by its step
 board_step : (p : Settings) (past : List Happening) (e : Entry) → HoldsAfter p past → enabled p past e.turn ≡ true
-    → board p (happening p past e ∷ past) ≡ step (board p past) e.turn (deed_on p (board p past) e.turn)
-board_step p past e h en = by_run (where_joins p past e h en)
+    → board p (happening p past e ∷ past)
+    ≡ answered (step (board p past) e.turn (deed_on p (board p past) e.turn)) e.refused
+board_step p past e h en =
+    ap (λ (b : Board). record b { refused = was_refused (happening p past e ∷ past) })
+    (by_run (where_joins p past e h en))
   where
+    d : Deed
+    d = deed_on p (board p past) e.turn
+
+    before : List Happening → Board
+    before run = board_of p (is_over past) (clock past) run
+
+    after : List Happening → Board
+    after run = board_of p (d.over || is_over past) (clock past + ns_of e.turn) run
+
     by_run : IsOfRun p past e ⊎ IsBeforeRuns p past e
-        → board p (happening p past e ∷ past) ≡ step (board p past) e.turn (deed_on p (board p past) e.turn)
+        → after (sub_run (happening p past e ∷ past)) ≡ step (before (sub_run past)) e.turn d
     by_run (inl of) =
-        ap (board_of p (is_over (happening p past e ∷ past)) (clock (happening p past e ∷ past))) of.joins
-        ∙ board-cons p (is_over past) (clock past) (sub_run past) e (deed_on p (board p past) e.turn)
-        (does_after p past e h en)
-    by_run (inr before) =
-        ap (board_of p (is_over (happening p past e ∷ past)) (clock (happening p past e ∷ past))) before.still
-        ∙ ap (λ (d : Deed). board_of p (d.over || is_over past) (clock past + ns_of e.turn) []) before.idle
-        ∙ ap (λ run. step (board_of p (is_over past) (clock past) run) e.turn nothing_done) (sym before.none)
-        ∙ ap (step (board p past) e.turn) (sym before.idle)
+        ap after of.joins
+        ∙ board-cons p (is_over past) (clock past) (sub_run past) e d (does_after p past e h en)
+    by_run (inr idle) =
+        ap after idle.still
+        ∙ ap (λ (d : Deed). board_of p (d.over || is_over past) (clock past + ns_of e.turn) []) idle.idle
+        ∙ idle_step p (is_over past) (clock past) e.turn
+        ∙ ap (λ run. step (before run) e.turn nothing_done) (sym idle.none)
+        ∙ ap (step (before (sub_run past)) e.turn) (sym idle.idle)
 
 pub board-steps : (p : Settings) (backward : List Entry) (e : Entry) → IsLegalBackward p backward
     → enabled p (history p backward) e.turn ≡ true
     → board p (happening p (history p backward) e ∷ history p backward)
-    ≡ step (board p (history p backward)) e.turn (deed_on p (board p (history p backward)) e.turn)
+    ≡ answered (step (board p (history p backward)) e.turn (deed_on p (board p (history p backward)) e.turn)) e.refused
 board-steps p backward e legal en = board_step p (history p backward) e (holds p backward legal) en

@@ -4,7 +4,8 @@ use Rattle.run_events.specs.declared.settings.Settings.{Settings}
 use Rattle.run_events.specs.declared.turn.Turn.{Turn}
 use Rattle.run_events.specs.declared.turn.Turn.TheVariants.{Begin, Admit, Deliver, Started, StartFailed, Exit}
 use Rattle.run_events.specs.declared.turn.Turn.TheVariants.{WaitFailed, Piece, StreamEnd, ReadError, Decide, UnitDue}
-use Rattle.run_events.specs.declared.turn.Turn.TheVariants.{Clock, End}
+use Rattle.run_events.specs.declared.turn.Turn.TheVariants.{Take, Clock, GlobalDue, Signal, ReportCancel, End}
+use Rattle.run_events.specs.declared.signal.Signal.{Signal as SignalName}
 use Rattle.run_model.specs.declared.unit_turn.UnitTurn.{UnitTurn}
 use Rattle.run_model.specs.declared.unit_turn.UnitTurn.TheVariants.{Answered}
 use Rattle.run_model.specs.Board.{Board}
@@ -25,6 +26,9 @@ pub record Cases (P : Turn → Option (ℕ × UnitTurn) → Type 0) : Type 0 whe
   pub admit : P Admit None
   pub deliver : P Deliver None
   pub clock : (ns : ℕ) → P (Clock ns) None
+  pub signal : (signal : SignalName) → P (Signal signal) None
+  pub global_due : P GlobalDue None
+  pub report_cancel : P ReportCancel None
   pub end : P End None
   pub named : (turn : Turn) (k : ℕ) (to : UnitTurn) → is_answer to ≡ false → P turn (Some (k, to))
   pub unbuilt : (turn : Turn) → IsUnbuilt turn → P turn None
@@ -41,7 +45,11 @@ by_turn P c (Piece unit stream bytes) = c.named _ _ _ refl
 by_turn P c (StreamEnd unit stream) = c.named _ _ _ refl
 by_turn P c (ReadError unit stream error) = c.named _ _ _ refl
 by_turn P c (UnitDue unit) = c.named _ _ _ refl
+by_turn P c (Take unit) = c.named _ _ _ refl
 by_turn P c (Decide unit word) = c.named _ _ _ refl
 by_turn P c (Clock ns) = c.clock ns
+by_turn P c (Signal signal) = c.signal signal
+by_turn P c GlobalDue = c.global_due
+by_turn P c ReportCancel = c.report_cancel
 by_turn P c End = c.end
 by_turn P c turn = c.unbuilt turn (λ p b. refl)

@@ -4,6 +4,7 @@ use Rattle.std.proofs.Common.{get_or, slice_get, Bool, true, false, not, if◌th
 use Rattle.std.proofs.Common.{sym, subst, ◌∙◌, arith, length-append}
 use Rattle.std.specs.List.{list_all}
 use Rattle.std.specs.Cmp.{second_so}
+use Rattle.std.proofs.lemmas.Option.{same_Some}
 use Rattle.std.proofs.lemmas.List.{append-nil, append_assoc, reverse-append, reverse-reverse, map-append}
 use Rattle.std.proofs.lemmas.List.{get_or_append_left, get_or-append-add, ext_get_or}
 use Rattle.run_events.specs.Outcome.{outcome_of, summary}
@@ -15,7 +16,7 @@ use Rattle.run_model.specs.declared.happening.Happening.{Happening}
 use Rattle.run_model.specs.Words.{events_in, is_over, sub_run, stats}
 use Rattle.run_model.specs.Turns.{enabled, happening}
 use Rattle.run_model.specs.Journal.{history, past_of, IsLegalBackward, outcome}
-use Rattle.run_laws.specs.Course.{turns_of, refusals, none_refused, refuses_none, AreAnswersOf, IsJournalOf, Stops}
+use Rattle.run_laws.specs.Course.{is_third, turns_of, refusals, none_refused, refuses_none, AreAnswersOf, IsJournalOf, Stops}
 use Rattle.run_laws.specs.Course.{HasOneCourse}
 
 pub refusals-append : (journal later : List Entry) → refusals (journal ++ later) ≡ refusals journal ++ refusals later
@@ -131,11 +132,12 @@ legal_at p [] older e legal = (legal.2, legal.0)
 legal_at p (d ∷ newer) older e legal = legal_at p newer older e legal.2
 
 -- turns that a journal takes past a place don't stop there
-passes : (p : Settings) (turns longer : List Turn) (refuses : ℕ → Bool) (place : ℕ) (journal : List Entry)
+passes : (p : Settings) (turns longer : List Turn) (refuses : ℕ → Bool) (place : ℕ) (third : Bool)
+    (journal : List Entry)
     → IsJournalOf p longer refuses journal
     → slice_get longer place ≡ slice_get turns place → take place longer ≡ take place turns
-    → Stops p turns refuses place → ⊥
-passes p turns longer refuses place journal j at same (other, o, (turn, here, refused)) =
+    → Stops p turns refuses place third → ⊥
+passes p turns longer refuses place third journal j at same (other, o, (turn, here, refused, is)) =
     let split = split_at journal place turn (ap (λ ts. slice_get ts place) j.takes ∙ at ∙ here) in
     let backward : reverse journal ≡ reverse split.after ++ split.entry ∷ reverse split.before =
     ap reverse split.whole ∙ reverse-append split.before (split.entry ∷ split.after)
@@ -170,10 +172,10 @@ fewer_first (x ∷ xs) a zero lt = absurd (omega arith)
 fewer_first (x ∷ xs) zero (suc b) lt = refl
 fewer_first (x ∷ xs) (suc a) (suc b) lt = ap (λ ys. x ∷ ys) (fewer_first xs a b (omega arith))
 
-passes_first : (p : Settings) (turns : List Turn) (refuses : ℕ → Bool) (a b : ℕ) → a < b → Stops p turns refuses a
-    → Stops p turns refuses b → ⊥
-passes_first p turns refuses a b lt first (journal, j, rest) =
-    passes p turns (take b turns) refuses a journal j (first_take turns a b lt) (fewer_first turns a b lt) first
+passes_first : (p : Settings) (turns : List Turn) (refuses : ℕ → Bool) (a b : ℕ) (s t : Bool) → a < b
+    → Stops p turns refuses a s → Stops p turns refuses b t → ⊥
+passes_first p turns refuses a b s t lt first (journal, j, rest) =
+    passes p turns (take b turns) refuses a s journal j (first_take turns a b lt) (fewer_first turns a b lt) first
 
 -- a run with an outcome is over, and it has one
 outcome_if : Settings → List Happening → Bool → Option RunOutcome
@@ -183,9 +185,10 @@ pub one_course : (p : Settings) (turns : List Turn) (refuses : ℕ → Bool) →
 unfolding outcome_if
 one_course p turns refuses = record {
   one_journal = one_journal p turns refuses;
-  one_stop = λ a b s t. by_part a b s t (nat_lt a b) refl;
-  stop_or_unfinished = λ a s g. passes p turns turns refuses a g.0 g.1 refl refl s;
-  stop_or_end = λ a o s e. passes p turns turns refuses a e.0 e.1 refl refl s;
+  one_stop = λ a b s t one two. let here = by_part a b s t one two (nat_lt a b) refl in
+      (here, same_kind a b s t here one two);
+  stop_or_unfinished = λ a s stop g. passes p turns turns refuses a s g.0 g.1 refl refl stop;
+  stop_or_end = λ a s o stop e. passes p turns turns refuses a s e.0 e.1 refl refl stop;
   unfinished_or_end = λ o g e.
       let one : e.0 ≡ g.0 = one_journal p turns refuses g.0 e.0 g.1 e.1 in
       let over : is_over (past_of p e.0) ≡ false = ap (λ es. is_over (past_of p es)) one ∙ g.2 in
@@ -195,14 +198,25 @@ one_course p turns refuses = record {
       let same : Some u ≡ Some o = sym e.2 ∙ ap (λ es. outcome p (past_of p es)) one ∙ d.2 in cc;
 }
   where
-    by_other : (a b : ℕ) → Stops p turns refuses a → Stops p turns refuses b → (c : Bool) → nat_lt b a ≡ c
-        → nat_lt a b ≡ false → a ≡ b
-    by_other a b s t true lt ge = absurd (passes_first p turns refuses b a (grind arith) t s)
-    by_other a b s t false lt ge = grind arith
+    by_other : (a b : ℕ) (s t : Bool) → Stops p turns refuses a s → Stops p turns refuses b t → (c : Bool)
+        → nat_lt b a ≡ c → nat_lt a b ≡ false → a ≡ b
+    by_other a b s t one two true lt ge = absurd (passes_first p turns refuses b a t s (grind arith) two one)
+    by_other a b s t one two false lt ge = grind arith
 
-    by_part : (a b : ℕ) → Stops p turns refuses a → Stops p turns refuses b → (c : Bool) → nat_lt a b ≡ c → a ≡ b
-    by_part a b s t true lt = absurd (passes_first p turns refuses a b (grind arith) s t)
-    by_part a b s t false ge = by_other a b s t (nat_lt b a) refl ge
+    by_part : (a b : ℕ) (s t : Bool) → Stops p turns refuses a s → Stops p turns refuses b t → (c : Bool)
+        → nat_lt a b ≡ c → a ≡ b
+    by_part a b s t one two true lt = absurd (passes_first p turns refuses a b s t (grind arith) one two)
+    by_part a b s t one two false ge = by_other a b s t one two (nat_lt b a) refl ge
+
+    same_kind : (a b : ℕ) (s t : Bool) → a ≡ b → Stops p turns refuses a s → Stops p turns refuses b t → s ≡ t
+    same_kind a b s t here (journal, j, (turn, at, off, is)) (other, o, (turn_too, at_too, off_too, is_too)) =
+        let alike : IsJournalOf p (take a turns) refuses other =
+        subst (λ n. IsJournalOf p (take n turns) refuses other) (sym here) o in
+        let one : other ≡ journal = one_journal p (take a turns) refuses journal other j alike in
+        let same_turn : turn_too ≡ turn =
+        same_Some _ _ (sym at_too ∙ ap (slice_get turns) (sym here) ∙ at) in
+        sym is ∙ sym (ap (λ es. is_third p (past_of p es) turn) one)
+        ∙ sym (ap (is_third p (past_of p other)) same_turn) ∙ is_too
 
 -- where no event was refused the reporter is the one that refuses none
 none_at : (refused : List Bool) (n : ℕ) → list_all not refused ≡ true → n < length refused

@@ -1,7 +1,7 @@
 -- What each enabled turn does fits the sub-run before it: the one place where the turns are gone through.
-use Rattle.std.proofs.Common.{◌≡◌, ◌≢◌, ℕ, ◌+◌, ◌<◌, ◌≤◌, ◌||◌, List, [], ◌∷◌, ◌++◌, length, drop, get_or, Bool, true}
+use Rattle.std.proofs.Common.{◌≡◌, ℕ, ◌+◌, ◌<◌, ◌≤◌, ◌||◌, List, [], ◌∷◌, ◌++◌, length, drop, get_or, Bool, true}
 use Rattle.std.proofs.Common.{false, not, if◌then◌else◌, Option, Some, None, option_to_list, option_map, is_none}
-use Rattle.std.proofs.Common.{is_some, refl, ap, sym, ◌∙◌, arith}
+use Rattle.std.proofs.Common.{is_some, nat_lt, ◌&&◌, refl, ap, sym, subst, ◌∙◌, arith}
 use Rattle.std.specs.Prelude.{⊤}
 use Rattle.std.specs.Cmp.{first_so, second_so}
 use Rattle.std.proofs.lemmas.List.{append-nil}
@@ -21,16 +21,21 @@ use Rattle.run_model.specs.declared.happening.UnitPart.TheVariants.{Joins, Acts}
 use Rattle.run_model.specs.declared.unit_turn.UnitTurn.{UnitTurn}
 use Rattle.run_model.specs.declared.unit_turn.UnitTurn.TheVariants.{Answered}
 use Rattle.run_model.specs.declared.unit_view.UnitView.{UnitView}
-use Rattle.run_model.specs.Unit.{at_moment, row, takes, takes_at}
-use Rattle.run_model.specs.Story.{story_of}
-use Rattle.run_model.specs.Words.{is_on, finished_test, sent, delivered, queue, told, unit_of, units, unit_after, tally}
+use Rattle.run_model.specs.Unit.{at_moment, row, takes, takes_at, is_due}
+use Rattle.run_model.specs.Story.{story_of, line_of}
+use Rattle.run_model.specs.Words.{is_on, finished_test, reason, sent, delivered, queue, told, unit_of, units, unit_after, tally}
 use Rattle.run_model.specs.Admission.{units_in, terms_at, Newcomer, newcomer}
-use Rattle.run_model.specs.Dispatch.{may_go, event, with_start, with_finish, started_event}
+use Rattle.run_model.specs.Dispatch.{shuts_down, may_go, event, having_told, with_start, with_finish, started_event}
 use Rattle.run_model.specs.Board.{Board, Deed, deed_events}
 use Rattle.run_model.specs.Turns.{enabled_on, is_empty, is_complete, takes_turn, turn_of_unit, unit_takes, taken_by}
-use Rattle.run_model.specs.Turns.{nothing_done, admission, delivery, run_turn, done_by, deed_on}
+use Rattle.run_model.specs.Turns.{nothing_done, cancelled, event_of, tally_with, delivered_as, admission, delivery, run_turn, done_by, deed_on}
 use Rattle.run_model.specs.Accounts.{started, HasAccount, is_mismatched, account_of, pending_of}
-use Rattle.run_laws.proofs.Holds.{Holds, place_of}
+use Rattle.run_model.specs.Cancel.{Cause, cause_of, caused}
+use Rattle.run_model.specs.Words.{signals_heard, was_reported, global_timer}
+use Rattle.run_model.specs.declared.dispatcher_view.Tally.{Tally}
+use Rattle.run_laws.proofs.Holds.{HasLine, Holds, place_of}
+use Rattle.run_laws.proofs.Lines.{own_request}
+use Rattle.run_laws.proofs.Cancels.{cancel_for, IsCancel, cancel_is, account_with, reports_with}
 use Rattle.run_laws.proofs.Queue.{lt-from_queue}
 use Rattle.run_laws.proofs.ByTurn.{is_answer, by_turn}
 use Rattle.run_laws.proofs.AccountLemmas.{of_row, of_start, of_slow, of_finish, of_skip, begins, IsFirst, first_built, IsBuiltIf}
@@ -38,16 +43,21 @@ use Rattle.run_laws.proofs.AccountLemmas.{row_sends_built}
 use Rattle.run_laws.proofs.Rows.{takes_moment}
 use Rattle.run_laws.specs.Reports.{reports_told, reports_waiting}
 use Rattle.run_laws.proofs.Reported.{DoesReport, still_reports, acts_report, told_report}
-use Rattle.run_laws.proofs.OnBoard.{board_of, unit_in-is}
+use Rattle.run_laws.proofs.OnBoard.{board_of, board_with, unit_in-is}
 use Rattle.run_laws.proofs.Newcomers.{IsNew, new_unit}
 use Rattle.run_laws.proofs.Facts.{start_waits, finish_follows, may_go-is, oldest_built}
 
--- a unit that takes a turn was admitted and takes it, and no start is refused
+-- what an answer says
+abbrev go_in : UnitTurn → Bool
+go_in (Answered go) = go
+go_in _ = false
+
+-- a unit that takes a turn was admitted and takes it, and is let go where no cause stands
 pub record IsTaken (now : ℕ) (run : List Happening) (k : ℕ) (turn : UnitTurn) : Type 0 where
   pub unit : UnitView
   pub is : unit_of k run ≡ Some unit
   pub takes : takes now unit turn ≡ true
-  pub goes : turn ≢ Answered false
+  pub answers : (go : Bool) → turn ≡ Answered go → go ≡ is_none (reason run)
 
 abbrev pub PartFits : Settings → ℕ → List Happening → Option UnitPart → Type 0
 PartFits p now run None = ⊤
@@ -64,11 +74,10 @@ abbrev pub ToldFits : ℕ → List ReporterEvent → Option ReporterEvent → Ty
 ToldFits n es (Some (Test e)) = ToldFitsIn n es e.kind
 ToldFits n es _ = ⊤
 
--- a deed cancels nothing; a sub-run begins with it where nothing has happened, and else one is on, or nothing has
+-- a deed tells of its cause after all else; a sub-run begins with it where nothing has happened, and else one is on, or nothing has
 -- happened and nothing is done; it ends the run only as the end of a complete run does
 pub record Marks (p : Settings) (over : Bool) (now : ℕ) (run : List Happening) (d : Deed) : Type 0 where
-  pub cause : d.cause ≡ None
-  pub cancel : d.cancel ≡ None
+  pub cancel : d.cancel ≡ cancel_for now (having_told (tally p run) d.told) d.cause
   pub begins : d.begins ≡ true → run ≡ []
   pub still : (d.begins || is_on run) ≡ false → (run ≡ []) × (d ≡ nothing_done)
   pub finishes : d.over ≡ d.ends
@@ -91,8 +100,7 @@ pub record Does (p : Settings) (over : Bool) (now : ℕ) (run : List Happening) 
 quiet : (p : Settings) (over : Bool) (now : ℕ) (run : List Happening) (d : Deed) → is_on run ≡ true
     → d.cause ≡ None → d.cancel ≡ None → d.begins ≡ false → d.over ≡ false → d.ends ≡ false → Marks p over now run d
 quiet p over now run d on cause cancel begins over_not ends = record {
-  cause = cause;
-  cancel = cancel;
+  cancel = cancel ∙ sym (ap (cancel_for now (having_told (tally p run) d.told)) cause);
   begins = λ h. cc;
   still = λ off. let never : true ≡ false = sym (ap (λ b. b || is_on run) begins ∙ on) ∙ off in cc;
   finishes = over_not ∙ sym ends;
@@ -107,8 +115,11 @@ acts_reported : (p : Settings) (over : Bool) (now : ℕ) (run : List Happening) 
     ≡ reports_waiting k (queue run)
     → DoesReport (terms_at p (place_of p k)).slow k now run d
 acts_reported p over now run j turn u k d h is en part asked sent tells =
-    let it = acts_report (terms_at p (place_of p k)) k now j turn u (unit_of k run) (story_of k run) en
-    (h.named j u is).2 (h.named j u is).0 (λ same. let here : k ≡ j = grind arith in ap (λ k. unit_of k run) here ∙ is) (h.made k) in
+    let it = acts_report (terms_at p (place_of p k)) k now j turn u (unit_of k run) (line_of k run) (story_of k run) en
+    (h.named j u is).2 (h.named j u is).0
+    (λ same. let here : k ≡ j = grind arith in own_request now turn u (line_of k run) en
+    (subst (λ v. HasLine v (line_of k run)) (ap (λ k. unit_of k run) here ∙ is) (h.lines k)))
+    (λ same. let here : k ≡ j = grind arith in ap (λ k. unit_of k run) here ∙ is) (h.made k) in
     record { asks = rw (part, asked) it.asks; sends = rw (part, sent) it.sends; tells = tells }
 
 -- the first message of a unit is no slow report
@@ -150,7 +161,7 @@ unit_does p over now run j turn (Some u) h going e en other = record {
     unit = u;
     is = e;
     takes = en;
-    goes = λ is. let same : is_answer turn ≡ true = ap is_answer is in
+    answers = λ go is. let same : is_answer turn ≡ true = ap is_answer is in
         cc;
   };
   room = omega (arith, h.fits);
@@ -173,7 +184,7 @@ unit_does p over now run j turn (Some u) h going e en other = record {
 -- what the delivery of a start does
 start_does : (p : Settings) (over : Bool) (now : ℕ) (run : List Happening) (start : TestStart) (rest : List Message)
     (go : Bool) (w : Option UnitView)
-    → Holds p over now run → is_on run ≡ true → go ≡ true → queue run ≡ Start start ∷ rest
+    → Holds p over now run → is_on run ≡ true → go ≡ is_none (reason run) → queue run ≡ Start start ∷ rest
     → unit_of start.test.unit run ≡ w
     → Does p over now run (record (taken_by now start.test.unit (Answered go) w) {
       taken = true;
@@ -182,32 +193,90 @@ start_does : (p : Settings) (over : Bool) (now : ℕ) (run : List Happening) (st
 start_does p over now run start rest go None h on goes eq ew =
     let waits = start_waits p over now run start rest h eq in
     let never : None ≡ Some waits.unit = sym ew ∙ waits.is in cc
-start_does p over now run start rest false (Some u) h on goes eq ew = cc
-start_does p over now run start rest true (Some u) h on goes eq ew =
+start_does p over now run start rest go (Some u) h on goes eq ew =
     let waits = start_waits p over now run start rest h eq in
     let same : waits.unit ≡ u = cc (sym waits.is ∙ ew) in
-    let waiting : takes now u (Answered true) ≡ true =
-    ap (λ (u : UnitView). takes now u (Answered true)) (sym same)
-    ∙ ap (λ ph. takes_at now ph waits.unit (Answered true)) waits.phase in
+    let waiting : takes now u (Answered go) ≡ true =
+    ap (λ (u : UnitView). takes now u (Answered go)) (sym same)
+    ∙ ap (λ ph. takes_at now ph waits.unit (Answered go)) waits.phase in
     record {
       part = record {
         unit = u;
         is = ew;
         takes = waiting;
-        goes = λ is. cc;
+        answers = λ answer is. sym (ap go_in is) ∙ goes;
       };
       room = lt-from_queue (delivered run) (sent run) rest _ eq;
-      sends = row_sends_built now u.phase (Answered true) (at_moment now u) refl
-          (takes_moment now u.phase u (Answered true) waiting);
-      tells = (waits.below, waits.untold);
-      accounts = λ k. rw eq (of_start (is_mismatched p (place_of p k)) now k true u (unit_of k run)
+      sends = row_sends_built now u.phase (Answered go) (at_moment now u) refl
+          (takes_moment now u.phase u (Answered go) waiting);
+      tells = start_told go (waits.below, waits.untold);
+      accounts = λ k. rw (eq, told_events go) (of_start (is_mismatched p (place_of p k)) now k go u (unit_of k run)
           (account_of k (told run)) rest start (with_start (tally p run))
           (λ same. let here : k ≡ start.test.unit = grind arith in ap (λ k. unit_of k run) here ∙ ew)
           (rw eq at (h.accounts k)));
-      reported = λ k. acts_reported p over now run start.test.unit (Answered true) u k _ h ew waiting refl refl refl
-          (rw eq refl);
+      reported = λ k. acts_reported p over now run start.test.unit (Answered go) u k _ h ew waiting refl refl refl
+          (rw eq (start_reports k go));
       marks = quiet p over now run _ on refl refl refl refl refl;
     }
+  where
+    start_told : (go : Bool) → (start.test.unit < units_in p) × (account_of start.test.unit (told run) ≡ [])
+        → ToldFits (units_in p) (told run)
+        (option_map (event now) (if go then Some (started_event start (with_start (tally p run))) else None))
+    start_told true fits = fits
+    start_told false fits = tt
+
+    told_events : (go : Bool)
+        → option_to_list (option_map (event now)
+        (if go then Some (started_event start (with_start (tally p run))) else None)) ++ []
+        ≡ option_to_list (if go then Some (event now (started_event start (with_start (tally p run)))) else None)
+    told_events true = refl
+    told_events false = refl
+
+    start_reports : (k : ℕ) (go : Bool)
+        → reports_told k (option_to_list (option_map (event now)
+        (if go then Some (started_event start (with_start (tally p run))) else None)) ++ [])
+        ++ reports_waiting k rest ≡ reports_waiting k (Start start ∷ rest)
+    start_reports k true = refl
+    start_reports k false = refl
+
+-- a cause adds nothing to what a deed does but its event
+caused_does : (p : Settings) (over : Bool) (now : ℕ) (run : List Happening) (o : Option Cause) (d : Deed)
+    → is_on run ≡ true → d.cause ≡ None → d.cancel ≡ None → d.begins ≡ false → d.over ≡ false → d.ends ≡ false
+    → Does p over now run d → Does p over now run (caused now (having_told (tally p run) d.told) o d)
+caused_does p over now run None d on cause cancel begins over_not ends does = does
+caused_does p over now run (Some c) d on cause cancel begins over_not ends does = record {
+  part = does.part;
+  room = does.room;
+  sends = does.sends;
+  tells = does.tells;
+  accounts = λ k. subst (λ news. HasAccount (is_mismatched p (place_of p k)) (unit_after now k d.part (unit_of k run))
+      (account_of k (told run) ++ news)
+      (pending_of k (drop (if d.taken then 1 else 0) (queue run) ++ option_to_list d.sent)))
+      (account_with k (option_to_list d.told) d.cancel plain
+      ∙ sym (account_with k (option_to_list d.told) (cancel_for now t (Some c.reason)) (cancel_is now t (Some c.reason))))
+      (does.accounts k);
+  reported = λ k. let it = does.reported k in
+      record {
+        asks = it.asks;
+        sends = it.sends;
+        tells = ap (λ rs. rs ++ reports_waiting k (drop (if d.taken then 1 else 0) (queue run)))
+            (reports_with k (option_to_list d.told) (cancel_for now t (Some c.reason)) (cancel_is now t (Some c.reason))
+            ∙ sym (reports_with k (option_to_list d.told) d.cancel plain)) ∙ it.tells;
+      };
+  marks = record {
+    cancel = refl;
+    begins = does.marks.begins;
+    still = λ off. let never : true ≡ false = sym (ap (λ b. b || is_on run) begins ∙ on) ∙ off in cc;
+    finishes = does.marks.finishes;
+    ends = λ h. let never : false ≡ true = sym ends ∙ h in cc;
+  };
+}
+  where
+    t : Tally
+    t = having_told (tally p run) d.told
+
+    plain : IsCancel d.cancel
+    plain = subst IsCancel (sym cancel) tt
 
 -- what a delivery does
 delivers : (p : Settings) (over : Bool) (now : ℕ) (run : List Happening) (q : List Message) → Holds p over now run
@@ -216,7 +285,7 @@ delivers : (p : Settings) (over : Bool) (now : ℕ) (run : List Happening) (q : 
 delivers p over now run [] h on eq en = cc
 delivers p over now run (Start start ∷ rest) h on eq en =
     start_does p over now run start rest (may_go (tally p run)) (get_or (units p run) start.test.unit None) h on
-    (may_go-is p run ∙ ap is_none h.calm) eq (sym (unit_in-is p over now run start.test.unit h))
+    (may_go-is p run) eq (sym (unit_in-is p over now run start.test.unit h))
 delivers p over now run (Skip skip ∷ rest) h on eq en = record {
   part = tt;
   room = lt-from_queue (delivered run) (sent run) rest _ eq;
@@ -239,7 +308,10 @@ delivers p over now run (Slow slow ∷ rest) h on eq en = record {
 }
 delivers p over now run (Finish finish ∷ rest) h on eq en =
     let follows = finish_follows p over now run finish rest h eq in
-    record {
+    let b : Board = board_of p over now run in
+    let tells : Option ReporterEvent = event_of b (Finish finish) in
+    caused_does p over now run (cause_of b.dispatcher.rules (tally_with b tells) (Finish finish))
+    (delivered_as b (Finish finish) nothing_done) on refl refl refl refl refl (record {
       part = tt;
       room = lt-from_queue (delivered run) (sent run) rest _ eq;
       sends = tt;
@@ -249,14 +321,14 @@ delivers p over now run (Finish finish ∷ rest) h on eq en =
           (rw eq at (h.accounts k)));
       reported = λ k. still_reports _ k now run _ refl refl refl (rw eq refl);
       marks = quiet p over now run _ on refl refl refl refl refl;
-    }
+    })
 delivers p over now run (m ∷ rest) h on eq en = absurd (oldest_built p over now run m rest h eq)
 
 -- what each enabled turn does
-pub does : (p : Settings) (over : Bool) (now : ℕ) (run : List Happening) (turn : Turn) → Holds p over now run
-    → enabled_on p (board_of p over now run) turn ≡ true
-    → Does p over now run (deed_on p (board_of p over now run) turn)
-does p over now run turn h en =
+pub does : (p : Settings) (over refused : Bool) (now : ℕ) (run : List Happening) (turn : Turn) → Holds p over now run
+    → enabled_on p (board_with p refused over now run) turn ≡ true
+    → Does p over now run (deed_on p (board_with p refused over now run) turn)
+does p over refused now run turn h en =
     by_turn (λ turn named. takes_turn p b turn named ≡ true → Does p over now run (done_by p b turn named))
     (record {
       begin = λ en. begun (h.fresh (not_true (is_on run) (first_so (not (is_on run)) (not over) en)) going);
@@ -268,6 +340,12 @@ does p over now run turn h en =
       named = λ turn k to other en. unit_does p over now run k to _ h going (sym (unit_in-is p over now run k h)) en
           other;
       clock = λ ns en. passes (is_on run) refl;
+      signal = λ signal en. cancels _
+          (first_so (is_on run) (shuts_down p.plan.hearing signal)
+          (first_so (is_on run && shuts_down p.plan.hearing signal) (nat_lt (signals_heard run) 2) en));
+      global_due = λ en. cancels _ (first_so (is_on run) (is_due now (global_timer p run)) en);
+      report_cancel = λ en. cancels _
+          (first_so (is_on run) refused (first_so (is_on run && refused) (not (was_reported run)) en));
       end = λ en. record {
         part = tt;
         room = omega (arith, h.fits);
@@ -276,7 +354,6 @@ does p over now run turn h en =
         accounts = λ k. simp append-nil (h.accounts k);
         reported = λ k. still_reports _ k now run _ refl refl refl refl;
         marks = record {
-          cause = refl;
           cancel = refl;
           begins = λ h. cc;
           still = λ off. let never : true ≡ false = sym (first_so (is_on run) (is_complete b) en) ∙ off in cc;
@@ -289,7 +366,7 @@ does p over now run turn h en =
     turn (second_so (not over) (takes_turn p b turn (turn_of_unit turn)) en)
   where
     b : Board
-    b = board_of p over now run
+    b = board_with p refused over now run
 
     not_true : (b : Bool) → not b ≡ true → b ≡ false
     not_true true h = cc
@@ -312,13 +389,16 @@ does p over now run turn h en =
         by_on : (b : Bool) → is_on run ≡ b → Marks p over now run nothing_done
         by_on true on = quiet p over now run nothing_done on refl refl refl refl refl
         by_on false off = record {
-          cause = refl;
           cancel = refl;
           begins = λ h. cc;
           still = λ _. (h.fresh off going, refl);
           finishes = refl;
           ends = λ h. cc;
         }
+
+    cancels : (cause : Cause) → is_on run ≡ true → Does p over now run (cancelled b cause)
+    cancels cause on =
+        caused_does p over now run (Some cause) nothing_done on refl refl refl refl refl (passes true on)
 
     begun : run ≡ [] → Does p over now run (run_turn p b Begin)
     begun empty = record {
@@ -329,7 +409,6 @@ does p over now run turn h en =
       accounts = λ k. simp append-nil (h.accounts k);
       reported = λ k. still_reports _ k now run _ refl refl refl refl;
       marks = record {
-        cause = refl;
         cancel = refl;
         begins = λ _. empty;
         still = λ off. cc;

@@ -11,13 +11,12 @@ use Rattle.run_model.specs.Slow.{one_more, is_out_of_time}
 use Rattle.run_model.specs.Unit.{is_due, exited}
 use Rattle.run_model.specs.Unit.{slow_row, slow_again, in_grace, out_of_time, killed}
 use Rattle.run_model.specs.Story.{OwnTurn, any_is}
-use Rattle.run_model.specs.Timing.{has_timed_out}
-use Rattle.run_model.specs.Timing.{ends_wait, slow_count}
+use Rattle.run_model.specs.Timing.{ends_wait, starts_child, slow_count}
 use Rattle.run_model.specs.Attempts.{start_of}
 use Rattle.run_laws.proofs.CaptureLemmas.{taken}
-use Rattle.run_laws.proofs.TimerLemmas.{timer_killed}
-use Rattle.run_laws.proofs.TimerLemmas.{count_killed, in_time, count_slow, timer_again, timer_grace, timer_kill_wait}
-use Rattle.run_laws.proofs.TimerLemmas.{HasTimer}
+use Rattle.run_laws.proofs.StandingLemmas.{count_kept, count_killed, count_slow}
+use Rattle.run_laws.proofs.TimerLemmas.{HasTimer, ends_time, timer_killed}
+use Rattle.run_laws.proofs.SlowLemmas.{IsSlow, in_time, timer_again, timer_grace, timer_kill_wait}
 use Rattle.run_laws.proofs.PieceLemmas.{IsAt, at_due}
 use Rattle.run_laws.proofs.GoingLemmas.{IsGoing, going_more, past_exited}
 use Rattle.run_laws.proofs.MadeLemmas.{GoesOn, IsMade}
@@ -26,10 +25,10 @@ use Rattle.run_laws.proofs.RowLemmas.{made_more, began}
 -- the wait for its streams is over
 pub leaked_made : (now : ℕ) (u : UnitView) (piece : List OwnTurn) (earlier : List (List OwnTurn))
     → u.attempt ≡ length earlier + 1 → GoesOn u.terms Leak true u.exit u piece earlier
-    → IsMade u.terms (exited now u.exit true u.capture u) ((taken now Due ∷ piece) ∷ earlier)
+    → IsMade u.terms (exited now u.exit true u.capture u) ((taken now Due None ∷ piece) ∷ earlier)
 leaked_made now u piece earlier a (on, ss) =
-    made_more (exited now u.exit true u.capture u) Deciding (taken now Due) piece earlier refl a
-    (began u.terms u.timers.stopwatch.start true u.exit true u.timers.slow_count u.capture (taken now Due ∷ piece) it)
+    made_more (exited now u.exit true u.capture u) Deciding (taken now Due None) piece earlier refl a
+    (began u.terms u.timers.stopwatch.start true u.exit true u.timers.slow_count u.capture (taken now Due None ∷ piece) it)
     (past_exited now u.exit true u.capture Due u piece earlier it on.not_ended (or_true (is_done u.capture)) on.watch a
     ss)
   where
@@ -37,36 +36,43 @@ leaked_made now u piece earlier a (on, ss) =
     or_true true = refl
     or_true false = refl
 
-    count : slow_count u.terms.slow (taken now Due ∷ piece) ≡ u.timers.slow_count
-    count = rw on.is_at.wait_over on.is_at.counted
+    count : slow_count u.terms.slow (taken now Due None ∷ piece) ≡ u.timers.slow_count
+    count = count_kept u.terms.slow (taken now Due None) piece on.is_at.wait_over ∙ on.is_at.counted
 
-    it : IsAt u.terms u.timers.stopwatch.start true u.exit true u.timers.slow_count u.capture (taken now Due ∷ piece)
+    it : IsAt u.terms u.timers.stopwatch.start true u.exit true u.timers.slow_count u.capture (taken now Due None ∷ piece)
     it =
         at_due u.terms u.timers.stopwatch.start true u.exit u.timers.slow_count u.timers.slow_count u.capture now piece
         on.is_at count
 
--- its time to end by itself is over
-pub killed_made : (now : ℕ) (u : UnitView) (piece : List OwnTurn) (earlier : List (List OwnTurn))
+-- its time to end by itself is over, by this turn
+pub killed_made : (t : OwnTurn) (u : UnitView) (piece : List OwnTurn) (earlier : List (List OwnTurn))
     → u.attempt ≡ length earlier + 1 → GoesOn u.terms Grace false None u piece earlier
-    → IsMade u.terms (killed u).next ((taken now Due ∷ piece) ∷ earlier)
-killed_made now u piece earlier a (on, ss) =
-    made_more (killed u).next Running (taken now Due) piece earlier refl a
-    (began u.terms u.timers.stopwatch.start false None false u.timers.slow_count u.capture (taken now Due ∷ piece) it) (
-      going_more u.terms Running false None (killed u).next (taken now Due) piece it on.not_ended refl on.watch
-          (timer_killed u.terms u.timers (killed u).next.timers now u.latest piece refl on.is_at.wait_over on.timer.stage),
+    → ends_wait t.turn ≡ false → starts_child t.turn ≡ false → ends_time u.terms.slow t ≡ true
+    → IsAt u.terms u.timers.stopwatch.start false None false u.timers.slow_count u.capture (t ∷ piece)
+    → IsMade u.terms (killed u).next ((t ∷ piece) ∷ earlier)
+killed_made t u piece earlier a (on, ss) ends starts over it =
+    made_more (killed u).next Running t piece earlier refl a
+    (began u.terms u.timers.stopwatch.start false None false u.timers.slow_count u.capture (t ∷ piece) it) (
+      going_more u.terms Running false None (killed u).next t piece it on.not_ended refl on.watch
+          (timer_killed u.terms u.timers (killed u).next.timers u.latest t piece refl on.is_at.wait_over on.timer.stage ends
+          starts over),
       ss,
     )
-  where
-    it : IsAt u.terms u.timers.stopwatch.start false None false u.timers.slow_count u.capture (taken now Due ∷ piece)
-    it =
-        at_due u.terms u.timers.stopwatch.start false None u.timers.slow_count u.timers.slow_count u.capture now piece
-        on.is_at (count_killed u.terms now piece on.timer.stage.1 ∙ on.is_at.counted)
+
+-- since its timer was due
+pub killed_due : (now : ℕ) (u : UnitView) (piece : List OwnTurn) (earlier : List (List OwnTurn))
+    → u.attempt ≡ length earlier + 1 → GoesOn u.terms Grace false None u piece earlier
+    → IsMade u.terms (killed u).next ((taken now Due None ∷ piece) ∷ earlier)
+killed_due now u piece earlier a (on, ss) =
+    killed_made (taken now Due None) u piece earlier a (on, ss) refl refl refl
+    (at_due u.terms u.timers.stopwatch.start false None u.timers.slow_count u.timers.slow_count u.capture now piece on.is_at
+    (count_killed u.terms.slow (taken now Due None) piece on.timer.stage.1 ∙ on.is_at.counted))
 
 -- it is slow
 pub slow_made : (now : ℕ) (u : UnitView) (piece : List OwnTurn) (earlier : List (List OwnTurn))
     → u.phase ≡ Running → now ≤ u.latest → is_due now u.timers.slow ≡ true → u.attempt ≡ length earlier + 1
     → GoesOn u.terms Running false None u piece earlier
-    → IsMade u.terms (slow_row now (one_more u.timers.slow_count) u).next ((taken now Due ∷ piece) ∷ earlier)
+    → IsMade u.terms (slow_row now (one_more u.timers.slow_count) u).next ((taken now Due None ∷ piece) ∷ earlier)
 slow_made now u piece earlier ph le due a (on, ss) =
     by_out (is_out_of_time u.terms.slow n) (u.terms.slow.grace == 0) refl refl
   where
@@ -74,18 +80,23 @@ slow_made now u piece earlier ph le due a (on, ss) =
     n = one_more u.timers.slow_count
 
     t : OwnTurn
-    t = taken now Due
+    t = taken now Due None
 
     waited : any_is ends_wait piece ≡ false
     waited = on.is_at.wait_over
 
-    out : has_timed_out u.terms.slow piece ≡ false
-    out = in_time u.terms u.timers now u.latest piece waited on.timer due
+    is : IsSlow u.terms piece
+    is = record {
+      waited = waited;
+      child = on.timer.stage.0;
+      grace = on.timer.stage.1;
+      in_time = in_time u.terms u.timers now u.latest piece waited on.timer due;
+    }
 
     it : IsAt u.terms u.timers.stopwatch.start false None false n u.capture (t ∷ piece)
     it =
         at_due u.terms u.timers.stopwatch.start false None u.timers.slow_count n u.capture now piece on.is_at
-        (count_slow u.terms now piece waited out ∙ ap one_more on.is_at.counted)
+        (count_slow u.terms.slow now piece waited is.grace is.in_time ∙ ap one_more on.is_at.counted)
 
     start : u.timers.stopwatch.start ≡ start_of (t ∷ piece)
     start = began u.terms u.timers.stopwatch.start false None false n u.capture (t ∷ piece) it
@@ -107,20 +118,19 @@ slow_made now u piece earlier ph le due a (on, ss) =
     by_out true true e g =
         made_more (out_of_time n u).next KillWait t piece earlier refl a start (
           goes KillWait (out_of_time n u).next refl refl refl
-              (timer_kill_wait u.terms (out_of_time n u).next.timers now u.latest piece waited out (next true e) g),
+              (timer_kill_wait u.terms (out_of_time n u).next.timers now u.latest piece is (next true e) g),
           ss,
         )
     by_out true false e g =
         made_more (in_grace now n u).next Grace t piece earlier refl a start (
           goes Grace (in_grace now n u).next refl refl refl
-              (timer_grace u.terms (in_grace now n u).next.timers now u.latest piece le refl refl waited out on.timer.stage
+              (timer_grace u.terms (in_grace now n u).next.timers now u.latest piece le refl refl is
               (next true e) g),
           ss,
         )
     by_out false g e eg =
         made_more (slow_again now n u).next Running t piece earlier ph a start (
           goes Running (slow_again now n u).next refl refl refl
-              (timer_again u.terms (slow_again now n u).next.timers now u.latest piece le refl waited out on.timer.stage
-              (next false e)),
+              (timer_again u.terms (slow_again now n u).next.timers now u.latest piece le refl is (next false e)),
           ss,
         )

@@ -24,32 +24,41 @@ use Rattle.run_model.specs.Turns.{enabled, is_complete, is_empty, takes_turn, tu
 use Rattle.run_model.specs.Journal.{history, IsLegalBackward}
 use Rattle.run_model.specs.Accounts.{News, news_of, HasAccount, HasAccountAt, is_mismatched, account_of}
 use Rattle.run_model.specs.Story.{OwnTurn, story_of, pieces}
-use Rattle.run_model.specs.Attempts.{ended_statuses, statuses_of}
-use Rattle.run_model.specs.Fates.{was_left, account, MeetsAttemptLaw, HasFate, HaveFates}
-use Rattle.run_laws.proofs.Holds.{Holds, IsAttempted, IsAttemptedIn}
-use Rattle.run_laws.proofs.AttemptLemmas.{IsMadeIf, made_statuses}
+use Rattle.run_model.specs.Attempts.{none_goes_on, ended_statuses, statuses_of}
+use Rattle.run_model.specs.Fates.{deliveries, never_started, account, MeetsAttemptLaw, HasFate, HaveFates}
+use Rattle.run_laws.proofs.Holds.{Holds, IsLetGo, IsLetGoIn}
+use Rattle.run_laws.proofs.AttemptLemmas.{IsMadeIf, made_statuses, made_ended}
 use Rattle.run_laws.proofs.OnBoard.{board_of, units-length, units-at}
 use Rattle.run_laws.proofs.Newcomers.{place-of_test}
 use Rattle.run_laws.proofs.Kept.{HoldsAfter, does_after, IsOfRun, IsBeforeRuns, where_joins, holds}
 
--- a test that is done, of which nothing waits to be told, has its account and its one attempt, by its own turns
-abbrev HasFateWith : Bool → List News → List ExecuteStatus → Type 0
-HasFateWith mm t ss = (t ≡ account mm false false ss) × (mm ≡ false → MeetsAttemptLaw 0 ss)
+-- a test that is done, of which nothing waits to be told, has its account, by whether it was never started, and else its
+-- one attempt, by its own turns
+abbrev HasFateWith : Bool → Bool → List News → List ExecuteStatus → Type 0
+HasFateWith mm never t ss =
+    (t ≡ account mm never false ss) × (mm ≡ false → never ≡ false → MeetsAttemptLaw 0 ss)
 
-fate_of : (mm : Bool) (terms : AttemptTerms) (v : Option UnitView) (story : List OwnTurn) (t : List News)
-    → is_done v ≡ true → IsAttempted mm v → IsMadeIf terms v story
-    → HasAccount mm v t [] → HasFateWith mm t (ended_statuses terms 1 (pieces story))
-fate_of mm terms None story t d a made h = cc
-fate_of mm terms (Some u) story t d a made h =
-    subst (HasFateWith mm t) (made_statuses terms u (pieces story) made) (by_attempts mm u.phase u.statuses d a h)
+-- and no attempt of it goes on
+going_none : (terms : AttemptTerms) (v : Option UnitView) (story : List OwnTurn) → is_done v ≡ true
+    → IsMadeIf terms v story → none_goes_on terms (pieces story) ≡ true
+going_none terms None story d made = cc
+going_none terms (Some u) story d made = made_ended terms u (pieces story) made d
+
+fate_of : (mm never : Bool) (n : ℕ) (terms : AttemptTerms) (v : Option UnitView) (story : List OwnTurn) (t : List News)
+    → is_done v ≡ true → IsLetGo mm v n never → IsMadeIf terms v story
+    → HasAccount mm v t [] → HasFateWith mm never t (ended_statuses terms 1 (pieces story))
+fate_of mm never n terms None story t d a made h = cc
+fate_of mm never n terms (Some u) story t d a made h =
+    subst (HasFateWith mm never t) (made_statuses terms u (pieces story) made)
+    (by_attempts mm u.phase u.statuses d a h)
   where
-    by_attempts : (mm : Bool) (ph : Phase) (ss : List ExecuteStatus) → is_last ph ≡ true → IsAttemptedIn mm ph ss
+    by_attempts : (mm : Bool) (ph : Phase) (ss : List ExecuteStatus) → is_last ph ≡ true → IsLetGoIn mm ph ss n never
         → HasAccountAt mm ph ss t []
-        → HasFateWith mm t ss
+        → HasFateWith mm never t ss
     by_attempts true Over [] l a h = (grind (arith, common_steps), λ e. cc)
     by_attempts true Over (s ∷ ss) l a h = absurd h
-    by_attempts false Over [] l a h = absurd a
-    by_attempts false Over (s ∷ []) l a h = (grind (arith, common_steps), λ e. inr refl)
+    by_attempts false Over [] l a h = rw a.1 (h.0, λ e so. cc)
+    by_attempts false Over (s ∷ []) l a h = rw a.1 (grind (arith, common_steps), λ e so. inr refl)
     by_attempts false Over (s ∷ t ∷ ss) l a h = absurd h
     by_attempts mm ph ss l a h = cc
 
@@ -77,17 +86,20 @@ end_fates p over now run e j h below complete =
     let done : is_done (unit_of k run) ≡ true =
     sym (ap is_done (units-at p run k (omega arith)))
     ∙ all_at is_done (units p run) k None all (omega (arith, units-length p run)) in
-    let fate = fate_of (is_mismatched p j) (terms_at p j) (unit_of k run) (story_of k run) (account_of k (told run)) done
-    (subst (λ j. IsAttempted (is_mismatched p j) (unit_of k run)) (place-of_test p j) (h.attempted k))
-    (subst (λ j. IsMadeIf (terms_at p j) (unit_of k run) (story_of k run)) (place-of_test p j) (h.made k))
-    (subst (λ j. HasAccount (is_mismatched p j) (unit_of k run) (account_of k (told run)) []) (place-of_test p j)
+    let made : IsMadeIf (terms_at p j) (unit_of k run) (story_of k run) =
+    subst (λ j. IsMadeIf (terms_at p j) (unit_of k run) (story_of k run)) (place-of_test p j) (h.made k) in
+    let fate = fate_of (is_mismatched p j) (never_started k run) (deliveries k run) (terms_at p j) (unit_of k run)
+    (story_of k run) (account_of k (told run)) done
+    (subst (λ j. IsLetGo (is_mismatched p j) (unit_of k run) (deliveries k run) (never_started k run)) (place-of_test p j)
+    (h.let_go k))
+    made (subst (λ j. HasAccount (is_mismatched p j) (unit_of k run) (account_of k (told run)) []) (place-of_test p j)
     (rw empty at (h.accounts k))) in
     record {
       account = filter_map-append (news_of k) (told run) _ ∙ append-nil (account_of k (told run)) ∙ fate.0
-          ∙ sym (ap (λ b. account (is_mismatched p j) b (was_left k run) (statuses_of p j run)) (h.let_go k).0
-          ∙ ap (λ b. account (is_mismatched p j) false b (statuses_of p j run)) (h.let_go k).1);
-      finished = λ mm n l. fate.1 mm;
-      left = λ mm l. let never_so : false ≡ true = sym (h.let_go k).1 ∙ l in cc;
+          ∙ sym (ap (λ b. account (is_mismatched p j) (never_started k run) b (statuses_of p j run)) (h.left k));
+      finished = λ mm never l. fate.1 mm never;
+      ended = going_none (terms_at p j) (unit_of k run) (story_of k run) done made;
+      left = λ mm l. let never_so : false ≡ true = sym (h.left k) ∙ l in cc;
     }
 
 -- each test has its fate in the sub-run that a turn ends

@@ -3,6 +3,7 @@ use Rattle.std.proofs.Common.{◌≡◌, ℕ, ◌+◌, ◌≤◌, List, [], ◌�
 use Rattle.std.proofs.Common.{if◌then◌else◌, Option, Some, None, refl, ap, sym, ◌∙◌}
 use Rattle.run_clock.specs.Stopwatch.{started_at}
 use Rattle.run_capture.specs.Captured.{Captured, is_done}
+use Rattle.run_events.specs.declared.request.Request.{Request}
 use Rattle.run_events.specs.declared.result.ChildExit.{ChildExit}
 use Rattle.run_events.specs.declared.result.ChildExecutionOutput.TheVariants.{Output, StartError}
 use Rattle.run_events.specs.declared.result.ExecuteStatus.{ExecuteStatus}
@@ -16,10 +17,9 @@ use Rattle.run_model.specs.declared.unit_view.UnitView.{UnitView}
 use Rattle.run_model.specs.Environment.{attempts}
 use Rattle.run_model.specs.Unit.{at_moment, result_of, status_at, ended, exited, decided}
 use Rattle.run_model.specs.Story.{OwnTurn}
-use Rattle.run_model.specs.Timing.{timer_of}
 use Rattle.run_model.specs.Attempts.{has_ended, end_of, status_of, ended_statuses}
 use Rattle.run_laws.proofs.CaptureLemmas.{taken}
-use Rattle.run_laws.proofs.TimerLemmas.{HasTimer, set_by_later}
+use Rattle.run_laws.proofs.TimerLemmas.{HasTimer, timer_later}
 use Rattle.run_laws.proofs.PieceLemmas.{IsAt, ended_as, end_more, status_as, refused_as, ended_decided, decided_same}
 
 -- the attempt of a unit goes on after the turns of a piece, on these terms and in this phase: whether its child is waited
@@ -44,11 +44,18 @@ going_later terms ph waited exit now u piece le on = record {
   is_at = on.is_at;
   not_ended = on.not_ended;
   watch = on.watch;
-  timer = record {
-    set_by = set_by_later u.latest now le (timer_of terms piece) on.timer.set_by;
-    waits_for = on.timer.waits_for;
-    stage = on.timer.stage;
-  };
+  timer = timer_later terms ph u.timers u.latest now piece le on.timer;
+}
+
+-- the requests that wait for it say nothing of it
+pub going_lined : (terms : AttemptTerms) (ph : Phase) (waited : Bool) (exit : Option ChildExit) (line : List Request)
+    (u : UnitView) (piece : List OwnTurn)
+    → IsGoing terms ph waited exit u piece → IsGoing terms ph waited exit (record u { line = line }) piece
+going_lined terms ph waited exit line u piece on = record {
+  is_at = on.is_at;
+  not_ended = on.not_ended;
+  watch = on.watch;
+  timer = on.timer;
 }
 
 -- it goes on where its child is waited for, or some stream isn't done
@@ -96,51 +103,51 @@ past_with terms n statuses status piece earlier ends is ss =
 -- it ends where its child is waited for no more, and its streams are done or were waited for as long as they may be
 pub past_exited : (now : ℕ) (exit : Option ChildExit) (leaked : Bool) (c : Captured) (turn : UnitTurn) (u : UnitView)
     (piece : List OwnTurn) (earlier : List (List OwnTurn))
-    → IsAt u.terms u.timers.stopwatch.start true exit leaked u.timers.slow_count c (taken now turn ∷ piece)
+    → IsAt u.terms u.timers.stopwatch.start true exit leaked u.timers.slow_count c (taken now turn None ∷ piece)
     → end_of u.terms piece ≡ None → (is_done c || leaked) ≡ true
     → u.timers.stopwatch ≡ started_at u.timers.stopwatch.start → u.attempt ≡ length earlier + 1
     → u.statuses ≡ ended_statuses u.terms (attempts u) earlier
-    → IsPast u.terms (exited now exit leaked c u) (taken now turn ∷ piece) earlier
+    → IsPast u.terms (exited now exit leaked c u) (taken now turn None ∷ piece) earlier
 past_exited now exit leaked c turn u piece earlier it none done watch a ss = (
   ends,
   past_with u.terms (attempts u) u.statuses
-      (status_at now (result_of exit c.errors leaked u) (Output c.output c.errors) u) (taken now turn ∷ piece) earlier ends
-      (status_as true exit leaked c now (length earlier + 1) (taken now turn ∷ piece) u it watch end a) ss,
+      (status_at now (result_of exit c.errors leaked u) (Output c.output c.errors) u) (taken now turn None ∷ piece) earlier ends
+      (status_as true exit leaked c now (length earlier + 1) (taken now turn None ∷ piece) u it watch end a) ss,
 )
   where
-    ends : has_ended u.terms (taken now turn ∷ piece) ≡ true
+    ends : has_ended u.terms (taken now turn None ∷ piece) ≡ true
     ends =
-        ended_as u.terms u.timers.stopwatch.start true exit leaked u.timers.slow_count c (taken now turn ∷ piece) it
+        ended_as u.terms u.timers.stopwatch.start true exit leaked u.timers.slow_count c (taken now turn None ∷ piece) it
         ∙ done
 
-    end : end_of u.terms (taken now turn ∷ piece) ≡ Some now
-    end = end_more u.terms (taken now turn) piece true none ends
+    end : end_of u.terms (taken now turn None ∷ piece) ≡ Some now
+    end = end_more u.terms (taken now turn None) piece true none ends
 
 -- it ends where its start was refused
 pub past_refused : (now : ℕ) (error : List ℕ) (exit : Option ChildExit) (u : UnitView) (piece : List OwnTurn)
     (earlier : List (List OwnTurn)) → IsGoing u.terms Starting false exit u piece
     → u.attempt ≡ length earlier + 1 → u.statuses ≡ ended_statuses u.terms (attempts u) earlier
-    → IsPast u.terms (ended now ExecFail (StartError error) u) (taken now (StartFailed error) ∷ piece) earlier
+    → IsPast u.terms (ended now ExecFail (StartError error) u) (taken now (StartFailed error) None ∷ piece) earlier
 past_refused now error exit u piece earlier on a ss = (
   ends,
   past_with u.terms (attempts u) u.statuses (status_at now ExecFail (StartError error) u)
-      (taken now (StartFailed error) ∷ piece) earlier ends
+      (taken now (StartFailed error) None ∷ piece) earlier ends
       (refused_as now (length earlier + 1) error exit u.capture piece u on.is_at on.watch on.not_ended a) ss,
 )
   where
-    ends : has_ended u.terms (taken now (StartFailed error) ∷ piece) ≡ true
+    ends : has_ended u.terms (taken now (StartFailed error) None ∷ piece) ≡ true
     ends = rw on.is_at.not_refused refl
 
 -- it stays so where it decides
 pub past_decided : (now word : ℕ) (u : UnitView) (piece : List OwnTurn) (earlier : List (List OwnTurn))
-    → IsPast u.terms u piece earlier → IsPast u.terms (decided u).next (taken now (Decide word) ∷ piece) earlier
+    → IsPast u.terms u piece earlier → IsPast u.terms (decided u).next (taken now (Decide word) None ∷ piece) earlier
 past_decided now word u piece earlier (ends, ss) = (
   more,
   ss ∙ ended_statuses-past u.terms (attempts u) piece earlier ends
       ∙ ap (λ status. ended_statuses u.terms (attempts u) earlier ++ status ∷ [])
       (decided_same u.terms (attempts u) (length earlier + 1) now word piece ends)
-      ∙ sym (ended_statuses-past u.terms (attempts u) (taken now (Decide word) ∷ piece) earlier more),
+      ∙ sym (ended_statuses-past u.terms (attempts u) (taken now (Decide word) None ∷ piece) earlier more),
 )
   where
-    more : has_ended u.terms (taken now (Decide word) ∷ piece) ≡ true
+    more : has_ended u.terms (taken now (Decide word) None ∷ piece) ≡ true
     more = ended_decided u.terms now word piece ∙ ends

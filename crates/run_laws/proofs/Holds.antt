@@ -1,21 +1,22 @@
 -- What holds of the newest sub-run after every legal journal.
-use Rattle.std.specs.Prelude.{ℕ, ◌≡◌, ◌+◌, ◌-◌, ◌<◌, ◌≤◌, List, [], ◌++◌, map, length, Bool, false, Option, Some, None, ⊤}
+use Rattle.std.specs.Prelude.{ℕ, ◌≡◌, ◌+◌, ◌-◌, ◌<◌, ◌≤◌, List, [], ◌∷◌, ◌++◌, map, length, Bool, true, false, Option, Some, None, ⊤}
 use Rattle.std.specs.List.{All}
 use Rattle.run_events.specs.declared.message.Message.{Message}
 use Rattle.run_events.specs.declared.message.Message.TheVariants.{Start, Slow, Skip, Finish}
 use Rattle.run_events.specs.declared.plan.SlowTimeout.{SlowTimeout}
 use Rattle.run_events.specs.declared.request.ChildSignal.TheVariants.{End}
 use Rattle.run_events.specs.declared.settings.Settings.{Settings}
+use Rattle.run_events.specs.declared.request.Request.{Request}
 use Rattle.run_events.specs.declared.result.ExecuteStatus.{ExecuteStatus}
 use Rattle.run_model.specs.declared.happening.Happening.{Happening}
 use Rattle.run_model.specs.declared.phase.Phase.{Phase}
-use Rattle.run_model.specs.declared.phase.Phase.TheVariants.{Over}
+use Rattle.run_model.specs.declared.phase.Phase.TheVariants.{StartSent, Over}
 use Rattle.run_model.specs.declared.unit_view.UnitView.{UnitView}
 use Rattle.run_model.specs.Admission.{scripts_in, units_in, terms_at}
-use Rattle.run_model.specs.Words.{is_on, heard, sent, delivered, queue, told, skipped, finished, reason, unit_of}
+use Rattle.run_model.specs.Words.{is_on, heard, sent, delivered, queue, told, skipped, finished, unit_of}
 use Rattle.run_model.specs.Accounts.{is_mismatched, IsAccountedAs}
-use Rattle.run_model.specs.Story.{story_of, pieces}
-use Rattle.run_model.specs.Fates.{never_started, was_left}
+use Rattle.run_model.specs.Story.{story_of, line_of, taken_by, broadcast_to, pieces}
+use Rattle.run_model.specs.Fates.{deliveries, never_started, was_left}
 use Rattle.run_laws.specs.Reports.{signals_asked, signals_by, reports_told, reports_waiting, reports_by}
 use Rattle.run_laws.proofs.AttemptLemmas.{IsMadeIf}
 
@@ -27,14 +28,15 @@ place_of p k = k - scripts_in p
 abbrev pub IsNamed : ℕ → ℕ → ℕ → Option UnitView → Type 0
 IsNamed n now k v = (u : UnitView) → v ≡ Some u → (u.test.unit ≡ k) × (k < n) × (u.latest ≤ now)
 
--- a matched test that is over has made an attempt
-abbrev pub IsAttemptedIn : Bool → Phase → List ExecuteStatus → Type 0
-IsAttemptedIn false Over [] = ⊥
-IsAttemptedIn mm ph ss = ⊤
+-- the requests in the line of a unit are those that it has not taken: none before it was let go, and once it is over
+abbrev pub HasLineIn : Phase → List Request → List Request → Type 0
+HasLineIn StartSent line is = (line ≡ []) × (is ≡ [])
+HasLineIn Over line is = line ≡ []
+HasLineIn _ line is = line ≡ is
 
-abbrev pub IsAttempted : Bool → Option UnitView → Type 0
-IsAttempted mm None = ⊤
-IsAttempted mm (Some u) = IsAttemptedIn mm u.phase u.statuses
+abbrev pub HasLine : Option UnitView → List Request → Type 0
+HasLine None is = is ≡ []
+HasLine (Some u) is = HasLineIn u.phase u.line is
 
 -- a message that is sent yet: a start, a slow report, a skip or a finish
 abbrev pub IsBuilt : Message → Type 0
@@ -43,6 +45,24 @@ IsBuilt (Slow slow) = ⊤
 IsBuilt (Skip skip) = ⊤
 IsBuilt (Finish finish) = ⊤
 IsBuilt m = ⊥
+
+-- whether a list is empty
+abbrev pub is_nil : {X : Type 0} → List X → Bool
+is_nil [] = true
+is_nil (x ∷ xs) = false
+
+-- how often the start of a test was delivered, and whether it was never started, by its phase and its attempts: before
+-- its start is delivered, and of a skipped one, no time; else once, and it was never started where it is over with no
+-- attempt
+abbrev pub IsLetGoIn : Bool → Phase → List ExecuteStatus → ℕ → Bool → Type 0
+IsLetGoIn mm StartSent ss n never = (n ≡ 0) × (never ≡ false)
+IsLetGoIn true Over ss n never = (n ≡ 0) × (never ≡ false)
+IsLetGoIn false Over ss n never = (n ≡ 1) × (never ≡ is_nil ss)
+IsLetGoIn mm _ ss n never = (n ≡ 1) × (never ≡ false)
+
+abbrev pub IsLetGo : Bool → Option UnitView → ℕ → Bool → Type 0
+IsLetGo mm None n never = (n ≡ 0) × (never ≡ false)
+IsLetGo mm (Some u) n never = IsLetGoIn mm u.phase u.statuses n never
 
 -- the signals asked for unit k, and its slow reports that were told or wait, are those of its own turns
 pub record IsReported (slow : SlowTimeout) (k : ℕ) (run : List Happening) : Type 0 where
@@ -63,8 +83,9 @@ pub record Holds (p : Settings) (over : Bool) (now : ℕ) (run : List Happening)
   pub made : (k : ℕ) → IsMadeIf (terms_at p (place_of p k)) (unit_of k run) (story_of k run)
   -- before a sub-run is on, and the run not over, nothing has happened: no further sub-run begins yet
   pub fresh : is_on run ≡ false → over ≡ false → run ≡ []
-  -- no other message is sent yet, and no turn is a cause, so no start is refused
+  -- no other message is sent yet
   pub built : All IsBuilt (sent run)
-  pub calm : reason run ≡ None
-  pub let_go : (k : ℕ) → (never_started k run ≡ false) × (was_left k run ≡ false)
-  pub attempted : (k : ℕ) → IsAttempted (is_mismatched p (place_of p k)) (unit_of k run)
+  pub let_go : (k : ℕ) → IsLetGo (is_mismatched p (place_of p k)) (unit_of k run) (deliveries k run) (never_started k run)
+  pub left : (k : ℕ) → was_left k run ≡ false
+  pub lines : (k : ℕ) → HasLine (unit_of k run) (line_of k run)
+  pub taken : (k : ℕ) → taken_by k run ≤ length (broadcast_to k run)

@@ -1,52 +1,82 @@
 -- Each enabled turn keeps what holds of the newest sub-run.
 use Rattle.std.proofs.Common.{◌≡◌, ◌⊎◌, inl, inr, ℕ, ◌+◌, ◌<◌, ◌≤◌, ◌==◌, ◌&&◌, ◌||◌, List, [], ◌∷◌, ◌++◌, length, drop, Bool}
 use Rattle.std.proofs.Common.{true, false, not, if◌then◌else◌, Option, Some, None, option_to_list, option_map}
-use Rattle.std.proofs.Common.{filter_map, count_by, cond, is_some, nat_lt, refl, ap, sym, subst, ◌∙◌, arith}
+use Rattle.std.proofs.Common.{filter_map, count_by, cond, refl, ap, sym, subst, ◌∙◌, arith}
 use Rattle.std.proofs.Common.{length-append}
 use Rattle.std.specs.List.{All}
 use Rattle.std.proofs.lemmas.List.Elements.{filter_map-append, All-nil, All-cons, All-append}
 use Rattle.std.proofs.lemmas.List.Sums.{sum_by-append}
-use Rattle.std.proofs.lemmas.Grind.{common_steps}
-use Rattle.run_events.specs.Cancel.{greater}
+use Rattle.std.proofs.lemmas.Option.{same_Some}
 use Rattle.run_events.specs.declared.settings.Settings.{Settings}
 use Rattle.run_events.specs.declared.message.Message.{Message}
-use Rattle.run_events.specs.declared.cancel.CancelReason.{CancelReason}
+use Rattle.run_events.specs.declared.request.Request.{Request}
 use Rattle.run_events.specs.declared.events.ReporterEvent.{ReporterEvent}
 use Rattle.run_events.specs.declared.events.ReporterEvent.TheVariants.{Tick, Test}
 use Rattle.run_events.specs.declared.events.TestEventKind.{TestEventKind}
 use Rattle.run_events.specs.declared.events.TestEventKind.TheVariants.{TestFinished, TestSkipped}
-use Rattle.run_events.specs.declared.result.ExecuteStatus.{ExecuteStatus}
 use Rattle.run_model.specs.declared.entry.Entry.{Entry}
 use Rattle.run_model.specs.declared.happening.Happening.{Happening}
 use Rattle.run_model.specs.declared.happening.UnitPart.{UnitPart}
 use Rattle.run_model.specs.declared.happening.UnitPart.TheVariants.{Joins, Acts}
 use Rattle.run_model.specs.declared.unit_view.AttemptTerms.{AttemptTerms}
 use Rattle.run_model.specs.declared.unit_view.UnitView.{UnitView}
-use Rattle.run_model.specs.Unit.{at_moment, row}
-use Rattle.run_model.specs.Words.{events_in, clock, ns_of, is_on, is_over, joined, sub_run, is_heard, heard, reason, sent}
-use Rattle.run_model.specs.Words.{delivered, queue}
+use Rattle.run_model.specs.Unit.{at_moment, row, is_live, reach}
+use Rattle.run_model.specs.Words.{events_in, clock, ns_of, is_on, is_over, joined, sub_run, is_heard, heard, sent}
+use Rattle.run_model.specs.Words.{delivered, queue, was_refused, tally}
 use Rattle.run_model.specs.Words.{told, finish_of, finished, skips, skipped, unit_of, unit_after}
 use Rattle.run_model.specs.Admission.{units_in, unit_of_test, terms_at}
-use Rattle.run_model.specs.Dispatch.{event}
-use Rattle.run_model.specs.Board.{Deed, said}
+use Rattle.run_model.specs.Dispatch.{event, having_told}
+use Rattle.run_model.specs.Board.{Deed, board, said}
 use Rattle.run_model.specs.Turns.{nothing_done, enabled, deed_on, happening}
 use Rattle.run_model.specs.Journal.{history, IsLegalBackward}
-use Rattle.run_model.specs.Accounts.{HasAccount, IsAccounted, IsAccountedAs, is_mismatched}
+use Rattle.run_model.specs.Accounts.{News, HasAccount, IsAccounted, IsAccountedAs, is_mismatched}
 use Rattle.run_model.specs.Accounts.{account_of, pending_of}
-use Rattle.run_model.specs.Story.{OwnTurn, own_turn, story_of, pieces}
-use Rattle.run_model.specs.Fates.{lets_go, deliveries, never_started, was_left}
+use Rattle.run_model.specs.Story.{OwnTurn, own_turn, story_of, line_of, request_of, pieces}
+use Rattle.run_model.specs.Fates.{deliveries, never_started, was_left}
 use Rattle.run_laws.specs.Laws.{IsMadeByItsTurns}
 use Rattle.run_laws.specs.Reports.{IsReportedByItsTurns}
-use Rattle.run_laws.proofs.Holds.{Holds, IsBuilt, IsNamed, IsReported, place_of}
-use Rattle.run_laws.proofs.AttemptLemmas.{IsMade, IsMadeIf, made_statuses, made_due, row_made_if}
+use Rattle.run_laws.specs.Cancels.{HasItsLine}
+use Rattle.run_model.specs.declared.phase.Phase.{Phase}
+use Rattle.run_model.specs.declared.phase.Phase.TheVariants.{StartSent, Starting, Running, Grace, KillWait, Leak}
+use Rattle.run_model.specs.declared.phase.Phase.TheVariants.{Deciding, Over}
+use Rattle.run_laws.proofs.Holds.{Holds, HasLine, HasLineIn, IsBuilt, IsNamed, IsReported, place_of}
+use Rattle.run_laws.proofs.AttemptLemmas.{IsMade, IsMadeIf, made_statuses, made_due, row_made_if, reach_made_if}
 use Rattle.run_laws.proofs.Queue.{queue-cons}
 use Rattle.run_laws.proofs.AccountLemmas.{IsFirst, IsBuiltIf}
 use Rattle.run_laws.proofs.Rows.{row_keeps}
-use Rattle.run_laws.proofs.Attempted.{attempted_after}
-use Rattle.run_laws.proofs.OnBoard.{board_of}
+use Rattle.run_laws.proofs.LetGo.{let_go_after, left_after}
+use Rattle.run_laws.proofs.Lines.{own_request}
+use Rattle.run_laws.proofs.LineMoves.{line_after}
+use Rattle.run_laws.proofs.Cancels.{IsCancel, cancel_is, cancel_skips, cancel_finishes}
 use Rattle.run_laws.proofs.Newcomers.{place-of_test}
 use Rattle.run_laws.proofs.Reported.{reported_after}
 use Rattle.run_laws.proofs.Deeds.{PartFits, Does, does}
+
+-- a request says nothing of an account, nor of the name of a unit
+reach_account : (mm : Bool) (request : Option Request) (v : Option UnitView) (t q : List News) → HasAccount mm v t q
+    → HasAccount mm (reach request v) t q
+reach_account mm None v t q h = h
+reach_account mm (Some request) None t q h = h
+reach_account mm (Some request) (Some u) t q h = by_live (is_live u.phase)
+  where
+    by_live : (b : Bool) → HasAccount mm (Some (if b then record u { line = u.line ++ request ∷ [] } else u)) t q
+    by_live true = h
+    by_live false = h
+
+reach_named : (n now k : ℕ) (request : Option Request) (v : Option UnitView) → IsNamed n now k v
+    → IsNamed n now k (reach request v)
+reach_named n now k None v h = h
+reach_named n now k (Some request) None h = λ u e. cc
+reach_named n now k (Some request) (Some u) h = by_live (is_live u.phase)
+  where
+    at : (u.test.unit ≡ k) × (k < n) × (u.latest ≤ now)
+    at = h u refl
+
+    by_live : (b : Bool) → IsNamed n now k (Some (if b then record u { line = u.line ++ request ∷ [] } else u))
+    by_live true w e =
+        subst (λ (w : UnitView). (w.test.unit ≡ k) × (k < n) × (w.latest ≤ now)) (same_Some _ _ e) (at.0, at.1, at.2)
+    by_live false w e =
+        subst (λ (w : UnitView). (w.test.unit ≡ k) × (k < n) × (w.latest ≤ now)) (same_Some _ _ e) at
 
 -- the account of a test after one more turn, from the parts of that turn
 accounted-cons : (p : Settings) (j k : ℕ) (x : Happening) (run : List Happening)
@@ -55,7 +85,9 @@ accounted-cons : (p : Settings) (j k : ℕ) (x : Happening) (run : List Happenin
     (account_of k (told run) ++ account_of k (events_in x))
     (pending_of k (drop (if x.taken then 1 else 0) (queue run) ++ option_to_list x.sent))
     → IsAccountedAs p j k (x ∷ run)
-accounted-cons p j k x run fits h = rw (filter_map-append, queue-cons x run fits) h
+accounted-cons p j k x run fits h =
+    rw (filter_map-append, queue-cons x run fits)
+    (reach_account (is_mismatched p j) x.request (unit_after x.moment k x.part (unit_of k run)) _ _ h)
 
 -- a turn tells one skip or one finish at most
 counted_one : (o : Option ReporterEvent)
@@ -70,15 +102,21 @@ counted_one (Some (Test e)) = by_kind e.kind
     by_kind (TestFinished finish) = omega arith
     by_kind kind = omega arith
 
-counted-cons : (x : Happening) (run : List Happening) → x.cancel ≡ None
+counted-cons : (x : Happening) (run : List Happening) → IsCancel x.cancel
     → skipped run + length (finished run) ≤ length run
     → skipped (x ∷ run) + length (finished (x ∷ run)) ≤ length (x ∷ run)
 counted-cons x run none short =
+    let plain : count_by skips (events_in x) ≡ count_by skips (option_to_list x.told ++ []) =
+    sum_by-append (λ e. cond (skips e) 1 0) (option_to_list x.told) (option_to_list x.cancel)
+    ∙ ap (λ n. count_by skips (option_to_list x.told) + n) (cancel_skips x.cancel none)
+    ∙ sym (sum_by-append (λ e. cond (skips e) 1 0) (option_to_list x.told) []) in
+    let same : filter_map finish_of (events_in x) ≡ filter_map finish_of (option_to_list x.told ++ []) =
+    filter_map-append finish_of (option_to_list x.told) (option_to_list x.cancel)
+    ∙ ap (λ fs. filter_map finish_of (option_to_list x.told) ++ fs) (cancel_finishes x.cancel none)
+    ∙ sym (filter_map-append finish_of (option_to_list x.told) []) in
     let one = counted_one x.told in
     let now : count_by skips (events_in x) + length (filter_map finish_of (events_in x)) ≤ 1 =
-    subst (λ c. count_by skips (option_to_list x.told ++ option_to_list c) + length
-    (filter_map finish_of (option_to_list x.told ++ option_to_list c)) ≤ 1)
-    (sym none) (counted_one x.told) in
+    rw (plain, same) one in
     let skip : skipped (x ∷ run) ≡ skipped run + count_by skips (events_in x) =
     sum_by-append (λ e. cond (skips e) 1 0) (told run) (events_in x) in
     let finish : length (finished (x ∷ run)) ≡ length (finished run) + length (filter_map finish_of (events_in x)) =
@@ -135,11 +173,11 @@ first_made false s u sent (ph, is) a st terms ss =
 -- a part leaves each unit as its own turns make it
 made_after : (p : Settings) (run : List Happening) (now k : ℕ) (part : Option UnitPart)
     → IsMadeIf (terms_at p (place_of p k)) (unit_of k run) (story_of k run)
-    → IsNamed (units_in p) now k (unit_of k run) → PartFits p now run part
+    → IsNamed (units_in p) now k (unit_of k run) → HasLine (unit_of k run) (line_of k run) → PartFits p now run part
     → IsMadeIf (terms_at p (place_of p k)) (unit_after now k part (unit_of k run))
-    (option_to_list (own_turn k now part) ++ story_of k run)
-made_after p run now k None h named fits = h
-made_after p run now k (Some (Joins first)) h named (sent, new) = begins (first.test.unit == k) refl
+    (option_to_list (own_turn k now part (line_of k run)) ++ story_of k run)
+made_after p run now k None h named line fits = h
+made_after p run now k (Some (Joins first)) h named line (sent, new) = begins (first.test.unit == k) refl
   where
     begins : (b : Bool) → (first.test.unit == k) ≡ b
         → IsMadeIf (terms_at p (place_of p k)) (if b then Some first else unit_of k run) (story_of k run)
@@ -149,28 +187,23 @@ made_after p run now k (Some (Joins first)) h named (sent, new) = begins (first.
         rw (rw none at h) (first_made _ _ first sent new.first new.attempt new.start
         (new.terms ∙ ap (λ k. terms_at p (place_of p k)) (sym here)) new.statuses)
     begins false e = h
-made_after p run now k (Some (Acts j turn)) h named taken = by_unit (j == k) refl
+made_after p run now k (Some (Acts j turn)) h named line taken = by_unit (j == k) refl
   where
     by_unit : (b : Bool) → (j == k) ≡ b
         → IsMadeIf (terms_at p (place_of p k)) (if b then option_map (λ w. (row now turn w).next) (unit_of k run) else unit_of k run)
-        (option_to_list (if b then Some (record { moment = now; turn = turn }) else None) ++ story_of k run)
+        (option_to_list (if b then Some (record {
+          moment = now;
+          turn = turn;
+          request = request_of turn (line_of k run);
+        }) else None) ++ story_of k run)
     by_unit true e =
         let here : k ≡ j = grind arith in
         let is : unit_of k run ≡ Some taken.unit = ap (λ k. unit_of k run) here ∙ taken.is in
-        row_made_if (terms_at p (place_of p k)) now turn taken.unit (unit_of k run) (story_of k run)
-        is taken.takes (named taken.unit is).2 h
+        rw (own_request now turn taken.unit (line_of k run) taken.takes
+        (subst (λ v. HasLine v (line_of k run)) is line))
+        (row_made_if (terms_at p (place_of p k)) now turn taken.unit (unit_of k run) (story_of k run)
+        is taken.takes (named taken.unit is).2 h)
     by_unit false e = h
-
--- what is no cause leaves the reason
-pub greater-None : (r : Option CancelReason) → greater r None ≡ r
-greater-None None = refl
-greater-None (Some r) = refl
-
--- where no cause stands no start is refused
-stays_let_go : (a b c d : Bool) → c ≡ false → d ≡ false → (a && b && c || d) ≡ false
-stays_let_go true true c d ec ed = rw (ec, ed) refl
-stays_let_go true false c d ec ed = ed
-stays_let_go false b c d ec ed = ed
 
 -- once it is on, a sub-run is on or the run is over
 stays_on : (begins on ends over_now over : Bool) → over_now ≡ ends → (begins || on) ≡ true
@@ -190,25 +223,24 @@ pub holds-cons : (p : Settings) (over : Bool) (now : ℕ) (run : List Happening)
     → Holds p (d.over || over) (now + ns_of e.turn) (said now e d ∷ run)
 holds-cons p over now run e d h does on = record {
   fits = let room = does.room in omega (arith, length-append (sent run) (option_to_list d.sent));
-  counted = counted-cons (said now e d) run does.marks.cancel h.counted;
+  counted = counted-cons (said now e d) run
+      (subst IsCancel (sym does.marks.cancel) (cancel_is now (having_told (tally p run) d.told) d.cause)) h.counted;
   heard = heard-within (is_heard (said now e d)) now (ns_of e.turn) (heard run) h.heard;
-  named = λ k. named_after p run now (now + ns_of e.turn) k d.part (unit_of k run) (omega arith) (h.named k)
-      does.part;
+  named = λ k. reach_named (units_in p) (now + ns_of e.turn) k d.request (unit_after now k d.part (unit_of k run))
+      (named_after p run now (now + ns_of e.turn) k d.part (unit_of k run) (omega arith) (h.named k) does.part);
   accounts = λ k. accounted-cons p (place_of p k) k (said now e d) run does.room (does.accounts k);
   reported = λ k. reported_after (terms_at p (place_of p k)).slow k now run e d does.room (h.reported k)
       (does.reported k);
-  made = λ k. made_after p run now k d.part (h.made k) (h.named k) does.part;
+  made = λ k. reach_made_if (terms_at p (place_of p k)) d.request (unit_after now k d.part (unit_of k run)) _
+      (made_after p run now k d.part (h.made k) (h.named k) (h.lines k) does.part);
   fresh = λ off going. absurd (stays_on d.begins (is_on run) d.ends d.over over does.marks.finishes on off going);
   built = All-append IsBuilt (sent run) (option_to_list d.sent) h.built (built_if d.sent does.sends);
-  calm = ap (greater (reason run)) does.marks.cause ∙ greater-None (reason run) ∙ h.calm;
-  let_go = λ k. let none : is_some (reason run) ≡ false = ap is_some h.calm in (
-    stays_let_go (lets_go k d.part) (deliveries k run == 0) (is_some (reason run)) (never_started k run) none
-        (h.let_go k).0,
-    stays_let_go (lets_go k d.part) (nat_lt 0 (deliveries k run)) (is_some (reason run)) (was_left k run) none
-        (h.let_go k).1,
-  );
-  attempted = λ k. attempted_after p run now k d.part (unit_of k run) _ _ (h.attempted k) (h.accounts k) refl
-      does.part;
+  let_go = λ k. let_go_after p run now k d.request d.part (unit_of k run) _ _ (deliveries k run)
+      (never_started k run) (h.let_go k) (h.accounts k) refl does.part;
+  left = λ k. left_after p run now k d.part (deliveries k run) (never_started k run) (was_left k run) (h.left k)
+      (h.let_go k) does.part;
+  lines = λ k. (line_after p run now k d.request d.part (h.lines k) (h.taken k) does.part).0;
+  taken = λ k. (line_after p run now k d.request d.part (h.lines k) (h.taken k) does.part).1;
 }
 
 -- the newest sub-run after a turn that begins one where nothing has happened, or finds one that is on
@@ -231,8 +263,8 @@ HoldsAfter p past = Holds p (is_over past) (clock past) (sub_run past)
 
 pub does_after : (p : Settings) (past : List Happening) (e : Entry) → HoldsAfter p past → enabled p past e.turn ≡ true
     → Does p (is_over past) (clock past) (sub_run past)
-    (deed_on p (board_of p (is_over past) (clock past) (sub_run past)) e.turn)
-does_after p past e h en = does p (is_over past) (clock past) (sub_run past) e.turn h en
+    (deed_on p (board p past) e.turn)
+does_after p past e h en = does p (is_over past) (was_refused past) (clock past) (sub_run past) e.turn h en
 
 -- a turn joins the newest sub-run, or comes before the first one and does nothing but move the clock
 pub record IsOfRun (p : Settings) (past : List Happening) (e : Entry) : Type 0 where
@@ -241,7 +273,7 @@ pub record IsOfRun (p : Settings) (past : List Happening) (e : Entry) : Type 0 w
 
 pub record IsBeforeRuns (p : Settings) (past : List Happening) (e : Entry) : Type 0 where
   pub none : sub_run past ≡ []
-  pub idle : deed_on p (board_of p (is_over past) (clock past) (sub_run past)) e.turn ≡ nothing_done
+  pub idle : deed_on p (board p past) e.turn ≡ nothing_done
   pub still : sub_run (happening p past e ∷ past) ≡ []
 
 pub where_joins : (p : Settings) (past : List Happening) (e : Entry) → HoldsAfter p past
@@ -249,7 +281,7 @@ pub where_joins : (p : Settings) (past : List Happening) (e : Entry) → HoldsAf
 where_joins p past e h en = by_on ((happening p past e).begins || is_on (sub_run past)) refl
   where
     does : Does p (is_over past) (clock past) (sub_run past)
-        (deed_on p (board_of p (is_over past) (clock past) (sub_run past)) e.turn)
+        (deed_on p (board p past) e.turn)
     does = does_after p past e h en
 
     by_on : (b : Bool) → ((happening p past e).begins || is_on (sub_run past)) ≡ b
@@ -277,9 +309,10 @@ holds-none p over now = record {
   made = λ k. refl;
   fresh = λ off going. refl;
   built = All-nil IsBuilt;
-  calm = refl;
   let_go = λ k. (refl, refl);
-  attempted = λ k. tt;
+  left = λ k. refl;
+  lines = λ k. refl;
+  taken = λ k. omega arith;
 }
 
 pub kept : (p : Settings) (past : List Happening) (e : Entry) → HoldsAfter p past → enabled p past e.turn ≡ true
@@ -329,3 +362,26 @@ reported p backward legal j =
     let it = subst (λ i. IsReported (terms_at p i).slow (unit_of_test p j) (sub_run (history p backward)))
     (place-of_test p j) ((holds p backward legal).reported (unit_of_test p j)) in
     record { signals = it.signals; reports = it.reports }
+
+-- and its line is what was broadcast to it
+pub lined : (p : Settings) (backward : List Entry) → IsLegalBackward p backward → (j : ℕ) (u : UnitView)
+    → unit_of (unit_of_test p j) (sub_run (history p backward)) ≡ Some u → is_live u.phase ≡ true
+    → HasItsLine (sub_run (history p backward)) (unit_of_test p j) u
+lined p backward legal j u is live =
+    let k : ℕ = unit_of_test p j in
+    let run : List Happening = sub_run (history p backward) in
+    record {
+      line = live_line u.phase live (subst (λ v. HasLine v (line_of k run)) is ((holds p backward legal).lines k));
+      took = (holds p backward legal).taken k;
+    }
+  where
+    live_line : (ph : Phase) → is_live ph ≡ true → HasLineIn ph u.line (line_of (unit_of_test p j) (sub_run (history p backward)))
+        → u.line ≡ line_of (unit_of_test p j) (sub_run (history p backward))
+    live_line Starting e h = h
+    live_line Running e h = h
+    live_line Grace e h = h
+    live_line KillWait e h = h
+    live_line Leak e h = h
+    live_line Deciding e h = h
+    live_line StartSent e h = cc
+    live_line Over e h = cc

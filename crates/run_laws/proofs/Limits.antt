@@ -3,7 +3,7 @@ use Rattle.std.proofs.Common.{◌≡◌, ◌⊎◌, inl, inr, ℕ, zero, suc, �
 use Rattle.std.proofs.Common.{true, false, if◌then◌else◌, Option, Some, None, option_to_list}
 use Rattle.std.proofs.Common.{nat_lt, refl, ap, sym, subst, ◌∙◌, arith, length-append}
 use Rattle.std.specs.List.{range_with_len}
-use Rattle.std.proofs.lemmas.List.{append-nil, take-append-le, take_all}
+use Rattle.std.proofs.lemmas.List.{append-nil, append_assoc, take-append-le, take_all}
 use Rattle.run_events.specs.declared.settings.Settings.{Settings}
 use Rattle.run_events.specs.declared.message.Message.{Message}
 use Rattle.run_events.specs.declared.events.ReporterEvent.{ReporterEvent}
@@ -13,20 +13,25 @@ use Rattle.run_admission.specs.InUse.{is_in_use}
 use Rattle.run_admission.proofs.FewerLemmas.{kept_gone}
 use Rattle.run_model.specs.declared.entry.Entry.{Entry}
 use Rattle.run_model.specs.declared.happening.Happening.{Happening}
-use Rattle.run_model.specs.Words.{clock, is_over, sub_run, queue, told}
-use Rattle.run_model.specs.Admission.{tests_in}
-use Rattle.run_model.specs.Board.{Deed, deed_events, said}
+use Rattle.run_model.specs.Words.{clock, is_over, sub_run, queue, told, unit_of, unit_after, tally, was_refused}
+use Rattle.run_model.specs.Admission.{tests_in, seat_of}
+use Rattle.run_model.specs.Dispatch.{having_told}
+use Rattle.run_model.specs.Unit.{is_live, reach}
+use Rattle.run_model.specs.declared.unit_view.UnitView.{UnitView}
+use Rattle.run_events.specs.declared.request.Request.{Request}
+use Rattle.run_model.specs.Board.{Deed, board, deed_events, said}
 use Rattle.run_model.specs.Turns.{deed_on}
 use Rattle.run_model.specs.Journal.{history, IsLegalBackward}
 use Rattle.run_laws.specs.Limits.{seat_told, limits_with}
 use Rattle.run_laws.proofs.Queue.{queue-cons}
-use Rattle.run_laws.proofs.OnBoard.{board_of}
+use Rattle.run_laws.proofs.Cancels.{IsCancel, cancel_is, cancel_apart}
 use Rattle.run_laws.proofs.Deeds.{Does}
 use Rattle.run_laws.proofs.Kept.{HoldsAfter, does_after, IsOfRun, IsBeforeRuns, where_joins, holds}
 use Rattle.run_laws.proofs.OpenSeats.{opened, at_last, Along, AreLower, same_lower}
 use Rattle.run_laws.proofs.OpenSeats.{along-now, along-lower, along-append}
 use Rattle.run_laws.proofs.OpenSeats.{along-drop, at_last-lower, at_last-append, at_last-drop}
 use Rattle.run_laws.proofs.BoardSeats.{board_seat, seat_after, AreKeptIn, kept_fewer}
+use Rattle.run_laws.proofs.ToldSeats.{seat_told-nothing, seat_told-other}
 use Rattle.run_laws.proofs.SeatMoves.{MovesSeats, moves}
 
 -- after each event told in a sub-run the limits are kept, and so they are while the messages that wait are told; the
@@ -67,20 +72,27 @@ along_sent p seat other ms None along lower kept = subst (Along (AreKeptIn p) se
 along_sent p seat other ms (Some m) along lower kept =
     along-append (AreKeptIn p) ms seat m along (kept_fewer p (opened m (at_last seat ms)) other lower kept)
 
+-- an event that the run is cancelled leaves the seats
+seat_told-cancel : (k : ℕ) (es : List ReporterEvent) (o : Option ReporterEvent) → IsCancel o
+    → seat_told (es ++ option_to_list o) k ≡ seat_told es k
+seat_told-cancel k es None h = seat_told-nothing k es
+seat_told-cancel k es (Some e) h = let apart = cancel_apart e h in seat_told-other k es e (apart.0 k) (apart.1 k)
+
 -- what holds of the seats after a sub-run holds after one more deed
 open-cons : (p : Settings) (over : Bool) (now : ℕ) (run : List Happening) (e : Entry) (d : Deed)
     → Does p over now run d → MovesSeats p now run d → AreOpen p run → AreOpen p (said now e d ∷ run)
 open-cons p over now run e d does moves o = record {
-  before = λ n. subst (λ es. AreKeptIn p (seat_told (take n (told run ++ es)))) (sym events)
+  before = λ n. subst (λ es. AreKeptIn p (seat_told (take n es))) events
+      (prefixes (λ es. AreKeptIn p (seat_told es)) own d.cancel
       (prefixes (λ es. AreKeptIn p (seat_told es)) (told run) d.told o.before
-      (subst (λ es. AreKeptIn p (seat_told (told run ++ es))) events
-      (along-now (AreKeptIn p) after rest along)) n);
+      (along-now (AreKeptIn p) (seat_told own) rest own_along))
+      (subst (λ es. AreKeptIn p (seat_told es)) (sym events) (along-now (AreKeptIn p) after rest along)) n);
   along = subst (Along (AreKeptIn p) after) (sym waiting)
       (along_sent p after (seat_after now d.part run) rest d.sent along sent board);
-  last = subst (λ q. AreLower (at_last after q) (seat_after now d.part run)) (sym waiting)
+  last = reached_above d.request (subst (λ q. AreLower (at_last after q) (seat_after now d.part run)) (sym waiting)
       (subst (λ seat. AreLower seat (seat_after now d.part run))
-      (sym (at_last-append rest (option_to_list d.sent) after)) sent);
-  board = board;
+      (sym (at_last-append rest (option_to_list d.sent) after)) sent));
+  board = kept_fewer p (board_seat (said now e d ∷ run)) (seat_after now d.part run) (reached_same d.request) board;
 }
   where
     after : ℕ → Seat
@@ -89,30 +101,63 @@ open-cons p over now run e d does moves o = record {
     rest : List Message
     rest = drop (if d.taken then 1 else 0) (queue run)
 
-    events : deed_events d ≡ option_to_list d.told
-    events = ap (λ c. option_to_list d.told ++ option_to_list c) does.marks.cancel ∙ append-nil (option_to_list d.told)
+    own : List ReporterEvent
+    own = told run ++ option_to_list d.told
+
+    events : own ++ option_to_list d.cancel ≡ told run ++ deed_events d
+    events = append_assoc (told run) (option_to_list d.told) (option_to_list d.cancel)
+
+    cancels : IsCancel d.cancel
+    cancels = subst IsCancel (sym does.marks.cancel) (cancel_is now (having_told (tally p run) d.told) d.cause)
+
+    after_own : AreLower after (seat_told own)
+    after_own = same_lower _ _ (λ k. ap (λ es. seat_told es k) (sym events) ∙ seat_told-cancel k own d.cancel cancels)
+
+    -- a broadcast leaves the seats
+    seat_reached : (request : Option Request) (v : Option UnitView) → seat_of (reach request v) ≡ seat_of v
+    seat_reached None v = refl
+    seat_reached (Some request) None = refl
+    seat_reached (Some request) (Some u) = by_live (is_live u.phase)
+      where
+        by_live : (b : Bool)
+            → seat_of (Some (if b then record u { line = u.line ++ request ∷ [] } else u)) ≡ seat_of (Some u)
+        by_live true = refl
+        by_live false = refl
+
+    reached_same : (request : Option Request)
+        → AreLower (λ k. seat_of (reach request (unit_after now k d.part (unit_of k run)))) (seat_after now d.part run)
+    reached_same request = same_lower _ _ (λ k. seat_reached request (unit_after now k d.part (unit_of k run)))
+
+    reached_above : {seat : ℕ → Seat} → (request : Option Request) → AreLower seat (seat_after now d.part run)
+        → AreLower seat (λ k. seat_of (reach request (unit_after now k d.part (unit_of k run))))
+    reached_above request below k used =
+        below k used ∙ sym (seat_reached request (unit_after now k d.part (unit_of k run)))
 
     waiting : queue (said now e d ∷ run) ≡ rest ++ option_to_list d.sent
     waiting = queue-cons (said now e d) run does.room
 
-    same : AreLower after (at_last (seat_told (told run)) (take (if d.taken then 1 else 0) (queue run)))
-    same = same_lower _ _ moves.tells
-
-    along : Along (AreKeptIn p) after rest
-    along = along-lower (AreKeptIn p) (kept_fewer p) rest after
-        (at_last (seat_told (told run)) (take (if d.taken then 1 else 0) (queue run))) same
+    own_along : Along (AreKeptIn p) (seat_told own) rest
+    own_along = along-lower (AreKeptIn p) (kept_fewer p) rest (seat_told own)
+        (at_last (seat_told (told run)) (take (if d.taken then 1 else 0) (queue run))) moves.tells
         (along-drop (AreKeptIn p) (if d.taken then 1 else 0) (queue run) (seat_told (told run)) o.along)
 
-    last : AreLower (at_last after rest) (board_seat run)
-    last = lower-on (at_last after rest) (at_last (seat_told (told run)) (queue run)) (board_seat run)
-        (subst (AreLower (at_last after rest))
+    along : Along (AreKeptIn p) after rest
+    along = along-lower (AreKeptIn p) (kept_fewer p) rest after (seat_told own) after_own own_along
+
+    last : AreLower (at_last (seat_told own) rest) (board_seat run)
+    last = lower-on (at_last (seat_told own) rest) (at_last (seat_told (told run)) (queue run)) (board_seat run)
+        (subst (AreLower (at_last (seat_told own) rest))
         (at_last-drop (if d.taken then 1 else 0) (queue run) (seat_told (told run)))
-        (at_last-lower rest after
-        (at_last (seat_told (told run)) (take (if d.taken then 1 else 0) (queue run))) same))
+        (at_last-lower rest (seat_told own)
+        (at_last (seat_told (told run)) (take (if d.taken then 1 else 0) (queue run))) moves.tells))
         o.last
 
     sent : AreLower (at_last (at_last after rest) (option_to_list d.sent)) (seat_after now d.part run)
-    sent = moves.sends (at_last after rest) last
+    sent = lower-on (at_last (at_last after rest) (option_to_list d.sent))
+        (at_last (at_last (seat_told own) rest) (option_to_list d.sent)) (seat_after now d.part run)
+        (at_last-lower (option_to_list d.sent) (at_last after rest) (at_last (seat_told own) rest)
+        (at_last-lower rest after (seat_told own) after_own))
+        (moves.sends last)
 
     board : AreKeptIn p (seat_after now d.part run)
     board = moves.keeps o.board
@@ -153,9 +198,9 @@ opens p (e ∷ before) legal = one_more (opens p before legal.2) (holds p before
         by_run (inl of) =
             subst (AreOpen p) (sym of.joins)
             (open-cons p (is_over past) (clock past) (sub_run past) e
-            (deed_on p (board_of p (is_over past) (clock past) (sub_run past)) e.turn)
+            (deed_on p (board p past) e.turn)
             (does_after p past e h legal.0)
-            (moves p (is_over past) (clock past) (sub_run past) e.turn h legal.0)
+            (moves p (is_over past) (was_refused past) (clock past) (sub_run past) e.turn h legal.0)
             o)
         by_run (inr before) = subst (AreOpen p) (sym before.still) (open-nil p)
 

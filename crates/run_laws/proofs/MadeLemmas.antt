@@ -2,6 +2,7 @@
 use Rattle.std.proofs.Common.{◌≡◌, ℕ, ◌+◌, ◌≤◌, List, [], ◌∷◌, ◌++◌, length, Bool, true, false, ◌&&◌}
 use Rattle.std.proofs.Common.{not, if◌then◌else◌, Option, None, refl, ap, sym, subst, ◌∙◌}
 use Rattle.std.proofs.lemmas.List.{append-nil}
+use Rattle.run_events.specs.declared.request.Request.{Request}
 use Rattle.run_events.specs.declared.result.ChildExit.{ChildExit}
 use Rattle.run_model.specs.declared.phase.Phase.{Phase}
 use Rattle.run_model.specs.declared.phase.Phase.TheVariants.{StartSent, Starting, Running, Grace, KillWait, Leak}
@@ -14,11 +15,12 @@ use Rattle.run_model.specs.Unit.{at_moment, takes, takes_at, is_due}
 use Rattle.run_model.specs.Story.{OwnTurn}
 use Rattle.run_model.specs.Timing.{timer_of, is_timer_due_at}
 use Rattle.run_model.specs.Attempts.{has_ended, end_of, status_of}
-use Rattle.run_model.specs.Attempts.{ended_statuses, attempt_in, start_in, is_due_in}
+use Rattle.run_model.specs.Attempts.{ended_statuses, attempt_in, start_in, is_due_in, none_goes_on}
+use Rattle.run_model.specs.Admission.{is_last}
 use Rattle.run_laws.proofs.TimerLemmas.{waits, due_as}
 use Rattle.run_laws.proofs.TimerLemmas.{set_by_later}
 use Rattle.run_laws.proofs.PieceLemmas.{unended_has}
-use Rattle.run_laws.proofs.GoingLemmas.{IsGoing, IsPast, going_later}
+use Rattle.run_laws.proofs.GoingLemmas.{IsGoing, IsPast, going_later, going_lined}
 
 -- the newest piece of a unit goes on in this phase, and its statuses are those of the pieces before it
 abbrev pub GoesOn : AttemptTerms → Phase → Bool → Option ChildExit → UnitView → List OwnTurn → List (List OwnTurn) → Type 0
@@ -83,6 +85,17 @@ made_statuses terms u ps made = by_phase u.phase ps made.has
     by_phase StartSent (piece ∷ earlier) h = absurd h
     by_phase ph [] h = absurd h
 
+-- none of them goes on where it is over
+pub made_ended : (terms : AttemptTerms) (u : UnitView) (ps : List (List OwnTurn)) → IsMade terms u ps
+    → is_last u.phase ≡ true → none_goes_on terms ps ≡ true
+made_ended terms u ps made last = by_phase u.phase ps last made.has
+  where
+    by_phase : (ph : Phase) (ps : List (List OwnTurn)) → is_last ph ≡ true → HasPieces terms ph u ps
+        → none_goes_on terms ps ≡ true
+    by_phase Over [] last h = refl
+    by_phase Over (piece ∷ earlier) last h = h.0
+    by_phase ph ps last h = cc
+
 -- whether its timer is due is what its own turns say
 pub made_due : (terms : AttemptTerms) (u : UnitView) (ps : List (List OwnTurn)) → IsMade terms u ps → (now : ℕ)
     → u.latest ≤ now → takes now u Due ≡ is_due_in terms now ps
@@ -129,3 +142,32 @@ later_pieces terms now Over u [] le h = h
 later_pieces terms now Over u (piece ∷ earlier) le h = h
 later_pieces terms now StartSent u (piece ∷ earlier) le h = absurd h
 later_pieces terms now ph u [] le h = absurd h
+
+-- the requests that wait for it say nothing of its attempts
+pub lined_pieces : (terms : AttemptTerms) (ph : Phase) (line : List Request) (u : UnitView) (ps : List (List OwnTurn))
+    → HasPieces terms ph u ps → HasPieces terms ph (record u { line = line }) ps
+lined_pieces terms StartSent line u [] h = h
+lined_pieces terms Starting line u (piece ∷ earlier) (on, ss) =
+    (going_lined terms Starting false None line u piece on, ss)
+lined_pieces terms Running line u (piece ∷ earlier) (on, ss) =
+    (going_lined terms Running false None line u piece on, ss)
+lined_pieces terms Grace line u (piece ∷ earlier) (on, ss) =
+    (going_lined terms Grace false None line u piece on, ss)
+lined_pieces terms KillWait line u (piece ∷ earlier) (on, ss) =
+    (going_lined terms KillWait false None line u piece on, ss)
+lined_pieces terms Leak line u (piece ∷ earlier) (on, ss) =
+    (going_lined terms Leak true u.exit line u piece on, ss)
+lined_pieces terms Deciding line u (piece ∷ earlier) h = h
+lined_pieces terms Over line u [] h = h
+lined_pieces terms Over line u (piece ∷ earlier) h = h
+lined_pieces terms StartSent line u (piece ∷ earlier) h = absurd h
+lined_pieces terms ph line u [] h = absurd h
+
+pub made_lined : (terms : AttemptTerms) (line : List Request) (u : UnitView) (ps : List (List OwnTurn))
+    → IsMade terms u ps → IsMade terms (record u { line = line }) ps
+made_lined terms line u ps made = record {
+  attempt = made.attempt;
+  start = made.start;
+  terms = made.terms;
+  has = lined_pieces terms u.phase line u ps made.has;
+}

@@ -175,6 +175,7 @@ pub record IsNew (p : Settings) (run : List Happening) (u : UnitView) (sent : Me
   pub attempt : u.attempt ≡ 1
   pub terms : u.terms ≡ terms_at p (place_of p u.test.unit)
   pub statuses : u.statuses ≡ []
+  pub line : u.line ≡ []
 
 -- a newcomer begins
 pub new_unit : (p : Settings) (run : List Happening) (new : Newcomer) → newcomer p (units p run) ≡ Some new
@@ -212,6 +213,7 @@ new_unit p run new e = by_case found.is
           attempt = refl;
           terms = terms;
           statuses = refl;
+          line = refl;
         })
     by_case (inr (skip, (global, (slot, runs, is)))) =
         let mm : is_mismatched p (place_of p k) ≡ false = mismatched ∙ ap is_some skip in
@@ -224,4 +226,5 @@ new_unit p run new e = by_case found.is
           attempt = refl;
           terms = terms;
           statuses = refl;
+          line = refl;
         })

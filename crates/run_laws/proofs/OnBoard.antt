@@ -6,20 +6,33 @@ use Rattle.std.proofs.lemmas.List.FromFn.{get_or-map-range_with_len, length-map-
 use Rattle.run_events.specs.declared.settings.Settings.{Settings}
 use Rattle.run_model.specs.declared.happening.Happening.{Happening}
 use Rattle.run_model.specs.declared.unit_view.UnitView.{UnitView}
-use Rattle.run_model.specs.Words.{is_on, heard, queue, unit_of, units, tally}
+use Rattle.run_model.specs.Words.{is_on, heard, queue, unit_of, units, tally, causes_of}
 use Rattle.run_model.specs.Admission.{units_in}
-use Rattle.run_model.specs.Dispatch.{head_of}
+use Rattle.run_model.specs.Dispatch.{head_of, rules_of}
 use Rattle.run_model.specs.Board.{Board}
 use Rattle.run_laws.proofs.Holds.{Holds}
 
--- the board after a sub-run at a moment, by whether the run is over
+-- the board after a sub-run at a moment, by whether the run is over, where the reporter refused no event
 abbrev pub board_of : Settings → Bool → ℕ → List Happening → Board
 board_of p over now run = record {
   units = units p run;
   queue = queue run;
-  dispatcher = record { head = head_of p; on = is_on run; over = over; tally = tally p run; latest = heard run };
+  dispatcher = record {
+    head = head_of p;
+    rules = rules_of p;
+    on = is_on run;
+    over = over;
+    causes = causes_of p run;
+    tally = tally p run;
+    latest = heard run;
+  };
   clock = now;
+  refused = false;
 }
+
+-- the same where the reporter refused an event, or none
+abbrev pub board_with : Settings → Bool → Bool → ℕ → List Happening → Board
+board_with p refused over now run = record (board_of p over now run) { refused = refused }
 
 -- the units of a plan, one by one
 pub units-length : (p : Settings) (run : List Happening) → length (units p run) ≡ units_in p

@@ -7,6 +7,7 @@ use Rattle.run_clock.specs.Stopwatch.{started_at}
 use Rattle.run_capture.specs.Captured.{Captured, is_done}
 use Rattle.run_capture.specs.declared.test_output.CaptureStrategy.{CaptureStrategy}
 use Rattle.run_capture.specs.declared.test_output.CaptureStrategy.TheVariants as strategies
+use Rattle.run_events.specs.declared.request.Request.{Request}
 use Rattle.run_events.specs.declared.result.ChildExit.{ChildExit}
 use Rattle.run_events.specs.declared.result.ChildExecutionOutput.TheVariants.{Output, StartError}
 use Rattle.run_events.specs.declared.result.ExecutionResult.TheVariants.{ExecFail}
@@ -21,6 +22,7 @@ use Rattle.run_model.specs.Timing.{ends_wait, is_due_turn, slow_count, has_leake
 use Rattle.run_model.specs.Attempts.{moment_if, start_error_in, start_error_of, exit_in, exit_of, output_of}
 use Rattle.run_model.specs.Attempts.{are_streams_done, has_ended, end_of, result_by, status_of}
 use Rattle.run_laws.proofs.CaptureLemmas.{captured_by, heard_by, taken, captured_more, done_as}
+use Rattle.run_laws.proofs.StandingLemmas.{count_still}
 use Rattle.run_laws.proofs.TimerLemmas.{active_since}
 
 -- an attempt after the turns of a piece: it was let go at this moment and not refused; whether its child is waited for
@@ -42,26 +44,26 @@ quiet_said (Some x) = refl
 
 -- an attempt after one more turn that neither refuses it nor is due
 pub at_more : (terms : AttemptTerms) (start : ℕ) (waited : Bool) (exit : Option ChildExit) (leaked : Bool) (count : ℕ)
-    (c : Captured) (now : ℕ) (turn : UnitTurn) (piece : List OwnTurn)
+    (c : Captured) (now : ℕ) (turn : UnitTurn) (request : Option Request) (piece : List OwnTurn)
     → IsAt terms start waited exit leaked count c piece
     → start_error_in turn ≡ None → is_due_turn turn ≡ false
     → IsAt terms start (ends_wait turn || waited) (option_or exit (exit_in turn)) leaked count (heard_by c turn)
-    (taken now turn ∷ piece)
-at_more terms start waited exit leaked count c now turn piece it unrefused due = record {
+    (taken now turn request ∷ piece)
+at_more terms start waited exit leaked count c now turn request piece it unrefused due = record {
   let_go = rw it.let_go refl;
   not_refused = rw it.not_refused unrefused;
   wait_over = ap (λ w. ends_wait turn || w) it.wait_over;
   ended_so = ap (λ e. option_or e (exit_in turn)) it.ended_so;
   leaked_so = rw due it.leaked_so;
-  counted = rw due it.counted;
-  captured = ap (λ c. heard_by c turn) it.captured ∙ captured_more terms.strategy now turn piece;
+  counted = count_still terms.slow (taken now turn request) piece due ∙ it.counted;
+  captured = ap (λ c. heard_by c turn) it.captured ∙ captured_more terms.strategy now turn request piece;
 }
 
 -- an attempt after one more turn that is due, by how often it was slow after that
 pub at_due : (terms : AttemptTerms) (start : ℕ) (waited : Bool) (exit : Option ChildExit) (count more : ℕ)
     (c : Captured) (now : ℕ) (piece : List OwnTurn)
-    → IsAt terms start waited exit false count c piece → slow_count terms.slow (taken now Due ∷ piece) ≡ more
-    → IsAt terms start waited exit waited more c (taken now Due ∷ piece)
+    → IsAt terms start waited exit false count c piece → slow_count terms.slow (taken now Due None ∷ piece) ≡ more
+    → IsAt terms start waited exit waited more c (taken now Due None ∷ piece)
 at_due terms start waited exit count more c now piece it counted = record {
   let_go = rw it.let_go refl;
   not_refused = rw it.not_refused refl;
@@ -69,7 +71,7 @@ at_due terms start waited exit count more c now piece it counted = record {
   ended_so = quiet_said (exit_of piece) ∙ it.ended_so;
   leaked_so = rw (it.wait_over, it.leaked_so) (or_false waited);
   counted = counted;
-  captured = it.captured ∙ captured_more terms.strategy now Due piece;
+  captured = it.captured ∙ captured_more terms.strategy now Due None piece;
 }
   where
     or_false : (b : Bool) → (b || false) ≡ b
@@ -119,9 +121,12 @@ pub refused_as : (now k : ℕ) (error : List ℕ) (exit : Option ChildExit) (c :
     → u.timers.stopwatch ≡ started_at u.timers.stopwatch.start
     → end_of u.terms piece ≡ None → u.attempt ≡ k
     → status_at now ExecFail (StartError error) u
-    ≡ status_of u.terms (attempts u) k (taken now (StartFailed error) ∷ piece)
+    ≡ status_of u.terms (attempts u) k (taken now (StartFailed error) None ∷ piece)
 refused_as now k error exit c piece u it watch end at =
-    rw (active_since u.timers.stopwatch now watch, it.not_refused, it.counted, it.let_go, end, at) refl
+    rw (active_since u.timers.stopwatch now watch, it.not_refused, count, it.let_go, end, at) refl
+  where
+    count : slow_count u.terms.slow (taken now (StartFailed error) None ∷ piece) ≡ u.timers.slow_count
+    count = count_still u.terms.slow (taken now (StartFailed error) None) piece refl ∙ it.counted
 
 -- an attempt that has ended stays so
 ended_once : (o : Option ℕ) (m : ℕ) (b : Bool) (x : Option ℕ) → b ≡ true
@@ -148,27 +153,28 @@ unended_has terms (t ∷ before) e = not_yet (end_of terms before) t.moment (has
 
 -- a turn that decides leaves the status of a piece
 done_decided : (s : CaptureStrategy) (now word : ℕ) (piece : List OwnTurn)
-    → are_streams_done s (taken now (Decide word) ∷ piece) ≡ are_streams_done s piece
+    → are_streams_done s (taken now (Decide word) None ∷ piece) ≡ are_streams_done s piece
 done_decided strategies.None now word piece = refl
 done_decided strategies.Split now word piece = refl
 done_decided strategies.Combined now word piece = refl
 
 pub ended_decided : (terms : AttemptTerms) (now word : ℕ) (piece : List OwnTurn)
-    → has_ended terms (taken now (Decide word) ∷ piece) ≡ has_ended terms piece
+    → has_ended terms (taken now (Decide word) None ∷ piece) ≡ has_ended terms piece
 ended_decided terms now word piece = simp (quiet_said, done_decided)
 
 result_decided : (terms : AttemptTerms) (now word : ℕ) (piece : List OwnTurn) (error : Option (List ℕ))
-    → result_by terms (taken now (Decide word) ∷ piece) error ≡ result_by terms piece error
+    → result_by terms (taken now (Decide word) None ∷ piece) error ≡ result_by terms piece error
 result_decided terms now word piece (Some error) = refl
-result_decided terms now word piece None = simp (quiet_said, append-nil)
+result_decided terms now word piece None =
+    simp (quiet_said, append-nil, count_still terms.slow (taken now (Decide word) None) piece refl)
 
 pub decided_same : (terms : AttemptTerms) (n k now word : ℕ) (piece : List OwnTurn) → has_ended terms piece ≡ true
-    → status_of terms n k piece ≡ status_of terms n k (taken now (Decide word) ∷ piece)
+    → status_of terms n k piece ≡ status_of terms n k (taken now (Decide word) None ∷ piece)
 decided_same terms n k now word piece e =
     sym (simp (quiet_said, append-nil, output, count, result_decided, ended_stays terms piece e))
   where
-    output : output_of terms.strategy (taken now (Decide word) ∷ piece) ≡ output_of terms.strategy piece
-    output = sym (ap (λ (c : Captured). c.output) (captured_more terms.strategy now (Decide word) piece))
+    output : output_of terms.strategy (taken now (Decide word) None ∷ piece) ≡ output_of terms.strategy piece
+    output = sym (ap (λ (c : Captured). c.output) (captured_more terms.strategy now (Decide word) None piece))
 
-    count : slow_count terms.slow (taken now (Decide word) ∷ piece) ≡ slow_count terms.slow piece
-    count = refl
+    count : slow_count terms.slow (taken now (Decide word) None ∷ piece) ≡ slow_count terms.slow piece
+    count = count_still terms.slow (taken now (Decide word) None) piece refl

@@ -1,6 +1,6 @@
 -- An enabled turn can be taken: what the tables allow is what the parts need.
 use Rattle.std.proofs.Common.{◌≡◌, ℕ, suc, reverse, ◌+◌, ◌^◌, ◌<◌, ◌≤◌, List, [], ◌∷◌, ◌++◌, length, get_or, Bool, true}
-use Rattle.std.proofs.Common.{false, ◌&&◌, not, if◌then◌else◌, Option, Some, None, is_some, sum_by, refl, ap, sym, ◌∙◌}
+use Rattle.std.proofs.Common.{false, ◌&&◌, nat_lt, not, if◌then◌else◌, Option, Some, None, is_some, sum_by, refl, ap, sym, ◌∙◌}
 use Rattle.std.proofs.Common.{arith, rules}
 use Rattle.std.specs.List.{range_with_len}
 use Rattle.std.specs.Cmp.{first_so, second_so}
@@ -13,6 +13,7 @@ use Rattle.run_events.specs.declared.settings.Settings.{Settings}
 use Rattle.run_events.specs.declared.stats.RunStats.{RunStats}
 use Rattle.run_events.specs.declared.cancel.CancelReason.{CancelReason}
 use Rattle.run_events.specs.declared.turn.Turn.{Turn}
+use Rattle.run_events.specs.declared.turn.Turn.TheVariants.{Clock}
 use Rattle.run_events.specs.declared.message.Message.{Message}
 use Rattle.run_events.specs.declared.message.Message.TheVariants.{Start, Slow, Skip, Finish}
 use Rattle.run_model.specs.declared.entry.Entry.{Entry}
@@ -20,28 +21,29 @@ use Rattle.run_model.specs.declared.happening.Happening.{Happening}
 use Rattle.run_model.specs.declared.unit_turn.UnitTurn.{UnitTurn}
 use Rattle.run_model.specs.declared.unit_turn.UnitTurn.TheVariants.{Answered}
 use Rattle.run_model.specs.declared.unit_view.UnitView.{UnitView}
-use Rattle.run_model.specs.Unit.{takes_at}
+use Rattle.run_model.specs.Unit.{takes_at, is_due}
+use Rattle.run_model.specs.Words.{ns_of, was_refused, signals_heard, was_reported, global_timer}
 use Rattle.run_model.specs.Words.{clock, is_on, is_over, joined, sub_run, told, queue, reason, units, skipped, finished}
 use Rattle.run_model.specs.Words.{stats_after, tally}
 use Rattle.run_model.specs.Admission.{is_matched, tests_in, units_in, newcomer}
-use Rattle.run_model.specs.Dispatch.{event, may_go, started_event, finished_event}
+use Rattle.run_model.specs.Dispatch.{shuts_down, event, may_go, started_event, finished_event}
 use Rattle.run_model.specs.Board.{board}
 use Rattle.run_model.specs.Turns.{enabled, enabled_on, takes_turn, turn_of_unit, unit_takes, is_empty, is_complete}
 use Rattle.run_model.specs.Journal.{history, past_of, IsLegal}
 use Rattle.run_laws.proofs.Holds.{Holds}
-use Rattle.run_laws.specs.Ready.{IsTimely, CanTake, CanDeliverOldest, CanAdvance}
+use Rattle.run_laws.specs.Ready.{moved_by, IsTimely, CanTake, CanDeliverOldest, CanAdvance}
 use Rattle.run_laws.proofs.ByTurn.{by_turn}
-use Rattle.run_laws.proofs.OnBoard.{board_of, units-length, unit_in-is}
+use Rattle.run_laws.proofs.OnBoard.{board_of, board_with, units-length, unit_in-is}
 use Rattle.run_laws.proofs.Facts.{start_waits, finish_follows, oldest_built}
 use Rattle.run_laws.proofs.Kept.{holds}
 use Rattle.run_laws.proofs.Running.{running_in_told, running-started, running-finished}
 
 -- an admitted unit is one of them, and was let go before now
-take_ready : (p : Settings) (over : Bool) (now : ℕ) (run : List Happening) (k : ℕ) (turn : UnitTurn)
+take_ready : (p : Settings) (over refused : Bool) (now : ℕ) (run : List Happening) (k : ℕ) (turn : UnitTurn)
     (v : Option UnitView) → Holds p over now run
-    → get_or (units p run) k None ≡ v → unit_takes now v turn ≡ true → CanTake (board_of p over now run) k turn
-take_ready p over now run k turn None h e t = cc
-take_ready p over now run k turn (Some u) h e t =
+    → get_or (units p run) k None ≡ v → unit_takes now v turn ≡ true → CanTake (board_with p refused over now run) k turn
+take_ready p over refused now run k turn None h e t = cc
+take_ready p over refused now run k turn (Some u) h e t =
     let named = h.named k u (sym (unit_in-is p over now run k h) ∙ e) in
     let below : k < units_in p = named.1 in
     record { unit = u; is = e; named = named.0; below = omega (arith, units-length p run); takes = t; later = named.2 }
@@ -77,12 +79,12 @@ stats_below p why n limit fs few short =
     (omega (arith, sum_none fs, count_by-le-length is_matched p.plan.tests))
 
 -- the oldest message can be delivered
-oldest_ready : (p : Settings) (over : Bool) (now : ℕ) (run : List Happening) (q : List Message) → Holds p over now run
+oldest_ready : (p : Settings) (over refused : Bool) (now : ℕ) (run : List Happening) (q : List Message) → Holds p over now run
     → is_on run ≡ true
     → units_in p < 2 ^ 32 → length run < 2 ^ 32 → queue run ≡ q → not (is_empty q) ≡ true
-    → CanDeliverOldest (board_of p over now run) q
-oldest_ready p over now run [] h on few short eq en = cc
-oldest_ready p over now run (Start start ∷ rest) h on few short eq en =
+    → CanDeliverOldest (board_with p refused over now run) q
+oldest_ready p over refused now run [] h on few short eq en = cc
+oldest_ready p over refused now run (Start start ∷ rest) h on few short eq en =
     let n : ℕ = units_in p in
     let e = event 0 (started_event start (tally p run)) in
     let waits = start_waits p over now run start rest h eq in
@@ -90,15 +92,15 @@ oldest_ready p over now run (Start start ∷ rest) h on few short eq en =
     let most : running_in_told n (told run ++ e ∷ []) ≤ length (range_with_len 0 n) =
     count_by-le-length _ (range_with_len 0 n) in (
       (on, omega (arith, length-range_with_len 0 n)),
-      take_ready p over now run start.test.unit (Answered (may_go (tally p run))) (Some waits.unit) h
+      take_ready p over refused now run start.test.unit (Answered (may_go (tally p run))) (Some waits.unit) h
           (unit_in-is p over now run start.test.unit h ∙ waits.is)
           (ap (λ ph. takes_at now ph waits.unit (Answered (may_go (tally p run)))) waits.phase),
     )
-oldest_ready p over now run (Slow slow ∷ rest) h on few short eq en = ((on, tt), tt)
-oldest_ready p over now run (Skip skip ∷ rest) h on few short eq en =
+oldest_ready p over refused now run (Slow slow ∷ rest) h on few short eq en = ((on, tt), tt)
+oldest_ready p over refused now run (Skip skip ∷ rest) h on few short eq en =
     let counted = h.counted in
     ((on, (stats_below p (reason run) (skipped run) (2 ^ 32) (finished run) (omega arith) (omega arith)).skipped), tt)
-oldest_ready p over now run (Finish finish ∷ rest) h on few short eq en =
+oldest_ready p over refused now run (Finish finish ∷ rest) h on few short eq en =
     let n : ℕ = units_in p in
     let e = event 0 (finished_event finish (tally p run)) in
     let follows = finish_follows p over now run finish rest h eq in
@@ -115,16 +117,16 @@ oldest_ready p over now run (Finish finish ∷ rest) h on few short eq en =
       ),
       tt,
     )
-oldest_ready p over now run (m ∷ rest) h on few short eq en = absurd (oldest_built p over now run m rest h eq)
+oldest_ready p over refused now run (m ∷ rest) h on few short eq en = absurd (oldest_built p over now run m rest h eq)
 
 -- each enabled turn can be taken
-ready : (p : Settings) (over : Bool) (now : ℕ) (run : List Happening) (turn : Turn) → Holds p over now run
+ready : (p : Settings) (over refused : Bool) (now : ℕ) (run : List Happening) (turn : Turn) → Holds p over now run
     → units_in p < 2 ^ 32 → length run < 2 ^ 32
-    → enabled_on p (board_of p over now run) turn ≡ true
-    → CanAdvance p (board_of p over now run) turn (turn_of_unit turn)
-ready p over now run turn h few short en =
-    by_turn (λ turn named. takes_turn p (board_of p over now run) turn named ≡ true
-    → CanAdvance p (board_of p over now run) turn named)
+    → enabled_on p (board_with p refused over now run) turn ≡ true
+    → CanAdvance p (board_with p refused over now run) turn (turn_of_unit turn)
+ready p over refused now run turn h few short en =
+    by_turn (λ turn named. takes_turn p (board_with p refused over now run) turn named ≡ true
+    → CanAdvance p (board_with p refused over now run) turn named)
     (record {
       begin = λ en. (h.heard, off (is_on run) (not over) en);
       admit = λ en. (
@@ -136,15 +138,27 @@ ready p over now run turn h few short en =
       );
       deliver = λ en. (
         h.heard,
-        oldest_ready p over now run (queue run) h (first_so (is_on run) (not (is_empty (queue run))) en) few short refl
+        oldest_ready p over refused now run (queue run) h (first_so (is_on run) (not (is_empty (queue run))) en) few short refl
             (second_so (is_on run) (not (is_empty (queue run))) en),
       );
-      named = λ turn k to other en. take_ready p over now run k to _ h refl en;
+      named = λ turn k to other en. take_ready p over refused now run k to _ h refl en;
       clock = λ ns en. (h.heard, grind (arith, en));
+      signal = λ signal en.
+          let two = first_so (is_on run) (shuts_down p.plan.hearing signal)
+          (first_so (is_on run && shuts_down p.plan.hearing signal) (nat_lt (signals_heard run) 2) en) in
+          let hears = second_so (is_on run) (shuts_down p.plan.hearing signal)
+          (first_so (is_on run && shuts_down p.plan.hearing signal) (nat_lt (signals_heard run) 2) en) in
+          let few_signals = second_so (is_on run && shuts_down p.plan.hearing signal) (nat_lt (signals_heard run) 2) en in
+          (h.heard, (two, hears, few_signals));
+      global_due = λ en. (h.heard, first_so (is_on run) (is_due now (global_timer p run)) en);
+      report_cancel = λ en. (
+        h.heard,
+        first_so (is_on run) refused (first_so (is_on run && refused) (not (was_reported run)) en),
+      );
       end = λ en. (h.heard, first_so (is_on run) (is_complete (board_of p over now run)) en);
-      unbuilt = λ turn never en. let no : false ≡ true = sym (never p (board_of p over now run)) ∙ en in cc;
+      unbuilt = λ turn never en. let no : false ≡ true = sym (never p (board_with p refused over now run)) ∙ en in cc;
     })
-    turn (second_so (not over) (takes_turn p (board_of p over now run) turn (turn_of_unit turn)) en)
+    turn (second_so (not over) (takes_turn p (board_with p refused over now run) turn (turn_of_unit turn)) en)
   where
     off : (b c : Bool) → (not b && c) ≡ true → b ≡ false
     off true c e = cc
@@ -179,12 +193,21 @@ timely_board p over now run h = record {
 pub timely : (p : Settings) (journal : List Entry) → IsLegal p journal → IsTimely (board p (past_of p journal))
 timely p journal legal =
     let past : List Happening = past_of p journal in
-    timely_board p (is_over past) (clock past) (sub_run past) (holds p (reverse journal) legal)
+    let it = timely_board p (is_over past) (clock past) (sub_run past) (holds p (reverse journal) legal) in
+    record { dispatcher = it.dispatcher; units = it.units }
 
 pub ready_after : (p : Settings) (journal : List Entry) (turn : Turn) → IsLegal p journal → units_in p < 2 ^ 32
     → length journal < 2 ^ 32
     → enabled p (past_of p journal) turn ≡ true → CanAdvance p (board p (past_of p journal)) turn (turn_of_unit turn)
 ready_after p journal turn legal few short en =
     let past : List Happening = past_of p journal in
-    ready p (is_over past) (clock past) (sub_run past) turn (holds p (reverse journal) legal) few
+    ready p (is_over past) (was_refused past) (clock past) (sub_run past) turn (holds p (reverse journal) legal) few
     (omega (arith, past_of-length p journal, sub_run-length past)) en
+
+-- the clock moves by its turns
+moved-is : (turn : Turn) → ns_of turn ≡ moved_by turn
+moved-is (Clock ns) = refl
+moved-is turn = refl
+
+pub clock_moves : (past : List Happening) (x : Happening) → clock (x ∷ past) ≡ clock past + moved_by x.turn
+clock_moves past x = ap (λ n. clock past + n) (moved-is x.turn)

@@ -1,32 +1,40 @@
 -- The signals and slow reports of a unit's own turn.
-use Rattle.std.proofs.Common.{◌≡◌, ℕ, ◌+◌, ◌≤◌, ◌==◌, List, [], ◌∷◌, ◌++◌, map, length, Bool, true, false, not, ◌&&◌}
-use Rattle.std.proofs.Common.{if◌then◌else◌, Option, Some, None, option_to_list, refl, ap, sym, subst, ◌∙◌, arith}
+use Rattle.std.proofs.Common.{◌≡◌, ℕ, ◌+◌, ◌≤◌, ◌==◌, List, [], ◌∷◌, ◌++◌, map, length, Bool, true, false}
+use Rattle.std.proofs.Common.{if◌then◌else◌, Option, Some, None, option_to_list, is_some, refl, ap, sym, subst, ◌∙◌, arith}
 use Rattle.std.proofs.Common.{append_assoc}
 use Rattle.std.proofs.lemmas.List.{map-append}
 use Rattle.run_events.specs.declared.plan.SlowTimeout.{SlowTimeout}
-use Rattle.run_events.specs.declared.ask.Ask.{Ask}
 use Rattle.run_events.specs.declared.message.Message.{Message}
 use Rattle.run_events.specs.declared.request.ChildSignal.TheVariants.{End}
+use Rattle.run_events.specs.declared.request.Request.{Request}
+use Rattle.run_events.specs.declared.request.Request.TheVariants.{Stop, Continue, Shutdown, OtherCancel, GetInfo}
+use Rattle.run_events.specs.declared.request.ShutdownRequest.{ShutdownRequest}
+use Rattle.run_events.specs.declared.request.TermSignal.{TermSignal}
+use Rattle.run_events.specs.declared.request.TermSignal.TheVariants.{Interrupt, Term, Hangup, Quit, Kill}
+use Rattle.run_events.specs.declared.request.TerminateReason.TheVariants.{Signal}
 use Rattle.run_model.specs.declared.phase.Phase.{Phase}
 use Rattle.run_model.specs.declared.phase.Phase.TheVariants.{StartSent, Starting, Running, Grace, KillWait, Leak}
-use Rattle.run_model.specs.declared.phase.Phase.TheVariants.{Deciding, Over}
+use Rattle.run_model.specs.declared.phase.Phase.TheVariants.{Deciding}
 use Rattle.run_model.specs.declared.unit_turn.UnitTurn.{UnitTurn}
 use Rattle.run_model.specs.declared.unit_turn.UnitTurn.TheVariants.{Answered, Started, StartFailed, Exit, WaitFailed}
-use Rattle.run_model.specs.declared.unit_turn.UnitTurn.TheVariants.{Piece, StreamEnd, ReadError, Due, Decide}
+use Rattle.run_model.specs.declared.unit_turn.UnitTurn.TheVariants.{Piece, StreamEnd, ReadError, Due, Take, Decide}
 use Rattle.run_model.specs.declared.unit_view.AttemptTerms.{AttemptTerms}
 use Rattle.run_model.specs.declared.unit_view.UnitView.{UnitView}
+use Rattle.run_model.specs.Terminate.{terminate_method}
 use Rattle.run_model.specs.Environment.{start_ask}
 use Rattle.run_model.specs.Slow.{one_more, is_out_of_time}
-use Rattle.run_model.specs.Unit.{Row, at_moment, row, row_at, takes, takes_at, is_due, slow_row, slow_again, in_grace}
-use Rattle.run_model.specs.Unit.{out_of_time, killed}
-use Rattle.run_model.specs.Story.{OwnTurn, begins_attempt, any_is, pieces}
-use Rattle.run_model.specs.Timing.{ends_wait, is_due_turn, slow_count, has_timed_out}
+use Rattle.run_model.specs.Unit.{Row, at_moment, row, row_at, takes, takes_at, slow_row, slow_again, in_grace}
+use Rattle.run_model.specs.Unit.{out_of_time, killed, signal_ask, asked_to_end, requested, take_row}
+use Rattle.run_model.specs.Story.{OwnTurn, oldest, request_of, begins_attempt, any_is, pieces}
+use Rattle.run_model.specs.Timing.{ends_wait, is_due_turn, signal_of, slow_count, has_timed_out}
 use Rattle.run_model.specs.Attempts.{attempt_in}
 use Rattle.run_laws.specs.Reports.{SlowReport, signal_with, signals_in, signals_by, report_with, reports_in, reports_by}
-use Rattle.run_laws.specs.Reports.{signals_for, report_in, reports_waiting}
+use Rattle.run_laws.specs.Reports.{signals_for, reports_waiting}
 use Rattle.run_laws.proofs.CaptureLemmas.{taken}
-use Rattle.run_laws.proofs.TimerLemmas.{in_time}
-use Rattle.run_laws.proofs.MadeLemmas.{GoesOn, HasPieces, IsMade, later_pieces}
+use Rattle.run_laws.proofs.StandingLemmas.{is_in_grace, count_slow}
+use Rattle.run_laws.proofs.TimerLemmas.{ends_time}
+use Rattle.run_laws.proofs.SlowLemmas.{in_time}
+use Rattle.run_laws.proofs.MadeLemmas.{HasPieces, IsMade, later_pieces}
 use Rattle.run_laws.proofs.AttemptLemmas.{more}
 use Rattle.run_laws.proofs.Rows.{takes_moment}
 
@@ -53,100 +61,206 @@ said_more slow k t piece earlier r goes asks sends = record {
       ∙ ap (λ s. reports_by slow (piece ∷ earlier) ++ s) sends);
 }
 
--- a turn that isn't due says nothing, and neither does the end of the wait for the streams
-said_still : (slow : SlowTimeout) (k : ℕ) (t : OwnTurn) (piece : List OwnTurn) (earlier : List (List OwnTurn)) (r : Row)
-    → begins_attempt t.turn ≡ false → is_due_turn t.turn ≡ false → r.asked ≡ None
-    → reports_waiting k (option_to_list r.sent) ≡ [] → IsSaid slow k t (piece ∷ earlier) r
-said_still slow k t piece earlier r goes due asks sends =
-    said_more slow k t piece earlier r goes (rw (due, asks) refl) (rw due (sym sends))
+-- a turn that isn't due, and takes no request to end the child, says nothing
+signal_still : (slow : SlowTimeout) (t : OwnTurn) (piece : List OwnTurn) → is_due_turn t.turn ≡ false
+    → signal_of slow t.request ≡ None → signal_with slow t piece ≡ None
+signal_still slow t piece due none = by_case (any_is ends_wait piece) (is_in_grace slow piece) refl refl
+  where
+    by_case : (w g : Bool) → any_is ends_wait piece ≡ w → is_in_grace slow piece ≡ g → signal_with slow t piece ≡ None
+    by_case true g e f = rw e refl
+    by_case false true e f = rw (e, f, due, none) refl
+    by_case false false e f = rw (e, f, due, none) refl
 
-said_leak : (slow : SlowTimeout) (k now : ℕ) (piece : List OwnTurn) (earlier : List (List OwnTurn)) (r : Row)
-    → any_is ends_wait piece ≡ true → r.asked ≡ None → r.sent ≡ None
-    → IsSaid slow k (taken now Due) (piece ∷ earlier) r
-said_leak slow k now piece earlier r waited asks sends =
-    said_more slow k (taken now Due) piece earlier r refl (rw (waited, asks) refl) (rw (waited, sends) refl)
+report_still : (slow : SlowTimeout) (attempt : ℕ) (t : OwnTurn) (piece : List OwnTurn) → is_due_turn t.turn ≡ false
+    → report_with slow attempt t piece ≡ None
+report_still slow attempt t piece due = by_wait (any_is ends_wait piece) refl
+  where
+    by_wait : (w : Bool) → any_is ends_wait piece ≡ w → report_with slow attempt t piece ≡ None
+    by_wait true e = rw e refl
+    by_wait false e = rw (e, due) refl
+
+said_still : (slow : SlowTimeout) (k : ℕ) (t : OwnTurn) (piece : List OwnTurn) (earlier : List (List OwnTurn)) (r : Row)
+    → begins_attempt t.turn ≡ false → is_due_turn t.turn ≡ false → signal_of slow t.request ≡ None → r.asked ≡ None
+    → reports_waiting k (option_to_list r.sent) ≡ [] → IsSaid slow k t (piece ∷ earlier) r
+said_still slow k t piece earlier r goes due none asks sends =
+    said_more slow k t piece earlier r goes (rw (signal_still slow t piece due none, asks) refl)
+    (rw (report_still slow (length earlier + 1) t piece due) (sym sends))
+
+-- neither does any turn once its child has ended
+said_after : (slow : SlowTimeout) (k : ℕ) (t : OwnTurn) (piece : List OwnTurn) (earlier : List (List OwnTurn)) (r : Row)
+    → any_is ends_wait piece ≡ true → begins_attempt t.turn ≡ false → r.asked ≡ None
+    → reports_waiting k (option_to_list r.sent) ≡ [] → IsSaid slow k t (piece ∷ earlier) r
+said_after slow k t piece earlier r waited goes asks sends =
+    said_more slow k t piece earlier r goes (rw (waited, asks) refl) (rw waited (sym sends))
 
 itself : (k : ℕ) → (k == k) ≡ true
 itself k = grind arith
 
 -- its time to end by itself is over
-said_killed : (now : ℕ) (u : UnitView) (piece : List OwnTurn) (earlier : List (List OwnTurn))
-    → any_is ends_wait piece ≡ false → has_timed_out u.terms.slow piece ≡ true
-    → IsSaid u.terms.slow u.test.unit (taken now Due) (piece ∷ earlier) (killed u)
-said_killed now u piece earlier waited out =
-    said_more u.terms.slow u.test.unit (taken now Due) piece earlier (killed u) refl
-    (rw (waited, out, itself u.test.unit) refl) (rw (waited, out) refl)
+said_killed : (t : OwnTurn) (u : UnitView) (piece : List OwnTurn) (earlier : List (List OwnTurn))
+    → any_is ends_wait piece ≡ false → is_in_grace u.terms.slow piece ≡ true → begins_attempt t.turn ≡ false
+    → ends_time u.terms.slow t ≡ true → IsSaid u.terms.slow u.test.unit t (piece ∷ earlier) (killed u)
+said_killed t u piece earlier waited grace goes over = by_due (is_due_turn t.turn) refl
+  where
+    by_due : (d : Bool) → is_due_turn t.turn ≡ d → IsSaid u.terms.slow u.test.unit t (piece ∷ earlier) (killed u)
+    by_due true e =
+        said_more u.terms.slow u.test.unit t piece earlier (killed u) goes
+        (rw (waited, grace, e, itself u.test.unit) refl) (rw (waited, grace, e) refl)
+    by_due false e =
+        let signal : is_some (signal_of u.terms.slow t.request) ≡ true = rw e at over in
+        said_more u.terms.slow u.test.unit t piece earlier (killed u) goes
+        (rw (waited, grace, e, signal, itself u.test.unit) refl) (rw (waited, e) refl)
+
+-- its child gets the signal of the request that it takes
+asked_signal : (now : ℕ) (signal : TermSignal) (u : UnitView)
+    → (asked_to_end now signal u).asked ≡ Some (signal_ask signal u)
+asked_signal now Interrupt u = refl
+asked_signal now Term u = refl
+asked_signal now Hangup u = refl
+asked_signal now Quit u = refl
+asked_signal now Kill u = refl
+
+-- and it sends nothing
+sent_none : (now : ℕ) (signal : TermSignal) (u : UnitView) → (asked_to_end now signal u).sent ≡ None
+sent_none now Interrupt u = refl
+sent_none now Term u = refl
+sent_none now Hangup u = refl
+sent_none now Quit u = refl
+sent_none now Kill u = refl
+
+-- so a request to end is what it says
+said_asked : (now : ℕ) (reason : ShutdownRequest) (u : UnitView) (piece : List OwnTurn) (earlier : List (List OwnTurn))
+    → any_is ends_wait piece ≡ false → is_in_grace u.terms.slow piece ≡ false
+    → IsSaid u.terms.slow u.test.unit (taken now Take (Some (Shutdown reason))) (piece ∷ earlier)
+    (requested now Running (Shutdown reason) u)
+said_asked now reason u piece earlier waited grace =
+    said_more u.terms.slow u.test.unit (taken now Take (Some (Shutdown reason))) piece earlier
+    (requested now Running (Shutdown reason) u) refl
+    (rw (waited, grace) (sym (ap (signals_for u.test.unit) (asked_signal now signal u) ∙ rw (itself u.test.unit) refl)))
+    (rw waited (sym (ap sends (sent_none now signal u))))
+  where
+    signal : TermSignal
+    signal = terminate_method (Signal reason) u.terms.slow.grace
+
+    sends : Option Message → List SlowReport
+    sends message = reports_waiting u.test.unit (option_to_list message)
 
 -- it is slow
 said_slow : (now : ℕ) (u : UnitView) (piece : List OwnTurn) (earlier : List (List OwnTurn))
-    → any_is ends_wait piece ≡ false → has_timed_out u.terms.slow piece ≡ false
+    → any_is ends_wait piece ≡ false → is_in_grace u.terms.slow piece ≡ false
+    → has_timed_out u.terms.slow piece ≡ false
     → slow_count u.terms.slow piece ≡ u.timers.slow_count → u.attempt ≡ length earlier + 1
-    → IsSaid u.terms.slow u.test.unit (taken now Due) (piece ∷ earlier)
+    → IsSaid u.terms.slow u.test.unit (taken now Due None) (piece ∷ earlier)
     (slow_row now (one_more u.timers.slow_count) u)
-said_slow now u piece earlier waited out counted at =
+said_slow now u piece earlier waited grace out counted at =
     by_out (is_out_of_time u.terms.slow n) (u.terms.slow.grace == 0) refl refl
   where
     n : ℕ
     n = one_more u.timers.slow_count
 
+    count : slow_count u.terms.slow (taken now Due None ∷ piece) ≡ n
+    count = count_slow u.terms.slow now piece waited grace out ∙ ap one_more counted
+
     by_out : (o g : Bool) → is_out_of_time u.terms.slow n ≡ o → (u.terms.slow.grace == 0) ≡ g
-        → IsSaid u.terms.slow u.test.unit (taken now Due) (piece ∷ earlier)
+        → IsSaid u.terms.slow u.test.unit (taken now Due None) (piece ∷ earlier)
         (if o then (if g then out_of_time n u else in_grace now n u) else slow_again now n u)
     by_out true true e g =
-        said_more u.terms.slow u.test.unit (taken now Due) piece earlier (out_of_time n u) refl
-        (rw (waited, out, counted, e, g, itself u.test.unit) refl) (rw (waited, out, counted, e, g) refl)
+        said_more u.terms.slow u.test.unit (taken now Due None) piece earlier (out_of_time n u) refl
+        (rw (waited, grace, out, counted, e, g, itself u.test.unit) refl) (rw (waited, grace, out, g) refl)
     by_out true false e g =
-        said_more u.terms.slow u.test.unit (taken now Due) piece earlier (in_grace now n u) refl
-        (rw (waited, out, counted, e, g, itself u.test.unit) refl)
-        (rw (waited, out, counted, e, g, itself u.test.unit, at) refl)
+        said_more u.terms.slow u.test.unit (taken now Due None) piece earlier (in_grace now n u) refl
+        (rw (waited, grace, out, counted, e, g, itself u.test.unit) refl)
+        (rw (waited, grace, out, count, e, g, itself u.test.unit, at) refl)
     by_out false true e g =
-        said_more u.terms.slow u.test.unit (taken now Due) piece earlier (slow_again now n u) refl
-        (rw (waited, out, counted, e) refl) (rw (waited, out, counted, e, g) refl)
+        said_more u.terms.slow u.test.unit (taken now Due None) piece earlier (slow_again now n u) refl
+        (rw (waited, grace, out, counted, e) refl) (rw (waited, grace, out, g) refl)
     by_out false false e g =
-        said_more u.terms.slow u.test.unit (taken now Due) piece earlier (slow_again now n u) refl
-        (rw (waited, out, counted, e) refl)
-        (rw (waited, out, counted, e, g, itself u.test.unit, at) refl)
+        said_more u.terms.slow u.test.unit (taken now Due None) piece earlier (slow_again now n u) refl
+        (rw (waited, grace, out, counted, e) refl)
+        (rw (waited, grace, out, count, e, g, itself u.test.unit, at) refl)
 
 -- a start is no signal
 start_said : (now : ℕ) (u : UnitView)
-    → IsSaid u.terms.slow u.test.unit (taken now (Answered true)) [] (row_at now StartSent (Answered true) u)
+    → IsSaid u.terms.slow u.test.unit (taken now (Answered true) None) [] (row_at now StartSent (Answered true) u)
 unfolding start_ask
 start_said now u = record { asks = refl; sends = refl }
+
+-- it takes the oldest request of its line
+take_said_running : (now : ℕ) (line : List Request) (u : UnitView) (piece : List OwnTurn) (earlier : List (List OwnTurn))
+    → any_is ends_wait piece ≡ false → is_in_grace u.terms.slow piece ≡ false
+    → IsSaid u.terms.slow u.test.unit (taken now Take (oldest line)) (piece ∷ earlier) (take_row now Running line u)
+take_said_running now (Shutdown reason ∷ line) u piece earlier waited grace =
+    said_asked now reason (record u { line = line }) piece earlier waited grace
+take_said_running now (Stop round ∷ line) u piece earlier waited grace =
+    said_still _ _ _ piece earlier _ refl refl refl refl refl
+take_said_running now (Continue ∷ line) u piece earlier waited grace =
+    said_still _ _ _ piece earlier _ refl refl refl refl refl
+take_said_running now (OtherCancel ∷ line) u piece earlier waited grace =
+    said_still _ _ _ piece earlier _ refl refl refl refl refl
+take_said_running now (GetInfo round ∷ line) u piece earlier waited grace =
+    said_still _ _ _ piece earlier _ refl refl refl refl refl
+take_said_running now [] u piece earlier waited grace = said_still _ _ _ piece earlier _ refl refl refl refl refl
+
+take_said_grace : (now : ℕ) (line : List Request) (u : UnitView) (piece : List OwnTurn) (earlier : List (List OwnTurn))
+    → any_is ends_wait piece ≡ false → is_in_grace u.terms.slow piece ≡ true
+    → IsSaid u.terms.slow u.test.unit (taken now Take (oldest line)) (piece ∷ earlier) (take_row now Grace line u)
+take_said_grace now (Shutdown reason ∷ line) u piece earlier waited grace =
+    said_killed (taken now Take (Some (Shutdown reason))) (record u { line = line }) piece earlier waited grace refl refl
+take_said_grace now (Stop round ∷ line) u piece earlier waited grace =
+    said_still _ _ _ piece earlier _ refl refl refl refl refl
+take_said_grace now (Continue ∷ line) u piece earlier waited grace =
+    said_still _ _ _ piece earlier _ refl refl refl refl refl
+take_said_grace now (OtherCancel ∷ line) u piece earlier waited grace =
+    said_still _ _ _ piece earlier _ refl refl refl refl refl
+take_said_grace now (GetInfo round ∷ line) u piece earlier waited grace =
+    said_still _ _ _ piece earlier _ refl refl refl refl refl
+take_said_grace now [] u piece earlier waited grace = said_still _ _ _ piece earlier _ refl refl refl refl refl
+
+take_said_leak : (now : ℕ) (line : List Request) (u : UnitView) (piece : List OwnTurn) (earlier : List (List OwnTurn))
+    → any_is ends_wait piece ≡ true
+    → IsSaid u.terms.slow u.test.unit (taken now Take (oldest line)) (piece ∷ earlier) (take_row now Leak line u)
+take_said_leak now [] u piece earlier waited = said_after _ _ _ piece earlier _ waited refl refl refl
+take_said_leak now (request ∷ line) u piece earlier waited = said_after _ _ _ piece earlier _ waited refl refl refl
 
 -- each row of a unit that takes its turn
 row_said : (now : ℕ) (ph : Phase) (turn : UnitTurn) (u : UnitView) (ps : List (List OwnTurn))
     → takes_at now ph u turn ≡ true → u.attempt ≡ attempt_in ps → HasPieces u.terms ph u ps
-    → IsSaid u.terms.slow u.test.unit (taken now turn) ps (row_at now ph turn u)
+    → IsSaid u.terms.slow u.test.unit (taken now turn (request_of turn u.line)) ps (row_at now ph turn u)
 row_said now StartSent (Answered true) u [] en a h = start_said now u
 row_said now StartSent (Answered false) u [] en a h = record { asks = refl; sends = refl }
-row_said now Starting (Started pid) u (piece ∷ earlier) en a h = said_still _ _ _ piece earlier _ refl refl refl refl
-row_said now Starting (StartFailed error) u (piece ∷ earlier) en a h = said_still _ _ _ piece earlier _ refl refl refl refl
+row_said now Starting (Started pid) u (piece ∷ earlier) en a h = said_still _ _ _ piece earlier _ refl refl refl refl refl
+row_said now Starting (StartFailed error) u (piece ∷ earlier) en a h = said_still _ _ _ piece earlier _ refl refl refl refl refl
 row_said now Running Due u (piece ∷ earlier) en a (on, ss) =
-    said_slow now u piece earlier on.is_at.wait_over
+    said_slow now u piece earlier on.is_at.wait_over on.timer.stage.1
     (in_time u.terms u.timers now u.latest piece on.is_at.wait_over on.timer en) on.is_at.counted a
-row_said now Running (Exit exit) u (piece ∷ earlier) en a h = said_still _ _ _ piece earlier _ refl refl refl refl
-row_said now Running (WaitFailed error) u (piece ∷ earlier) en a h = said_still _ _ _ piece earlier _ refl refl refl refl
-row_said now Running (Piece stream bytes) u (piece ∷ earlier) en a h = said_still _ _ _ piece earlier _ refl refl refl refl
-row_said now Running (StreamEnd stream) u (piece ∷ earlier) en a h = said_still _ _ _ piece earlier _ refl refl refl refl
+row_said now Running Take u (piece ∷ earlier) en a (on, ss) =
+    take_said_running now u.line u piece earlier on.is_at.wait_over on.timer.stage.1
+row_said now Running (Exit exit) u (piece ∷ earlier) en a h = said_still _ _ _ piece earlier _ refl refl refl refl refl
+row_said now Running (WaitFailed error) u (piece ∷ earlier) en a h = said_still _ _ _ piece earlier _ refl refl refl refl refl
+row_said now Running (Piece stream bytes) u (piece ∷ earlier) en a h = said_still _ _ _ piece earlier _ refl refl refl refl refl
+row_said now Running (StreamEnd stream) u (piece ∷ earlier) en a h = said_still _ _ _ piece earlier _ refl refl refl refl refl
 row_said now Running (ReadError stream error) u (piece ∷ earlier) en a h =
-    said_still _ _ _ piece earlier _ refl refl refl refl
+    said_still _ _ _ piece earlier _ refl refl refl refl refl
 row_said now Grace Due u (piece ∷ earlier) en a (on, ss) =
-    said_killed now u piece earlier on.is_at.wait_over on.timer.stage.1
-row_said now Grace (Exit exit) u (piece ∷ earlier) en a h = said_still _ _ _ piece earlier _ refl refl refl refl
-row_said now Grace (WaitFailed error) u (piece ∷ earlier) en a h = said_still _ _ _ piece earlier _ refl refl refl refl
-row_said now Grace (Piece stream bytes) u (piece ∷ earlier) en a h = said_still _ _ _ piece earlier _ refl refl refl refl
-row_said now Grace (StreamEnd stream) u (piece ∷ earlier) en a h = said_still _ _ _ piece earlier _ refl refl refl refl
+    said_killed (taken now Due None) u piece earlier on.is_at.wait_over on.timer.stage.1 refl refl
+row_said now Grace Take u (piece ∷ earlier) en a (on, ss) =
+    take_said_grace now u.line u piece earlier on.is_at.wait_over on.timer.stage.1
+row_said now Grace (Exit exit) u (piece ∷ earlier) en a h = said_still _ _ _ piece earlier _ refl refl refl refl refl
+row_said now Grace (WaitFailed error) u (piece ∷ earlier) en a h = said_still _ _ _ piece earlier _ refl refl refl refl refl
+row_said now Grace (Piece stream bytes) u (piece ∷ earlier) en a h = said_still _ _ _ piece earlier _ refl refl refl refl refl
+row_said now Grace (StreamEnd stream) u (piece ∷ earlier) en a h = said_still _ _ _ piece earlier _ refl refl refl refl refl
 row_said now Grace (ReadError stream error) u (piece ∷ earlier) en a h =
-    said_still _ _ _ piece earlier _ refl refl refl refl
-row_said now KillWait (Exit exit) u (piece ∷ earlier) en a h = said_still _ _ _ piece earlier _ refl refl refl refl
-row_said now KillWait (WaitFailed error) u (piece ∷ earlier) en a h = said_still _ _ _ piece earlier _ refl refl refl refl
+    said_still _ _ _ piece earlier _ refl refl refl refl refl
+row_said now KillWait (Exit exit) u (piece ∷ earlier) en a h = said_still _ _ _ piece earlier _ refl refl refl refl refl
+row_said now KillWait (WaitFailed error) u (piece ∷ earlier) en a h = said_still _ _ _ piece earlier _ refl refl refl refl refl
 row_said now Leak Due u (piece ∷ earlier) en a (on, ss) =
-    said_leak u.terms.slow u.test.unit now piece earlier _ on.is_at.wait_over refl refl
-row_said now Leak (Piece stream bytes) u (piece ∷ earlier) en a h = said_still _ _ _ piece earlier _ refl refl refl refl
-row_said now Leak (StreamEnd stream) u (piece ∷ earlier) en a h = said_still _ _ _ piece earlier _ refl refl refl refl
+    said_after _ _ _ piece earlier _ on.is_at.wait_over refl refl refl
+row_said now Leak Take u (piece ∷ earlier) en a (on, ss) = take_said_leak now u.line u piece earlier on.is_at.wait_over
+row_said now Leak (Piece stream bytes) u (piece ∷ earlier) en a h = said_still _ _ _ piece earlier _ refl refl refl refl refl
+row_said now Leak (StreamEnd stream) u (piece ∷ earlier) en a h = said_still _ _ _ piece earlier _ refl refl refl refl refl
 row_said now Leak (ReadError stream error) u (piece ∷ earlier) en a h =
-    said_still _ _ _ piece earlier _ refl refl refl refl
-row_said now Deciding (Decide word) u (piece ∷ earlier) en a h = said_still _ _ _ piece earlier _ refl refl refl refl
+    said_still _ _ _ piece earlier _ refl refl refl refl refl
+row_said now Deciding (Decide word) u (piece ∷ earlier) en a h = said_still _ _ _ piece earlier _ refl refl refl refl refl
 row_said now StartSent turn u (piece ∷ ps) en a h = absurd h
 row_said now Starting turn u [] en a h = absurd h
 row_said now Running turn u [] en a h = absurd h
@@ -159,10 +273,13 @@ row_said now ph turn u ps en a h = cc
 -- so what a unit's own turn asks and sends is what it says
 pub own_said : (terms : AttemptTerms) (now : ℕ) (turn : UnitTurn) (u : UnitView) (story : List OwnTurn)
     → takes now u turn ≡ true → u.latest ≤ now → IsMade terms u (pieces story)
-    → IsSaid terms.slow u.test.unit (taken now turn) (pieces story) (row now turn u)
+    → IsSaid terms.slow u.test.unit (record { moment = now; turn = turn; request = request_of turn u.line })
+    (pieces story) (row now turn u)
 own_said terms now turn u story en le made =
-    subst (λ (terms : AttemptTerms). IsSaid terms.slow u.test.unit (taken now turn) (pieces story) (row now turn u))
-    made.terms
+    subst (λ (terms : AttemptTerms). IsSaid terms.slow u.test.unit t (pieces story) (row now turn u)) made.terms
     (row_said now u.phase turn (at_moment now u) (pieces story) (takes_moment now u.phase u turn en) made.attempt
     (later_pieces u.terms now u.phase u (pieces story) le
     (subst (λ terms. HasPieces terms u.phase u (pieces story)) (sym made.terms) made.has)))
+  where
+    t : OwnTurn
+    t = taken now turn (request_of turn u.line)

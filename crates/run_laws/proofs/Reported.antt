@@ -11,7 +11,6 @@ use Rattle.run_events.specs.declared.message.Message.{Message}
 use Rattle.run_events.specs.declared.message.Message.TheVariants.{Slow}
 use Rattle.run_events.specs.declared.message.TestSlow.{TestSlow}
 use Rattle.run_events.specs.declared.events.TestEventKind.TheVariants.{TestSlow as TestSlowed}
-use Rattle.run_events.specs.declared.request.ChildSignal.{ChildSignal}
 use Rattle.run_events.specs.declared.request.ChildSignal.TheVariants.{End}
 use Rattle.run_model.specs.declared.entry.Entry.{Entry}
 use Rattle.run_model.specs.declared.happening.Happening.{Happening}
@@ -21,7 +20,8 @@ use Rattle.run_model.specs.declared.unit_turn.UnitTurn.{UnitTurn}
 use Rattle.run_model.specs.declared.unit_view.AttemptTerms.{AttemptTerms}
 use Rattle.run_model.specs.declared.unit_view.UnitView.{UnitView}
 use Rattle.run_model.specs.Unit.{at_moment, row, takes}
-use Rattle.run_model.specs.Story.{OwnTurn, own_turn, story_of, pieces}
+use Rattle.run_events.specs.declared.request.Request.{Request}
+use Rattle.run_model.specs.Story.{OwnTurn, own_turn, story_of, line_of, request_of, pieces}
 use Rattle.run_model.specs.Words.{sent, delivered, queue, told, asked}
 use Rattle.run_model.specs.Dispatch.{event}
 use Rattle.run_model.specs.Board.{Deed, deed_events, said}
@@ -34,20 +34,20 @@ use Rattle.run_laws.proofs.AttemptLemmas.{IsMadeIf}
 use Rattle.run_laws.proofs.ReportLemmas.{own_said}
 
 -- the story of unit k with its own turn of a part
-abbrev pub story_with : ℕ → ℕ → Option UnitPart → List OwnTurn → List OwnTurn
-story_with k now part story = option_to_list (own_turn k now part) ++ story
+abbrev pub story_with : ℕ → ℕ → Option UnitPart → List Request → List OwnTurn → List OwnTurn
+story_with k now part line story = option_to_list (own_turn k now part line) ++ story
 
 -- what a deed asks and sends for unit k is what its own turn says, and what it tells waited
 pub record DoesReport (slow : SlowTimeout) (k now : ℕ) (run : List Happening) (d : Deed) : Type 0 where
-  pub asks : map End (signals_by slow (pieces (story_with k now d.part (story_of k run))))
+  pub asks : map End (signals_by slow (pieces (story_with k now d.part (line_of k run) (story_of k run))))
       ≡ map End (signals_by slow (pieces (story_of k run))) ++ signals_for k d.asked
-  pub sends : reports_by slow (pieces (story_with k now d.part (story_of k run)))
+  pub sends : reports_by slow (pieces (story_with k now d.part (line_of k run) (story_of k run)))
       ≡ reports_by slow (pieces (story_of k run)) ++ reports_waiting k (option_to_list d.sent)
   pub tells : reports_told k (deed_events d) ++ reports_waiting k (drop (if d.taken then 1 else 0) (queue run))
       ≡ reports_waiting k (queue run)
 
 -- a deed that is no turn of a unit
-pub still_reports : (slow : SlowTimeout) (k now : ℕ) (run : List Happening) (d : Deed) → own_turn k now d.part ≡ None
+pub still_reports : (slow : SlowTimeout) (k now : ℕ) (run : List Happening) (d : Deed) → own_turn k now d.part (line_of k run) ≡ None
     → signals_for k d.asked ≡ [] → reports_waiting k (option_to_list d.sent) ≡ []
     → reports_told k (deed_events d) ++ reports_waiting k (drop (if d.taken then 1 else 0) (queue run))
     ≡ reports_waiting k (queue run)
@@ -77,32 +77,33 @@ other_reports j k (Some (Slow slow)) own apart =
 other_reports j k (Some m) own apart = refl
 
 -- what a unit's own turn asks and sends
-pub record ActsReport (slow : SlowTimeout) (k now : ℕ) (part : Option UnitPart) (story : List OwnTurn)
-    (asked : Option Ask) (sent : Option Message) : Type 0 where
-  pub asks : map End (signals_by slow (pieces (story_with k now part story)))
+pub record ActsReport (slow : SlowTimeout) (k now : ℕ) (part : Option UnitPart) (line : List Request)
+    (story : List OwnTurn) (asked : Option Ask) (sent : Option Message) : Type 0 where
+  pub asks : map End (signals_by slow (pieces (story_with k now part line story)))
       ≡ map End (signals_by slow (pieces story)) ++ signals_for k asked
-  pub sends : reports_by slow (pieces (story_with k now part story))
+  pub sends : reports_by slow (pieces (story_with k now part line story))
       ≡ reports_by slow (pieces story) ++ reports_waiting k (option_to_list sent)
 
 pub acts_report : (terms : AttemptTerms) (k now j : ℕ) (turn : UnitTurn) (u : UnitView) (v : Option UnitView)
-    (story : List OwnTurn) → takes now u turn ≡ true → u.latest ≤ now → u.test.unit ≡ j
+    (line : List Request) (story : List OwnTurn) → takes now u turn ≡ true → u.latest ≤ now → u.test.unit ≡ j
+    → ((j == k) ≡ true → request_of turn line ≡ request_of turn u.line)
     → ((j == k) ≡ true → v ≡ Some u) → IsMadeIf terms v story
-    → ActsReport terms.slow k now (Some (Acts j turn)) story (row now turn u).asked (row now turn u).sent
-acts_report terms k now j turn u v story en le named same made = by_unit (j == k) refl
+    → ActsReport terms.slow k now (Some (Acts j turn)) line story (row now turn u).asked (row now turn u).sent
+acts_report terms k now j turn u v line story en le named oldest same made = by_unit (j == k) refl
   where
     own : IsForOwn u.test.unit (row now turn u).asked × IsReportOf u.test.unit (row now turn u).sent
     own = row_asks_own now u.phase turn (at_moment now u) refl (takes_moment now u.phase u turn en)
 
     by_unit : (b : Bool) → (j == k) ≡ b
-        → ActsReport terms.slow k now (Some (Acts j turn)) story (row now turn u).asked (row now turn u).sent
+        → ActsReport terms.slow k now (Some (Acts j turn)) line story (row now turn u).asked (row now turn u).sent
     by_unit true e =
         let here : u.test.unit ≡ k = grind arith in
         let is_made : IsMadeIf terms (Some u) story = subst (λ w. IsMadeIf terms w story) (same e) made in
         let said = own_said terms now turn u story en le is_made in
         record {
-          asks = rw e (said.asks
+          asks = rw (e, oldest e) (said.asks
               ∙ ap (λ i. map End (signals_by terms.slow (pieces story)) ++ signals_for i (row now turn u).asked) here);
-          sends = rw e (said.sends
+          sends = rw (e, oldest e) (said.sends
               ∙ ap (λ i. reports_by terms.slow (pieces story)
               ++ reports_waiting i (option_to_list (row now turn u).sent)) here);
         }

@@ -20,6 +20,7 @@ use Rattle.run_model.specs.Timing.{ends_wait, is_due_turn, starts_child}
 use Rattle.run_model.specs.Attempts.{start_error_in, exit_in, end_of}
 use Rattle.run_model.specs.Attempts.{ended_statuses, start_of}
 use Rattle.run_laws.proofs.CaptureLemmas.{heard_by, taken}
+use Rattle.run_laws.proofs.StandingLemmas.{unheeded}
 use Rattle.run_laws.proofs.TimerLemmas.{timer_started, timer_left, timer_still}
 use Rattle.run_laws.proofs.PieceLemmas.{IsAt, quiet_said, at_more}
 use Rattle.run_laws.proofs.GoingLemmas.{going_more, past_exited}
@@ -47,26 +48,26 @@ began terms start waited exit leaked count c piece it = sym (ap (λ o. unwrap_or
 settled_made : (now : ℕ) (exit : Option ChildExit) (c : Captured) (turn : UnitTurn) (u : UnitView)
     (piece : List OwnTurn) (earlier : List (List OwnTurn))
     → now ≤ u.latest → ends_wait turn ≡ true
-    → IsAt u.terms u.timers.stopwatch.start true exit false u.timers.slow_count c (taken now turn ∷ piece)
+    → IsAt u.terms u.timers.stopwatch.start true exit false u.timers.slow_count c (taken now turn None ∷ piece)
     → end_of u.terms piece ≡ None
     → u.timers.stopwatch ≡ started_at u.timers.stopwatch.start → u.attempt ≡ length earlier + 1
     → u.statuses ≡ ended_statuses u.terms (attempts u) earlier
-    → IsMade u.terms (settled now exit c u) ((taken now turn ∷ piece) ∷ earlier)
+    → IsMade u.terms (settled now exit c u) ((taken now turn None ∷ piece) ∷ earlier)
 settled_made now exit c turn u piece earlier le ends it none watch a ss = by_done (is_done c) refl
   where
-    start : u.timers.stopwatch.start ≡ start_of (taken now turn ∷ piece)
+    start : u.timers.stopwatch.start ≡ start_of (taken now turn None ∷ piece)
     start =
-        began u.terms u.timers.stopwatch.start true exit false u.timers.slow_count c (taken now turn ∷ piece) it
+        began u.terms u.timers.stopwatch.start true exit false u.timers.slow_count c (taken now turn None ∷ piece) it
 
     by_done : (b : Bool) → is_done c ≡ b
         → IsMade u.terms (if b then exited now exit false c u else leaking now exit c u)
-        ((taken now turn ∷ piece) ∷ earlier)
+        ((taken now turn None ∷ piece) ∷ earlier)
     by_done true e =
-        made_more (exited now exit false c u) Deciding (taken now turn) piece earlier refl a start
+        made_more (exited now exit false c u) Deciding (taken now turn None) piece earlier refl a start
         (past_exited now exit false c turn u piece earlier it none (ap (λ b. b || false) e) watch a ss)
     by_done false e =
-        made_more (leaking now exit c u) Leak (taken now turn) piece earlier refl a start (
-          going_more u.terms Leak true exit (leaking now exit c u) (taken now turn) piece it none e watch
+        made_more (leaking now exit c u) Leak (taken now turn None) piece earlier refl a start (
+          going_more u.terms Leak true exit (leaking now exit c u) (taken now turn None) piece it none e watch
               (timer_left u.terms (leaking now exit c u).timers now u.latest turn piece le refl ends),
           ss,
         )
@@ -77,11 +78,11 @@ pub exit_made : (ph : Phase) (now : ℕ) (exit : Option ChildExit) (c : Captured
     → now ≤ u.latest → u.attempt ≡ length earlier + 1 → GoesOn u.terms ph false None u piece earlier
     → start_error_in turn ≡ None → is_due_turn turn ≡ false → ends_wait turn ≡ true → exit_in turn ≡ exit
     → heard_by u.capture turn ≡ c
-    → IsMade u.terms (settled now exit c u) ((taken now turn ∷ piece) ∷ earlier)
+    → IsMade u.terms (settled now exit c u) ((taken now turn None ∷ piece) ∷ earlier)
 exit_made ph now exit c turn u piece earlier le a (on, ss) unrefused due ends is heard =
     let it : IsAt u.terms u.timers.stopwatch.start (ends_wait turn || false) (exit_in turn) false u.timers.slow_count
-    (heard_by u.capture turn) (taken now turn ∷ piece) =
-    at_more u.terms u.timers.stopwatch.start false None false u.timers.slow_count u.capture now turn piece on.is_at
+    (heard_by u.capture turn) (taken now turn None ∷ piece) =
+    at_more u.terms u.timers.stopwatch.start false None false u.timers.slow_count u.capture now turn None piece on.is_at
     unrefused due in
     settled_made now exit c turn u piece earlier le ends (rw (ends, is, heard) at it) on.not_ended on.watch a ss
 
@@ -92,18 +93,19 @@ having_captured turn u = record u { capture = having_heard u.capture turn }
 -- its capture gets a turn before that
 pub heard_running : (ph : Phase) (now : ℕ) (turn : UnitTurn) (u : UnitView) (piece : List OwnTurn)
     (earlier : List (List OwnTurn))
-    → (GoesOn u.terms ph false None (having_captured turn u) (taken now turn ∷ piece) earlier
-    → HasPieces u.terms ph (having_captured turn u) ((taken now turn ∷ piece) ∷ earlier))
+    → (GoesOn u.terms ph false None (having_captured turn u) (taken now turn None ∷ piece) earlier
+    → HasPieces u.terms ph (having_captured turn u) ((taken now turn None ∷ piece) ∷ earlier))
     → u.phase ≡ ph → u.attempt ≡ length earlier + 1 → GoesOn u.terms ph false None u piece earlier
     → start_error_in turn ≡ None → is_due_turn turn ≡ false → ends_wait turn ≡ false → exit_in turn ≡ None
     → starts_child turn ≡ false → heard_by u.capture turn ≡ having_heard u.capture turn
-    → IsMade u.terms (having_captured turn u) ((taken now turn ∷ piece) ∷ earlier)
+    → IsMade u.terms (having_captured turn u) ((taken now turn None ∷ piece) ∷ earlier)
 heard_running ph now turn u piece earlier into phase a (on, ss) unrefused due ends is starts heard =
-    made_more (having_captured turn u) ph (taken now turn) piece earlier phase a
-    (began u.terms u.timers.stopwatch.start false None false u.timers.slow_count c (taken now turn ∷ piece) it)
+    made_more (having_captured turn u) ph (taken now turn None) piece earlier phase a
+    (began u.terms u.timers.stopwatch.start false None false u.timers.slow_count c (taken now turn None ∷ piece) it)
     (into (
-      going_more u.terms ph false None (having_captured turn u) (taken now turn) piece it on.not_ended refl
-          on.watch (timer_still u.terms ph u.timers u.latest now turn piece due ends starts on.timer),
+      going_more u.terms ph false None (having_captured turn u) (taken now turn None) piece it on.not_ended refl
+          on.watch (timer_still u.terms ph u.timers u.latest (taken now turn None) piece due ends starts
+          (unheeded u.terms.slow (taken now turn None) piece refl) on.timer),
       ss,
     ))
   where
@@ -111,12 +113,12 @@ heard_running ph now turn u piece earlier into phase a (on, ss) unrefused due en
     c = having_heard u.capture turn
 
     more_at : IsAt u.terms u.timers.stopwatch.start (ends_wait turn || false) (exit_in turn) false u.timers.slow_count
-        (heard_by u.capture turn) (taken now turn ∷ piece)
+        (heard_by u.capture turn) (taken now turn None ∷ piece)
     more_at =
-        at_more u.terms u.timers.stopwatch.start false None false u.timers.slow_count u.capture now turn piece on.is_at
+        at_more u.terms u.timers.stopwatch.start false None false u.timers.slow_count u.capture now turn None piece on.is_at
         unrefused due
 
-    it : IsAt u.terms u.timers.stopwatch.start false None false u.timers.slow_count c (taken now turn ∷ piece)
+    it : IsAt u.terms u.timers.stopwatch.start false None false u.timers.slow_count c (taken now turn None ∷ piece)
     it = rw (ends, is, heard) at more_at
 
 -- its capture gets a turn after its child has ended
@@ -124,53 +126,55 @@ pub heard_made : (now : ℕ) (turn : UnitTurn) (u : UnitView) (piece : List OwnT
     → u.phase ≡ Leak → u.attempt ≡ length earlier + 1 → GoesOn u.terms Leak true u.exit u piece earlier
     → start_error_in turn ≡ None → is_due_turn turn ≡ false → ends_wait turn ≡ false → exit_in turn ≡ None
     → starts_child turn ≡ false → heard_by u.capture turn ≡ having_heard u.capture turn
-    → IsMade u.terms (heard_with now (having_heard u.capture turn) u) ((taken now turn ∷ piece) ∷ earlier)
+    → IsMade u.terms (heard_with now (having_heard u.capture turn) u) ((taken now turn None ∷ piece) ∷ earlier)
 heard_made now turn u piece earlier ph a (on, ss) unrefused due ends is starts heard = by_done (is_done c) refl
   where
     c : Captured
     c = having_heard u.capture turn
 
     more_at : IsAt u.terms u.timers.stopwatch.start (ends_wait turn || true) (option_or u.exit (exit_in turn)) false
-        u.timers.slow_count (heard_by u.capture turn) (taken now turn ∷ piece)
+        u.timers.slow_count (heard_by u.capture turn) (taken now turn None ∷ piece)
     more_at =
-        at_more u.terms u.timers.stopwatch.start true u.exit false u.timers.slow_count u.capture now turn piece on.is_at
+        at_more u.terms u.timers.stopwatch.start true u.exit false u.timers.slow_count u.capture now turn None piece on.is_at
         unrefused due
 
-    it : IsAt u.terms u.timers.stopwatch.start true u.exit false u.timers.slow_count c (taken now turn ∷ piece)
+    it : IsAt u.terms u.timers.stopwatch.start true u.exit false u.timers.slow_count c (taken now turn None ∷ piece)
     it = rw (ends, is, heard, quiet_said u.exit) at more_at
 
-    start : u.timers.stopwatch.start ≡ start_of (taken now turn ∷ piece)
+    start : u.timers.stopwatch.start ≡ start_of (taken now turn None ∷ piece)
     start =
-        began u.terms u.timers.stopwatch.start true u.exit false u.timers.slow_count c (taken now turn ∷ piece) it
+        began u.terms u.timers.stopwatch.start true u.exit false u.timers.slow_count c (taken now turn None ∷ piece) it
 
     by_done : (b : Bool) → is_done c ≡ b
         → IsMade u.terms (if b then exited now u.exit false c u else record u { capture = c })
-        ((taken now turn ∷ piece) ∷ earlier)
+        ((taken now turn None ∷ piece) ∷ earlier)
     by_done true e =
-        made_more (exited now u.exit false c u) Deciding (taken now turn) piece earlier refl a start
+        made_more (exited now u.exit false c u) Deciding (taken now turn None) piece earlier refl a start
         (past_exited now u.exit false c turn u piece earlier it on.not_ended (ap (λ b. b || false) e) on.watch a ss)
     by_done false e =
-        made_more (record u { capture = c }) Leak (taken now turn) piece earlier ph a start (
-          going_more u.terms Leak true u.exit (record u { capture = c }) (taken now turn) piece it on.not_ended e on.watch
-              (timer_still u.terms Leak u.timers u.latest now turn piece due ends starts on.timer),
+        made_more (record u { capture = c }) Leak (taken now turn None) piece earlier ph a start (
+          going_more u.terms Leak true u.exit (record u { capture = c }) (taken now turn None) piece it on.not_ended e on.watch
+              (timer_still u.terms Leak u.timers u.latest (taken now turn None) piece due ends starts
+              (unheeded u.terms.slow (taken now turn None) piece refl) on.timer),
           ss,
         )
 
 -- its child starts
 pub started_made : (now pid : ℕ) (u : UnitView) (piece : List OwnTurn) (earlier : List (List OwnTurn))
     → now ≤ u.latest → u.attempt ≡ length earlier + 1 → GoesOn u.terms Starting false None u piece earlier
-    → IsMade u.terms (started now u) ((taken now (Started pid) ∷ piece) ∷ earlier)
+    → IsMade u.terms (started now u) ((taken now (Started pid) None ∷ piece) ∷ earlier)
 started_made now pid u piece earlier le a (on, ss) =
-    made_more (started now u) Running (taken now (Started pid)) piece earlier refl a
+    made_more (started now u) Running (taken now (Started pid) None) piece earlier refl a
     (began u.terms u.timers.stopwatch.start false None false u.timers.slow_count u.capture
-    (taken now (Started pid) ∷ piece) it) (
-      going_more u.terms Running false None (started now u) (taken now (Started pid)) piece it on.not_ended refl on.watch
-          (timer_started u.terms (started now u).timers now u.latest pid piece le refl on.is_at.wait_over on.timer.stage),
+    (taken now (Started pid) None ∷ piece) it) (
+      going_more u.terms Running false None (started now u) (taken now (Started pid) None) piece it on.not_ended refl on.watch
+          (timer_started u.terms (started now u).timers now u.latest pid piece le refl on.is_at.wait_over on.timer.stage.0
+          on.timer.stage.1),
       ss,
     )
   where
     it : IsAt u.terms u.timers.stopwatch.start false None false u.timers.slow_count u.capture
-        (taken now (Started pid) ∷ piece)
+        (taken now (Started pid) None ∷ piece)
     it =
-        at_more u.terms u.timers.stopwatch.start false None false u.timers.slow_count u.capture now (Started pid) piece
-        on.is_at refl refl
+        at_more u.terms u.timers.stopwatch.start false None false u.timers.slow_count u.capture now (Started pid) None
+        piece on.is_at refl refl

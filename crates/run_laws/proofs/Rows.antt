@@ -1,12 +1,17 @@
 -- What a row of the unit table does to a unit, apart from its attempt.
 use Rattle.std.proofs.Common.{◌≡◌, ◌⊎◌, inl, inr, ℕ, ◌==◌, List, [], ◌∷◌, ◌++◌, Bool, true, false, if◌then◌else◌}
-use Rattle.std.proofs.Common.{Option, Some, None, refl, ap, sym, subst, ◌∙◌, arith}
+use Rattle.std.proofs.Common.{Option, Some, None, refl, ap, sym, subst}
 use Rattle.std.specs.Prelude.{⊤}
 use Rattle.run_capture.specs.Captured.{Captured, is_done, with_wait_error}
 use Rattle.run_events.specs.declared.result.ChildExit.{ChildExit}
 use Rattle.run_events.specs.declared.result.ExecuteStatus.{ExecuteStatus}
 use Rattle.run_events.specs.declared.ask.Ask.{Ask}
 use Rattle.run_events.specs.declared.ask.Ask.TheVariants.{Signal}
+use Rattle.run_events.specs.declared.request.Request.{Request}
+use Rattle.run_events.specs.declared.request.Request.TheVariants.{Shutdown}
+use Rattle.run_events.specs.declared.request.TermSignal.{TermSignal}
+use Rattle.run_events.specs.declared.request.TermSignal.TheVariants.{Kill}
+use Rattle.run_events.specs.declared.request.TerminateReason.TheVariants.{Signal as Signalled}
 use Rattle.run_events.specs.declared.message.TestSlow.{TestSlow}
 use Rattle.run_events.specs.declared.message.Message.{Message}
 use Rattle.run_events.specs.declared.message.Message.TheVariants.{Slow}
@@ -15,12 +20,13 @@ use Rattle.run_model.specs.declared.phase.Phase.TheVariants.{StartSent, Starting
 use Rattle.run_model.specs.declared.phase.Phase.TheVariants.{Deciding, Over}
 use Rattle.run_model.specs.declared.unit_turn.UnitTurn.{UnitTurn}
 use Rattle.run_model.specs.declared.unit_turn.UnitTurn.TheVariants.{Answered, Started, StartFailed, Exit, WaitFailed}
-use Rattle.run_model.specs.declared.unit_turn.UnitTurn.TheVariants.{Piece, StreamEnd, ReadError, Due, Decide}
+use Rattle.run_model.specs.declared.unit_turn.UnitTurn.TheVariants.{Due, Take, Decide}
 use Rattle.run_model.specs.declared.unit_view.UnitView.{UnitView}
 use Rattle.run_model.specs.Environment.{attempts, start_ask}
+use Rattle.run_model.specs.Terminate.{terminate_method}
 use Rattle.run_model.specs.Slow.{one_more, is_out_of_time, slow_time}
 use Rattle.run_model.specs.Unit.{Row, at_moment, row_at, takes_at, settled, exited, leaking, having_heard, heard_with, running_row}
-use Rattle.run_model.specs.Unit.{waited_row, slow_message, slow_row, slow_again, in_grace, out_of_time, quiet}
+use Rattle.run_model.specs.Unit.{asked_to_end, requested, take_row, waited_row, slow_message, slow_row, slow_again, in_grace, out_of_time, quiet}
 use Rattle.run_model.specs.Admission.{is_last}
 
 -- whether an attempt goes on in a phase
@@ -171,6 +177,50 @@ waits : (now : ℕ) (turn : UnitTurn) (u : UnitView) → is_open u.phase ≡ tru
 waits now Due u on = ends now u.exit true u.capture u
 waits now turn u on = hears now (having_heard u.capture turn) u on
 
+-- it takes a request
+ends_by : (now : ℕ) (signal : TermSignal) (u v : UnitView) → Keeps u v → v.test ≡ u.test → is_open v.phase ≡ true
+    → v.statuses ≡ u.statuses → IsOwn u (asked_to_end now signal v)
+ends_by now Kill u v keeps same on ss = record {
+  keeps = keeps;
+  moves = inl (record { phase = on; statuses = ss; sent = tt });
+  asks = ap (λ t. t.unit) same;
+  reports = tt;
+}
+ends_by now signal u v keeps same on ss = record {
+  keeps = record { test = keeps.test; slot = keeps.slot; latest = keeps.latest };
+  moves = inl (record { phase = refl; statuses = ss; sent = tt });
+  asks = ap (λ t. t.unit) same;
+  reports = tt;
+}
+
+requests : (now : ℕ) (ph : Phase) (u : UnitView) → is_open u.phase ≡ true → IsOwn u (take_row now ph u.line u)
+requests now ph u on = by_line u.line
+  where
+    still : (line : List Request) → IsOwn u (quiet (record u { line = line }))
+    still line = record {
+      keeps = record { test = refl; slot = refl; latest = refl };
+      moves = inl (record { phase = on; statuses = refl; sent = tt });
+      asks = tt;
+      reports = tt;
+    }
+
+    by_request : (ph : Phase) (request : Request) (line : List Request)
+        → IsOwn u (requested now ph request (record u { line = line }))
+    by_request Running (Shutdown request) line =
+        ends_by now (terminate_method (Signalled request) u.terms.slow.grace) u (record u { line = line })
+        (record { test = refl; slot = refl; latest = refl }) refl on refl
+    by_request Grace (Shutdown request) line = record {
+      keeps = record { test = refl; slot = refl; latest = refl };
+      moves = inl (record { phase = refl; statuses = refl; sent = tt });
+      asks = refl;
+      reports = tt;
+    }
+    by_request ph request line = still line
+
+    by_line : (line : List Request) → IsOwn u (take_row now ph line u)
+    by_line [] = still u.line
+    by_line (request ∷ line) = by_request ph request line
+
 -- each row of an attempt that goes on
 own : (now : ℕ) (ph : Phase) (turn : UnitTurn) (u : UnitView) → u.phase ≡ ph → is_open ph ≡ true
     → IsOwn u (row_at now ph turn u)
@@ -193,6 +243,7 @@ own now Starting turn u is on = record {
   reports = tt;
 }
 own now Running Due u is on = slows now (one_more u.timers.slow_count) u (ap is_open is)
+own now Running Take u is on = requests now Running u (ap is_open is)
 own now Running turn u is on = runs now turn u (ap is_open is)
 own now Grace Due u is on = record {
   keeps = record { test = refl; slot = refl; latest = refl };
@@ -200,8 +251,10 @@ own now Grace Due u is on = record {
   asks = refl;
   reports = tt;
 }
+own now Grace Take u is on = requests now Grace u (ap is_open is)
 own now Grace turn u is on = runs now turn u (ap is_open is)
 own now KillWait turn u is on = runs now turn u (ap is_open is)
+own now Leak Take u is on = requests now Leak u (ap is_open is)
 own now Leak turn u is on = waits now turn u (ap is_open is)
 own now ph turn u is on = cc
 

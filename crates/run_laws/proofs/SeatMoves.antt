@@ -1,53 +1,74 @@
 -- What each enabled turn does to the seats of the tests.
-use Rattle.std.proofs.Common.{◌≡◌, ℕ, List, [], ◌∷◌, ◌++◌, take, get_or, Bool}
-use Rattle.std.proofs.Common.{true, false, not, if◌then◌else◌, Option, Some, None, option_map, option_to_list, is_none}
-use Rattle.std.proofs.Common.{refl, ap, sym, ◌∙◌}
+use Rattle.std.proofs.Common.{◌≡◌, ℕ, ◌==◌, ◌&&◌, List, [], ◌∷◌, ◌++◌, take, drop, get_or, Bool}
+use Rattle.std.proofs.Common.{true, false, not, if◌then◌else◌, Option, Some, None, option_map, option_to_list}
+use Rattle.std.proofs.Common.{refl, ap, sym, subst, ◌∙◌, arith}
+use Rattle.std.specs.List.{list_any}
+use Rattle.std.proofs.lemmas.Grind.{common_steps}
 use Rattle.std.specs.Cmp.{second_so}
 use Rattle.run_events.specs.declared.settings.Settings.{Settings}
 use Rattle.run_events.specs.declared.turn.Turn.{Turn}
 use Rattle.run_events.specs.declared.message.Message.{Message}
 use Rattle.run_events.specs.declared.message.Message.TheVariants.{Start, Slow, Skip, Finish}
 use Rattle.run_events.specs.declared.message.TestStart.{TestStart}
+use Rattle.run_events.specs.declared.events.ReporterEvent.{ReporterEvent}
 use Rattle.run_admission.specs.declared.seat.Seat.{Seat}
+use Rattle.run_admission.specs.declared.seat.Seat.TheVariants.{Gone}
+use Rattle.run_admission.specs.InUse.{is_in_use}
+use Rattle.run_admission.proofs.FewerLemmas.{IsBelow}
+use Rattle.run_model.specs.declared.dispatcher_view.Tally.{Tally}
+use Rattle.run_model.specs.declared.phase.Phase.TheVariants.{StartSent}
+use Rattle.run_model.specs.Cancel.{Cause, signal_cause, time_is_up, event_refused, cause_of, caused}
+use Rattle.run_model.specs.Accounts.{News, started, finished, HasAccount, is_mismatched, account_of, pending_in, pending_of}
 use Rattle.run_model.specs.declared.happening.Happening.{Happening}
 use Rattle.run_model.specs.declared.unit_turn.UnitTurn.{UnitTurn}
 use Rattle.run_model.specs.declared.unit_turn.UnitTurn.TheVariants.{Answered}
 use Rattle.run_model.specs.declared.unit_view.UnitView.{UnitView}
 use Rattle.run_model.specs.Unit.{takes, takes_at}
-use Rattle.run_model.specs.Words.{is_on, finished_test, queue, told, unit_of, units, tally}
+use Rattle.run_model.specs.Words.{is_on, finished_test, queue, told, finishes, unit_of, units, tally, signals_heard}
 use Rattle.run_model.specs.Admission.{Newcomer, newcomer}
 use Rattle.run_model.specs.Dispatch.{may_go, event, with_start, with_finish, started_event}
-use Rattle.run_model.specs.Board.{Board, Deed, deed_events}
+use Rattle.run_model.specs.Board.{Board, Deed}
 use Rattle.run_model.specs.Turns.{enabled_on, is_empty, takes_turn, turn_of_unit, unit_takes, taken_by, admission}
-use Rattle.run_model.specs.Turns.{delivery, done_by, deed_on}
-use Rattle.run_laws.specs.Limits.{seat_told}
-use Rattle.run_laws.proofs.Holds.{Holds}
+use Rattle.run_model.specs.Turns.{nothing_done, event_of, tally_with, delivered_as, delivery, done_by, deed_on}
+use Rattle.run_laws.specs.Limits.{slots_told, seat_in, seat_told}
+use Rattle.run_laws.proofs.Holds.{Holds, place_of}
+use Rattle.run_laws.proofs.Running.{is_start, starts-account}
 use Rattle.run_laws.proofs.ByTurn.{is_answer, by_turn}
-use Rattle.run_laws.proofs.OnBoard.{board_of, unit_in-is}
+use Rattle.run_laws.proofs.OnBoard.{board_of, board_with, unit_in-is}
 use Rattle.run_laws.proofs.Newcomers.{new_unit}
-use Rattle.run_laws.proofs.Facts.{start_waits, may_go-is, oldest_built}
-use Rattle.run_laws.proofs.OpenSeats.{at_last, AreLower}
+use Rattle.run_laws.proofs.Facts.{start_waits, oldest_built}
+use Rattle.run_laws.proofs.OpenSeats.{opened, at_last, AreLower, same_lower}
 use Rattle.run_laws.proofs.ToldSeats.{seat_told-other, seat_told-nothing, seat_told-started, seat_told-finished}
 use Rattle.run_laws.proofs.BoardSeats.{board_seat, seat_after, AreKeptIn, kept_fewer, acts_lower, acts_last}
+use Rattle.run_laws.proofs.BoardSeats.{acts_refused}
 use Rattle.run_laws.proofs.JoinSeats.{joins_kept, joins_last}
 
--- what a deed does to the seats: it tells as the messages that it takes say; it keeps the limits on the board; and what
+-- the messages that wait after a deed has taken one
+abbrev pub rest_of : Deed → List Happening → List Message
+rest_of d run = drop (if d.taken then 1 else 0) (queue run)
+
+-- what a deed does to the seats: what it tells leaves them below what the messages that it takes say; it keeps the limits on the board; and what
 -- it sends leaves the last seats below the board's
 pub record MovesSeats (p : Settings) (now : ℕ) (run : List Happening) (d : Deed) : Type 0 where
-  pub tells : (k : ℕ) → seat_told (told run ++ deed_events d) k
-      ≡ at_last (seat_told (told run)) (take (if d.taken then 1 else 0) (queue run)) k
+  pub tells : AreLower (seat_told (told run ++ option_to_list d.told))
+      (at_last (seat_told (told run)) (take (if d.taken then 1 else 0) (queue run)))
   pub keeps : AreKeptIn p (board_seat run) → AreKeptIn p (seat_after now d.part run)
-  pub sends : (seat : ℕ → Seat) → AreLower seat (board_seat run)
-      → AreLower (at_last seat (option_to_list d.sent)) (seat_after now d.part run)
+  pub sends : AreLower (at_last (seat_told (told run ++ option_to_list d.told)) (rest_of d run)) (board_seat run)
+      → AreLower (at_last (at_last (seat_told (told run ++ option_to_list d.told)) (rest_of d run))
+      (option_to_list d.sent)) (seat_after now d.part run)
+
+-- a deed that tells nothing and takes no message
+tells_nothing : (run : List Happening) → AreLower (seat_told (told run ++ [])) (seat_told (told run))
+tells_nothing run = same_lower _ _ (λ k. seat_told-nothing k (told run))
 
 -- what an admission does to the seats
 admits : (p : Settings) (now : ℕ) (run : List Happening) (o : Option Newcomer) → newcomer p (units p run) ≡ o
     → MovesSeats p now run (admission o)
-admits p now run None e = record { tells = λ k. seat_told-nothing k (told run); keeps = λ h. h; sends = λ seat h. h }
+admits p now run None e = record { tells = tells_nothing run; keeps = λ h. h; sends = λ h. h }
 admits p now run (Some new) e = record {
-  tells = λ k. seat_told-nothing k (told run);
+  tells = tells_nothing run;
   keeps = joins_kept p now run new e;
-  sends = λ seat h. joins_last p now run new.unit new.sent seat (new_unit p run new e) h;
+  sends = joins_last p now run new.unit new.sent _ (new_unit p run new e);
 }
 
 -- what a unit's own turn does to the seats
@@ -56,94 +77,176 @@ unit_moves : (p : Settings) (over : Bool) (now : ℕ) (run : List Happening) (j 
     → is_answer turn ≡ false → MovesSeats p now run (taken_by now j turn v)
 unit_moves p over now run j turn None h e en other = cc
 unit_moves p over now run j turn (Some u) h e en other = record {
-  tells = λ k. seat_told-nothing k (told run);
+  tells = tells_nothing run;
   keeps = λ kept. kept_fewer p _ (board_seat run) (acts_lower now j turn run) kept;
-  sends = λ seat below. acts_last now j turn run u seat e en
-      (λ is. let same : is_answer turn ≡ true = ap is_answer is in cc) (h.named j u e).0 below;
+  sends = acts_last now j turn run u _ e en
+      (λ is. let same : is_answer turn ≡ true = ap is_answer is in cc) (h.named j u e).0;
 }
 
--- what the delivery of a start does to the seats
+-- a cause leaves the seats
+caused_moves : (p : Settings) (now : ℕ) (run : List Happening) (o : Option Cause) (t : Tally) (d : Deed)
+    → MovesSeats p now run d → MovesSeats p now run (caused now t o d)
+caused_moves p now run None t d moves = moves
+caused_moves p now run (Some cause) t d moves = record { tells = moves.tells; keeps = moves.keeps; sends = moves.sends }
+
+-- a test of which nothing was told is in no seat by what was told, and messages that say nothing of it leave its seat
+untold_gone : (k : ℕ) (es : List ReporterEvent) → account_of k es ≡ [] → seat_told es k ≡ Gone
+untold_gone k es none =
+    ap (λ b. if b && not (list_any (finishes k) es) then seat_in (slots_told k es) else Gone)
+    (starts-account k es ∙ ap (list_any is_start) none)
+
+opened_apart : (k : ℕ) (m : Message) (seat : ℕ → Seat) → pending_in k m ≡ None → opened m seat k ≡ seat k
+opened_apart k (Start start) seat e = by_unit (start.test.unit == k) e
+  where
+    by_unit : (b : Bool) → (if b then Some started else None) ≡ None
+        → (if b then seat_in (Some start.slot) else seat k) ≡ seat k
+    by_unit true e = cc
+    by_unit false e = refl
+opened_apart k (Finish finish) seat e = by_unit (finish.test.unit == k) e
+  where
+    by_unit : (b : Bool) → (if b then Some (finished finish.statuses) else None) ≡ None
+        → (if b then Gone else seat k) ≡ seat k
+    by_unit true e = cc
+    by_unit false e = refl
+opened_apart k m seat e = refl
+
+at_last_apart : (k : ℕ) (ms : List Message) (seat : ℕ → Seat) → pending_of k ms ≡ [] → at_last seat ms k ≡ seat k
+at_last_apart k [] seat none = refl
+at_last_apart k (m ∷ ms) seat none =
+    let apart = both (pending_in k m) refl none in
+    at_last_apart k ms (opened m seat) apart.1 ∙ opened_apart k m seat apart.0
+  where
+    both : (o : Option News) → pending_in k m ≡ o → pending_of k (m ∷ ms) ≡ []
+        → (pending_in k m ≡ None) × (pending_of k ms ≡ [])
+    both None e none = (e, rw e at none)
+    both (Some news) e none = let never = rw e at none in cc
+
+-- what waits of a test whose start is the oldest message: nothing else
+start_alone : (p : Settings) (over : Bool) (now : ℕ) (run : List Happening) (start : TestStart) (rest : List Message)
+    → Holds p over now run → queue run ≡ Start start ∷ rest → pending_of start.test.unit rest ≡ []
+start_alone p over now run start rest h eq =
+    alone (is_mismatched p (place_of p start.test.unit)) (unit_of start.test.unit run)
+    (account_of start.test.unit (told run)) (rw eq at (h.accounts start.test.unit))
+  where
+    alone : (mm : Bool) (v : Option UnitView) (t : List News)
+        → HasAccount mm v t (pending_of start.test.unit (Start start ∷ rest)) → pending_of start.test.unit rest ≡ []
+    alone mm None t h = grind (arith, common_steps)
+    alone mm (Some u) t h = grind (arith, common_steps)
+
+-- what the delivery of a start does to the seats: one that isn't let go leaves its seat
 start_moves : (p : Settings) (over : Bool) (now : ℕ) (run : List Happening) (start : TestStart) (rest : List Message)
-    (go : Bool) (w : Option UnitView) → Holds p over now run → go ≡ true → queue run ≡ Start start ∷ rest
+    (go : Bool) (w : Option UnitView) → Holds p over now run → queue run ≡ Start start ∷ rest
     → unit_of start.test.unit run ≡ w
     → MovesSeats p now run (record (taken_by now start.test.unit (Answered go) w) {
       taken = true;
       told = option_map (event now) (if go then Some (started_event start (with_start (tally p run))) else None);
     })
-start_moves p over now run start rest go None h goes eq ew =
+start_moves p over now run start rest go None h eq ew =
     let waits = start_waits p over now run start rest h eq in
     let never : None ≡ Some waits.unit = sym ew ∙ waits.is in cc
-start_moves p over now run start rest false (Some u) h goes eq ew = cc
-start_moves p over now run start rest true (Some u) h goes eq ew =
+start_moves p over now run start rest true (Some u) h eq ew =
     let waits = start_waits p over now run start rest h eq in
     let same : waits.unit ≡ u = cc (sym waits.is ∙ ew) in
     let waiting : takes now u (Answered true) ≡ true =
     ap (λ (u : UnitView). takes now u (Answered true)) (sym same)
     ∙ ap (λ ph. takes_at now ph waits.unit (Answered true)) waits.phase in
     record {
-      tells = λ k. seat_told-started k now (told run) start (with_start (tally p run)) waits.untold
-          ∙ ap (λ q. at_last (seat_told (told run)) (take 1 q) k) (sym eq);
+      tells = same_lower _ _ (λ k. seat_told-started k now (told run) start (with_start (tally p run)) waits.untold
+          ∙ ap (λ q. at_last (seat_told (told run)) (take 1 q) k) (sym eq));
       keeps = λ kept. kept_fewer p _ (board_seat run) (acts_lower now start.test.unit (Answered true) run) kept;
-      sends = λ seat below. acts_last now start.test.unit (Answered true) run u seat ew waiting (λ is. cc)
-          (h.named start.test.unit u ew).0 below;
+      sends = acts_last now start.test.unit (Answered true) run u _ ew waiting (λ is. cc)
+          (h.named start.test.unit u ew).0;
     }
+start_moves p over now run start rest false (Some u) h eq ew =
+    let waits = start_waits p over now run start rest h eq in
+    let same : waits.unit ≡ u = cc (sym waits.is ∙ ew) in
+    let phase : u.phase ≡ StartSent = ap (λ (u : UnitView). u.phase) (sym same) ∙ waits.phase in
+    let untold : seat_told (told run ++ []) start.test.unit ≡ Gone =
+    seat_told-nothing start.test.unit (told run) ∙ untold_gone start.test.unit (told run) waits.untold in
+    record {
+      tells = λ k. subst (λ q. IsBelow (seat_told (told run ++ []) k) (at_last (seat_told (told run)) (take 1 q) k))
+          (sym eq) (refused_tells k (start.test.unit == k) refl waits.untold);
+      keeps = λ kept. kept_fewer p _ (board_seat run) (acts_lower now start.test.unit (Answered false) run) kept;
+      sends = acts_refused now start.test.unit run u _ ew phase
+          (ap (λ q. at_last (seat_told (told run ++ [])) (drop 1 q) start.test.unit) eq
+          ∙ at_last_apart start.test.unit rest (seat_told (told run ++ [])) (start_alone p over now run start rest h eq)
+          ∙ untold);
+    }
+  where
+    refused_tells : (k : ℕ) (b : Bool) → (start.test.unit == k) ≡ b → account_of start.test.unit (told run) ≡ []
+        → IsBelow (seat_told (told run ++ []) k) (if start.test.unit == k then seat_in (Some start.slot)
+        else seat_told (told run) k)
+    refused_tells k true e none used =
+        let here : start.test.unit ≡ k = grind arith in
+        let gone : seat_told (told run ++ []) k ≡ Gone =
+        seat_told-nothing k (told run) ∙ untold_gone k (told run) (ap (λ k. account_of k (told run)) (sym here) ∙ none) in
+        let never : false ≡ true = sym (ap is_in_use gone) ∙ used in cc
+    refused_tells k false e none used = rw e (seat_told-nothing k (told run))
 
 -- what a delivery does to the seats
 delivers : (p : Settings) (over : Bool) (now : ℕ) (run : List Happening) (q : List Message) → Holds p over now run
     → queue run ≡ q → not (is_empty q) ≡ true → MovesSeats p now run (delivery (board_of p over now run) q)
 delivers p over now run [] h eq en = cc
 delivers p over now run (Start start ∷ rest) h eq en =
-    start_moves p over now run start rest (may_go (tally p run)) (get_or (units p run) start.test.unit None) h
-    (may_go-is p run ∙ ap is_none h.calm) eq (sym (unit_in-is p over now run start.test.unit h))
+    start_moves p over now run start rest (may_go (tally p run)) (get_or (units p run) start.test.unit None) h eq
+    (sym (unit_in-is p over now run start.test.unit h))
 delivers p over now run (Skip skip ∷ rest) h eq en = record {
-  tells = λ k. seat_told-other k (told run) _ refl refl
-      ∙ ap (λ q. at_last (seat_told (told run)) (take 1 q) k) (sym eq);
+  tells = same_lower _ _ (λ k. seat_told-other k (told run) _ refl refl
+      ∙ ap (λ q. at_last (seat_told (told run)) (take 1 q) k) (sym eq));
   keeps = λ kept. kept;
-  sends = λ seat below. below;
+  sends = λ below. below;
 }
 delivers p over now run (Slow slow ∷ rest) h eq en = record {
-  tells = λ k. seat_told-other k (told run) _ refl refl
-      ∙ ap (λ q. at_last (seat_told (told run)) (take 1 q) k) (sym eq);
+  tells = same_lower _ _ (λ k. seat_told-other k (told run) _ refl refl
+      ∙ ap (λ q. at_last (seat_told (told run)) (take 1 q) k) (sym eq));
   keeps = λ kept. kept;
-  sends = λ seat below. below;
+  sends = λ below. below;
 }
-delivers p over now run (Finish finish ∷ rest) h eq en = record {
-  tells = λ k. seat_told-finished k now (told run) finish (with_finish (tally p run) (finished_test finish))
-      ∙ ap (λ q. at_last (seat_told (told run)) (take 1 q) k) (sym eq);
-  keeps = λ kept. kept;
-  sends = λ seat below. below;
-}
+delivers p over now run (Finish finish ∷ rest) h eq en =
+    let b : Board = board_of p over now run in
+    let tells : Option ReporterEvent = event_of b (Finish finish) in
+    caused_moves p now run (cause_of b.dispatcher.rules (tally_with b tells) (Finish finish)) (tally_with b tells)
+    (delivered_as b (Finish finish) nothing_done) (record {
+      tells = same_lower _ _ (λ k.
+          seat_told-finished k now (told run) finish (with_finish (tally p run) (finished_test finish))
+          ∙ ap (λ q. at_last (seat_told (told run)) (take 1 q) k) (sym eq));
+      keeps = λ kept. kept;
+      sends = λ below. below;
+    })
 delivers p over now run (m ∷ rest) h eq en = absurd (oldest_built p over now run m rest h eq)
 
 -- what each enabled turn does to the seats
-pub moves : (p : Settings) (over : Bool) (now : ℕ) (run : List Happening) (turn : Turn) → Holds p over now run
-    → enabled_on p (board_of p over now run) turn ≡ true
-    → MovesSeats p now run (deed_on p (board_of p over now run) turn)
-moves p over now run turn h en =
+pub moves : (p : Settings) (over refused : Bool) (now : ℕ) (run : List Happening) (turn : Turn) → Holds p over now run
+    → enabled_on p (board_with p refused over now run) turn ≡ true
+    → MovesSeats p now run (deed_on p (board_with p refused over now run) turn)
+moves p over refused now run turn h en =
     by_turn (λ turn named. takes_turn p b turn named ≡ true → MovesSeats p now run (done_by p b turn named))
     (record {
       begin = λ en. record {
-        tells = λ k. seat_told-other k (told run) _ refl refl;
+        tells = same_lower _ _ (λ k. seat_told-other k (told run) _ refl refl);
         keeps = λ kept. kept;
-        sends = λ seat below. below;
+        sends = λ below. below;
       };
       admit = λ en. admits p now run (newcomer p (units p run)) refl;
       deliver = λ en. delivers p over now run (queue run) h refl
           (second_so (is_on run) (not (is_empty (queue run))) en);
       named = λ turn k to other en. unit_moves p over now run k to _ h (sym (unit_in-is p over now run k h)) en other;
-      clock = λ ns en. record {
-        tells = λ k. seat_told-nothing k (told run);
-        keeps = λ kept. kept;
-        sends = λ seat below. below;
-      };
+      clock = λ ns en. still;
+      signal = λ signal en. caused_moves p now run (Some (signal_cause (signals_heard run) signal)) (tally p run)
+          nothing_done still;
+      global_due = λ en. caused_moves p now run (Some time_is_up) (tally p run) nothing_done still;
+      report_cancel = λ en. caused_moves p now run (Some event_refused) (tally p run) nothing_done still;
       end = λ en. record {
-        tells = λ k. seat_told-other k (told run) _ refl refl;
+        tells = same_lower _ _ (λ k. seat_told-other k (told run) _ refl refl);
         keeps = λ kept. kept;
-        sends = λ seat below. below;
+        sends = λ below. below;
       };
       unbuilt = λ turn never en. let no : false ≡ true = sym (never p b) ∙ en in cc;
     })
     turn (second_so (not over) (takes_turn p b turn (turn_of_unit turn)) en)
   where
+    still : MovesSeats p now run nothing_done
+    still = record { tells = tells_nothing run; keeps = λ kept. kept; sends = λ below. below }
+
     b : Board
-    b = board_of p over now run
+    b = board_with p refused over now run

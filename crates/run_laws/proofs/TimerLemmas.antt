@@ -1,22 +1,24 @@
 -- The timer of an attempt, as its unit keeps it and as its turns say.
-use Rattle.std.proofs.Common.{◌≡◌, ℕ, ◌+◌, ◌-◌, ◌≤◌, List, [], ◌∷◌, Bool, true, false, not, ◌&&◌, ◌||◌, ◌==◌, nat_le}
-use Rattle.std.proofs.Common.{Option, Some, None, option_map, refl, ap, sym, ◌∙◌, if◌then◌else◌, arith}
+use Rattle.std.proofs.Common.{◌≡◌, ℕ, ◌+◌, ◌-◌, ◌≤◌, List, [], ◌∷◌, Bool, true, false, ◌||◌, nat_le}
+use Rattle.std.proofs.Common.{Option, Some, None, option_map, is_some, refl, ap, sym, subst, ◌∙◌, arith}
 use Rattle.run_clock.specs.Counted.{Timer}
 use Rattle.run_clock.specs.Stopwatch.{Watch, started_at, active_by}
 use Rattle.run_clock.specs.Sleep.{Sleep, set_at}
 use Rattle.run_events.specs.declared.plan.SlowTimeout.{SlowTimeout}
 use Rattle.run_model.specs.declared.phase.Phase.{Phase}
-use Rattle.run_model.specs.declared.phase.Phase.TheVariants.{Starting, Running, Grace, KillWait, Leak}
+use Rattle.run_model.specs.declared.phase.Phase.TheVariants.{Starting, Running, Grace, Leak}
 use Rattle.run_model.specs.declared.unit_turn.UnitTurn.{UnitTurn}
-use Rattle.run_model.specs.declared.unit_turn.UnitTurn.TheVariants.{Answered, Started, Due}
+use Rattle.run_model.specs.declared.unit_turn.UnitTurn.TheVariants.{Answered, Started}
 use Rattle.run_model.specs.declared.unit_view.Timers.{Timers}
 use Rattle.run_model.specs.declared.unit_view.AttemptTerms.{AttemptTerms}
-use Rattle.run_model.specs.Slow.{one_more, ends_after, is_out_of_time}
+use Rattle.run_model.specs.Slow.{is_out_of_time}
 use Rattle.run_model.specs.Unit.{is_due}
-use Rattle.run_model.specs.Story.{OwnTurn, any_is, any_after}
-use Rattle.run_model.specs.Timing.{ends_wait, starts_child, is_due_turn, slow_count, has_timed_out, ends_grace}
-use Rattle.run_model.specs.Timing.{is_timeout, timer_since, timer_of, is_timer_due_at}
+use Rattle.run_model.specs.Story.{OwnTurn, any_is}
+use Rattle.run_model.specs.Timing.{ends_wait, starts_child, is_due_turn, signal_of, gives_time, slow_count, has_timed_out}
+use Rattle.run_model.specs.Timing.{standing, standing_after, begins_grace, timer_since, slow_timer, timer_of, is_timer_due_at}
 use Rattle.run_laws.proofs.CaptureLemmas.{taken}
+use Rattle.run_laws.proofs.StandingLemmas.{is_in_grace, is_heeded, never_slow, grace_next, count_still, grace_still}
+use Rattle.run_laws.proofs.StandingLemmas.{slow_timer_by, slow_timer-still, slow_timer-killed}
 
 -- the timer that a unit waits for in a phase
 abbrev pub waits : Phase → Timers → Option Sleep
@@ -47,39 +49,67 @@ pub due_as : (now : ℕ) (t : Option Timer) → IsSetBy now t → is_due now (op
 due_as now None h = refl
 due_as now (Some t) (plain, set) = rw plain (reached t.set t.duration now set)
 
--- an attempt that was never slow has not run out of time
-pub never_slow : (slow : SlowTimeout) → is_out_of_time slow 0 ≡ false
-never_slow slow = by_most slow.terminate_after
-  where
-    by_most : (most : Option ℕ) → ends_after most 0 ≡ false
-    by_most None = refl
-    by_most (Some most) = grind arith
-
 -- the active time of a stopwatch that was never paused
 pub active_since : (watch : Watch) (now : ℕ) → watch ≡ started_at watch.start → active_by watch now ≡ now - watch.start
 active_since watch now is = rw is (omega arith)
 
--- what else is known of the timing of an attempt in a phase: before its child starts it was never slow; while that runs
--- and after its time to end by itself it is timed no more where it has run out of time; within that time it is past it
-abbrev pub IsAtStage : AttemptTerms → Phase → Timers → List OwnTurn → Type 0
-IsAtStage terms Starting t piece =
-    (slow_count terms.slow piece ≡ 0) × (any_after (ends_grace terms.slow) piece ≡ false)
-IsAtStage terms Running t piece =
-    (any_is starts_child piece ≡ true)
-    × (any_after (ends_grace terms.slow) piece ≡ has_timed_out terms.slow piece)
-IsAtStage terms Grace t piece =
-    (any_is starts_child piece ≡ true) × (has_timed_out terms.slow piece ≡ true) × (t.slow ≡ None)
-IsAtStage _ _ _ _ = Unit {0}
+-- what else is known of the timing of an attempt in a phase: before its child starts it was never slow; its child is given
+-- time to end by itself in Grace, where the timer until it is slow is kept
+abbrev pub IsAtStage : AttemptTerms → Phase → Timers → ℕ → List OwnTurn → Type 0
+IsAtStage terms Starting t latest piece =
+    (slow_count terms.slow piece ≡ 0) × (is_in_grace terms.slow piece ≡ false)
+IsAtStage terms Running t latest piece =
+    (any_is starts_child piece ≡ true) × (is_in_grace terms.slow piece ≡ false)
+IsAtStage terms Grace t latest piece =
+    (any_is starts_child piece ≡ true) × (is_in_grace terms.slow piece ≡ true)
+    × (t.slow ≡ option_map sleep_of (slow_timer terms piece)) × IsSetBy latest (slow_timer terms piece)
+IsAtStage _ _ _ _ _ = Unit {0}
 
 -- the timers of a unit in a phase are that of its attempt, which was set at its latest turn or before
 pub record HasTimer (terms : AttemptTerms) (ph : Phase) (t : Timers) (latest : ℕ) (piece : List OwnTurn) : Type 0 where
   pub set_by : IsSetBy latest (timer_of terms piece)
   pub waits_for : waits ph t ≡ option_map sleep_of (timer_of terms piece)
-  pub stage : IsAtStage terms ph t piece
+  pub stage : IsAtStage terms ph t latest piece
+
+-- the moment of its latest turn may be later
+stage_later : (terms : AttemptTerms) (ph : Phase) (t : Timers) (latest now : ℕ) (piece : List OwnTurn) → latest ≤ now
+    → IsAtStage terms ph t latest piece → IsAtStage terms ph t now piece
+stage_later terms Grace t latest now piece le (child, grace, slow, set) =
+    (child, grace, slow, set_by_later latest now le (slow_timer terms piece) set)
+stage_later terms ph t latest now piece le h = h
+
+pub timer_later : (terms : AttemptTerms) (ph : Phase) (t : Timers) (latest now : ℕ) (piece : List OwnTurn)
+    → latest ≤ now → HasTimer terms ph t latest piece → HasTimer terms ph t now piece
+timer_later terms ph t latest now piece le h = record {
+  set_by = set_by_later latest now le (timer_of terms piece) h.set_by;
+  waits_for = h.waits_for;
+  stage = stage_later terms ph t latest now piece le h.stage;
+}
+
+-- an attempt whose timer is known
+pub timer_known : (terms : AttemptTerms) (ph : Phase) (t : Timers) (latest : ℕ) (piece : List OwnTurn) (timer : Option Timer)
+    → timer_of terms piece ≡ timer → IsSetBy latest timer → waits ph t ≡ option_map sleep_of timer
+    → IsAtStage terms ph t latest piece → HasTimer terms ph t latest piece
+timer_known terms ph t latest piece timer is set waits stage = record {
+  set_by = subst (IsSetBy latest) (sym is) set;
+  waits_for = waits ∙ sym (ap (option_map sleep_of) is);
+  stage = stage;
+}
+
+-- while its child runs and isn't given time to end by itself, it waits until it is slow
+pub timer_of-runs : (terms : AttemptTerms) (piece : List OwnTurn) → any_is ends_wait piece ≡ false
+    → is_in_grace terms.slow piece ≡ false → timer_of terms piece ≡ slow_timer terms piece
+timer_of-runs terms piece waited grace = rw (waited, grace) refl
+
+-- while it is, it waits until that time is over
+pub timer_of-grace : (terms : AttemptTerms) (piece : List OwnTurn) → any_is ends_wait piece ≡ false
+    → is_in_grace terms.slow piece ≡ true
+    → timer_of terms piece ≡ Some (timer_since (begins_grace terms.slow) terms.slow.grace piece)
+timer_of-grace terms piece waited grace = rw (waited, grace) refl
 
 -- at first it waits for none
 pub timer_first : (terms : AttemptTerms) (t : Timers) (now latest : ℕ)
-    → HasTimer terms Starting t latest (taken now (Answered true) ∷ [])
+    → HasTimer terms Starting t latest (taken now (Answered true) None ∷ [])
 timer_first terms t now latest = record {
   set_by = rw (never_slow terms.slow) tt;
   waits_for = rw (never_slow terms.slow) refl;
@@ -89,138 +119,131 @@ timer_first terms t now latest = record {
 -- its child starts
 pub timer_started : (terms : AttemptTerms) (t : Timers) (now latest pid : ℕ) (piece : List OwnTurn)
     → now ≤ latest → t.slow ≡ Some (set_at now terms.slow.period)
-    → any_is ends_wait piece ≡ false → IsAtStage terms Starting t piece
-    → HasTimer terms Running t latest (taken now (Started pid) ∷ piece)
-timer_started terms t now latest pid piece le slow waited (count, grace) = record {
-  set_by = rw (waited, count, never_slow terms.slow) (refl, le);
-  waits_for = rw (waited, count, never_slow terms.slow) slow;
-  stage = (refl, rw (count, never_slow terms.slow) grace);
-}
+    → any_is ends_wait piece ≡ false → slow_count terms.slow piece ≡ 0 → is_in_grace terms.slow piece ≡ false
+    → HasTimer terms Running t latest (taken now (Started pid) None ∷ piece)
+timer_started terms t now latest pid piece le slow waited count grace =
+    timer_known terms Running t latest (turn ∷ piece)
+    (Some (record { set = now; duration = terms.slow.period; past = [] }))
+    (timer_of-runs terms (turn ∷ piece) waited runs ∙ slow_timer_by terms (turn ∷ piece) false in_time) (refl, le) slow
+    (refl, runs)
+  where
+    turn : OwnTurn
+    turn = taken now (Started pid) None
+
+    runs : is_in_grace terms.slow (turn ∷ piece) ≡ false
+    runs = grace_next terms.slow turn piece waited ∙ rw grace refl
+
+    in_time : has_timed_out terms.slow (turn ∷ piece) ≡ false
+    in_time =
+        ap (is_out_of_time terms.slow) (count_still terms.slow turn piece refl ∙ count) ∙ never_slow terms.slow
 
 -- the wait for it is over
 pub timer_left : (terms : AttemptTerms) (t : Timers) (now latest : ℕ) (turn : UnitTurn) (piece : List OwnTurn)
     → now ≤ latest → t.wait ≡ Some (set_at now terms.leak.period) → ends_wait turn ≡ true
-    → HasTimer terms Leak t latest (taken now turn ∷ piece)
+    → HasTimer terms Leak t latest (taken now turn None ∷ piece)
 timer_left terms t now latest turn piece le wait ends = record {
   set_by = rw ends (refl, le);
   waits_for = rw ends wait;
   stage = tt;
 }
 
--- a turn that is neither due, nor ends the wait for its child, nor starts it says nothing of its time
-timer_of-still : (terms : AttemptTerms) (now : ℕ) (turn : UnitTurn) (piece : List OwnTurn)
-    → is_due_turn turn ≡ false → ends_wait turn ≡ false → starts_child turn ≡ false
-    → timer_of terms (taken now turn ∷ piece) ≡ timer_of terms piece
-timer_of-still terms now turn piece due ends starts = rw (due, ends, starts) refl
-
-stage_still : (terms : AttemptTerms) (ph : Phase) (t : Timers) (now : ℕ) (turn : UnitTurn) (piece : List OwnTurn)
-    → is_due_turn turn ≡ false → starts_child turn ≡ false
-    → IsAtStage terms ph t piece → IsAtStage terms ph t (taken now turn ∷ piece)
-stage_still terms Starting t now turn piece due starts h = rw due h
-stage_still terms Running t now turn piece due starts h = rw (due, starts) h
-stage_still terms Grace t now turn piece due starts h = rw (due, starts) h
-stage_still terms ph t now turn piece due starts h = h
-
-pub timer_still : (terms : AttemptTerms) (ph : Phase) (t : Timers) (latest now : ℕ) (turn : UnitTurn)
-    (piece : List OwnTurn) → is_due_turn turn ≡ false → ends_wait turn ≡ false → starts_child turn ≡ false
-    → HasTimer terms ph t latest piece → HasTimer terms ph t latest (taken now turn ∷ piece)
-timer_still terms ph t latest now turn piece due ends starts h = record {
-  set_by = rw (timer_of-still terms now turn piece due ends starts) h.set_by;
-  waits_for = rw (timer_of-still terms now turn piece due ends starts) h.waits_for;
-  stage = stage_still terms ph t now turn piece due starts h.stage;
-}
-
--- one that has run out of time, and whose time to end by itself is over, has no timer
-none_over : (b : Bool) (timer : Option Timer) → (if b || true then None else timer) ≡ None
-none_over true timer = refl
-none_over false timer = refl
-
-timer_of-over : (terms : AttemptTerms) (piece : List OwnTurn) → any_is ends_wait piece ≡ false
-    → has_timed_out terms.slow piece ≡ true → any_after (ends_grace terms.slow) piece ≡ true
-    → timer_of terms piece ≡ None
-timer_of-over terms piece waited out over =
-    rw (waited, out, over)
-    (none_over (terms.slow.grace == 0) (Some (timer_since (is_timeout terms.slow) terms.slow.grace piece)))
-
--- its time to end by itself is over: it was not slow once more
-pub count_killed : (terms : AttemptTerms) (now : ℕ) (piece : List OwnTurn) → has_timed_out terms.slow piece ≡ true
-    → slow_count terms.slow (taken now Due ∷ piece) ≡ slow_count terms.slow piece
-count_killed terms now piece out = by_wait (any_is ends_wait piece)
+-- a turn that is neither due, nor ends the wait for its child, nor starts it, and whose request isn't heeded, says nothing
+-- of its time
+timer_of-still : (terms : AttemptTerms) (t : OwnTurn) (piece : List OwnTurn)
+    → is_due_turn t.turn ≡ false → ends_wait t.turn ≡ false → starts_child t.turn ≡ false
+    → is_heeded terms.slow t piece ≡ false → timer_of terms (t ∷ piece) ≡ timer_of terms piece
+timer_of-still terms t piece due ends starts heeds =
+    by_case (any_is ends_wait piece) (is_in_grace terms.slow piece) refl refl
   where
-    by_wait : (w : Bool) → (if not w && not (has_timed_out terms.slow piece)
-        then one_more (slow_count terms.slow piece) else slow_count terms.slow piece)
-        ≡ slow_count terms.slow piece
-    by_wait true = refl
-    by_wait false = rw out refl
+    waits_still : {b : Bool} → any_is ends_wait piece ≡ b → any_is ends_wait (t ∷ piece) ≡ b
+    waits_still e = rw ends e
 
-pub timer_killed : (terms : AttemptTerms) (t after : Timers) (now latest : ℕ) (piece : List OwnTurn)
-    → after.slow ≡ t.slow → any_is ends_wait piece ≡ false → IsAtStage terms Grace t piece
-    → HasTimer terms Running after latest (taken now Due ∷ piece)
-timer_killed terms t after now latest piece slow waited (child, out, none) = record {
-  set_by = rw gone tt;
-  waits_for = slow ∙ none ∙ sym (ap (option_map sleep_of) gone);
-  stage = (child, over ∙ sym still_out);
+    grace : is_in_grace terms.slow (t ∷ piece) ≡ is_in_grace terms.slow piece
+    grace = grace_still terms.slow t piece due heeds
+
+    by_case : (w g : Bool) → any_is ends_wait piece ≡ w → is_in_grace terms.slow piece ≡ g
+        → timer_of terms (t ∷ piece) ≡ timer_of terms piece
+    by_case true g e f = rw (ends, e) refl
+    by_case false true e f =
+        let none : is_some (signal_of terms.slow t.request) ≡ false = rw (e, f) at heeds in
+        timer_of-grace terms (t ∷ piece) (waits_still e) (grace ∙ f)
+        ∙ rw (e, f, due) refl
+        ∙ sym (timer_of-grace terms piece e f)
+    by_case false false e f =
+        timer_of-runs terms (t ∷ piece) (waits_still e) (grace ∙ f)
+        ∙ slow_timer-still terms t piece due starts ∙ sym (timer_of-runs terms piece e f)
+
+stage_still : (terms : AttemptTerms) (ph : Phase) (timers : Timers) (latest : ℕ) (t : OwnTurn) (piece : List OwnTurn)
+    → is_due_turn t.turn ≡ false → starts_child t.turn ≡ false → is_heeded terms.slow t piece ≡ false
+    → IsAtStage terms ph timers latest piece → IsAtStage terms ph timers latest (t ∷ piece)
+stage_still terms Starting timers latest t piece due starts heeds (count, grace) =
+    (count_still terms.slow t piece due ∙ count, grace_still terms.slow t piece due heeds ∙ grace)
+stage_still terms Running timers latest t piece due starts heeds (child, grace) =
+    (rw starts child, grace_still terms.slow t piece due heeds ∙ grace)
+stage_still terms Grace timers latest t piece due starts heeds (child, grace, slow, set) = (
+  rw starts child,
+  grace_still terms.slow t piece due heeds ∙ grace,
+  slow ∙ sym (ap (option_map sleep_of) (slow_timer-still terms t piece due starts)),
+  subst (IsSetBy latest) (sym (slow_timer-still terms t piece due starts)) set,
+)
+stage_still terms ph timers latest t piece due starts heeds h = h
+
+pub timer_still : (terms : AttemptTerms) (ph : Phase) (timers : Timers) (latest : ℕ) (t : OwnTurn) (piece : List OwnTurn)
+    → is_due_turn t.turn ≡ false → ends_wait t.turn ≡ false → starts_child t.turn ≡ false
+    → is_heeded terms.slow t piece ≡ false
+    → HasTimer terms ph timers latest piece → HasTimer terms ph timers latest (t ∷ piece)
+timer_still terms ph timers latest t piece due ends starts heeds h = record {
+  set_by = subst (IsSetBy latest) (sym (timer_of-still terms t piece due ends starts heeds)) h.set_by;
+  waits_for = h.waits_for ∙ sym (ap (option_map sleep_of) (timer_of-still terms t piece due ends starts heeds));
+  stage = stage_still terms ph timers latest t piece due starts heeds h.stage;
 }
+
+-- whether a turn is one with which the time to end by itself is over, where its child is given some
+abbrev pub ends_time : SlowTimeout → OwnTurn → Bool
+ends_time slow t = is_due_turn t.turn || is_some (signal_of slow t.request)
+
+-- after such a turn its child is given that time no more, and it waits until it is slow as before it was given any
+grace_killed : (slow : SlowTimeout) (t : OwnTurn) (piece : List OwnTurn) → any_is ends_wait piece ≡ false
+    → is_in_grace slow piece ≡ true → ends_time slow t ≡ true → is_in_grace slow (t ∷ piece) ≡ false
+grace_killed slow t piece waited grace over = grace_next slow t piece waited ∙ by_due (is_due_turn t.turn) refl
   where
-    still_out : has_timed_out terms.slow (taken now Due ∷ piece) ≡ true
-    still_out = ap (is_out_of_time terms.slow) (count_killed terms now piece out) ∙ out
+    by_due : (d : Bool) → is_due_turn t.turn ≡ d → (standing_after slow (standing slow piece) t).in_grace ≡ false
+    by_due true e = rw (grace, e) refl
+    by_due false e =
+        let signal : is_some (signal_of slow t.request) ≡ true = rw e at over in
+        rw (grace, e, signal) refl
 
-    over : any_after (ends_grace terms.slow) (taken now Due ∷ piece) ≡ true
-    over = rw (waited, out) refl
-
-    gone : timer_of terms (taken now Due ∷ piece) ≡ None
-    gone = timer_of-over terms (taken now Due ∷ piece) waited still_out over
-
--- where its timer is due while its child runs, it has not run out of time, and is slow once more
-pub in_time : (terms : AttemptTerms) (t : Timers) (now latest : ℕ) (piece : List OwnTurn)
-    → any_is ends_wait piece ≡ false → HasTimer terms Running t latest piece → is_due now t.slow ≡ true
-    → has_timed_out terms.slow piece ≡ false
-in_time terms t now latest piece waited h due = by_out (has_timed_out terms.slow piece) refl
+pub timer_killed : (terms : AttemptTerms) (before after : Timers) (latest : ℕ) (t : OwnTurn) (piece : List OwnTurn)
+    → after.slow ≡ before.slow → any_is ends_wait piece ≡ false → IsAtStage terms Grace before latest piece
+    → ends_wait t.turn ≡ false → starts_child t.turn ≡ false → ends_time terms.slow t ≡ true
+    → HasTimer terms Running after latest (t ∷ piece)
+timer_killed terms before after latest t piece same waited (child, grace, slow, set) ends starts over =
+    timer_known terms Running after latest (t ∷ piece) (slow_timer terms piece)
+    (timer_of-runs terms (t ∷ piece) (rw ends waited) left ∙ slow_timer-killed terms t piece grace waited starts) set
+    (same ∙ slow) (rw starts child, left)
   where
-    by_out : (b : Bool) → has_timed_out terms.slow piece ≡ b → has_timed_out terms.slow piece ≡ false
-    by_out false e = e
-    by_out true e =
-        let none : t.slow ≡ None
-        = h.waits_for ∙ ap (option_map sleep_of) (timer_of-over terms piece waited e (h.stage.1 ∙ e)) in
-        let never : false ≡ true = rw none at due in
-        cc
+    left : is_in_grace terms.slow (t ∷ piece) ≡ false
+    left = grace_killed terms.slow t piece waited grace over
 
-pub count_slow : (terms : AttemptTerms) (now : ℕ) (piece : List OwnTurn) → any_is ends_wait piece ≡ false
-    → has_timed_out terms.slow piece ≡ false
-    → slow_count terms.slow (taken now Due ∷ piece) ≡ one_more (slow_count terms.slow piece)
-count_slow terms now piece waited out = rw (waited, out) refl
+-- it takes a request to end, and is given time for that
+pub timer_asked : (terms : AttemptTerms) (before after : Timers) (latest : ℕ) (t : OwnTurn) (piece : List OwnTurn)
+    → t.moment ≤ latest → after.slow ≡ before.slow → after.wait ≡ Some (set_at t.moment terms.slow.grace)
+    → any_is ends_wait piece ≡ false → HasTimer terms Running before latest piece
+    → is_due_turn t.turn ≡ false → ends_wait t.turn ≡ false → starts_child t.turn ≡ false
+    → gives_time (signal_of terms.slow t.request) ≡ true
+    → HasTimer terms Grace after latest (t ∷ piece)
+timer_asked terms before after latest t piece le same wait waited h due ends starts gives =
+    timer_known terms Grace after latest (t ∷ piece)
+    (Some (record { set = t.moment; duration = terms.slow.grace; past = [] }))
+    (timer_of-grace terms (t ∷ piece) (rw ends waited) given ∙ rw (waited, h.stage.1, due, gives) refl) (refl, le) wait (
+      rw starts h.stage.0,
+      given,
+      same ∙ h.waits_for ∙ ap (option_map sleep_of) is,
+      subst (IsSetBy latest) is h.set_by,
+    )
+  where
+    given : is_in_grace terms.slow (t ∷ piece) ≡ true
+    given = grace_next terms.slow t piece waited ∙ rw (h.stage.1, due, gives) refl
 
--- it goes on, and is timed again
-pub timer_again : (terms : AttemptTerms) (after : Timers) (now latest : ℕ) (piece : List OwnTurn)
-    → now ≤ latest → after.slow ≡ Some (set_at now terms.slow.period)
-    → any_is ends_wait piece ≡ false → has_timed_out terms.slow piece ≡ false → IsAtStage terms Running after piece
-    → is_out_of_time terms.slow (one_more (slow_count terms.slow piece)) ≡ false
-    → HasTimer terms Running after latest (taken now Due ∷ piece)
-timer_again terms after now latest piece le slow waited out (child, grace) next = record {
-  set_by = rw (waited, out, next, child) (refl, le);
-  waits_for = rw (waited, out, next, child) slow;
-  stage = (child, rw (waited, out, next) (grace ∙ out));
-}
-
--- it has run out of time, and is given some to end by itself
-pub timer_grace : (terms : AttemptTerms) (after : Timers) (now latest : ℕ) (piece : List OwnTurn)
-    → now ≤ latest → after.wait ≡ Some (set_at now terms.slow.grace) → after.slow ≡ None
-    → any_is ends_wait piece ≡ false → has_timed_out terms.slow piece ≡ false → IsAtStage terms Running after piece
-    → is_out_of_time terms.slow (one_more (slow_count terms.slow piece)) ≡ true → (terms.slow.grace == 0) ≡ false
-    → HasTimer terms Grace after latest (taken now Due ∷ piece)
-timer_grace terms after now latest piece le wait slow waited out (child, grace) next some = record {
-  set_by = rw (waited, out, next, some, grace, out) (refl, le);
-  waits_for = rw (waited, out, next, some, grace, out) wait;
-  stage = (child, rw (waited, out) next, slow);
-}
-
--- it has run out of time, and is killed at once
-pub timer_kill_wait : (terms : AttemptTerms) (after : Timers) (now latest : ℕ) (piece : List OwnTurn)
-    → any_is ends_wait piece ≡ false → has_timed_out terms.slow piece ≡ false
-    → is_out_of_time terms.slow (one_more (slow_count terms.slow piece)) ≡ true → (terms.slow.grace == 0) ≡ true
-    → HasTimer terms KillWait after latest (taken now Due ∷ piece)
-timer_kill_wait terms after now latest piece waited out next none = record {
-  set_by = rw (waited, out, next, none) tt;
-  waits_for = rw (waited, out, next, none) refl;
-  stage = tt;
-}
+    is : timer_of terms piece ≡ slow_timer terms (t ∷ piece)
+    is = timer_of-runs terms piece waited h.stage.1 ∙ sym (slow_timer-still terms t piece due starts)

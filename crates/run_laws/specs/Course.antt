@@ -7,8 +7,10 @@ use Rattle.run_events.specs.declared.settings.Settings.{Settings}
 use Rattle.run_events.specs.declared.turn.Turn.{Turn}
 use Rattle.run_events.specs.declared.outcome.RunOutcome.{RunOutcome}
 use Rattle.run_model.specs.declared.entry.Entry.{Entry}
+use Rattle.run_model.specs.declared.happening.Happening.{Happening}
 use Rattle.run_model.specs.Words.{is_over}
-use Rattle.run_model.specs.Turns.{enabled}
+use Rattle.run_model.specs.Board.{board}
+use Rattle.run_model.specs.Turns.{enabled, is_third_signal}
 use Rattle.run_model.specs.Journal.{past_of, IsLegal, outcome}
 
 -- the turns of a journal
@@ -43,11 +45,17 @@ pub record IsJournalOf (p : Settings) (turns : List Turn) (refuses : ℕ → Boo
   pub takes : turns_of journal ≡ turns
   pub answers : AreAnswersOf refuses journal
 
--- with this reporter the turns before this place are those of a legal journal, after which the turn there isn't enabled
-abbrev pub Stops : Settings → List Turn → (ℕ → Bool) → ℕ → Type 0
-Stops p turns refuses place =
+-- whether a turn after a history is a shutdown signal that is taken no more, since two came before it
+abbrev pub is_third : Settings → List Happening → Turn → Bool
+is_third p past turn = is_third_signal (board p past) turn
+
+-- with this reporter the turns before this place are those of a legal journal, after which the turn there isn't enabled,
+-- and is a third signal or not
+abbrev pub Stops : Settings → List Turn → (ℕ → Bool) → ℕ → Bool → Type 0
+Stops p turns refuses place third =
     (journal : List Entry) × IsJournalOf p (take place turns) refuses journal
-    × ((turn : Turn) × (slice_get turns place ≡ Some turn) × (enabled p (past_of p journal) turn ≡ false))
+    × ((turn : Turn) × (slice_get turns place ≡ Some turn) × (enabled p (past_of p journal) turn ≡ false)
+    × (is_third p (past_of p journal) turn ≡ third))
 
 -- with this reporter all turns are those of a legal journal, after which the run isn't over
 abbrev pub GoesOn : Settings → List Turn → (ℕ → Bool) → Type 0
@@ -63,9 +71,9 @@ Ends p turns refuses o = (journal : List Entry) × IsJournalOf p turns refuses j
 pub record HasOneCourse (p : Settings) (turns : List Turn) (refuses : ℕ → Bool) : Type 0 where
   pub one_journal : (journal other : List Entry) → IsJournalOf p turns refuses journal
       → IsJournalOf p turns refuses other → other ≡ journal
-  pub one_stop : (a b : ℕ) → Stops p turns refuses a → Stops p turns refuses b → a ≡ b
-  pub stop_or_unfinished : (a : ℕ) → Stops p turns refuses a → GoesOn p turns refuses → ⊥
-  pub stop_or_end : (a : ℕ) (o : RunOutcome) → Stops p turns refuses a → Ends p turns refuses o → ⊥
+  pub one_stop : (a b : ℕ) (s t : Bool) → Stops p turns refuses a s → Stops p turns refuses b t → (a ≡ b) × (s ≡ t)
+  pub stop_or_unfinished : (a : ℕ) (s : Bool) → Stops p turns refuses a s → GoesOn p turns refuses → ⊥
+  pub stop_or_end : (a : ℕ) (s : Bool) (o : RunOutcome) → Stops p turns refuses a s → Ends p turns refuses o → ⊥
   pub unfinished_or_end : (o : RunOutcome) → GoesOn p turns refuses → Ends p turns refuses o → ⊥
   pub one_end : (o u : RunOutcome) → Ends p turns refuses o → Ends p turns refuses u → o ≡ u
 

@@ -9,7 +9,7 @@ use Rattle.run_model.specs.declared.unit_view.UnitView.{UnitView}
 use Rattle.run_model.specs.Unit.{takes}
 use Rattle.run_model.specs.Admission.{unit_of_test, terms_at}
 use Rattle.run_model.specs.Attempts.{pieces_of, statuses_of, attempt_in, start_in, is_due_in}
-use Rattle.run_model.specs.Board.{board, step}
+use Rattle.run_model.specs.Board.{board, step, answered}
 use Rattle.run_model.specs.Turns.{enabled, happening, deed_on}
 use Rattle.run_model.specs.Journal.{IsLegal, past_of}
 use Rattle.run_model.specs.Words.{is_over, sub_run, ended_runs, told, unit_of}
@@ -54,9 +54,9 @@ abbrev pub EventsExtend : Type 0
 EventsExtend = (p : Settings) (journal more : List Entry) → IsLegal p (journal ++ more)
     → Extends (told (past_of p journal)) (told (past_of p (journal ++ more)))
 
--- after a legal journal each enabled turn moves the board by its step
+-- after a legal journal each enabled turn moves the board by its step, and the reporter's answers to its events
 abbrev pub BoardsStep : Type 0
 BoardsStep = (p : Settings) (journal : List Entry) (e : Entry) → IsLegal p journal
     → enabled p (past_of p journal) e.turn ≡ true
     → board p (happening p (past_of p journal) e ∷ past_of p journal)
-    ≡ step (board p (past_of p journal)) e.turn (deed_on p (board p (past_of p journal)) e.turn)
+    ≡ answered (step (board p (past_of p journal)) e.turn (deed_on p (board p (past_of p journal)) e.turn)) e.refused

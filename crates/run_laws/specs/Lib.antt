@@ -3,3 +3,4 @@ pub mod Course
 pub mod Ready
 pub mod Limits
 pub mod Reports
+pub mod Cancels

@@ -1,17 +1,20 @@
 -- When a turn can be taken, on a board.
 use Rattle.std.specs.Prelude.{ℕ, ◌≡◌, ◌+◌, ◌<◌, ◌≤◌, ◌^◌, List, [], ◌∷◌, length, Bool, true, false, Option, Some, None}
-use Rattle.std.specs.Prelude.{is_some, ⊤}
+use Rattle.std.specs.Prelude.{is_some, nat_lt, ⊤}
 use Rattle.run_events.specs.declared.settings.Settings.{Settings}
 use Rattle.run_events.specs.declared.turn.Turn.{Turn}
-use Rattle.run_events.specs.declared.turn.Turn.TheVariants.{Begin, Admit, Deliver, Clock, End}
+use Rattle.run_events.specs.declared.turn.Turn.TheVariants.{Begin, Admit, Deliver, Clock, Signal, GlobalDue}
+use Rattle.run_events.specs.declared.turn.Turn.TheVariants.{ReportCancel, End}
 use Rattle.run_events.specs.declared.message.Message.{Message}
 use Rattle.run_model.specs.declared.entry.Entry.{Entry}
 use Rattle.run_model.specs.declared.unit_turn.UnitTurn.{UnitTurn}
 use Rattle.run_model.specs.declared.unit_turn.UnitTurn.TheVariants.{Answered}
 use Rattle.run_model.specs.declared.unit_view.UnitView.{UnitView}
 use Rattle.run_model.specs.Unit.{takes}
+use Rattle.run_model.specs.Words.{clock}
+use Rattle.run_model.specs.declared.happening.Happening.{Happening}
 use Rattle.run_model.specs.Admission.{units_in, newcomer}
-use Rattle.run_model.specs.Dispatch.{go_of, CanDeliver}
+use Rattle.run_model.specs.Dispatch.{shuts_down, go_of, CanDeliver}
 use Rattle.run_model.specs.Board.{Board, board, unit_in}
 use Rattle.run_model.specs.Turns.{starting, enabled, turn_of_unit}
 use Rattle.run_model.specs.Journal.{past_of, IsLegal}
@@ -51,6 +54,10 @@ CanRun p b Begin = b.dispatcher.on ≡ false
 CanRun p b Admit = CanAdmit p b
 CanRun p b Deliver = CanDeliverOldest b b.queue
 CanRun p b (Clock ns) = b.clock + ns < 2 ^ 64
+CanRun p b (Signal signal) = (b.dispatcher.on ≡ true) × (shuts_down b.dispatcher.rules.hearing signal ≡ true)
+    × (nat_lt b.dispatcher.causes.signals 2 ≡ true)
+CanRun p b GlobalDue = b.dispatcher.on ≡ true
+CanRun p b ReportCancel = b.dispatcher.on ≡ true
 CanRun p b End = b.dispatcher.on ≡ true
 CanRun p b _ = ⊥
 
@@ -62,6 +69,14 @@ CanAdvance p b turn (Some named) = CanTake b named.0 named.1
 -- after every legal journal no turn was taken later than the clock is
 abbrev pub AllAreTimely : Type 0
 AllAreTimely = (p : Settings) (journal : List Entry) → IsLegal p journal → IsTimely (board p (past_of p journal))
+
+-- a turn of the clock moves it by its nanoseconds, and no other turn moves it
+abbrev pub moved_by : Turn → ℕ
+moved_by (Clock ns) = ns
+moved_by _ = 0
+
+abbrev pub ClockMoves : Type 0
+ClockMoves = (past : List Happening) (x : Happening) → clock (x ∷ past) ≡ clock past + moved_by x.turn
 
 -- after a legal journal each enabled turn can be taken
 abbrev pub EnabledCan : Type 0

@@ -9,7 +9,8 @@ use Rattle.run_events.specs.declared.ask.Ask.TheVariants.{Signal}
 use Rattle.run_events.specs.declared.request.ChildSignal.{ChildSignal}
 use Rattle.run_events.specs.declared.request.ChildSignal.TheVariants.{End}
 use Rattle.run_events.specs.declared.request.TermSignal.{TermSignal}
-use Rattle.run_events.specs.declared.request.TermSignal.TheVariants.{Term, Kill}
+use Rattle.run_events.specs.declared.request.TermSignal.TheVariants.{Kill}
+use Rattle.run_events.specs.declared.request.TerminateReason.TheVariants.{Timeout}
 use Rattle.run_events.specs.declared.message.Message.{Message}
 use Rattle.run_events.specs.declared.message.Message.TheVariants.{Slow}
 use Rattle.run_events.specs.declared.events.ReporterEvent.{ReporterEvent}
@@ -19,20 +20,23 @@ use Rattle.run_events.specs.declared.events.TestEventKind.TheVariants.{TestSlow}
 use Rattle.run_model.specs.declared.entry.Entry.{Entry}
 use Rattle.run_model.specs.declared.happening.Happening.{Happening}
 use Rattle.run_model.specs.Slow.{slow_time}
-use Rattle.run_model.specs.Story.{OwnTurn}
-use Rattle.run_model.specs.Timing.{slow_count, has_timed_out, is_slow_turn, is_timeout, ends_grace}
+use Rattle.run_model.specs.Terminate.{terminate_method}
+use Rattle.run_model.specs.Story.{OwnTurn, any_is}
+use Rattle.run_model.specs.Timing.{ends_wait, signal_of, slow_count, has_timed_out, is_slow_turn, is_timeout, ends_grace}
 use Rattle.run_model.specs.Attempts.{pieces_of}
 use Rattle.run_model.specs.Admission.{unit_of_test, terms_at}
 use Rattle.run_model.specs.Words.{sub_run, told, queue, asked}
 use Rattle.run_model.specs.Journal.{IsLegal, past_of}
 
 -- the signal that comes with a turn of an attempt, after the turns before it: where it runs out of time its child is asked
--- to end, or is killed where it is given no time for that, and where that time is over it is killed
+-- to end, or is killed where it is given no time for that; where that time is over it is killed; and else, while it is
+-- waited for, it gets the signal of the request that is taken
 abbrev pub signal_with : SlowTimeout → OwnTurn → List OwnTurn → Option TermSignal
 signal_with slow t before =
-    if is_timeout slow t before then Some (if slow.grace == 0 then Kill else Term)
+    if is_timeout slow t before then Some (terminate_method Timeout slow.grace)
     else if ends_grace slow t before then Some Kill
-    else None
+    else if any_is ends_wait before then None
+    else signal_of slow t.request
 
 -- the signals of an attempt, and of all attempts, in order
 abbrev pub signals_in : SlowTimeout → List OwnTurn → List TermSignal

@@ -3,8 +3,9 @@ ghost use Rattle.run_laws.specs.Laws.{AccountsHold, AttemptsAreOwnTurns, BoardsS
 ghost use Rattle.run_laws.specs.Laws.{EachHasFate, OverHasEnded};
 ghost use Rattle.run_laws.specs.Limits.{LimitsHold};
 ghost use Rattle.run_laws.specs.Reports.{ReportsAreOwnTurns};
+ghost use Rattle.run_laws.specs.Cancels.{CancelsAreCaused, LinesAreBroadcasts};
 ghost use Rattle.run_laws.specs.Course.{CoursesExclude, NoneRefused};
-ghost use Rattle.run_laws.specs.Ready.{AllAreTimely, EnabledCan};
+ghost use Rattle.run_laws.specs.Ready.{AllAreTimely, ClockMoves, EnabledCan};
 
 /// What is told of each test in the newest sub-run, and what waits to be told, is its account, after every legal
 /// journal.
@@ -24,7 +25,20 @@ pub fn reports_are_own_turns()
     ensures { ReportsAreOwnTurns }
 {}
 
-/// Each enabled turn after a legal journal moves the board by its step.
+/// Each turn of a legal journal tells that the run is cancelled exactly where it is a cause whose reason is above that of
+/// each cause before it in its sub-run, after all else and with its reason; that the run is killed exactly for a second
+/// signal; and a start only where no cause came before.
+pub fn cancels_are_caused()
+    ensures { CancelsAreCaused }
+{}
+
+/// The line of each test that is let go and isn't over holds what was broadcast while it was live, but for as many
+/// requests as it took, in the newest sub-run after every legal journal.
+pub fn lines_are_broadcasts()
+    ensures { LinesAreBroadcasts }
+{}
+
+/// Each enabled turn after a legal journal moves the board by its step and the reporter's answers.
 pub fn boards_step()
     ensures { BoardsStep }
 {}
@@ -34,9 +48,11 @@ pub fn enabled_turns_can_be_taken()
     ensures { EnabledCan }
 {}
 
-/// After every legal journal neither the dispatcher nor a unit has taken a turn later than the clock is.
+/// After every legal journal neither the dispatcher nor a unit has taken a turn later than the clock is, which the turns of
+/// the clock alone move, each by its nanoseconds.
 pub fn turns_are_timely()
-    ensures { AllAreTimely }
+    ensures timely { AllAreTimely }
+    ensures clock { ClockMoves }
 {}
 
 /// In every sub-run that has ended, also in the newest of a run that is over, each test has its fate: one that doesn't

@@ -100,6 +100,7 @@ first_view p k slot test = record {
   phase = StartSent;
   attempt = 1;
   timers = record { stopwatch = started_at 0; slow = None; wait = None; slow_count = 0 };
+  line = [];
   latest = 0;
   capture = begun uncaptured;
   exit = None;

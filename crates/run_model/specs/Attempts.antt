@@ -1,4 +1,5 @@
--- The attempts of a unit by its own turns alone. Nothing here knows the unit table.
+-- The attempts of a unit by its own turns, and by what was broadcast while it was live.
+-- Nothing here knows the rows of the unit table.
 use Rattle.std.specs.Prelude.{ℕ, ◌+◌, List, [], ◌∷◌, ◌++◌, length, Bool, true, false, not, ◌&&◌, ◌||◌, nat_lt}
 use Rattle.std.specs.Prelude.{if◌then◌else◌, Option, Some, None, option_to_list, is_some, unwrap_or}
 use Rattle.std.specs.Option.{option_or}
@@ -160,6 +161,11 @@ start_in (piece ∷ earlier) = start_of piece
 abbrev pub is_due_in : AttemptTerms → ℕ → List (List OwnTurn) → Bool
 is_due_in terms now [] = false
 is_due_in terms now (piece ∷ earlier) = not (has_ended terms piece) && is_timer_due_at now (timer_of terms piece)
+
+-- whether none of them goes on: it is the newest that does
+abbrev pub none_goes_on : AttemptTerms → List (List OwnTurn) → Bool
+none_goes_on terms [] = true
+none_goes_on terms (piece ∷ earlier) = has_ended terms piece
 
 -- how many retries the test at a place of the plan has: no plan gives any yet
 abbrev pub retries_of : Settings → ℕ → ℕ

@@ -1,6 +1,9 @@
 -- The board: what a turn may read of a run, and what a deed does to it.
-use Rattle.std.specs.Prelude.{ℕ, ◌+◌, ◌||◌, ◌&&◌, not, List, ◌++◌, drop, Bool, if◌then◌else◌, Option, Some, None}
-use Rattle.std.specs.Prelude.{option_map, option_to_list, slice_index_or, slice_set}
+use Rattle.std.specs.Prelude.{ℕ, ◌+◌, ◌||◌, ◌&&◌, not, List, ◌++◌, map, drop, Bool, if◌then◌else◌, Option, Some, None}
+use Rattle.std.specs.Prelude.{option_map, option_to_list, is_some, slice_index_or, slice_set}
+use Rattle.std.specs.List.{list_any}
+use Rattle.run_events.specs.Cancel.{greater}
+use Rattle.run_events.specs.declared.request.Request.{Request}
 use Rattle.run_events.specs.declared.settings.Settings.{Settings}
 use Rattle.run_events.specs.declared.message.Message.{Message}
 use Rattle.run_events.specs.declared.ask.Ask.{Ask}
@@ -8,28 +11,36 @@ use Rattle.run_events.specs.declared.cancel.CancelReason.{CancelReason}
 use Rattle.run_events.specs.declared.events.ReporterEvent.{ReporterEvent}
 use Rattle.run_events.specs.declared.turn.Turn.{Turn}
 use Rattle.run_model.specs.declared.entry.Entry.{Entry}
+use Rattle.run_model.specs.declared.dispatcher_view.CancelRules.{CancelRules}
+use Rattle.run_model.specs.declared.dispatcher_view.Causes.{Causes}
 use Rattle.run_model.specs.declared.dispatcher_view.DispatcherView.{DispatcherView}
+use Rattle.run_model.specs.declared.dispatcher_view.Tally.{Tally}
 use Rattle.run_model.specs.declared.happening.Happening.{Happening}
 use Rattle.run_model.specs.declared.happening.UnitPart.{UnitPart}
 use Rattle.run_model.specs.declared.happening.UnitPart.TheVariants.{Joins, Acts}
 use Rattle.run_model.specs.declared.unit_view.UnitView.{UnitView}
-use Rattle.run_model.specs.Unit.{row}
-use Rattle.run_model.specs.Words.{clock, ns_of, is_on, is_over, sub_run, heard, queue, units, tally}
-use Rattle.run_model.specs.Dispatch.{head_of, having_told}
+use Rattle.run_model.specs.Unit.{row, reached}
+use Rattle.run_model.specs.Words.{clock, ns_of, is_on, is_over, sub_run, heard, queue, units, tally, was_refused, armed}
+use Rattle.run_model.specs.Words.{is_by_signal, is_by_report, is_by_time, causes_of}
+use Rattle.run_model.specs.Dispatch.{head_of, rules_of, having_told}
 
--- what a turn may read: the units, the messages that wait, the dispatcher and the clock
+-- what a turn may read: the units, the messages that wait, the dispatcher, the clock, and whether the reporter refused
+-- an event
 pub record Board : Type 0 where
   pub units : List (Option UnitView)
   pub queue : List Message
   pub dispatcher : DispatcherView
   pub clock : ℕ
+  pub refused : Bool
 
 -- the dispatcher and the board after a history, by words: what a turn reads is of the newest sub-run
 abbrev pub dispatcher_of : Settings → List Happening → DispatcherView
 dispatcher_of p past = record {
   head = head_of p;
+  rules = rules_of p;
   on = is_on (sub_run past);
   over = is_over past;
+  causes = causes_of p (sub_run past);
   tally = tally p (sub_run past);
   latest = heard (sub_run past);
 }
@@ -40,6 +51,7 @@ board p past = record {
   queue = queue (sub_run past);
   dispatcher = dispatcher_of p past;
   clock = clock past;
+  refused = was_refused past;
 }
 
 -- the unit of a number, if it was admitted
@@ -55,6 +67,7 @@ pub record Deed : Type 0 where
   pub cancel : Option ReporterEvent
   pub asked : Option Ask
   pub cause : Option CancelReason
+  pub request : Option Request
   pub begins : Bool
   pub ends : Bool
   pub over : Bool
@@ -72,6 +85,7 @@ said now e d = record {
   cancel = d.cancel;
   asked = d.asked;
   cause = d.cause;
+  request = d.request;
   begins = d.begins;
   ends = d.ends;
   over = d.over;
@@ -88,24 +102,50 @@ units_after now (Some (Joins first)) us = slice_set us first.test.unit (Some fir
 units_after now (Some (Acts j turn)) us =
     slice_set us j (option_map (λ v. (row now turn v).next) (slice_index_or us j None))
 
+-- each unit has a request in its line that is broadcast while it is live
+abbrev pub reach_all : Option Request → List (Option UnitView) → List (Option UnitView)
+reach_all None us = us
+reach_all (Some request) us = map (option_map (reached request)) us
+
+-- what cancels the run after a deed at a moment
+abbrev pub causes_after : ℕ → CancelRules → Causes → Deed → Causes
+causes_after now rules c deed = record {
+  signals = c.signals + (if is_by_signal deed.cause then 1 else 0);
+  reported = is_by_report deed.cause || c.reported;
+  global =
+      if deed.begins then armed now rules.global_timeout
+      else if is_by_time deed.cause then None
+      else c.global;
+}
+
+-- the counts with the reason of a cause, where it is above the one that they have
+abbrev pub with_cause : Option CancelReason → Tally → Tally
+with_cause cause t = record t { stats = record t.stats { cancel_reason = greater t.stats.cancel_reason cause } }
+
 -- the dispatcher after a deed at a moment
 abbrev pub dispatched : ℕ → DispatcherView → Deed → DispatcherView
 dispatched now d deed = record d {
   on = not deed.ends && (deed.begins || d.on);
   over = deed.over || d.over;
-  tally = having_told (having_told d.tally deed.told) deed.cancel;
-  latest = if deed.begins || deed.ends || deed.taken then now else d.latest;
+  causes = causes_after now d.rules d.causes deed;
+  tally = with_cause deed.cause (having_told (having_told d.tally deed.told) deed.cancel);
+  latest = if deed.begins || deed.ends || deed.taken || is_some deed.cause then now else d.latest;
 }
 
 -- the board after a deed
 abbrev pub moved : Board → Deed → Board
 moved b d = record {
-  units = units_after b.clock d.part b.units;
+  units = reach_all d.request (units_after b.clock d.part b.units);
   queue = drop (if d.taken then 1 else 0) b.queue ++ option_to_list d.sent;
   dispatcher = dispatched b.clock b.dispatcher d;
   clock = b.clock;
+  refused = b.refused;
 }
 
 -- the board after a turn with this deed
 abbrev pub step : Board → Turn → Deed → Board
 step b turn d = record (moved b d) { clock = b.clock + ns_of turn }
+
+-- and after the reporter answered so to its events
+abbrev pub answered : Board → List Bool → Board
+answered b refused = record b { refused = list_any (λ refused. refused) refused || b.refused }

@@ -1,10 +1,11 @@
 -- The dispatcher's table: which turns it takes, what each tells, and what it leaves.
-use Rattle.std.specs.Prelude.{⊤, ℕ, ◌≡◌, ◌+◌, ◌-◌, ◌<◌, ◌^◌, length, Bool, true, false, ◌&&◌, not, if◌then◌else◌, Option}
+use Rattle.std.specs.Prelude.{⊤, ℕ, ◌≡◌, ◌+◌, ◌-◌, ◌<◌, ◌^◌, nat_lt, length, Bool, true, false, ◌&&◌, not, if◌then◌else◌, Option}
 use Rattle.std.specs.Prelude.{Some, None, is_none}
 use Rattle.run_events.specs.Stats.{AreBelow, FinishedTest, nothing, adds_of, plus}
 use Rattle.run_events.specs.declared.settings.Settings.{Settings}
 use Rattle.run_events.specs.declared.turn.Turn.{Turn}
-use Rattle.run_events.specs.declared.turn.Turn.TheVariants.{Begin, Deliver, End}
+use Rattle.run_events.specs.declared.turn.Turn.TheVariants.{Begin, Deliver, GlobalDue, ReportCancel, End}
+use Rattle.run_events.specs.declared.turn.Turn.TheVariants.{Signal as SignalCame}
 use Rattle.run_events.specs.declared.message.Message.{Message}
 use Rattle.run_events.specs.declared.message.Message.TheVariants.{Start, Slow, Skip, Finish}
 use Rattle.run_events.specs.declared.message.TestStart.{TestStart}
@@ -15,7 +16,14 @@ use Rattle.run_events.specs.declared.events.RunStarted.{RunStarted}
 use Rattle.run_events.specs.declared.events.TestEventKind.{TestEventKind}
 use Rattle.run_events.specs.declared.events.TestEventKind.TheVariants.{TestStarted, TestSlow, TestFinished}
 use Rattle.run_events.specs.declared.events.TestEventKind.TheVariants.{TestSkipped}
+use Rattle.run_model.specs.declared.dispatcher_view.CancelRules.{CancelRules}
 use Rattle.run_model.specs.declared.dispatcher_view.DispatcherView.{DispatcherView}
+use Rattle.run_model.specs.Unit.{is_due}
+use Rattle.run_events.specs.Hearing.{heard_signal}
+use Rattle.run_events.specs.declared.plan.Hearing.{Hearing}
+use Rattle.run_events.specs.declared.signal.Heard.{Heard}
+use Rattle.run_events.specs.declared.signal.Heard.TheVariants.{Shutdown}
+use Rattle.run_events.specs.declared.signal.Signal.{Signal}
 use Rattle.run_model.specs.declared.dispatcher_view.Tally.{Tally}
 use Rattle.run_model.specs.declared.dispatcher_view.Facts.{Facts}
 use Rattle.run_model.specs.Admission.{tests_in, matched_in}
@@ -31,22 +39,44 @@ head_of p = record {
   stress = p.stress;
 }
 
+-- by which rules a run is cancelled
+abbrev pub rules_of : Settings → CancelRules
+rules_of p = record {
+  hearing = p.plan.hearing;
+  max_fail = p.max_fail;
+  global_timeout = p.plan.global_timeout;
+}
+
 -- before the run begins: all tests that match are to run
 abbrev pub unbegun : Settings → DispatcherView
 unbegun p = record {
   head = head_of p;
+  rules = rules_of p;
   on = false;
   over = false;
+  causes = record { signals = 0; reported = false; global = None };
   tally = record { running = 0; stats = record nothing { initial_run_count = matched_in p } };
   latest = 0;
 }
 
--- the dispatcher's part of the table of turns: false for the turns that aren't its own
-abbrev pub dispatch_takes : DispatcherView → Facts → Turn → Bool
-dispatch_takes d facts Begin = not d.on && not d.over
-dispatch_takes d facts Deliver = d.on && facts.message_waits
-dispatch_takes d facts End = d.on && facts.complete
-dispatch_takes d facts _ = false
+-- whether a signal shuts a run with these handlers down
+abbrev pub is_shutdown : Option Heard → Bool
+is_shutdown (Some Shutdown) = true
+is_shutdown _ = false
+
+abbrev pub shuts_down : Hearing → Signal → Bool
+shuts_down hearing signal = is_shutdown (heard_signal hearing.signals hearing.quit_is_info signal)
+
+-- the dispatcher's part of the table of turns, at a moment: false for the turns that aren't its own. Two shutdown signals
+-- are taken, and one report of a refused event
+abbrev pub dispatch_takes : DispatcherView → Facts → ℕ → Turn → Bool
+dispatch_takes d facts now Begin = not d.on && not d.over
+dispatch_takes d facts now Deliver = d.on && facts.message_waits
+dispatch_takes d facts now (SignalCame signal) = d.on && shuts_down d.rules.hearing signal && nat_lt d.causes.signals 2
+dispatch_takes d facts now GlobalDue = d.on && is_due now d.causes.global
+dispatch_takes d facts now ReportCancel = d.on && facts.refused && not d.causes.reported
+dispatch_takes d facts now End = d.on && facts.complete
+dispatch_takes d facts now _ = false
 
 -- an event at a moment of a run that has never paused
 abbrev pub event : ℕ → TestEventKind → ReporterEvent

@@ -9,8 +9,8 @@ use Rattle.run_model.specs.declared.happening.Happening.{Happening}
 use Rattle.run_model.specs.declared.happening.UnitPart.{UnitPart}
 use Rattle.run_model.specs.declared.happening.UnitPart.TheVariants.{Acts}
 use Rattle.run_model.specs.declared.unit_turn.UnitTurn.TheVariants.{Answered}
-use Rattle.run_model.specs.Admission.{tests_in, unit_of_test}
-use Rattle.run_model.specs.Attempts.{retries_of, statuses_of}
+use Rattle.run_model.specs.Admission.{tests_in, unit_of_test, terms_at}
+use Rattle.run_model.specs.Attempts.{none_goes_on, retries_of, pieces_of, statuses_of}
 use Rattle.run_model.specs.Words.{reason, told}
 use Rattle.run_model.specs.Accounts.{News, started, failed, retried, finished, skipped, account_of, is_mismatched}
 
@@ -66,13 +66,14 @@ abbrev pub HasRetryLeft : ℕ → List ExecuteStatus → Type 0
 HasRetryLeft n ss = (list_all (λ s. not (is_success s.result)) ss ≡ true) × (length ss ≤ n) × (0 < length ss)
 
 -- the test at place j of the plan, which is unit k, has its fate in a sub-run: what was told of it is its account, with
--- the attempts that its own turns made, and these meet their law
+-- the attempts that its own turns made, and these meet their law and have ended
 pub record HasFateAs (p : Settings) (run : List Happening) (j k : ℕ) : Type 0 where
   pub account : account_of k (told run)
       ≡ account (is_mismatched p j) (never_started k run) (was_left k run) (statuses_of p j run)
   pub finished : is_mismatched p j ≡ false → never_started k run ≡ false → was_left k run ≡ false
       → MeetsAttemptLaw (retries_of p j) (statuses_of p j run)
   pub left : is_mismatched p j ≡ false → was_left k run ≡ true → HasRetryLeft (retries_of p j) (statuses_of p j run)
+  pub ended : none_goes_on (terms_at p j) (pieces_of p j run) ≡ true
 
 abbrev pub HasFate : Settings → List Happening → ℕ → Type 0
 HasFate p run j = HasFateAs p run j (unit_of_test p j)

@@ -1,10 +1,12 @@
 pub mod Slow
 pub mod Environment
+pub mod Terminate
 pub mod Unit
 pub mod Words
 pub mod Admission
 pub mod Dispatch
 pub mod Board
+pub mod Cancel
 pub mod Turns
 pub mod Journal
 pub mod Accounts

@@ -1,27 +1,65 @@
 -- The story of a unit: its own turns, cut where it was let go.
-use Rattle.std.specs.Prelude.{ℕ, ◌==◌, List, [], ◌∷◌, ◌++◌, Bool, false, ◌||◌, if◌then◌else◌, Option, Some, None}
+use Rattle.std.specs.Prelude.{ℕ, ◌+◌, ◌==◌, List, [], drop, ◌∷◌, ◌++◌, Bool, false, ◌||◌, if◌then◌else◌, Option, Some, None}
 use Rattle.std.specs.Prelude.{option_to_list}
 use Rattle.std.specs.Option.{option_or}
+use Rattle.run_events.specs.declared.request.Request.{Request}
 use Rattle.run_model.specs.declared.happening.Happening.{Happening}
 use Rattle.run_model.specs.declared.happening.UnitPart.{UnitPart}
 use Rattle.run_model.specs.declared.happening.UnitPart.TheVariants.{Acts}
 use Rattle.run_model.specs.declared.unit_turn.UnitTurn.{UnitTurn}
-use Rattle.run_model.specs.declared.unit_turn.UnitTurn.TheVariants.{Answered}
+use Rattle.run_model.specs.declared.unit_turn.UnitTurn.TheVariants.{Answered, Take}
+use Rattle.run_model.specs.declared.unit_view.UnitView.{UnitView}
+use Rattle.run_model.specs.Unit.{is_live}
+use Rattle.run_model.specs.Words.{unit_of, unit_after}
 
--- a unit's own turn, at a moment of the run's clock
+-- a unit's own turn, at a moment of the run's clock, with the request that it takes, if it takes one
 pub record OwnTurn : Type 0 where
   pub moment : ℕ
   pub turn : UnitTurn
+  pub request : Option Request
 
--- the turn of unit k, if this part is its own
-abbrev pub own_turn : ℕ → ℕ → Option UnitPart → Option OwnTurn
-own_turn k now (Some (Acts j turn)) = if j == k then Some (record { moment = now; turn = turn }) else None
-own_turn k now _ = None
+-- the requests that were broadcast while unit k was live, the oldest first
+abbrev pub is_live_unit : Option UnitView → Bool
+is_live_unit None = false
+is_live_unit (Some u) = is_live u.phase
+
+abbrev pub broadcast_to : ℕ → List Happening → List Request
+broadcast_to k [] = []
+broadcast_to k (x ∷ run) =
+    broadcast_to k run
+    ++ (if is_live_unit (unit_after x.moment k x.part (unit_of k run)) then option_to_list x.request else [])
+
+-- how many it took
+abbrev pub takes_request : ℕ → Option UnitPart → Bool
+takes_request k (Some (Acts j Take)) = j == k
+takes_request k _ = false
+
+abbrev pub taken_by : ℕ → List Happening → ℕ
+taken_by k [] = 0
+taken_by k (x ∷ run) = taken_by k run + (if takes_request k x.part then 1 else 0)
+
+-- the line of unit k: its nth take takes the nth request
+abbrev pub line_of : ℕ → List Happening → List Request
+line_of k run = drop (taken_by k run) (broadcast_to k run)
+
+abbrev pub oldest : List Request → Option Request
+oldest [] = None
+oldest (request ∷ line) = Some request
+
+abbrev pub request_of : UnitTurn → List Request → Option Request
+request_of Take line = oldest line
+request_of _ line = None
+
+-- the turn of unit k, if this part is its own, by its line before it
+abbrev pub own_turn : ℕ → ℕ → Option UnitPart → List Request → Option OwnTurn
+own_turn k now (Some (Acts j turn)) line =
+    if j == k then Some (record { moment = now; turn = turn; request = request_of turn line }) else None
+own_turn k now _ line = None
 
 -- the story of unit k in a sub-run: its own turns, the newest first
 abbrev pub story_of : ℕ → List Happening → List OwnTurn
 story_of k [] = []
-story_of k (x ∷ run) = option_to_list (own_turn k x.moment x.part) ++ story_of k run
+story_of k (x ∷ run) = option_to_list (own_turn k x.moment x.part (line_of k run)) ++ story_of k run
 
 -- an attempt begins where its unit is let go
 abbrev pub begins_attempt : UnitTurn → Bool

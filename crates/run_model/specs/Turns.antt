@@ -6,7 +6,7 @@ use Rattle.run_events.specs.declared.settings.Settings.{Settings}
 use Rattle.run_events.specs.declared.turn.Turn.{Turn}
 use Rattle.run_events.specs.declared.turn.Turn.TheVariants.{Begin, Admit, Deliver, Started, StartFailed, Exit}
 use Rattle.run_events.specs.declared.turn.Turn.TheVariants.{WaitFailed, Piece, StreamEnd, ReadError, Decide, Clock, End}
-use Rattle.run_events.specs.declared.turn.Turn.TheVariants.{UnitDue as TurnDue}
+use Rattle.run_events.specs.declared.turn.Turn.TheVariants.{UnitDue as TurnDue, Take, GlobalDue, Signal, ReportCancel}
 use Rattle.run_events.specs.declared.message.Message.{Message}
 use Rattle.run_events.specs.declared.message.Message.TheVariants.{Start}
 use Rattle.run_events.specs.declared.events.TestEventKind.{TestEventKind}
@@ -23,10 +23,14 @@ use Rattle.run_model.specs.declared.unit_turn.UnitTurn.TheVariants.{StartFailed 
 use Rattle.run_model.specs.declared.unit_turn.UnitTurn.TheVariants.{WaitFailed as UnitWaitFailed, Piece as UnitPiece}
 use Rattle.run_model.specs.declared.unit_turn.UnitTurn.TheVariants.{StreamEnd as UnitStreamEnd}
 use Rattle.run_model.specs.declared.unit_turn.UnitTurn.TheVariants.{ReadError as UnitReadError, Decide as UnitDecide, Due as UnitDue}
+use Rattle.run_model.specs.declared.unit_turn.UnitTurn.TheVariants.{Take as UnitTake}
 use Rattle.run_model.specs.declared.unit_view.UnitView.{UnitView}
 use Rattle.run_model.specs.Unit.{row, takes}
 use Rattle.run_model.specs.Admission.{is_done, Newcomer, newcomer}
-use Rattle.run_model.specs.Dispatch.{dispatch_takes, event, told_of, go_of}
+use Rattle.run_model.specs.Dispatch.{shuts_down, dispatch_takes, event, having_told, told_of, go_of}
+use Rattle.run_model.specs.Cancel.{Cause, time_is_up, event_refused, signal_cause, cause_of, caused}
+use Rattle.run_events.specs.declared.events.ReporterEvent.{ReporterEvent}
+use Rattle.run_model.specs.declared.dispatcher_view.Tally.{Tally}
 use Rattle.run_model.specs.Words.{clock}
 use Rattle.run_model.specs.Board.{Board, Deed, board, unit_in, said}
 
@@ -40,6 +44,7 @@ turn_of_unit (Piece unit stream bytes) = Some (unit, UnitPiece stream bytes)
 turn_of_unit (StreamEnd unit stream) = Some (unit, UnitStreamEnd stream)
 turn_of_unit (ReadError unit stream error) = Some (unit, UnitReadError stream error)
 turn_of_unit (TurnDue unit) = Some (unit, UnitDue)
+turn_of_unit (Take unit) = Some (unit, UnitTake)
 turn_of_unit (Decide unit word) = Some (unit, UnitDecide word)
 turn_of_unit _ = None
 
@@ -59,13 +64,13 @@ is_complete b = is_empty b.queue && list_all is_done b.units
 
 -- what the dispatcher asks of the rest of the run
 abbrev pub facts : Board → Facts
-facts b = record { message_waits = not (is_empty b.queue); complete = is_complete b }
+facts b = record { message_waits = not (is_empty b.queue); complete = is_complete b; refused = b.refused }
 
 -- which turns of the run's own are enabled where it isn't over; the clock moves while it fits in a u64
 abbrev pub run_takes : Settings → Board → Turn → Bool
 run_takes p b Admit = b.dispatcher.on && is_some (newcomer p b.units)
 run_takes p b (Clock ns) = nat_lt (b.clock + ns) (2 ^ 64)
-run_takes p b turn = dispatch_takes b.dispatcher (facts b) turn
+run_takes p b turn = dispatch_takes b.dispatcher (facts b) b.clock turn
 
 -- a unit's turn is enabled where the unit takes it
 abbrev pub takes_turn : Settings → Board → Turn → Option (ℕ × UnitTurn) → Bool
@@ -86,6 +91,7 @@ nothing_done = record {
   cancel = None;
   asked = None;
   cause = None;
+  request = None;
   begins = false;
   ends = false;
   over = false;
@@ -114,20 +120,37 @@ abbrev pub answer_to : Board → Option ℕ → Option Bool → Deed
 answer_to b (Some k) (Some go) = taken_by b.clock k (Answered go) (unit_in b k)
 answer_to b _ _ = nothing_done
 
+-- the event that a message tells, and the counts after it
+abbrev pub event_of : Board → Message → Option ReporterEvent
+event_of b m = option_map (event b.clock) (told_of b.dispatcher.tally m)
+
+abbrev pub tally_with : Board → Option ReporterEvent → Tally
+tally_with b told = having_told b.dispatcher.tally told
+
 -- the delivery of a message, with the answer that the unit is given
 abbrev pub delivered_as : Board → Message → Deed → Deed
 delivered_as b m answer = record nothing_done {
   part = answer.part;
   sent = answer.sent;
   taken = true;
-  told = option_map (event b.clock) (told_of b.dispatcher.tally m);
+  told = event_of b m;
   asked = answer.asked;
 }
+
+-- and what it does as a cause
+abbrev pub delivery_of : Board → Message → Deed → Deed
+delivery_of b m answer =
+    caused b.clock (tally_with b (event_of b m)) (cause_of b.dispatcher.rules (tally_with b (event_of b m)) m)
+    (delivered_as b m answer)
+
+-- a cause that tells nothing else
+abbrev pub cancelled : Board → Cause → Deed
+cancelled b cause = caused b.clock b.dispatcher.tally (Some cause) nothing_done
 
 -- the delivery of the oldest message
 abbrev pub delivery : Board → List Message → Deed
 delivery b [] = nothing_done
-delivery b (m ∷ rest) = delivered_as b m (answer_to b (starting m) (go_of b.dispatcher.tally m))
+delivery b (m ∷ rest) = delivery_of b m (answer_to b (starting m) (go_of b.dispatcher.tally m))
 
 -- the end of a run: it tells the statistics
 abbrev pub finale : RunStats → TestEventKind
@@ -141,8 +164,7 @@ abbrev pub ended : Board → Deed
 ended b = record nothing_done {
   told = Some (event b.clock (finale b.dispatcher.tally.stats));
   ends = true;
-  over =
-      true;
+  over = true;
 }
 
 -- what a turn of the run's own does; the clock does nothing but move
@@ -150,6 +172,9 @@ abbrev pub run_turn : Settings → Board → Turn → Deed
 run_turn p b Begin = begun b
 run_turn p b Admit = admission (newcomer p b.units)
 run_turn p b Deliver = delivery b b.queue
+run_turn p b (Signal signal) = cancelled b (signal_cause b.dispatcher.causes.signals signal)
+run_turn p b GlobalDue = cancelled b time_is_up
+run_turn p b ReportCancel = cancelled b event_refused
 run_turn p b End = ended b
 run_turn p b _ = nothing_done
 
@@ -160,6 +185,13 @@ done_by p b turn (Some named) = taken_by b.clock named.0 named.1 (unit_in b name
 
 abbrev pub deed_on : Settings → Board → Turn → Deed
 deed_on p b turn = done_by p b turn (turn_of_unit turn)
+
+-- a shutdown signal that would be taken, but that two came before it
+abbrev pub is_third_signal : Board → Turn → Bool
+is_third_signal b (Signal signal) =
+    not b.dispatcher.over && b.dispatcher.on && shuts_down b.dispatcher.rules.hearing signal
+    && not (nat_lt b.dispatcher.causes.signals 2)
+is_third_signal b _ = false
 
 -- the same after a history
 abbrev pub enabled : Settings → List Happening → Turn → Bool

@@ -1,6 +1,6 @@
 -- The unit table: what each turn does to a unit in each phase.
 use Rattle.std.specs.Prelude.{ℕ, ◌==◌, List, [], ◌∷◌, ◌++◌, length, nat_lt, Bool, true, false, not, ◌&&◌}
-use Rattle.std.specs.Prelude.{if◌then◌else◌, Option, Some, None}
+use Rattle.std.specs.Prelude.{if◌then◌else◌, Option, Some, None, option_map}
 use Rattle.run_clock.specs.Stopwatch.{started_at, active_by}
 use Rattle.run_clock.specs.Sleep.{Sleep, set_at, fires_at}
 use Rattle.run_capture.specs.Output.{uncaptured, nothing_of}
@@ -13,6 +13,9 @@ use Rattle.run_events.specs.declared.ask.Ask.TheVariants.{Signal as AskSignal}
 use Rattle.run_events.specs.declared.message.Message.{Message}
 use Rattle.run_events.specs.declared.message.Message.TheVariants.{Slow, Finish}
 use Rattle.run_events.specs.declared.request.ChildSignal.TheVariants.{End}
+use Rattle.run_events.specs.declared.request.Request.{Request}
+use Rattle.run_events.specs.declared.request.Request.TheVariants.{Shutdown}
+use Rattle.run_events.specs.declared.request.TerminateReason.TheVariants.{Signal}
 use Rattle.run_events.specs.declared.request.TermSignal.{TermSignal}
 use Rattle.run_events.specs.declared.request.TermSignal.TheVariants.{Term, Kill}
 use Rattle.run_events.specs.declared.result.ExecuteStatus.{ExecuteStatus}
@@ -26,10 +29,11 @@ use Rattle.run_model.specs.declared.phase.Phase.TheVariants.{StartSent, Starting
 use Rattle.run_model.specs.declared.phase.Phase.TheVariants.{Deciding, Over}
 use Rattle.run_model.specs.declared.unit_turn.UnitTurn.{UnitTurn}
 use Rattle.run_model.specs.declared.unit_turn.UnitTurn.TheVariants.{Answered, Started, StartFailed, Exit, WaitFailed}
-use Rattle.run_model.specs.declared.unit_turn.UnitTurn.TheVariants.{Piece, StreamEnd, ReadError, Due, Decide}
+use Rattle.run_model.specs.declared.unit_turn.UnitTurn.TheVariants.{Piece, StreamEnd, ReadError, Due, Take, Decide}
 use Rattle.run_model.specs.declared.unit_view.Timers.{Timers}
 use Rattle.run_model.specs.declared.unit_view.UnitView.{UnitView}
 use Rattle.run_model.specs.Slow.{one_more, is_out_of_time, slow_time}
+use Rattle.run_model.specs.Terminate.{terminate_method}
 use Rattle.run_model.specs.Environment.{attempts, start_ask}
 
 -- a signal that is asked for its child, and the group of its child's processes
@@ -122,9 +126,9 @@ finish_message u = Finish (record { test = u.test; statuses = u.statuses; flaky 
 abbrev pub quiet : UnitView → Row
 quiet u = record { next = u; sent = None; asked = None }
 
--- it decides that it is done
+-- it decides that it is done: what waits in its line is taken no more
 abbrev pub decided : UnitView → Row
-decided u = record { next = record u { phase = Over }; sent = Some (finish_message u); asked = None }
+decided u = record { next = record u { phase = Over; line = [] }; sent = Some (finish_message u); asked = None }
 
 -- it is let go at this moment: its stopwatch starts, and all else of an attempt begins anew
 abbrev pub let_go : ℕ → UnitView → UnitView
@@ -197,6 +201,28 @@ killed u = record {
   asked = Some (signal_ask Kill u);
 }
 
+-- its child gets a signal that ends it, and time to end by itself unless it is killed
+abbrev pub asked_to_end : ℕ → TermSignal → UnitView → Row
+asked_to_end now Kill u = record { next = u; sent = None; asked = Some (signal_ask Kill u) }
+asked_to_end now signal u = record {
+  next =
+      record u { phase = Grace; timers = record u.timers { wait = Some (set_at now u.terms.slow.grace) } };
+  sent = None;
+  asked = Some (signal_ask signal u);
+}
+
+-- it takes a request: one to end its child is heeded until that ends, and kills it where it was asked to end before
+abbrev pub requested : ℕ → Phase → Request → UnitView → Row
+requested now Running (Shutdown request) u =
+    asked_to_end now (terminate_method (Signal request) u.terms.slow.grace) u
+requested now Grace (Shutdown request) u = killed u
+requested now ph request u = quiet u
+
+-- it takes the oldest request of its line
+abbrev pub take_row : ℕ → Phase → List Request → UnitView → Row
+take_row now ph [] u = quiet u
+take_row now ph (request ∷ line) u = requested now ph request (record u { line = line })
+
 -- its child ended, the wait for it failed, or its capture gets a turn, before its child has ended
 abbrev pub running_row : ℕ → UnitTurn → UnitView → Row
 running_row now (Exit exit) u = quiet (settled now (Some exit) u.capture u)
@@ -219,10 +245,13 @@ row_at now StartSent (Answered false) u = quiet (record u { phase = Over })
 row_at now Starting (Started pid) u = quiet (started now u)
 row_at now Starting (StartFailed error) u = quiet (ended now ExecFail (StartError error) u)
 row_at now Running Due u = slow_row now (one_more u.timers.slow_count) u
+row_at now Running Take u = take_row now Running u.line u
 row_at now Running turn u = running_row now turn u
 row_at now Grace Due u = killed u
+row_at now Grace Take u = take_row now Grace u.line u
 row_at now Grace turn u = running_row now turn u
 row_at now KillWait turn u = running_row now turn u
+row_at now Leak Take u = take_row now Leak u.line u
 row_at now Leak turn u = waited_row now turn u
 row_at now Deciding (Decide word) u = decided u
 row_at _ _ _ u = quiet u
@@ -240,6 +269,11 @@ abbrev pub is_due : ℕ → Option Sleep → Bool
 is_due now None = false
 is_due now (Some timer) = fires_at timer.state now
 
+-- a request waits in a line
+abbrev pub has_request : List Request → Bool
+has_request [] = false
+has_request (request ∷ line) = true
+
 -- which turns a unit takes in which phase at this moment
 abbrev pub takes_at : ℕ → Phase → UnitView → UnitTurn → Bool
 takes_at now StartSent u (Answered _) = true
@@ -248,17 +282,33 @@ takes_at now Starting u (StartFailed _) = true
 takes_at now Running u (Exit _) = true
 takes_at now Running u (WaitFailed _) = true
 takes_at now Running u Due = is_due now u.timers.slow
+takes_at now Running u Take = has_request u.line
 takes_at now Running u turn = hears u.capture turn
 takes_at now Grace u (Exit _) = true
 takes_at now Grace u (WaitFailed _) = true
 takes_at now Grace u Due = is_due now u.timers.wait
+takes_at now Grace u Take = has_request u.line
 takes_at now Grace u turn = hears u.capture turn
 takes_at now KillWait u (Exit _) = true
 takes_at now KillWait u (WaitFailed _) = true
 takes_at now Leak u Due = is_due now u.timers.wait
+takes_at now Leak u Take = has_request u.line
 takes_at now Leak u turn = hears u.capture turn
 takes_at now Deciding u (Decide _) = true
 takes_at _ _ _ _ = false
 
 abbrev pub takes : ℕ → UnitView → UnitTurn → Bool
 takes now u turn = takes_at now u.phase u turn
+
+-- a unit is live from where it was let go until it is over: a request that is broadcast then stands in its line
+abbrev pub is_live : Phase → Bool
+is_live StartSent = false
+is_live Over = false
+is_live _ = true
+
+abbrev pub reached : Request → UnitView → UnitView
+reached request u = if is_live u.phase then record u { line = u.line ++ request ∷ [] } else u
+
+abbrev pub reach : Option Request → Option UnitView → Option UnitView
+reach None u = u
+reach (Some request) u = option_map (reached request) u

@@ -1,7 +1,8 @@
 -- Words over a history: what each turn did, the newest first.
 use Rattle.std.specs.Prelude.{ℕ, ◌+◌, List, [], ◌∷◌, ◌++◌, map, length, drop, Bool, true, false, ◌&&◌, ◌||◌, not, ◌==◌}
-use Rattle.std.specs.Prelude.{if◌then◌else◌, Option, Some, None, option_map, option_to_list, filter_map, count_by, zip}
+use Rattle.std.specs.Prelude.{if◌then◌else◌, Option, Some, None, option_map, option_to_list, filter_map, count_by, zip, is_some}
 use Rattle.std.specs.List.{range_with_len, list_any}
+use Rattle.run_clock.specs.Sleep.{Sleep, set_at}
 use Rattle.run_events.specs.Stats.{FinishedTest, nothing, total, last_or}
 use Rattle.run_events.specs.Cancel.{greater}
 use Rattle.run_events.specs.declared.stats.RunStats.{RunStats}
@@ -12,6 +13,8 @@ use Rattle.run_events.specs.declared.message.Message.{Message}
 use Rattle.run_events.specs.declared.message.TestFinish.{TestFinish}
 use Rattle.run_events.specs.declared.ask.Ask.{Ask}
 use Rattle.run_events.specs.declared.cancel.CancelReason.{CancelReason}
+use Rattle.run_events.specs.declared.cancel.CancelReason.TheVariants.{ReportError, GlobalTimeout, Signal, Interrupt}
+use Rattle.run_events.specs.declared.cancel.CancelReason.TheVariants.{SecondSignal}
 use Rattle.run_events.specs.declared.events.ReporterEvent.{ReporterEvent}
 use Rattle.run_events.specs.declared.events.ReporterEvent.TheVariants.{Test}
 use Rattle.run_events.specs.declared.events.TestEventKind.{TestEventKind}
@@ -22,7 +25,8 @@ use Rattle.run_model.specs.declared.happening.UnitPart.{UnitPart}
 use Rattle.run_model.specs.declared.happening.UnitPart.TheVariants.{Joins, Acts}
 use Rattle.run_model.specs.declared.unit_view.UnitView.{UnitView}
 use Rattle.run_model.specs.declared.dispatcher_view.Tally.{Tally}
-use Rattle.run_model.specs.Unit.{row}
+use Rattle.run_model.specs.declared.dispatcher_view.Causes.{Causes}
+use Rattle.run_model.specs.Unit.{row, reach}
 use Rattle.run_model.specs.Admission.{units_in, matched_in}
 
 -- how far a turn moves the clock, in nanoseconds
@@ -59,9 +63,9 @@ abbrev pub is_on : List Happening → Bool
 is_on [] = false
 is_on (x ∷ past) = not x.ends && (x.begins || is_on past)
 
--- the moment of the latest turn that the dispatcher heard: a begin, an end or a delivery
+-- the moment of the latest turn that the dispatcher heard: a begin, an end, a delivery or a cause
 abbrev pub is_heard : Happening → Bool
-is_heard x = x.begins || x.ends || x.taken
+is_heard x = x.begins || x.ends || x.taken || is_some x.cause
 
 abbrev pub heard : List Happening → ℕ
 heard [] = 0
@@ -110,6 +114,52 @@ abbrev pub reason : List Happening → Option CancelReason
 reason [] = None
 reason (x ∷ past) = greater (reason past) x.cause
 
+-- whether the reporter refused an event
+abbrev pub was_refused : List Happening → Bool
+was_refused [] = false
+was_refused (x ∷ past) = list_any (λ refused. refused) x.refused || was_refused past
+
+-- how many causes of a run were signals; whether one was that an event was refused
+abbrev pub is_by_signal : Option CancelReason → Bool
+is_by_signal (Some Signal) = true
+is_by_signal (Some Interrupt) = true
+is_by_signal (Some SecondSignal) = true
+is_by_signal _ = false
+
+abbrev pub is_by_report : Option CancelReason → Bool
+is_by_report (Some ReportError) = true
+is_by_report _ = false
+
+abbrev pub is_by_time : Option CancelReason → Bool
+is_by_time (Some GlobalTimeout) = true
+is_by_time _ = false
+
+abbrev pub signals_heard : List Happening → ℕ
+signals_heard past = count_by (λ x. is_by_signal x.cause) past
+
+abbrev pub was_reported : List Happening → Bool
+was_reported past = list_any (λ x. is_by_report x.cause) past
+
+-- the timer of a sub-run: it is set where that begins, and is gone once it was due
+abbrev pub armed : ℕ → Option ℕ → Option Sleep
+armed now None = None
+armed now (Some duration) = Some (set_at now duration)
+
+abbrev pub global_timer : Settings → List Happening → Option Sleep
+global_timer p [] = None
+global_timer p (x ∷ past) =
+    if x.begins then armed x.moment p.plan.global_timeout
+    else if is_by_time x.cause then None
+    else global_timer p past
+
+-- what came by now that cancels a run
+abbrev pub causes_of : Settings → List Happening → Causes
+causes_of p past = record {
+  signals = signals_heard past;
+  reported = was_reported past;
+  global = global_timer p past;
+}
+
 -- a unit after a turn in which one had this part: an admitted test begins, and a turn of the unit's own is a row of the
 -- unit table
 abbrev pub unit_after : ℕ → ℕ → Option UnitPart → Option UnitView → Option UnitView
@@ -117,10 +167,11 @@ unit_after now k None u = u
 unit_after now k (Some (Joins first)) u = if first.test.unit == k then Some first else u
 unit_after now k (Some (Acts j turn)) u = if j == k then option_map (λ v. (row now turn v).next) u else u
 
--- a unit stands where the unit table leads along its own turns; None is a test that wasn't admitted
+-- a unit stands where the unit table leads along its own turns, and has the requests in its line that were broadcast;
+-- None is a test that wasn't admitted
 abbrev pub unit_of : ℕ → List Happening → Option UnitView
 unit_of k [] = None
-unit_of k (x ∷ past) = unit_after x.moment k x.part (unit_of k past)
+unit_of k (x ∷ past) = reach x.request (unit_after x.moment k x.part (unit_of k past))
 
 -- all units, by number
 abbrev pub units : Settings → List Happening → List (Option UnitView)

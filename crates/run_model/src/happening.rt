@@ -1,7 +1,7 @@
 // What one turn did.
 use crate::{UnitTurn, UnitView};
 use run_capture::List;
-use run_events::{Ask, CancelReason, Message, ReporterEvent, Turn};
+use run_events::{Ask, CancelReason, Message, ReporterEvent, Request, Turn};
 
 /// Whose turn it was, and as what.
 #[derive(Drop)]
@@ -33,6 +33,8 @@ pub struct Happening {
     pub asked: Option<Ask>,
     /// Why it cancels the run, where it does.
     pub cause: Option<CancelReason>,
+    /// What it asked of each unit that was let go and wasn't over.
+    pub request: Option<Request>,
     /// Whether a sub-run begins with it.
     pub begins: bool,
     /// Whether a sub-run ends with it.

@@ -1,7 +1,7 @@
 //! The definitions of a run: the tables of turns, of a unit and of the dispatcher, row by row, and the
-//! words over a run's history that every contract above cites. It stands on `run_events` and what that
-//! stands on. A history lists what each turn did, the newest first; a word is a recursion, a sum or a
-//! filter over it.
+//! words over a run's history that every contract above cites. It stands on `run_clock`, `run_admission`
+//! and what that stands on. A history lists what each turn did, the newest first; a word is a recursion,
+//! a sum or a filter over it.
 #![tactic(auto)]
 
 mod dispatcher_view;
@@ -11,7 +11,7 @@ mod phase;
 mod unit_turn;
 mod unit_view;
 
-pub use dispatcher_view::{DispatcherView, Facts, Tally};
+pub use dispatcher_view::{CancelRules, Causes, DispatcherView, Facts, Tally};
 pub use entry::Entry;
 pub use happening::{Happening, UnitPart};
 pub use phase::Phase;

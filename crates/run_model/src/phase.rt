@@ -7,13 +7,13 @@ pub enum Phase {
     StartSent,
     /// It was let go, and its start was asked.
     Starting,
-    /// Its child runs.
+    /// Its child runs, also after it was killed at the end of the time that it was given.
     Running,
     /// Its child runs, and was asked to end: it is given some time for that.
     Grace,
     /// Its child was killed with no time to end by itself, and it waits for that end.
     KillWait,
-    /// Its child has ended, and a captured stream of it isn't done.
+    /// Its child has ended, or the wait for it failed, and a captured stream of it isn't done.
     Leak,
     /// Its attempt has ended.
     Deciding,

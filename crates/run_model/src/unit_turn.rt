@@ -24,6 +24,8 @@ pub enum UnitTurn {
     ReadError { stream: Stream, error: Text },
     /// The timer of its phase is due.
     Due,
+    /// It takes the oldest request of its line.
+    Take,
     /// It decides what comes after its attempt, with a random word.
     Decide { word: u32 },
 }
@@ -50,6 +52,7 @@ impl Duplicate for UnitTurn {
                 error: error.copy(alloc)?,
             },
             UnitTurn::Due => UnitTurn::Due,
+            UnitTurn::Take => UnitTurn::Take,
             UnitTurn::Decide { word } => UnitTurn::Decide { word: *word },
         })
     }

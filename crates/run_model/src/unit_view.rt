@@ -3,7 +3,8 @@ use crate::Phase;
 use run_capture::{CaptureStrategy, ChildAccumulator, List, Text};
 use run_clock::{PausableSleep, StopwatchStart};
 use run_events::{
-    ChildExit, ExecuteStatus, FlakyResult, LeakTimeout, SlowTimeout, TestSlotAssignment, TestUnit,
+    ChildExit, ExecuteStatus, FlakyResult, LeakTimeout, Request, SlowTimeout, TestSlotAssignment,
+    TestUnit,
 };
 use uuid::Uuid;
 
@@ -46,6 +47,8 @@ pub struct UnitView {
     /// Its current attempt, from 1.
     pub attempt: u32,
     pub timers: Timers,
+    /// The requests that wait for it, the oldest first.
+    pub line: List<Request>,
     /// When it took its latest turn.
     pub latest: u64,
     /// What was captured of its child so far.
@@ -70,6 +73,7 @@ impl Drop for UnitView {
             phase: _,
             attempt: _,
             timers: _,
+            line: _,
             latest: _,
             capture: _,
             exit: _,

@@ -4,7 +4,7 @@ use Rattle.std.proofs.Common.{if◌then◌else◌, arith, ap, refl, ◌∙◌, s
 use Rattle.run_model.specs.declared.unit_view.AttemptTerms.{AttemptTerms}
 use Rattle.run_model.specs.Story.{OwnTurn, begins_attempt, pieces, with_turn}
 use Rattle.run_model.specs.Timing.{is_timer_due_at, timer_of}
-use Rattle.run_model.specs.Attempts.{ended_statuses, has_ended, is_due_in, status_of}
+use Rattle.run_model.specs.Attempts.{ended_statuses, has_ended, is_due_in, none_goes_on, status_of}
 use Rattle.run_plain.specs.Newest.{newest, with_one}
 
 with_one-suc : (n : ℕ) → with_one (suc n) ≡ suc n + 1
@@ -59,3 +59,9 @@ pub due_cut : (terms : AttemptTerms) (now n : ℕ) (story : List OwnTurn) → n 
     ≡ is_due_in terms now (pieces story)
 due_cut terms now zero story is some = absurd (some refl)
 due_cut terms now (suc n) story is some = sym (ap (is_due_in terms now) (cut story n (sym is)))
+
+-- and it goes on where that does
+pub none_cut : (terms : AttemptTerms) (n : ℕ) (story : List OwnTurn) → n ≡ newest story → n ≢ 0
+    → has_ended terms (take n story) ≡ none_goes_on terms (pieces story)
+none_cut terms zero story is some = absurd (some refl)
+none_cut terms (suc n) story is some = sym (ap (none_goes_on terms) (cut story n (sym is)))

@@ -12,6 +12,7 @@ ghost use Rattle.run_model.specs.Attempts.{
   has_ended,
   is_due_in,
   moment_if,
+  none_goes_on,
   output_by,
   output_of,
   result_by,
@@ -23,11 +24,10 @@ ghost use Rattle.run_model.specs.Timing.{has_leaked, has_timed_out};
 
 use crate::OwnTurn;
 use crate::results::execution_result;
+use crate::standing::{has_timed_out, is_wait_over, slow_count};
 use crate::story::{begins_attempt, count_pieces, newest};
 use crate::streams::{are_streams_done, output_of};
-use crate::timing::{
-    has_leaked, has_timed_out, is_timer_due_at, is_wait_over, slow_count, timer_of,
-};
+use crate::timing::{has_leaked, is_timer_due_at, timer_of};
 use run_capture::{ChildFdError, Duplicate, List, Mem, Stream, Text};
 use run_events::{ChildExecutionOutput, ChildExit, ExecuteStatus, ExecutionResult};
 use run_model::{AttemptTerms, UnitTurn};
@@ -247,4 +247,17 @@ pub fn is_due(terms: AttemptTerms, now: u64, story: &[OwnTurn]) -> bool
     }
     let (piece, _) = story.split_at(newest);
     !has_ended(terms, piece) && is_timer_due_at(now, timer_of(terms, piece))
+}
+
+#[tactic(auto, using(crate::proofs::Cuts::none_cut, crate::proofs::Cuts::no_piece))]
+/// Whether no attempt of a unit goes on, by its story, the newest turn first.
+pub fn none_goes_on(terms: AttemptTerms, story: &[OwnTurn]) -> bool
+    ensures { result ≡ none_goes_on terms (pieces story.now) }
+{
+    let newest = newest(story);
+    if newest == 0 {
+        return true;
+    }
+    let (piece, _) = story.split_at(newest);
+    has_ended(terms, piece)
 }

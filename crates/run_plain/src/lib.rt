@@ -12,6 +12,7 @@ mod fates;
 mod front;
 mod results;
 mod slots;
+mod standing;
 mod statistics;
 mod story;
 mod streams;
@@ -19,7 +20,7 @@ mod timing;
 
 pub use accounts::{News, account_of};
 pub use admission::{Admissions, candidate, group_weight_in_use, weight_in_use};
-pub use attempts::{is_due, statuses_of};
+pub use attempts::{is_due, none_goes_on, statuses_of};
 pub use fates::{account, meets_attempt_law};
 pub use slots::{free_group_slot, free_slot};
 pub use statistics::{stats_are_of_told_events, stats_told};

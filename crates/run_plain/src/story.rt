@@ -3,6 +3,7 @@ ghost use Rattle.std.specs.Prelude.{◌≡◌, ◌≤◌, length};
 ghost use Rattle.run_model.specs.Story.{begins_attempt, pieces};
 ghost use Rattle.run_plain.specs.Newest.{newest};
 
+use run_events::Request;
 use run_model::UnitTurn;
 use std::marker::Model;
 
@@ -11,6 +12,8 @@ use std::marker::Model;
 pub struct OwnTurn {
     pub moment: u64,
     pub turn: UnitTurn,
+    /// The request that it takes, if it takes one.
+    pub request: Option<Request>,
 }
 
 impl Model for OwnTurn {
@@ -18,7 +21,7 @@ impl Model for OwnTurn {
 
     ghost Value = { Defined };
 
-    ghost view = { λ t. record { moment = t.moment; turn = t.turn } };
+    ghost view = { λ t. record { moment = t.moment; turn = t.turn; request = t.request } };
 }
 
 // Whether an attempt begins with a turn: the unit is let go.

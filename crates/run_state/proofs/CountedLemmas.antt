@@ -1,12 +1,15 @@
 -- How many units aren't over, as they change.
-use Rattle.std.proofs.Common.{◌≡◌, ℕ, zero, suc, ◌+◌, ◌-◌, ◌<◌, ◌≤◌, List, [], ◌∷◌, length, get_or, set, Bool, true}
+use Rattle.std.proofs.Common.{◌≡◌, ℕ, zero, suc, ◌+◌, ◌-◌, ◌<◌, ◌≤◌, List, [], ◌∷◌, ◌++◌, map, take, drop, length, get_or, set}
+use Rattle.std.proofs.Common.{Bool, true, if◌then◌else◌, option_map}
 use Rattle.std.proofs.Common.{false, not, cond, Option, Some, None, count_by, refl, ap, sym, ◌∙◌, arith}
-use Rattle.std.proofs.lemmas.List.Sums.{sum_by-cons, sum_by-set, get_or-le-sum_by}
+use Rattle.std.proofs.lemmas.List.Sums.{sum_by-cons, sum_by-append, sum_by-set, get_or-le-sum_by}
+use Rattle.std.proofs.lemmas.List.{take-append-drop, set-get_or}
 use Rattle.run_model.specs.declared.unit_view.UnitView.{UnitView}
 use Rattle.run_model.specs.declared.phase.Phase.{Phase}
 use Rattle.run_model.specs.declared.phase.Phase.TheVariants.{Over}
 use Rattle.run_model.specs.declared.unit_turn.UnitTurn.{UnitTurn}
-use Rattle.run_model.specs.Unit.{takes, takes_at}
+use Rattle.run_events.specs.declared.request.Request.{Request}
+use Rattle.run_model.specs.Unit.{takes, takes_at, is_live, reached}
 use Rattle.run_model.specs.Admission.{is_last}
 use Rattle.run_state.specs.Counted.{is_left}
 
@@ -69,3 +72,39 @@ set_left us k left v over e is inside ends =
         → left - cond over 1 0 ≡ count_by is_left (set us k (Some v))
     less true more = omega arith
     less false more = omega arith
+
+-- a request leaves which units are left
+reached_left : (request : Request) (v : Option UnitView) → is_left (option_map (reached request) v) ≡ is_left v
+reached_left request None = refl
+reached_left request (Some u) = by_live (is_live u.phase)
+  where
+    by_live : (b : Bool)
+        → is_left (Some (if b then record u { line = u.line ++ request ∷ [] } else u)) ≡ is_left (Some u)
+    by_live true = refl
+    by_live false = refl
+
+all_reached_left : (request : Request) (us : List (Option UnitView))
+    → count_by is_left (map (option_map (reached request)) us) ≡ count_by is_left us
+all_reached_left request [] = refl
+all_reached_left request (u ∷ us) =
+    sum_by-cons (λ u. cond (is_left u) 1 0) (option_map (reached request) u) (map (option_map (reached request)) us)
+    ∙ ap (λ b. cond b 1 0 + count_by is_left (map (option_map (reached request)) us)) (reached_left request u)
+    ∙ ap (λ n. cond (is_left u) 1 0 + n) (all_reached_left request us)
+    ∙ sym (sum_by-cons (λ u. cond (is_left u) 1 0) u us)
+
+-- also where the first ones alone were reached
+pub some_reached_left : (request : Request) (n : ℕ) (us : List (Option UnitView))
+    → count_by is_left (map (option_map (reached request)) (take n us) ++ drop n us) ≡ count_by is_left us
+some_reached_left request n us =
+    sum_by-append (λ u. cond (is_left u) 1 0) (map (option_map (reached request)) (take n us)) (drop n us)
+    ∙ ap (λ m. m + count_by is_left (drop n us)) (all_reached_left request (take n us))
+    ∙ sym (sum_by-append (λ u. cond (is_left u) 1 0) (take n us) (drop n us))
+    ∙ ap (count_by is_left) (take-append-drop n us)
+
+-- and where one of the rest was set to what it was
+pub failed_left : (request : Request) (n : ℕ) (us vs : List (Option UnitView)) (k : ℕ) (new d : Option UnitView)
+    → vs ≡ map (option_map (reached request)) (take n us) ++ drop n us → new ≡ get_or vs k d
+    → count_by is_left (set vs k new) ≡ count_by is_left us
+failed_left request n us vs k new d vs-is same =
+    ap (λ v. count_by is_left (set vs k v)) same ∙ ap (count_by is_left) (set-get_or vs k d)
+    ∙ ap (count_by is_left) vs-is ∙ some_reached_left request n us

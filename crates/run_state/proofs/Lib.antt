@@ -1,3 +1,4 @@
 pub mod CountedLemmas
+pub mod DeedLemmas
 pub mod SeatLemmas
 pub mod StartLemmas

@@ -36,6 +36,7 @@ pub fn turn_of_unit(alloc: Global, turn: &Turn) -> Mem<Option<(u32, UnitTurn)>>
             stream,
             error,
         } => read_error(alloc, *unit, *stream, error),
+        Turn::Take { unit } => Ok(Some((*unit, UnitTurn::Take))),
         Turn::UnitDue { unit } => Ok(Some((*unit, UnitTurn::Due))),
         Turn::Decide { unit, word } => Ok(Some((*unit, UnitTurn::Decide { word: *word }))),
         _ => Ok(None),
@@ -90,6 +91,7 @@ fn facts_of(state: &State) -> Facts
     Facts {
         message_waits,
         complete: !message_waits && state.units.are_over(),
+        refused: state.refused,
     }
 }
 

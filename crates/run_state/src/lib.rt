@@ -3,6 +3,7 @@
 #![tactic(auto)]
 
 mod admission;
+mod broadcast;
 mod enabled;
 mod state;
 mod turns;

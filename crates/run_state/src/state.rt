@@ -1,14 +1,16 @@
 // What a run keeps of its history.
 ghost use Rattle.std.specs.Prelude.{◌≡◌, ◌<◌, ◌^◌, [], IfOk};
 ghost use Rattle.run_model.specs.Admission.{units_in};
-ghost use Rattle.run_model.specs.Board.{board};
+ghost use Rattle.std.specs.List.{list_any};
+ghost use Rattle.run_model.specs.Board.{board, answered};
+ghost use Rattle.run_model.specs.Turns.{is_third_signal};
 ghost use Rattle.run_state.specs.Held.{held};
 
 use crate::units::{Units, unadmitted};
 use run_admission::Admission;
 use run_capture::Mem;
 use run_dispatch::Dispatcher;
-use run_events::{Message, RunStats, Settings};
+use run_events::{Message, RunStats, Settings, Turn};
 use std::alloc::Global;
 use std::collections::VecDeque;
 use std::marker::Model;
@@ -24,6 +26,8 @@ pub struct State {
     pub(crate) dispatcher: Dispatcher,
     /// The run's clock, in nanoseconds.
     pub(crate) clock: u64,
+    /// Whether the reporter refused an event.
+    pub(crate) refused: bool,
     /// What the tests hold of the limits.
     pub(crate) admission: Admission,
 }
@@ -39,9 +43,17 @@ impl Model for State {
         queue = s.queue.items;
         dispatcher = s.dispatcher;
         clock = s.clock;
+        refused = s.refused;
       };
       limits = s.admission;
     } };
+}
+
+// Whether one of these was refused.
+fn is_one_refused(refused: &[bool]) -> bool
+    ensures { result ≡ list_any (λ refused. refused) refused.now }
+{
+    refused.iter().any(|refused| *refused)
 }
 
 impl State {
@@ -63,8 +75,23 @@ impl State {
             queue: VecDeque::new(alloc),
             dispatcher,
             clock: 0,
+            refused: false,
             admission,
         })
+    }
+
+    /// The reporter answered to the events of a turn: of each, whether it refused it.
+    pub fn hear_answers(&mut self, refused: &[bool])
+        ensures { self.new ≡ record self.old { board = answered self.old.board refused.now } }
+    {
+        self.refused = is_one_refused(refused) || self.refused;
+    }
+
+    /// Whether a turn is a shutdown signal that would be taken, but that two came before it.
+    pub fn is_third_signal(&self, turn: &Turn) -> bool
+        ensures { result ≡ is_third_signal self.now.board turn.now }
+    {
+        self.dispatcher.is_third_signal(turn)
     }
 
     /// Whether the run has ended.

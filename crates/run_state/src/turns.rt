@@ -5,18 +5,22 @@ ghost use Rattle.std.specs.VecDeque.{deque_len, deque_capacity};
 ghost use Rattle.run_admission.specs.InUse.{is_test_in_use};
 ghost use Rattle.run_model.specs.Admission.{newcomer, scripts_in, units_in};
 ghost use Rattle.run_state.specs.Held.{IsSeated, Comes, units_with, given_back};
-ghost use Rattle.run_model.specs.Board.{unit_in, moved, step, deed_events};
+ghost use Rattle.run_state.specs.Cancelled.{Cancels};
+ghost use Rattle.run_model.specs.Board.{unit_in, moved, step, deed_events, reach_all};
+ghost use Rattle.run_model.specs.Cancel.{signal_cause, time_is_up, event_refused};
+ghost use Rattle.run_model.specs.Dispatch.{shuts_down};
 ghost use Rattle.run_model.specs.Turns.{taken_by, admission, starting, answer_to, delivery, begun, ended, run_turn};
 ghost use Rattle.run_model.specs.Turns.{deed_on, turn_of_unit};
 ghost use Rattle.run_laws.specs.Ready.{CanAnswer, CanTake, CanAdmit, CanDeliverOldest, CanRun, CanAdvance};
 
 use crate::admission::{Newcomer, newcomer_of, place_of};
+use crate::broadcast::broadcast;
 use crate::state::State;
 use crate::units::Units;
 use run_admission::{Admission, Admitted};
 use run_capture::{List, Mem};
 use run_dispatch::DispatchEffects;
-use run_events::{Ask, Message, ReporterEvent, Settings, Turn};
+use run_events::{Ask, Message, ReporterEvent, Settings, Signal, Turn};
 use run_model::UnitTurn;
 use run_unit::UnitEffects;
 use std::alloc::Global;
@@ -177,7 +181,7 @@ pub fn deliver(alloc: Global, settings: &Settings, state: &mut State) -> Mem<Eff
     ensures after { OnOk result (state.new.board
         ≡ moved state.old.board (delivery state.old.board state.old.board.queue)) }
     ensures told { IfOk result (λ effects. effects.events
-        ≡ option_to_list (delivery state.old.board state.old.board.queue).told) }
+        ≡ deed_events (delivery state.old.board state.old.board.queue)) }
     ensures asked { IfOk result (λ effects. effects.asked
         ≡ (delivery state.old.board state.old.board.queue).asked) }
 {
@@ -185,8 +189,13 @@ pub fn deliver(alloc: Global, settings: &Settings, state: &mut State) -> Mem<Eff
         Some(message) => {
             let unit = starting(&message);
             let now = state.clock;
-            let DispatchEffects { events, go } = state.dispatcher.deliver(alloc, message, now)?;
+            let DispatchEffects {
+                events,
+                request,
+                go,
+            } = state.dispatcher.deliver(alloc, message, now)?;
             let asked = answer(alloc, settings, state, unit, go)?;
+            broadcast(alloc, state, request)?;
             Ok(Effects { events, asked })
         }
         None => unreachable!(),
@@ -247,6 +256,9 @@ fn advance_run(alloc: Global, settings: &Settings, state: &mut State, turn: &Tur
             state.clock += *ns;
             Ok(asking(None))
         }
+        Turn::Signal { signal } => hear_signal(alloc, state, *signal),
+        Turn::GlobalDue => run_out(alloc, state),
+        Turn::ReportCancel => refuse(alloc, state),
         Turn::End => end(alloc, state),
         _ => unreachable!(),
     }
@@ -265,6 +277,55 @@ fn begin(alloc: Global, state: &mut State) -> Mem<Effects>
     let DispatchEffects { events, .. } = state.dispatcher.begin(alloc, now)?;
     Ok(Effects {
         events,
+        asked: None,
+    })
+}
+
+// A shutdown signal came.
+fn hear_signal(alloc: Global, state: &mut State, signal: Signal) -> Mem<Effects>
+    requires on { state.old.board.dispatcher.on ≡ true }
+    requires shuts_down { shuts_down state.old.board.dispatcher.rules.hearing signal ≡ true }
+    requires few { state.old.board.dispatcher.causes.signals < 2 }
+    requires later { state.old.board.dispatcher.latest ≤ state.old.board.clock }
+    ensures cancels { IfOk result (Cancels state.old
+        (signal_cause state.old.board.dispatcher.causes.signals signal) state.new) }
+{
+    let now = state.clock;
+    let effects = state.dispatcher.signal(alloc, signal, now)?;
+    spread(alloc, state, effects)
+}
+
+// The sub-run has run out of its time.
+fn run_out(alloc: Global, state: &mut State) -> Mem<Effects>
+    requires later { state.old.board.dispatcher.latest ≤ state.old.board.clock }
+    ensures cancels { IfOk result (Cancels state.old time_is_up state.new) }
+{
+    let now = state.clock;
+    let effects = state.dispatcher.global_due(alloc, now)?;
+    spread(alloc, state, effects)
+}
+
+// The run is cancelled since the reporter refused an event.
+fn refuse(alloc: Global, state: &mut State) -> Mem<Effects>
+    requires later { state.old.board.dispatcher.latest ≤ state.old.board.clock }
+    ensures cancels { IfOk result (Cancels state.old event_refused state.new) }
+{
+    let now = state.clock;
+    let effects = state.dispatcher.report_cancel(alloc, now)?;
+    spread(alloc, state, effects)
+}
+
+// What the dispatcher asks of the units reaches them, and what it tells is told.
+fn spread(alloc: Global, state: &mut State, effects: DispatchEffects) -> Mem<Effects>
+    ensures after { OnOk result (state.new.board
+        ≡ record state.old.board { units = reach_all effects.request state.old.board.units }) }
+    ensures limits { OnOk result (state.new.limits ≡ state.old.limits) }
+    ensures told { IfOk result (λ told. told.events ≡ effects.events) }
+    ensures asked { IfOk result (λ told. told.asked ≡ None) }
+{
+    broadcast(alloc, state, effects.request)?;
+    Ok(Effects {
+        events: effects.events,
         asked: None,
     })
 }

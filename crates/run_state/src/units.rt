@@ -5,10 +5,12 @@ ghost use Rattle.std.specs.List.{list_all};
 ghost use Rattle.run_model.specs.declared.unit_view.UnitView.{UnitView};
 ghost use Rattle.run_model.specs.Admission.{is_done, is_last};
 ghost use Rattle.run_model.specs.Unit.{row, takes};
-ghost use Rattle.run_model.specs.Board.{units_after};
+ghost use Rattle.run_model.specs.Board.{reach_all, units_after};
 ghost use Rattle.run_model.specs.Turns.{unit_takes, taken_by};
 
+use crate::broadcast::reach_each;
 use run_capture::Mem;
+use run_events::Request;
 use run_model::{Phase, UnitTurn};
 use run_unit::{Unit, UnitEffects};
 use std::alloc::Global;
@@ -105,6 +107,14 @@ impl Units {
         let effects = step_at(&mut self.items, alloc, unit, turn, now)?;
         self.left = left_after(self.left, effects.over);
         Ok(effects)
+    }
+
+    /// A request reaches each unit that was let go and isn't over: it stands in its line. Each unit is looked at, but at
+    /// most eight times in a sub-run, since the reason of each broadcast is above that of the one before.
+    pub fn broadcast(&mut self, alloc: Global, request: Request) -> Mem<()>
+        ensures { OnOk result (self.new ≡ reach_all (Some request) self.old) }
+    {
+        reach_each(alloc, self.items.as_mut_slice(), request)
     }
 
     /// A unit that wasn't admitted is.

@@ -7,7 +7,7 @@ use run_events::{
     ChildExecutionOutput, ExecuteStatus, LeakTimeout, ReporterEvent, SlowTimeout, TestEventKind,
 };
 use run_model::AttemptTerms;
-use run_plain::{News, OwnTurn, account, account_of, meets_attempt_law, statuses_of};
+use run_plain::{News, OwnTurn, account, account_of, meets_attempt_law, none_goes_on, statuses_of};
 use std::alloc::Global;
 use std::process::Abort;
 
@@ -149,7 +149,9 @@ fn has_fate(
 // The same of the first unit, whose attempts meet their law.
 fn has_first_fate(rt: &impl Abort, alloc: Global, walk: &Walk) -> bool {
     let statuses = attempts(rt, alloc, walk.story.as_slice());
-    has_fate(rt, alloc, walk, 0, false, &statuses) && meets_attempt_law(0, statuses.as_slice())
+    has_fate(rt, alloc, walk, 0, false, &statuses)
+        && meets_attempt_law(0, statuses.as_slice())
+        && none_goes_on(usual_terms(), walk.story.as_slice())
 }
 
 fn has_second_fate(rt: &impl Abort, alloc: Global, walk: &Walk) -> bool {

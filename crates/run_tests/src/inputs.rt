@@ -87,7 +87,7 @@ pub struct Row<'a> {
     words: &'a [&'a str],
     input: &'a [&'a str],
     failing_read: u64,
-    failing_write: u64,
+    pub failing_write: u64,
 }
 
 // An input without failures.

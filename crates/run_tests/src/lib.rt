@@ -8,6 +8,8 @@
 #![tactic(auto)]
 
 #[cfg(test)]
+mod cancels;
+#[cfg(test)]
 mod fates;
 #[cfg(test)]
 mod inputs;

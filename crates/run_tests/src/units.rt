@@ -54,8 +54,16 @@ fn own_turn(
     }
 }
 
-// Puts a turn before the first unit's story, the newest turn first, where it is its own. No turn that is tried moves the
-// clock.
+// A turn of the first unit's own. No turn that is tried moves the clock, and none makes it take a request.
+fn first_turn(turn: UnitTurn) -> OwnTurn {
+    OwnTurn {
+        moment: 0,
+        turn,
+        request: None,
+    }
+}
+
+// Puts a turn before the first unit's story, the newest turn first, where it is its own.
 pub fn put_own(
     rt: &impl Abort,
     alloc: Global,
@@ -64,8 +72,6 @@ pub fn put_own(
     events: &[ReporterEvent],
 ) {
     if let Some(turn) = own_turn(rt, alloc, turn, events) {
-        story
-            .insert(0, OwnTurn { moment: 0, turn })
-            .expect(rt, MEMORY);
+        story.insert(0, first_turn(turn)).expect(rt, MEMORY);
     }
 }

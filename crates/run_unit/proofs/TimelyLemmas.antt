@@ -1,19 +1,25 @@
 -- A row leaves no timer that was given a later moment than that of the unit's latest turn.
-use Rattle.std.proofs.Common.{ℕ, ◌≤◌, ◌==◌, true, false, if◌then◌else◌, Option, Some, None, IfSome, arith}
+use Rattle.std.proofs.Common.{ℕ, ◌≤◌, ◌==◌, List, [], ◌∷◌, true, false, if◌then◌else◌, Option, Some, None, IfSome, arith}
 use Rattle.run_clock.specs.Sleep.{Sleep}
 use Rattle.run_capture.specs.Captured.{Captured, is_done, with_wait_error}
+use Rattle.run_events.specs.declared.request.Request.{Request}
+use Rattle.run_events.specs.declared.request.Request.TheVariants.{Shutdown}
+use Rattle.run_events.specs.declared.request.TerminateReason.TheVariants.{Signal}
+use Rattle.run_events.specs.declared.request.TermSignal.{TermSignal}
+use Rattle.run_events.specs.declared.request.TermSignal.TheVariants.{Kill}
 use Rattle.run_events.specs.declared.result.ChildExit.{ChildExit}
 use Rattle.run_model.specs.declared.phase.Phase.{Phase}
 use Rattle.run_model.specs.declared.phase.Phase.TheVariants.{StartSent, Starting, Running, Grace, KillWait, Leak}
 use Rattle.run_model.specs.declared.phase.Phase.TheVariants.{Deciding}
 use Rattle.run_model.specs.declared.unit_turn.UnitTurn.{UnitTurn}
 use Rattle.run_model.specs.declared.unit_turn.UnitTurn.TheVariants.{Answered, Started, StartFailed, Exit, WaitFailed}
-use Rattle.run_model.specs.declared.unit_turn.UnitTurn.TheVariants.{Due, Decide}
+use Rattle.run_model.specs.declared.unit_turn.UnitTurn.TheVariants.{Due, Take, Decide}
 use Rattle.run_model.specs.declared.unit_view.Timers.{Timers}
 use Rattle.run_model.specs.declared.unit_view.UnitView.{UnitView}
 use Rattle.run_model.specs.Slow.{one_more, is_out_of_time}
 use Rattle.run_model.specs.Unit.{row_at, running_row, slow_row, slow_again, in_grace, out_of_time, settled, exited}
-use Rattle.run_model.specs.Unit.{leaking, heard_with, having_heard, at_moment}
+use Rattle.run_model.specs.Unit.{leaking, heard_with, having_heard, at_moment, asked_to_end, requested, take_row}
+use Rattle.run_model.specs.Terminate.{terminate_method}
 use Rattle.run_unit.specs.Timely.{IsTimely, IsCurrent}
 
 -- a timer that was given no moment after this one was given none after a later one
@@ -67,6 +73,26 @@ running_current now (Exit exit) u le h = settled_current now (Some exit) u.captu
 running_current now (WaitFailed error) u le h = settled_current now None (with_wait_error u.capture error) u le h
 running_current now turn u le h = h
 
+-- a unit stays current where its child gets a signal that ends it
+asked_current : (now : ℕ) (signal : TermSignal) (u : UnitView) → now ≤ u.latest → IsCurrent u
+    → IsCurrent (asked_to_end now signal u).next
+asked_current now Kill u le h = h
+asked_current now signal u le h = (h.0, h.1, le)
+
+-- a unit stays current where it takes a request
+requested_current : (now : ℕ) (ph : Phase) (request : Request) (u : UnitView) → now ≤ u.latest → IsCurrent u
+    → IsCurrent (requested now ph request u).next
+requested_current now Running (Shutdown request) u le h =
+    asked_current now (terminate_method (Signal request) u.terms.slow.grace) u le h
+requested_current now Grace (Shutdown request) u le h = (h.0, h.1, tt)
+requested_current now ph request u le h = h
+
+-- a unit stays current where it takes the oldest request of a line
+take_current : (now : ℕ) (ph : Phase) (line : List Request) (u : UnitView) → now ≤ u.latest → IsCurrent u
+    → IsCurrent (take_row now ph line u).next
+take_current now ph [] u le h = h
+take_current now ph (request ∷ line) u le h = requested_current now ph request (record u { line = line }) le h
+
 -- a row leaves a unit current
 pub row_current : (now : ℕ) (ph : Phase) (turn : UnitTurn) (u : UnitView) → now ≤ u.latest → IsCurrent u
     → IsCurrent (row_at now ph turn u).next
@@ -75,11 +101,14 @@ row_current now StartSent (Answered false) u le h = h
 row_current now Starting (Started pid) u le h = (h.0, le, h.2)
 row_current now Starting (StartFailed error) u le h = (h.0, tt, tt)
 row_current now Running Due u le h = slow_current now (one_more u.timers.slow_count) u le h
+row_current now Running Take u le h = take_current now Running u.line u le h
 row_current now Running turn u le h = running_current now turn u le h
 row_current now Grace Due u le h = (h.0, h.1, tt)
+row_current now Grace Take u le h = take_current now Grace u.line u le h
 row_current now Grace turn u le h = running_current now turn u le h
 row_current now KillWait turn u le h = running_current now turn u le h
 row_current now Leak Due u le h = (h.0, tt, tt)
+row_current now Leak Take u le h = take_current now Leak u.line u le h
 row_current now Leak turn u le h = heard_current now (having_heard u.capture turn) u h
 row_current now Deciding (Decide word) u le h = h
 row_current now ph turn u le h = h

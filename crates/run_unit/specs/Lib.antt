@@ -1,4 +1,4 @@
 pub mod Effects
 pub mod Heard
-pub mod Terminate
+pub mod Same
 pub mod Timely

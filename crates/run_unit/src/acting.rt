@@ -12,9 +12,10 @@ use crate::effects::{UnitEffects, quiet};
 use crate::ending::{end_child, end_wait, fail_start, hear_after, leave_streams};
 use crate::environment::start_of;
 use crate::hearing::{hear, hears, is_heard};
+use crate::requests::{has_request, take};
 use crate::slow::{be_slow, kill};
 use crate::timing::{is_timer_due, timers_from};
-use run_capture::{ChildAccumulator, Duplicate, Mem};
+use run_capture::{ChildAccumulator, Duplicate, List, Mem};
 use run_clock::PausableSleep;
 use run_events::{Message, TestFinish};
 use run_model::{Phase, UnitTurn, UnitView};
@@ -34,6 +35,10 @@ pub fn is_enabled(view: &UnitView, turn: &UnitTurn, now: u64) -> bool
             matches!(view.phase, Phase::Running | Phase::Grace | Phase::KillWait)
         }
         UnitTurn::Due => is_timer_due(view, now),
+        UnitTurn::Take => {
+            matches!(view.phase, Phase::Running | Phase::Grace | Phase::Leak)
+                && has_request(&view.line)
+        }
         UnitTurn::Decide { .. } => matches!(view.phase, Phase::Deciding),
         _ => {
             matches!(view.phase, Phase::Running | Phase::Grace | Phase::Leak)
@@ -93,6 +98,7 @@ fn act_itself(alloc: Global, view: &mut UnitView, turn: UnitTurn, now: u64) -> M
         UnitTurn::Exit { exit } => end_child(alloc, view, exit, now),
         UnitTurn::WaitFailed { error } => end_wait(alloc, view, error, now),
         UnitTurn::Due => be_due(alloc, view, now),
+        UnitTurn::Take => Ok(take(alloc, view, now)),
         UnitTurn::Decide { .. } => decide(alloc, view),
         _ => unreachable!(),
     }
@@ -139,13 +145,14 @@ fn be_due(alloc: Global, view: &mut UnitView, now: u64) -> Mem<UnitEffects>
     }
 }
 
-// It is done: its attempts are told.
+// It is done: its attempts are told, and what waits in its line is taken no more.
 fn decide(alloc: Global, view: &mut UnitView) -> Mem<UnitEffects>
     ensures row { IfOk result (IsRow (decided view.old) view.new) }
     ensures err { OnErr result (view.new ≡ view.old) }
 {
     let finish = finish_of(alloc, view)?;
     view.phase = Phase::Over;
+    view.line = List::new();
     Ok(UnitEffects {
         sent: Some(Message::Finish(finish)),
         asked: None,

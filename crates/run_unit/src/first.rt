@@ -49,6 +49,7 @@ pub fn first_view(
         phase: Phase::StartSent,
         attempt: 1,
         timers: timers_from(0),
+        line: List::new(),
         latest: 0,
         capture: ChildAccumulator::uncaptured(),
         exit: None,

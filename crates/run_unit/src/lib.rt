@@ -8,6 +8,8 @@ mod ending;
 mod environment;
 mod first;
 mod hearing;
+mod requests;
+mod same;
 mod slow;
 mod status;
 mod terminate;
@@ -15,7 +17,7 @@ mod timing;
 mod unit;
 
 pub use effects::UnitEffects;
-// `start_of` has the environment in its contract, and the next two are the given surface of a unit.
+// `start_of` has the environment in its contract, and the next three are the given surface of a unit.
 pub use environment::start_of;
 pub use run_events::create_execution_result;
 pub use run_model::{Phase, UnitTurn};

@@ -76,8 +76,8 @@ fn slow_time(slow: &SlowTimeout, count: u32) -> u64
     u64::from(count).saturating_mul(slow.period)
 }
 
-// A signal that is asked for its child, and the group of its child's processes.
-fn signal_ask(view: &UnitView, signal: TermSignal) -> Ask
+/// A signal that is asked for its child, and the group of its child's processes.
+pub fn signal_ask(view: &UnitView, signal: TermSignal) -> Ask
     ensures { result ≡ signal_ask signal view.now }
 {
     Ask::Signal(SignalAsk {

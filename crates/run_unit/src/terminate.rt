@@ -1,6 +1,6 @@
 // The signal that ends a child.
 ghost use Rattle.std.specs.Prelude.{◌≡◌};
-ghost use Rattle.run_unit.specs.Terminate.{terminate_method, asking_signal};
+ghost use Rattle.run_model.specs.Terminate.{terminate_method, asking_signal};
 
 use run_events::{ShutdownRequest, TermSignal, TerminateReason};
 

@@ -1,16 +1,19 @@
 // A unit: one test with its attempts.
-ghost use Rattle.std.specs.Prelude.{◌≡◌, ◌≤◌, ◌<◌, ◌^◌, length, IfOk, OnErr, Some, option_map, slice_get, true};
-ghost use Rattle.run_model.specs.Unit.{row, takes};
+ghost use Rattle.std.specs.Prelude.{◌≡◌, ◌≤◌, ◌<◌, ◌^◌, length, IfOk, OnOk, OnErr, Some, option_map, slice_get, true};
+ghost use Rattle.std.specs.List.{list_any};
+ghost use Rattle.run_model.specs.Unit.{row, takes, is_live, reached};
 ghost use Rattle.run_model.specs.Admission.{first_view, skipped_view, start_message, skip_message, units_in};
 ghost use Rattle.run_model.specs.Admission.{unit_of_test};
 ghost use Rattle.run_model.specs.declared.phase.Phase.TheVariants as phases;
 ghost use Rattle.run_unit.specs.Effects.{IsRow};
+ghost use Rattle.run_unit.specs.Same.{is_request};
 
 use crate::acting::{act, is_enabled};
 use crate::effects::UnitEffects;
 use crate::first::first_view;
+use crate::requests::{holds, is_live};
 use run_capture::{Duplicate, Mem, Text};
-use run_events::{Message, Settings, TestSkip, TestSlotAssignment, TestStart};
+use run_events::{Message, Request, Settings, TestSkip, TestSlotAssignment, TestStart};
 use run_model::{Phase, UnitTurn, UnitView};
 use std::alloc::Global;
 use std::marker::Model;
@@ -103,6 +106,29 @@ impl Unit {
         ensures { result.now ≡ self.now.slot }
     {
         &self.view.slot
+    }
+
+    /// Whether it was let go and isn't over, so that a request that is broadcast reaches it.
+    pub fn is_live(&self) -> bool
+        ensures { result ≡ is_live self.now.phase }
+    {
+        is_live(self.view.phase)
+    }
+
+    /// Whether this request waits in its line.
+    pub fn holds(&self, request: Request) -> bool
+        ensures { result ≡ list_any (is_request request) self.now.line }
+    {
+        holds(self.view.line.as_slice(), request)
+    }
+
+    /// A request comes last in its line. After want of memory the unit is unchanged.
+    pub fn request(&mut self, alloc: Global, request: Request) -> Mem<()>
+        requires live { is_live self.old.phase ≡ true }
+        ensures ok { OnOk result (self.new ≡ reached request self.old) }
+        ensures err { OnErr result (self.new ≡ self.old) }
+    {
+        self.view.line.push(alloc, request)
     }
 
     /// Whether the unit takes a turn at a moment of the run's clock, which is no earlier than its latest turn.

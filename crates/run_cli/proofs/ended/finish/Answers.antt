@@ -1,4 +1,4 @@
-use Rattle.std.proofs.Common.{subst, sym, Ok, Err}
+use Rattle.std.proofs.Common.{subst}
 use Rattle.run_engine.specs.Execution.{UnlessMemory}
 use Rattle.run_cli.specs.Call.{writing}
 use Rattle.run_cli.specs.Executed.{IsExecuted}

@@ -1,7 +1,6 @@
-use Rattle.std.proofs.Common.{[], ap, sym, subst, ◌∙◌}
+use Rattle.std.proofs.Common.{[], subst}
 use Rattle.run_engine.specs.World.{CountsErrors}
 use Rattle.run_engine.proofs.CourseLemmas.{unless_weaker}
-use Rattle.run_output.specs.Told.{TookLines}
 use Rattle.run_cli.specs.Call.{writing}
 use Rattle.run_cli.proofs.ToldLines.{executed_from}
 use Rattle.run_cli.proofs.execution.execute_at.Goals as goal

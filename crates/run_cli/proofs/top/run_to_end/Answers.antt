@@ -1,4 +1,3 @@
-use Rattle.run_cli.specs.Call.{call_of}
 use Rattle.run_cli.proofs.GivenLemmas.{given_few, given_says}
 use Rattle.run_cli.proofs.top.run_to_end.Goals as goal
 

@@ -1,4 +1,4 @@
-use Rattle.std.proofs.Common.{ap, sym, subst, [], ◌+◌, ◌∙◌, arith, ◌≡◌, take, ◌++◌}
+use Rattle.std.proofs.Common.{subst, ◌+◌, ◌∙◌, arith, take}
 use Rattle.run_capture.specs.Bytes.{Takes}
 use Rattle.run_capture.proofs.BytesLemmas.{takes_both}
 use Rattle.run_output.specs.Fields.{line_of}

@@ -1,13 +1,10 @@
-use Rattle.std.proofs.Common.{false, Some, slice_get, ◌≡◌, ◌+◌, ◌<◌, ◌^◌, length, ap, sym, subst, ◌∙◌, arith}
+use Rattle.std.proofs.Common.{true, false, Some, ◌+◌, ◌<◌, ◌^◌, length, ap, sym, subst, ◌∙◌, arith}
 use Rattle.std.proofs.lemmas.Option.{slice_get-get_or}
-use Rattle.run_model.specs.Turns.{enabled}
-use Rattle.run_engine.specs.World.{World, TakesTurn, outside, history_of}
+use Rattle.run_engine.specs.World.{World, TakesTurn, outside}
 use Rattle.run_engine.specs.Standing.{sound}
 use Rattle.run_laws.specs.Course.{turns_of}
-use Rattle.run_model.specs.Journal.{past_of}
-use Rattle.run_engine.specs.declared.runner.Stop.TheVariants.{NotEnabled}
-use Rattle.run_engine.specs.Execution.{TakesTurns, StopsAt}
-use Rattle.run_engine.proofs.TakesLemmas.{takes-more, turns-push}
+use Rattle.run_engine.specs.Execution.{TakesTurns}
+use Rattle.run_engine.proofs.TakesLemmas.{takes-more, turns-push, stops_here}
 use Rattle.run_engine.proofs.runner.take_all.Goals as goal
 
 pub loop-place-preserved : goal.loop-place-preserved
@@ -41,25 +38,28 @@ loop-place-preserved g c =
 
 pub returns-in-Err-NotEnabled-clause-stopped : goal.returns-in-Err-NotEnabled-clause-stopped
 returns-in-Err-NotEnabled-clause-stopped g c =
-    let p = c.args.run.now.settings in
     let was = c.loop-place in
     let turns = c.args.turns.now in
     let turn = c.index-turns-place.result in
-    let told = g.R.Reporter.told in
-    let asked = g.C.Children.asked in
-    let faults = g.R.Reporter.faults in
     let new = c.take_copy.new in
     let no = rw c.in-Err-NotEnabled.field-0-is at c.in-Err-NotEnabled.ensures.refused in
     let same = rw c.in-Err-NotEnabled.field-0-is at c.in-Err-NotEnabled.ensures.unchanged in
-    let refused : enabled p (past_of p was.run.journal) turn ≡ false =
-    subst (λ (w : World). enabled w.settings (history_of w) turn ≡ false) was.invariant.run no.1 in
     let inside : was.place < length turns = omega arith in
-    let at : slice_get turns was.place ≡ Some turn =
-    slice_get-get_or turns was.place turn inside ∙ ap Some (sym c.index-turns-place.is) in
-    subst (λ (w : World). StopsAt told asked (outside faults c.args.report.now new.report c.args.children.now
-    new.children) p turns w.journal (NotEnabled was.place)) (sym same.0)
-    (subst (λ r. StopsAt told asked (outside faults c.args.report.now r c.args.children.now new.children) p turns
-    was.run.journal (NotEnabled was.place)) (sym same.1)
-    (subst (λ d. StopsAt told asked (outside faults c.args.report.now was.report c.args.children.now d) p turns
-    was.run.journal (NotEnabled was.place)) (sym same.2)
-    ((was.first, was.invariant.takes), was.invariant.all, (turn, at, refused))))
+    stops_here g.R.Reporter.told g.C.Children.asked g.R.Reporter.faults c.args.run.now.settings turns was.run new.run
+    c.args.report.now was.report new.report c.args.children.now was.children new.children was.first was.place turn false
+    was.invariant.takes was.invariant.all was.invariant.run
+    (slice_get-get_or turns was.place turn inside ∙ ap Some (sym c.index-turns-place.is)) no.1 same
+
+pub returns-in-Err-ThirdSignal-clause-stopped : goal.returns-in-Err-ThirdSignal-clause-stopped
+returns-in-Err-ThirdSignal-clause-stopped g c =
+    let was = c.loop-place in
+    let turns = c.args.turns.now in
+    let turn = c.index-turns-place.result in
+    let new = c.take_copy.new in
+    let no = rw c.in-Err-ThirdSignal.field-0-is at c.in-Err-ThirdSignal.ensures.refused in
+    let same = rw c.in-Err-ThirdSignal.field-0-is at c.in-Err-ThirdSignal.ensures.unchanged in
+    let inside : was.place < length turns = omega arith in
+    stops_here g.R.Reporter.told g.C.Children.asked g.R.Reporter.faults c.args.run.now.settings turns was.run new.run
+    c.args.report.now was.report new.report c.args.children.now was.children new.children was.first was.place turn true
+    was.invariant.takes was.invariant.all was.invariant.run
+    (slice_get-get_or turns was.place turn inside ∙ ap Some (sym c.index-turns-place.is)) no.1 same

@@ -1,5 +1,5 @@
-use Rattle.run_laws.proofs.Ready.{timely}
+use Rattle.run_laws.proofs.Ready.{timely, clock_moves}
 use Rattle.run_laws.proofs.laws.turns_are_timely.Goals as goal
 
 pub returns : goal.returns
-returns c = timely
+returns c = record { timely = timely; clock = clock_moves }

@@ -1,0 +1,180 @@
+-- What the delivery of a finish leaves.
+use Rattle.std.proofs.Common.{◌≡◌, ℕ, List, ◌++◌, ◌∷◌, [], nat_le, Bool, true, false, if◌then◌else◌, refl}
+use Rattle.std.proofs.Common.{Option, Some, None, IfSome, Result, Ok, Err, IfOk, OnOk, option_map, option_to_list, ap, sym, ◌∙◌, arith}
+use Rattle.run_events.specs.Cancel.{greater}
+use Rattle.run_events.specs.declared.cancel.CancelReason.{CancelReason}
+use Rattle.run_events.specs.declared.cancel.CancelReason.TheVariants.{SecondSignal}
+use Rattle.run_events.specs.declared.events.ReporterEvent.{ReporterEvent}
+use Rattle.run_events.specs.declared.message.TestFinish.{TestFinish}
+use Rattle.run_events.specs.declared.message.Message.TheVariants.{Finish}
+use Rattle.run_events.specs.declared.retry_policy.MaxFail.{MaxFail}
+use Rattle.run_events.specs.declared.retry_policy.MaxFail.TheVariants.{All, Count}
+use Rattle.run_events.specs.declared.retry_policy.TerminateMode.{TerminateMode}
+use Rattle.run_events.specs.declared.retry_policy.TerminateMode.TheVariants.{Wait, Immediate}
+use Rattle.run_events.specs.declared.stats.RunStats.{RunStats}
+use Rattle.run_events.specs.Outcome.{failed_count}
+use Rattle.run_model.specs.declared.dispatcher_view.CancelRules.{CancelRules}
+use Rattle.run_model.specs.declared.dispatcher_view.Causes.{Causes}
+use Rattle.run_model.specs.declared.dispatcher_view.DispatcherView.{DispatcherView}
+use Rattle.run_model.specs.declared.dispatcher_view.Tally.{Tally}
+use Rattle.run_model.specs.Board.{Deed, deed_events, dispatched, causes_after, with_cause}
+use Rattle.run_model.specs.Cancel.{Cause, caused, cancel_event, cancelled_for, is_above, failure_cause, too_many_failed}
+use Rattle.run_model.specs.Dispatch.{event, having_told, finished_event}
+use Rattle.run_model.specs.Turns.{nothing_done}
+use Rattle.run_model.specs.Words.{is_by_signal, is_by_report, is_by_time}
+use Rattle.run_dispatch.specs.Deeds.{Does, delivers, told_by, tally_by}
+use Rattle.run_dispatch.specs.declared.effects.DispatchEffects.{DispatchEffects}
+
+-- no cause leaves the reason
+greater-none : (r : Option CancelReason) → greater r None ≡ r
+greater-none None = refl
+greater-none (Some r) = refl
+
+-- no cause leaves the counts
+with_cause-none : (t : Tally) → with_cause None t ≡ t
+with_cause-none t =
+    ap (λ r. record t { stats = record t.stats { cancel_reason = r } }) (greater-none t.stats.cancel_reason)
+
+-- the event of a cause counts nothing
+pub cancel_counts : (now : ℕ) (t u : Tally) (above : Bool) (r : CancelReason)
+    → having_told t (if above then Some (event now (cancel_event r u)) else None) ≡ t
+cancel_counts now t u false r = refl
+cancel_counts now t u true SecondSignal = refl
+cancel_counts now t u true r = refl
+
+-- neither a signal, nor a refused event, nor the time
+record IsOther (cause : Option CancelReason) : Type 0 where
+  no_signal : is_by_signal cause ≡ false
+  no_report : is_by_report cause ≡ false
+  no_time : is_by_time cause ≡ false
+
+-- a deed that isn't a begin, and whose cause is none of these, leaves what cancels the run
+causes-kept : (now : ℕ) (rules : CancelRules) (c : Causes) (deed : Deed) → deed.begins ≡ false
+    → IsOther deed.cause → causes_after now rules c deed ≡ c
+causes-kept now rules c deed b is =
+    rw (b, is.no_signal, is.no_report, is.no_time) (ap (λ n. record c { signals = n }) (omega arith))
+
+-- the delivery of a message that is no cause
+pub delivered : (now : ℕ) (d : DispatcherView) (told : Option ReporterEvent)
+    → dispatched now d (record nothing_done { taken = true; told = told })
+    ≡ record d { tally = having_told d.tally told; latest = now }
+delivered now d told =
+    ap
+    (λ c. record d { causes = c; tally = with_cause None (having_told d.tally told); latest = now })
+    (causes-kept now d.rules d.causes (record nothing_done { taken = true; told = told }) refl
+    (record { no_signal = refl; no_report = refl; no_time = refl }))
+    ∙ ap (λ t. record d { tally = t; latest = now }) (with_cause-none (having_told d.tally told))
+
+-- the delivery of a message that is another cause
+delivered_as : (now : ℕ) (d : DispatcherView) (told : Option ReporterEvent) (cause : Cause)
+    → IsOther (Some cause.reason)
+    → dispatched now d (caused now (having_told d.tally told) (Some cause)
+    (record nothing_done { taken = true; told = told }))
+    ≡ record d { tally = with_cause (Some cause.reason) (having_told d.tally told); latest = now }
+delivered_as now d told cause is =
+    let t = having_told d.tally told in
+    ap
+    (λ c. record d {
+      causes = c;
+      tally =
+          with_cause (Some cause.reason) (having_told t (caused now t (Some cause) nothing_done).cancel);
+      latest = now;
+    })
+    (causes-kept now d.rules d.causes
+    (caused now t (Some cause) (record nothing_done { taken = true; told = told })) refl is)
+    ∙ ap (λ u. record d { tally = with_cause (Some cause.reason) u; latest = now })
+    (cancel_counts now t (cancelled_for cause.reason t) (is_above t.stats.cancel_reason cause.reason) cause.reason)
+
+-- too many failures are another cause
+mode_is : (terminate : TerminateMode) → IsOther (Some (too_many_failed terminate).reason)
+mode_is Wait = record { no_signal = refl; no_report = refl; no_time = refl }
+mode_is Immediate = record { no_signal = refl; no_report = refl; no_time = refl }
+
+failure_is : (most : MaxFail) (stats : RunStats)
+    → IfSome (failure_cause most stats) (λ cause. IsOther (Some cause.reason))
+failure_is All stats = tt
+failure_is (Count most terminate) stats =
+    elim (nat_le most (failed_count stats))
+    as (λ b. IfSome (if b then Some (too_many_failed terminate) else None) (λ cause. IsOther (Some cause.reason)))
+    [ true ↦ mode_is terminate | false ↦ tt ]
+
+-- the delivery of a finish, which may be the last failure
+finish_as : (now : ℕ) (d : DispatcherView) (finish : TestFinish) (cause : Option Cause)
+    → IfSome cause (λ cause. IsOther (Some cause.reason))
+    → dispatched now d (caused now (tally_by now d (Finish finish)) cause
+    (record nothing_done { taken = true; told = told_by now d (Finish finish) }))
+    ≡ record d {
+      tally = with_cause (option_map (λ cause. cause.reason) cause) (tally_by now d (Finish finish));
+      latest = now;
+    }
+finish_as now d finish None is =
+    delivered now d (told_by now d (Finish finish))
+    ∙ ap (λ t. record d { tally = t; latest = now }) (sym (with_cause-none (tally_by now d (Finish finish))))
+finish_as now d finish (Some cause) is = delivered_as now d (told_by now d (Finish finish)) cause is
+
+-- its event, then that of the cause
+events_as : (now : ℕ) (t : Tally) (told : Option ReporterEvent) (cause : Option Cause)
+    → option_to_list told ++ option_to_list (caused now t cause nothing_done).cancel
+    ≡ deed_events (caused now t cause (record nothing_done { taken = true; told = told }))
+events_as now t told None = refl
+events_as now t told (Some cause) = refl
+
+request_as : (now : ℕ) (t : Tally) (told : Option ReporterEvent) (cause : Option Cause)
+    → (caused now t cause nothing_done).request
+    ≡ (caused now t cause (record nothing_done { taken = true; told = told })).request
+request_as now t told None = refl
+request_as now t told (Some cause) = refl
+
+-- what a call gives and leaves that delivered a finish, is what its deed does
+finish_does : (now : ℕ) (d new : DispatcherView) (finish : TestFinish) (t : Tally) (fx : DispatchEffects)
+    (events : List ReporterEvent) → t ≡ tally_by now d (Finish finish)
+    → events ≡ event now (finished_event finish t) ∷ []
+    → fx ≡ record {
+      events =
+          events ++ option_to_list (caused now t (failure_cause d.rules.max_fail t.stats) nothing_done).cancel;
+      request = (caused now t (failure_cause d.rules.max_fail t.stats) nothing_done).request;
+      go = None;
+    }
+    → new ≡ record d {
+      tally = with_cause (option_map (λ cause. cause.reason) (failure_cause d.rules.max_fail t.stats)) t;
+      latest = now;
+    }
+    → Does now d (delivers now d (Finish finish)) None new fx
+finish_does now d new finish t fx events counts tells gives leaves =
+    let told = told_by now d (Finish finish) in
+    let all = tally_by now d (Finish finish) in
+    let cause = failure_cause d.rules.max_fail all.stats in
+    let gives_all : fx ≡ record {
+      events = option_to_list told ++ option_to_list (caused now all cause nothing_done).cancel;
+      request = (caused now all cause nothing_done).request;
+      go = None;
+    } = rw (tells, counts) at gives in
+    let leaves_all : new ≡ record d {
+      tally = with_cause (option_map (λ cause. cause.reason) cause) all;
+      latest = now;
+    } = rw counts at leaves in
+    record {
+      told = ap (λ (fx : DispatchEffects). fx.events) gives_all ∙ events_as now all told cause;
+      request = ap (λ (fx : DispatchEffects). fx.request) gives_all ∙ request_as now all told cause;
+      go = ap (λ (fx : DispatchEffects). fx.go) gives_all;
+      after = leaves_all ∙ sym (finish_as now d finish cause (failure_is d.rules.max_fail all.stats));
+    }
+
+-- the same of an answer
+pub finish_answers : {E : Type 0} (now : ℕ) (d new : DispatcherView) (finish : TestFinish) (t : Tally)
+    (answer : Result DispatchEffects E) (events : List ReporterEvent) → t ≡ tally_by now d (Finish finish)
+    → events ≡ event now (finished_event finish t) ∷ []
+    → IfOk answer (λ fx. fx ≡ record {
+      events =
+          events ++ option_to_list (caused now t (failure_cause d.rules.max_fail t.stats) nothing_done).cancel;
+      request = (caused now t (failure_cause d.rules.max_fail t.stats) nothing_done).request;
+      go = None;
+    })
+    → OnOk answer (new ≡ record d {
+      tally = with_cause (option_map (λ cause. cause.reason) (failure_cause d.rules.max_fail t.stats)) t;
+      latest = now;
+    })
+    → IfOk answer (Does now d (delivers now d (Finish finish)) None new)
+finish_answers now d new finish t (Ok fx) events counts tells gives leaves =
+    finish_does now d new finish t fx events counts tells gives leaves
+finish_answers now d new finish t (Err error) events counts tells gives leaves = tt

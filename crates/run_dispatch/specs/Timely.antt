@@ -1,0 +1,7 @@
+-- The global timer of a dispatcher and the moment of its latest turn.
+use Rattle.std.specs.Prelude.{◌≤◌, IfSome}
+use Rattle.run_model.specs.declared.dispatcher_view.DispatcherView.{DispatcherView}
+
+-- the global timer was given no later moment than that of the latest turn
+abbrev pub IsCurrent : DispatcherView → Type 0
+IsCurrent d = IfSome d.causes.global (λ timer. timer.latest ≤ d.latest)

@@ -1,0 +1,169 @@
+// What a cause does.
+ghost use Rattle.std.specs.Prelude.{◌≡◌, ◌+◌, ◌<◌, ◌≤◌, ◌++◌, IfOk, IfSome, OnOk, OnErr, None, Some};
+ghost use Rattle.std.specs.Prelude.{option_to_list};
+ghost use Rattle.run_model.specs.Board.{deed_events, with_cause};
+ghost use Rattle.run_model.specs.Cancel.{is_above, cancelled_for, cancel_event, caused, signal_cause};
+ghost use Rattle.run_model.specs.Cancel.{time_is_up, event_refused};
+ghost use Rattle.run_model.specs.Dispatch.{shuts_down};
+ghost use Rattle.run_model.specs.Turns.{nothing_done};
+ghost use Rattle.run_model.specs.Unit.{is_due};
+ghost use Rattle.run_dispatch.specs.Deeds.{Does, cancels};
+
+use crate::cause::Cause;
+use crate::effects::{DispatchEffects, Fx, event_at, telling};
+use run_capture::List;
+use run_clock::{PausableSleep, Poll};
+use run_events::{
+    CancelReason, Heard, Hearing, ReporterEvent, RunCancelled, RunStats, Signal, TestEventKind,
+    hears_signal,
+};
+use run_model::{DispatcherView, Tally};
+use std::alloc::Global;
+
+/// Whether a signal shuts a run with these handlers down.
+pub fn shuts_down(hearing: &Hearing, signal: Signal) -> bool
+    ensures { result ≡ shuts_down hearing.now signal }
+{
+    matches!(
+        hears_signal(hearing.signals, hearing.quit_is_info, signal),
+        Some(Heard::Shutdown)
+    )
+}
+
+/// Whether a timer is set and fires now.
+pub fn is_due(timer: &Option<PausableSleep>, now: u64) -> bool
+    requires { IfSome timer.now (λ timer. timer.latest ≤ now) }
+    ensures { result ≡ is_due now timer.now }
+{
+    match timer {
+        Some(timer) => matches!(timer.poll_at(now), Poll::Ready(())),
+        None => false,
+    }
+}
+
+// Whether a reason is above the current one.
+fn is_above(current: Option<CancelReason>, reason: CancelReason) -> bool
+    ensures { result ≡ is_above current reason }
+{
+    match current {
+        Some(current) => current.is_below(reason),
+        None => true,
+    }
+}
+
+// The counts with this reason.
+fn cancelled_for(reason: CancelReason, tally: Tally) -> Tally
+    ensures { result ≡ cancelled_for reason tally }
+{
+    let stats = RunStats {
+        cancel_reason: Some(reason),
+        ..tally.stats
+    };
+    Tally { stats, ..tally }
+}
+
+/// The counts with the reason of a cause, where it is above the one that they have.
+pub fn with_cause(reason: CancelReason, tally: Tally) -> Tally
+    ensures { result ≡ with_cause (Some reason) tally }
+{
+    let stats = RunStats {
+        cancel_reason: CancelReason::greater(tally.stats.cancel_reason, Some(reason)),
+        ..tally.stats
+    };
+    Tally { stats, ..tally }
+}
+
+// The event that the run is cancelled, or killed, for a reason.
+fn cancel_event(reason: CancelReason, tally: Tally) -> TestEventKind
+    ensures { result ≡ cancel_event reason tally }
+{
+    let event = RunCancelled {
+        running: tally.running,
+        scripts_running: 0,
+        stats: tally.stats,
+    };
+    match reason {
+        CancelReason::SecondSignal => TestEventKind::RunBeginKill(event),
+        _ => TestEventKind::RunBeginCancel(event),
+    }
+}
+
+/// What is told and asked for a cause, after these events and by the counts after them: nothing where its reason isn't
+/// above the current one.
+pub fn add_cause(
+    alloc: Global,
+    mut events: List<ReporterEvent>,
+    cause: &Cause,
+    tally: Tally,
+    now: u64,
+) -> Fx
+    ensures { IfOk result (λ fx. fx ≡ record {
+      events = events ++ option_to_list (caused now tally (Some cause.now) nothing_done).cancel;
+      request = (caused now tally (Some cause.now) nothing_done).request;
+      go = None;
+    }) }
+{
+    let reason = cause.reason();
+    if !is_above(tally.stats.cancel_reason, reason) {
+        return Ok(telling(events, None));
+    }
+    let kind = cancel_event(reason, cancelled_for(reason, tally));
+    events.push(alloc, event_at(now, kind))?;
+    Ok(DispatchEffects {
+        events,
+        request: Some(cause.request()),
+        go: None,
+    })
+}
+
+// A cause alone: its reason is the run's where it is above the current one.
+fn cancel_for(alloc: Global, view: &mut DispatcherView, cause: &Cause, now: u64) -> Fx
+    ensures told { IfOk result (λ fx. fx ≡ record {
+      events = deed_events (cancels now view.old cause.now);
+      request = (cancels now view.old cause.now).request;
+      go = None;
+    }) }
+    ensures after { OnOk result (view.new ≡ record view.old {
+      tally = with_cause (Some cause.now.reason) view.old.tally;
+      latest = now;
+    }) }
+    ensures err { OnErr result (view.new ≡ view.old) }
+{
+    let effects = add_cause(alloc, List::new(), cause, view.tally, now)?;
+    view.tally = with_cause(cause.reason(), view.tally);
+    view.latest = now;
+    Ok(effects)
+}
+
+/// A shutdown signal came.
+pub fn hear_signal(alloc: Global, view: &mut DispatcherView, signal: Signal, now: u64) -> Fx
+    requires few { view.old.causes.signals < 2 }
+    ensures does { IfOk result
+        (Does now view.old (cancels now view.old (signal_cause view.old.causes.signals signal)) None view.new) }
+    ensures err { OnErr result (view.new ≡ view.old) }
+{
+    let cause = Cause::signal(view.causes.signals, signal);
+    let effects = cancel_for(alloc, view, &cause, now)?;
+    view.causes.signals += 1;
+    Ok(effects)
+}
+
+/// The reporter refused an event.
+pub fn refuse(alloc: Global, view: &mut DispatcherView, now: u64) -> Fx
+    ensures does { IfOk result (Does now view.old (cancels now view.old event_refused) None view.new) }
+    ensures err { OnErr result (view.new ≡ view.old) }
+{
+    let effects = cancel_for(alloc, view, &Cause::event_refused(), now)?;
+    view.causes.reported = true;
+    Ok(effects)
+}
+
+/// The sub-run has run out of its time.
+pub fn run_out(alloc: Global, view: &mut DispatcherView, now: u64) -> Fx
+    ensures does { IfOk result (Does now view.old (cancels now view.old time_is_up) None view.new) }
+    ensures err { OnErr result (view.new ≡ view.old) }
+{
+    let effects = cancel_for(alloc, view, &Cause::time_is_up(), now)?;
+    view.causes.global = None;
+    Ok(effects)
+}

@@ -1,0 +1,150 @@
+// The delivery of a message.
+ghost use Rattle.std.specs.Prelude.{◌≡◌, ◌+◌, ◌<◌, ◌^◌, length, ◌∷◌, [], ◌++◌, IfOk, OnOk, OnErr, None};
+ghost use Rattle.std.specs.Prelude.{option_map, option_to_list};
+ghost use Rattle.run_events.specs.Stats.{AreBelow};
+ghost use Rattle.run_events.specs.declared.message.Message.TheVariants as messages;
+ghost use Rattle.run_model.specs.Dispatch.{CanDeliver, go_of, event, finished_event};
+ghost use Rattle.run_model.specs.Board.{with_cause};
+ghost use Rattle.run_model.specs.Cancel.{caused, failure_cause};
+ghost use Rattle.run_model.specs.Turns.{nothing_done};
+ghost use Rattle.run_dispatch.specs.Deeds.{Does, delivers};
+
+use crate::cancel::{add_cause, with_cause};
+use crate::cause::Cause;
+use crate::effects::{Fx, one_event, telling};
+use crate::tally::{with_finish, with_skip, with_start};
+use run_capture::{List, Mem};
+use run_events::{
+    Message, ReporterEvent, TestEventKind, TestFinish, TestFinished, TestSkip, TestSlow, TestStart,
+    TestStarted,
+};
+use run_model::{DispatcherView, Tally};
+use std::alloc::Global;
+
+/// Delivers a message: a start is told and let go where nothing cancels the run; a slow report is told; a skip and a
+/// finish are counted and told; and a finish may be the last failure, which cancels the run.
+pub fn hear(alloc: Global, view: &mut DispatcherView, message: Message, now: u64) -> Fx
+    requires fits { CanDeliver view.old message }
+    ensures does { IfOk result
+        (Does now view.old (delivers now view.old message) (go_of view.old.tally message) view.new) }
+    ensures err { OnErr result (view.new ≡ view.old) }
+{
+    match message {
+        Message::Start(start) => hear_start(alloc, view, start, now),
+        Message::Slow(slow) => hear_slow(alloc, view, slow, now),
+        Message::Skip(skip) => hear_skip(alloc, view, skip, now),
+        Message::Finish(finish) => hear_finish(alloc, view, finish, now),
+        _ => unreachable!(),
+    }
+}
+
+// A start is told and let go, unless a reason cancels the run.
+fn hear_start(alloc: Global, view: &mut DispatcherView, start: TestStart, now: u64) -> Fx
+    requires { view.old.tally.running + 1 < 2 ^ 32 }
+    ensures does { IfOk result (Does now view.old (delivers now view.old (messages.Start start))
+        (go_of view.old.tally (messages.Start start)) view.new) }
+    ensures err { OnErr result (view.new ≡ view.old) }
+{
+    if view.tally.stats.cancel_reason.is_some() {
+        view.latest = now;
+        return Ok(telling(List::new(), Some(false)));
+    }
+    let tally = with_start(view.tally);
+    let kind = TestEventKind::TestStarted(TestStarted {
+        start,
+        running: tally.running,
+        stats: tally.stats,
+    });
+    let events = one_event(alloc, now, kind)?;
+    view.tally = tally;
+    view.latest = now;
+    Ok(telling(events, Some(true)))
+}
+
+fn hear_slow(alloc: Global, view: &mut DispatcherView, slow: TestSlow, now: u64) -> Fx
+    ensures does { IfOk result (Does now view.old (delivers now view.old (messages.Slow slow))
+        (go_of view.old.tally (messages.Slow slow)) view.new) }
+    ensures err { OnErr result (view.new ≡ view.old) }
+{
+    let events = one_event(alloc, now, TestEventKind::TestSlow(slow))?;
+    view.latest = now;
+    Ok(telling(events, None))
+}
+
+fn hear_skip(alloc: Global, view: &mut DispatcherView, skip: TestSkip, now: u64) -> Fx
+    requires { view.old.tally.stats.skipped < 2 ^ 32 }
+    ensures does { IfOk result (Does now view.old (delivers now view.old (messages.Skip skip))
+        (go_of view.old.tally (messages.Skip skip)) view.new) }
+    ensures err { OnErr result (view.new ≡ view.old) }
+{
+    let events = one_event(alloc, now, TestEventKind::TestSkipped(skip))?;
+    view.tally = with_skip(view.tally);
+    view.latest = now;
+    Ok(telling(events, None))
+}
+
+fn hear_finish(alloc: Global, view: &mut DispatcherView, finish: TestFinish, now: u64) -> Fx
+    requires counts { AreBelow (2 ^ 32) view.old.tally.stats }
+    requires attempts { 0 < length finish.statuses }
+    requires runs { 0 < view.old.tally.running }
+    ensures does { IfOk result (Does now view.old (delivers now view.old (messages.Finish finish))
+        (go_of view.old.tally (messages.Finish finish)) view.new) }
+    ensures err { OnErr result (view.new ≡ view.old) }
+{
+    let tally = with_finish(alloc, view.tally, &finish)?;
+    let events = told_finish(alloc, tally, finish, now)?;
+    heed_failures(alloc, view, events, tally, now)
+}
+
+// A finish was told by these events, and has these counts after it: as many tests may have failed as end the run.
+fn heed_failures(
+    alloc: Global,
+    view: &mut DispatcherView,
+    events: List<ReporterEvent>,
+    tally: Tally,
+    now: u64,
+) -> Fx
+    ensures gives { IfOk result (λ fx. fx ≡ record {
+      events = events
+          ++ option_to_list (caused now tally (failure_cause view.old.rules.max_fail tally.stats) nothing_done).cancel;
+      request = (caused now tally (failure_cause view.old.rules.max_fail tally.stats) nothing_done).request;
+      go = None;
+    }) }
+    ensures after { OnOk result (view.new ≡ record view.old {
+      tally =
+          with_cause (option_map (λ cause. cause.reason) (failure_cause view.old.rules.max_fail tally.stats)) tally;
+      latest = now;
+    }) }
+    ensures err { OnErr result (view.new ≡ view.old) }
+{
+    match Cause::failure(view.rules.max_fail, &tally.stats) {
+        Some(cause) => {
+            let effects = add_cause(alloc, events, &cause, tally, now)?;
+            view.tally = with_cause(cause.reason(), tally);
+            view.latest = now;
+            Ok(effects)
+        }
+        None => {
+            view.tally = tally;
+            view.latest = now;
+            Ok(telling(events, None))
+        }
+    }
+}
+
+// The event of a finish, with the counts after it.
+fn told_finish(
+    alloc: Global,
+    tally: Tally,
+    finish: TestFinish,
+    now: u64,
+) -> Mem<List<ReporterEvent>>
+    ensures { IfOk result (λ events. events ≡ event now (finished_event finish tally) ∷ []) }
+{
+    let kind = TestEventKind::TestFinished(TestFinished {
+        finish,
+        running: tally.running,
+        stats: tally.stats,
+    });
+    one_event(alloc, now, kind)
+}

@@ -1,0 +1,92 @@
+// The keys of a plan line that say how its tests are run.
+ghost use Rattle.std.specs.Prelude.{◌≡◌, option_map, option_and_then};
+ghost use Rattle.run_capture.specs.declared.test_output.CaptureStrategy.TheVariants as capture;
+ghost use Rattle.run_events.specs.declared.retry_policy.MaxFail.TheVariants.{All};
+ghost use Rattle.run_events.specs.declared.signal.SignalHandlerKind.TheVariants as handlers;
+ghost use Rattle.serde_json.specs.View.{view};
+ghost use Rattle.run_input.specs.PlanLine.{capture_of, max_fail_of, terminate_of, signals_of};
+ghost use Rattle.run_input.specs.Fields.{or_usual};
+
+use crate::fields::{str_at, u32_at};
+use crate::objects::has_keys_of;
+use run_capture::CaptureStrategy;
+use run_events::{MaxFail, SignalHandlerKind, TerminateMode};
+use serde_json::Value;
+
+/// The way of capture that a text names, and split where there is none.
+pub fn capture_at(value: Option<&Value>) -> Option<CaptureStrategy>
+    ensures { result ≡ or_usual capture.Split capture_of (option_map (λ v. view v.now) value.entry) }
+{
+    match value {
+        Some(_) => named_capture(value),
+        None => Some(CaptureStrategy::Split),
+    }
+}
+
+fn named_capture(value: Option<&Value>) -> Option<CaptureStrategy>
+    ensures { result ≡ option_and_then capture_of (option_map (λ v. view v.now) value.entry) }
+{
+    match str_at(value)? {
+        "none" => Some(CaptureStrategy::None),
+        "split" => Some(CaptureStrategy::Split),
+        "combined" => Some(CaptureStrategy::Combined),
+        _ => None,
+    }
+}
+
+/// After how many failures no test starts any more, and never where nothing is said.
+pub fn max_fail_at(value: Option<&Value>) -> Option<MaxFail>
+    ensures { result ≡ or_usual All max_fail_of (option_map (λ v. view v.now) value.entry) }
+{
+    match value {
+        Some(max_fail) => max_fail_from(max_fail),
+        None => Some(MaxFail::All),
+    }
+}
+
+#[tactic(auto, unfolding(crate::specs::PlanLine::max_fail_of))]
+fn max_fail_from(value: &Value) -> Option<MaxFail>
+    ensures { result ≡ max_fail_of (view value.now) }
+{
+    if !has_keys_of(value, &["count", "mode"]) {
+        return None;
+    }
+    let max_fail = u32_at(value.get("count"))?;
+    let terminate = terminate_at(value.get("mode"))?;
+    Some(MaxFail::Count {
+        max_fail,
+        terminate,
+    })
+}
+
+// What becomes of the tests that run where too many have failed.
+fn terminate_at(value: Option<&Value>) -> Option<TerminateMode>
+    ensures { result ≡ option_and_then terminate_of (option_map (λ v. view v.now) value.entry) }
+{
+    match str_at(value)? {
+        "wait" => Some(TerminateMode::Wait),
+        "immediate" => Some(TerminateMode::Immediate),
+        _ => None,
+    }
+}
+
+/// The signals that a text names, and all of them where there is none.
+pub fn signals_at(value: Option<&Value>) -> Option<SignalHandlerKind>
+    ensures { result ≡ or_usual handlers.Standard signals_of (option_map (λ v. view v.now) value.entry) }
+{
+    match value {
+        Some(_) => named_signals(value),
+        None => Some(SignalHandlerKind::Standard),
+    }
+}
+
+fn named_signals(value: Option<&Value>) -> Option<SignalHandlerKind>
+    ensures { result ≡ option_and_then signals_of (option_map (λ v. view v.now) value.entry) }
+{
+    match str_at(value)? {
+        "standard" => Some(SignalHandlerKind::Standard),
+        "debugger" => Some(SignalHandlerKind::DebuggerMode),
+        "noop" => Some(SignalHandlerKind::Noop),
+        _ => None,
+    }
+}

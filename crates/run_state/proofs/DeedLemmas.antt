@@ -1,0 +1,143 @@
+-- What a delivery does in its parts, and what a cause leaves of the limits.
+use Rattle.std.proofs.Common.{◌≡◌, ◌+◌, ℕ, zero, suc, List, [], ◌∷◌, ◌++◌, map, drop, Option, Some, None, option_map}
+use Rattle.std.proofs.Common.{Bool, true, false, if◌then◌else◌, refl, ap, ap₂, sym, ◌∙◌, arith}
+use Rattle.std.proofs.Common.{Result, Ok, Err, IfOk, OnOk}
+use Rattle.run_events.specs.declared.ask.Ask.{Ask}
+use Rattle.run_events.specs.declared.message.Message.{Message}
+use Rattle.run_events.specs.declared.request.Request.{Request}
+use Rattle.run_events.specs.declared.settings.Settings.{Settings}
+use Rattle.run_model.specs.declared.dispatcher_view.DispatcherView.{DispatcherView}
+use Rattle.run_model.specs.declared.happening.UnitPart.{UnitPart}
+use Rattle.run_model.specs.declared.unit_view.UnitView.{UnitView}
+use Rattle.run_model.specs.Admission.{seat_of, limits_of, scripts_in}
+use Rattle.run_model.specs.Board.{Board, deed_events, dispatched, moved, reach_all, units_after}
+use Rattle.run_model.specs.Cancel.{Cause, cause_of, caused}
+use Rattle.run_model.specs.Dispatch.{go_of}
+use Rattle.run_model.specs.Turns.{answer_to, cancelled, delivered_as, delivery, delivery_of, event_of, nothing_done}
+use Rattle.run_model.specs.Turns.{starting, tally_with}
+use Rattle.run_model.specs.Unit.{is_live, reached}
+use Rattle.run_laws.proofs.Boards.{with_cause-none}
+use Rattle.run_dispatch.specs.Deeds.{delivers}
+use Rattle.run_dispatch.proofs.BoardLemmas.{delivery-told}
+use Rattle.run_state.specs.declared.turns.Effects.{Effects}
+use Rattle.run_state.specs.Cancelled.{Cancels}
+use Rattle.run_state.specs.Held.{Held, IsSeated}
+
+-- the board once the oldest message was taken, and the dispatcher has heard it
+abbrev pub heard : Board → Message → List Message → Board
+heard b m rest = record b {
+  queue = rest;
+  dispatcher = dispatched b.clock b.dispatcher (delivers b.clock b.dispatcher m);
+}
+
+-- and once its unit was answered
+abbrev pub answered : Board → Message → List Message → Board
+answered b m rest = moved (heard b m rest) (answer_to (heard b m rest) (starting m) (go_of b.dispatcher.tally m))
+
+-- what a unit alone does leaves the dispatcher as it was
+idle : (now : ℕ) (part : Option UnitPart) (sent : Option Message) (asked : Option Ask) (d : DispatcherView)
+    → dispatched now d (record nothing_done { part = part; sent = sent; asked = asked }) ≡ d
+idle now part sent asked d =
+    let none : d.causes.signals + 0 ≡ d.causes.signals = omega arith in
+    ap₂ (λ t n. record d { tally = t; causes = record d.causes { signals = n } }) (with_cause-none d.tally) none
+
+-- then each unit is reached, and the delivery is done
+pub delivery-is : (b : Board) (m : Message) (rest : List Message) → b.queue ≡ m ∷ rest
+    → record (answered b m rest) {
+      units = reach_all (delivers b.clock b.dispatcher m).request (answered b m rest).units;
+    } ≡ moved b (delivery b b.queue)
+delivery-is b m rest waits =
+    by_answer (starting m) (go_of b.dispatcher.tally m)
+    ∙ sym (ap (λ q. moved (record b { queue = q }) (delivery (record b { queue = q }) q)) waits)
+  where
+    by_cause : (part : Option UnitPart) (sent : Option Message) (asked : Option Ask) (cause : Option Cause)
+        → record (moved (record b {
+          queue = rest;
+          dispatcher = dispatched b.clock b.dispatcher
+              (caused b.clock (tally_with b (event_of b m)) cause (delivered_as b m nothing_done));
+        }) (record nothing_done { part = part; sent = sent; asked = asked })) {
+          units = reach_all (caused b.clock (tally_with b (event_of b m)) cause (delivered_as b m nothing_done)).request
+              (units_after b.clock part b.units);
+        }
+        ≡ moved (record b { queue = m ∷ rest }) (caused b.clock (tally_with b (event_of b m)) cause
+        (delivered_as b m (record nothing_done { part = part; sent = sent; asked = asked })))
+    by_cause part sent asked None =
+        ap (λ d. record (moved (record b { queue = m ∷ rest }) (caused b.clock (tally_with b (event_of b m)) None
+        (delivered_as b m (record nothing_done { part = part; sent = sent; asked = asked })))) { dispatcher = d })
+        (idle b.clock part sent asked (dispatched b.clock b.dispatcher (caused b.clock (tally_with b (event_of b m)) None
+        (delivered_as b m nothing_done))))
+    by_cause part sent asked (Some cause) =
+        ap (λ d. record (moved (record b { queue = m ∷ rest }) (caused b.clock (tally_with b (event_of b m)) (Some cause)
+        (delivered_as b m (record nothing_done { part = part; sent = sent; asked = asked })))) { dispatcher = d })
+        (idle b.clock part sent asked (dispatched b.clock b.dispatcher (caused b.clock (tally_with b (event_of b m))
+        (Some cause) (delivered_as b m nothing_done))))
+
+    by_answer : (unit : Option ℕ) (go : Option Bool)
+        → record (moved (heard b m rest) (answer_to (heard b m rest) unit go)) {
+          units = reach_all (delivers b.clock b.dispatcher m).request
+              (moved (heard b m rest) (answer_to (heard b m rest) unit go)).units;
+        }
+        ≡ moved (record b { queue = m ∷ rest }) (delivery_of (record b { queue = m ∷ rest }) m (answer_to b unit go))
+    by_answer None go = by_cause None None None (cause_of b.dispatcher.rules (tally_with b (event_of b m)) m)
+    by_answer (Some k) None = by_cause None None None (cause_of b.dispatcher.rules (tally_with b (event_of b m)) m)
+    by_answer (Some k) (Some go) =
+        by_cause (answer_to b (Some k) (Some go)).part (answer_to b (Some k) (Some go)).sent
+        (answer_to b (Some k) (Some go)).asked (cause_of b.dispatcher.rules (tally_with b (event_of b m)) m)
+
+-- so do the calls of a delivery, one after another
+pub delivered : (b x mid left : Board) (m : Message) (rest : List Message) (unit : Option ℕ) (go : Option Bool)
+    (request : Option Request)
+    → b.queue ≡ m ∷ rest → x ≡ heard b m rest → unit ≡ starting m → go ≡ go_of b.dispatcher.tally m
+    → request ≡ (delivers b.clock b.dispatcher m).request → mid ≡ moved x (answer_to x unit go)
+    → left ≡ record mid { units = reach_all request mid.units } → left ≡ moved b (delivery b b.queue)
+delivered b x mid left m rest unit go request waits hears starts answers asks goes reaches =
+    reaches
+    ∙ ap₂ (λ (a : Board) r. record a { units = reach_all r a.units })
+    (goes ∙ ap₂ (λ u g. moved x (answer_to x u g)) starts answers
+    ∙ ap (λ y. moved y (answer_to y (starting m) (go_of b.dispatcher.tally m))) hears) asks
+    ∙ delivery-is b m rest waits
+
+-- what it tells
+pub delivery_tells : (b : Board) (m : Message) (rest : List Message) → b.queue ≡ m ∷ rest
+    → deed_events (delivers b.clock b.dispatcher m) ≡ deed_events (delivery b b.queue)
+delivery_tells b m rest waits =
+    sym (delivery-told b m (answer_to b (starting m) (go_of b.dispatcher.tally m)))
+    ∙ sym (ap (λ q. deed_events (delivery b q)) waits)
+
+-- a request leaves what a unit holds of the limits
+seat-reached : (request : Request) (u : Option UnitView) → seat_of (option_map (reached request) u) ≡ seat_of u
+seat-reached request None = refl
+seat-reached request (Some u) = by_live (is_live u.phase)
+  where
+    by_live : (b : Bool)
+        → seat_of (Some (if b then record u { line = u.line ++ request ∷ [] } else u)) ≡ seat_of (Some u)
+    by_live true = refl
+    by_live false = refl
+
+seats-reached : (request : Request) (n : ℕ) (us : List (Option UnitView))
+    → map seat_of (drop n (map (option_map (reached request)) us)) ≡ map seat_of (drop n us)
+seats-reached request zero [] = refl
+seats-reached request zero (u ∷ us) =
+    ap (λ seat. seat ∷ map seat_of (map (option_map (reached request)) us)) (seat-reached request u)
+    ∙ ap (λ seats. seat_of u ∷ seats) (seats-reached request zero us)
+seats-reached request (suc n) [] = refl
+seats-reached request (suc n) (u ∷ us) = seats-reached request n us
+
+pub limits-reached : (p : Settings) (request : Option Request) (us : List (Option UnitView))
+    → limits_of p (reach_all request us) ≡ limits_of p us
+limits-reached p None us = refl
+limits-reached p (Some request) us =
+    ap (λ seats. record (limits_of p us) { seats = seats }) (seats-reached request (scripts_in p) us)
+
+-- so a cause does
+cancels_seated : (p : Settings) (old new : Held) (cause : Cause) → IsSeated p old
+    → new.board ≡ moved old.board (cancelled old.board cause) → new.limits ≡ old.limits → IsSeated p new
+cancels_seated p old new cause seated after limits =
+    limits ∙ seated ∙ sym (limits-reached p (cancelled old.board cause).request old.board.units)
+    ∙ sym (ap (λ (b : Board). limits_of p b.units) after)
+
+-- so does a call that answers what a cause gives
+pub answer_seated : {E : Type 0} (p : Settings) (old new : Held) (cause : Cause) (answer : Result Effects E)
+    → IsSeated p old → IfOk answer (Cancels old cause new) → OnOk answer (IsSeated p new)
+answer_seated p old new cause (Ok effects) seated does = cancels_seated p old new cause seated does.after does.limits
+answer_seated p old new cause (Err lack) seated does = tt

@@ -1,0 +1,15 @@
+use Rattle.std.proofs.Common.{option_map}
+use Rattle.std.proofs.lemmas.List.Edits.{map_over_more}
+use Rattle.run_model.specs.Unit.{reached}
+use Rattle.run_state.proofs.CountedLemmas.{failed_left}
+use Rattle.run_state.proofs.broadcast.reach_each.Goals as goal
+
+pub loop-unit-preserved : goal.loop-unit-preserved
+loop-unit-preserved c =
+    rw (c.in_ok-reach.ensures.ok, ← c.unit-item.is)
+    (map_over_more (option_map (reached c.args.request)) _ _ _ _ c.loop-unit-test.true c.loop-unit.invariant c.unit-item.is)
+
+pub returns-in_err-reach-clause-left : goal.returns-in_err-reach-clause-left
+returns-in_err-reach-clause-left c =
+    failed_left c.args.request c.loop-unit.unit-index c.args.units.now c.loop-unit.units c.loop-unit.unit-index
+    c.reach.new.unit c.unit-item.result c.loop-unit.invariant c.in_err-reach.ensures.err

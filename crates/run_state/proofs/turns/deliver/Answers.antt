@@ -1,0 +1,47 @@
+use Rattle.std.proofs.Common.{◌≡◌, ◌∷◌, ◌++◌, option_to_list, ap, sym, ◌∙◌}
+use Rattle.run_model.specs.Admission.{limits_of}
+use Rattle.run_model.specs.Board.{Board, moved, deed_events}
+use Rattle.run_model.specs.Turns.{delivery}
+use Rattle.run_state.specs.Held.{Held}
+use Rattle.run_state.proofs.DeedLemmas.{delivered, delivery_tells, limits-reached}
+use Rattle.run_state.proofs.turns.deliver.Goals as goal
+
+pub returns-clause-seated : goal.returns-clause-seated
+returns-clause-seated c =
+    let p = c.args.settings.now in
+    c.in_ok-broadcast-in-Some.ensures.limits ∙ c.in_ok-asked-in-Some.ensures.seated
+    ∙ sym (limits-reached p c.in_ok-events-in-Some.field-0.request c.answer.new.state.board.units)
+    ∙ sym (ap (λ (b : Board). limits_of p b.units) c.in_ok-broadcast-in-Some.ensures.after)
+
+pub returns-clause-after : goal.returns-clause-after
+returns-clause-after c =
+    let b : Board = record {
+      units = c.state.inside.units;
+      queue = c.state.inside.queue.items;
+      dispatcher = c.state.inside.dispatcher;
+      clock = c.state.inside.clock;
+      refused = c.state.inside.refused;
+    } in
+    let rest = c.pop_front.new.self.items in
+    let waits : c.state.inside.queue.items ≡ c.in-Some.message ∷ rest =
+    c.pop_front.ensures.items ∙ ap (λ m. option_to_list m ++ rest) c.in-Some.is in
+    delivered b _ c.answer.new.state.board c.broadcast.new.state.board c.in-Some.message rest
+    c.starting-unit.result c.in_ok-events-in-Some.field-0.go c.in_ok-events-in-Some.field-0.request
+    waits (ap (λ d. record b { queue = rest; dispatcher = d }) c.in_ok-events-in-Some.ensures.does.after)
+    c.starting-unit.ensures c.in_ok-events-in-Some.ensures.does.go c.in_ok-events-in-Some.ensures.does.request
+    c.in_ok-asked-in-Some.ensures.after c.in_ok-broadcast-in-Some.ensures.after
+    ∙ ap (λ (h : Held). moved h.board (delivery h.board h.board.queue)) c.state.view_is
+
+pub returns-clause-told : goal.returns-clause-told
+returns-clause-told c =
+    let b : Board = record {
+      units = c.state.inside.units;
+      queue = c.state.inside.queue.items;
+      dispatcher = c.state.inside.dispatcher;
+      clock = c.state.inside.clock;
+      refused = c.state.inside.refused;
+    } in
+    c.in_ok-events-in-Some.ensures.does.told
+    ∙ delivery_tells b c.in-Some.message c.pop_front.new.self.items
+    (c.pop_front.ensures.items ∙ ap (λ m. option_to_list m ++ c.pop_front.new.self.items) c.in-Some.is)
+    ∙ ap (λ (h : Held). deed_events (delivery h.board h.board.queue)) c.state.view_is
