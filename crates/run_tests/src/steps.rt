@@ -100,6 +100,7 @@ pub fn executed(
     match runner.execute(alloc, turns, &mut ends.asks, &mut ends.log) {
         Ok(outcome) => (Some(outcome), None),
         Err(TestRunnerExecuteErrors::NotEnabled { turn }) => (None, Some(turn)),
+        Err(TestRunnerExecuteErrors::ThirdSignal { turn }) => (None, Some(turn)),
         Err(TestRunnerExecuteErrors::Unfinished) => (None, None),
         Err(TestRunnerExecuteErrors::Report(error)) => match error {},
         Err(TestRunnerExecuteErrors::OutOfMemory) => rt.panic(MEMORY),
