@@ -237,6 +237,7 @@ refusal_ends keys plan turns w (build.ZeroLimit g) h writes = ((build.ZeroLimit 
 refusal_ends keys plan turns w (build.DuplicateTest k) h writes = ((build.DuplicateTest k, h, refl), writes)
 refusal_ends keys plan turns w (build.UnknownGroup k) h writes = ((build.UnknownGroup k, h, refl), writes)
 refusal_ends keys plan turns w (build.ZeroWeight k) h writes = ((build.ZeroWeight k, h, refl), writes)
+refusal_ends keys plan turns w (build.TooManyRetries k) h writes = ((build.TooManyRetries k, h, refl), writes)
 refusal_ends keys plan turns w build.OutOfMemory h writes = tt
 
 pub refused_plan : (keys : RunnerKeys) (plan : Plan) (turns : List Turn) (w : Writing)

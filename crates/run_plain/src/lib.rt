@@ -8,6 +8,7 @@
 mod accounts;
 mod admission;
 mod attempts;
+mod delays;
 mod fates;
 mod front;
 mod results;

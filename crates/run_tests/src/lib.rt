@@ -24,6 +24,8 @@ mod many;
 #[cfg(test)]
 mod plan;
 #[cfg(test)]
+mod retries;
+#[cfg(test)]
 mod statistics;
 #[cfg(test)]
 mod steps;
