@@ -28,11 +28,11 @@ use Rattle.run_laws.proofs.RequestLemmas.{take_running, take_grace, take_leak}
 pub use Rattle.run_laws.proofs.MadeLemmas.{HasPieces, IsMade, made_first, made_statuses, made_ended, made_due}
 
 -- the pieces after one more turn
-abbrev pub more : OwnTurn → List (List OwnTurn) → List (List OwnTurn)
+abbrev pub more : OwnTurn → List Attempt → List Attempt
 more t ps = if begins_attempt t.turn then (t ∷ []) ∷ ps else with_turn t ps
 
 -- each row of a unit that takes its turn keeps that
-row_made : (now : ℕ) (ph : Phase) (turn : UnitTurn) (before u : UnitView) (ps : List (List OwnTurn))
+row_made : (now : ℕ) (ph : Phase) (turn : UnitTurn) (before u : UnitView) (ps : List Attempt)
     → before.timers ≡ u.timers → takes_at now ph before turn ≡ true → u.phase ≡ ph → now ≤ u.latest
     → u.attempt ≡ attempt_in ps → u.timers.stopwatch.start ≡ start_in ps → HasPieces u.terms ph u ps
     → IsMade u.terms (row_at now ph turn u).next (more (taken now turn (request_of turn u.line)) ps)
@@ -64,52 +64,52 @@ row_made now StartSent (Answered false) before u [] same en is le a st h = recor
   terms = refl;
   has = h;
 }
-row_made now Starting (Started pid) before u (piece ∷ earlier) same en is le a st (on, ss) =
+row_made now Starting (Started pid) before u (cut piece [] ∷ earlier) same en is le a st (on, ss) =
     started_made now pid u piece earlier le a (on, ss)
-row_made now Starting (StartFailed error) before u (piece ∷ earlier) same en is le a st (on, ss) =
+row_made now Starting (StartFailed error) before u (cut piece [] ∷ earlier) same en is le a st (on, ss) =
     made_more (row_at now Starting (StartFailed error) u).next Deciding (taken now (StartFailed error) None) piece earlier refl
     a (simp quiet_said st) (past_refused now error None u piece earlier on a ss)
-row_made now Running Due before u (piece ∷ earlier) same en is le a st h = slow_made now u piece earlier is le (rw same at en) a h
-row_made now Running Take before u (piece ∷ earlier) same en is le a st h =
+row_made now Running Due before u (cut piece [] ∷ earlier) same en is le a st h = slow_made now u piece earlier is le (rw same at en) a h
+row_made now Running Take before u (cut piece [] ∷ earlier) same en is le a st h =
     take_running now u.line u piece earlier is le a h
-row_made now Running (Exit exit) before u (piece ∷ earlier) same en is le a st h =
+row_made now Running (Exit exit) before u (cut piece [] ∷ earlier) same en is le a st h =
     exit_made Running now (Some exit) u.capture (Exit exit) u piece earlier le a h refl refl refl refl refl
-row_made now Running (WaitFailed error) before u (piece ∷ earlier) same en is le a st h =
+row_made now Running (WaitFailed error) before u (cut piece [] ∷ earlier) same en is le a st h =
     exit_made Running now None (with_wait_error u.capture error) (WaitFailed error) u piece earlier le a h refl refl refl
     refl refl
-row_made now Running (Piece stream bytes) before u (piece ∷ earlier) same en is le a st h =
+row_made now Running (Piece stream bytes) before u (cut piece [] ∷ earlier) same en is le a st h =
     heard_running Running now (Piece stream bytes) u piece earlier (λ h. h) is a h refl refl refl refl refl refl
-row_made now Running (StreamEnd stream) before u (piece ∷ earlier) same en is le a st h =
+row_made now Running (StreamEnd stream) before u (cut piece [] ∷ earlier) same en is le a st h =
     heard_running Running now (StreamEnd stream) u piece earlier (λ h. h) is a h refl refl refl refl refl refl
-row_made now Running (ReadError stream error) before u (piece ∷ earlier) same en is le a st h =
+row_made now Running (ReadError stream error) before u (cut piece [] ∷ earlier) same en is le a st h =
     heard_running Running now (ReadError stream error) u piece earlier (λ h. h) is a h refl refl refl refl refl refl
-row_made now Grace Due before u (piece ∷ earlier) same en is le a st h = killed_due now u piece earlier a h
-row_made now Grace Take before u (piece ∷ earlier) same en is le a st h = take_grace now u.line u piece earlier is a h
-row_made now Grace (Exit exit) before u (piece ∷ earlier) same en is le a st h =
+row_made now Grace Due before u (cut piece [] ∷ earlier) same en is le a st h = killed_due now u piece earlier a h
+row_made now Grace Take before u (cut piece [] ∷ earlier) same en is le a st h = take_grace now u.line u piece earlier is a h
+row_made now Grace (Exit exit) before u (cut piece [] ∷ earlier) same en is le a st h =
     exit_made Grace now (Some exit) u.capture (Exit exit) u piece earlier le a h refl refl refl refl refl
-row_made now Grace (WaitFailed error) before u (piece ∷ earlier) same en is le a st h =
+row_made now Grace (WaitFailed error) before u (cut piece [] ∷ earlier) same en is le a st h =
     exit_made Grace now None (with_wait_error u.capture error) (WaitFailed error) u piece earlier le a h refl refl refl
     refl refl
-row_made now Grace (Piece stream bytes) before u (piece ∷ earlier) same en is le a st h =
+row_made now Grace (Piece stream bytes) before u (cut piece [] ∷ earlier) same en is le a st h =
     heard_running Grace now (Piece stream bytes) u piece earlier (λ h. h) is a h refl refl refl refl refl refl
-row_made now Grace (StreamEnd stream) before u (piece ∷ earlier) same en is le a st h =
+row_made now Grace (StreamEnd stream) before u (cut piece [] ∷ earlier) same en is le a st h =
     heard_running Grace now (StreamEnd stream) u piece earlier (λ h. h) is a h refl refl refl refl refl refl
-row_made now Grace (ReadError stream error) before u (piece ∷ earlier) same en is le a st h =
+row_made now Grace (ReadError stream error) before u (cut piece [] ∷ earlier) same en is le a st h =
     heard_running Grace now (ReadError stream error) u piece earlier (λ h. h) is a h refl refl refl refl refl refl
-row_made now KillWait (Exit exit) before u (piece ∷ earlier) same en is le a st h =
+row_made now KillWait (Exit exit) before u (cut piece [] ∷ earlier) same en is le a st h =
     exit_made KillWait now (Some exit) u.capture (Exit exit) u piece earlier le a h refl refl refl refl refl
-row_made now KillWait (WaitFailed error) before u (piece ∷ earlier) same en is le a st h =
+row_made now KillWait (WaitFailed error) before u (cut piece [] ∷ earlier) same en is le a st h =
     exit_made KillWait now None (with_wait_error u.capture error) (WaitFailed error) u piece earlier le a h refl refl refl
     refl refl
-row_made now Leak (Piece stream bytes) before u (piece ∷ earlier) same en is le a st h =
+row_made now Leak (Piece stream bytes) before u (cut piece [] ∷ earlier) same en is le a st h =
     heard_made now (Piece stream bytes) u piece earlier is a h refl refl refl refl refl refl
-row_made now Leak (StreamEnd stream) before u (piece ∷ earlier) same en is le a st h =
+row_made now Leak (StreamEnd stream) before u (cut piece [] ∷ earlier) same en is le a st h =
     heard_made now (StreamEnd stream) u piece earlier is a h refl refl refl refl refl refl
-row_made now Leak (ReadError stream error) before u (piece ∷ earlier) same en is le a st h =
+row_made now Leak (ReadError stream error) before u (cut piece [] ∷ earlier) same en is le a st h =
     heard_made now (ReadError stream error) u piece earlier is a h refl refl refl refl refl refl
-row_made now Leak Take before u (piece ∷ earlier) same en is le a st h = take_leak now u.line u piece earlier is a h
-row_made now Leak Due before u (piece ∷ earlier) same en is le a st h = leaked_made now u piece earlier a h
-row_made now Deciding (Decide word) before u (piece ∷ earlier) same en is le a st h =
+row_made now Leak Take before u (cut piece [] ∷ earlier) same en is le a st h = take_leak now u.line u piece earlier is a h
+row_made now Leak Due before u (cut piece [] ∷ earlier) same en is le a st h = leaked_made now u piece earlier a h
+row_made now Deciding (Decide word) before u (cut piece [] ∷ earlier) same en is le a st h =
     made_more (decided u).next Over (taken now (Decide word) None) piece earlier refl a (simp quiet_said st)
     (past_decided now word u piece earlier h)
 row_made now StartSent turn before u (piece ∷ ps) same en is le a st h = absurd h
@@ -136,7 +136,7 @@ row_made_if terms now turn u v story is en le h = rw is (by_terms (rw is at h))
     after : UnitView
     after = at_moment now u
 
-    after_turn : List (List OwnTurn)
+    after_turn : List Attempt
     after_turn = more (taken now turn (request_of turn u.line)) (pieces story)
 
     by_terms : IsMade terms u (pieces story) → IsMade terms (row now turn u).next after_turn

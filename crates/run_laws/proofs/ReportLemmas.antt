@@ -39,26 +39,26 @@ use Rattle.run_laws.proofs.AttemptLemmas.{more}
 use Rattle.run_laws.proofs.Rows.{takes_moment}
 
 -- what a row asks and sends is what its turn says, after these pieces
-pub record IsSaid (slow : SlowTimeout) (k : ℕ) (t : OwnTurn) (ps : List (List OwnTurn)) (r : Row) : Type 0 where
+pub record IsSaid (slow : SlowTimeout) (k : ℕ) (t : OwnTurn) (ps : List Attempt) (r : Row) : Type 0 where
   pub asks : map End (signals_by slow (more t ps)) ≡ map End (signals_by slow ps) ++ signals_for k r.asked
   pub sends : reports_by slow (more t ps) ≡ reports_by slow ps ++ reports_waiting k (option_to_list r.sent)
 
 -- the same of the newest piece alone
-said_more : (slow : SlowTimeout) (k : ℕ) (t : OwnTurn) (piece : List OwnTurn) (earlier : List (List OwnTurn)) (r : Row)
+said_more : (slow : SlowTimeout) (k : ℕ) (t : OwnTurn) (piece : List OwnTurn) (earlier : List Attempt) (r : Row)
     → begins_attempt t.turn ≡ false
     → map End (option_to_list (signal_with slow t piece)) ≡ signals_for k r.asked
     → option_to_list (report_with slow (length earlier + 1) t piece) ≡ reports_waiting k (option_to_list r.sent)
-    → IsSaid slow k t (piece ∷ earlier) r
+    → IsSaid slow k t (cut piece [] ∷ earlier) r
 said_more slow k t piece earlier r goes asks sends = record {
   asks = rw goes (
       ap (map End) (sym (append_assoc (signals_by slow earlier) (signals_in slow piece)
       (option_to_list (signal_with slow t piece))))
-      ∙ map-append End (signals_by slow (piece ∷ earlier)) (option_to_list (signal_with slow t piece))
-      ∙ ap (λ s. map End (signals_by slow (piece ∷ earlier)) ++ s) asks);
+      ∙ map-append End (signals_by slow (cut piece [] ∷ earlier)) (option_to_list (signal_with slow t piece))
+      ∙ ap (λ s. map End (signals_by slow (cut piece [] ∷ earlier)) ++ s) asks);
   sends = rw goes (
       sym (append_assoc (reports_by slow earlier) (reports_in slow (length earlier + 1) piece)
       (option_to_list (report_with slow (length earlier + 1) t piece)))
-      ∙ ap (λ s. reports_by slow (piece ∷ earlier) ++ s) sends);
+      ∙ ap (λ s. reports_by slow (cut piece [] ∷ earlier) ++ s) sends);
 }
 
 -- a turn that isn't due, and takes no request to end the child, says nothing
@@ -79,17 +79,17 @@ report_still slow attempt t piece due = by_wait (any_is ends_wait piece) refl
     by_wait true e = rw e refl
     by_wait false e = rw (e, due) refl
 
-said_still : (slow : SlowTimeout) (k : ℕ) (t : OwnTurn) (piece : List OwnTurn) (earlier : List (List OwnTurn)) (r : Row)
+said_still : (slow : SlowTimeout) (k : ℕ) (t : OwnTurn) (piece : List OwnTurn) (earlier : List Attempt) (r : Row)
     → begins_attempt t.turn ≡ false → is_due_turn t.turn ≡ false → signal_of slow t.request ≡ None → r.asked ≡ None
-    → reports_waiting k (option_to_list r.sent) ≡ [] → IsSaid slow k t (piece ∷ earlier) r
+    → reports_waiting k (option_to_list r.sent) ≡ [] → IsSaid slow k t (cut piece [] ∷ earlier) r
 said_still slow k t piece earlier r goes due none asks sends =
     said_more slow k t piece earlier r goes (rw (signal_still slow t piece due none, asks) refl)
     (rw (report_still slow (length earlier + 1) t piece due) (sym sends))
 
 -- neither does any turn once its child has ended
-said_after : (slow : SlowTimeout) (k : ℕ) (t : OwnTurn) (piece : List OwnTurn) (earlier : List (List OwnTurn)) (r : Row)
+said_after : (slow : SlowTimeout) (k : ℕ) (t : OwnTurn) (piece : List OwnTurn) (earlier : List Attempt) (r : Row)
     → any_is ends_wait piece ≡ true → begins_attempt t.turn ≡ false → r.asked ≡ None
-    → reports_waiting k (option_to_list r.sent) ≡ [] → IsSaid slow k t (piece ∷ earlier) r
+    → reports_waiting k (option_to_list r.sent) ≡ [] → IsSaid slow k t (cut piece [] ∷ earlier) r
 said_after slow k t piece earlier r waited goes asks sends =
     said_more slow k t piece earlier r goes (rw (waited, asks) refl) (rw waited (sym sends))
 
@@ -97,12 +97,12 @@ itself : (k : ℕ) → (k == k) ≡ true
 itself k = grind arith
 
 -- its time to end by itself is over
-said_killed : (t : OwnTurn) (u : UnitView) (piece : List OwnTurn) (earlier : List (List OwnTurn))
+said_killed : (t : OwnTurn) (u : UnitView) (piece : List OwnTurn) (earlier : List Attempt)
     → any_is ends_wait piece ≡ false → is_in_grace u.terms.slow piece ≡ true → begins_attempt t.turn ≡ false
-    → ends_time u.terms.slow t ≡ true → IsSaid u.terms.slow u.test.unit t (piece ∷ earlier) (killed u)
+    → ends_time u.terms.slow t ≡ true → IsSaid u.terms.slow u.test.unit t (cut piece [] ∷ earlier) (killed u)
 said_killed t u piece earlier waited grace goes over = by_due (is_due_turn t.turn) refl
   where
-    by_due : (d : Bool) → is_due_turn t.turn ≡ d → IsSaid u.terms.slow u.test.unit t (piece ∷ earlier) (killed u)
+    by_due : (d : Bool) → is_due_turn t.turn ≡ d → IsSaid u.terms.slow u.test.unit t (cut piece [] ∷ earlier) (killed u)
     by_due true e =
         said_more u.terms.slow u.test.unit t piece earlier (killed u) goes
         (rw (waited, grace, e, itself u.test.unit) refl) (rw (waited, grace, e) refl)
@@ -129,9 +129,9 @@ sent_none now Quit u = refl
 sent_none now Kill u = refl
 
 -- so a request to end is what it says
-said_asked : (now : ℕ) (reason : ShutdownRequest) (u : UnitView) (piece : List OwnTurn) (earlier : List (List OwnTurn))
+said_asked : (now : ℕ) (reason : ShutdownRequest) (u : UnitView) (piece : List OwnTurn) (earlier : List Attempt)
     → any_is ends_wait piece ≡ false → is_in_grace u.terms.slow piece ≡ false
-    → IsSaid u.terms.slow u.test.unit (taken now Take (Some (Shutdown reason))) (piece ∷ earlier)
+    → IsSaid u.terms.slow u.test.unit (taken now Take (Some (Shutdown reason))) (cut piece [] ∷ earlier)
     (requested now Running (Shutdown reason) u)
 said_asked now reason u piece earlier waited grace =
     said_more u.terms.slow u.test.unit (taken now Take (Some (Shutdown reason))) piece earlier
@@ -146,11 +146,11 @@ said_asked now reason u piece earlier waited grace =
     sends message = reports_waiting u.test.unit (option_to_list message)
 
 -- it is slow
-said_slow : (now : ℕ) (u : UnitView) (piece : List OwnTurn) (earlier : List (List OwnTurn))
+said_slow : (now : ℕ) (u : UnitView) (piece : List OwnTurn) (earlier : List Attempt)
     → any_is ends_wait piece ≡ false → is_in_grace u.terms.slow piece ≡ false
     → has_timed_out u.terms.slow piece ≡ false
     → slow_count u.terms.slow piece ≡ u.timers.slow_count → u.attempt ≡ length earlier + 1
-    → IsSaid u.terms.slow u.test.unit (taken now Due None) (piece ∷ earlier)
+    → IsSaid u.terms.slow u.test.unit (taken now Due None) (cut piece [] ∷ earlier)
     (slow_row now (one_more u.timers.slow_count) u)
 said_slow now u piece earlier waited grace out counted at =
     by_out (is_out_of_time u.terms.slow n) (u.terms.slow.grace == 0) refl refl
@@ -162,7 +162,7 @@ said_slow now u piece earlier waited grace out counted at =
     count = count_slow u.terms.slow now piece waited grace out ∙ ap one_more counted
 
     by_out : (o g : Bool) → is_out_of_time u.terms.slow n ≡ o → (u.terms.slow.grace == 0) ≡ g
-        → IsSaid u.terms.slow u.test.unit (taken now Due None) (piece ∷ earlier)
+        → IsSaid u.terms.slow u.test.unit (taken now Due None) (cut piece [] ∷ earlier)
         (if o then (if g then out_of_time n u else in_grace now n u) else slow_again now n u)
     by_out true true e g =
         said_more u.terms.slow u.test.unit (taken now Due None) piece earlier (out_of_time n u) refl
@@ -186,9 +186,9 @@ unfolding start_ask
 start_said now u = record { asks = refl; sends = refl }
 
 -- it takes the oldest request of its line
-take_said_running : (now : ℕ) (line : List Request) (u : UnitView) (piece : List OwnTurn) (earlier : List (List OwnTurn))
+take_said_running : (now : ℕ) (line : List Request) (u : UnitView) (piece : List OwnTurn) (earlier : List Attempt)
     → any_is ends_wait piece ≡ false → is_in_grace u.terms.slow piece ≡ false
-    → IsSaid u.terms.slow u.test.unit (taken now Take (oldest line)) (piece ∷ earlier) (take_row now Running line u)
+    → IsSaid u.terms.slow u.test.unit (taken now Take (oldest line)) (cut piece [] ∷ earlier) (take_row now Running line u)
 take_said_running now (Shutdown reason ∷ line) u piece earlier waited grace =
     said_asked now reason (record u { line = line }) piece earlier waited grace
 take_said_running now (Stop round ∷ line) u piece earlier waited grace =
@@ -201,9 +201,9 @@ take_said_running now (GetInfo round ∷ line) u piece earlier waited grace =
     said_still _ _ _ piece earlier _ refl refl refl refl refl
 take_said_running now [] u piece earlier waited grace = said_still _ _ _ piece earlier _ refl refl refl refl refl
 
-take_said_grace : (now : ℕ) (line : List Request) (u : UnitView) (piece : List OwnTurn) (earlier : List (List OwnTurn))
+take_said_grace : (now : ℕ) (line : List Request) (u : UnitView) (piece : List OwnTurn) (earlier : List Attempt)
     → any_is ends_wait piece ≡ false → is_in_grace u.terms.slow piece ≡ true
-    → IsSaid u.terms.slow u.test.unit (taken now Take (oldest line)) (piece ∷ earlier) (take_row now Grace line u)
+    → IsSaid u.terms.slow u.test.unit (taken now Take (oldest line)) (cut piece [] ∷ earlier) (take_row now Grace line u)
 take_said_grace now (Shutdown reason ∷ line) u piece earlier waited grace =
     said_killed (taken now Take (Some (Shutdown reason))) (record u { line = line }) piece earlier waited grace refl refl
 take_said_grace now (Stop round ∷ line) u piece earlier waited grace =
@@ -216,51 +216,51 @@ take_said_grace now (GetInfo round ∷ line) u piece earlier waited grace =
     said_still _ _ _ piece earlier _ refl refl refl refl refl
 take_said_grace now [] u piece earlier waited grace = said_still _ _ _ piece earlier _ refl refl refl refl refl
 
-take_said_leak : (now : ℕ) (line : List Request) (u : UnitView) (piece : List OwnTurn) (earlier : List (List OwnTurn))
+take_said_leak : (now : ℕ) (line : List Request) (u : UnitView) (piece : List OwnTurn) (earlier : List Attempt)
     → any_is ends_wait piece ≡ true
-    → IsSaid u.terms.slow u.test.unit (taken now Take (oldest line)) (piece ∷ earlier) (take_row now Leak line u)
+    → IsSaid u.terms.slow u.test.unit (taken now Take (oldest line)) (cut piece [] ∷ earlier) (take_row now Leak line u)
 take_said_leak now [] u piece earlier waited = said_after _ _ _ piece earlier _ waited refl refl refl
 take_said_leak now (request ∷ line) u piece earlier waited = said_after _ _ _ piece earlier _ waited refl refl refl
 
 -- each row of a unit that takes its turn
-row_said : (now : ℕ) (ph : Phase) (turn : UnitTurn) (u : UnitView) (ps : List (List OwnTurn))
+row_said : (now : ℕ) (ph : Phase) (turn : UnitTurn) (u : UnitView) (ps : List Attempt)
     → takes_at now ph u turn ≡ true → u.attempt ≡ attempt_in ps → HasPieces u.terms ph u ps
     → IsSaid u.terms.slow u.test.unit (taken now turn (request_of turn u.line)) ps (row_at now ph turn u)
 row_said now StartSent (Answered true) u [] en a h = start_said now u
 row_said now StartSent (Answered false) u [] en a h = record { asks = refl; sends = refl }
-row_said now Starting (Started pid) u (piece ∷ earlier) en a h = said_still _ _ _ piece earlier _ refl refl refl refl refl
-row_said now Starting (StartFailed error) u (piece ∷ earlier) en a h = said_still _ _ _ piece earlier _ refl refl refl refl refl
-row_said now Running Due u (piece ∷ earlier) en a (on, ss) =
+row_said now Starting (Started pid) u (cut piece [] ∷ earlier) en a h = said_still _ _ _ piece earlier _ refl refl refl refl refl
+row_said now Starting (StartFailed error) u (cut piece [] ∷ earlier) en a h = said_still _ _ _ piece earlier _ refl refl refl refl refl
+row_said now Running Due u (cut piece [] ∷ earlier) en a (on, ss) =
     said_slow now u piece earlier on.is_at.wait_over on.timer.stage.1
     (in_time u.terms u.timers now u.latest piece on.is_at.wait_over on.timer en) on.is_at.counted a
-row_said now Running Take u (piece ∷ earlier) en a (on, ss) =
+row_said now Running Take u (cut piece [] ∷ earlier) en a (on, ss) =
     take_said_running now u.line u piece earlier on.is_at.wait_over on.timer.stage.1
-row_said now Running (Exit exit) u (piece ∷ earlier) en a h = said_still _ _ _ piece earlier _ refl refl refl refl refl
-row_said now Running (WaitFailed error) u (piece ∷ earlier) en a h = said_still _ _ _ piece earlier _ refl refl refl refl refl
-row_said now Running (Piece stream bytes) u (piece ∷ earlier) en a h = said_still _ _ _ piece earlier _ refl refl refl refl refl
-row_said now Running (StreamEnd stream) u (piece ∷ earlier) en a h = said_still _ _ _ piece earlier _ refl refl refl refl refl
-row_said now Running (ReadError stream error) u (piece ∷ earlier) en a h =
+row_said now Running (Exit exit) u (cut piece [] ∷ earlier) en a h = said_still _ _ _ piece earlier _ refl refl refl refl refl
+row_said now Running (WaitFailed error) u (cut piece [] ∷ earlier) en a h = said_still _ _ _ piece earlier _ refl refl refl refl refl
+row_said now Running (Piece stream bytes) u (cut piece [] ∷ earlier) en a h = said_still _ _ _ piece earlier _ refl refl refl refl refl
+row_said now Running (StreamEnd stream) u (cut piece [] ∷ earlier) en a h = said_still _ _ _ piece earlier _ refl refl refl refl refl
+row_said now Running (ReadError stream error) u (cut piece [] ∷ earlier) en a h =
     said_still _ _ _ piece earlier _ refl refl refl refl refl
-row_said now Grace Due u (piece ∷ earlier) en a (on, ss) =
+row_said now Grace Due u (cut piece [] ∷ earlier) en a (on, ss) =
     said_killed (taken now Due None) u piece earlier on.is_at.wait_over on.timer.stage.1 refl refl
-row_said now Grace Take u (piece ∷ earlier) en a (on, ss) =
+row_said now Grace Take u (cut piece [] ∷ earlier) en a (on, ss) =
     take_said_grace now u.line u piece earlier on.is_at.wait_over on.timer.stage.1
-row_said now Grace (Exit exit) u (piece ∷ earlier) en a h = said_still _ _ _ piece earlier _ refl refl refl refl refl
-row_said now Grace (WaitFailed error) u (piece ∷ earlier) en a h = said_still _ _ _ piece earlier _ refl refl refl refl refl
-row_said now Grace (Piece stream bytes) u (piece ∷ earlier) en a h = said_still _ _ _ piece earlier _ refl refl refl refl refl
-row_said now Grace (StreamEnd stream) u (piece ∷ earlier) en a h = said_still _ _ _ piece earlier _ refl refl refl refl refl
-row_said now Grace (ReadError stream error) u (piece ∷ earlier) en a h =
+row_said now Grace (Exit exit) u (cut piece [] ∷ earlier) en a h = said_still _ _ _ piece earlier _ refl refl refl refl refl
+row_said now Grace (WaitFailed error) u (cut piece [] ∷ earlier) en a h = said_still _ _ _ piece earlier _ refl refl refl refl refl
+row_said now Grace (Piece stream bytes) u (cut piece [] ∷ earlier) en a h = said_still _ _ _ piece earlier _ refl refl refl refl refl
+row_said now Grace (StreamEnd stream) u (cut piece [] ∷ earlier) en a h = said_still _ _ _ piece earlier _ refl refl refl refl refl
+row_said now Grace (ReadError stream error) u (cut piece [] ∷ earlier) en a h =
     said_still _ _ _ piece earlier _ refl refl refl refl refl
-row_said now KillWait (Exit exit) u (piece ∷ earlier) en a h = said_still _ _ _ piece earlier _ refl refl refl refl refl
-row_said now KillWait (WaitFailed error) u (piece ∷ earlier) en a h = said_still _ _ _ piece earlier _ refl refl refl refl refl
-row_said now Leak Due u (piece ∷ earlier) en a (on, ss) =
+row_said now KillWait (Exit exit) u (cut piece [] ∷ earlier) en a h = said_still _ _ _ piece earlier _ refl refl refl refl refl
+row_said now KillWait (WaitFailed error) u (cut piece [] ∷ earlier) en a h = said_still _ _ _ piece earlier _ refl refl refl refl refl
+row_said now Leak Due u (cut piece [] ∷ earlier) en a (on, ss) =
     said_after _ _ _ piece earlier _ on.is_at.wait_over refl refl refl
-row_said now Leak Take u (piece ∷ earlier) en a (on, ss) = take_said_leak now u.line u piece earlier on.is_at.wait_over
-row_said now Leak (Piece stream bytes) u (piece ∷ earlier) en a h = said_still _ _ _ piece earlier _ refl refl refl refl refl
-row_said now Leak (StreamEnd stream) u (piece ∷ earlier) en a h = said_still _ _ _ piece earlier _ refl refl refl refl refl
-row_said now Leak (ReadError stream error) u (piece ∷ earlier) en a h =
+row_said now Leak Take u (cut piece [] ∷ earlier) en a (on, ss) = take_said_leak now u.line u piece earlier on.is_at.wait_over
+row_said now Leak (Piece stream bytes) u (cut piece [] ∷ earlier) en a h = said_still _ _ _ piece earlier _ refl refl refl refl refl
+row_said now Leak (StreamEnd stream) u (cut piece [] ∷ earlier) en a h = said_still _ _ _ piece earlier _ refl refl refl refl refl
+row_said now Leak (ReadError stream error) u (cut piece [] ∷ earlier) en a h =
     said_still _ _ _ piece earlier _ refl refl refl refl refl
-row_said now Deciding (Decide word) u (piece ∷ earlier) en a h = said_still _ _ _ piece earlier _ refl refl refl refl refl
+row_said now Deciding (Decide word) u (cut piece [] ∷ earlier) en a h = said_still _ _ _ piece earlier _ refl refl refl refl refl
 row_said now StartSent turn u (piece ∷ ps) en a h = absurd h
 row_said now Starting turn u [] en a h = absurd h
 row_said now Running turn u [] en a h = absurd h

@@ -27,16 +27,16 @@ use Rattle.run_laws.proofs.GoingLemmas.{going_more, past_exited}
 use Rattle.run_laws.proofs.MadeLemmas.{GoesOn, HasPieces, IsMade}
 
 -- a unit that has more turns of its attempt is made by them
-pub made_more : (u : UnitView) (ph : Phase) (t : OwnTurn) (piece : List OwnTurn) (earlier : List (List OwnTurn))
+pub made_more : (u : UnitView) (ph : Phase) (t : OwnTurn) (piece : List OwnTurn) (earlier : List Attempt)
     → u.phase ≡ ph → u.attempt ≡ length earlier + 1
     → u.timers.stopwatch.start ≡ start_of (t ∷ piece)
-    → HasPieces u.terms ph u ((t ∷ piece) ∷ earlier)
-    → IsMade u.terms u ((t ∷ piece) ∷ earlier)
+    → HasPieces u.terms ph u (cut (t ∷ piece) [] ∷ earlier)
+    → IsMade u.terms u (cut (t ∷ piece) [] ∷ earlier)
 made_more u ph t piece earlier is a start h = record {
   attempt = a;
   start = start;
   terms = refl;
-  has = subst (λ ph. HasPieces u.terms ph u ((t ∷ piece) ∷ earlier)) (sym is) h;
+  has = subst (λ ph. HasPieces u.terms ph u (cut (t ∷ piece) [] ∷ earlier)) (sym is) h;
 }
 
 -- where an attempt was let go is where it began
@@ -46,13 +46,13 @@ began terms start waited exit leaked count c piece it = sym (ap (λ o. unwrap_or
 
 -- an attempt whose child is waited for no more ends, or waits for its streams
 settled_made : (now : ℕ) (exit : Option ChildExit) (c : Captured) (turn : UnitTurn) (u : UnitView)
-    (piece : List OwnTurn) (earlier : List (List OwnTurn))
+    (piece : List OwnTurn) (earlier : List Attempt)
     → now ≤ u.latest → ends_wait turn ≡ true
     → IsAt u.terms u.timers.stopwatch.start true exit false u.timers.slow_count c (taken now turn None ∷ piece)
     → end_of u.terms piece ≡ None
     → u.timers.stopwatch ≡ started_at u.timers.stopwatch.start → u.attempt ≡ length earlier + 1
     → u.statuses ≡ ended_statuses u.terms (attempts u) earlier
-    → IsMade u.terms (settled now exit c u) ((taken now turn None ∷ piece) ∷ earlier)
+    → IsMade u.terms (settled now exit c u) (cut (taken now turn None ∷ piece) [] ∷ earlier)
 settled_made now exit c turn u piece earlier le ends it none watch a ss = by_done (is_done c) refl
   where
     start : u.timers.stopwatch.start ≡ start_of (taken now turn None ∷ piece)
@@ -61,7 +61,7 @@ settled_made now exit c turn u piece earlier le ends it none watch a ss = by_don
 
     by_done : (b : Bool) → is_done c ≡ b
         → IsMade u.terms (if b then exited now exit false c u else leaking now exit c u)
-        ((taken now turn None ∷ piece) ∷ earlier)
+        (cut (taken now turn None ∷ piece) [] ∷ earlier)
     by_done true e =
         made_more (exited now exit false c u) Deciding (taken now turn None) piece earlier refl a start
         (past_exited now exit false c turn u piece earlier it none (ap (λ b. b || false) e) watch a ss)
@@ -74,11 +74,11 @@ settled_made now exit c turn u piece earlier le ends it none watch a ss = by_don
 
 -- its child ends, or the wait for it fails
 pub exit_made : (ph : Phase) (now : ℕ) (exit : Option ChildExit) (c : Captured) (turn : UnitTurn) (u : UnitView)
-    (piece : List OwnTurn) (earlier : List (List OwnTurn))
+    (piece : List OwnTurn) (earlier : List Attempt)
     → now ≤ u.latest → u.attempt ≡ length earlier + 1 → GoesOn u.terms ph false None u piece earlier
     → start_error_in turn ≡ None → is_due_turn turn ≡ false → ends_wait turn ≡ true → exit_in turn ≡ exit
     → heard_by u.capture turn ≡ c
-    → IsMade u.terms (settled now exit c u) ((taken now turn None ∷ piece) ∷ earlier)
+    → IsMade u.terms (settled now exit c u) (cut (taken now turn None ∷ piece) [] ∷ earlier)
 exit_made ph now exit c turn u piece earlier le a (on, ss) unrefused due ends is heard =
     let it : IsAt u.terms u.timers.stopwatch.start (ends_wait turn || false) (exit_in turn) false u.timers.slow_count
     (heard_by u.capture turn) (taken now turn None ∷ piece) =
@@ -92,13 +92,13 @@ having_captured turn u = record u { capture = having_heard u.capture turn }
 
 -- its capture gets a turn before that
 pub heard_running : (ph : Phase) (now : ℕ) (turn : UnitTurn) (u : UnitView) (piece : List OwnTurn)
-    (earlier : List (List OwnTurn))
+    (earlier : List Attempt)
     → (GoesOn u.terms ph false None (having_captured turn u) (taken now turn None ∷ piece) earlier
-    → HasPieces u.terms ph (having_captured turn u) ((taken now turn None ∷ piece) ∷ earlier))
+    → HasPieces u.terms ph (having_captured turn u) (cut (taken now turn None ∷ piece) [] ∷ earlier))
     → u.phase ≡ ph → u.attempt ≡ length earlier + 1 → GoesOn u.terms ph false None u piece earlier
     → start_error_in turn ≡ None → is_due_turn turn ≡ false → ends_wait turn ≡ false → exit_in turn ≡ None
     → starts_child turn ≡ false → heard_by u.capture turn ≡ having_heard u.capture turn
-    → IsMade u.terms (having_captured turn u) ((taken now turn None ∷ piece) ∷ earlier)
+    → IsMade u.terms (having_captured turn u) (cut (taken now turn None ∷ piece) [] ∷ earlier)
 heard_running ph now turn u piece earlier into phase a (on, ss) unrefused due ends is starts heard =
     made_more (having_captured turn u) ph (taken now turn None) piece earlier phase a
     (began u.terms u.timers.stopwatch.start false None false u.timers.slow_count c (taken now turn None ∷ piece) it)
@@ -122,11 +122,11 @@ heard_running ph now turn u piece earlier into phase a (on, ss) unrefused due en
     it = rw (ends, is, heard) at more_at
 
 -- its capture gets a turn after its child has ended
-pub heard_made : (now : ℕ) (turn : UnitTurn) (u : UnitView) (piece : List OwnTurn) (earlier : List (List OwnTurn))
+pub heard_made : (now : ℕ) (turn : UnitTurn) (u : UnitView) (piece : List OwnTurn) (earlier : List Attempt)
     → u.phase ≡ Leak → u.attempt ≡ length earlier + 1 → GoesOn u.terms Leak true u.exit u piece earlier
     → start_error_in turn ≡ None → is_due_turn turn ≡ false → ends_wait turn ≡ false → exit_in turn ≡ None
     → starts_child turn ≡ false → heard_by u.capture turn ≡ having_heard u.capture turn
-    → IsMade u.terms (heard_with now (having_heard u.capture turn) u) ((taken now turn None ∷ piece) ∷ earlier)
+    → IsMade u.terms (heard_with now (having_heard u.capture turn) u) (cut (taken now turn None ∷ piece) [] ∷ earlier)
 heard_made now turn u piece earlier ph a (on, ss) unrefused due ends is starts heard = by_done (is_done c) refl
   where
     c : Captured
@@ -147,7 +147,7 @@ heard_made now turn u piece earlier ph a (on, ss) unrefused due ends is starts h
 
     by_done : (b : Bool) → is_done c ≡ b
         → IsMade u.terms (if b then exited now u.exit false c u else record u { capture = c })
-        ((taken now turn None ∷ piece) ∷ earlier)
+        (cut (taken now turn None ∷ piece) [] ∷ earlier)
     by_done true e =
         made_more (exited now u.exit false c u) Deciding (taken now turn None) piece earlier refl a start
         (past_exited now u.exit false c turn u piece earlier it on.not_ended (ap (λ b. b || false) e) on.watch a ss)
@@ -160,9 +160,9 @@ heard_made now turn u piece earlier ph a (on, ss) unrefused due ends is starts h
         )
 
 -- its child starts
-pub started_made : (now pid : ℕ) (u : UnitView) (piece : List OwnTurn) (earlier : List (List OwnTurn))
+pub started_made : (now pid : ℕ) (u : UnitView) (piece : List OwnTurn) (earlier : List Attempt)
     → now ≤ u.latest → u.attempt ≡ length earlier + 1 → GoesOn u.terms Starting false None u piece earlier
-    → IsMade u.terms (started now u) ((taken now (Started pid) None ∷ piece) ∷ earlier)
+    → IsMade u.terms (started now u) (cut (taken now (Started pid) None ∷ piece) [] ∷ earlier)
 started_made now pid u piece earlier le a (on, ss) =
     made_more (started now u) Running (taken now (Started pid) None) piece earlier refl a
     (began u.terms u.timers.stopwatch.start false None false u.timers.slow_count u.capture
