@@ -1,5 +1,5 @@
 -- A unit at the attempt that its pieces say, after a row of a timer that is due.
-use Rattle.std.proofs.Common.{◌≡◌, ℕ, ◌+◌, ◌==◌, ◌≤◌, List, ◌∷◌, length, Bool, true, false, ◌||◌}
+use Rattle.std.proofs.Common.{◌≡◌, ℕ, ◌+◌, ◌==◌, ◌≤◌, List, [], ◌∷◌, length, Bool, true, false, ◌||◌}
 use Rattle.std.proofs.Common.{if◌then◌else◌, None, refl, ap, ◌∙◌}
 use Rattle.run_capture.specs.Captured.{is_done}
 use Rattle.run_model.specs.declared.phase.Phase.{Phase}
@@ -10,7 +10,7 @@ use Rattle.run_model.specs.declared.unit_view.UnitView.{UnitView}
 use Rattle.run_model.specs.Slow.{one_more, is_out_of_time}
 use Rattle.run_model.specs.Unit.{is_due, exited}
 use Rattle.run_model.specs.Unit.{slow_row, slow_again, in_grace, out_of_time, killed}
-use Rattle.run_model.specs.Story.{OwnTurn, any_is}
+use Rattle.run_model.specs.Story.{OwnTurn, Attempt, cut, any_is}
 use Rattle.run_model.specs.Timing.{ends_wait, starts_child, slow_count}
 use Rattle.run_model.specs.Attempts.{start_of}
 use Rattle.run_laws.proofs.CaptureLemmas.{taken}

@@ -10,20 +10,21 @@ use Rattle.run_events.specs.declared.request.TermSignal.TheVariants.{Interrupt, 
 use Rattle.run_events.specs.declared.request.TerminateReason.TheVariants.{Signal}
 use Rattle.run_events.specs.declared.result.ChildExit.{ChildExit}
 use Rattle.run_model.specs.declared.phase.Phase.{Phase}
-use Rattle.run_model.specs.declared.phase.Phase.TheVariants.{Running, Grace, Leak}
+use Rattle.run_model.specs.declared.phase.Phase.TheVariants.{Running, Grace, Leak, Delay}
 use Rattle.run_model.specs.declared.unit_turn.UnitTurn.TheVariants.{Take}
 use Rattle.run_model.specs.declared.unit_view.UnitView.{UnitView}
 use Rattle.run_model.specs.Terminate.{terminate_method}
 use Rattle.run_model.specs.Unit.{asked_to_end, requested, take_row}
-use Rattle.run_model.specs.Story.{OwnTurn, oldest}
+use Rattle.run_model.specs.Story.{OwnTurn, Attempt, cut, oldest}
 use Rattle.run_model.specs.Timing.{signal_of, gives_time}
+use Rattle.run_model.specs.Attempts.{start_of}
 use Rattle.run_laws.proofs.CaptureLemmas.{taken}
 use Rattle.run_laws.proofs.StandingLemmas.{is_heeded, unheeded, unheeded_after}
 use Rattle.run_laws.proofs.TimerLemmas.{timer_still, timer_asked}
 use Rattle.run_laws.proofs.PieceLemmas.{IsAt, quiet_said, at_more, ended_as, unended_has}
 use Rattle.run_laws.proofs.GoingLemmas.{IsGoing, going_more, going_lined}
-use Rattle.run_laws.proofs.MadeLemmas.{GoesOn, HasPieces, IsMade}
-use Rattle.run_laws.proofs.RowLemmas.{made_more, began}
+use Rattle.run_laws.proofs.MadeLemmas.{GoesOn, IsDelayed, HasPieces, IsMade}
+use Rattle.run_laws.proofs.RowLemmas.{made_more, began, retried_made, waiting_made}
 use Rattle.run_laws.proofs.DueLemmas.{killed_made}
 
 -- an attempt that goes on after it took a request
@@ -187,3 +188,30 @@ take_leak now (request ∷ line) u piece earlier ph a (on, ss) =
     quiet_made Leak true u.exit now (Some request) (record u { line = line }) piece earlier (λ h. h) ph a
     (going_lined u.terms Leak true u.exit line u piece on, ss)
     (unheeded_after u.terms.slow (taken now Take (Some request)) piece on.is_at.wait_over)
+
+-- it takes a request while a delay passes: one that cancels the run ends that
+requested_delay : (now : ℕ) (request : Request) (u : UnitView) (piece : List OwnTurn) (d : OwnTurn)
+    (after : List OwnTurn) (earlier : List Attempt)
+    → u.phase ≡ Delay → u.attempt ≡ length earlier + 1 → u.timers.stopwatch.start ≡ start_of piece
+    → IsDelayed u.terms u piece (d ∷ after) earlier
+    → IsMade u.terms (requested now Delay request u).next (cut piece (taken now Take (Some request) ∷ d ∷ after) ∷ earlier)
+requested_delay now (Shutdown reason) u piece d after earlier ph a start h =
+    retried_made (taken now Take (Some (Shutdown reason))) u piece d after earlier a start h refl refl
+requested_delay now OtherCancel u piece d after earlier ph a start h =
+    retried_made (taken now Take (Some OtherCancel)) u piece d after earlier a start h refl refl
+requested_delay now (Stop round) u piece d after earlier ph a start h =
+    waiting_made (taken now Take (Some (Stop round))) u piece d after earlier ph a start h refl refl refl
+requested_delay now Continue u piece d after earlier ph a start h =
+    waiting_made (taken now Take (Some Continue)) u piece d after earlier ph a start h refl refl refl
+requested_delay now (GetInfo round) u piece d after earlier ph a start h =
+    waiting_made (taken now Take (Some (GetInfo round))) u piece d after earlier ph a start h refl refl refl
+
+pub take_delay : (now : ℕ) (line : List Request) (u : UnitView) (piece : List OwnTurn) (d : OwnTurn)
+    (after : List OwnTurn) (earlier : List Attempt)
+    → u.phase ≡ Delay → u.attempt ≡ length earlier + 1 → u.timers.stopwatch.start ≡ start_of piece
+    → IsDelayed u.terms u piece (d ∷ after) earlier
+    → IsMade u.terms (take_row now Delay line u).next (cut piece (taken now Take (oldest line) ∷ d ∷ after) ∷ earlier)
+take_delay now [] u piece d after earlier ph a start h =
+    waiting_made (taken now Take None) u piece d after earlier ph a start h refl refl refl
+take_delay now (request ∷ line) u piece d after earlier ph a start h =
+    requested_delay now request (record u { line = line }) piece d after earlier ph a start h
