@@ -47,7 +47,8 @@ row_made now Starting (Started pid) before u (cut piece [] ∷ earlier) same en 
 row_made now Starting (StartFailed error) before u (cut piece [] ∷ earlier) same en is le a st (on, ss) =
     made_more (row_at now Starting (StartFailed error) u).next Deciding (taken now (StartFailed error) None) piece earlier refl
     a (simp quiet_said st) (past_refused now error None u piece earlier on a ss)
-row_made now Running Due before u (cut piece [] ∷ earlier) same en is le a st h = slow_made now u piece earlier is le (rw same at en) a h
+row_made now Running Due before u (cut piece [] ∷ earlier) same en is le a st h =
+    slow_made now u piece earlier is le (rw same at en) a h
 row_made now Running Take before u (cut piece [] ∷ earlier) same en is le a st h =
     take_running now u.line u piece earlier is le a h
 row_made now Running (Exit exit) before u (cut piece [] ∷ earlier) same en is le a st h =

@@ -103,7 +103,8 @@ itself k = grind arith
 -- its time to end by itself is over
 said_killed : (t : OwnTurn) (u : UnitView) (piece : List OwnTurn) (earlier : List Attempt)
     → any_is ends_wait piece ≡ false → is_in_grace u.terms.slow piece ≡ true → begins_attempt t.turn ≡ false
-    → decides t.turn ≡ false → ends_time u.terms.slow t ≡ true → IsSaid u.terms.slow u.test.unit t (cut piece [] ∷ earlier) (killed u)
+    → decides t.turn ≡ false → ends_time u.terms.slow t ≡ true
+    → IsSaid u.terms.slow u.test.unit t (cut piece [] ∷ earlier) (killed u)
 said_killed t u piece earlier waited grace goes undecided over = by_due (is_due_turn t.turn) refl
   where
     by_due : (d : Bool) → is_due_turn t.turn ≡ d → IsSaid u.terms.slow u.test.unit t (cut piece [] ∷ earlier) (killed u)
@@ -273,17 +274,23 @@ row_said : (now : ℕ) (ph : Phase) (turn : UnitTurn) (u : UnitView) (ps : List 
     → IsSaid u.terms.slow u.test.unit (taken now turn (request_of turn u.line)) ps (row_at now ph turn u)
 row_said now StartSent (Answered true) u [] en a h = start_said now u []
 row_said now StartSent (Answered false) u [] en a h = record { asks = refl; sends = refl }
-row_said now Starting (Started pid) u (cut piece [] ∷ earlier) en a h = said_still _ _ _ piece earlier _ refl refl refl refl refl refl
-row_said now Starting (StartFailed error) u (cut piece [] ∷ earlier) en a h = said_still _ _ _ piece earlier _ refl refl refl refl refl refl
+row_said now Starting (Started pid) u (cut piece [] ∷ earlier) en a h =
+    said_still _ _ _ piece earlier _ refl refl refl refl refl refl
+row_said now Starting (StartFailed error) u (cut piece [] ∷ earlier) en a h =
+    said_still _ _ _ piece earlier _ refl refl refl refl refl refl
 row_said now Running Due u (cut piece [] ∷ earlier) en a (on, ss) =
     said_slow now u piece earlier on.is_at.wait_over on.timer.stage.1
     (in_time u.terms u.timers now u.latest piece on.is_at.wait_over on.timer en) on.is_at.counted a
 row_said now Running Take u (cut piece [] ∷ earlier) en a (on, ss) =
     take_said_running now u.line u piece earlier on.is_at.wait_over on.timer.stage.1
-row_said now Running (Exit exit) u (cut piece [] ∷ earlier) en a h = said_still _ _ _ piece earlier _ refl refl refl refl refl refl
-row_said now Running (WaitFailed error) u (cut piece [] ∷ earlier) en a h = said_still _ _ _ piece earlier _ refl refl refl refl refl refl
-row_said now Running (Piece stream bytes) u (cut piece [] ∷ earlier) en a h = said_still _ _ _ piece earlier _ refl refl refl refl refl refl
-row_said now Running (StreamEnd stream) u (cut piece [] ∷ earlier) en a h = said_still _ _ _ piece earlier _ refl refl refl refl refl refl
+row_said now Running (Exit exit) u (cut piece [] ∷ earlier) en a h =
+    said_still _ _ _ piece earlier _ refl refl refl refl refl refl
+row_said now Running (WaitFailed error) u (cut piece [] ∷ earlier) en a h =
+    said_still _ _ _ piece earlier _ refl refl refl refl refl refl
+row_said now Running (Piece stream bytes) u (cut piece [] ∷ earlier) en a h =
+    said_still _ _ _ piece earlier _ refl refl refl refl refl refl
+row_said now Running (StreamEnd stream) u (cut piece [] ∷ earlier) en a h =
+    said_still _ _ _ piece earlier _ refl refl refl refl refl refl
 row_said now Running (ReadError stream error) u (cut piece [] ∷ earlier) en a h =
     said_still _ _ _ piece earlier _ refl refl refl refl refl refl
 row_said now Grace Due u (cut piece [] ∷ earlier) en a (on, ss) =
@@ -291,18 +298,25 @@ row_said now Grace Due u (cut piece [] ∷ earlier) en a (on, ss) =
 row_said now Grace Take u (cut piece [] ∷ earlier) en a (on, ss) =
     take_said_grace now u.line u piece earlier on.is_at.wait_over on.timer.stage.1
 row_said now Grace (Exit exit) u (cut piece [] ∷ earlier) en a h = said_still _ _ _ piece earlier _ refl refl refl refl refl refl
-row_said now Grace (WaitFailed error) u (cut piece [] ∷ earlier) en a h = said_still _ _ _ piece earlier _ refl refl refl refl refl refl
-row_said now Grace (Piece stream bytes) u (cut piece [] ∷ earlier) en a h = said_still _ _ _ piece earlier _ refl refl refl refl refl refl
-row_said now Grace (StreamEnd stream) u (cut piece [] ∷ earlier) en a h = said_still _ _ _ piece earlier _ refl refl refl refl refl refl
+row_said now Grace (WaitFailed error) u (cut piece [] ∷ earlier) en a h =
+    said_still _ _ _ piece earlier _ refl refl refl refl refl refl
+row_said now Grace (Piece stream bytes) u (cut piece [] ∷ earlier) en a h =
+    said_still _ _ _ piece earlier _ refl refl refl refl refl refl
+row_said now Grace (StreamEnd stream) u (cut piece [] ∷ earlier) en a h =
+    said_still _ _ _ piece earlier _ refl refl refl refl refl refl
 row_said now Grace (ReadError stream error) u (cut piece [] ∷ earlier) en a h =
     said_still _ _ _ piece earlier _ refl refl refl refl refl refl
-row_said now KillWait (Exit exit) u (cut piece [] ∷ earlier) en a h = said_still _ _ _ piece earlier _ refl refl refl refl refl refl
-row_said now KillWait (WaitFailed error) u (cut piece [] ∷ earlier) en a h = said_still _ _ _ piece earlier _ refl refl refl refl refl refl
+row_said now KillWait (Exit exit) u (cut piece [] ∷ earlier) en a h =
+    said_still _ _ _ piece earlier _ refl refl refl refl refl refl
+row_said now KillWait (WaitFailed error) u (cut piece [] ∷ earlier) en a h =
+    said_still _ _ _ piece earlier _ refl refl refl refl refl refl
 row_said now Leak Due u (cut piece [] ∷ earlier) en a (on, ss) =
     said_after _ _ _ piece earlier _ on.is_at.wait_over refl refl refl refl
 row_said now Leak Take u (cut piece [] ∷ earlier) en a (on, ss) = take_said_leak now u.line u piece earlier on.is_at.wait_over
-row_said now Leak (Piece stream bytes) u (cut piece [] ∷ earlier) en a h = said_still _ _ _ piece earlier _ refl refl refl refl refl refl
-row_said now Leak (StreamEnd stream) u (cut piece [] ∷ earlier) en a h = said_still _ _ _ piece earlier _ refl refl refl refl refl refl
+row_said now Leak (Piece stream bytes) u (cut piece [] ∷ earlier) en a h =
+    said_still _ _ _ piece earlier _ refl refl refl refl refl refl
+row_said now Leak (StreamEnd stream) u (cut piece [] ∷ earlier) en a h =
+    said_still _ _ _ piece earlier _ refl refl refl refl refl refl
 row_said now Leak (ReadError stream error) u (cut piece [] ∷ earlier) en a h =
     said_still _ _ _ piece earlier _ refl refl refl refl refl refl
 row_said now Deciding (Decide word) u (cut piece [] ∷ earlier) en a h = decide_said now word u piece earlier
