@@ -82,7 +82,7 @@ pub fn delay_by(policy: &RetryPolicy, before: u32, word: u32) -> u64
 }
 
 /// The delays before the retries of a test, one after the other: as many as its policy has retries.
-#[derive(Clone, Copy, Drop)]
+#[derive(Drop)]
 pub struct BackoffIter {
     policy: RetryPolicy,
     answered: u32,
