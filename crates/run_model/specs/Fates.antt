@@ -1,5 +1,5 @@
 -- What becomes of a test in a sub-run that has ended, and what is told of it then.
-use Rattle.std.specs.Prelude.{ℕ, ◌+◌, ◌-◌, ◌≡◌, ◌⊎◌, ◌≤◌, ◌<◌, not, List, [], ◌∷◌, ◌++◌}
+use Rattle.std.specs.Prelude.{ℕ, ◌-◌, ◌≡◌, ◌⊎◌, ◌≤◌, ◌<◌, not, List, [], ◌∷◌, ◌++◌}
 use Rattle.std.specs.Prelude.{length, Bool, true, false}
 use Rattle.std.specs.List.{list_all}
 use Rattle.run_events.specs.Result.{is_success}

@@ -26,6 +26,7 @@ fn has_jitter(policy: &RetryPolicy) -> bool
 }
 
 // A delay that was doubled so often, at most the greatest u64.
+#[tactic(auto, using(crate::proofs::BackoffLemmas::doubled_past))]
 fn doubled(delay: u64, times: u32) -> u64
     ensures { result ≡ min (delay * 2 ^ times) (2 ^ 64 - 1) }
 {
@@ -51,7 +52,9 @@ fn whole_delay(policy: &RetryPolicy, before: u32) -> u64
     match policy {
         RetryPolicy::Fixed { delay, .. } => *delay,
         RetryPolicy::Exponential {
-            delay, max_delay, ..
+            delay,
+            max_delay,
+            ..
         } => capped(*max_delay, doubled(*delay, before)),
     }
 }
