@@ -189,7 +189,8 @@ row_others now ph turn u seat k is en apart = by_take (row_takes now ph turn u e
         rw (at, to) (decide_cases Leaves now word u
         (λ retry. quiet_leaves seat _ k (failed_quiet (next_delay word u) u (last_status u.statuses)))
         (λ none. ap (λ b. if b then Gone else seat k) apart))
-    by_take (passes at to) = quiet_leaves seat _ k (passes_stays u _ (rw at (row_passes now turn u (is ∙ at)))).sent
+    by_take (passes at to) =
+        quiet_leaves seat _ k (passes_stays u (row_at now ph turn u) (rw at (row_passes now turn u (is ∙ at)))).sent
     by_take (again go at to) = rw (at, to) (once_more go)
 
 -- a unit's own turn leaves the board's seats, or ends the use of its own

@@ -160,15 +160,15 @@ own_line now turn u is en h = by_take (row_takes now u.phase turn u en)
     by_go true h = h.0 ∙ sym h.1
     by_go false h = h.0
 
-    moves : (ph : Phase) {as : UnitTurn} → u.phase ≡ ph → turn ≡ as
-        → HasLineIn (row_at now ph as (at_moment now u)).next.phase (row_at now ph as (at_moment now u)).next.line
-        (drop (if is_take as then 1 else 0) is)
+    moves : (ph : Phase) {own : UnitTurn} → u.phase ≡ ph → turn ≡ own
+        → HasLineIn (row_at now ph own (at_moment now u)).next.phase (row_at now ph own (at_moment now u)).next.line
+        (drop (if is_take own then 1 else 0) is)
         → HasLineIn (row now turn u).next.phase (row now turn u).next.line (drop (if is_take turn then 1 else 0) is)
-    moves ph at to has =
+    moves ph {own} at to has =
         subst (λ turn. HasLineIn (row now turn u).next.phase (row now turn u).next.line
         (drop (if is_take turn then 1 else 0) is)) (sym to)
-        (subst (λ ph. HasLineIn (row_at now ph _ (at_moment now u)).next.phase
-        (row_at now ph _ (at_moment now u)).next.line (drop (if is_take _ then 1 else 0) is)) (sym at) has)
+        (subst (λ ph. HasLineIn (row_at now ph own (at_moment now u)).next.phase
+        (row_at now ph own (at_moment now u)).next.line (drop (if is_take own then 1 else 0) is)) (sym at) has)
 
     by_take : Takes u.phase turn
         → HasLineIn (row now turn u).next.phase (row now turn u).next.line (drop (if is_take turn then 1 else 0) is)

@@ -197,8 +197,9 @@ ends_by now signal u v keeps same on at ss = record {
   reports = tt;
 }
 
-requests : (now : ℕ) (ph : Phase) (u : UnitView) → is_open u.phase ≡ true → IsOwn u (take_row now ph u.line u)
-requests now ph u on = by_line u.line
+requests : (now : ℕ) (ph : Phase) (u : UnitView) → is_open u.phase ≡ true → is_open ph ≡ true
+    → IsOwn u (take_row now ph u.line u)
+requests now ph u on ph_on = by_line u.line
   where
     still : (line : List Request) → IsOwn u (quiet (record u { line = line }))
     still line = record {
@@ -208,22 +209,23 @@ requests now ph u on = by_line u.line
       reports = tt;
     }
 
-    by_request : (ph : Phase) (request : Request) (line : List Request)
+    by_request : (ph : Phase) (request : Request) (line : List Request) → is_open ph ≡ true
         → IsOwn u (requested now ph request (record u { line = line }))
-    by_request Running (Shutdown request) line =
+    by_request Running (Shutdown request) line ph_on =
         ends_by now (terminate_method (Signalled request) u.terms.slow.grace) u (record u { line = line })
         (record { test = refl; slot = refl; terms = refl; latest = refl }) refl on refl refl
-    by_request Grace (Shutdown request) line = record {
+    by_request Grace (Shutdown request) line ph_on = record {
       keeps = record { test = refl; slot = refl; terms = refl; latest = refl };
       moves = inl (record { phase = refl; attempt = refl; statuses = refl; sent = tt });
       asks = refl;
       reports = tt;
     }
-    by_request ph request line = still line
+    by_request Delay request line ph_on = cc
+    by_request ph request line ph_on = still line
 
     by_line : (line : List Request) → IsOwn u (take_row now ph line u)
     by_line [] = still u.line
-    by_line (request ∷ line) = by_request ph request line
+    by_line (request ∷ line) = by_request ph request line ph_on
 
 -- each row of an attempt that goes on
 own : (now : ℕ) (ph : Phase) (turn : UnitTurn) (u : UnitView) → u.phase ≡ ph → is_open ph ≡ true
@@ -247,7 +249,7 @@ own now Starting turn u is on = record {
   reports = tt;
 }
 own now Running Due u is on = slows now (one_more u.timers.slow_count) u (ap is_open is)
-own now Running Take u is on = requests now Running u (ap is_open is)
+own now Running Take u is on = requests now Running u (ap is_open is) refl
 own now Running turn u is on = runs now turn u (ap is_open is)
 own now Grace Due u is on = record {
   keeps = record { test = refl; slot = refl; terms = refl; latest = refl };
@@ -255,10 +257,10 @@ own now Grace Due u is on = record {
   asks = refl;
   reports = tt;
 }
-own now Grace Take u is on = requests now Grace u (ap is_open is)
+own now Grace Take u is on = requests now Grace u (ap is_open is) refl
 own now Grace turn u is on = runs now turn u (ap is_open is)
 own now KillWait turn u is on = runs now turn u (ap is_open is)
-own now Leak Take u is on = requests now Leak u (ap is_open is)
+own now Leak Take u is on = requests now Leak u (ap is_open is) refl
 own now Leak turn u is on = waits now turn u (ap is_open is)
 own now ph turn u is on = cc
 
