@@ -71,16 +71,16 @@ IsUnderWay w = (0 < w.delivered) × (w.never ≡ false) × (w.left ≡ false)
 abbrev pub AreFailed : ℕ → List ExecuteStatus → Type 0
 AreFailed retries ss = (list_all (λ s. not (is_success s.result)) ss ≡ true) × (length ss ≤ retries)
 
--- a test that ended with these attempts, by whether it was left
-abbrev pub HasEndedAs : ℕ → List ExecuteStatus → Bool → Type 0
-HasEndedAs retries ss true = HasRetryLeft retries ss
-HasEndedAs retries ss false = MeetsAttemptLaw retries ss
+-- what came of the attempts of a test that is over, by whether it was left
+abbrev pub HasEndedAs : Bool → ℕ → List ExecuteStatus → Type 0
+HasEndedAs true retries ss = HasRetryLeft retries ss
+HasEndedAs false retries ss = MeetsAttemptLaw retries ss
 
 -- a test that is over after these attempts, by the number of the last: it was left there, never started, or finishes
 abbrev pub IsOverWith : ℕ → ℕ → List ExecuteStatus → Way → Type 0
 IsOverWith retries attempt [] w = (w.never ≡ true) × (w.left ≡ false)
 IsOverWith retries attempt (s ∷ ss) w = (w.never ≡ false) × (attempt ≡ length (s ∷ ss))
-    × HasEndedAs retries (s ∷ ss) w.left
+    × HasEndedAs w.left retries (s ∷ ss)
 
 -- how far a test is on its way, by its phase, its attempts and the number of the current one; one that is skipped has no way
 abbrev pub IsOnWayIn : ℕ → Phase → ℕ → List ExecuteStatus → Way → Type 0

@@ -39,7 +39,8 @@ use Rattle.run_laws.proofs.Running.{is_start, starts-account}
 use Rattle.run_laws.proofs.ByTurn.{is_answer, by_turn}
 use Rattle.run_laws.proofs.OnBoard.{board_of, board_with, unit_in-is}
 use Rattle.run_laws.proofs.Newcomers.{new_unit}
-use Rattle.run_laws.proofs.Facts.{start_waits, retry_waits, may_go-is, oldest_built}
+use Rattle.run_model.specs.Story.{was_left}
+use Rattle.run_laws.proofs.Facts.{itself, start_in, start_waits, retry_waits, may_go-is, oldest_built}
 use Rattle.run_laws.proofs.OpenSeats.{opened, at_last, AreLower, same_lower}
 use Rattle.run_laws.proofs.ToldSeats.{seat_told-other, seat_told-nothing, seat_told-started, seat_told-finished}
 use Rattle.run_laws.proofs.BoardSeats.{board_seat, seat_after, AreKeptIn, kept_fewer, acts_lower, acts_last}
@@ -144,13 +145,14 @@ at_last_apart k (m ∷ ms) seat none =
 start_alone : (p : Settings) (over : Bool) (now : ℕ) (run : List Happening) (start : TestStart) (rest : List Message)
     → Holds p over now run → queue run ≡ Start start ∷ rest → pending_of start.test.unit rest ≡ []
 start_alone p over now run start rest h eq =
-    alone (is_mismatched p (place_of p start.test.unit)) (unit_of start.test.unit run)
+    alone (is_mismatched p (place_of p start.test.unit)) (was_left start.test.unit run) (unit_of start.test.unit run)
     (account_of start.test.unit (told run)) (rw eq at (h.accounts start.test.unit))
   where
-    alone : (mm : Bool) (v : Option UnitView) (t : List News)
-        → HasAccount mm v t (pending_of start.test.unit (Start start ∷ rest)) → pending_of start.test.unit rest ≡ []
-    alone mm None t h = grind (arith, common_steps)
-    alone mm (Some u) t h = grind (arith, common_steps)
+    alone : (mm left : Bool) (v : Option UnitView) (t : List News)
+        → HasAccount mm left v t (pending_of start.test.unit (Start start ∷ rest)) → pending_of start.test.unit rest ≡ []
+    alone mm left None t h = let never = (rw (itself start.test.unit) at h).1 in cc
+    alone mm left (Some u) t h =
+        (start_in mm left u.phase u.statuses t (pending_of start.test.unit rest) (rw (itself start.test.unit) at h)).2
 
 -- nothing is let go where a cause stands
 goes_on : (why : Option CancelReason) → is_some why ≡ true → is_none why ≡ true → false ≡ true
@@ -243,7 +245,7 @@ retry_moves p over now run retry rest go w h eq goes ew = record {
         → {seat : ℕ → Seat} → AreLower seat (board_seat run)
         → AreLower (at_last seat (option_to_list (taken_by now unit (Answered go) w).sent))
         (seat_after now (taken_by now unit (Answered go) w).part run)
-    by_go false w ew lets = cc
+    by_go false w ew lets below = cc
     by_go true None ew lets below = below
     by_go true (Some u) ew lets below =
         let waits = retry_waits p over now run retry rest h eq in
