@@ -322,8 +322,9 @@ start_accounted mm left now go u t q at unleft h = by_stand (stands mm left u.ph
         let rest : q ≡ [] = cc in
         rw (at, mm_not, unleft, told, rest) (with_none go)
       where
-        with_none : (go : Bool) → HasAccountAt false false (row_at now StartSent (Answered go) (at_moment now u)).next.phase
-            (row_at now StartSent (Answered go) (at_moment now u)).next.statuses (if go then started ∷ [] else []) []
+        with_none : (go : Bool) → HasAccountAt false false
+            (row_at now StartSent (Answered go) (record (at_moment now u) { phase = StartSent })).next.phase
+            (row_at now StartSent (Answered go) (record (at_moment now u) { phase = StartSent })).next.statuses (if go then started ∷ [] else []) []
         with_none true = rw none (refl, refl)
         with_none false = rw none (refl, refl)
     by_stand (idle waits) = cc
@@ -389,8 +390,9 @@ retry_accounted mm left now go u t q at h = by_stand (stands mm left u.phase u.s
             ∙ sym (tried-append early s) ∙ ap tried (sym e))
 
         by_go : (go : Bool)
-            → HasAccountAt false (not go) (row_at now RetrySent (Answered go) (at_moment now u)).next.phase
-            (row_at now RetrySent (Answered go) (at_moment now u)).next.statuses
+            → HasAccountAt false (not go)
+            (row_at now RetrySent (Answered go) (record (at_moment now u) { phase = RetrySent })).next.phase
+            (row_at now RetrySent (Answered go) (record (at_moment now u) { phase = RetrySent })).next.statuses
             ((started ∷ tried early ++ failed s ∷ []) ++ (if go then retried ∷ [] else [])) []
         by_go true = (again_told, refl)
         by_go false = (early, (s, (e, (append-nil (started ∷ tried early ++ failed s ∷ []), refl))))

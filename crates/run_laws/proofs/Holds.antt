@@ -1,6 +1,6 @@
 -- What holds of the newest sub-run after every legal journal.
 use Rattle.std.specs.Prelude.{ℕ, ◌≡◌, ◌+◌, ◌-◌, ◌<◌, ◌≤◌, List, [], ◌∷◌, ◌++◌, map, length, Bool, true, false, not}
-use Rattle.std.specs.Prelude.{if◌then◌else◌, Option, Some, None, ⊤}
+use Rattle.std.specs.Prelude.{Option, Some, None, ⊤}
 use Rattle.std.specs.List.{All, list_all}
 use Rattle.run_events.specs.Result.{is_success}
 use Rattle.run_events.specs.declared.message.Message.{Message}
@@ -71,11 +71,16 @@ IsUnderWay w = (0 < w.delivered) × (w.never ≡ false) × (w.left ≡ false)
 abbrev pub AreFailed : ℕ → List ExecuteStatus → Type 0
 AreFailed retries ss = (list_all (λ s. not (is_success s.result)) ss ≡ true) × (length ss ≤ retries)
 
+-- what came of the attempts of a test that is over, by whether it was left
+abbrev pub HasEndedAs : Bool → ℕ → List ExecuteStatus → Type 0
+HasEndedAs true retries ss = HasRetryLeft retries ss
+HasEndedAs false retries ss = MeetsAttemptLaw retries ss
+
 -- a test that is over after these attempts, by the number of the last: it was left there, never started, or finishes
 abbrev pub IsOverWith : ℕ → ℕ → List ExecuteStatus → Way → Type 0
 IsOverWith retries attempt [] w = (w.never ≡ true) × (w.left ≡ false)
 IsOverWith retries attempt (s ∷ ss) w = (w.never ≡ false) × (attempt ≡ length (s ∷ ss))
-    × (if w.left then HasRetryLeft retries (s ∷ ss) else MeetsAttemptLaw retries (s ∷ ss))
+    × HasEndedAs w.left retries (s ∷ ss)
 
 -- how far a test is on its way, by its phase, its attempts and the number of the current one; one that is skipped has no way
 abbrev pub IsOnWayIn : ℕ → Phase → ℕ → List ExecuteStatus → Way → Type 0
