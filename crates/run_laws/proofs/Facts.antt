@@ -34,12 +34,12 @@ pub record Waits (p : Settings) (now : ℕ) (run : List Happening) (k : ℕ) : T
   pub below : k < units_in p
   pub untold : account_of k (told run) ≡ []
 
-itself : (k : ℕ) → (k == k) ≡ true
+pub itself : (k : ℕ) → (k == k) ≡ true
 itself k = grind arith
 
-start_in : (mm left : Bool) (ph : Phase) (ss : List ExecuteStatus) (t q : List News)
-    → HasAccountAt mm left ph ss t (started ∷ q) → (ph ≡ StartSent) × (t ≡ [])
-start_in false left StartSent ss t q (none, (told, waits)) = (refl, told)
+pub start_in : (mm left : Bool) (ph : Phase) (ss : List ExecuteStatus) (t q : List News)
+    → HasAccountAt mm left ph ss t (started ∷ q) → (ph ≡ StartSent) × (t ≡ []) × (q ≡ [])
+start_in false left StartSent ss t q (none, (told, waits)) = (refl, told, cc)
 start_in false left Starting ss t q (told, waits) = cc
 start_in false left Running ss t q (told, waits) = cc
 start_in false left Grace ss t q (told, waits) = cc
