@@ -1,6 +1,7 @@
 -- What holds of the oldest message.
-use Rattle.std.proofs.Common.{◌≡◌, inl, inr, ℕ, ◌<◌, ◌≤◌, ◌==◌, List, [], ◌∷◌, length, Bool, true, false, Option, Some}
+use Rattle.std.proofs.Common.{◌≡◌, inl, inr, ℕ, ◌<◌, ◌≤◌, ◌==◌, List, [], ◌∷◌, ◌++◌, length, Bool, true, false, Option, Some}
 use Rattle.std.proofs.Common.{None, is_none, refl, ap, sym, subst, arith}
+use Rattle.std.specs.List.{list_any}
 use Rattle.std.proofs.lemmas.List.Elements.{All-head, All-same, All-drop}
 use Rattle.run_events.proofs.StatsLemmas.{total-cancel_reason}
 use Rattle.run_events.specs.declared.settings.Settings.{Settings}
@@ -14,6 +15,7 @@ use Rattle.run_model.specs.declared.happening.Happening.{Happening}
 use Rattle.run_model.specs.declared.phase.Phase.{Phase}
 use Rattle.run_model.specs.declared.phase.Phase.TheVariants.{StartSent, Starting, Running, Grace, KillWait, Leak}
 use Rattle.run_model.specs.declared.phase.Phase.TheVariants.{Deciding, Delay, RetrySent, Over}
+use Rattle.run_model.specs.declared.unit_turn.UnitTurn.{UnitTurn}
 use Rattle.run_model.specs.declared.unit_view.UnitView.{UnitView}
 use Rattle.run_model.specs.Words.{reason, finished as finishes_told, sent, delivered, queue, told, unit_of, tally}
 use Rattle.run_model.specs.Words.{is_running}
@@ -22,8 +24,33 @@ use Rattle.run_model.specs.Admission.{units_in}
 use Rattle.run_model.specs.Dispatch.{may_go}
 use Rattle.run_model.specs.Accounts.{News, started, failed, retried, finished, tried, HasAccount, HasAccountAt}
 use Rattle.run_model.specs.Accounts.{is_mismatched, account_of, pending_of}
-use Rattle.run_laws.proofs.Running.{runs-account, tried-unfinished}
-use Rattle.run_laws.proofs.Holds.{Holds, IsBuilt, place_of}
+use Rattle.run_model.specs.Backoff.{retry_count}
+use Rattle.run_model.specs.Unit.{takes, takes_at}
+use Rattle.run_laws.proofs.Running.{is_finish, runs-account, tried-unfinished, failing-unfinished}
+use Rattle.run_laws.proofs.Holds.{Holds, IsBuilt, Way, IsOnWayIn, IsOnWayAt, place_of}
+
+-- a unit that takes a turn wasn't left
+pub unleft : (mm : Bool) (now : ℕ) (u : UnitView) (turn : UnitTurn) (w : Way) → takes now u turn ≡ true
+    → IsOnWayAt mm u w → w.left ≡ false
+unleft true now u turn w en h = h.2
+unleft false now u turn w en h = by_phase u.phase en h
+  where
+    by_phase : (ph : Phase) → takes_at now ph u turn ≡ true
+        → IsOnWayIn (retry_count u.terms.retries) ph u.attempt u.statuses w → w.left ≡ false
+    by_phase Over en h = cc
+    by_phase ph en h = h.0.2
+
+-- how often its start and its retries were delivered: never before its start, and then once at least
+pub undelivered : (mm : Bool) (u : UnitView) (w : Way) → u.phase ≡ StartSent → IsOnWayAt mm u w → w.delivered ≡ 0
+undelivered true u w at h = h.0
+undelivered false u w at h =
+    (subst (λ ph. IsOnWayIn (retry_count u.terms.retries) ph u.attempt u.statuses w) at h).0.0
+
+pub delivered_once : (mm : Bool) (u : UnitView) (w : Way) → mm ≡ false → u.phase ≡ RetrySent → IsOnWayAt mm u w
+    → 0 < w.delivered
+delivered_once true u w mm_not at h = cc
+delivered_once false u w mm_not at h =
+    (subst (λ ph. IsOnWayIn (retry_count u.terms.retries) ph u.attempt u.statuses w) at h).0.0
 
 -- a test whose start message is the oldest waits for it, and nothing was told of it
 pub record Waits (p : Settings) (now : ℕ) (run : List Happening) (k : ℕ) : Type 0 where
@@ -78,17 +105,25 @@ start_waits p over now run start rest h eq =
     let named = h.named k found.0 found.1 in
     record { unit = found.0; is = found.1; phase = found.2; latest = named.2; below = named.1; untold = found.3 }
 
--- a test whose retry message is the oldest waits for that, and its last failure was told
+-- a test whose retry message is the oldest matches, waits for that, and runs
 pub record WaitsAgain (p : Settings) (now : ℕ) (run : List Happening) (k : ℕ) : Type 0 where
   pub unit : UnitView
   pub is : unit_of k run ≡ Some unit
   pub phase : unit.phase ≡ RetrySent
   pub latest : unit.latest ≤ now
   pub below : k < units_in p
+  pub matched : is_mismatched p (place_of p k) ≡ false
+  pub runs : is_running (told run) k ≡ true
+
+-- it was told started, and then no finish
+abbrev IsBegun : List News → Type 0
+IsBegun t = (ns : List News) × ((t ≡ started ∷ ns) × (list_any is_finish ns ≡ false))
 
 retry_in : (mm left : Bool) (ph : Phase) (ss : List ExecuteStatus) (t q : List News)
-    → HasAccountAt mm left ph ss t (retried ∷ q) → ph ≡ RetrySent
-retry_in false left RetrySent ss t q h = refl
+    → HasAccountAt mm left ph ss t (retried ∷ q) → (ph ≡ RetrySent) × (mm ≡ false) × IsBegun t
+retry_in false left RetrySent ss t q (early, (s, (e, inl (told, waits)))) = cc
+retry_in false left RetrySent ss t q (early, (s, (e, inr (told, waits)))) =
+    (refl, refl, (tried early ++ failed s ∷ [], (told, failing-unfinished early s)))
 retry_in false left StartSent ss t q (none, (told, waits)) = cc
 retry_in false left Starting ss t q (told, waits) = cc
 retry_in false left Running ss t q (told, waits) = cc
@@ -109,7 +144,7 @@ retry_in true left ph ss t q h = absurd h
 
 retry_of_unit : (mm left : Bool) (retry : TestRetry) (v : Option UnitView) (t : List News) (rest : List Message)
     → HasAccount mm left v t (pending_of retry.start.test.unit (Retry retry ∷ rest))
-    → (u : UnitView) × (v ≡ Some u) × (u.phase ≡ RetrySent)
+    → (u : UnitView) × (v ≡ Some u) × ((u.phase ≡ RetrySent) × (mm ≡ false) × IsBegun t)
 retry_of_unit mm left retry None t rest h = let never = (rw (itself retry.start.test.unit) at h).1 in cc
 retry_of_unit mm left retry (Some u) t rest h = (
   u,
@@ -126,7 +161,15 @@ retry_waits p over now run retry rest h eq =
     let found = retry_of_unit (is_mismatched p (place_of p k)) (was_left k run) retry (unit_of k run)
     (account_of k (told run)) rest (rw eq at (h.accounts k)) in
     let named = h.named k found.0 found.1 in
-    record { unit = found.0; is = found.1; phase = found.2; latest = named.2; below = named.1 }
+    record {
+      unit = found.0;
+      is = found.1;
+      phase = found.2.0;
+      latest = named.2;
+      below = named.1;
+      matched = found.2.1;
+      runs = runs-account k (told run) found.2.2.0 found.2.2.1.0 found.2.2.1.1;
+    }
 
 -- a test whose finish message is the oldest was told started, and no finish
 pub record Finishes (p : Settings) (run : List Happening) (k : ℕ) (statuses : List ExecuteStatus) : Type 0 where

@@ -160,6 +160,11 @@ pub tried-unfinished : (ss : List ExecuteStatus) → list_any is_finish (tried s
 tried-unfinished [] = refl
 tried-unfinished (s ∷ ss) = tried-unfinished ss
 
+pub failing-unfinished : (ss : List ExecuteStatus) (s : ExecuteStatus)
+    → list_any is_finish (tried ss ++ failed s ∷ []) ≡ false
+failing-unfinished [] s = refl
+failing-unfinished (x ∷ ss) s = failing-unfinished ss s
+
 -- any other event leaves the number as it was
 pub running-kept : (n : ℕ) (es : List ReporterEvent) (e : ReporterEvent)
     → ((k : ℕ) → starts k e ≡ false) → ((k : ℕ) → finishes k e ≡ false)
