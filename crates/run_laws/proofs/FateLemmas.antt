@@ -25,8 +25,9 @@ use Rattle.run_model.specs.Accounts.{News, started, failed, retried, finished, s
 use Rattle.run_model.specs.Accounts.{HasAccountAt, is_mismatched, account_of}
 use Rattle.run_model.specs.Backoff.{retry_count}
 use Rattle.run_model.specs.Story.{OwnTurn, story_of, pieces, was_left}
-use Rattle.run_model.specs.Attempts.{none_goes_on, ended_statuses}
-use Rattle.run_model.specs.Fates.{account, retold, failures, MeetsAttemptLaw, HasRetryLeft, HasFate, HaveFates}
+use Rattle.run_model.specs.Attempts.{none_goes_on, ended_statuses, statuses_of}
+use Rattle.run_laws.proofs.OnceLemmas.{all_told}
+use Rattle.run_model.specs.Fates.{told_ended, account, retold, failures, MeetsAttemptLaw, HasRetryLeft, HasFate, HaveFates}
 use Rattle.run_laws.proofs.Holds.{Holds, Way, way_of, HasEndedAs, IsOnWayIn, IsOnWayAt, IsOnWay}
 use Rattle.run_laws.proofs.AttemptLemmas.{IsMadeIf, made_statuses, made_ended, made_last}
 use Rattle.run_laws.proofs.OnBoard.{board_of, units-length, units-at}
@@ -175,9 +176,19 @@ end_fates p over now run e j h below complete =
       finished = fate.1;
       left = fate.2;
       ended = going_none (terms_at p j) (unit_of k run) (story_of k run) done made;
+      once = ap told_ended (filter_map-append (news_of k) (told run) _ ∙ append-nil (account_of k (told run)))
+          ∙ all_told (is_mismatched p j) (was_left k run) (unit_of k run) (statuses_of p j run) (account_of k (told run)) done
+          told_all (λ u is. own_statuses u is made);
       each = each_of (is_mismatched p j) (way_of k run) (terms_at p j) (unit_of k run) (story_of k run)
           (account_of k (told run)) done way made told_all;
     }
+  where
+    own_statuses : (u : UnitView) → unit_of (unit_of_test p j) run ≡ Some u
+        → IsMadeIf (terms_at p j) (unit_of (unit_of_test p j) run) (story_of (unit_of_test p j) run)
+        → u.statuses ≡ statuses_of p j run
+    own_statuses u is made =
+        made_statuses (terms_at p j) u (pieces (story_of (unit_of_test p j) run))
+        (subst (λ v. IsMadeIf (terms_at p j) v (story_of (unit_of_test p j) run)) is made)
 
 -- each test has its fate in the sub-run that a turn ends
 ends_fates : (p : Settings) (past : List Happening) (e : Entry) (j : ℕ) → HoldsAfter p past

@@ -18,7 +18,8 @@ use Rattle.run_model.specs.Story.{was_left}
 use Rattle.run_model.specs.Unit.{last_status}
 use Rattle.run_model.specs.Words.{unit_of}
 use Rattle.run_laws.specs.Laws.{Extends}
-use Rattle.run_laws.specs.Once.{told_ended, finished_with, account_at, IsToldOnce}
+use Rattle.run_model.specs.Fates.{told_ended}
+use Rattle.run_laws.specs.Once.{finished_with, account_at, IsToldOnce}
 use Rattle.run_laws.proofs.AccountLemmas.{last-append}
 
 -- attempts that a further one follows, with what is told after them

@@ -1,24 +1,16 @@
--- What came of each attempt is told as it ends: once at most, and exactly once in a sub-run that has ended.
-use Rattle.std.specs.Prelude.{ℕ, ◌≡◌, ◌<◌, ◌++◌, List, [], ◌∷◌, Option, Some, None, option_to_list, IfSome}
-use Rattle.std.specs.List.{All}
+-- What came of each attempt is told as it ends, once at most.
+use Rattle.std.specs.Prelude.{ℕ, ◌≡◌, List, [], ◌∷◌, Option, Some, None, IfSome}
 use Rattle.run_events.specs.declared.result.ExecuteStatus.{ExecuteStatus}
 use Rattle.run_events.specs.declared.settings.Settings.{Settings}
 use Rattle.run_model.specs.declared.entry.Entry.{Entry}
 use Rattle.run_model.specs.declared.happening.Happening.{Happening}
-use Rattle.run_model.specs.Accounts.{News, failed, finished, account_of}
-use Rattle.run_model.specs.Admission.{tests_in, unit_of_test}
+use Rattle.run_model.specs.Accounts.{News, finished, account_of}
+use Rattle.run_model.specs.Admission.{unit_of_test}
 use Rattle.run_model.specs.Attempts.{statuses_of}
+use Rattle.run_model.specs.Fates.{told_ended}
 use Rattle.run_model.specs.Journal.{IsLegal, past_of}
-use Rattle.run_model.specs.Unit.{last_status}
-use Rattle.run_model.specs.Words.{sub_run, ended_runs, told}
+use Rattle.run_model.specs.Words.{sub_run, told}
 use Rattle.run_laws.specs.Laws.{Extends}
-
--- the attempts that were told as they ended: each that failed and was to be tried again, and the last with the finish
-abbrev pub told_ended : List News → List ExecuteStatus
-told_ended [] = []
-told_ended (failed s ∷ news) = s ∷ told_ended news
-told_ended (finished ss ∷ news) = option_to_list (last_status ss) ++ told_ended news
-told_ended (n ∷ news) = told_ended news
 
 -- the attempts with which its finish was told, if that was
 abbrev pub finished_with : List News → Option (List ExecuteStatus)
@@ -39,9 +31,3 @@ pub record IsToldOnce (p : Settings) (run : List Happening) (j : ℕ) : Type 0 w
 abbrev pub AttemptsToldOnce : Type 0
 AttemptsToldOnce = (p : Settings) (journal : List Entry) → IsLegal p journal → (j : ℕ)
     → IsToldOnce p (sub_run (past_of p journal)) j
-
--- and in each sub-run that has ended all attempts were told so
-abbrev pub AllAttemptsTold : Type 0
-AllAttemptsTold = (p : Settings) (journal : List Entry) → IsLegal p journal
-    → All (λ run. (j : ℕ) → j < tests_in p → told_ended (account_at p j run) ≡ statuses_of p j run)
-    (ended_runs (past_of p journal))

@@ -2,6 +2,7 @@
 ghost use Rattle.run_laws.specs.Laws.{AccountsHold, AttemptsAreOwnTurns, BoardsStep, EventsExtend};
 ghost use Rattle.run_laws.specs.Laws.{EachHasFate, OverHasEnded};
 ghost use Rattle.run_laws.specs.Limits.{LimitsHold};
+ghost use Rattle.run_laws.specs.Once.{AttemptsToldOnce};
 ghost use Rattle.run_laws.specs.Reports.{ReportsAreOwnTurns};
 ghost use Rattle.run_laws.specs.Cancels.{CancelsAreCaused, LinesAreBroadcasts};
 ghost use Rattle.run_laws.specs.Course.{CoursesExclude, NoneRefused};
@@ -17,6 +18,12 @@ pub fn accounts_hold()
 /// starts and times, and where their timers are due, after every legal journal.
 pub fn attempts_are_their_own_turns()
     ensures { AttemptsAreOwnTurns }
+{}
+
+/// The attempts of each test in the newest sub-run that were told as they ended are the first of those that its own turns
+/// made, in order and each once, and a finish is told with just those, after every legal journal.
+pub fn attempts_are_told_once()
+    ensures { AttemptsToldOnce }
 {}
 
 /// The signals that are asked for each test's child in the newest sub-run, and the reports that it is slow, told and

@@ -1,6 +1,6 @@
 -- What becomes of a test in a sub-run that has ended, and what is told of it then.
 use Rattle.std.specs.Prelude.{ℕ, ◌-◌, ◌≡◌, ◌⊎◌, ◌≤◌, ◌<◌, not, List, [], ◌∷◌, ◌++◌}
-use Rattle.std.specs.Prelude.{length, Bool, true, false}
+use Rattle.std.specs.Prelude.{length, Bool, true, false, option_to_list}
 use Rattle.std.specs.List.{list_all}
 use Rattle.run_events.specs.Result.{is_success}
 use Rattle.run_events.specs.declared.result.ExecuteStatus.{ExecuteStatus}
@@ -9,6 +9,7 @@ use Rattle.run_model.specs.declared.happening.Happening.{Happening}
 use Rattle.run_model.specs.Admission.{tests_in, unit_of_test, terms_at}
 use Rattle.run_model.specs.Attempts.{none_goes_on, retries_at, pieces_of, statuses_of}
 use Rattle.run_model.specs.Story.{never_started, was_left}
+use Rattle.run_model.specs.Unit.{last_status}
 use Rattle.run_model.specs.Words.{told}
 use Rattle.run_model.specs.Accounts.{News, started, failed, retried, finished, skipped, account_of, is_mismatched}
 
@@ -31,6 +32,13 @@ account false true left ss = []
 account false false true ss = started ∷ failures ss
 account false false false ss = started ∷ (retold ss ++ finished ss ∷ [])
 
+-- the attempts that are told as they end: each that failed and is to be tried again, and the last with the finish
+abbrev pub told_ended : List News → List ExecuteStatus
+told_ended [] = []
+told_ended (failed s ∷ news) = s ∷ told_ended news
+told_ended (finished ss ∷ news) = option_to_list (last_status ss) ++ told_ended news
+told_ended (n ∷ news) = told_ended news
+
 -- with so many retries: each attempt but the last failed, and the last passed or no retry was left
 abbrev pub MeetsAttemptLaw : ℕ → List ExecuteStatus → Type 0
 MeetsAttemptLaw n [] = ⊥
@@ -42,7 +50,8 @@ abbrev pub HasRetryLeft : ℕ → List ExecuteStatus → Type 0
 HasRetryLeft n ss = (list_all (λ s. not (is_success s.result)) ss ≡ true) × (length ss ≤ n) × (0 < length ss)
 
 -- the test at place j of the plan, which is unit k, has its fate in a sub-run: what was told of it is its account, with
--- the attempts that its own turns made: they meet their law, they have ended, and each that was let go has its status
+-- the attempts that its own turns made: they meet their law, they have ended, each that was let go has its status, and
+-- they were told as they ended, each once
 pub record HasFateAs (p : Settings) (run : List Happening) (j k : ℕ) : Type 0 where
   pub account : account_of k (told run)
       ≡ account (is_mismatched p j) (never_started k run) (was_left k run) (statuses_of p j run)
@@ -51,6 +60,7 @@ pub record HasFateAs (p : Settings) (run : List Happening) (j k : ℕ) : Type 0 
   pub left : is_mismatched p j ≡ false → was_left k run ≡ true → HasRetryLeft (retries_at p j) (statuses_of p j run)
   pub ended : none_goes_on (terms_at p j) (pieces_of p j run) ≡ true
   pub each : length (statuses_of p j run) ≡ length (pieces_of p j run)
+  pub once : told_ended (account_of k (told run)) ≡ statuses_of p j run
 
 abbrev pub HasFate : Settings → List Happening → ℕ → Type 0
 HasFate p run j = HasFateAs p run j (unit_of_test p j)
