@@ -4,7 +4,6 @@ use Rattle.std.proofs.Common.{option_to_list, option_map, if◌then◌else◌, i
 use Rattle.std.specs.Prelude.{⊤}
 use Rattle.std.proofs.lemmas.List.Elements.{filter_map-append}
 use Rattle.std.proofs.lemmas.List.{append-nil}
-use Rattle.std.proofs.lemmas.Grind.{common_steps}
 use Rattle.run_events.specs.declared.message.Message.{Message}
 use Rattle.run_events.specs.declared.message.Message.TheVariants.{Start, Slow, AttemptFailed, Retry, Skip, Finish}
 use Rattle.run_events.specs.declared.message.TestStart.{TestStart}
@@ -30,10 +29,10 @@ use Rattle.run_model.specs.Admission.{start_message, skip_message}
 use Rattle.run_model.specs.Dispatch.{event, started_event, failed_event, retried_event, finished_event}
 use Rattle.run_laws.proofs.Holds.{IsBuilt}
 use Rattle.run_laws.proofs.ByTurn.{is_answer}
-use Rattle.run_model.specs.Accounts.{News, started, failed, retried, finished, skipped, tried, HasAccount, HasAccountAt, IsDone, IsFailing, IsRetrying}
-use Rattle.run_model.specs.Accounts.{IsFinishing, account_of, pending_in, pending_of}
+use Rattle.run_model.specs.Accounts.{News, started, failed, retried, finished, skipped, tried, HasAccount, HasAccountAt}
+use Rattle.run_model.specs.Accounts.{IsDone, IsFailing, IsRetrying, IsFinishing, account_of, pending_in, pending_of}
 use Rattle.run_laws.proofs.Rows.{is_open, IsReport, Moves, continues, row_moves, Takes, answers, opens, decides, passes, again}
-use Rattle.run_laws.proofs.Rows.{row_takes, takes_moment, Passes, row_passes, decide_cases}
+use Rattle.run_laws.proofs.Rows.{row_takes, takes_moment, StaysOrGoes, Passes, row_passes, decide_cases}
 
 -- what is told of attempts after one more, and the last status of some
 pub tried-append : (early : List ExecuteStatus) (s : ExecuteStatus)
@@ -186,8 +185,7 @@ passes_accounted false left u r t q it (early, (s, (e, h))) = by_way it.way
     by_told (inl h) = inl (h.0, retry_waits (failed s ∷ []) h.1)
     by_told (inr h) = inr (h.0, retry_waits [] h.1)
 
-    by_way : ((r.next.phase ≡ Delay) × (r.sent ≡ None)) ⊎ ((r.next.phase ≡ RetrySent) × (r.sent ≡ Some (retry_message u)))
-        → RowAccounts false left u t q r
+    by_way : StaysOrGoes u r → RowAccounts false left u t q r
     by_way (inl stays) = rw (stays.0, stays.1, it.statuses, append-nil q) (early, (s, (e, h)))
     by_way (inr goes) = rw (goes.0, goes.1, it.statuses) (early, (s, (e, by_told h)))
 
@@ -222,8 +220,7 @@ row_sends_own now ph turn u k q is en other apart = by_take (row_takes now ph tu
     failure_apart delay None = ap (pending_of k) (append-nil q)
     failure_apart delay (Some s) = waits_still k q (failed_message delay u s) (rw apart refl)
 
-    by_way : (r : Row) → ((r.next.phase ≡ Delay) × (r.sent ≡ None)) ⊎ ((r.next.phase ≡ RetrySent) × (r.sent ≡ Some (retry_message u)))
-        → pending_of k (q ++ option_to_list r.sent) ≡ pending_of k q
+    by_way : (r : Row) → StaysOrGoes u r → pending_of k (q ++ option_to_list r.sent) ≡ pending_of k q
     by_way r (inl stays) = rw stays.1 (ap (pending_of k) (append-nil q))
     by_way r (inr goes) = rw goes.1 (waits_still k q (retry_message u) (rw apart refl))
 
@@ -265,8 +262,7 @@ row_sends_built now ph turn u is en = by_take (row_takes now ph turn u en)
     by_status delay None = tt
     by_status delay (Some s) = tt
 
-    by_way : (r : Row) → ((r.next.phase ≡ Delay) × (r.sent ≡ None)) ⊎ ((r.next.phase ≡ RetrySent) × (r.sent ≡ Some (retry_message u)))
-        → IsBuiltIf r.sent
+    by_way : (r : Row) → StaysOrGoes u r → IsBuiltIf r.sent
     by_way r (inl stays) = rw stays.1 tt
     by_way r (inr goes) = rw goes.1 tt
 
@@ -324,7 +320,8 @@ start_accounted mm left now go u t q at unleft h = by_stand (stands mm left u.ph
       where
         with_none : (go : Bool) → HasAccountAt false false
             (row_at now StartSent (Answered go) (record (at_moment now u) { phase = StartSent })).next.phase
-            (row_at now StartSent (Answered go) (record (at_moment now u) { phase = StartSent })).next.statuses (if go then started ∷ [] else []) []
+            (row_at now StartSent (Answered go) (record (at_moment now u) { phase = StartSent })).next.statuses
+            (if go then started ∷ [] else []) []
         with_none true = rw none (refl, refl)
         with_none false = rw none (refl, refl)
     by_stand (idle waits) = cc

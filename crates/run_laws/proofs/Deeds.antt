@@ -27,13 +27,15 @@ use Rattle.run_model.specs.declared.unit_view.UnitView.{UnitView}
 use Rattle.run_model.specs.Unit.{at_moment, row, takes, takes_at, is_due}
 use Rattle.run_model.specs.declared.phase.Phase.TheVariants.{StartSent, RetrySent}
 use Rattle.run_model.specs.Story.{story_of, line_of, lets_go, deliveries, was_left}
-use Rattle.run_model.specs.Words.{is_on, is_running, finished_test, reason, sent, delivered, queue, told, unit_of, units, unit_after}
-use Rattle.run_model.specs.Words.{tally}
+use Rattle.run_model.specs.Words.{is_on, is_running, finished_test, reason, sent, delivered, queue, told, unit_of}
+use Rattle.run_model.specs.Words.{units, unit_after, tally}
 use Rattle.run_model.specs.Admission.{units_in, terms_at, Newcomer, newcomer}
-use Rattle.run_model.specs.Dispatch.{shuts_down, may_go, event, having_told, with_start, with_finish, started_event, retried_event}
+use Rattle.run_model.specs.Dispatch.{shuts_down, may_go, event, having_told, with_start, with_finish, started_event}
+use Rattle.run_model.specs.Dispatch.{retried_event}
 use Rattle.run_model.specs.Board.{Board, Deed, deed_events}
 use Rattle.run_model.specs.Turns.{enabled_on, is_empty, is_complete, takes_turn, turn_of_unit, unit_takes, taken_by}
-use Rattle.run_model.specs.Turns.{nothing_done, cancelled, event_of, tally_with, delivered_as, admission, delivery, run_turn, done_by, deed_on}
+use Rattle.run_model.specs.Turns.{nothing_done, cancelled, event_of, tally_with, delivered_as, admission, delivery}
+use Rattle.run_model.specs.Turns.{run_turn, done_by, deed_on}
 use Rattle.run_model.specs.Accounts.{HasAccount, is_mismatched, account_of, pending_of}
 use Rattle.run_model.specs.Cancel.{Cause, cause_of, caused}
 use Rattle.run_model.specs.Words.{signals_heard, was_reported, global_timer}
@@ -80,8 +82,8 @@ abbrev pub ToldFits : ℕ → List ReporterEvent → Option ReporterEvent → Ty
 ToldFits n es (Some (Test e)) = ToldFitsIn n es e.kind
 ToldFits n es _ = ⊤
 
--- a deed tells of its cause after all else; a sub-run begins with it where nothing has happened, and else one is on, or nothing has
--- happened and nothing is done; it ends the run only as the end of a complete run does
+-- a deed tells of its cause after all else; a sub-run begins with it where nothing has happened, and else one is on, or
+-- nothing has happened and nothing is done; it ends the run only as the end of a complete run does
 pub record Marks (p : Settings) (over : Bool) (now : ℕ) (run : List Happening) (d : Deed) : Type 0 where
   pub cancel : d.cancel ≡ cancel_for now (having_told (tally p run) d.told) d.cause
   pub begins : d.begins ≡ true → run ≡ []
@@ -265,7 +267,8 @@ start_does p over now run start rest go (Some u) h on goes eq ew =
         by_unit : (b : Bool) → (start.test.unit == k) ≡ b
             → ((b && nat_lt 0 (deliveries k run) && is_some (reason run)) || was_left k run) ≡ was_left k run
         by_unit true e =
-            let none : deliveries k run ≡ 0 = undelivered (is_mismatched p (place_of p k)) u (way_of k run) at (on_way k u ew e) in
+            let none : deliveries k run ≡ 0 =
+            undelivered (is_mismatched p (place_of p k)) u (way_of k run) at (on_way k u ew e) in
             rw none refl
         by_unit false e = refl
 

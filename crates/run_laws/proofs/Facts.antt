@@ -100,8 +100,8 @@ pub start_waits : (p : Settings) (over : Bool) (now : ℕ) (run : List Happening
     → Holds p over now run → queue run ≡ Start start ∷ rest → Waits p now run start.test.unit
 start_waits p over now run start rest h eq =
     let k : ℕ = start.test.unit in
-    let found = start_of_unit (is_mismatched p (place_of p k)) (was_left k run) start (unit_of k run) (account_of k (told run)) rest
-    (rw eq at (h.accounts k)) in
+    let found = start_of_unit (is_mismatched p (place_of p k)) (was_left k run) start (unit_of k run)
+    (account_of k (told run)) rest (rw eq at (h.accounts k)) in
     let named = h.named k found.0 found.1 in
     record { unit = found.0; is = found.1; phase = found.2; latest = named.2; below = named.1; untold = found.3 }
 

@@ -108,7 +108,8 @@ pub record IsReported (slow : SlowTimeout) (k : ℕ) (run : List Happening) : Ty
 
 -- of a sub-run at this moment, by whether the run is over: no more messages are delivered than sent, no more skips and
 -- finishes are told than it has turns, the dispatcher heard none later, units are named, each test has its account, and
--- its attempts, signals and slow reports are its own turns. No script is a unit yet, so of a number that is no test's nothing is told
+-- its attempts, signals and slow reports are its own turns. No script is a unit yet, so of a number that is no test's
+-- nothing is told
 pub record Holds (p : Settings) (over : Bool) (now : ℕ) (run : List Happening) : Type 0 where
   pub fits : delivered run ≤ length (sent run)
   pub counted : skipped run + length (finished run) ≤ length run

@@ -190,7 +190,8 @@ made_after p run now k (Some (Joins first)) h named line (sent, new) = begins (f
 made_after p run now k (Some (Acts j turn)) h named line taken = by_unit (j == k) refl
   where
     by_unit : (b : Bool) → (j == k) ≡ b
-        → IsMadeIf (terms_at p (place_of p k)) (if b then option_map (λ w. (row now turn w).next) (unit_of k run) else unit_of k run)
+        → IsMadeIf (terms_at p (place_of p k))
+        (if b then option_map (λ w. (row now turn w).next) (unit_of k run) else unit_of k run)
         (option_to_list (if b then Some (record {
           moment = now;
           turn = turn;

@@ -1,5 +1,5 @@
 -- How far a test is on its way after one more turn: how often it was let go, and whether it was never started, or left.
-use Rattle.std.proofs.Common.{◌≡◌, ◌≢◌, ◌⊎◌, inl, inr, ℕ, add-zero, ◌+◌, ◌-◌, ◌<◌, ◌≤◌, ◌==◌, ◌&&◌, ◌||◌, List, [], ◌∷◌, ◌++◌, length}
+use Rattle.std.proofs.Common.{◌≡◌, ◌⊎◌, inl, inr, ℕ, add-zero, ◌+◌, ◌-◌, ◌<◌, ◌≤◌, ◌==◌, ◌&&◌, ◌||◌, List, [], ◌∷◌, ◌++◌, length}
 use Rattle.std.proofs.Common.{Bool, true, false, not, Option, Some}
 use Rattle.std.proofs.Common.{None, is_some, is_none, option_map, if◌then◌else◌, refl, ap, sym, subst, ◌∙◌, arith, length-append}
 use Rattle.std.specs.Prelude.{nat_lt, nat_le}
@@ -24,12 +24,12 @@ use Rattle.run_model.specs.declared.unit_turn.UnitTurn.TheVariants.{Answered, Du
 use Rattle.run_model.specs.declared.unit_view.UnitView.{UnitView}
 use Rattle.run_model.specs.Backoff.{retry_count}
 use Rattle.run_model.specs.Unit.{Row, at_moment, row, row_at, takes, takes_at, is_live, reach, last_status, has_passed, has_retry}
-use Rattle.run_model.specs.Unit.{delayed, decided, decide_row, next_delay, retry_message}
+use Rattle.run_model.specs.Unit.{decide_row}
 use Rattle.run_model.specs.Words.{unit_of, unit_after, reason}
-use Rattle.run_model.specs.Accounts.{News, HasLast, HasAccount, HasAccountAt, is_mismatched}
+use Rattle.run_model.specs.Accounts.{News, HasAccount, HasAccountAt, is_mismatched}
 use Rattle.run_model.specs.Story.{lets_go}
-use Rattle.run_model.specs.Fates.{MeetsAttemptLaw, HasRetryLeft}
-use Rattle.run_laws.proofs.Rows.{is_open, Keeps, Moves, Passes, Takes, answers, opens, decides, passes, again}
+use Rattle.run_model.specs.Fates.{MeetsAttemptLaw}
+use Rattle.run_laws.proofs.Rows.{is_open, Keeps, Moves, StaysOrGoes, Passes, Takes, answers, opens, decides, passes, again}
 use Rattle.run_laws.proofs.Rows.{row_keeps, row_moves, row_passes, row_takes, decide_cases}
 use Rattle.run_laws.proofs.ByTurn.{is_answer}
 use Rattle.run_laws.proofs.Holds.{Way, IsWaiting, IsUnderWay, AreFailed, HasEndedAs, IsOverWith, IsOnWayIn, IsOnWayAt, IsOnWay}
@@ -61,14 +61,20 @@ attempts_meet : (early : List ExecuteStatus) (s : ExecuteStatus) (n : ℕ)
     → (is_success s.result ≡ true) ⊎ (n ≡ length early) → MeetsAttemptLaw n (early ++ s ∷ [])
 attempts_meet [] s n all le (inl passed) = inl passed
 attempts_meet [] s n all le (inr none) = inr none
-attempts_meet (x ∷ []) s n all le last = (failing x (first_so (not (is_success x.result)) true all), omega arith, attempts_meet [] s (n - 1) refl (omega arith) (one_less last))
+attempts_meet (x ∷ []) s n all le last = (
+  failing x (first_so (not (is_success x.result)) true all),
+  omega arith,
+  attempts_meet [] s (n - 1) refl (omega arith) (one_less last),
+)
   where
     one_less : (is_success s.result ≡ true) ⊎ (n ≡ 1) → (is_success s.result ≡ true) ⊎ (n - 1 ≡ 0)
     one_less (inl passed) = inl passed
     one_less (inr none) = inr (omega arith)
-attempts_meet (x ∷ y ∷ early) s n all le last =
-    (failing x (first_so (not (is_success x.result)) _ all), omega arith,
-    attempts_meet (y ∷ early) s (n - 1) (second_so (not (is_success x.result)) _ all) (omega arith) (one_less last))
+attempts_meet (x ∷ y ∷ early) s n all le last = (
+  failing x (first_so (not (is_success x.result)) _ all),
+  omega arith,
+  attempts_meet (y ∷ early) s (n - 1) (second_so (not (is_success x.result)) _ all) (omega arith) (one_less last),
+)
   where
     one_less : (is_success s.result ≡ true) ⊎ (n ≡ length (x ∷ y ∷ early))
         → (is_success s.result ≡ true) ⊎ (n - 1 ≡ length (y ∷ early))
@@ -87,13 +93,15 @@ failed_again early s u e at failed tried =
     let failed_last : not (is_success s.result) ≡ true =
     sym (ap (λ o. not (has_passed o)) (ap last_status e ∙ last-append early s)) ∙ last in
     let long : length u.statuses ≡ length early + 1 = ap length e ∙ length-append early (s ∷ []) in
-    let left : u.attempt ≤ retry_count u.terms.retries = grind (arith, nat_tests) in
-    ((
-      ap (list_all (λ s. not (is_success s.result))) e
-          ∙ list_all-append (λ s. not (is_success s.result)) early (s ∷ [])
-          ∙ rw (failed.0, failed_last) refl,
+    let left : u.attempt ≤ retry_count u.terms.retries = grind (arith, nat_tests) in (
+      (
+        ap (list_all (λ s. not (is_success s.result))) e
+            ∙ list_all-append (λ s. not (is_success s.result)) early (s ∷ [])
+            ∙ rw (failed.0, failed_last) refl,
+        omega arith,
+      ),
       omega arith,
-    ), omega arith)
+    )
 
 ended_so : (early : List ExecuteStatus) (s : ExecuteStatus) (u : UnitView) → u.statuses ≡ early ++ s ∷ []
     → u.attempt ≡ length u.statuses → AreFailed (retry_count u.terms.retries) early → has_retry u ≡ false
@@ -178,8 +186,7 @@ passed_on_way : (u : UnitView) (r : Row) (w : Way) → Passes u r
     → IsOnWayIn (retry_count u.terms.retries) Delay u.attempt u.statuses w → IsOnWayAt false r.next w
 passed_on_way u r w it h = by_way it.way
   where
-    by_way : ((r.next.phase ≡ Delay) × (r.sent ≡ None)) ⊎ ((r.next.phase ≡ RetrySent) × (r.sent ≡ Some (retry_message u)))
-        → IsOnWayAt false r.next w
+    by_way : StaysOrGoes u r → IsOnWayAt false r.next w
     by_way (inl stays) = rw (stays.0, it.keeps.terms, it.attempt, it.statuses) h
     by_way (inr goes) = rw (goes.0, it.keeps.terms, it.attempt, it.statuses) h
 
@@ -207,12 +214,15 @@ retried_on_way : (now : ℕ) (go : Bool) (u : UnitView) (w : Way) (why : Option 
     → IsOnWayIn (retry_count u.terms.retries) RetrySent u.attempt u.statuses w
     → IsOnWayAt false (row_at now RetrySent (Answered go) u).next (way_with true why w)
 retried_on_way now true u w None is (on, at, failed, some) =
-    let delivered : 0 < w.delivered = on.0 in
-    ((
-      omega arith,
-      ap (λ b. b || w.never) (and_false (w.delivered == 0)) ∙ on.1,
-      ap (λ b. b || w.left) (and_false (nat_lt 0 w.delivered)) ∙ on.2,
-    ), ap (λ n. n + 1) at, failed)
+    let delivered : 0 < w.delivered = on.0 in (
+      (
+        omega arith,
+        ap (λ b. b || w.never) (and_false (w.delivered == 0)) ∙ on.1,
+        ap (λ b. b || w.left) (and_false (nat_lt 0 w.delivered)) ∙ on.2,
+      ),
+      ap (λ n. n + 1) at,
+      failed,
+    )
 retried_on_way now false u w (Some why) is (on, at, failed, some) = over u.statuses at failed some
   where
     delivered : 0 < w.delivered

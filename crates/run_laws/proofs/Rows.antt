@@ -25,9 +25,10 @@ use Rattle.run_model.specs.declared.unit_view.UnitView.{UnitView}
 use Rattle.run_model.specs.Environment.{attempts, start_ask}
 use Rattle.run_model.specs.Terminate.{terminate_method}
 use Rattle.run_model.specs.Slow.{one_more, is_out_of_time, slow_time}
-use Rattle.run_model.specs.Unit.{Row, at_moment, row_at, takes_at, settled, exited, leaking, having_heard, heard_with, running_row}
-use Rattle.run_model.specs.Unit.{asked_to_end, requested, take_row, waited_row, slow_message, slow_row, slow_again, in_grace, out_of_time, quiet}
-use Rattle.run_model.specs.Unit.{has_retry, next_delay, failed_message, delayed, decided, decide_row, retry_message, retried, at_next, last_status}
+use Rattle.run_model.specs.Unit.{Row, at_moment, row_at, takes_at, settled, exited, leaking, having_heard, heard_with}
+use Rattle.run_model.specs.Unit.{running_row, asked_to_end, requested, take_row, waited_row, slow_message, slow_row}
+use Rattle.run_model.specs.Unit.{slow_again, in_grace, out_of_time, quiet, has_retry, next_delay, failed_message, delayed}
+use Rattle.run_model.specs.Unit.{decided, decide_row, retry_message, retried, at_next, last_status}
 use Rattle.run_model.specs.Admission.{is_last}
 
 -- whether an attempt goes on in a phase
@@ -265,12 +266,16 @@ own now Leak turn u is on = waits now turn u (ap is_open is)
 own now ph turn u is on = cc
 
 -- a delay goes on, or is over: its unit is to be let go for its next attempt
+abbrev pub StaysOrGoes : UnitView → Row → Type 0
+StaysOrGoes u r =
+    ((r.next.phase ≡ Delay) × (r.sent ≡ None)) ⊎ ((r.next.phase ≡ RetrySent) × (r.sent ≡ Some (retry_message u)))
+
 pub record Passes (u : UnitView) (r : Row) : Type 0 where
   pub keeps : Keeps u r.next
   pub attempt : r.next.attempt ≡ u.attempt
   pub statuses : r.next.statuses ≡ u.statuses
   pub asked : r.asked ≡ None
-  pub way : ((r.next.phase ≡ Delay) × (r.sent ≡ None)) ⊎ ((r.next.phase ≡ RetrySent) × (r.sent ≡ Some (retry_message u)))
+  pub way : StaysOrGoes u r
 
 -- each row of a delay
 pub row_passes : (now : ℕ) (turn : UnitTurn) (u : UnitView) → u.phase ≡ Delay → Passes u (row_at now Delay turn u)
@@ -423,8 +428,7 @@ failed_own delay u (Some status) = tt
 passing_own : (u : UnitView) (r : Row) → Passes u r → IsForOwn u.test.unit r.asked × IsReportOf u.test.unit r.sent
 passing_own u r it = rw it.asked (tt, by_way it.way)
   where
-    by_way : ((r.next.phase ≡ Delay) × (r.sent ≡ None)) ⊎ ((r.next.phase ≡ RetrySent) × (r.sent ≡ Some (retry_message u)))
-        → IsReportOf u.test.unit r.sent
+    by_way : StaysOrGoes u r → IsReportOf u.test.unit r.sent
     by_way (inl stays) = rw stays.1 tt
     by_way (inr goes) = rw goes.1 tt
 
