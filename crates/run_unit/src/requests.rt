@@ -3,8 +3,8 @@ ghost use Rattle.std.specs.Prelude.{◌≡◌, ◌≢◌, ◌∷◌, IfOk, OnErr
 ghost use Rattle.std.specs.List.{list_any};
 ghost use Rattle.run_model.specs.Admission.{is_last};
 ghost use Rattle.run_model.specs.Unit.{has_request, take_row, requested, asked_to_end, is_live};
-ghost use Rattle.run_unit.specs.Effects.{IsRow};
 ghost use Rattle.run_model.specs.declared.phase.Phase.TheVariants as phases;
+ghost use Rattle.run_unit.specs.Effects.{IsRow};
 ghost use Rattle.run_unit.specs.Same.{is_request};
 ghost use Rattle.run_unit.specs.Tried.{IsTried};
 
