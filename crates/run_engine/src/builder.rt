@@ -137,7 +137,6 @@ impl TestRunnerBuilder {
         }
     }
 
-    #[tactic(auto, using(crate::proofs::FewLemmas::few_attempts))]
     /// The runner of a plan of fewer than 2^32 units. A plan is refused exactly where it breaks a rule, with the first
     /// that it breaks: no limit is 0, no two tests have one id, each group that a test names is there, no weight is 0, and
     /// no test has 4,294,967,295 retries. One of 2^32 groups or more, which refusals can't number, counts as too much for memory.
