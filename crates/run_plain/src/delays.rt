@@ -1,5 +1,5 @@
 // The delays between the attempts of a unit, by its own turns.
-ghost use Rattle.std.specs.Prelude.{◌≡◌, ◌*◌, ◌-◌, ◌^◌, ◌<◌, min, length};
+ghost use Rattle.std.specs.Prelude.{◌≡◌, ◌*◌, ◌-◌, ◌^◌, ◌<◌, min, length, []};
 ghost use Rattle.run_clock.specs.Counted.{is_due};
 ghost use Rattle.run_model.specs.Backoff.{retry_count, has_jitter, whole_delay, jittered, delay_by};
 ghost use Rattle.run_model.specs.Attempts.{cancels, decided_at, delay_after, is_delay_over, moment_if, word_in, word_of};
@@ -21,6 +21,7 @@ pub fn retry_count(policy: RetryPolicy) -> u32
     }
 }
 
+#[tactic(auto, using(crate::proofs::DelayLemmas::doubled_more))]
 // A delay that is doubled so often, one time after the other, at most the greatest u64.
 fn doubled(delay: u64, times: u32) -> u64
     ensures { result ≡ min (delay * 2 ^ times) (2 ^ 64 - 1) }
@@ -38,7 +39,9 @@ fn whole_delay(policy: RetryPolicy, before: u32) -> u64
     match policy {
         RetryPolicy::Fixed { delay, .. } => delay,
         RetryPolicy::Exponential {
-            delay, max_delay, ..
+            delay,
+            max_delay,
+            ..
         } => doubled(delay, before).min(max_delay.unwrap_or(u64::MAX)),
     }
 }

@@ -74,7 +74,7 @@ fn decided(story: &[OwnTurn]) -> usize
 
 // The newest attempt of a story.
 #[derive(Drop)]
-pub struct Newest<'a> {
+pub struct NewestAttempt<'a> {
     // Its turns, from the one that let it go until it is decided on, and those from then on, the newest first.
     pub piece: &'a [OwnTurn],
     pub after: &'a [OwnTurn],
@@ -82,8 +82,8 @@ pub struct Newest<'a> {
     pub before: &'a [OwnTurn],
 }
 
-impl<'a> Model for Newest<'a> {
-    ghost use Rattle.run_plain.specs.Newest.{Newest as Defined};
+impl<'a> Model for NewestAttempt<'a> {
+    ghost use Rattle.run_plain.specs.Newest.{NewestAttempt as Defined};
 
     ghost Value = { Defined };
 
@@ -92,7 +92,7 @@ impl<'a> Model for Newest<'a> {
 
 #[tactic(auto, using(crate::proofs::Cuts::cut_newest, crate::proofs::Cuts::no_piece, crate::proofs::Cuts::decided_within))]
 // The newest attempt of a story, if it has one.
-pub fn newest_attempt(story: &[OwnTurn]) -> Option<Newest<'_>>
+pub fn newest_attempt(story: &[OwnTurn]) -> Option<NewestAttempt<'_>>
     ensures cut { pieces story.now ≡ attempts_by result }
     ensures shorter { IfSome result (λ newest. length newest.before < length story.now) }
 {
@@ -102,7 +102,7 @@ pub fn newest_attempt(story: &[OwnTurn]) -> Option<Newest<'_>>
     }
     let (attempt, before) = story.split_at(turns);
     let (after, piece) = attempt.split_at(decided(story));
-    Some(Newest {
+    Some(NewestAttempt {
         piece,
         after,
         before,

@@ -68,7 +68,16 @@ fn passes_at_its_retry(rt: HostRuntime) {
     for text in texts {
         check_text(&rt, alloc, &flaky, text);
     }
-    let counts_as_failed = [FLAKY_FAILS, BEGUN, FAILS, DELIVER, DUE, PASSES, DELIVER, END];
+    let counts_as_failed = [
+        FLAKY_FAILS,
+        BEGUN,
+        FAILS,
+        DELIVER,
+        DUE,
+        PASSES,
+        DELIVER,
+        END,
+    ];
     check(
         &rt,
         alloc,
@@ -77,7 +86,8 @@ fn passes_at_its_retry(rt: HostRuntime) {
         9,
         FAILED,
     );
-    let stats = r#""event":"run-finished","stats":{"failed":1,"finished_count":1,"initial_run_count":1}"#;
+    let stats =
+        r#""event":"run-finished","stats":{"failed":1,"finished_count":1,"initial_run_count":1}"#;
     check_text(&rt, alloc, &counts_as_failed, stats);
 }
 
@@ -85,10 +95,18 @@ fn passes_at_its_retry(rt: HostRuntime) {
 fn left_before_its_retry(rt: HostRuntime) {
     let alloc = rt.alloc();
     let left = [
-        SECOND_LATER, BEGUN, FAILS, DELIVER, INTERRUPT, TAKE, DELIVER, END,
+        SECOND_LATER,
+        BEGUN,
+        FAILS,
+        DELIVER,
+        INTERRUPT,
+        TAKE,
+        DELIVER,
+        END,
     ];
     check(&rt, alloc, &given(&["replay"], &left), 100, 7, CANCELLED);
-    let cancel = r#""event":"run-begin-cancel","running":1,"scripts_running":0,"stats":{"cancel_reason":"interrupt","initial_run_count":1}"#;
+    let cancel =
+        r#""event":"run-begin-cancel","running":1,"scripts_running":0,"stats":{"cancel_reason":"interrupt","initial_run_count":1}"#;
     check_text(&rt, alloc, &left, cancel);
 }
 

@@ -1,4 +1,3 @@
-use Rattle.std.proofs.Common.{length}
 use Rattle.run_plain.proofs.delays.+doubled.Given as goal
 
 abbrev pub decreases-doubled : goal.decreases-doubled
