@@ -18,9 +18,7 @@ use crate::plan_retries::{optional_flaky_at, optional_retries_at};
 use crate::plan_test::test_from;
 use crate::value::read_value;
 use run_capture::{CaptureStrategy, List};
-use run_events::{
-    FlakyResult, Group, MaxFail, Plan, PlanTest, RetryPolicy, SignalHandlerKind,
-};
+use run_events::{FlakyResult, Group, MaxFail, Plan, PlanTest, RetryPolicy, SignalHandlerKind};
 use serde_json::Value;
 use std::alloc::Global;
 use uuid::Uuid;

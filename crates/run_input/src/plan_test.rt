@@ -27,7 +27,8 @@ pub fn test_from(alloc: Global, value: &Value) -> Result<PlanTest, LineError>
     if !has_keys_of(
         value,
         &[
-            "binary", "command", "flaky", "group", "leak", "name", "retries", "skip", "slow", "weight",
+            "binary", "command", "flaky", "group", "leak", "name", "retries", "skip", "slow",
+            "weight",
         ],
     ) {
         return Err(LineError::NotInTable);

@@ -16,7 +16,7 @@ use Rattle.run_model.specs.declared.phase.Phase.TheVariants.{StartSent, Starting
 use Rattle.run_model.specs.declared.phase.Phase.TheVariants.{Deciding, Delay, RetrySent, Over}
 use Rattle.run_model.specs.declared.unit_turn.UnitTurn.{UnitTurn}
 use Rattle.run_model.specs.declared.unit_turn.UnitTurn.TheVariants.{Answered, Started, StartFailed, Exit, WaitFailed}
-use Rattle.run_model.specs.declared.unit_turn.UnitTurn.TheVariants.{Piece, StreamEnd, ReadError, Due, Take, Decide}
+use Rattle.run_model.specs.declared.unit_turn.UnitTurn.TheVariants.{Piece, StreamEnd, ReadError, Due, Take}
 use Rattle.run_model.specs.declared.unit_view.UnitView.{UnitView}
 use Rattle.run_model.specs.Terminate.{terminate_method}
 use Rattle.run_model.specs.Slow.{one_more, is_out_of_time}
