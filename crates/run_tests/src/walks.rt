@@ -102,7 +102,7 @@ fn interrupts(turn: &Turn) -> bool {
 
 // Whether a turn is tried after a list: a run is interrupted once at most.
 fn is_tried(list: &[Turn], turn: &Turn) -> bool {
-    !interrupts(turn) || !list.iter().any(interrupts)
+    !interrupts(turn) || !list.iter().any(|taken| interrupts(taken))
 }
 
 fn keep_all(
@@ -160,6 +160,6 @@ fn every_list_of_turns_beside_a_skipped_test(rt: HostRuntime) {
 
 #[test]
 fn every_list_of_turns_of_a_retried_test(rt: HostRuntime) {
-    let wanted = [0; 17];
+    let wanted = [1, 2, 3, 5, 9, 15, 28, 45, 57, 64, 67, 70, 78, 68, 36, 8, 0];
     assert!(rt; is_alike(&rt, rt.alloc(), Tests::Retried, wanted));
 }
