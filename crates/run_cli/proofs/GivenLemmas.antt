@@ -110,8 +110,9 @@ few_line d keys plan e =
     let groups : Option Data = get (codes "groups") d in
     let tests : Option Data = get (codes "tests") d in
     let run_ids : Option (List ℕ) = option_and_then run_id_of (get (codes "run_id") d) in
-    let a = then_some (when (is_object_of (codes "capture" ∷ codes "global_timeout" ∷ codes "groups" ∷ codes "max_fail"
-    ∷ codes "run_id" ∷ codes "signals" ∷ codes "tests" ∷ codes "threads" ∷ []) d))
+    let a = then_some (when (is_object_of (codes "capture" ∷ codes "flaky_result" ∷ codes "global_timeout"
+    ∷ codes "groups" ∷ codes "max_fail" ∷ codes "retries" ∷ codes "run_id" ∷ codes "signals" ∷ codes "tests"
+    ∷ codes "threads" ∷ []) d))
     (λ _. option_and_then (λ k. option_and_then (λ o. option_and_then (λ r. option_and_then (λ q. Some (k, q))
     (plan_with r o groups tests)) run_ids) (rules_of d)) (keys_of d))
     (keys, plan) e in
@@ -237,6 +238,7 @@ refusal_ends keys plan turns w (build.ZeroLimit g) h writes = ((build.ZeroLimit 
 refusal_ends keys plan turns w (build.DuplicateTest k) h writes = ((build.DuplicateTest k, h, refl), writes)
 refusal_ends keys plan turns w (build.UnknownGroup k) h writes = ((build.UnknownGroup k, h, refl), writes)
 refusal_ends keys plan turns w (build.ZeroWeight k) h writes = ((build.ZeroWeight k, h, refl), writes)
+refusal_ends keys plan turns w (build.TooManyRetries k) h writes = ((build.TooManyRetries k, h, refl), writes)
 refusal_ends keys plan turns w build.OutOfMemory h writes = tt
 
 pub refused_plan : (keys : RunnerKeys) (plan : Plan) (turns : List Turn) (w : Writing)

@@ -10,10 +10,17 @@ use Rattle.run_output.specs.declared.fault.Fault.{Fault}
 use Rattle.run_output.specs.declared.fault.Fault.TheVariants.{Plan as BadPlan, Memory}
 use Rattle.run_output.specs.declared.fault.PlanFault.{PlanFault}
 use Rattle.run_output.specs.declared.fault.PlanFault.TheVariants.{ZeroLimit, DuplicateTest, UnknownGroup, ZeroWeight}
+use Rattle.run_output.specs.declared.fault.PlanFault.TheVariants.{TooManyRetries}
 
 -- the builder that a plan line sets
 abbrev pub builder_of : RunnerKeys → Builder
-builder_of keys = record { capture = keys.capture; threads = keys.threads; max_fail = keys.max_fail }
+builder_of keys = record {
+  capture = keys.capture;
+  threads = keys.threads;
+  max_fail = keys.max_fail;
+  retries = keys.retries;
+  flaky_result = keys.flaky_result;
+}
 
 -- the settings of a plan with these keys, and why it is refused, where it is
 abbrev pub settings_for : RunnerKeys → Plan → Settings
@@ -28,6 +35,7 @@ fault_of_plan (build.ZeroLimit group) = BadPlan (ZeroLimit group)
 fault_of_plan (build.DuplicateTest test) = BadPlan (DuplicateTest test)
 fault_of_plan (build.UnknownGroup test) = BadPlan (UnknownGroup test)
 fault_of_plan (build.ZeroWeight test) = BadPlan (ZeroWeight test)
+fault_of_plan (build.TooManyRetries test) = BadPlan (TooManyRetries test)
 fault_of_plan build.OutOfMemory = Memory
 
 -- why a plan is refused

@@ -20,6 +20,12 @@ pub fn builder_of(keys: RunnerKeys) -> TestRunnerBuilder
         builder.set_test_threads(TestThreads::Count(threads));
     }
     builder.set_max_fail(keys.max_fail);
+    if let Some(retries) = keys.retries {
+        builder.set_retries(retries);
+    }
+    if let Some(flaky_result) = keys.flaky_result {
+        builder.set_flaky_result(flaky_result);
+    }
     builder
 }
 

@@ -67,6 +67,9 @@ fn fault_of_plan(error: TestRunnerBuildError) -> Fault
             Fault::Plan(PlanFault::UnknownGroup { test })
         }
         TestRunnerBuildError::ZeroWeight { test } => Fault::Plan(PlanFault::ZeroWeight { test }),
+        TestRunnerBuildError::TooManyRetries { test } => {
+            Fault::Plan(PlanFault::TooManyRetries { test })
+        }
         TestRunnerBuildError::OutOfMemory => Fault::Memory,
     }
 }

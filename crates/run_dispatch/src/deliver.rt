@@ -15,14 +15,15 @@ use crate::effects::{Fx, one_event, telling};
 use crate::tally::{with_finish, with_skip, with_start};
 use run_capture::{List, Mem};
 use run_events::{
-    Message, ReporterEvent, TestEventKind, TestFinish, TestFinished, TestSkip, TestSlow, TestStart,
-    TestStarted,
+    AttemptFailed, AttemptFailedWillRetry, Message, ReporterEvent, RetryStarted, TestEventKind,
+    TestFinish, TestFinished, TestRetry, TestSkip, TestSlow, TestStart, TestStarted,
 };
 use run_model::{DispatcherView, Tally};
 use std::alloc::Global;
 
-/// Delivers a message: a start is told and let go where nothing cancels the run; a slow report is told; a skip and a
-/// finish are counted and told; and a finish may be the last failure, which cancels the run.
+/// Delivers a message: a start and a retry are told and let go where nothing cancels the run; a slow report and the
+/// failure of an attempt are told; a skip and a finish are counted and told; and a finish may be the last failure, which
+/// cancels the run.
 pub fn hear(alloc: Global, view: &mut DispatcherView, message: Message, now: u64) -> Fx
     requires fits { CanDeliver view.old message }
     ensures does { IfOk result
@@ -32,6 +33,8 @@ pub fn hear(alloc: Global, view: &mut DispatcherView, message: Message, now: u64
     match message {
         Message::Start(start) => hear_start(alloc, view, start, now),
         Message::Slow(slow) => hear_slow(alloc, view, slow, now),
+        Message::AttemptFailed(failed) => hear_failed(alloc, view, failed, now),
+        Message::Retry(retry) => hear_retry(alloc, view, retry, now),
         Message::Skip(skip) => hear_skip(alloc, view, skip, now),
         Message::Finish(finish) => hear_finish(alloc, view, finish, now),
         _ => unreachable!(),
@@ -69,6 +72,40 @@ fn hear_slow(alloc: Global, view: &mut DispatcherView, slow: TestSlow, now: u64)
     let events = one_event(alloc, now, TestEventKind::TestSlow(slow))?;
     view.latest = now;
     Ok(telling(events, None))
+}
+
+// The failure of an attempt that is tried again is told.
+fn hear_failed(alloc: Global, view: &mut DispatcherView, failed: AttemptFailed, now: u64) -> Fx
+    ensures does { IfOk result (Does now view.old (delivers now view.old (messages.AttemptFailed failed))
+        (go_of view.old.tally (messages.AttemptFailed failed)) view.new) }
+    ensures err { OnErr result (view.new ≡ view.old) }
+{
+    let kind = TestEventKind::TestAttemptFailedWillRetry(AttemptFailedWillRetry {
+        failed,
+        running: view.tally.running,
+    });
+    let events = one_event(alloc, now, kind)?;
+    view.latest = now;
+    Ok(telling(events, None))
+}
+
+// A retry is told and let go, unless a reason cancels the run.
+fn hear_retry(alloc: Global, view: &mut DispatcherView, retry: TestRetry, now: u64) -> Fx
+    ensures does { IfOk result (Does now view.old (delivers now view.old (messages.Retry retry))
+        (go_of view.old.tally (messages.Retry retry)) view.new) }
+    ensures err { OnErr result (view.new ≡ view.old) }
+{
+    if view.tally.stats.cancel_reason.is_some() {
+        view.latest = now;
+        return Ok(telling(List::new(), Some(false)));
+    }
+    let kind = TestEventKind::TestRetryStarted(RetryStarted {
+        retry,
+        running: view.tally.running,
+    });
+    let events = one_event(alloc, now, kind)?;
+    view.latest = now;
+    Ok(telling(events, Some(true)))
 }
 
 fn hear_skip(alloc: Global, view: &mut DispatcherView, skip: TestSkip, now: u64) -> Fx

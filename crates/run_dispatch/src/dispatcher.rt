@@ -179,8 +179,9 @@ impl Dispatcher {
         Ok(telling(events, None))
     }
 
-    /// Delivers a message: a start is told and let go where nothing cancels the run; a slow report is told; a skip and
-    /// a finish are counted and told; and a finish may be the last failure, which cancels the run.
+    /// Delivers a message: a start and a retry are told and let go where nothing cancels the run; a slow report and the
+    /// failure of an attempt are told; a skip and a finish are counted and told; and a finish may be the last failure,
+    /// which cancels the run.
     pub fn deliver(&mut self, alloc: Global, message: Message, now: u64) -> Fx
         requires fits { CanDeliver self.old message }
         requires later { self.old.latest ≤ now }

@@ -29,7 +29,7 @@ pub can_advance : (p : Settings) (journal : List Entry) (b : Board) (turn : Turn
     → b ≡ board p (past_of p journal) → enabled p (past_of p journal) turn ≡ true
     → CanAdvance p b turn (turn_of_unit turn)
 can_advance p journal b turn r st en =
-    subst (λ b. CanAdvance p b turn (turn_of_unit turn)) (sym st) (ready_after p journal turn r.legal r.few r.short en)
+    subst (λ b. CanAdvance p b turn (turn_of_unit turn)) (sym st) (ready_after p journal turn r.legal r.few.units r.short en)
 
 -- the board after a turn is that of the longer journal
 pub stands_next : (p : Settings) (journal : List Entry) (old new : Board) (turn : Turn) (refused : List Bool)

@@ -4,3 +4,4 @@ pub mod TakesLemmas
 pub mod TellLemmas
 pub mod CourseLemmas
 pub mod RepeatLemmas
+pub mod FewLemmas

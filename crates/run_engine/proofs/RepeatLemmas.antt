@@ -1,6 +1,6 @@
 -- Ids in their order, the test that has the id of an earlier one, and why it is refused.
 use Rattle.std.proofs.Common.{◌≡◌, ℕ, ◌&&◌, ◌||◌, cond, Bool, true, not, ap, sym, ◌∙◌, refl, nat_eq, List, take}
-use Rattle.std.proofs.Common.{false, slice_get, Some, option_and_then}
+use Rattle.std.proofs.Common.{false, slice_get, Option, Some, option_and_then}
 use Rattle.std.specs.List.{list_any}
 use Rattle.std.specs.declared.cmp.Ordering.{Ordering}
 use Rattle.std.specs.declared.cmp.Ordering.TheVariants.{Less, Equal, Greater}
@@ -10,6 +10,7 @@ use lib.Pointwise.{pointwise}
 use Rattle.run_events.specs.declared.plan.TestInstanceId.{TestInstanceId}
 use Rattle.run_events.specs.declared.plan.PlanTest.{PlanTest}
 use Rattle.run_events.specs.declared.plan.Group.{Group}
+use Rattle.run_events.specs.declared.retry_policy.RetryPolicy.{RetryPolicy}
 use Rattle.run_engine.specs.Builder.{same_id, is_among, is_repeat, refusal_at, test_refusal}
 
 -- the order of ids: by binary, then by name
@@ -47,9 +48,10 @@ found added had e = ap not e ∙ twice had
     twice false = refl
 
 -- why the test at a place is refused, by what it is and whether it repeats an id
-pub refusal_here : (groups : List Group) (tests : List PlanTest) (k : ℕ) (test : PlanTest) (repeats : Bool)
+pub refusal_here : (groups : List Group) (retries : Option RetryPolicy) (tests : List PlanTest) (k : ℕ) (test : PlanTest)
+    (repeats : Bool)
     → slice_get tests k ≡ Some test → list_any (λ t. same_id t.id test.id) (take k tests) ≡ repeats
-    → test_refusal groups tests k ≡ refusal_at k repeats groups test
-refusal_here groups tests k test repeats at among =
-    ap (option_and_then (refusal_at k (is_repeat tests k) groups)) at
-    ∙ ap (λ r. refusal_at k r groups test) (ap (is_among (take k tests)) at ∙ among)
+    → test_refusal groups retries tests k ≡ refusal_at k repeats groups retries test
+refusal_here groups retries tests k test repeats at among =
+    ap (option_and_then (refusal_at k (is_repeat tests k) groups retries)) at
+    ∙ ap (λ r. refusal_at k r groups retries test) (ap (is_among (take k tests)) at ∙ among)

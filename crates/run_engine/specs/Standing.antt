@@ -2,7 +2,7 @@
 use Rattle.std.specs.Prelude.{◌≡◌, ◌<◌, ◌^◌, List, length, true, false, Bool}
 use Rattle.run_events.specs.declared.settings.Settings.{Settings}
 use Rattle.run_model.specs.declared.entry.Entry.{Entry}
-use Rattle.run_model.specs.Admission.{units_in}
+use Rattle.run_model.specs.Admission.{AreFew}
 use Rattle.run_model.specs.Words.{is_over}
 use Rattle.run_model.specs.Board.{board}
 use Rattle.run_state.specs.Held.{Held, held}
@@ -11,7 +11,7 @@ use Rattle.run_engine.specs.World.{World}
 
 -- a plan and a journal that a run may have: few units, few turns, and each of them was enabled
 pub record IsRunnable (p : Settings) (journal : List Entry) : Type 0 where
-  pub few : units_in p < 2 ^ 32
+  pub few : AreFew p
   pub short : length journal < 2 ^ 32
   pub legal : IsLegal p journal
 

@@ -4,13 +4,14 @@ ghost use Rattle.std.specs.Prelude.{IfOk, IfSome, Some};
 ghost use Rattle.run_admission.specs.InUse.{group_of};
 ghost use Rattle.run_engine.specs.declared.errors.TestRunnerBuildError.TheVariants.{ZeroLimit};
 ghost use Rattle.run_engine.specs.Builder.{IsBuilt, count_of, threads_of, names_no_group, refusal_at, test_refusal};
-ghost use Rattle.run_engine.specs.Builder.{first_refused, zero_limit, refusal_with};
+ghost use Rattle.run_engine.specs.Builder.{first_refused, zero_limit, refusal_with, has_too_many};
 
 use crate::errors::TestRunnerBuildError;
 use crate::runner::TestRunner;
 use run_capture::{CaptureStrategy, Mem, Text};
 use run_commands::Interceptor;
-use run_events::{Group, MaxFail, Plan, PlanTest, Settings, TestThreads};
+use run_events::{FlakyResult, Group, MaxFail, Plan, PlanTest, RetryPolicy, Settings, TestThreads};
+use run_model::retry_count;
 use std::alloc::Global;
 use std::collections::BTreeSet;
 use std::fmt;
@@ -20,13 +21,16 @@ use std::marker::Model;
 // The most groups that refusals can number. A plan of more takes over 100 GB.
 const MOST_GROUPS: usize = 4_294_967_295;
 
-/// What is set of a runner beside its plan: how the output of tests is captured, how many tests run at a time, and
-/// after how many failures no test starts any more.
+/// What is set of a runner beside its plan: how the output of tests is captured, how many tests run at a time,
+/// after how many failures no test starts any more, and, for all tests alike, how often a failed one is tried again and
+/// what a pass counts as then.
 #[derive(Drop)]
 pub struct TestRunnerBuilder {
     capture: CaptureStrategy,
     threads: Option<u32>,
     max_fail: MaxFail,
+    retries: Option<RetryPolicy>,
+    flaky_result: Option<FlakyResult>,
 }
 
 impl Model for TestRunnerBuilder {
@@ -34,7 +38,13 @@ impl Model for TestRunnerBuilder {
 
     ghost Value = { Builder };
 
-    ghost view = { λ b. record { capture = b.capture; threads = b.threads; max_fail = b.max_fail } };
+    ghost view = { λ b. record {
+      capture = b.capture;
+      threads = b.threads;
+      max_fail = b.max_fail;
+      retries = b.retries;
+      flaky_result = b.flaky_result;
+    } };
 }
 
 impl Debug for TestRunnerBuilder {
@@ -43,19 +53,28 @@ impl Debug for TestRunnerBuilder {
     }
 }
 
-/// Each stream is captured by itself, the number of threads is unset, and all tests run, whatever fails.
+/// Each stream is captured by itself, the number of threads is unset, all tests run, whatever fails, and each by its own
+/// retries.
 impl Default for TestRunnerBuilder {
     ghost use Rattle.std.specs.Prelude.{◌≡◌, None};
     ghost use Rattle.run_capture.specs.declared.test_output.CaptureStrategy.TheVariants as strategies;
     ghost use Rattle.run_events.specs.declared.retry_policy.MaxFail.TheVariants.{All};
 
-    ghost is_default = { λ b. b ≡ record { capture = strategies.Split; threads = None; max_fail = All } };
+    ghost is_default = { λ b. b ≡ record {
+      capture = strategies.Split;
+      threads = None;
+      max_fail = All;
+      retries = None;
+      flaky_result = None;
+    } };
 
     fn default() -> Self {
         TestRunnerBuilder {
             capture: CaptureStrategy::Split,
             threads: None,
             max_fail: MaxFail::All,
+            retries: None,
+            flaky_result: None,
         }
     }
 }
@@ -90,6 +109,24 @@ impl TestRunnerBuilder {
         self
     }
 
+    /// Sets how often each test is tried again where it fails, in place of its own retries.
+    pub fn set_retries(&mut self, retries: RetryPolicy) -> &mut Self
+        ensures same { result.ghost_name ≡ self.entry.ghost_name }
+        ensures set { result.now ≡ record self.old { retries = Some retries } }
+    {
+        self.retries = Some(retries);
+        self
+    }
+
+    /// Sets what a pass after a failed attempt counts as, for each test in place of its own setting.
+    pub fn set_flaky_result(&mut self, flaky_result: FlakyResult) -> &mut Self
+        ensures same { result.ghost_name ≡ self.entry.ghost_name }
+        ensures set { result.now ≡ record self.old { flaky_result = Some flaky_result } }
+    {
+        self.flaky_result = Some(flaky_result);
+        self
+    }
+
     // How many threads there are.
     fn effective_threads(&self) -> u32
         ensures { result ≡ threads_of self.now }
@@ -101,8 +138,8 @@ impl TestRunnerBuilder {
     }
 
     /// The runner of a plan of fewer than 2^32 units. A plan is refused exactly where it breaks a rule, with the first
-    /// that it breaks: no limit is 0, no two tests have one id, each group that a test names is there, and no weight is
-    /// 0. One of 2^32 groups or more, which refusals can't number, counts as too much for memory.
+    /// that it breaks: no limit is 0, no two tests have one id, each group that a test names is there, no weight is 0, and
+    /// no test has 4,294,967,295 retries. One of 2^32 groups or more, which refusals can't number, counts as too much for memory.
     pub fn build(self, alloc: Global, plan: Plan) -> Result<TestRunner, TestRunnerBuildError>
         requires { length plan.scripts + length plan.tests < 2 ^ 32 }
         ensures built { IsBuilt self plan result }
@@ -112,7 +149,7 @@ impl TestRunnerBuilder {
             drop(plan);
             return Err(TestRunnerBuildError::OutOfMemory);
         }
-        match refusal(alloc, threads, &plan) {
+        match refusal(alloc, threads, self.retries, &plan) {
             Err(_) => {
                 drop(plan);
                 Err(TestRunnerBuildError::OutOfMemory)
@@ -129,22 +166,32 @@ impl TestRunnerBuilder {
                 stress: None,
                 interceptor: Interceptor::None,
                 expected: None,
-                retries: None,
-                flaky_result: None,
+                retries: self.retries,
+                flaky_result: self.flaky_result,
             })),
         }
     }
 }
 
 // Why a plan with so many threads is refused.
-fn refusal(alloc: Global, threads: u32, plan: &Plan) -> Mem<Option<TestRunnerBuildError>>
+fn refusal(
+    alloc: Global,
+    threads: u32,
+    retries: Option<RetryPolicy>,
+    plan: &Plan,
+) -> Mem<Option<TestRunnerBuildError>>
     requires groups { length plan.now.groups < 2 ^ 32 }
     requires tests { length plan.now.tests < 2 ^ 32 }
-    ensures { IfOk result (λ r. r ≡ refusal_with threads plan.now.groups plan.now.tests) }
+    ensures { IfOk result (λ r. r ≡ refusal_with threads plan.now.groups retries plan.now.tests) }
 {
     match zero_limit(threads, plan.groups.as_slice()) {
         Some(error) => Ok(Some(error)),
-        None => tests_refusal(alloc, plan.groups.as_slice(), plan.tests.as_slice()),
+        None => tests_refusal(
+            alloc,
+            plan.groups.as_slice(),
+            retries,
+            plan.tests.as_slice(),
+        ),
     }
 }
 
@@ -189,14 +236,23 @@ fn names_no_group(groups: &[Group], test: &PlanTest) -> bool
     }
 }
 
+// Whether the attempts of a test don't fit in a u32.
+fn has_too_many(retries: Option<RetryPolicy>, test: &PlanTest) -> bool
+    ensures { result ≡ has_too_many retries test.now }
+{
+    let policy = retries.unwrap_or(test.retries);
+    retry_count(&policy) >= u32::MAX
+}
+
 // Why a test at this place is refused.
 fn refusal_at(
     test: u32,
     repeats: bool,
     groups: &[Group],
+    retries: Option<RetryPolicy>,
     planned: &PlanTest,
 ) -> Option<TestRunnerBuildError>
-    ensures { result ≡ refusal_at test repeats groups.now planned.now }
+    ensures { result ≡ refusal_at test repeats groups.now retries planned.now }
 {
     if repeats {
         Some(TestRunnerBuildError::DuplicateTest { test })
@@ -204,6 +260,8 @@ fn refusal_at(
         Some(TestRunnerBuildError::UnknownGroup { test })
     } else if planned.weight == 0 {
         Some(TestRunnerBuildError::ZeroWeight { test })
+    } else if has_too_many(retries, planned) {
+        Some(TestRunnerBuildError::TooManyRetries { test })
     } else {
         None
     }
@@ -213,16 +271,17 @@ fn refusal_at(
 fn tests_refusal(
     alloc: Global,
     groups: &[Group],
+    retries: Option<RetryPolicy>,
     tests: &[PlanTest],
 ) -> Mem<Option<TestRunnerBuildError>>
     requires { length tests.now < 2 ^ 32 }
-    ensures { IfOk result (λ r. r ≡ option_and_then (test_refusal groups.now tests.now)
-        (first_refused groups.now tests.now)) }
+    ensures { IfOk result (λ r. r ≡ option_and_then (test_refusal groups.now retries tests.now)
+        (first_refused groups.now retries tests.now)) }
 {
     let mut ids = BTreeSet::new(alloc);
     for (place, test) in tests.iter().enumerate() {
         let fresh = ids.insert(&test.id)?;
-        let refusal = refusal_at(place as u32, !fresh, groups, test);
+        let refusal = refusal_at(place as u32, !fresh, groups, retries, test);
         if refusal.is_some() {
             return Ok(refusal);
         }

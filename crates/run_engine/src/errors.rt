@@ -35,6 +35,9 @@ pub enum TestRunnerBuildError {
     /// The test at this place has weight 0.
     #[error("one of the tests has weight 0")]
     ZeroWeight { test: u32 },
+    /// The test at this place has 4,294,967,295 retries.
+    #[error("one of the tests has too many retries")]
+    TooManyRetries { test: u32 },
     #[error("out of memory")]
     OutOfMemory,
 }

@@ -7,7 +7,7 @@ ghost use Rattle.std.specs.List.{list_all};
 ghost use Rattle.run_events.specs.Tell.{Adds};
 ghost use Rattle.run_laws.specs.Ready.{CanAdvance, IsTimely};
 ghost use Rattle.run_model.specs.Journal.{past_of, IsLegal, outcome};
-ghost use Rattle.run_model.specs.Admission.{units_in};
+ghost use Rattle.run_model.specs.Admission.{AreFew, units_in};
 ghost use Rattle.run_model.specs.Turns.{enabled, enabled_on, turn_of_unit, deed_on};
 ghost use Rattle.run_model.specs.Words.{is_over};
 ghost use Rattle.run_model.specs.Board.{board, step, answered, deed_events};
@@ -97,7 +97,7 @@ fn act<C: Children, R: Reporter>(
     requires named { named ≡ turn_of_unit turn.now }
     requires can { CanAdvance settings.now state.old.board turn.now (turn_of_unit turn.now) }
     requires seated { IsSeated settings.now state.old }
-    requires few { units_in settings.now < 2 ^ 32 }
+    requires few { AreFew settings.now }
     requires short { length journal.old.items < 2 ^ 32 }
     ensures after { IfOk result (λ t. state.new.board
         ≡ answered (step state.old.board turn.now (deed_on settings.now state.old.board turn.now)) t.refused) }
@@ -197,7 +197,7 @@ fn named_if_enabled(
 impl Run {
     // A run that has taken no turn.
     pub(crate) fn begin(alloc: Global, settings: Whole<Settings>, state: State) -> Self
-        requires few { units_in settings < 2 ^ 32 }
+        requires few { AreFew settings }
         requires stands { state ≡ held settings (board settings []) }
         ensures { result ≡ sound settings [] }
     {

@@ -3,7 +3,7 @@ ghost use Rattle.std.specs.Prelude.{◌≡◌, ◌<◌, ◌^◌, ◌∷◌, [], 
 ghost use Rattle.std.specs.Prelude.{Some, None, List, true, false};
 ghost use Rattle.run_events.specs.Tell.{Adds};
 ghost use Rattle.run_model.specs.declared.entry.Entry.{Entry};
-ghost use Rattle.run_model.specs.Admission.{units_in};
+ghost use Rattle.run_model.specs.Admission.{AreFew};
 ghost use Rattle.run_model.specs.Turns.{enabled};
 ghost use Rattle.run_engine.specs.World.{TakesTurn, IsUntouched, outside, history_of};
 ghost use Rattle.run_engine.specs.Refused.{IsRefused, IfNotMemory};
@@ -36,14 +36,14 @@ pub struct TestRunner {
 
 impl Model for TestRunner {
     ghost use Rattle.std.specs.Prelude.{◌<◌, ◌^◌};
-    ghost use Rattle.run_model.specs.Admission.{units_in};
+    ghost use Rattle.run_model.specs.Admission.{AreFew};
     ghost use Rattle.run_events.specs.declared.settings.Settings.{Settings};
 
     ghost Value = { Settings };
 
     ghost view = { λ r. r.settings };
 
-    ghost invariant = { λ r. units_in r.settings < 2 ^ 32 };
+    ghost invariant = { λ r. AreFew r.settings };
 }
 
 impl Debug for TestRunner {
@@ -92,7 +92,7 @@ fn take_all<C: Children, R: Reporter>(
     report: &mut R,
 ) -> Result<Option<R::Error>, Stop>
     requires fresh { run.old ≡ sound run.old.settings [] }
-    requires units { units_in run.old.settings < 2 ^ 32 }
+    requires units { AreFew run.old.settings }
     requires few { length turns.now < 2 ^ 32 }
     ensures ok { IfOk result (TakesTurns R.told C.asked
         (outside R.faults report.old report.new children.old children.new) run.old.settings run.new.journal) }
@@ -136,7 +136,7 @@ fn run_all<C: Children, R: Reporter>(
     report: &mut R,
 ) -> Result<RunOutcome, TestRunnerExecuteErrors<R::Error>>
     requires fresh { run.old ≡ sound run.old.settings [] }
-    requires units { units_in run.old.settings < 2 ^ 32 }
+    requires units { AreFew run.old.settings }
     requires few { length turns.now < 2 ^ 32 }
     ensures { UnlessMemory result (Carries R.told C.asked
         (outside R.faults report.old report.new children.old children.new) run.old.settings turns.now result) }
@@ -152,7 +152,7 @@ fn run_all<C: Children, R: Reporter>(
 impl TestRunner {
     // A runner with these settings.
     pub(crate) fn new(settings: Settings) -> Self
-        requires { units_in settings < 2 ^ 32 }
+        requires { AreFew settings }
         ensures { result ≡ settings }
     {
         TestRunner {

@@ -1,6 +1,7 @@
 pub mod Fields
 pub mod Input
 pub mod Lines
+pub mod PlanRetries
 pub mod PlanLine
 pub mod ReadsValue
 pub mod Refused

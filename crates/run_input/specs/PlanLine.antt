@@ -23,9 +23,13 @@ use Rattle.run_events.specs.declared.retry_policy.TerminateMode.{TerminateMode}
 use Rattle.run_events.specs.declared.retry_policy.TerminateMode.TheVariants as modes
 use Rattle.run_events.specs.declared.signal.SignalHandlerKind.{SignalHandlerKind}
 use Rattle.run_events.specs.declared.signal.SignalHandlerKind.TheVariants as handlers
-use Rattle.run_events.specs.Usual.{usual_slow, usual_leak, usual_hearing, usual_test, usual_plan}
+use Rattle.run_events.specs.declared.result.FlakyResult.{FlakyResult}
+use Rattle.run_events.specs.declared.result.FlakyResult.TheVariants as flakies
+use Rattle.run_events.specs.declared.retry_policy.RetryPolicy.{RetryPolicy}
+use Rattle.run_events.specs.Usual.{usual_slow, usual_leak, no_retries, usual_hearing, usual_test, usual_plan}
 use Rattle.run_input.specs.declared.plan_line.RunnerKeys.{RunnerKeys}
 use Rattle.run_input.specs.Fields.{◌>>=◌, when, is_object_of, optional, or_usual, u32_of, u64_of, texts_of}
+use Rattle.run_input.specs.PlanRetries.{retries_of, flaky_of}
 use lib.Pointwise.{pointwise}
 
 -- the way of capture that a text names
@@ -57,13 +61,22 @@ max_fail_of d = do
   mode ← option_and_then terminate_of (get (codes "mode") d)
   Some (Count count mode)
 
--- what the keys of a plan line set of a runner: where nothing else is said output is captured split, and all tests run
+-- what the keys of a plan line set of a runner: where nothing else is said output is captured split, all tests run, and
+-- each has its own retries
 abbrev pub keys_of : Data → Option RunnerKeys
 keys_of d = do
   capture ← or_usual capture.Split capture_of (get (codes "capture") d)
   threads ← optional u32_of (get (codes "threads") d)
   max_fail ← or_usual All max_fail_of (get (codes "max_fail") d)
-  Some (record { capture = capture; threads = threads; max_fail = max_fail })
+  retries ← optional retries_of (get (codes "retries") d)
+  flaky_result ← optional flaky_of (get (codes "flaky_result") d)
+  Some (record {
+    capture = capture;
+    threads = threads;
+    max_fail = max_fail;
+    retries = retries;
+    flaky_result = flaky_result;
+  })
 
 -- the signals that a text names
 abbrev pub signals_named : List ℕ → Option SignalHandlerKind
@@ -164,6 +177,13 @@ terms_of d = do
   leak ← or_usual usual_leak leak_of (get (codes "leak") d)
   Some (weight, slow, leak)
 
+-- how often it is tried again, never where nothing is said, and what a pass counts as then
+abbrev pub trials_of : Data → Option (RetryPolicy × FlakyResult)
+trials_of d = do
+  retries ← or_usual no_retries retries_of (get (codes "retries") d)
+  flaky ← or_usual flakies.Pass flaky_of (get (codes "flaky") d)
+  Some (retries, flaky)
+
 -- a test with its name and its command, and the reason for which it is skipped where it doesn't match
 abbrev pub named_of : Data → Option PlanTest
 named_of d = do
@@ -172,15 +192,23 @@ named_of d = do
   skip ← optional as_str (get (codes "skip") d)
   Some (usual_test id command skip)
 
--- a test in its group, with its weight and its time-outs
+-- a test in its group, with its weight, its time-outs and its retries
 unfoldable pub test_of : Data → Option PlanTest
 test_of d = do
-  _ ← when (is_object_of (codes "binary" ∷ codes "command" ∷ codes "group" ∷ codes "leak" ∷ codes "name" ∷ codes "skip"
-      ∷ codes "slow" ∷ codes "weight" ∷ []) d)
+  _ ← when (is_object_of (codes "binary" ∷ codes "command" ∷ codes "flaky" ∷ codes "group" ∷ codes "leak"
+      ∷ codes "name" ∷ codes "retries" ∷ codes "skip" ∷ codes "slow" ∷ codes "weight" ∷ []) d)
   terms ← terms_of d
+  trials ← trials_of d
   group ← optional as_str (get (codes "group") d)
   test ← named_of d
-  Some (record test { weight = terms.0; slow = terms.1; leak = terms.2; group = group })
+  Some (record test {
+    weight = terms.0;
+    slow = terms.1;
+    leak = terms.2;
+    retries = trials.0;
+    flaky = trials.1;
+    group = group;
+  })
 
 -- the tests of items, each of which is one
 abbrev pub tests_from : Items → Option (List PlanTest)
@@ -219,8 +247,8 @@ plan_with run_id rules groups tests = do
 -- a plan line: what it sets of a runner, and its plan
 unfoldable pub plan_of : Data → Option (RunnerKeys × Plan)
 plan_of d = do
-  _ ← when (is_object_of (codes "capture" ∷ codes "global_timeout" ∷ codes "groups" ∷ codes "max_fail" ∷ codes "run_id"
-      ∷ codes "signals" ∷ codes "tests" ∷ codes "threads" ∷ []) d)
+  _ ← when (is_object_of (codes "capture" ∷ codes "flaky_result" ∷ codes "global_timeout" ∷ codes "groups"
+      ∷ codes "max_fail" ∷ codes "retries" ∷ codes "run_id" ∷ codes "signals" ∷ codes "tests" ∷ codes "threads" ∷ []) d)
   keys ← keys_of d
   rules ← rules_of d
   run_id ← option_and_then run_id_of (get (codes "run_id") d)

@@ -12,6 +12,7 @@ mod lines;
 mod objects;
 mod plan_keys;
 mod plan_line;
+mod plan_retries;
 mod plan_test;
 mod reading;
 mod turn_fields;

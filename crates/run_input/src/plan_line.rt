@@ -14,10 +14,11 @@ use crate::LineError;
 use crate::fields::{optional_u32_at, optional_u64_at, str_at, text_at, u32_at};
 use crate::objects::has_keys_of;
 use crate::plan_keys::{capture_at, max_fail_at, signals_at};
+use crate::plan_retries::{optional_flaky_at, optional_retries_at};
 use crate::plan_test::test_from;
 use crate::value::read_value;
 use run_capture::{CaptureStrategy, List};
-use run_events::{Group, MaxFail, Plan, PlanTest, SignalHandlerKind};
+use run_events::{FlakyResult, Group, MaxFail, Plan, PlanTest, RetryPolicy, SignalHandlerKind};
 use serde_json::Value;
 use std::alloc::Global;
 use uuid::Uuid;
@@ -29,18 +30,25 @@ pub struct RunnerKeys {
     /// How much may run at a time, where it is given.
     pub threads: Option<u32>,
     pub max_fail: MaxFail,
+    /// What each test is given in place of its own, where it is given.
+    pub retries: Option<RetryPolicy>,
+    pub flaky_result: Option<FlakyResult>,
 }
 
 /// Reads a plan line: what it sets of a runner, and its plan.
 ///
 /// Its keys are `run_id` (a UUID) and `tests` (a list of tests, which may be empty), and it may have `capture` (the
-/// text `none`, `split` or `combined`; `split` where it is missing), `threads` (a number), `max_fail`, `signals` (the
-/// text `standard`, `debugger` or `noop`; `standard` where it is missing), `global_timeout` (a number) and `groups` (a
-/// list of groups). `max_fail` has `count` (a number) and `mode` (the text `wait` or `immediate`). A group has `limit`
-/// (a number) and `name`. A test has `binary`, `command` and `name`, and may have `group` (the name of one), `leak`,
-/// `skip` (the reason for which it is skipped), `slow` and `weight` (a number, 1 where it is missing). `slow` may have
-/// `grace`, `on_timeout` (the text `fail` or `pass`), `period` and `terminate_after`, and `leak` may have `period` and
-/// `result` (the text `fail` or `pass`); what is missing is as usual.
+/// text `none`, `split` or `combined`; `split` where it is missing), `threads` (a number), `max_fail`, `retries` and
+/// `flaky_result` (each replaces that of every test), `signals` (the text `standard`, `debugger` or `noop`; `standard`
+/// where it is missing), `global_timeout` (a number) and `groups` (a list of groups). `max_fail` has `count` (a number)
+/// and `mode` (the text `wait` or `immediate`). A group has `limit` (a number) and `name`. A test has `binary`,
+/// `command` and `name`, and may have `group` (the name of one), `leak`, `skip` (the reason for which it is skipped),
+/// `slow`, `weight` (a number, 1 where it is missing), `retries` and `flaky` (the text `pass` or `fail`, as
+/// `flaky_result`; `pass` where it is missing). `slow` may have `grace`, `on_timeout` (the text `fail` or `pass`),
+/// `period` and `terminate_after`, and `leak` may have `period` and `result` (the text `fail` or `pass`); what is missing
+/// is as usual. `retries` has `count` (a number), and may have `delay` (0 where it is missing), `jitter` (`false` where it
+/// is missing), `backoff` (the text `fixed` or `exponential`; `fixed` where it is missing) and, where it is exponential,
+/// `max_delay`.
 pub fn read_plan_line(alloc: Global, line: &[u8]) -> Result<(RunnerKeys, Plan), LineError>
     ensures { ReadsValue result (option_and_then plan_of (value_of line.now)) }
 {
@@ -61,9 +69,11 @@ fn plan_from(alloc: Global, value: &Value) -> Result<(RunnerKeys, Plan), LineErr
         value,
         &[
             "capture",
+            "flaky_result",
             "global_timeout",
             "groups",
             "max_fail",
+            "retries",
             "run_id",
             "signals",
             "tests",
@@ -92,10 +102,14 @@ fn runner_keys(value: &Value) -> Option<RunnerKeys>
     let capture = capture_at(value.get("capture"))?;
     let threads = optional_u32_at(value.get("threads"))?;
     let max_fail = max_fail_at(value.get("max_fail"))?;
+    let retries = optional_retries_at(value.get("retries"))?;
+    let flaky_result = optional_flaky_at(value.get("flaky_result"))?;
     Some(RunnerKeys {
         capture,
         threads,
         max_fail,
+        retries,
+        flaky_result,
     })
 }
 

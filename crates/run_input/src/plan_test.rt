@@ -3,16 +3,18 @@ ghost use Rattle.std.specs.Prelude.{◌≡◌, option_map, option_and_then};
 ghost use Rattle.serde_json.specs.View.{view};
 ghost use Rattle.run_events.specs.Usual.{usual_slow, usual_leak};
 ghost use Rattle.run_input.specs.ReadsValue.{ReadsValue};
-ghost use Rattle.run_input.specs.PlanLine.{id_of, named_of, terms_of, test_of};
+ghost use Rattle.run_input.specs.PlanLine.{id_of, named_of, terms_of, test_of, trials_of};
 ghost use Rattle.run_input.specs.PlanLine.{slow_of, leak_of, timeout_of, leak_result_of};
 ghost use Rattle.run_input.specs.Fields.{u32_of, or_usual};
 
 use crate::LineError;
 use crate::fields::{optional_text_at, optional_u32_at, str_at, text_at, texts_at, u32_at, u64_or};
 use crate::objects::has_keys_of;
+use crate::plan_retries::{flaky_at, retries_at};
 use run_capture::Text;
 use run_events::{
-    LeakTimeout, LeakTimeoutResult, PlanTest, SlowTimeout, SlowTimeoutResult, TestInstanceId,
+    FlakyResult, LeakTimeout, LeakTimeoutResult, PlanTest, RetryPolicy, SlowTimeout,
+    SlowTimeoutResult, TestInstanceId,
 };
 use serde_json::Value;
 use std::alloc::Global;
@@ -25,26 +27,49 @@ pub fn test_from(alloc: Global, value: &Value) -> Result<PlanTest, LineError>
     if !has_keys_of(
         value,
         &[
-            "binary", "command", "group", "leak", "name", "skip", "slow", "weight",
+            "binary", "command", "flaky", "group", "leak", "name", "retries", "skip", "slow",
+            "weight",
         ],
     ) {
         return Err(LineError::NotInTable);
     }
     let terms = terms_from(value).ok_or(LineError::NotInTable)?;
+    let trials = trials_from(value).ok_or(LineError::NotInTable)?;
     let group = optional_text_at(alloc, value.get("group"))?;
     let test = named_from(alloc, value)?;
-    Ok(set(test, terms, group))
+    Ok(set(test, terms, trials, group))
 }
 
-// A test of this weight and with these time-outs, in this group.
-fn set(test: PlanTest, terms: (u32, SlowTimeout, LeakTimeout), group: Option<Text>) -> PlanTest
-    ensures { result ≡ record test
-        { weight = terms.0; slow = terms.1; leak = terms.2; group = group } }
+// A test of this weight, with these time-outs and retries, in this group.
+fn set(
+    test: PlanTest,
+    terms: (u32, SlowTimeout, LeakTimeout),
+    trials: (RetryPolicy, FlakyResult),
+    group: Option<Text>,
+) -> PlanTest
+    ensures { result ≡ record test {
+      weight = terms.0;
+      slow = terms.1;
+      leak = terms.2;
+      retries = trials.0;
+      flaky = trials.1;
+      group = group;
+    } }
 {
     let mut test = test;
     (test.weight, test.slow, test.leak) = terms;
+    (test.retries, test.flaky) = trials;
     test.group = group;
     test
+}
+
+// How often a test is tried again, and what a pass counts as then.
+fn trials_from(value: &Value) -> Option<(RetryPolicy, FlakyResult)>
+    ensures { result ≡ trials_of (view value.now) }
+{
+    let retries = retries_at(value.get("retries"))?;
+    let flaky = flaky_at(value.get("flaky"))?;
+    Some((retries, flaky))
 }
 
 // The name of a test, its command, and why it is skipped.

@@ -6,120 +6,99 @@ use Rattle.run_capture.specs.Captured.{with_wait_error}
 use Rattle.run_events.specs.declared.request.Request.{Request}
 use Rattle.run_model.specs.declared.phase.Phase.{Phase}
 use Rattle.run_model.specs.declared.phase.Phase.TheVariants.{StartSent, Starting, Running, Grace, KillWait, Leak}
-use Rattle.run_model.specs.declared.phase.Phase.TheVariants.{Deciding, Over}
+use Rattle.run_model.specs.declared.phase.Phase.TheVariants.{Deciding, Delay, RetrySent}
 use Rattle.run_model.specs.declared.unit_turn.UnitTurn.{UnitTurn}
 use Rattle.run_model.specs.declared.unit_turn.UnitTurn.TheVariants.{Answered, Started, StartFailed, Exit, WaitFailed}
 use Rattle.run_model.specs.declared.unit_turn.UnitTurn.TheVariants.{Piece, StreamEnd, ReadError, Due, Take, Decide}
 use Rattle.run_model.specs.declared.unit_view.AttemptTerms.{AttemptTerms}
 use Rattle.run_model.specs.declared.unit_view.UnitView.{UnitView}
 use Rattle.run_model.specs.Unit.{at_moment, row, row_at, takes, takes_at}
-use Rattle.run_model.specs.Unit.{let_go, decided, is_live, reach}
-use Rattle.run_model.specs.Story.{OwnTurn, request_of, begins_attempt, with_turn, pieces}
+use Rattle.run_model.specs.Unit.{at_next, is_live, reach}
+use Rattle.run_model.specs.Story.{OwnTurn, Attempt, cut, request_of, begins_attempt, with_turn, pieces}
 use Rattle.run_model.specs.Attempts.{attempt_in, start_in}
-use Rattle.run_laws.proofs.CaptureLemmas.{taken, captured_first}
-use Rattle.run_laws.proofs.TimerLemmas.{timer_first}
+use Rattle.run_laws.proofs.CaptureLemmas.{taken}
 use Rattle.run_laws.proofs.PieceLemmas.{quiet_said}
 use Rattle.run_laws.proofs.GoingLemmas.{past_refused}
-use Rattle.run_laws.proofs.GoingLemmas.{past_decided}
 use Rattle.run_laws.proofs.MadeLemmas.{later_pieces, made_lined}
 use Rattle.run_laws.proofs.RowLemmas.{made_more, exit_made, heard_running, heard_made, started_made}
+use Rattle.run_laws.proofs.RowLemmas.{begun_made, decide_made, retried_made, left_made}
 use Rattle.run_laws.proofs.DueLemmas.{leaked_made, killed_due, slow_made}
-use Rattle.run_laws.proofs.RequestLemmas.{take_running, take_grace, take_leak}
-pub use Rattle.run_laws.proofs.MadeLemmas.{HasPieces, IsMade, made_first, made_statuses, made_ended, made_due}
+use Rattle.run_laws.proofs.RequestLemmas.{take_running, take_grace, take_leak, take_delay}
+pub use Rattle.run_laws.proofs.MadeLemmas.{HasPieces, IsMade, made_first, made_statuses, made_ended, made_last, made_due}
 
 -- the pieces after one more turn
-abbrev pub more : OwnTurn → List (List OwnTurn) → List (List OwnTurn)
-more t ps = if begins_attempt t.turn then (t ∷ []) ∷ ps else with_turn t ps
+abbrev pub more : OwnTurn → List Attempt → List Attempt
+more t ps = if begins_attempt t.turn then cut (t ∷ []) [] ∷ ps else with_turn t ps
 
 -- each row of a unit that takes its turn keeps that
-row_made : (now : ℕ) (ph : Phase) (turn : UnitTurn) (before u : UnitView) (ps : List (List OwnTurn))
+row_made : (now : ℕ) (ph : Phase) (turn : UnitTurn) (before u : UnitView) (ps : List Attempt)
     → before.timers ≡ u.timers → takes_at now ph before turn ≡ true → u.phase ≡ ph → now ≤ u.latest
     → u.attempt ≡ attempt_in ps → u.timers.stopwatch.start ≡ start_in ps → HasPieces u.terms ph u ps
     → IsMade u.terms (row_at now ph turn u).next (more (taken now turn (request_of turn u.line)) ps)
-row_made now StartSent (Answered true) before u [] same en is le a st h = record {
-  attempt = a;
-  start = refl;
-  terms = refl;
-  has = (
-    record {
-      is_at = record {
-        let_go = refl;
-        not_refused = refl;
-        wait_over = refl;
-        ended_so = refl;
-        leaked_so = refl;
-        counted = refl;
-        captured = captured_first u.terms.strategy now;
-      };
-      not_ended = refl;
-      watch = refl;
-      timer = timer_first u.terms (let_go now u).timers now u.latest;
-    },
-    h,
-  );
-}
+row_made now StartSent (Answered true) before u [] same en is le a st h = begun_made now u [] a h
 row_made now StartSent (Answered false) before u [] same en is le a st h = record {
   attempt = a;
   start = st;
   terms = refl;
-  has = h;
+  has = h.0;
 }
-row_made now Starting (Started pid) before u (piece ∷ earlier) same en is le a st (on, ss) =
+row_made now Starting (Started pid) before u (cut piece [] ∷ earlier) same en is le a st (on, ss) =
     started_made now pid u piece earlier le a (on, ss)
-row_made now Starting (StartFailed error) before u (piece ∷ earlier) same en is le a st (on, ss) =
+row_made now Starting (StartFailed error) before u (cut piece [] ∷ earlier) same en is le a st (on, ss) =
     made_more (row_at now Starting (StartFailed error) u).next Deciding (taken now (StartFailed error) None) piece earlier refl
     a (simp quiet_said st) (past_refused now error None u piece earlier on a ss)
-row_made now Running Due before u (piece ∷ earlier) same en is le a st h = slow_made now u piece earlier is le (rw same at en) a h
-row_made now Running Take before u (piece ∷ earlier) same en is le a st h =
+row_made now Running Due before u (cut piece [] ∷ earlier) same en is le a st h =
+    slow_made now u piece earlier is le (rw same at en) a h
+row_made now Running Take before u (cut piece [] ∷ earlier) same en is le a st h =
     take_running now u.line u piece earlier is le a h
-row_made now Running (Exit exit) before u (piece ∷ earlier) same en is le a st h =
+row_made now Running (Exit exit) before u (cut piece [] ∷ earlier) same en is le a st h =
     exit_made Running now (Some exit) u.capture (Exit exit) u piece earlier le a h refl refl refl refl refl
-row_made now Running (WaitFailed error) before u (piece ∷ earlier) same en is le a st h =
+row_made now Running (WaitFailed error) before u (cut piece [] ∷ earlier) same en is le a st h =
     exit_made Running now None (with_wait_error u.capture error) (WaitFailed error) u piece earlier le a h refl refl refl
     refl refl
-row_made now Running (Piece stream bytes) before u (piece ∷ earlier) same en is le a st h =
+row_made now Running (Piece stream bytes) before u (cut piece [] ∷ earlier) same en is le a st h =
     heard_running Running now (Piece stream bytes) u piece earlier (λ h. h) is a h refl refl refl refl refl refl
-row_made now Running (StreamEnd stream) before u (piece ∷ earlier) same en is le a st h =
+row_made now Running (StreamEnd stream) before u (cut piece [] ∷ earlier) same en is le a st h =
     heard_running Running now (StreamEnd stream) u piece earlier (λ h. h) is a h refl refl refl refl refl refl
-row_made now Running (ReadError stream error) before u (piece ∷ earlier) same en is le a st h =
+row_made now Running (ReadError stream error) before u (cut piece [] ∷ earlier) same en is le a st h =
     heard_running Running now (ReadError stream error) u piece earlier (λ h. h) is a h refl refl refl refl refl refl
-row_made now Grace Due before u (piece ∷ earlier) same en is le a st h = killed_due now u piece earlier a h
-row_made now Grace Take before u (piece ∷ earlier) same en is le a st h = take_grace now u.line u piece earlier is a h
-row_made now Grace (Exit exit) before u (piece ∷ earlier) same en is le a st h =
+row_made now Grace Due before u (cut piece [] ∷ earlier) same en is le a st h = killed_due now u piece earlier a h
+row_made now Grace Take before u (cut piece [] ∷ earlier) same en is le a st h = take_grace now u.line u piece earlier is a h
+row_made now Grace (Exit exit) before u (cut piece [] ∷ earlier) same en is le a st h =
     exit_made Grace now (Some exit) u.capture (Exit exit) u piece earlier le a h refl refl refl refl refl
-row_made now Grace (WaitFailed error) before u (piece ∷ earlier) same en is le a st h =
+row_made now Grace (WaitFailed error) before u (cut piece [] ∷ earlier) same en is le a st h =
     exit_made Grace now None (with_wait_error u.capture error) (WaitFailed error) u piece earlier le a h refl refl refl
     refl refl
-row_made now Grace (Piece stream bytes) before u (piece ∷ earlier) same en is le a st h =
+row_made now Grace (Piece stream bytes) before u (cut piece [] ∷ earlier) same en is le a st h =
     heard_running Grace now (Piece stream bytes) u piece earlier (λ h. h) is a h refl refl refl refl refl refl
-row_made now Grace (StreamEnd stream) before u (piece ∷ earlier) same en is le a st h =
+row_made now Grace (StreamEnd stream) before u (cut piece [] ∷ earlier) same en is le a st h =
     heard_running Grace now (StreamEnd stream) u piece earlier (λ h. h) is a h refl refl refl refl refl refl
-row_made now Grace (ReadError stream error) before u (piece ∷ earlier) same en is le a st h =
+row_made now Grace (ReadError stream error) before u (cut piece [] ∷ earlier) same en is le a st h =
     heard_running Grace now (ReadError stream error) u piece earlier (λ h. h) is a h refl refl refl refl refl refl
-row_made now KillWait (Exit exit) before u (piece ∷ earlier) same en is le a st h =
+row_made now KillWait (Exit exit) before u (cut piece [] ∷ earlier) same en is le a st h =
     exit_made KillWait now (Some exit) u.capture (Exit exit) u piece earlier le a h refl refl refl refl refl
-row_made now KillWait (WaitFailed error) before u (piece ∷ earlier) same en is le a st h =
+row_made now KillWait (WaitFailed error) before u (cut piece [] ∷ earlier) same en is le a st h =
     exit_made KillWait now None (with_wait_error u.capture error) (WaitFailed error) u piece earlier le a h refl refl refl
     refl refl
-row_made now Leak (Piece stream bytes) before u (piece ∷ earlier) same en is le a st h =
+row_made now Leak (Piece stream bytes) before u (cut piece [] ∷ earlier) same en is le a st h =
     heard_made now (Piece stream bytes) u piece earlier is a h refl refl refl refl refl refl
-row_made now Leak (StreamEnd stream) before u (piece ∷ earlier) same en is le a st h =
+row_made now Leak (StreamEnd stream) before u (cut piece [] ∷ earlier) same en is le a st h =
     heard_made now (StreamEnd stream) u piece earlier is a h refl refl refl refl refl refl
-row_made now Leak (ReadError stream error) before u (piece ∷ earlier) same en is le a st h =
+row_made now Leak (ReadError stream error) before u (cut piece [] ∷ earlier) same en is le a st h =
     heard_made now (ReadError stream error) u piece earlier is a h refl refl refl refl refl refl
-row_made now Leak Take before u (piece ∷ earlier) same en is le a st h = take_leak now u.line u piece earlier is a h
-row_made now Leak Due before u (piece ∷ earlier) same en is le a st h = leaked_made now u piece earlier a h
-row_made now Deciding (Decide word) before u (piece ∷ earlier) same en is le a st h =
-    made_more (decided u).next Over (taken now (Decide word) None) piece earlier refl a (simp quiet_said st)
-    (past_decided now word u piece earlier h)
-row_made now StartSent turn before u (piece ∷ ps) same en is le a st h = absurd h
-row_made now Starting turn before u [] same en is le a st h = absurd h
-row_made now Running turn before u [] same en is le a st h = absurd h
-row_made now Grace turn before u [] same en is le a st h = absurd h
-row_made now KillWait turn before u [] same en is le a st h = absurd h
-row_made now Leak turn before u [] same en is le a st h = absurd h
-row_made now Deciding turn before u [] same en is le a st h = absurd h
-row_made now ph turn before u ps same en is le a st h = cc
+row_made now Leak Take before u (cut piece [] ∷ earlier) same en is le a st h = take_leak now u.line u piece earlier is a h
+row_made now Leak Due before u (cut piece [] ∷ earlier) same en is le a st h = leaked_made now u piece earlier a h
+row_made now Deciding (Decide word) before u (cut piece [] ∷ earlier) same en is le a st h =
+    decide_made now word u piece earlier le a st h
+row_made now Delay Due before u (cut piece (d ∷ after) ∷ earlier) same en is le a st h =
+    retried_made (taken now Due None) u piece d after earlier a st h refl refl
+row_made now Delay Take before u (cut piece (d ∷ after) ∷ earlier) same en is le a st h =
+    take_delay now u.line u piece d after earlier is a st h
+row_made now RetrySent (Answered true) before u (cut piece (d ∷ after) ∷ earlier) same en is le a st (again, over) =
+    begun_made now (at_next u) (cut piece (d ∷ after) ∷ earlier) (omega arith) (again.0.1, again.2)
+row_made now RetrySent (Answered false) before u (cut piece (d ∷ after) ∷ earlier) same en is le a st h =
+    left_made now u piece d after earlier a st h
+row_made now ph turn before u ps same en is le a st h = first_of (cc, grind arith)
 
 -- of a unit that wasn't admitted there is no story
 abbrev pub IsMadeIf : AttemptTerms → Option UnitView → List OwnTurn → Type 0
@@ -136,7 +115,7 @@ row_made_if terms now turn u v story is en le h = rw is (by_terms (rw is at h))
     after : UnitView
     after = at_moment now u
 
-    after_turn : List (List OwnTurn)
+    after_turn : List Attempt
     after_turn = more (taken now turn (request_of turn u.line)) (pieces story)
 
     by_terms : IsMade terms u (pieces story) → IsMade terms (row now turn u).next after_turn

@@ -1,12 +1,14 @@
 -- Where the tests stand on the board, after a turn of one.
-use Rattle.std.proofs.Common.{◌≡◌, ◌≢◌, ℕ, ◌==◌, List, map, Bool}
+use Rattle.std.specs.Prelude.{⊤}
+use Rattle.std.proofs.Common.{◌≡◌, ◌≢◌, ◌⊎◌, inl, inr, ℕ, ◌==◌, List, map, Bool}
 use Rattle.std.proofs.Common.{true, false, if◌then◌else◌, Option, Some, None, option_map, option_to_list}
 use Rattle.std.proofs.Common.{refl, ap, sym, subst, ◌∙◌, arith}
 use Rattle.std.specs.List.{range_with_len}
 use Rattle.std.proofs.lemmas.Grind.{common_steps}
 use Rattle.run_events.specs.declared.settings.Settings.{Settings}
 use Rattle.run_events.specs.declared.message.Message.{Message}
-use Rattle.run_events.specs.declared.message.Message.TheVariants.{Slow}
+use Rattle.run_events.specs.declared.message.Message.TheVariants.{Slow, AttemptFailed, Retry}
+use Rattle.run_events.specs.declared.result.ExecuteStatus.{ExecuteStatus}
 use Rattle.run_admission.specs.declared.seat.Seat.{Seat}
 use Rattle.run_admission.specs.declared.seat.Seat.TheVariants.{InUse, Gone}
 use Rattle.run_admission.specs.InUse.{is_in_use}
@@ -15,16 +17,17 @@ use Rattle.run_model.specs.declared.happening.Happening.{Happening}
 use Rattle.run_model.specs.declared.happening.UnitPart.{UnitPart}
 use Rattle.run_model.specs.declared.happening.UnitPart.TheVariants.{Acts}
 use Rattle.run_model.specs.declared.phase.Phase.{Phase}
-use Rattle.run_model.specs.declared.phase.Phase.TheVariants.{StartSent, Over}
+use Rattle.run_model.specs.declared.phase.Phase.TheVariants.{StartSent, Delay, RetrySent, Over}
 use Rattle.run_model.specs.declared.unit_turn.UnitTurn.{UnitTurn}
 use Rattle.run_model.specs.declared.unit_turn.UnitTurn.TheVariants.{Answered}
 use Rattle.run_model.specs.declared.unit_view.UnitView.{UnitView}
-use Rattle.run_model.specs.Unit.{Row, at_moment, row, row_at, takes, takes_at}
+use Rattle.run_model.specs.Unit.{Row, at_moment, row, row_at, takes, takes_at, decided, delayed, next_delay}
+use Rattle.run_model.specs.Unit.{failed_message, retry_message, last_status}
 use Rattle.run_model.specs.Words.{unit_of, unit_after}
 use Rattle.run_model.specs.Admission.{is_last, seat_of, tests_in, unit_of_test}
 use Rattle.run_laws.specs.Limits.{limits_with}
-use Rattle.run_laws.proofs.Rows.{IsReport, open_on, row_keeps, row_moves, Continues, continues, Takes, answers, opens}
-use Rattle.run_laws.proofs.Rows.{decides, row_takes, takes_moment}
+use Rattle.run_laws.proofs.Rows.{IsReport, open_on, row_keeps, Moves, row_moves, continues, Takes, answers, opens}
+use Rattle.run_laws.proofs.Rows.{decides, passes, again, Passes, row_passes, decide_cases, row_takes, takes_moment}
 use Rattle.run_laws.proofs.OpenSeats.{at_last, AreLower, IsOfFewer}
 
 -- where each unit stands after a sub-run
@@ -80,12 +83,47 @@ row_lowers now ph turn u is used = by_last (is_last u.phase) refl
     by_last false e = by_next (is_last (row_at now ph turn u).next.phase) refl e
     by_last true e = ap (λ (v : UnitView). seat_of (Some v)) (row_over now ph turn u (ap is_last (sym is) ∙ e))
 
--- a slow report leaves all seats
-report_leaves : (seat : ℕ → Seat) (m : Option Message) (k : ℕ) → IsReport m
-    → at_last seat (option_to_list m) k ≡ seat k
-report_leaves seat None k h = refl
-report_leaves seat (Some (Slow slow)) k h = refl
-report_leaves seat (Some m) k h = absurd h
+-- a message that neither starts nor finishes a test leaves all seats
+abbrev IsQuiet : Option Message → Type 0
+IsQuiet None = ⊤
+IsQuiet (Some (Slow slow)) = ⊤
+IsQuiet (Some (AttemptFailed failure)) = ⊤
+IsQuiet (Some (Retry retry)) = ⊤
+IsQuiet _ = ⊥
+
+quiet_leaves : (seat : ℕ → Seat) (m : Option Message) (k : ℕ) → IsQuiet m → at_last seat (option_to_list m) k ≡ seat k
+quiet_leaves seat None k h = refl
+quiet_leaves seat (Some (Slow slow)) k h = refl
+quiet_leaves seat (Some (AttemptFailed failure)) k h = refl
+quiet_leaves seat (Some (Retry retry)) k h = refl
+quiet_leaves seat (Some m) k h = absurd h
+
+report_quiet : (m : Option Message) → IsReport m → IsQuiet m
+report_quiet None h = tt
+report_quiet (Some (Slow slow)) h = tt
+report_quiet (Some m) h = absurd h
+
+failed_quiet : (delay : ℕ) (u : UnitView) (status : Option ExecuteStatus)
+    → IsQuiet (option_map (failed_message delay u) status)
+failed_quiet delay u None = tt
+failed_quiet delay u (Some status) = tt
+
+-- a row after which the unit isn't over, and that sends no more than such a message
+record Stays (r : Row) : Type 0 where
+  phase : is_last r.next.phase ≡ false
+  sent : IsQuiet r.sent
+
+moves_stays : (u : UnitView) (r : Row) → Moves u r → Stays r
+moves_stays u r moves =
+    let on = continues u r moves in record { phase = on.phase; sent = report_quiet r.sent on.sent }
+
+passes_stays : (u : UnitView) (r : Row) → Passes u r → Stays r
+passes_stays u r it = by_way it.way
+  where
+    by_way : ((r.next.phase ≡ Delay) × (r.sent ≡ None)) ⊎ ((r.next.phase ≡ RetrySent) × (r.sent ≡ Some (retry_message u)))
+        → Stays r
+    by_way (inl stays) = record { phase = ap is_last stays.0; sent = subst IsQuiet (sym stays.1) tt }
+    by_way (inr goes) = record { phase = ap is_last goes.0; sent = subst IsQuiet (sym goes.1) tt }
 
 -- a row that ends the use of a seat sends the finish that closes it: the last seat of its unit stays below the board's
 row_finishes : (now : ℕ) (ph : Phase) (turn : UnitTurn) (u : UnitView) (seat : ℕ → Seat) → u.phase ≡ ph
@@ -95,23 +133,37 @@ row_finishes : (now : ℕ) (ph : Phase) (turn : UnitTurn) (u : UnitView) (seat :
     (seat_of (Some (row_at now ph turn u).next))
 row_finishes now ph turn u seat is en goes below = by_take (row_takes now ph turn u en)
   where
-    stays : (r : Row) → r ≡ row_at now ph turn u → is_last ph ≡ false → Continues r
-        → IsBelow (at_last seat (option_to_list r.sent) u.test.unit) (seat_of (Some r.next))
-    stays r same before on used =
-        let quiet = report_leaves seat r.sent u.test.unit on.sent in
-        let slot : r.next.slot ≡ u.slot =
-        ap (λ (r : Row). r.next.slot) same ∙ (row_keeps now ph turn u is).slot in
+    EndsBelow : Row → Type 0
+    EndsBelow r = IsBelow (at_last seat (option_to_list r.sent) u.test.unit) (seat_of (Some r.next))
+
+    stays : (r : Row) → r.next.slot ≡ u.slot → is_last ph ≡ false → Stays r → EndsBelow r
+    stays r slot before on used =
+        let quiet = quiet_leaves seat r.sent u.test.unit on.sent in
         quiet ∙ below (ap is_in_use (sym quiet) ∙ used) ∙ sym (same_seat u r.next slot (ap is_last is ∙ before) on.phase)
 
-    by_take : Takes ph turn
-        → IsBelow (at_last seat (option_to_list (row_at now ph turn u).sent) u.test.unit)
-        (seat_of (Some (row_at now ph turn u).next))
+    keeps : (row_at now ph turn u).next.slot ≡ u.slot
+    keeps = (row_keeps now ph turn u is).slot
+
+    done : EndsBelow (decided u)
+    done = grind (arith, common_steps)
+
+    by_take : Takes ph turn → EndsBelow (row_at now ph turn u)
     by_take (answers true at to) =
-        stays (row_at now ph turn u) refl (ap is_last at) (rw (at, to) (record { phase = refl; sent = tt }))
+        stays (row_at now ph turn u) keeps (ap is_last at) (rw (at, to) (record { phase = refl; sent = tt }))
     by_take (answers false at to) = absurd (goes to)
     by_take (opens on) =
-        stays (row_at now ph turn u) refl (open_on ph on) (continues u _ (row_moves now ph turn u is on))
-    by_take (decides word at to) = rw (at, to) (grind (arith, common_steps))
+        stays (row_at now ph turn u) keeps (open_on ph on) (moves_stays u _ (row_moves now ph turn u is on))
+    by_take (decides word at to) =
+        rw (at, to) (decide_cases EndsBelow now word u
+        (λ retry. stays (delayed now (next_delay word u) u) refl (ap is_last at)
+        (record { phase = refl; sent = failed_quiet (next_delay word u) u (last_status u.statuses) }))
+        (λ none. done))
+    by_take (passes at to) =
+        stays (row_at now ph turn u) keeps (ap is_last at)
+        (passes_stays u _ (rw at (row_passes now turn u (is ∙ at))))
+    by_take (again true at to) =
+        stays (row_at now ph turn u) keeps (ap is_last at) (rw (at, to) (record { phase = refl; sent = tt }))
+    by_take (again false at to) = absurd (goes to)
 
 -- what a row sends leaves the seats of other units
 row_others : (now : ℕ) (ph : Phase) (turn : UnitTurn) (u : UnitView) (seat : ℕ → Seat) (k : ℕ) → u.phase ≡ ph
@@ -119,14 +171,27 @@ row_others : (now : ℕ) (ph : Phase) (turn : UnitTurn) (u : UnitView) (seat : �
     → (u.test.unit == k) ≡ false → at_last seat (option_to_list (row_at now ph turn u).sent) k ≡ seat k
 row_others now ph turn u seat k is en apart = by_take (row_takes now ph turn u en)
   where
-    by_go : (go : Bool) → at_last seat (option_to_list (row_at now StartSent (Answered go) u).sent) k ≡ seat k
+    Leaves : Row → Type 0
+    Leaves r = at_last seat (option_to_list r.sent) k ≡ seat k
+
+    by_go : (go : Bool) → Leaves (row_at now StartSent (Answered go) u)
     by_go true = refl
     by_go false = refl
 
-    by_take : Takes ph turn → at_last seat (option_to_list (row_at now ph turn u).sent) k ≡ seat k
+    once_more : (go : Bool) → Leaves (row_at now RetrySent (Answered go) u)
+    once_more true = refl
+    once_more false = refl
+
+    by_take : Takes ph turn → Leaves (row_at now ph turn u)
     by_take (answers go at to) = rw (at, to) (by_go go)
-    by_take (opens on) = report_leaves seat _ k (continues u _ (row_moves now ph turn u is on)).sent
-    by_take (decides word at to) = rw (at, to) (ap (λ b. if b then Gone else seat k) apart)
+    by_take (opens on) = quiet_leaves seat _ k (moves_stays u _ (row_moves now ph turn u is on)).sent
+    by_take (decides word at to) =
+        rw (at, to) (decide_cases Leaves now word u
+        (λ retry. quiet_leaves seat _ k (failed_quiet (next_delay word u) u (last_status u.statuses)))
+        (λ none. ap (λ b. if b then Gone else seat k) apart))
+    by_take (passes at to) =
+        quiet_leaves seat _ k (passes_stays u (row_at now ph turn u) (rw at (row_passes now turn u (is ∙ at)))).sent
+    by_take (again go at to) = rw (at, to) (once_more go)
 
 -- a unit's own turn leaves the board's seats, or ends the use of its own
 pub acts_lower : (now j : ℕ) (turn : UnitTurn) (run : List Happening)

@@ -8,8 +8,9 @@ use Rattle.run_events.proofs.StatsLemmas.{total-cancel_reason}
 use Rattle.run_events.specs.declared.settings.Settings.{Settings}
 use Rattle.run_events.specs.declared.turn.Turn.{Turn}
 use Rattle.run_events.specs.declared.message.Message.{Message}
-use Rattle.run_events.specs.declared.message.Message.TheVariants.{Start, Slow, Skip, Finish}
+use Rattle.run_events.specs.declared.message.Message.TheVariants.{Start, Slow, AttemptFailed, Retry, Skip, Finish}
 use Rattle.run_events.specs.declared.message.TestStart.{TestStart}
+use Rattle.run_events.specs.declared.message.TestRetry.{TestRetry}
 use Rattle.run_events.specs.declared.cancel.CancelReason.{CancelReason}
 use Rattle.run_events.specs.declared.cancel.CancelReason.TheVariants.{SetupScriptFailure, TestFailure, ReportError}
 use Rattle.run_events.specs.declared.cancel.CancelReason.TheVariants.{GlobalTimeout, TestFailureImmediate, Signal}
@@ -21,7 +22,7 @@ use Rattle.run_model.specs.declared.happening.Happening.{Happening}
 use Rattle.run_model.specs.declared.unit_view.UnitView.{UnitView}
 use Rattle.run_model.specs.Words.{is_on, is_over, clock, sub_run, queue, reason, told, units, tally, was_refused}
 use Rattle.run_model.specs.Admission.{Newcomer, newcomer}
-use Rattle.run_model.specs.Dispatch.{event, having_told, with_start, may_go, started_event}
+use Rattle.run_model.specs.Dispatch.{event, having_told, with_start, may_go, started_event, retried_event}
 use Rattle.run_model.specs.Cancel.{Cause, cause_of, is_above, cancelled_for, cancel_event, caused}
 use Rattle.run_model.specs.Board.{Board, Deed, board}
 use Rattle.run_model.specs.Turns.{enabled, enabled_on, is_empty, takes_turn, turn_of_unit, admission}
@@ -65,11 +66,20 @@ start_own : (p : Settings) (now : ℕ) (run : List Happening) (start : TestStart
 start_own p now run start true goes = (refl, λ e. no_reason (reason run) (sym goes))
 start_own p now run start false goes = (tt, tt)
 
+retry_own : (p : Settings) (now : ℕ) (run : List Happening) (retry : TestRetry) (go : Bool)
+    → go ≡ is_none (reason run)
+    → TellsOwn run (option_map (event now) (if go then Some (retried_event retry (tally p run)) else None))
+retry_own p now run retry true goes = (refl, λ e. no_reason (reason run) (sym goes))
+retry_own p now run retry false goes = (tt, tt)
+
 delivers_own : (p : Settings) (over : Bool) (now : ℕ) (run : List Happening) (q : List Message) → Holds p over now run
     → queue run ≡ q → not (is_empty q) ≡ true → TellsOwn run (delivery (board_of p over now run) q).told
 delivers_own p over now run [] h eq en = cc
 delivers_own p over now run (Start start ∷ rest) h eq en =
     start_own p now run start (may_go (tally p run)) (may_go-is p run)
+delivers_own p over now run (Retry retry ∷ rest) h eq en =
+    retry_own p now run retry (may_go (tally p run)) (may_go-is p run)
+delivers_own p over now run (AttemptFailed failure ∷ rest) h eq en = (refl, λ e. cc)
 delivers_own p over now run (Skip skip ∷ rest) h eq en = (refl, λ e. cc)
 delivers_own p over now run (Slow slow ∷ rest) h eq en = (refl, λ e. cc)
 delivers_own p over now run (Finish finish ∷ rest) h eq en =

@@ -3,8 +3,9 @@ use Rattle.std.proofs.Common.{◌≡◌, ℕ, ◌==◌, List, [], ◌∷◌, nat
 use Rattle.std.proofs.Common.{option_map, refl, ap, sym, ◌∙◌}
 use Rattle.run_events.specs.Outcome.{failed_count}
 use Rattle.run_events.specs.declared.message.Message.{Message}
-use Rattle.run_events.specs.declared.message.Message.TheVariants.{Start, Finish}
+use Rattle.run_events.specs.declared.message.Message.TheVariants.{Start, Retry, Finish}
 use Rattle.run_events.specs.declared.message.TestStart.{TestStart}
+use Rattle.run_events.specs.declared.message.TestRetry.{TestRetry}
 use Rattle.run_events.specs.declared.retry_policy.MaxFail.{MaxFail}
 use Rattle.run_events.specs.declared.retry_policy.MaxFail.TheVariants.{All, Count}
 use Rattle.run_events.specs.declared.retry_policy.TerminateMode.{TerminateMode}
@@ -20,7 +21,7 @@ use Rattle.run_model.specs.declared.happening.Happening.{Happening}
 use Rattle.run_model.specs.Admission.{Newcomer, newcomer}
 use Rattle.run_model.specs.Board.{Board, Deed}
 use Rattle.run_model.specs.Cancel.{Cause, first_reason, signal_cause, too_many_failed, failure_cause, caused}
-use Rattle.run_model.specs.Dispatch.{event, go_of, may_go, started_event, with_start}
+use Rattle.run_model.specs.Dispatch.{event, go_of, may_go, started_event, retried_event, with_start}
 use Rattle.run_model.specs.Turns.{admission, answer_to, deed_on, delivered_as, delivery, event_of, starting, tally_with}
 use Rattle.run_model.specs.Words.{queue, signals_heard, tally, units}
 use Rattle.run_laws.specs.Cancels.{cause_by, delivery_reason, failure_reason, failures_reason, first_signal}
@@ -76,6 +77,11 @@ start_is : (most : MaxFail) (now : ℕ) (t : Tally) (start : TestStart) (go : Bo
 start_is most now t start true = refl
 start_is most now t start false = refl
 
+retry_is : (most : MaxFail) (now : ℕ) (t : Tally) (retry : TestRetry) (go : Bool)
+    → None ≡ delivery_reason most (option_map (event now) (if go then Some (retried_event retry t) else None))
+retry_is most now t retry true = refl
+retry_is most now t retry false = refl
+
 delivery_is : (p : Settings) (over refused : Bool) (now : ℕ) (run : List Happening) (q : List Message)
     → (delivery (board_with p refused over now run) q).cause
     ≡ delivery_reason p.max_fail (delivery (board_with p refused over now run) q).told
@@ -88,6 +94,8 @@ delivery_is p over refused now run (Finish finish ∷ rest) =
     finish_is now t p.max_fail t.stats
     (delivered_as b (Finish finish) (answer_to b (starting (Finish finish)) (go_of (tally p run) (Finish finish)))) refl
     refl
+delivery_is p over refused now run (Retry retry ∷ rest) =
+    retry_is p.max_fail now (tally p run) retry (may_go (tally p run))
 delivery_is p over refused now run (m ∷ rest) = refl
 
 -- an admission is none

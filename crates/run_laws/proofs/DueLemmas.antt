@@ -1,5 +1,5 @@
 -- A unit at the attempt that its pieces say, after a row of a timer that is due.
-use Rattle.std.proofs.Common.{◌≡◌, ℕ, ◌+◌, ◌==◌, ◌≤◌, List, ◌∷◌, length, Bool, true, false, ◌||◌}
+use Rattle.std.proofs.Common.{◌≡◌, ℕ, ◌+◌, ◌==◌, ◌≤◌, List, [], ◌∷◌, length, Bool, true, false, ◌||◌}
 use Rattle.std.proofs.Common.{if◌then◌else◌, None, refl, ap, ◌∙◌}
 use Rattle.run_capture.specs.Captured.{is_done}
 use Rattle.run_model.specs.declared.phase.Phase.{Phase}
@@ -10,7 +10,7 @@ use Rattle.run_model.specs.declared.unit_view.UnitView.{UnitView}
 use Rattle.run_model.specs.Slow.{one_more, is_out_of_time}
 use Rattle.run_model.specs.Unit.{is_due, exited}
 use Rattle.run_model.specs.Unit.{slow_row, slow_again, in_grace, out_of_time, killed}
-use Rattle.run_model.specs.Story.{OwnTurn, any_is}
+use Rattle.run_model.specs.Story.{OwnTurn, Attempt, cut, any_is}
 use Rattle.run_model.specs.Timing.{ends_wait, starts_child, slow_count}
 use Rattle.run_model.specs.Attempts.{start_of}
 use Rattle.run_laws.proofs.CaptureLemmas.{taken}
@@ -23,9 +23,9 @@ use Rattle.run_laws.proofs.MadeLemmas.{GoesOn, IsMade}
 use Rattle.run_laws.proofs.RowLemmas.{made_more, began}
 
 -- the wait for its streams is over
-pub leaked_made : (now : ℕ) (u : UnitView) (piece : List OwnTurn) (earlier : List (List OwnTurn))
+pub leaked_made : (now : ℕ) (u : UnitView) (piece : List OwnTurn) (earlier : List Attempt)
     → u.attempt ≡ length earlier + 1 → GoesOn u.terms Leak true u.exit u piece earlier
-    → IsMade u.terms (exited now u.exit true u.capture u) ((taken now Due None ∷ piece) ∷ earlier)
+    → IsMade u.terms (exited now u.exit true u.capture u) (cut (taken now Due None ∷ piece) [] ∷ earlier)
 leaked_made now u piece earlier a (on, ss) =
     made_more (exited now u.exit true u.capture u) Deciding (taken now Due None) piece earlier refl a
     (began u.terms u.timers.stopwatch.start true u.exit true u.timers.slow_count u.capture (taken now Due None ∷ piece) it)
@@ -45,11 +45,11 @@ leaked_made now u piece earlier a (on, ss) =
         on.is_at count
 
 -- its time to end by itself is over, by this turn
-pub killed_made : (t : OwnTurn) (u : UnitView) (piece : List OwnTurn) (earlier : List (List OwnTurn))
+pub killed_made : (t : OwnTurn) (u : UnitView) (piece : List OwnTurn) (earlier : List Attempt)
     → u.attempt ≡ length earlier + 1 → GoesOn u.terms Grace false None u piece earlier
     → ends_wait t.turn ≡ false → starts_child t.turn ≡ false → ends_time u.terms.slow t ≡ true
     → IsAt u.terms u.timers.stopwatch.start false None false u.timers.slow_count u.capture (t ∷ piece)
-    → IsMade u.terms (killed u).next ((t ∷ piece) ∷ earlier)
+    → IsMade u.terms (killed u).next (cut (t ∷ piece) [] ∷ earlier)
 killed_made t u piece earlier a (on, ss) ends starts over it =
     made_more (killed u).next Running t piece earlier refl a
     (began u.terms u.timers.stopwatch.start false None false u.timers.slow_count u.capture (t ∷ piece) it) (
@@ -60,19 +60,19 @@ killed_made t u piece earlier a (on, ss) ends starts over it =
     )
 
 -- since its timer was due
-pub killed_due : (now : ℕ) (u : UnitView) (piece : List OwnTurn) (earlier : List (List OwnTurn))
+pub killed_due : (now : ℕ) (u : UnitView) (piece : List OwnTurn) (earlier : List Attempt)
     → u.attempt ≡ length earlier + 1 → GoesOn u.terms Grace false None u piece earlier
-    → IsMade u.terms (killed u).next ((taken now Due None ∷ piece) ∷ earlier)
+    → IsMade u.terms (killed u).next (cut (taken now Due None ∷ piece) [] ∷ earlier)
 killed_due now u piece earlier a (on, ss) =
     killed_made (taken now Due None) u piece earlier a (on, ss) refl refl refl
     (at_due u.terms u.timers.stopwatch.start false None u.timers.slow_count u.timers.slow_count u.capture now piece on.is_at
     (count_killed u.terms.slow (taken now Due None) piece on.timer.stage.1 ∙ on.is_at.counted))
 
 -- it is slow
-pub slow_made : (now : ℕ) (u : UnitView) (piece : List OwnTurn) (earlier : List (List OwnTurn))
+pub slow_made : (now : ℕ) (u : UnitView) (piece : List OwnTurn) (earlier : List Attempt)
     → u.phase ≡ Running → now ≤ u.latest → is_due now u.timers.slow ≡ true → u.attempt ≡ length earlier + 1
     → GoesOn u.terms Running false None u piece earlier
-    → IsMade u.terms (slow_row now (one_more u.timers.slow_count) u).next ((taken now Due None ∷ piece) ∷ earlier)
+    → IsMade u.terms (slow_row now (one_more u.timers.slow_count) u).next (cut (taken now Due None ∷ piece) [] ∷ earlier)
 slow_made now u piece earlier ph le due a (on, ss) =
     by_out (is_out_of_time u.terms.slow n) (u.terms.slow.grace == 0) refl refl
   where
@@ -114,7 +114,7 @@ slow_made now u piece earlier ph le due a (on, ss) =
 
     by_out : (o g : Bool) → is_out_of_time u.terms.slow n ≡ o → (u.terms.slow.grace == 0) ≡ g
         → IsMade u.terms (if o then (if g then out_of_time n u else in_grace now n u) else slow_again now n u).next
-        ((t ∷ piece) ∷ earlier)
+        (cut (t ∷ piece) [] ∷ earlier)
     by_out true true e g =
         made_more (out_of_time n u).next KillWait t piece earlier refl a start (
           goes KillWait (out_of_time n u).next refl refl refl

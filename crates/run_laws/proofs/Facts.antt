@@ -1,23 +1,56 @@
 -- What holds of the oldest message.
-use Rattle.std.proofs.Common.{◌≡◌, ◌≢◌, ℕ, ◌<◌, ◌≤◌, List, [], ◌∷◌, length, Bool, Option, Some, None, is_none, refl, ap}
-use Rattle.std.proofs.Common.{sym, arith}
+use Rattle.std.proofs.Common.{◌≡◌, inl, inr, ℕ, ◌<◌, ◌≤◌, ◌==◌, List, [], ◌∷◌, ◌++◌, length, Bool, true, false, Option, Some}
+use Rattle.std.proofs.Common.{None, is_none, refl, ap, sym, subst, arith}
+use Rattle.std.specs.List.{list_any}
 use Rattle.std.proofs.lemmas.List.Elements.{All-head, All-same, All-drop}
-use Rattle.std.proofs.lemmas.Grind.{common_steps}
 use Rattle.run_events.proofs.StatsLemmas.{total-cancel_reason}
 use Rattle.run_events.specs.declared.settings.Settings.{Settings}
 use Rattle.run_events.specs.declared.message.Message.{Message}
-use Rattle.run_events.specs.declared.message.Message.TheVariants.{Start, Finish}
+use Rattle.run_events.specs.declared.message.Message.TheVariants.{Start, Retry, Finish}
 use Rattle.run_events.specs.declared.message.TestStart.{TestStart}
 use Rattle.run_events.specs.declared.message.TestFinish.{TestFinish}
+use Rattle.run_events.specs.declared.message.TestRetry.{TestRetry}
 use Rattle.run_events.specs.declared.result.ExecuteStatus.{ExecuteStatus}
 use Rattle.run_model.specs.declared.happening.Happening.{Happening}
-use Rattle.run_model.specs.declared.phase.Phase.TheVariants.{StartSent}
+use Rattle.run_model.specs.declared.phase.Phase.{Phase}
+use Rattle.run_model.specs.declared.phase.Phase.TheVariants.{StartSent, Starting, Running, Grace, KillWait, Leak}
+use Rattle.run_model.specs.declared.phase.Phase.TheVariants.{Deciding, Delay, RetrySent, Over}
+use Rattle.run_model.specs.declared.unit_turn.UnitTurn.{UnitTurn}
 use Rattle.run_model.specs.declared.unit_view.UnitView.{UnitView}
-use Rattle.run_model.specs.Words.{reason, finished, sent, delivered, queue, told, unit_of, tally}
+use Rattle.run_model.specs.Words.{reason, finished as finishes_told, sent, delivered, queue, told, unit_of, tally}
+use Rattle.run_model.specs.Words.{is_running}
+use Rattle.run_model.specs.Story.{was_left}
 use Rattle.run_model.specs.Admission.{units_in}
 use Rattle.run_model.specs.Dispatch.{may_go}
-use Rattle.run_model.specs.Accounts.{News, started, HasAccount, is_mismatched, account_of, pending_of}
-use Rattle.run_laws.proofs.Holds.{Holds, IsBuilt, place_of}
+use Rattle.run_model.specs.Accounts.{News, started, failed, retried, finished, tried, HasAccount, HasAccountAt}
+use Rattle.run_model.specs.Accounts.{is_mismatched, account_of, pending_of}
+use Rattle.run_model.specs.Backoff.{retry_count}
+use Rattle.run_model.specs.Unit.{takes, takes_at}
+use Rattle.run_laws.proofs.Running.{is_finish, runs-account, tried-unfinished, failing-unfinished}
+use Rattle.run_laws.proofs.Holds.{Holds, IsBuilt, Way, IsOnWayIn, IsOnWayAt, place_of}
+
+-- a unit that takes a turn wasn't left
+pub unleft : (mm : Bool) (now : ℕ) (u : UnitView) (turn : UnitTurn) (w : Way) → takes now u turn ≡ true
+    → IsOnWayAt mm u w → w.left ≡ false
+unleft true now u turn w en h = h.2
+unleft false now u turn w en h = by_phase u.phase en h
+  where
+    by_phase : (ph : Phase) → takes_at now ph u turn ≡ true
+        → IsOnWayIn (retry_count u.terms.retries) ph u.attempt u.statuses w → w.left ≡ false
+    by_phase Over en h = cc
+    by_phase ph en h = h.0.2
+
+-- how often its start and its retries were delivered: never before its start, and then once at least
+pub undelivered : (mm : Bool) (u : UnitView) (w : Way) → u.phase ≡ StartSent → IsOnWayAt mm u w → w.delivered ≡ 0
+undelivered true u w at h = h.0
+undelivered false u w at h =
+    (subst (λ ph. IsOnWayIn (retry_count u.terms.retries) ph u.attempt u.statuses w) at h).0.0
+
+pub delivered_once : (mm : Bool) (u : UnitView) (w : Way) → mm ≡ false → u.phase ≡ RetrySent → IsOnWayAt mm u w
+    → 0 < w.delivered
+delivered_once true u w mm_not at h = cc
+delivered_once false u w mm_not at h =
+    (subst (λ ph. IsOnWayIn (retry_count u.terms.retries) ph u.attempt u.statuses w) at h).0.0
 
 -- a test whose start message is the oldest waits for it, and nothing was told of it
 pub record Waits (p : Settings) (now : ℕ) (run : List Happening) (k : ℕ) : Type 0 where
@@ -28,51 +61,177 @@ pub record Waits (p : Settings) (now : ℕ) (run : List Happening) (k : ℕ) : T
   pub below : k < units_in p
   pub untold : account_of k (told run) ≡ []
 
-start_of_unit : (mm : Bool) (start : TestStart) (v : Option UnitView) (t : List News) (rest : List Message)
-    → HasAccount mm v t (pending_of start.test.unit (Start start ∷ rest))
+pub itself : (k : ℕ) → (k == k) ≡ true
+itself k = grind arith
+
+pub start_in : (mm left : Bool) (ph : Phase) (ss : List ExecuteStatus) (t q : List News)
+    → HasAccountAt mm left ph ss t (started ∷ q) → (ph ≡ StartSent) × (t ≡ []) × (q ≡ [])
+start_in false left StartSent ss t q (none, (told, waits)) = (refl, told, cc)
+start_in false left Starting ss t q (told, waits) = cc
+start_in false left Running ss t q (told, waits) = cc
+start_in false left Grace ss t q (told, waits) = cc
+start_in false left KillWait ss t q (told, waits) = cc
+start_in false left Leak ss t q (told, waits) = cc
+start_in false left Deciding ss t q (early, (s, (e, (told, waits)))) = cc
+start_in false left Delay ss t q (early, (s, (e, inl (told, waits)))) = cc
+start_in false left Delay ss t q (early, (s, (e, inr (told, waits)))) = cc
+start_in false left RetrySent ss t q (early, (s, (e, inl (told, waits)))) = cc
+start_in false left RetrySent ss t q (early, (s, (e, inr (told, waits)))) = cc
+start_in false true Over ss t q (early, (s, (e, (told, waits)))) = cc
+start_in false false Over [] t q (told, waits) = cc
+start_in false false Over (x ∷ ss) t q (early, (s, (e, inl (told, waits)))) = cc
+start_in false false Over (x ∷ ss) t q (early, (s, (e, inr (told, waits)))) = cc
+start_in true left Over [] t q (inl (told, waits)) = cc
+start_in true left Over [] t q (inr (told, waits)) = cc
+start_in true left Over (s ∷ ss) t q h = absurd h
+start_in true left ph ss t q h = absurd h
+
+start_of_unit : (mm left : Bool) (start : TestStart) (v : Option UnitView) (t : List News) (rest : List Message)
+    → HasAccount mm left v t (pending_of start.test.unit (Start start ∷ rest))
     → (u : UnitView) × (v ≡ Some u) × (u.phase ≡ StartSent) × (t ≡ [])
-start_of_unit mm start None t rest h = grind (arith, common_steps)
-start_of_unit mm start (Some u) t rest h = (u, refl, grind (arith, common_steps), grind (arith, common_steps))
+start_of_unit mm left start None t rest h = let never = (rw (itself start.test.unit) at h).1 in cc
+start_of_unit mm left start (Some u) t rest h =
+    let found = start_in mm left u.phase u.statuses t (pending_of start.test.unit rest)
+    (rw (itself start.test.unit) at h) in
+    (u, refl, found.0, found.1)
 
 pub start_waits : (p : Settings) (over : Bool) (now : ℕ) (run : List Happening) (start : TestStart)
     (rest : List Message)
     → Holds p over now run → queue run ≡ Start start ∷ rest → Waits p now run start.test.unit
 start_waits p over now run start rest h eq =
     let k : ℕ = start.test.unit in
-    let found = start_of_unit (is_mismatched p (place_of p k)) start (unit_of k run) (account_of k (told run)) rest
-    (rw eq at (h.accounts k)) in
+    let found = start_of_unit (is_mismatched p (place_of p k)) (was_left k run) start (unit_of k run)
+    (account_of k (told run)) rest (rw eq at (h.accounts k)) in
     let named = h.named k found.0 found.1 in
     record { unit = found.0; is = found.1; phase = found.2; latest = named.2; below = named.1; untold = found.3 }
 
--- a test whose finish message is the oldest was told started, and nothing else
+-- a test whose retry message is the oldest matches, waits for that, and runs
+pub record WaitsAgain (p : Settings) (now : ℕ) (run : List Happening) (k : ℕ) : Type 0 where
+  pub unit : UnitView
+  pub is : unit_of k run ≡ Some unit
+  pub phase : unit.phase ≡ RetrySent
+  pub latest : unit.latest ≤ now
+  pub below : k < units_in p
+  pub matched : is_mismatched p (place_of p k) ≡ false
+  pub runs : is_running (told run) k ≡ true
+
+-- it was told started, and then no finish
+abbrev IsBegun : List News → Type 0
+IsBegun t = (ns : List News) × ((t ≡ started ∷ ns) × (list_any is_finish ns ≡ false))
+
+retry_in : (mm left : Bool) (ph : Phase) (ss : List ExecuteStatus) (t q : List News)
+    → HasAccountAt mm left ph ss t (retried ∷ q) → (ph ≡ RetrySent) × (mm ≡ false) × IsBegun t
+retry_in false left RetrySent ss t q (early, (s, (e, inl (told, waits)))) = cc
+retry_in false left RetrySent ss t q (early, (s, (e, inr (told, waits)))) =
+    (refl, refl, (tried early ++ failed s ∷ [], (told, failing-unfinished early s)))
+retry_in false left StartSent ss t q (none, (told, waits)) = cc
+retry_in false left Starting ss t q (told, waits) = cc
+retry_in false left Running ss t q (told, waits) = cc
+retry_in false left Grace ss t q (told, waits) = cc
+retry_in false left KillWait ss t q (told, waits) = cc
+retry_in false left Leak ss t q (told, waits) = cc
+retry_in false left Deciding ss t q (early, (s, (e, (told, waits)))) = cc
+retry_in false left Delay ss t q (early, (s, (e, inl (told, waits)))) = cc
+retry_in false left Delay ss t q (early, (s, (e, inr (told, waits)))) = cc
+retry_in false true Over ss t q (early, (s, (e, (told, waits)))) = cc
+retry_in false false Over [] t q (told, waits) = cc
+retry_in false false Over (x ∷ ss) t q (early, (s, (e, inl (told, waits)))) = cc
+retry_in false false Over (x ∷ ss) t q (early, (s, (e, inr (told, waits)))) = cc
+retry_in true left Over [] t q (inl (told, waits)) = cc
+retry_in true left Over [] t q (inr (told, waits)) = cc
+retry_in true left Over (s ∷ ss) t q h = absurd h
+retry_in true left ph ss t q h = absurd h
+
+retry_of_unit : (mm left : Bool) (retry : TestRetry) (v : Option UnitView) (t : List News) (rest : List Message)
+    → HasAccount mm left v t (pending_of retry.start.test.unit (Retry retry ∷ rest))
+    → (u : UnitView) × (v ≡ Some u) × ((u.phase ≡ RetrySent) × (mm ≡ false) × IsBegun t)
+retry_of_unit mm left retry None t rest h = let never = (rw (itself retry.start.test.unit) at h).1 in cc
+retry_of_unit mm left retry (Some u) t rest h = (
+  u,
+  refl,
+  retry_in mm left u.phase u.statuses t (pending_of retry.start.test.unit rest)
+      (rw (itself retry.start.test.unit) at h),
+)
+
+pub retry_waits : (p : Settings) (over : Bool) (now : ℕ) (run : List Happening) (retry : TestRetry)
+    (rest : List Message)
+    → Holds p over now run → queue run ≡ Retry retry ∷ rest → WaitsAgain p now run retry.start.test.unit
+retry_waits p over now run retry rest h eq =
+    let k : ℕ = retry.start.test.unit in
+    let found = retry_of_unit (is_mismatched p (place_of p k)) (was_left k run) retry (unit_of k run)
+    (account_of k (told run)) rest (rw eq at (h.accounts k)) in
+    let named = h.named k found.0 found.1 in
+    record {
+      unit = found.0;
+      is = found.1;
+      phase = found.2.0;
+      latest = named.2;
+      below = named.1;
+      matched = found.2.1;
+      runs = runs-account k (told run) found.2.2.0 found.2.2.1.0 found.2.2.1.1;
+    }
+
+-- a test whose finish message is the oldest was told started, and no finish
 pub record Finishes (p : Settings) (run : List Happening) (k : ℕ) (statuses : List ExecuteStatus) : Type 0 where
   pub below : k < units_in p
-  pub told_started : account_of k (told run) ≡ started ∷ []
+  pub runs : is_running (told run) k ≡ true
   pub attempted : 0 < length statuses
 
-finish_of_unit : (mm : Bool) (finish : TestFinish) (v : Option UnitView) (t : List News) (rest : List Message)
-    → HasAccount mm v t (pending_of finish.test.unit (Finish finish ∷ rest))
-    → (u : UnitView) × (v ≡ Some u) × (t ≡ started ∷ []) × (finish.statuses ≢ [])
-finish_of_unit mm finish None t rest h = grind (arith, common_steps)
-finish_of_unit mm finish (Some u) t rest h = (u, refl, grind (arith, common_steps), λ e. grind (arith, common_steps))
+finish_in : (mm left : Bool) (ph : Phase) (ss fs : List ExecuteStatus) (t q : List News)
+    → HasAccountAt mm left ph ss t (finished fs ∷ q)
+    → (early : List ExecuteStatus) × ((t ≡ started ∷ tried early) × (0 < length fs))
+finish_in false left StartSent ss fs t q (none, (told, waits)) = cc
+finish_in false left Starting ss fs t q (told, waits) = cc
+finish_in false left Running ss fs t q (told, waits) = cc
+finish_in false left Grace ss fs t q (told, waits) = cc
+finish_in false left KillWait ss fs t q (told, waits) = cc
+finish_in false left Leak ss fs t q (told, waits) = cc
+finish_in false left Deciding ss fs t q (early, (s, (e, (told, waits)))) = cc
+finish_in false left Delay ss fs t q (early, (s, (e, inl (told, waits)))) = cc
+finish_in false left Delay ss fs t q (early, (s, (e, inr (told, waits)))) = cc
+finish_in false left RetrySent ss fs t q (early, (s, (e, inl (told, waits)))) = cc
+finish_in false left RetrySent ss fs t q (early, (s, (e, inr (told, waits)))) = cc
+finish_in false true Over ss fs t q (early, (s, (e, (told, waits)))) = cc
+finish_in false false Over [] fs t q (told, waits) = cc
+finish_in false false Over (x ∷ ss) fs t q (early, (s, (e, inl (told, waits)))) =
+    let same : finished fs ∷ q ≡ finished (x ∷ ss) ∷ [] = waits in
+    let all : fs ≡ x ∷ ss = cc in
+    (early, (told, subst (λ fs. 0 < length fs) (sym all) (omega arith)))
+finish_in false false Over (x ∷ ss) fs t q (early, (s, (e, inr (told, waits)))) = cc
+finish_in true left Over [] fs t q (inl (told, waits)) = cc
+finish_in true left Over [] fs t q (inr (told, waits)) = cc
+finish_in true left Over (s ∷ ss) fs t q h = absurd h
+finish_in true left ph ss fs t q h = absurd h
 
-some-length : {X : Type 0} (xs : List X) → xs ≢ [] → 0 < length xs
-some-length [] h = absurd (h refl)
-some-length (x ∷ xs) h = omega arith
+finish_of_unit : (mm left : Bool) (finish : TestFinish) (v : Option UnitView) (t : List News) (rest : List Message)
+    → HasAccount mm left v t (pending_of finish.test.unit (Finish finish ∷ rest))
+    → (u : UnitView) × (v ≡ Some u)
+    × ((early : List ExecuteStatus) × ((t ≡ started ∷ tried early) × (0 < length finish.statuses)))
+finish_of_unit mm left finish None t rest h = let never = (rw (itself finish.test.unit) at h).1 in cc
+finish_of_unit mm left finish (Some u) t rest h = (
+  u,
+  refl,
+  finish_in mm left u.phase u.statuses finish.statuses t (pending_of finish.test.unit rest)
+      (rw (itself finish.test.unit) at h),
+)
 
 pub finish_follows : (p : Settings) (over : Bool) (now : ℕ) (run : List Happening) (finish : TestFinish)
     (rest : List Message)
     → Holds p over now run → queue run ≡ Finish finish ∷ rest → Finishes p run finish.test.unit finish.statuses
 finish_follows p over now run finish rest h eq =
     let k : ℕ = finish.test.unit in
-    let found = finish_of_unit (is_mismatched p (place_of p k)) finish (unit_of k run) (account_of k (told run)) rest
-    (rw eq at (h.accounts k)) in
+    let found = finish_of_unit (is_mismatched p (place_of p k)) (was_left k run) finish (unit_of k run)
+    (account_of k (told run)) rest (rw eq at (h.accounts k)) in
     let named = h.named k found.0 found.1 in
-    record { below = named.1; told_started = found.2; attempted = some-length finish.statuses found.3 }
+    record {
+      below = named.1;
+      runs = runs-account k (told run) (tried found.2.0) found.2.1.0 (tried-unfinished found.2.0);
+      attempted = found.2.1.1;
+    }
 
 -- a unit is let go where no cause stands
 pub may_go-is : (p : Settings) (run : List Happening) → may_go (tally p run) ≡ is_none (reason run)
-may_go-is p run = ap is_none (total-cancel_reason _ (finished run))
+may_go-is p run = ap is_none (total-cancel_reason _ (finishes_told run))
 
 -- the oldest message is one that is sent yet
 pub oldest_built : (p : Settings) (over : Bool) (now : ℕ) (run : List Happening) (m : Message) (rest : List Message)

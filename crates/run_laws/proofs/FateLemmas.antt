@@ -1,12 +1,11 @@
 -- Every test of a sub-run that has ended has its fate.
-use Rattle.std.proofs.Common.{◌≡◌, ◌⊎◌, inl, inr, ℕ, zero, suc, ◌<◌, ◌||◌, List, [], ◌∷◌, length, get_or, Bool, true, false, not}
-use Rattle.std.proofs.Common.{if◌then◌else◌, Option, Some, None, refl, ap, sym, subst, ◌∙◌, arith}
+use Rattle.std.proofs.Common.{◌≡◌, ◌≢◌, ◌⊎◌, inl, inr, ℕ, zero, suc, ◌<◌, ◌||◌, List, [], ◌∷◌, ◌++◌, length, get_or}
+use Rattle.std.proofs.Common.{Bool, true, false, not, if◌then◌else◌, Option, Some, None, refl, ap, sym, subst, ◌∙◌, arith}
 use Rattle.std.specs.Prelude.{IsTrue}
 use Rattle.std.specs.List.{list_all, All, Contains}
 use Rattle.std.specs.Cmp.{first_so, second_so}
 use Rattle.std.proofs.lemmas.List.{append-nil}
 use Rattle.std.proofs.lemmas.List.Elements.{filter_map-append, All-nil, All-cons, All-contains}
-use Rattle.std.proofs.lemmas.Grind.{common_steps}
 use Rattle.run_events.specs.declared.settings.Settings.{Settings}
 use Rattle.run_events.specs.declared.turn.Turn.TheVariants.{End}
 use Rattle.run_events.specs.declared.message.Message.{Message}
@@ -22,21 +21,37 @@ use Rattle.run_model.specs.Admission.{is_done, is_last, tests_in, unit_of_test, 
 use Rattle.run_model.specs.Board.{Deed, board, said}
 use Rattle.run_model.specs.Turns.{enabled, is_complete, is_empty, takes_turn, turn_of_unit, run_turn, deed_on, happening}
 use Rattle.run_model.specs.Journal.{history, IsLegalBackward}
-use Rattle.run_model.specs.Accounts.{News, news_of, HasAccount, HasAccountAt, is_mismatched, account_of}
-use Rattle.run_model.specs.Story.{OwnTurn, story_of, pieces}
+use Rattle.run_model.specs.Accounts.{News, started, failed, retried, finished, skipped, tried, news_of, HasAccount}
+use Rattle.run_model.specs.Accounts.{HasAccountAt, is_mismatched, account_of}
+use Rattle.run_model.specs.Backoff.{retry_count}
+use Rattle.run_model.specs.Story.{OwnTurn, story_of, pieces, was_left}
 use Rattle.run_model.specs.Attempts.{none_goes_on, ended_statuses, statuses_of}
-use Rattle.run_model.specs.Fates.{deliveries, never_started, account, MeetsAttemptLaw, HasFate, HaveFates}
-use Rattle.run_laws.proofs.Holds.{Holds, IsLetGo, IsLetGoIn}
-use Rattle.run_laws.proofs.AttemptLemmas.{IsMadeIf, made_statuses, made_ended}
+use Rattle.run_laws.proofs.OnceLemmas.{all_told}
+use Rattle.run_model.specs.Fates.{told_ended, account, retold, failures, MeetsAttemptLaw, HasRetryLeft, HasFate, HaveFates}
+use Rattle.run_laws.proofs.Holds.{Holds, Way, way_of, HasEndedAs, IsOnWayIn, IsOnWayAt, IsOnWay}
+use Rattle.run_laws.proofs.AttemptLemmas.{IsMadeIf, made_statuses, made_ended, made_last}
 use Rattle.run_laws.proofs.OnBoard.{board_of, units-length, units-at}
 use Rattle.run_laws.proofs.Newcomers.{place-of_test}
 use Rattle.run_laws.proofs.Kept.{HoldsAfter, does_after, IsOfRun, IsBeforeRuns, where_joins, holds}
 
--- a test that is done, of which nothing waits to be told, has its account, by whether it was never started, and else its
--- one attempt, by its own turns
-abbrev HasFateWith : Bool → Bool → List News → List ExecuteStatus → Type 0
-HasFateWith mm never t ss =
-    (t ≡ account mm never false ss) × (mm ≡ false → never ≡ false → MeetsAttemptLaw 0 ss)
+-- all that was told of some attempts: each but the last was tried again, and the last finished, or failed too
+retold-append : (early : List ExecuteStatus) (s : ExecuteStatus) → retold (early ++ s ∷ []) ≡ tried early
+retold-append [] s = refl
+retold-append (x ∷ []) s = refl
+retold-append (x ∷ y ∷ early) s = ap (λ ns. failed x ∷ retried ∷ ns) (retold-append (y ∷ early) s)
+
+failures-append : (early : List ExecuteStatus) (s : ExecuteStatus)
+    → failures (early ++ s ∷ []) ≡ tried early ++ failed s ∷ []
+failures-append [] s = refl
+failures-append (x ∷ []) s = refl
+failures-append (x ∷ y ∷ early) s = ap (λ ns. failed x ∷ retried ∷ ns) (failures-append (y ∷ early) s)
+
+-- a test that is done, of which nothing waits to be told, has its account, by whether it doesn't match, was never started,
+-- or was left, and else all its attempts, which meet their law
+abbrev HasFateWith : Bool → Bool → Bool → ℕ → List News → List ExecuteStatus → Type 0
+HasFateWith mm never left retries t ss = (t ≡ account mm never left ss)
+    × (mm ≡ false → never ≡ false → left ≡ false → MeetsAttemptLaw retries ss)
+    × (mm ≡ false → left ≡ true → HasRetryLeft retries ss)
 
 -- and no attempt of it goes on
 going_none : (terms : AttemptTerms) (v : Option UnitView) (story : List OwnTurn) → is_done v ≡ true
@@ -44,23 +59,84 @@ going_none : (terms : AttemptTerms) (v : Option UnitView) (story : List OwnTurn)
 going_none terms None story d made = cc
 going_none terms (Some u) story d made = made_ended terms u (pieces story) made d
 
-fate_of : (mm never : Bool) (n : ℕ) (terms : AttemptTerms) (v : Option UnitView) (story : List OwnTurn) (t : List News)
-    → is_done v ≡ true → IsLetGo mm v n never → IsMadeIf terms v story
-    → HasAccount mm v t [] → HasFateWith mm never t (ended_statuses terms 1 (pieces story))
-fate_of mm never n terms None story t d a made h = cc
-fate_of mm never n terms (Some u) story t d a made h =
-    subst (HasFateWith mm never t) (made_statuses terms u (pieces story) made)
-    (by_attempts mm u.phase u.statuses d a h)
+fate_of : (mm : Bool) (w : Way) (terms : AttemptTerms) (v : Option UnitView) (story : List OwnTurn) (t : List News)
+    → is_done v ≡ true → IsOnWay mm v w → IsMadeIf terms v story
+    → HasAccount mm w.left v t []
+    → HasFateWith mm w.never w.left (retry_count terms.retries) t (ended_statuses terms (pieces story))
+fate_of mm w terms None story t d a made h = cc
+fate_of mm w terms (Some u) story t d a made h =
+    subst (HasFateWith mm w.never w.left (retry_count terms.retries) t) (made_statuses terms u (pieces story) made)
+    (subst (λ terms. HasFateWith mm w.never w.left (retry_count terms.retries) t u.statuses) made.terms
+    (by_match mm a h))
   where
-    by_attempts : (mm : Bool) (ph : Phase) (ss : List ExecuteStatus) → is_last ph ≡ true → IsLetGoIn mm ph ss n never
-        → HasAccountAt mm ph ss t []
-        → HasFateWith mm never t ss
-    by_attempts true Over [] l a h = (grind (arith, common_steps), λ e. cc)
-    by_attempts true Over (s ∷ ss) l a h = absurd h
-    by_attempts false Over [] l a h = rw a.1 (h.0, λ e so. cc)
-    by_attempts false Over (s ∷ []) l a h = rw a.1 (grind (arith, common_steps), λ e so. inr refl)
-    by_attempts false Over (s ∷ t ∷ ss) l a h = absurd h
-    by_attempts mm ph ss l a h = cc
+    retries : ℕ
+    retries = retry_count u.terms.retries
+
+    skipped_fate : (ph : Phase) (ss : List ExecuteStatus) → HasAccountAt true w.left ph ss t []
+        → HasFateWith true w.never w.left retries t ss
+    skipped_fate Over [] (inl h) = let no : [] ≡ skipped ∷ [] = h.1 in cc
+    skipped_fate Over [] (inr h) = (h.0, λ e. cc, λ e. cc)
+    skipped_fate Over (s ∷ ss) h = absurd h
+    skipped_fate ph ss h = absurd h
+
+    by_left : (left : Bool) (s : ExecuteStatus) (ss : List ExecuteStatus) → HasEndedAs left retries (s ∷ ss)
+        → HasAccountAt false left Over (s ∷ ss) t [] → HasFateWith false false left retries t (s ∷ ss)
+    by_left true s ss ended (early, (x, (e, h))) = (
+      h.0 ∙ ap (λ ns. started ∷ ns) (sym (failures-append early x) ∙ ap failures (sym e)),
+      λ mm never left. cc,
+      λ mm left. ended,
+    )
+    by_left false s ss ended (early, (x, (e, inl h))) = let no : [] ≡ finished (s ∷ ss) ∷ [] = h.1 in cc
+    by_left false s ss ended (early, (x, (e, inr h))) = (
+      h.0 ∙ ap (λ ns. started ∷ ns ++ finished (s ∷ ss) ∷ []) (sym (retold-append early x) ∙ ap retold (sym e)),
+      λ mm never left. ended,
+      λ mm left. cc,
+    )
+
+    by_attempts : (ph : Phase) (ss : List ExecuteStatus) → is_last ph ≡ true → IsOnWayIn retries ph u.attempt ss w
+        → HasAccountAt false w.left ph ss t [] → HasFateWith false w.never w.left retries t ss
+    by_attempts Over [] l a h = rw (a.0, a.1) ((rw a.1 at h).0, λ mm never. cc, λ mm left. cc)
+    by_attempts Over (s ∷ ss) l a h =
+        subst (λ never. HasFateWith false never w.left retries t (s ∷ ss)) (sym a.0) (by_left w.left s ss a.2 h)
+    by_attempts ph ss l a h = cc
+
+    by_match : (mm : Bool) → IsOnWayAt mm u w → HasAccountAt mm w.left u.phase u.statuses t []
+        → HasFateWith mm w.never w.left retries t u.statuses
+    by_match true a h = skipped_fate u.phase u.statuses h
+    by_match false a h = by_attempts u.phase u.statuses d a h
+
+-- and each of its attempts has its status
+each_of : (mm : Bool) (w : Way) (terms : AttemptTerms) (v : Option UnitView) (story : List OwnTurn) (t : List News)
+    → is_done v ≡ true → IsOnWay mm v w → IsMadeIf terms v story → HasAccount mm w.left v t []
+    → length (ended_statuses terms (pieces story)) ≡ length (pieces story)
+each_of mm w terms None story t d a made h = cc
+each_of mm w terms (Some u) story t d a made h =
+    sym (ap length (made_statuses terms u (pieces story) made)) ∙ by_last (made_last terms u (pieces story) made (over u.phase d))
+  where
+    over : (ph : Phase) → is_last ph ≡ true → ph ≡ Over
+    over Over l = refl
+    over ph l = cc
+
+    numbered : (ph : Phase) (ss : List ExecuteStatus) → is_last ph ≡ true
+        → IsOnWayIn (retry_count u.terms.retries) ph u.attempt ss w → ss ≢ [] → u.attempt ≡ length ss
+    numbered Over [] l a some = absurd (some refl)
+    numbered Over (s ∷ ss) l a some = a.1
+    numbered ph ss l a some = cc
+
+    none_skipped : (ph : Phase) (ss : List ExecuteStatus) → HasAccountAt true w.left ph ss t [] → ss ≡ []
+    none_skipped Over [] h = refl
+    none_skipped Over (s ∷ ss) h = absurd h
+    none_skipped ph ss h = absurd h
+
+    by_match : (mm : Bool) → IsOnWayAt mm u w → HasAccountAt mm w.left u.phase u.statuses t [] → u.statuses ≢ []
+        → u.attempt ≡ length u.statuses
+    by_match true a h some = absurd (some (none_skipped u.phase u.statuses h))
+    by_match false a h some = numbered u.phase u.statuses d a some
+
+    by_last : ((pieces story ≡ []) × (u.statuses ≡ [])) ⊎ ((u.attempt ≡ length (pieces story)) × (u.statuses ≢ []))
+        → length u.statuses ≡ length (pieces story)
+    by_last (inl none) = ap length none.1 ∙ sym (ap length none.0)
+    by_last (inr some) = sym (by_match mm a h some.1) ∙ some.0
 
 -- each item of a list on which a test holds throughout passes
 all_at : {X : Type 0} (f : X → Bool) (xs : List X) (k : ℕ) (d : X) → list_all f xs ≡ true → k < length xs
@@ -88,19 +164,31 @@ end_fates p over now run e j h below complete =
     ∙ all_at is_done (units p run) k None all (omega (arith, units-length p run)) in
     let made : IsMadeIf (terms_at p j) (unit_of k run) (story_of k run) =
     subst (λ j. IsMadeIf (terms_at p j) (unit_of k run) (story_of k run)) (place-of_test p j) (h.made k) in
-    let fate = fate_of (is_mismatched p j) (never_started k run) (deliveries k run) (terms_at p j) (unit_of k run)
-    (story_of k run) (account_of k (told run)) done
-    (subst (λ j. IsLetGo (is_mismatched p j) (unit_of k run) (deliveries k run) (never_started k run)) (place-of_test p j)
-    (h.let_go k))
-    made (subst (λ j. HasAccount (is_mismatched p j) (unit_of k run) (account_of k (told run)) []) (place-of_test p j)
-    (rw empty at (h.accounts k))) in
+    let way : IsOnWay (is_mismatched p j) (unit_of k run) (way_of k run) =
+    subst (λ j. IsOnWay (is_mismatched p j) (unit_of k run) (way_of k run)) (place-of_test p j) (h.on_way k) in
+    let told_all : HasAccount (is_mismatched p j) (was_left k run) (unit_of k run) (account_of k (told run)) [] =
+    subst (λ j. HasAccount (is_mismatched p j) (was_left k run) (unit_of k run) (account_of k (told run)) [])
+    (place-of_test p j) (rw empty at (h.accounts k)) in
+    let fate = fate_of (is_mismatched p j) (way_of k run) (terms_at p j) (unit_of k run) (story_of k run)
+    (account_of k (told run)) done way made told_all in
     record {
-      account = filter_map-append (news_of k) (told run) _ ∙ append-nil (account_of k (told run)) ∙ fate.0
-          ∙ sym (ap (λ b. account (is_mismatched p j) (never_started k run) b (statuses_of p j run)) (h.left k));
-      finished = λ mm never l. fate.1 mm never;
+      account = filter_map-append (news_of k) (told run) _ ∙ append-nil (account_of k (told run)) ∙ fate.0;
+      finished = fate.1;
+      left = fate.2;
       ended = going_none (terms_at p j) (unit_of k run) (story_of k run) done made;
-      left = λ mm l. let never_so : false ≡ true = sym (h.left k) ∙ l in cc;
+      once = ap told_ended (filter_map-append (news_of k) (told run) _ ∙ append-nil (account_of k (told run)))
+          ∙ all_told (is_mismatched p j) (was_left k run) (unit_of k run) (statuses_of p j run) (account_of k (told run)) done
+          told_all (λ u is. own_statuses u is made);
+      each = each_of (is_mismatched p j) (way_of k run) (terms_at p j) (unit_of k run) (story_of k run)
+          (account_of k (told run)) done way made told_all;
     }
+  where
+    own_statuses : (u : UnitView) → unit_of (unit_of_test p j) run ≡ Some u
+        → IsMadeIf (terms_at p j) (unit_of (unit_of_test p j) run) (story_of (unit_of_test p j) run)
+        → u.statuses ≡ statuses_of p j run
+    own_statuses u is made =
+        made_statuses (terms_at p j) u (pieces (story_of (unit_of_test p j) run))
+        (subst (λ v. IsMadeIf (terms_at p j) v (story_of (unit_of_test p j) run)) is made)
 
 -- each test has its fate in the sub-run that a turn ends
 ends_fates : (p : Settings) (past : List Happening) (e : Entry) (j : ℕ) → HoldsAfter p past

@@ -11,16 +11,15 @@ use Rattle.run_events.specs.declared.result.ExecutionResult.TheVariants.{ExecFai
 use Rattle.run_model.specs.declared.phase.Phase.{Phase}
 use Rattle.run_model.specs.declared.phase.Phase.TheVariants.{Starting}
 use Rattle.run_model.specs.declared.unit_turn.UnitTurn.{UnitTurn}
-use Rattle.run_model.specs.declared.unit_turn.UnitTurn.TheVariants.{StartFailed, Decide}
+use Rattle.run_model.specs.declared.unit_turn.UnitTurn.TheVariants.{StartFailed}
 use Rattle.run_model.specs.declared.unit_view.AttemptTerms.{AttemptTerms}
 use Rattle.run_model.specs.declared.unit_view.UnitView.{UnitView}
-use Rattle.run_model.specs.Environment.{attempts}
-use Rattle.run_model.specs.Unit.{at_moment, result_of, status_at, ended, exited, decided}
-use Rattle.run_model.specs.Story.{OwnTurn}
-use Rattle.run_model.specs.Attempts.{has_ended, end_of, status_of, ended_statuses}
+use Rattle.run_model.specs.Unit.{at_moment, result_of, status_at, ended, exited}
+use Rattle.run_model.specs.Story.{OwnTurn, Attempt, cut}
+use Rattle.run_model.specs.Attempts.{has_ended, end_of, status_of, delay_after, ended_statuses}
 use Rattle.run_laws.proofs.CaptureLemmas.{taken}
 use Rattle.run_laws.proofs.TimerLemmas.{HasTimer, timer_later}
-use Rattle.run_laws.proofs.PieceLemmas.{IsAt, ended_as, end_more, status_as, refused_as, ended_decided, decided_same}
+use Rattle.run_laws.proofs.PieceLemmas.{IsAt, ended_as, end_more, status_as, refused_as}
 
 -- the attempt of a unit goes on after the turns of a piece, on these terms and in this phase: whether its child is waited
 -- for no more, and how that ended
@@ -31,10 +30,14 @@ pub record IsGoing (terms : AttemptTerms) (ph : Phase) (waited : Bool) (exit : O
   pub watch : u.timers.stopwatch ≡ started_at u.timers.stopwatch.start
   pub timer : HasTimer terms ph u.timers u.latest piece
 
--- the attempt of this piece has ended, and the statuses of a unit are those of its pieces
-abbrev pub IsPast : AttemptTerms → UnitView → List OwnTurn → List (List OwnTurn) → Type 0
+-- the statuses of a unit, and the delay before its current attempt, are those of the attempts before that
+abbrev pub Follows : AttemptTerms → UnitView → List Attempt → Type 0
+Follows terms u earlier = (u.statuses ≡ ended_statuses terms earlier) × (u.delay ≡ delay_after terms.retries earlier)
+
+-- the attempt of this piece has ended, and the statuses of a unit are those of its attempts
+abbrev pub IsPast : AttemptTerms → UnitView → List OwnTurn → List Attempt → Type 0
 IsPast terms u piece earlier =
-    (has_ended terms piece ≡ true) × (u.statuses ≡ ended_statuses terms (attempts u) (piece ∷ earlier))
+    (has_ended terms piece ≡ true) × (u.statuses ≡ ended_statuses terms (cut piece [] ∷ earlier))
 
 -- the moment of the latest turn may be later
 pub going_later : (terms : AttemptTerms) (ph : Phase) (waited : Bool) (exit : Option ChildExit) (now : ℕ)
@@ -81,38 +84,39 @@ going_more terms ph waited exit u t before it none goes watch timer = record {
   timer = timer;
 }
 
--- the statuses of pieces of which the newest has ended
-ended_statuses-past : (terms : AttemptTerms) (n : ℕ) (piece : List OwnTurn) (earlier : List (List OwnTurn))
-    → has_ended terms piece ≡ true
-    → ended_statuses terms n (piece ∷ earlier)
-    ≡ ended_statuses terms n earlier ++ status_of terms n (length earlier + 1) piece ∷ []
-ended_statuses-past terms n piece earlier ends =
-    ap (λ b. ended_statuses terms n earlier
-    ++ (if b then status_of terms n (length earlier + 1) piece ∷ [] else [])) ends
+-- the status of a piece after these attempts, and the statuses where it has ended
+abbrev pub next_status : AttemptTerms → List OwnTurn → List Attempt → ExecuteStatus
+next_status terms piece earlier =
+    status_of terms (delay_after terms.retries earlier) (length earlier + 1) piece
 
-past_with : (terms : AttemptTerms) (n : ℕ) (statuses : List ExecuteStatus) (status : ExecuteStatus)
-    (piece : List OwnTurn) (earlier : List (List OwnTurn))
-    → has_ended terms piece ≡ true → status ≡ status_of terms n (length earlier + 1) piece
-    → statuses ≡ ended_statuses terms n earlier
-    → statuses ++ status ∷ [] ≡ ended_statuses terms n (piece ∷ earlier)
-past_with terms n statuses status piece earlier ends is ss =
-    ap (λ ss. ss ++ status ∷ []) ss
-    ∙ ap (λ status. ended_statuses terms n earlier ++ status ∷ []) is
-    ∙ sym (ended_statuses-past terms n piece earlier ends)
+pub ended_statuses-past : (terms : AttemptTerms) (piece : List OwnTurn) (earlier : List Attempt)
+    → has_ended terms piece ≡ true
+    → ended_statuses terms (cut piece [] ∷ earlier)
+    ≡ ended_statuses terms earlier ++ next_status terms piece earlier ∷ []
+ended_statuses-past terms piece earlier ends =
+    ap (λ b. ended_statuses terms earlier ++ (if b then next_status terms piece earlier ∷ [] else [])) ends
+
+past_with : (terms : AttemptTerms) (statuses : List ExecuteStatus) (status : ExecuteStatus) (piece : List OwnTurn)
+    (earlier : List Attempt) → has_ended terms piece ≡ true → status ≡ next_status terms piece earlier
+    → statuses ≡ ended_statuses terms earlier
+    → statuses ++ status ∷ [] ≡ ended_statuses terms (cut piece [] ∷ earlier)
+past_with terms statuses status piece earlier ends is ss =
+    ap (λ ss. ss ++ status ∷ []) ss ∙ ap (λ status. ended_statuses terms earlier ++ status ∷ []) is
+    ∙ sym (ended_statuses-past terms piece earlier ends)
 
 -- it ends where its child is waited for no more, and its streams are done or were waited for as long as they may be
 pub past_exited : (now : ℕ) (exit : Option ChildExit) (leaked : Bool) (c : Captured) (turn : UnitTurn) (u : UnitView)
-    (piece : List OwnTurn) (earlier : List (List OwnTurn))
+    (piece : List OwnTurn) (earlier : List Attempt)
     → IsAt u.terms u.timers.stopwatch.start true exit leaked u.timers.slow_count c (taken now turn None ∷ piece)
     → end_of u.terms piece ≡ None → (is_done c || leaked) ≡ true
     → u.timers.stopwatch ≡ started_at u.timers.stopwatch.start → u.attempt ≡ length earlier + 1
-    → u.statuses ≡ ended_statuses u.terms (attempts u) earlier
-    → IsPast u.terms (exited now exit leaked c u) (taken now turn None ∷ piece) earlier
-past_exited now exit leaked c turn u piece earlier it none done watch a ss = (
+    → Follows u.terms u earlier → IsPast u.terms (exited now exit leaked c u) (taken now turn None ∷ piece) earlier
+past_exited now exit leaked c turn u piece earlier it none done watch a (ss, delay) = (
   ends,
-  past_with u.terms (attempts u) u.statuses
+  past_with u.terms u.statuses
       (status_at now (result_of exit c.errors leaked u) (Output c.output c.errors) u) (taken now turn None ∷ piece) earlier ends
-      (status_as true exit leaked c now (length earlier + 1) (taken now turn None ∷ piece) u it watch end a) ss,
+      (status_as true exit leaked c now (delay_after u.terms.retries earlier) (length earlier + 1)
+      (taken now turn None ∷ piece) u it watch end a delay) ss,
 )
   where
     ends : has_ended u.terms (taken now turn None ∷ piece) ≡ true
@@ -125,29 +129,16 @@ past_exited now exit leaked c turn u piece earlier it none done watch a ss = (
 
 -- it ends where its start was refused
 pub past_refused : (now : ℕ) (error : List ℕ) (exit : Option ChildExit) (u : UnitView) (piece : List OwnTurn)
-    (earlier : List (List OwnTurn)) → IsGoing u.terms Starting false exit u piece
-    → u.attempt ≡ length earlier + 1 → u.statuses ≡ ended_statuses u.terms (attempts u) earlier
+    (earlier : List Attempt) → IsGoing u.terms Starting false exit u piece
+    → u.attempt ≡ length earlier + 1 → Follows u.terms u earlier
     → IsPast u.terms (ended now ExecFail (StartError error) u) (taken now (StartFailed error) None ∷ piece) earlier
-past_refused now error exit u piece earlier on a ss = (
+past_refused now error exit u piece earlier on a (ss, delay) = (
   ends,
-  past_with u.terms (attempts u) u.statuses (status_at now ExecFail (StartError error) u)
+  past_with u.terms u.statuses (status_at now ExecFail (StartError error) u)
       (taken now (StartFailed error) None ∷ piece) earlier ends
-      (refused_as now (length earlier + 1) error exit u.capture piece u on.is_at on.watch on.not_ended a) ss,
+      (refused_as now (delay_after u.terms.retries earlier) (length earlier + 1) error exit u.capture piece u on.is_at
+      on.watch on.not_ended a delay) ss,
 )
   where
     ends : has_ended u.terms (taken now (StartFailed error) None ∷ piece) ≡ true
     ends = rw on.is_at.not_refused refl
-
--- it stays so where it decides
-pub past_decided : (now word : ℕ) (u : UnitView) (piece : List OwnTurn) (earlier : List (List OwnTurn))
-    → IsPast u.terms u piece earlier → IsPast u.terms (decided u).next (taken now (Decide word) None ∷ piece) earlier
-past_decided now word u piece earlier (ends, ss) = (
-  more,
-  ss ∙ ended_statuses-past u.terms (attempts u) piece earlier ends
-      ∙ ap (λ status. ended_statuses u.terms (attempts u) earlier ++ status ∷ [])
-      (decided_same u.terms (attempts u) (length earlier + 1) now word piece ends)
-      ∙ sym (ended_statuses-past u.terms (attempts u) (taken now (Decide word) None ∷ piece) earlier more),
-)
-  where
-    more : has_ended u.terms (taken now (Decide word) None ∷ piece) ≡ true
-    more = ended_decided u.terms now word piece ∙ ends

@@ -1,8 +1,10 @@
 -- What holds of the newest sub-run after every legal journal.
-use Rattle.std.specs.Prelude.{ℕ, ◌≡◌, ◌+◌, ◌-◌, ◌<◌, ◌≤◌, List, [], ◌∷◌, ◌++◌, map, length, Bool, true, false, Option, Some, None, ⊤}
-use Rattle.std.specs.List.{All}
+use Rattle.std.specs.Prelude.{ℕ, ◌≡◌, ◌+◌, ◌-◌, ◌<◌, ◌≤◌, List, [], ◌∷◌, ◌++◌, map, length, Bool, true, false, not}
+use Rattle.std.specs.Prelude.{Option, Some, None, ⊤}
+use Rattle.std.specs.List.{All, list_all}
+use Rattle.run_events.specs.Result.{is_success}
 use Rattle.run_events.specs.declared.message.Message.{Message}
-use Rattle.run_events.specs.declared.message.Message.TheVariants.{Start, Slow, Skip, Finish}
+use Rattle.run_events.specs.declared.message.Message.TheVariants.{Start, Slow, AttemptFailed, Retry, Skip, Finish}
 use Rattle.run_events.specs.declared.plan.SlowTimeout.{SlowTimeout}
 use Rattle.run_events.specs.declared.request.ChildSignal.TheVariants.{End}
 use Rattle.run_events.specs.declared.settings.Settings.{Settings}
@@ -10,13 +12,14 @@ use Rattle.run_events.specs.declared.request.Request.{Request}
 use Rattle.run_events.specs.declared.result.ExecuteStatus.{ExecuteStatus}
 use Rattle.run_model.specs.declared.happening.Happening.{Happening}
 use Rattle.run_model.specs.declared.phase.Phase.{Phase}
-use Rattle.run_model.specs.declared.phase.Phase.TheVariants.{StartSent, Over}
+use Rattle.run_model.specs.declared.phase.Phase.TheVariants.{StartSent, Deciding, Delay, RetrySent, Over}
 use Rattle.run_model.specs.declared.unit_view.UnitView.{UnitView}
 use Rattle.run_model.specs.Admission.{scripts_in, units_in, terms_at}
 use Rattle.run_model.specs.Words.{is_on, heard, sent, delivered, queue, told, skipped, finished, unit_of}
-use Rattle.run_model.specs.Accounts.{is_mismatched, IsAccountedAs}
-use Rattle.run_model.specs.Story.{story_of, line_of, taken_by, broadcast_to, pieces}
-use Rattle.run_model.specs.Fates.{deliveries, never_started, was_left}
+use Rattle.run_model.specs.Accounts.{HasLast, is_mismatched, IsAccountedAs}
+use Rattle.run_model.specs.Backoff.{retry_count}
+use Rattle.run_model.specs.Story.{story_of, line_of, taken_by, broadcast_to, pieces, deliveries, never_started, was_left}
+use Rattle.run_model.specs.Fates.{MeetsAttemptLaw, HasRetryLeft}
 use Rattle.run_laws.specs.Reports.{signals_asked, signals_by, reports_told, reports_waiting, reports_by}
 use Rattle.run_laws.proofs.AttemptLemmas.{IsMadeIf}
 
@@ -38,31 +41,64 @@ abbrev pub HasLine : Option UnitView → List Request → Type 0
 HasLine None is = is ≡ []
 HasLine (Some u) is = HasLineIn u.phase u.line is
 
--- a message that is sent yet: a start, a slow report, a skip or a finish
+-- a message that is sent yet: one of a test
 abbrev pub IsBuilt : Message → Type 0
 IsBuilt (Start start) = ⊤
 IsBuilt (Slow slow) = ⊤
+IsBuilt (AttemptFailed failure) = ⊤
+IsBuilt (Retry retry) = ⊤
 IsBuilt (Skip skip) = ⊤
 IsBuilt (Finish finish) = ⊤
 IsBuilt m = ⊥
 
--- whether a list is empty
-abbrev pub is_nil : {X : Type 0} → List X → Bool
-is_nil [] = true
-is_nil (x ∷ xs) = false
+-- what becomes of a test in a sub-run: it was never started, or it was left, by so many deliveries of its start and its retries
+pub record Way : Type 0 where
+  pub delivered : ℕ
+  pub never : Bool
+  pub left : Bool
 
--- how often the start of a test was delivered, and whether it was never started, by its phase and its attempts: before
--- its start is delivered, and of a skipped one, no time; else once, and it was never started where it is over with no
--- attempt
-abbrev pub IsLetGoIn : Bool → Phase → List ExecuteStatus → ℕ → Bool → Type 0
-IsLetGoIn mm StartSent ss n never = (n ≡ 0) × (never ≡ false)
-IsLetGoIn true Over ss n never = (n ≡ 0) × (never ≡ false)
-IsLetGoIn false Over ss n never = (n ≡ 1) × (never ≡ is_nil ss)
-IsLetGoIn mm _ ss n never = (n ≡ 1) × (never ≡ false)
+abbrev pub way_of : ℕ → List Happening → Way
+way_of k run = record { delivered = deliveries k run; never = never_started k run; left = was_left k run }
 
-abbrev pub IsLetGo : Bool → Option UnitView → ℕ → Bool → Type 0
-IsLetGo mm None n never = (n ≡ 0) × (never ≡ false)
-IsLetGo mm (Some u) n never = IsLetGoIn mm u.phase u.statuses n never
+-- neither yet, and nothing was delivered, or something was
+abbrev pub IsWaiting : Way → Type 0
+IsWaiting w = (w.delivered ≡ 0) × (w.never ≡ false) × (w.left ≡ false)
+
+abbrev pub IsUnderWay : Way → Type 0
+IsUnderWay w = (0 < w.delivered) × (w.never ≡ false) × (w.left ≡ false)
+
+-- attempts that all failed, with a retry left after each
+abbrev pub AreFailed : ℕ → List ExecuteStatus → Type 0
+AreFailed retries ss = (list_all (λ s. not (is_success s.result)) ss ≡ true) × (length ss ≤ retries)
+
+-- what came of the attempts of a test that is over, by whether it was left
+abbrev pub HasEndedAs : Bool → ℕ → List ExecuteStatus → Type 0
+HasEndedAs true retries ss = HasRetryLeft retries ss
+HasEndedAs false retries ss = MeetsAttemptLaw retries ss
+
+-- a test that is over after these attempts, by the number of the last: it was left there, never started, or finishes
+abbrev pub IsOverWith : ℕ → ℕ → List ExecuteStatus → Way → Type 0
+IsOverWith retries attempt [] w = (w.never ≡ true) × (w.left ≡ false)
+IsOverWith retries attempt (s ∷ ss) w = (w.never ≡ false) × (attempt ≡ length (s ∷ ss))
+    × HasEndedAs w.left retries (s ∷ ss)
+
+-- how far a test is on its way, by its phase, its attempts and the number of the current one; one that is skipped has no way
+abbrev pub IsOnWayIn : ℕ → Phase → ℕ → List ExecuteStatus → Way → Type 0
+IsOnWayIn retries StartSent attempt ss w = IsWaiting w × (attempt ≡ 1) × (ss ≡ [])
+IsOnWayIn retries Deciding attempt ss w =
+    IsUnderWay w × (attempt ≡ length ss) × HasLast ss (λ early s. AreFailed retries early)
+IsOnWayIn retries Delay attempt ss w = IsUnderWay w × (attempt ≡ length ss) × AreFailed retries ss × (0 < length ss)
+IsOnWayIn retries RetrySent attempt ss w = IsUnderWay w × (attempt ≡ length ss) × AreFailed retries ss × (0 < length ss)
+IsOnWayIn retries Over attempt ss w = IsOverWith retries attempt ss w
+IsOnWayIn retries _ attempt ss w = IsUnderWay w × (attempt ≡ length ss + 1) × AreFailed retries ss
+
+abbrev pub IsOnWayAt : Bool → UnitView → Way → Type 0
+IsOnWayAt true u w = IsWaiting w
+IsOnWayAt false u w = IsOnWayIn (retry_count u.terms.retries) u.phase u.attempt u.statuses w
+
+abbrev pub IsOnWay : Bool → Option UnitView → Way → Type 0
+IsOnWay mm None w = IsWaiting w
+IsOnWay mm (Some u) w = IsOnWayAt mm u w
 
 -- the signals asked for unit k, and its slow reports that were told or wait, are those of its own turns
 pub record IsReported (slow : SlowTimeout) (k : ℕ) (run : List Happening) : Type 0 where
@@ -72,7 +108,8 @@ pub record IsReported (slow : SlowTimeout) (k : ℕ) (run : List Happening) : Ty
 
 -- of a sub-run at this moment, by whether the run is over: no more messages are delivered than sent, no more skips and
 -- finishes are told than it has turns, the dispatcher heard none later, units are named, each test has its account, and
--- its attempts, signals and slow reports are its own turns. No script is a unit yet, so of a number that is no test's nothing is told
+-- its attempts, signals and slow reports are its own turns. No script is a unit yet, so of a number that is no test's
+-- nothing is told
 pub record Holds (p : Settings) (over : Bool) (now : ℕ) (run : List Happening) : Type 0 where
   pub fits : delivered run ≤ length (sent run)
   pub counted : skipped run + length (finished run) ≤ length run
@@ -85,7 +122,6 @@ pub record Holds (p : Settings) (over : Bool) (now : ℕ) (run : List Happening)
   pub fresh : is_on run ≡ false → over ≡ false → run ≡ []
   -- no other message is sent yet
   pub built : All IsBuilt (sent run)
-  pub let_go : (k : ℕ) → IsLetGo (is_mismatched p (place_of p k)) (unit_of k run) (deliveries k run) (never_started k run)
-  pub left : (k : ℕ) → was_left k run ≡ false
+  pub on_way : (k : ℕ) → IsOnWay (is_mismatched p (place_of p k)) (unit_of k run) (way_of k run)
   pub lines : (k : ℕ) → HasLine (unit_of k run) (line_of k run)
   pub taken : (k : ℕ) → taken_by k run ≤ length (broadcast_to k run)

@@ -31,35 +31,34 @@ use Rattle.run_model.specs.Turns.{nothing_done, enabled, deed_on, happening}
 use Rattle.run_model.specs.Journal.{history, IsLegalBackward}
 use Rattle.run_model.specs.Accounts.{News, HasAccount, IsAccounted, IsAccountedAs, is_mismatched}
 use Rattle.run_model.specs.Accounts.{account_of, pending_of}
-use Rattle.run_model.specs.Story.{OwnTurn, own_turn, story_of, line_of, request_of, pieces}
-use Rattle.run_model.specs.Fates.{deliveries, never_started, was_left}
+use Rattle.run_model.specs.Story.{Attempt, own_turn, story_of, line_of, request_of, pieces}
 use Rattle.run_laws.specs.Laws.{IsMadeByItsTurns}
 use Rattle.run_laws.specs.Reports.{IsReportedByItsTurns}
 use Rattle.run_laws.specs.Cancels.{HasItsLine}
 use Rattle.run_model.specs.declared.phase.Phase.{Phase}
 use Rattle.run_model.specs.declared.phase.Phase.TheVariants.{StartSent, Starting, Running, Grace, KillWait, Leak}
-use Rattle.run_model.specs.declared.phase.Phase.TheVariants.{Deciding, Over}
-use Rattle.run_laws.proofs.Holds.{Holds, HasLine, HasLineIn, IsBuilt, IsNamed, IsReported, place_of}
+use Rattle.run_model.specs.declared.phase.Phase.TheVariants.{Deciding, Delay, RetrySent, Over}
+use Rattle.run_laws.proofs.Holds.{Holds, HasLine, HasLineIn, IsBuilt, IsNamed, IsReported, way_of, place_of}
 use Rattle.run_laws.proofs.AttemptLemmas.{IsMade, IsMadeIf, made_statuses, made_due, row_made_if, reach_made_if}
 use Rattle.run_laws.proofs.Queue.{queue-cons}
 use Rattle.run_laws.proofs.AccountLemmas.{IsFirst, IsBuiltIf}
 use Rattle.run_laws.proofs.Rows.{row_keeps}
-use Rattle.run_laws.proofs.LetGo.{let_go_after, left_after}
+use Rattle.run_laws.proofs.LetGo.{on_way_after}
 use Rattle.run_laws.proofs.Lines.{own_request}
 use Rattle.run_laws.proofs.LineMoves.{line_after}
 use Rattle.run_laws.proofs.Cancels.{IsCancel, cancel_is, cancel_skips, cancel_finishes}
 use Rattle.run_laws.proofs.Newcomers.{place-of_test}
 use Rattle.run_laws.proofs.Reported.{reported_after}
-use Rattle.run_laws.proofs.Deeds.{PartFits, Does, does}
+use Rattle.run_laws.proofs.Deeds.{PartFits, left_with, Does, does}
 
 -- a request says nothing of an account, nor of the name of a unit
-reach_account : (mm : Bool) (request : Option Request) (v : Option UnitView) (t q : List News) → HasAccount mm v t q
-    → HasAccount mm (reach request v) t q
-reach_account mm None v t q h = h
-reach_account mm (Some request) None t q h = h
-reach_account mm (Some request) (Some u) t q h = by_live (is_live u.phase)
+reach_account : (mm left : Bool) (request : Option Request) (v : Option UnitView) (t q : List News)
+    → HasAccount mm left v t q → HasAccount mm left (reach request v) t q
+reach_account mm left None v t q h = h
+reach_account mm left (Some request) None t q h = h
+reach_account mm left (Some request) (Some u) t q h = by_live (is_live u.phase)
   where
-    by_live : (b : Bool) → HasAccount mm (Some (if b then record u { line = u.line ++ request ∷ [] } else u)) t q
+    by_live : (b : Bool) → HasAccount mm left (Some (if b then record u { line = u.line ++ request ∷ [] } else u)) t q
     by_live true = h
     by_live false = h
 
@@ -81,13 +80,14 @@ reach_named n now k (Some request) (Some u) h = by_live (is_live u.phase)
 -- the account of a test after one more turn, from the parts of that turn
 accounted-cons : (p : Settings) (j k : ℕ) (x : Happening) (run : List Happening)
     → delivered (x ∷ run) ≤ length (sent run)
-    → HasAccount (is_mismatched p j) (unit_after x.moment k x.part (unit_of k run))
+    → HasAccount (is_mismatched p j) (left_with k run x.part) (unit_after x.moment k x.part (unit_of k run))
     (account_of k (told run) ++ account_of k (events_in x))
     (pending_of k (drop (if x.taken then 1 else 0) (queue run) ++ option_to_list x.sent))
     → IsAccountedAs p j k (x ∷ run)
 accounted-cons p j k x run fits h =
     rw (filter_map-append, queue-cons x run fits)
-    (reach_account (is_mismatched p j) x.request (unit_after x.moment k x.part (unit_of k run)) _ _ h)
+    (reach_account (is_mismatched p j) (left_with k run x.part) x.request
+    (unit_after x.moment k x.part (unit_of k run)) _ _ h)
 
 -- a turn tells one skip or one finish at most
 counted_one : (o : Option ReporterEvent)
@@ -164,11 +164,11 @@ named_after p run now later k (Some (Acts j turn)) v le h fits u e = by_unit (j 
 
 -- a unit that begins is at its first attempt, of which there is none yet
 first_made : (mm : Bool) (s : AttemptTerms) (u : UnitView) (sent : Message) → IsFirst mm u sent → u.attempt ≡ 1
-    → u.timers.stopwatch.start ≡ 0 → u.terms ≡ s → u.statuses ≡ [] → IsMade s u []
-first_made true s u sent (ph, is) a st terms ss =
+    → u.timers.stopwatch.start ≡ 0 → u.delay ≡ 0 → u.terms ≡ s → u.statuses ≡ [] → IsMade s u []
+first_made true s u sent (ph, is) a st delay terms ss =
     record { attempt = a; start = st; terms = terms; has = rw ph ss }
-first_made false s u sent (ph, is) a st terms ss =
-    record { attempt = a; start = st; terms = terms; has = rw ph ss }
+first_made false s u sent (ph, is) a st delay terms ss =
+    record { attempt = a; start = st; terms = terms; has = rw ph (ss, delay) }
 
 -- a part leaves each unit as its own turns make it
 made_after : (p : Settings) (run : List Happening) (now k : ℕ) (part : Option UnitPart)
@@ -184,13 +184,14 @@ made_after p run now k (Some (Joins first)) h named line (sent, new) = begins (f
     begins true e =
         let here : k ≡ first.test.unit = grind arith in
         let none : unit_of k run ≡ None = ap (λ k. unit_of k run) here ∙ new.unknown in
-        rw (rw none at h) (first_made _ _ first sent new.first new.attempt new.start
+        rw (rw none at h) (first_made _ _ first sent new.first new.attempt new.start new.delay
         (new.terms ∙ ap (λ k. terms_at p (place_of p k)) (sym here)) new.statuses)
     begins false e = h
 made_after p run now k (Some (Acts j turn)) h named line taken = by_unit (j == k) refl
   where
     by_unit : (b : Bool) → (j == k) ≡ b
-        → IsMadeIf (terms_at p (place_of p k)) (if b then option_map (λ w. (row now turn w).next) (unit_of k run) else unit_of k run)
+        → IsMadeIf (terms_at p (place_of p k))
+        (if b then option_map (λ w. (row now turn w).next) (unit_of k run) else unit_of k run)
         (option_to_list (if b then Some (record {
           moment = now;
           turn = turn;
@@ -235,10 +236,8 @@ holds-cons p over now run e d h does on = record {
       (made_after p run now k d.part (h.made k) (h.named k) (h.lines k) does.part);
   fresh = λ off going. absurd (stays_on d.begins (is_on run) d.ends d.over over does.marks.finishes on off going);
   built = All-append IsBuilt (sent run) (option_to_list d.sent) h.built (built_if d.sent does.sends);
-  let_go = λ k. let_go_after p run now k d.request d.part (unit_of k run) _ _ (deliveries k run)
-      (never_started k run) (h.let_go k) (h.accounts k) refl does.part;
-  left = λ k. left_after p run now k d.part (deliveries k run) (never_started k run) (was_left k run) (h.left k)
-      (h.let_go k) does.part;
+  on_way = λ k. on_way_after p run now k d.request d.part (unit_of k run) _ _ (way_of k run) (h.on_way k)
+      (h.accounts k) refl does.part;
   lines = λ k. (line_after p run now k d.request d.part (h.lines k) (h.taken k) does.part).0;
   taken = λ k. (line_after p run now k d.request d.part (h.lines k) (h.taken k) does.part).1;
 }
@@ -309,8 +308,7 @@ holds-none p over now = record {
   made = λ k. refl;
   fresh = λ off going. refl;
   built = All-nil IsBuilt;
-  let_go = λ k. (refl, refl);
-  left = λ k. refl;
+  on_way = λ k. (refl, refl, refl);
   lines = λ k. refl;
   taken = λ k. omega arith;
 }
@@ -345,7 +343,7 @@ pub made : (p : Settings) (backward : List Entry) → IsLegalBackward p backward
     → IsMadeByItsTurns p (sub_run (history p backward)) j u
 made p backward legal j u is =
     let k : ℕ = unit_of_test p j in
-    let ps : List (List OwnTurn) = pieces (story_of k (sub_run (history p backward))) in
+    let ps : List Attempt = pieces (story_of k (sub_run (history p backward))) in
     let it : IsMade (terms_at p j) u ps =
     subst (λ i. IsMade (terms_at p i) u ps) (place-of_test p j) (rw is at ((holds p backward legal).made k)) in
     record {
@@ -383,5 +381,7 @@ lined p backward legal j u is live =
     live_line KillWait e h = h
     live_line Leak e h = h
     live_line Deciding e h = h
+    live_line Delay e h = h
+    live_line RetrySent e h = h
     live_line StartSent e h = cc
     live_line Over e h = cc

@@ -16,6 +16,7 @@ pub mod RequestLemmas
 pub mod AttemptLemmas
 pub mod ReportLemmas
 pub mod AccountLemmas
+pub mod OnceLemmas
 pub mod Lines
 pub mod Running
 pub mod Scan

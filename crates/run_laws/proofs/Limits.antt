@@ -1,6 +1,6 @@
 -- After each event told in a legal journal the limits are kept.
 use Rattle.std.proofs.Common.{◌≡◌, ◌⊎◌, inl, inr, ℕ, zero, suc, ◌<◌, ◌≤◌, List, [], ◌∷◌, ◌++◌, length, take, drop, Bool}
-use Rattle.std.proofs.Common.{true, false, if◌then◌else◌, Option, Some, None, option_to_list}
+use Rattle.std.proofs.Common.{true, false, if◌then◌else◌, Option, Some, None, is_some, option_to_list}
 use Rattle.std.proofs.Common.{nat_lt, refl, ap, sym, subst, ◌∙◌, arith, length-append}
 use Rattle.std.specs.List.{range_with_len}
 use Rattle.std.proofs.lemmas.List.{append-nil, append_assoc, take-append-le, take_all}
@@ -13,7 +13,9 @@ use Rattle.run_admission.specs.InUse.{is_in_use}
 use Rattle.run_admission.proofs.FewerLemmas.{kept_gone}
 use Rattle.run_model.specs.declared.entry.Entry.{Entry}
 use Rattle.run_model.specs.declared.happening.Happening.{Happening}
-use Rattle.run_model.specs.Words.{clock, is_over, sub_run, queue, told, unit_of, unit_after, tally, was_refused}
+use Rattle.run_events.specs.Cancel.{greater, rank}
+use Rattle.run_events.specs.declared.cancel.CancelReason.{CancelReason}
+use Rattle.run_model.specs.Words.{clock, is_over, sub_run, reason, queue, told, unit_of, unit_after, tally, was_refused}
 use Rattle.run_model.specs.Admission.{tests_in, seat_of}
 use Rattle.run_model.specs.Dispatch.{having_told}
 use Rattle.run_model.specs.Unit.{is_live, reach}
@@ -34,13 +36,30 @@ use Rattle.run_laws.proofs.BoardSeats.{board_seat, seat_after, AreKeptIn, kept_f
 use Rattle.run_laws.proofs.ToldSeats.{seat_told-nothing, seat_told-other}
 use Rattle.run_laws.proofs.SeatMoves.{MovesSeats, moves}
 
--- after each event told in a sub-run the limits are kept, and so they are while the messages that wait are told; the
--- seats after the last of these are below the board's; and in the board's they are kept
+-- after each event told in a sub-run the limits are kept, and in the board's seats they are. Where no cause stands they are kept
+-- too while the messages that wait are told, and the seats after the last of these are below the board's: once one
+-- stands no further seat is opened, and a test that is left holds by what was told a seat that it has given back
 record AreOpen (p : Settings) (run : List Happening) : Type 0 where
   before : (n : ℕ) → AreKeptIn p (seat_told (take n (told run)))
-  along : Along (AreKeptIn p) (seat_told (told run)) (queue run)
-  last : AreLower (at_last (seat_told (told run)) (queue run)) (board_seat run)
+  along : reason run ≡ None → Along (AreKeptIn p) (seat_told (told run)) (queue run)
+  last : reason run ≡ None → AreLower (at_last (seat_told (told run)) (queue run)) (board_seat run)
   board : AreKeptIn p (board_seat run)
+
+-- so they are kept in the seats by all that was told
+kept_now : (p : Settings) (run : List Happening) → AreOpen p run → AreKeptIn p (seat_told (told run))
+kept_now p run o =
+    subst (λ es. AreKeptIn p (seat_told es)) (take_all (length (told run)) (told run) (omega arith))
+    (o.before (length (told run)))
+
+-- where no cause stands after one more, none stood before
+calm_before : (why cause : Option CancelReason) → greater why cause ≡ None → why ≡ None
+calm_before None cause e = refl
+calm_before (Some r) None e = cc
+calm_before (Some r) (Some s) e = by_rank (nat_lt (rank r) (rank s)) e
+  where
+    by_rank : (b : Bool) → (if b then Some s else Some r) ≡ None → Some r ≡ None
+    by_rank true e = cc
+    by_rank false e = cc
 
 -- what holds of each prefix of a list, and of the list with one event more, holds of each prefix of that
 prefixes : (P : List ReporterEvent → Type 0) (es : List ReporterEvent) (o : Option ReporterEvent)
@@ -84,14 +103,14 @@ open-cons : (p : Settings) (over : Bool) (now : ℕ) (run : List Happening) (e :
 open-cons p over now run e d does moves o = record {
   before = λ n. subst (λ es. AreKeptIn p (seat_told (take n es))) events
       (prefixes (λ es. AreKeptIn p (seat_told es)) own d.cancel
-      (prefixes (λ es. AreKeptIn p (seat_told es)) (told run) d.told o.before
-      (along-now (AreKeptIn p) (seat_told own) rest own_along))
-      (subst (λ es. AreKeptIn p (seat_told es)) (sym events) (along-now (AreKeptIn p) after rest along)) n);
-  along = subst (Along (AreKeptIn p) after) (sym waiting)
-      (along_sent p after (seat_after now d.part run) rest d.sent along sent board);
-  last = reached_above d.request (subst (λ q. AreLower (at_last after q) (seat_after now d.part run)) (sym waiting)
+      (prefixes (λ es. AreKeptIn p (seat_told es)) (told run) d.told o.before own_kept)
+      (subst (λ es. AreKeptIn p (seat_told es)) (sym events) (kept_fewer p after (seat_told own) after_own own_kept)) n);
+  along = λ calm. subst (Along (AreKeptIn p) after) (sym waiting)
+      (along_sent p after (seat_after now d.part run) rest d.sent (along (before calm)) (sent (before calm)) board);
+  last = λ calm. reached_above d.request
+      (subst (λ q. AreLower (at_last after q) (seat_after now d.part run)) (sym waiting)
       (subst (λ seat. AreLower seat (seat_after now d.part run))
-      (sym (at_last-append rest (option_to_list d.sent) after)) sent));
+      (sym (at_last-append rest (option_to_list d.sent) after)) (sent (before calm))));
   board = kept_fewer p (board_seat (said now e d ∷ run)) (seat_after now d.part run) (reached_same d.request) board;
 }
   where
@@ -136,28 +155,39 @@ open-cons p over now run e d does moves o = record {
     waiting : queue (said now e d ∷ run) ≡ rest ++ option_to_list d.sent
     waiting = queue-cons (said now e d) run does.room
 
-    own_along : Along (AreKeptIn p) (seat_told own) rest
-    own_along = along-lower (AreKeptIn p) (kept_fewer p) rest (seat_told own)
+    before : greater (reason run) d.cause ≡ None → reason run ≡ None
+    before calm = calm_before (reason run) d.cause calm
+
+    own_along : reason run ≡ None → Along (AreKeptIn p) (seat_told own) rest
+    own_along calm = along-lower (AreKeptIn p) (kept_fewer p) rest (seat_told own)
         (at_last (seat_told (told run)) (take (if d.taken then 1 else 0) (queue run))) moves.tells
-        (along-drop (AreKeptIn p) (if d.taken then 1 else 0) (queue run) (seat_told (told run)) o.along)
+        (along-drop (AreKeptIn p) (if d.taken then 1 else 0) (queue run) (seat_told (told run)) (o.along calm))
 
-    along : Along (AreKeptIn p) after rest
-    along = along-lower (AreKeptIn p) (kept_fewer p) rest after (seat_told own) after_own own_along
+    own_kept : AreKeptIn p (seat_told own)
+    own_kept = by_cause (reason run) refl
+      where
+        by_cause : (why : Option CancelReason) → reason run ≡ why → AreKeptIn p (seat_told own)
+        by_cause None calm = along-now (AreKeptIn p) (seat_told own) rest (own_along calm)
+        by_cause (Some r) cause =
+            kept_fewer p (seat_told own) (seat_told (told run)) (moves.opens_none (ap is_some cause)) (kept_now p run o)
 
-    last : AreLower (at_last (seat_told own) rest) (board_seat run)
-    last = lower-on (at_last (seat_told own) rest) (at_last (seat_told (told run)) (queue run)) (board_seat run)
+    along : reason run ≡ None → Along (AreKeptIn p) after rest
+    along calm = along-lower (AreKeptIn p) (kept_fewer p) rest after (seat_told own) after_own (own_along calm)
+
+    last : reason run ≡ None → AreLower (at_last (seat_told own) rest) (board_seat run)
+    last calm = lower-on (at_last (seat_told own) rest) (at_last (seat_told (told run)) (queue run)) (board_seat run)
         (subst (AreLower (at_last (seat_told own) rest))
         (at_last-drop (if d.taken then 1 else 0) (queue run) (seat_told (told run)))
         (at_last-lower rest (seat_told own)
         (at_last (seat_told (told run)) (take (if d.taken then 1 else 0) (queue run))) moves.tells))
-        o.last
+        (o.last calm)
 
-    sent : AreLower (at_last (at_last after rest) (option_to_list d.sent)) (seat_after now d.part run)
-    sent = lower-on (at_last (at_last after rest) (option_to_list d.sent))
+    sent : reason run ≡ None → AreLower (at_last (at_last after rest) (option_to_list d.sent)) (seat_after now d.part run)
+    sent calm = lower-on (at_last (at_last after rest) (option_to_list d.sent))
         (at_last (at_last (seat_told own) rest) (option_to_list d.sent)) (seat_after now d.part run)
         (at_last-lower (option_to_list d.sent) (at_last after rest) (at_last (seat_told own) rest)
         (at_last-lower rest after (seat_told own) after_own))
-        (moves.sends last)
+        (moves.sends calm (last calm))
 
     board : AreKeptIn p (seat_after now d.part run)
     board = moves.keeps o.board
@@ -173,8 +203,8 @@ gone p seat none =
 open-nil : (p : Settings) → AreOpen p []
 open-nil p = record {
   before = before;
-  along = gone p (seat_told []) (λ k. refl);
-  last = λ k used. cc;
+  along = λ calm. gone p (seat_told []) (λ k. refl);
+  last = λ calm k used. cc;
   board = gone p (board_seat []) (λ k. refl);
 }
   where

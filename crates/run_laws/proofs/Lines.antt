@@ -1,31 +1,32 @@
 -- The line of a unit after a row of the unit table, and after a broadcast.
-use Rattle.std.proofs.Common.{◌≡◌, inl, inr, ℕ, ◌+◌, ◌≤◌, ◌==◌, List, [], ◌∷◌, ◌++◌, drop, length, Bool, true, false, ◌&&◌}
+use Rattle.std.proofs.Common.{◌≡◌, ◌⊎◌, inl, inr, ℕ, ◌+◌, ◌≤◌, ◌==◌, List, [], ◌∷◌, ◌++◌, drop, length, Bool, true, false, ◌&&◌}
 use Rattle.std.proofs.Common.{if◌then◌else◌, Option, Some, None, option_to_list, refl, ap, sym, subst, ◌∙◌}
 use Rattle.std.proofs.Common.{arith, length-drop}
 use Rattle.std.proofs.lemmas.List.{append-nil}
 use Rattle.run_capture.specs.Captured.{Captured, is_done, with_wait_error}
 use Rattle.run_events.specs.declared.result.ChildExit.{ChildExit}
 use Rattle.run_events.specs.declared.request.Request.{Request}
-use Rattle.run_events.specs.declared.request.Request.TheVariants.{Shutdown}
+use Rattle.run_events.specs.declared.request.Request.TheVariants.{Shutdown, OtherCancel}
 use Rattle.run_events.specs.declared.request.TermSignal.{TermSignal}
 use Rattle.run_events.specs.declared.request.TermSignal.TheVariants.{Kill}
 use Rattle.run_events.specs.declared.request.TerminateReason.TheVariants.{Signal as Signalled}
 use Rattle.run_model.specs.declared.happening.UnitPart.TheVariants.{Acts}
 use Rattle.run_model.specs.declared.phase.Phase.{Phase}
 use Rattle.run_model.specs.declared.phase.Phase.TheVariants.{StartSent, Starting, Running, Grace, KillWait, Leak}
-use Rattle.run_model.specs.declared.phase.Phase.TheVariants.{Deciding, Over}
+use Rattle.run_model.specs.declared.phase.Phase.TheVariants.{Deciding, Delay, RetrySent, Over}
 use Rattle.run_model.specs.declared.unit_turn.UnitTurn.{UnitTurn}
 use Rattle.run_model.specs.declared.unit_turn.UnitTurn.TheVariants.{Answered, Started, StartFailed, Exit, WaitFailed}
-use Rattle.run_model.specs.declared.unit_turn.UnitTurn.TheVariants.{Piece, StreamEnd, ReadError, Due, Take, Decide}
+use Rattle.run_model.specs.declared.unit_turn.UnitTurn.TheVariants.{Piece, StreamEnd, ReadError, Due, Take}
 use Rattle.run_model.specs.declared.unit_view.UnitView.{UnitView}
 use Rattle.run_model.specs.Terminate.{terminate_method}
 use Rattle.run_model.specs.Slow.{one_more, is_out_of_time}
 use Rattle.run_model.specs.Unit.{Row, at_moment, row, row_at, takes, takes_at, settled, exited, leaking, having_heard}
 use Rattle.run_model.specs.Unit.{heard_with, slow_row, slow_again, in_grace, out_of_time, asked_to_end, requested, take_row}
-use Rattle.run_model.specs.Unit.{is_live, reach, has_request}
+use Rattle.run_model.specs.Unit.{is_live, reach, has_request, retry_message}
 use Rattle.run_model.specs.Story.{is_live_unit, oldest, request_of, takes_request}
 use Rattle.run_laws.proofs.Holds.{HasLineIn, HasLine}
-use Rattle.run_laws.proofs.Rows.{is_open, Takes, answers, opens, decides, Moves, row_moves, row_takes, takes_moment}
+use Rattle.run_laws.proofs.Rows.{is_open, Takes, answers, opens, decides, passes, again, Moves, row_moves, row_takes}
+use Rattle.run_laws.proofs.Rows.{takes_moment, decide_cases, row_passes}
 
 -- the line after a turn: the oldest request is taken
 abbrev pub left_of : UnitTurn → List Request → List Request
@@ -66,6 +67,8 @@ taken_line now ph u = by_line u.line refl
     by_request : (ph : Phase) (request : Request) (v : UnitView) → (requested now ph request v).next.line ≡ v.line
     by_request Running (Shutdown request) v = by_signal (terminate_method (Signalled request) v.terms.slow.grace) v
     by_request Grace (Shutdown request) v = refl
+    by_request Delay (Shutdown request) v = refl
+    by_request Delay OtherCancel v = refl
     by_request ph request v = refl
 
     by_line : (line : List Request) → u.line ≡ line → (take_row now ph line u).next.line ≡ drop 1 line
@@ -129,6 +132,18 @@ moved_line : (u : UnitView) (r : Row) (is : List Request) → Moves u r → r.ne
 moved_line u r is (inl goes) e = has_open_line r.next.phase r.next.line is goes.phase e
 moved_line u r is (inr ends) e = rw ends.phase e
 
+-- in a delay it takes its oldest request, and is let go on by some
+delay_line : (now : ℕ) (u : UnitView) (is : List Request) → u.phase ≡ Delay → u.line ≡ is
+    → HasLineIn (row_at now Delay Take u).next.phase (row_at now Delay Take u).next.line (drop 1 is)
+delay_line now u is at e = by_way (row_passes now Take u at).way (taken_line now Delay u ∙ ap (drop 1) e)
+  where
+    by_way : ((row_at now Delay Take u).next.phase ≡ Delay) × ((row_at now Delay Take u).sent ≡ None)
+        ⊎ ((row_at now Delay Take u).next.phase ≡ RetrySent) × ((row_at now Delay Take u).sent ≡ Some (retry_message u))
+        → (row_at now Delay Take u).next.line ≡ drop 1 is
+        → HasLineIn (row_at now Delay Take u).next.phase (row_at now Delay Take u).next.line (drop 1 is)
+    by_way (inl way) line = subst (λ ph. HasLineIn ph (row_at now Delay Take u).next.line (drop 1 is)) (sym way.0) line
+    by_way (inr way) line = subst (λ ph. HasLineIn ph (row_at now Delay Take u).next.line (drop 1 is)) (sym way.0) line
+
 pub takes_request-is : (j k : ℕ) (turn : UnitTurn) → takes_request k (Some (Acts j turn)) ≡ (is_take turn && (j == k))
 takes_request-is j k Take = refl
 takes_request-is j k turn = refl
@@ -145,24 +160,32 @@ own_line now turn u is en h = by_take (row_takes now u.phase turn u en)
     by_go true h = h.0 ∙ sym h.1
     by_go false h = h.0
 
-    by_take : Takes u.phase turn
+    moves : (ph : Phase) {own : UnitTurn} → u.phase ≡ ph → turn ≡ own
+        → HasLineIn (row_at now ph own (at_moment now u)).next.phase (row_at now ph own (at_moment now u)).next.line
+        (drop (if is_take own then 1 else 0) is)
         → HasLineIn (row now turn u).next.phase (row now turn u).next.line (drop (if is_take turn then 1 else 0) is)
-    by_take (answers go at to) =
+    moves ph {own} at to has =
         subst (λ turn. HasLineIn (row now turn u).next.phase (row now turn u).next.line
         (drop (if is_take turn then 1 else 0) is)) (sym to)
-        (subst (λ ph. HasLineIn (row_at now ph (Answered go) (at_moment now u)).next.phase
-        (row_at now ph (Answered go) (at_moment now u)).next.line is) (sym at)
-        (by_go go (subst (λ ph. HasLineIn ph u.line is) at h)))
+        (subst (λ ph. HasLineIn (row_at now ph own (at_moment now u)).next.phase
+        (row_at now ph own (at_moment now u)).next.line (drop (if is_take own then 1 else 0) is)) (sym at) has)
+
+    by_take : Takes u.phase turn
+        → HasLineIn (row now turn u).next.phase (row now turn u).next.line (drop (if is_take turn then 1 else 0) is)
+    by_take (answers go at to) = moves StartSent at to (by_go go (subst (λ ph. HasLineIn ph u.line is) at h))
     by_take (opens on) =
         moved_line (at_moment now u) (row_at now u.phase turn (at_moment now u)) (drop (if is_take turn then 1 else 0) is)
         (row_moves now u.phase turn (at_moment now u) refl on)
         (row_line now u.phase turn (at_moment now u) on (takes_moment now u.phase u turn en)
         ∙ left_of-is turn u.line ∙ ap (drop (if is_take turn then 1 else 0)) (open_line u.phase u.line is on h))
-    by_take (decides word at to) =
-        subst (λ turn. HasLineIn (row now turn u).next.phase (row now turn u).next.line
-        (drop (if is_take turn then 1 else 0) is)) (sym to)
-        (subst (λ ph. HasLineIn (row_at now ph (Decide word) (at_moment now u)).next.phase
-        (row_at now ph (Decide word) (at_moment now u)).next.line is) (sym at) refl)
+    by_take (decides word at to) = moves Deciding at to
+        (decide_cases (λ r. HasLineIn r.next.phase r.next.line is) now word (at_moment now u)
+        (λ again. subst (λ ph. HasLineIn ph u.line is) at h) (λ done. refl))
+    by_take (passes at (inl to)) = moves Delay at to (subst (λ ph. HasLineIn ph u.line is) at h)
+    by_take (passes at (inr to)) = moves Delay at to (delay_line now (at_moment now u) is at
+        (subst (λ ph. HasLineIn ph u.line is) at h))
+    by_take (again true at to) = moves RetrySent at to (subst (λ ph. HasLineIn ph u.line is) at h)
+    by_take (again false at to) = moves RetrySent at to refl
 
 -- so the request that it takes is the oldest of its line by the history
 pub own_request : (now : ℕ) (turn : UnitTurn) (u : UnitView) (is : List Request) → takes now u turn ≡ true
@@ -173,6 +196,7 @@ own_request now Take u is en h = by_phase u.phase en h
     by_phase Running en h = ap oldest (sym h)
     by_phase Grace en h = ap oldest (sym h)
     by_phase Leak en h = ap oldest (sym h)
+    by_phase Delay en h = ap oldest (sym h)
     by_phase ph en h = cc
 own_request now turn u is en h = refl
 
@@ -189,6 +213,7 @@ own_taken now Take u n all en h le = by_phase u.phase en h
     by_phase Running en h = some u.line en h
     by_phase Grace en h = some u.line en h
     by_phase Leak en h = some u.line en h
+    by_phase Delay en h = some u.line en h
     by_phase ph en h = cc
 own_taken now turn u n all en h le = omega arith
 
@@ -214,6 +239,8 @@ reach_line (Some request) (Some u) is h = by_phase u.phase refl h
     live KillWait h e = ap (λ line. line ++ request ∷ []) h
     live Leak h e = ap (λ line. line ++ request ∷ []) h
     live Deciding h e = ap (λ line. line ++ request ∷ []) h
+    live Delay h e = ap (λ line. line ++ request ∷ []) h
+    live RetrySent h e = ap (λ line. line ++ request ∷ []) h
 
     by_phase : (ph : Phase) → u.phase ≡ ph → HasLineIn u.phase u.line is
         → HasLine (Some (if is_live u.phase then record u { line = u.line ++ request ∷ [] } else u))

@@ -173,6 +173,7 @@ pub record IsNew (p : Settings) (run : List Happening) (u : UnitView) (sent : Me
   pub start : u.timers.stopwatch.start ≡ 0
   pub latest : u.latest ≡ 0
   pub attempt : u.attempt ≡ 1
+  pub delay : u.delay ≡ 0
   pub terms : u.terms ≡ terms_at p (place_of p u.test.unit)
   pub statuses : u.statuses ≡ []
   pub line : u.line ≡ []
@@ -211,6 +212,7 @@ new_unit p run new e = by_case found.is
           start = refl;
           latest = refl;
           attempt = refl;
+          delay = refl;
           terms = terms;
           statuses = refl;
           line = refl;
@@ -224,6 +226,7 @@ new_unit p run new e = by_case found.is
           start = refl;
           latest = refl;
           attempt = refl;
+          delay = refl;
           terms = terms;
           statuses = refl;
           line = refl;

@@ -2,25 +2,21 @@
 use Rattle.std.proofs.Common.{◌≡◌, ℕ, List, [], ◌∷◌, Bool, true, false, ◌&&◌, ◌||◌, if◌then◌else◌}
 use Rattle.std.proofs.Common.{Option, Some, None, refl, ap, sym, ◌∙◌}
 use Rattle.std.specs.Option.{option_or}
-use Rattle.std.proofs.lemmas.List.{append-nil}
 use Rattle.run_clock.specs.Stopwatch.{started_at}
 use Rattle.run_capture.specs.Captured.{Captured, is_done}
-use Rattle.run_capture.specs.declared.test_output.CaptureStrategy.{CaptureStrategy}
-use Rattle.run_capture.specs.declared.test_output.CaptureStrategy.TheVariants as strategies
 use Rattle.run_events.specs.declared.request.Request.{Request}
 use Rattle.run_events.specs.declared.result.ChildExit.{ChildExit}
 use Rattle.run_events.specs.declared.result.ChildExecutionOutput.TheVariants.{Output, StartError}
 use Rattle.run_events.specs.declared.result.ExecutionResult.TheVariants.{ExecFail}
 use Rattle.run_model.specs.declared.unit_turn.UnitTurn.{UnitTurn}
-use Rattle.run_model.specs.declared.unit_turn.UnitTurn.TheVariants.{StartFailed, Due, Decide}
+use Rattle.run_model.specs.declared.unit_turn.UnitTurn.TheVariants.{StartFailed, Due}
 use Rattle.run_model.specs.declared.unit_view.AttemptTerms.{AttemptTerms}
 use Rattle.run_model.specs.declared.unit_view.UnitView.{UnitView}
-use Rattle.run_model.specs.Environment.{attempts}
 use Rattle.run_model.specs.Unit.{result_of, status_at}
 use Rattle.run_model.specs.Story.{OwnTurn, begins_attempt, first_said, any_is}
 use Rattle.run_model.specs.Timing.{ends_wait, is_due_turn, slow_count, has_leaked}
-use Rattle.run_model.specs.Attempts.{moment_if, start_error_in, start_error_of, exit_in, exit_of, output_of}
-use Rattle.run_model.specs.Attempts.{are_streams_done, has_ended, end_of, result_by, status_of}
+use Rattle.run_model.specs.Attempts.{moment_if, start_error_in, start_error_of, exit_in, exit_of}
+use Rattle.run_model.specs.Attempts.{has_ended, end_of, status_of}
 use Rattle.run_laws.proofs.CaptureLemmas.{captured_by, heard_by, taken, captured_more, done_as}
 use Rattle.run_laws.proofs.StandingLemmas.{count_still}
 use Rattle.run_laws.proofs.TimerLemmas.{active_since}
@@ -94,14 +90,13 @@ end_more terms t before b none is =
     ∙ ap (λ b. if b then Some t.moment else None) is
 
 -- its status where it ended at a moment
-pub status_as : (waited : Bool) (exit : Option ChildExit) (leaked : Bool) (c : Captured) (now k : ℕ)
+pub status_as : (waited : Bool) (exit : Option ChildExit) (leaked : Bool) (c : Captured) (now d k : ℕ)
     (piece : List OwnTurn) (u : UnitView)
     → IsAt u.terms u.timers.stopwatch.start waited exit leaked u.timers.slow_count c piece
     → u.timers.stopwatch ≡ started_at u.timers.stopwatch.start
-    → end_of u.terms piece ≡ Some now → u.attempt ≡ k
-    → status_at now (result_of exit c.errors leaked u) (Output c.output c.errors) u
-    ≡ status_of u.terms (attempts u) k piece
-status_as waited exit leaked c now k piece u it watch end at =
+    → end_of u.terms piece ≡ Some now → u.attempt ≡ k → u.delay ≡ d
+    → status_at now (result_of exit c.errors leaked u) (Output c.output c.errors) u ≡ status_of u.terms d k piece
+status_as waited exit leaked c now d k piece u it watch end at delay =
     rw (
       active_since u.timers.stopwatch now watch,
       it.captured,
@@ -112,33 +107,21 @@ status_as waited exit leaked c now k piece u it watch end at =
       it.let_go,
       end,
       at,
+      delay,
     ) refl
 
 -- its status where its start was refused
-pub refused_as : (now k : ℕ) (error : List ℕ) (exit : Option ChildExit) (c : Captured) (piece : List OwnTurn)
+pub refused_as : (now d k : ℕ) (error : List ℕ) (exit : Option ChildExit) (c : Captured) (piece : List OwnTurn)
     (u : UnitView)
     → IsAt u.terms u.timers.stopwatch.start false exit false u.timers.slow_count c piece
     → u.timers.stopwatch ≡ started_at u.timers.stopwatch.start
-    → end_of u.terms piece ≡ None → u.attempt ≡ k
-    → status_at now ExecFail (StartError error) u
-    ≡ status_of u.terms (attempts u) k (taken now (StartFailed error) None ∷ piece)
-refused_as now k error exit c piece u it watch end at =
-    rw (active_since u.timers.stopwatch now watch, it.not_refused, count, it.let_go, end, at) refl
+    → end_of u.terms piece ≡ None → u.attempt ≡ k → u.delay ≡ d
+    → status_at now ExecFail (StartError error) u ≡ status_of u.terms d k (taken now (StartFailed error) None ∷ piece)
+refused_as now d k error exit c piece u it watch end at delay =
+    rw (active_since u.timers.stopwatch now watch, it.not_refused, count, it.let_go, end, at, delay) refl
   where
     count : slow_count u.terms.slow (taken now (StartFailed error) None ∷ piece) ≡ u.timers.slow_count
     count = count_still u.terms.slow (taken now (StartFailed error) None) piece refl ∙ it.counted
-
--- an attempt that has ended stays so
-ended_once : (o : Option ℕ) (m : ℕ) (b : Bool) (x : Option ℕ) → b ≡ true
-    → option_or (option_or o (if b then Some m else None)) x ≡ option_or o (if b then Some m else None)
-ended_once None m true x e = refl
-ended_once (Some n) m true x e = refl
-ended_once o m false x e = cc
-
-pub ended_stays : (terms : AttemptTerms) (piece : List OwnTurn) → has_ended terms piece ≡ true → (x : Option ℕ)
-    → option_or (end_of terms piece) x ≡ end_of terms piece
-ended_stays terms [] e x = cc
-ended_stays terms (t ∷ before) e x = ended_once (end_of terms before) t.moment (has_ended terms (t ∷ before)) x e
 
 -- one with no end hasn't ended
 not_yet : (o : Option ℕ) (m : ℕ) (b : Bool) → option_or o (if b then Some m else None) ≡ None → b ≡ false
@@ -150,31 +133,3 @@ pub unended_has : (terms : AttemptTerms) (piece : List OwnTurn) → end_of terms
     → has_ended terms piece ≡ false
 unended_has terms [] e = refl
 unended_has terms (t ∷ before) e = not_yet (end_of terms before) t.moment (has_ended terms (t ∷ before)) e
-
--- a turn that decides leaves the status of a piece
-done_decided : (s : CaptureStrategy) (now word : ℕ) (piece : List OwnTurn)
-    → are_streams_done s (taken now (Decide word) None ∷ piece) ≡ are_streams_done s piece
-done_decided strategies.None now word piece = refl
-done_decided strategies.Split now word piece = refl
-done_decided strategies.Combined now word piece = refl
-
-pub ended_decided : (terms : AttemptTerms) (now word : ℕ) (piece : List OwnTurn)
-    → has_ended terms (taken now (Decide word) None ∷ piece) ≡ has_ended terms piece
-ended_decided terms now word piece = simp (quiet_said, done_decided)
-
-result_decided : (terms : AttemptTerms) (now word : ℕ) (piece : List OwnTurn) (error : Option (List ℕ))
-    → result_by terms (taken now (Decide word) None ∷ piece) error ≡ result_by terms piece error
-result_decided terms now word piece (Some error) = refl
-result_decided terms now word piece None =
-    simp (quiet_said, append-nil, count_still terms.slow (taken now (Decide word) None) piece refl)
-
-pub decided_same : (terms : AttemptTerms) (n k now word : ℕ) (piece : List OwnTurn) → has_ended terms piece ≡ true
-    → status_of terms n k piece ≡ status_of terms n k (taken now (Decide word) None ∷ piece)
-decided_same terms n k now word piece e =
-    sym (simp (quiet_said, append-nil, output, count, result_decided, ended_stays terms piece e))
-  where
-    output : output_of terms.strategy (taken now (Decide word) None ∷ piece) ≡ output_of terms.strategy piece
-    output = sym (ap (λ (c : Captured). c.output) (captured_more terms.strategy now (Decide word) None piece))
-
-    count : slow_count terms.slow (taken now (Decide word) None ∷ piece) ≡ slow_count terms.slow piece
-    count = count_still terms.slow (taken now (Decide word) None) piece refl

@@ -15,7 +15,7 @@ use Rattle.run_events.specs.declared.cancel.CancelReason.{CancelReason}
 use Rattle.run_events.specs.declared.turn.Turn.{Turn}
 use Rattle.run_events.specs.declared.turn.Turn.TheVariants.{Clock}
 use Rattle.run_events.specs.declared.message.Message.{Message}
-use Rattle.run_events.specs.declared.message.Message.TheVariants.{Start, Slow, Skip, Finish}
+use Rattle.run_events.specs.declared.message.Message.TheVariants.{Start, Slow, AttemptFailed, Retry, Skip, Finish}
 use Rattle.run_model.specs.declared.entry.Entry.{Entry}
 use Rattle.run_model.specs.declared.happening.Happening.{Happening}
 use Rattle.run_model.specs.declared.unit_turn.UnitTurn.{UnitTurn}
@@ -34,7 +34,7 @@ use Rattle.run_laws.proofs.Holds.{Holds}
 use Rattle.run_laws.specs.Ready.{moved_by, IsTimely, CanTake, CanDeliverOldest, CanAdvance}
 use Rattle.run_laws.proofs.ByTurn.{by_turn}
 use Rattle.run_laws.proofs.OnBoard.{board_of, board_with, units-length, unit_in-is}
-use Rattle.run_laws.proofs.Facts.{start_waits, finish_follows, oldest_built}
+use Rattle.run_laws.proofs.Facts.{start_waits, retry_waits, finish_follows, oldest_built}
 use Rattle.run_laws.proofs.Kept.{holds}
 use Rattle.run_laws.proofs.Running.{running_in_told, running-started, running-finished}
 
@@ -96,6 +96,14 @@ oldest_ready p over refused now run (Start start ∷ rest) h on few short eq en 
           (unit_in-is p over now run start.test.unit h ∙ waits.is)
           (ap (λ ph. takes_at now ph waits.unit (Answered (may_go (tally p run)))) waits.phase),
     )
+oldest_ready p over refused now run (Retry retry ∷ rest) h on few short eq en =
+    let waits = retry_waits p over now run retry rest h eq in (
+      (on, tt),
+      take_ready p over refused now run retry.start.test.unit (Answered (may_go (tally p run))) (Some waits.unit) h
+          (unit_in-is p over now run retry.start.test.unit h ∙ waits.is)
+          (ap (λ ph. takes_at now ph waits.unit (Answered (may_go (tally p run)))) waits.phase),
+    )
+oldest_ready p over refused now run (AttemptFailed failure ∷ rest) h on few short eq en = ((on, tt), tt)
 oldest_ready p over refused now run (Slow slow ∷ rest) h on few short eq en = ((on, tt), tt)
 oldest_ready p over refused now run (Skip skip ∷ rest) h on few short eq en =
     let counted = h.counted in
@@ -104,7 +112,7 @@ oldest_ready p over refused now run (Finish finish ∷ rest) h on few short eq e
     let n : ℕ = units_in p in
     let e = event 0 (finished_event finish (tally p run)) in
     let follows = finish_follows p over now run finish rest h eq in
-    let less = running-finished n finish.test.unit (told run) e follows.below follows.told_started (λ k. refl)
+    let less = running-finished n finish.test.unit (told run) e follows.below follows.runs (λ k. refl)
     (λ k. refl) in
     let counted = h.counted in (
       (

@@ -1,8 +1,8 @@
 -- The signals and slow reports of a unit's own turn.
 use Rattle.std.proofs.Common.{◌≡◌, ℕ, ◌+◌, ◌≤◌, ◌==◌, List, [], ◌∷◌, ◌++◌, map, length, Bool, true, false}
 use Rattle.std.proofs.Common.{if◌then◌else◌, Option, Some, None, option_to_list, is_some, refl, ap, sym, subst, ◌∙◌, arith}
-use Rattle.std.proofs.Common.{append_assoc}
-use Rattle.std.proofs.lemmas.List.{map-append}
+use Rattle.std.proofs.Common.{append_assoc, option_map}
+use Rattle.std.proofs.lemmas.List.{append-nil, map-append}
 use Rattle.run_events.specs.declared.plan.SlowTimeout.{SlowTimeout}
 use Rattle.run_events.specs.declared.message.Message.{Message}
 use Rattle.run_events.specs.declared.request.ChildSignal.TheVariants.{End}
@@ -12,9 +12,10 @@ use Rattle.run_events.specs.declared.request.ShutdownRequest.{ShutdownRequest}
 use Rattle.run_events.specs.declared.request.TermSignal.{TermSignal}
 use Rattle.run_events.specs.declared.request.TermSignal.TheVariants.{Interrupt, Term, Hangup, Quit, Kill}
 use Rattle.run_events.specs.declared.request.TerminateReason.TheVariants.{Signal}
+use Rattle.run_events.specs.declared.result.ExecuteStatus.{ExecuteStatus}
 use Rattle.run_model.specs.declared.phase.Phase.{Phase}
 use Rattle.run_model.specs.declared.phase.Phase.TheVariants.{StartSent, Starting, Running, Grace, KillWait, Leak}
-use Rattle.run_model.specs.declared.phase.Phase.TheVariants.{Deciding}
+use Rattle.run_model.specs.declared.phase.Phase.TheVariants.{Deciding, Delay, RetrySent}
 use Rattle.run_model.specs.declared.unit_turn.UnitTurn.{UnitTurn}
 use Rattle.run_model.specs.declared.unit_turn.UnitTurn.TheVariants.{Answered, Started, StartFailed, Exit, WaitFailed}
 use Rattle.run_model.specs.declared.unit_turn.UnitTurn.TheVariants.{Piece, StreamEnd, ReadError, Due, Take, Decide}
@@ -24,8 +25,10 @@ use Rattle.run_model.specs.Terminate.{terminate_method}
 use Rattle.run_model.specs.Environment.{start_ask}
 use Rattle.run_model.specs.Slow.{one_more, is_out_of_time}
 use Rattle.run_model.specs.Unit.{Row, at_moment, row, row_at, takes, takes_at, slow_row, slow_again, in_grace}
-use Rattle.run_model.specs.Unit.{out_of_time, killed, signal_ask, asked_to_end, requested, take_row}
-use Rattle.run_model.specs.Story.{OwnTurn, oldest, request_of, begins_attempt, any_is, pieces}
+use Rattle.run_model.specs.Unit.{out_of_time, killed, signal_ask, asked_to_end, requested, take_row, quiet, last_status}
+use Rattle.run_model.specs.Unit.{failed_message, next_delay, has_retry, delayed, decided, decide_row, retried, left}
+use Rattle.run_model.specs.Unit.{begun_row, at_next}
+use Rattle.run_model.specs.Story.{OwnTurn, Attempt, cut, oldest, request_of, begins_attempt, decides, any_is, pieces}
 use Rattle.run_model.specs.Timing.{ends_wait, is_due_turn, signal_of, slow_count, has_timed_out}
 use Rattle.run_model.specs.Attempts.{attempt_in}
 use Rattle.run_laws.specs.Reports.{SlowReport, signal_with, signals_in, signals_by, report_with, reports_in, reports_by}
@@ -39,26 +42,26 @@ use Rattle.run_laws.proofs.AttemptLemmas.{more}
 use Rattle.run_laws.proofs.Rows.{takes_moment}
 
 -- what a row asks and sends is what its turn says, after these pieces
-pub record IsSaid (slow : SlowTimeout) (k : ℕ) (t : OwnTurn) (ps : List (List OwnTurn)) (r : Row) : Type 0 where
+pub record IsSaid (slow : SlowTimeout) (k : ℕ) (t : OwnTurn) (ps : List Attempt) (r : Row) : Type 0 where
   pub asks : map End (signals_by slow (more t ps)) ≡ map End (signals_by slow ps) ++ signals_for k r.asked
   pub sends : reports_by slow (more t ps) ≡ reports_by slow ps ++ reports_waiting k (option_to_list r.sent)
 
 -- the same of the newest piece alone
-said_more : (slow : SlowTimeout) (k : ℕ) (t : OwnTurn) (piece : List OwnTurn) (earlier : List (List OwnTurn)) (r : Row)
-    → begins_attempt t.turn ≡ false
+said_more : (slow : SlowTimeout) (k : ℕ) (t : OwnTurn) (piece : List OwnTurn) (earlier : List Attempt) (r : Row)
+    → begins_attempt t.turn ≡ false → decides t.turn ≡ false
     → map End (option_to_list (signal_with slow t piece)) ≡ signals_for k r.asked
     → option_to_list (report_with slow (length earlier + 1) t piece) ≡ reports_waiting k (option_to_list r.sent)
-    → IsSaid slow k t (piece ∷ earlier) r
-said_more slow k t piece earlier r goes asks sends = record {
-  asks = rw goes (
+    → IsSaid slow k t (cut piece [] ∷ earlier) r
+said_more slow k t piece earlier r goes undecided asks sends = record {
+  asks = rw (goes, undecided) (
       ap (map End) (sym (append_assoc (signals_by slow earlier) (signals_in slow piece)
       (option_to_list (signal_with slow t piece))))
-      ∙ map-append End (signals_by slow (piece ∷ earlier)) (option_to_list (signal_with slow t piece))
-      ∙ ap (λ s. map End (signals_by slow (piece ∷ earlier)) ++ s) asks);
-  sends = rw goes (
+      ∙ map-append End (signals_by slow (cut piece [] ∷ earlier)) (option_to_list (signal_with slow t piece))
+      ∙ ap (λ s. map End (signals_by slow (cut piece [] ∷ earlier)) ++ s) asks);
+  sends = rw (goes, undecided) (
       sym (append_assoc (reports_by slow earlier) (reports_in slow (length earlier + 1) piece)
       (option_to_list (report_with slow (length earlier + 1) t piece)))
-      ∙ ap (λ s. reports_by slow (piece ∷ earlier) ++ s) sends);
+      ∙ ap (λ s. reports_by slow (cut piece [] ∷ earlier) ++ s) sends);
 }
 
 -- a turn that isn't due, and takes no request to end the child, says nothing
@@ -79,36 +82,38 @@ report_still slow attempt t piece due = by_wait (any_is ends_wait piece) refl
     by_wait true e = rw e refl
     by_wait false e = rw (e, due) refl
 
-said_still : (slow : SlowTimeout) (k : ℕ) (t : OwnTurn) (piece : List OwnTurn) (earlier : List (List OwnTurn)) (r : Row)
-    → begins_attempt t.turn ≡ false → is_due_turn t.turn ≡ false → signal_of slow t.request ≡ None → r.asked ≡ None
-    → reports_waiting k (option_to_list r.sent) ≡ [] → IsSaid slow k t (piece ∷ earlier) r
-said_still slow k t piece earlier r goes due none asks sends =
-    said_more slow k t piece earlier r goes (rw (signal_still slow t piece due none, asks) refl)
+said_still : (slow : SlowTimeout) (k : ℕ) (t : OwnTurn) (piece : List OwnTurn) (earlier : List Attempt) (r : Row)
+    → begins_attempt t.turn ≡ false → decides t.turn ≡ false → is_due_turn t.turn ≡ false
+    → signal_of slow t.request ≡ None → r.asked ≡ None
+    → reports_waiting k (option_to_list r.sent) ≡ [] → IsSaid slow k t (cut piece [] ∷ earlier) r
+said_still slow k t piece earlier r goes undecided due none asks sends =
+    said_more slow k t piece earlier r goes undecided (rw (signal_still slow t piece due none, asks) refl)
     (rw (report_still slow (length earlier + 1) t piece due) (sym sends))
 
 -- neither does any turn once its child has ended
-said_after : (slow : SlowTimeout) (k : ℕ) (t : OwnTurn) (piece : List OwnTurn) (earlier : List (List OwnTurn)) (r : Row)
-    → any_is ends_wait piece ≡ true → begins_attempt t.turn ≡ false → r.asked ≡ None
-    → reports_waiting k (option_to_list r.sent) ≡ [] → IsSaid slow k t (piece ∷ earlier) r
-said_after slow k t piece earlier r waited goes asks sends =
-    said_more slow k t piece earlier r goes (rw (waited, asks) refl) (rw waited (sym sends))
+said_after : (slow : SlowTimeout) (k : ℕ) (t : OwnTurn) (piece : List OwnTurn) (earlier : List Attempt) (r : Row)
+    → any_is ends_wait piece ≡ true → begins_attempt t.turn ≡ false → decides t.turn ≡ false → r.asked ≡ None
+    → reports_waiting k (option_to_list r.sent) ≡ [] → IsSaid slow k t (cut piece [] ∷ earlier) r
+said_after slow k t piece earlier r waited goes undecided asks sends =
+    said_more slow k t piece earlier r goes undecided (rw (waited, asks) refl) (rw waited (sym sends))
 
 itself : (k : ℕ) → (k == k) ≡ true
 itself k = grind arith
 
 -- its time to end by itself is over
-said_killed : (t : OwnTurn) (u : UnitView) (piece : List OwnTurn) (earlier : List (List OwnTurn))
+said_killed : (t : OwnTurn) (u : UnitView) (piece : List OwnTurn) (earlier : List Attempt)
     → any_is ends_wait piece ≡ false → is_in_grace u.terms.slow piece ≡ true → begins_attempt t.turn ≡ false
-    → ends_time u.terms.slow t ≡ true → IsSaid u.terms.slow u.test.unit t (piece ∷ earlier) (killed u)
-said_killed t u piece earlier waited grace goes over = by_due (is_due_turn t.turn) refl
+    → decides t.turn ≡ false → ends_time u.terms.slow t ≡ true
+    → IsSaid u.terms.slow u.test.unit t (cut piece [] ∷ earlier) (killed u)
+said_killed t u piece earlier waited grace goes undecided over = by_due (is_due_turn t.turn) refl
   where
-    by_due : (d : Bool) → is_due_turn t.turn ≡ d → IsSaid u.terms.slow u.test.unit t (piece ∷ earlier) (killed u)
+    by_due : (d : Bool) → is_due_turn t.turn ≡ d → IsSaid u.terms.slow u.test.unit t (cut piece [] ∷ earlier) (killed u)
     by_due true e =
-        said_more u.terms.slow u.test.unit t piece earlier (killed u) goes
+        said_more u.terms.slow u.test.unit t piece earlier (killed u) goes undecided
         (rw (waited, grace, e, itself u.test.unit) refl) (rw (waited, grace, e) refl)
     by_due false e =
         let signal : is_some (signal_of u.terms.slow t.request) ≡ true = rw e at over in
-        said_more u.terms.slow u.test.unit t piece earlier (killed u) goes
+        said_more u.terms.slow u.test.unit t piece earlier (killed u) goes undecided
         (rw (waited, grace, e, signal, itself u.test.unit) refl) (rw (waited, e) refl)
 
 -- its child gets the signal of the request that it takes
@@ -129,13 +134,13 @@ sent_none now Quit u = refl
 sent_none now Kill u = refl
 
 -- so a request to end is what it says
-said_asked : (now : ℕ) (reason : ShutdownRequest) (u : UnitView) (piece : List OwnTurn) (earlier : List (List OwnTurn))
+said_asked : (now : ℕ) (reason : ShutdownRequest) (u : UnitView) (piece : List OwnTurn) (earlier : List Attempt)
     → any_is ends_wait piece ≡ false → is_in_grace u.terms.slow piece ≡ false
-    → IsSaid u.terms.slow u.test.unit (taken now Take (Some (Shutdown reason))) (piece ∷ earlier)
+    → IsSaid u.terms.slow u.test.unit (taken now Take (Some (Shutdown reason))) (cut piece [] ∷ earlier)
     (requested now Running (Shutdown reason) u)
 said_asked now reason u piece earlier waited grace =
     said_more u.terms.slow u.test.unit (taken now Take (Some (Shutdown reason))) piece earlier
-    (requested now Running (Shutdown reason) u) refl
+    (requested now Running (Shutdown reason) u) refl refl
     (rw (waited, grace) (sym (ap (signals_for u.test.unit) (asked_signal now signal u) ∙ rw (itself u.test.unit) refl)))
     (rw waited (sym (ap sends (sent_none now signal u))))
   where
@@ -146,11 +151,11 @@ said_asked now reason u piece earlier waited grace =
     sends message = reports_waiting u.test.unit (option_to_list message)
 
 -- it is slow
-said_slow : (now : ℕ) (u : UnitView) (piece : List OwnTurn) (earlier : List (List OwnTurn))
+said_slow : (now : ℕ) (u : UnitView) (piece : List OwnTurn) (earlier : List Attempt)
     → any_is ends_wait piece ≡ false → is_in_grace u.terms.slow piece ≡ false
     → has_timed_out u.terms.slow piece ≡ false
     → slow_count u.terms.slow piece ≡ u.timers.slow_count → u.attempt ≡ length earlier + 1
-    → IsSaid u.terms.slow u.test.unit (taken now Due None) (piece ∷ earlier)
+    → IsSaid u.terms.slow u.test.unit (taken now Due None) (cut piece [] ∷ earlier)
     (slow_row now (one_more u.timers.slow_count) u)
 said_slow now u piece earlier waited grace out counted at =
     by_out (is_out_of_time u.terms.slow n) (u.terms.slow.grace == 0) refl refl
@@ -162,113 +167,166 @@ said_slow now u piece earlier waited grace out counted at =
     count = count_slow u.terms.slow now piece waited grace out ∙ ap one_more counted
 
     by_out : (o g : Bool) → is_out_of_time u.terms.slow n ≡ o → (u.terms.slow.grace == 0) ≡ g
-        → IsSaid u.terms.slow u.test.unit (taken now Due None) (piece ∷ earlier)
+        → IsSaid u.terms.slow u.test.unit (taken now Due None) (cut piece [] ∷ earlier)
         (if o then (if g then out_of_time n u else in_grace now n u) else slow_again now n u)
     by_out true true e g =
-        said_more u.terms.slow u.test.unit (taken now Due None) piece earlier (out_of_time n u) refl
+        said_more u.terms.slow u.test.unit (taken now Due None) piece earlier (out_of_time n u) refl refl
         (rw (waited, grace, out, counted, e, g, itself u.test.unit) refl) (rw (waited, grace, out, g) refl)
     by_out true false e g =
-        said_more u.terms.slow u.test.unit (taken now Due None) piece earlier (in_grace now n u) refl
+        said_more u.terms.slow u.test.unit (taken now Due None) piece earlier (in_grace now n u) refl refl
         (rw (waited, grace, out, counted, e, g, itself u.test.unit) refl)
         (rw (waited, grace, out, count, e, g, itself u.test.unit, at) refl)
     by_out false true e g =
-        said_more u.terms.slow u.test.unit (taken now Due None) piece earlier (slow_again now n u) refl
+        said_more u.terms.slow u.test.unit (taken now Due None) piece earlier (slow_again now n u) refl refl
         (rw (waited, grace, out, counted, e) refl) (rw (waited, grace, out, g) refl)
     by_out false false e g =
-        said_more u.terms.slow u.test.unit (taken now Due None) piece earlier (slow_again now n u) refl
+        said_more u.terms.slow u.test.unit (taken now Due None) piece earlier (slow_again now n u) refl refl
         (rw (waited, grace, out, counted, e) refl)
         (rw (waited, grace, out, count, e, g, itself u.test.unit, at) refl)
 
--- a start is no signal
-start_said : (now : ℕ) (u : UnitView)
-    → IsSaid u.terms.slow u.test.unit (taken now (Answered true) None) [] (row_at now StartSent (Answered true) u)
+-- a start is no signal, and neither is one of a further attempt
+start_said : (now : ℕ) (u : UnitView) (ps : List Attempt)
+    → IsSaid u.terms.slow u.test.unit (taken now (Answered true) None) ps (begun_row now u)
 unfolding start_ask
-start_said now u = record { asks = refl; sends = refl }
+start_said now u ps = record {
+  asks = ap (map End) (append-nil (signals_by u.terms.slow ps)) ∙ sym (append-nil (map End (signals_by u.terms.slow ps)));
+  sends = refl;
+}
+
+-- a turn that adds nothing to a piece says nothing
+said_apart : (slow : SlowTimeout) (k : ℕ) (t : OwnTurn) (ps : List Attempt) (r : Row)
+    → signals_by slow (more t ps) ≡ signals_by slow ps → reports_by slow (more t ps) ≡ reports_by slow ps
+    → r.asked ≡ None → reports_waiting k (option_to_list r.sent) ≡ [] → IsSaid slow k t ps r
+said_apart slow k t ps r signals reports asks sends = record {
+  asks = ap (map End) signals ∙ sym (append-nil (map End (signals_by slow ps)))
+      ∙ ap (λ asked. map End (signals_by slow ps) ++ signals_for k asked) (sym asks);
+  sends = reports ∙ sym (append-nil (reports_by slow ps)) ∙ ap (λ s. reports_by slow ps ++ s) (sym sends);
+}
+
+-- it decides what comes after its attempt
+decide_said : (now word : ℕ) (u : UnitView) (piece : List OwnTurn) (earlier : List Attempt)
+    → IsSaid u.terms.slow u.test.unit (taken now (Decide word) None) (cut piece [] ∷ earlier) (decide_row now word u)
+decide_said now word u piece earlier = by_retry (has_retry u)
+  where
+    failed : (o : Option ExecuteStatus)
+        → reports_waiting u.test.unit (option_to_list (option_map (failed_message (next_delay word u) u) o)) ≡ []
+    failed None = refl
+    failed (Some status) = refl
+
+    by_retry : (b : Bool)
+        → IsSaid u.terms.slow u.test.unit (taken now (Decide word) None) (cut piece [] ∷ earlier)
+        (if b then delayed now (next_delay word u) u else decided u)
+    by_retry true = said_apart _ _ _ _ (delayed now (next_delay word u) u) refl refl refl (failed (last_status u.statuses))
+    by_retry false = said_apart _ _ _ _ (decided u) refl refl refl refl
+
+-- it takes the oldest request of its line while a delay passes
+take_said_delay : (now : ℕ) (line : List Request) (u : UnitView) (piece : List OwnTurn) (d : OwnTurn)
+    (after : List OwnTurn) (earlier : List Attempt)
+    → IsSaid u.terms.slow u.test.unit (taken now Take (oldest line)) (cut piece (d ∷ after) ∷ earlier)
+    (take_row now Delay line u)
+take_said_delay now (Shutdown reason ∷ line) u piece d after earlier = said_apart _ _ _ _ _ refl refl refl refl
+take_said_delay now (Stop round ∷ line) u piece d after earlier = said_apart _ _ _ _ _ refl refl refl refl
+take_said_delay now (Continue ∷ line) u piece d after earlier = said_apart _ _ _ _ _ refl refl refl refl
+take_said_delay now (OtherCancel ∷ line) u piece d after earlier = said_apart _ _ _ _ _ refl refl refl refl
+take_said_delay now (GetInfo round ∷ line) u piece d after earlier = said_apart _ _ _ _ _ refl refl refl refl
+take_said_delay now [] u piece d after earlier = said_apart _ _ _ _ _ refl refl refl refl
 
 -- it takes the oldest request of its line
-take_said_running : (now : ℕ) (line : List Request) (u : UnitView) (piece : List OwnTurn) (earlier : List (List OwnTurn))
+take_said_running : (now : ℕ) (line : List Request) (u : UnitView) (piece : List OwnTurn) (earlier : List Attempt)
     → any_is ends_wait piece ≡ false → is_in_grace u.terms.slow piece ≡ false
-    → IsSaid u.terms.slow u.test.unit (taken now Take (oldest line)) (piece ∷ earlier) (take_row now Running line u)
+    → IsSaid u.terms.slow u.test.unit (taken now Take (oldest line)) (cut piece [] ∷ earlier) (take_row now Running line u)
 take_said_running now (Shutdown reason ∷ line) u piece earlier waited grace =
     said_asked now reason (record u { line = line }) piece earlier waited grace
 take_said_running now (Stop round ∷ line) u piece earlier waited grace =
-    said_still _ _ _ piece earlier _ refl refl refl refl refl
+    said_still _ _ _ piece earlier _ refl refl refl refl refl refl
 take_said_running now (Continue ∷ line) u piece earlier waited grace =
-    said_still _ _ _ piece earlier _ refl refl refl refl refl
+    said_still _ _ _ piece earlier _ refl refl refl refl refl refl
 take_said_running now (OtherCancel ∷ line) u piece earlier waited grace =
-    said_still _ _ _ piece earlier _ refl refl refl refl refl
+    said_still _ _ _ piece earlier _ refl refl refl refl refl refl
 take_said_running now (GetInfo round ∷ line) u piece earlier waited grace =
-    said_still _ _ _ piece earlier _ refl refl refl refl refl
-take_said_running now [] u piece earlier waited grace = said_still _ _ _ piece earlier _ refl refl refl refl refl
+    said_still _ _ _ piece earlier _ refl refl refl refl refl refl
+take_said_running now [] u piece earlier waited grace = said_still _ _ _ piece earlier _ refl refl refl refl refl refl
 
-take_said_grace : (now : ℕ) (line : List Request) (u : UnitView) (piece : List OwnTurn) (earlier : List (List OwnTurn))
+take_said_grace : (now : ℕ) (line : List Request) (u : UnitView) (piece : List OwnTurn) (earlier : List Attempt)
     → any_is ends_wait piece ≡ false → is_in_grace u.terms.slow piece ≡ true
-    → IsSaid u.terms.slow u.test.unit (taken now Take (oldest line)) (piece ∷ earlier) (take_row now Grace line u)
+    → IsSaid u.terms.slow u.test.unit (taken now Take (oldest line)) (cut piece [] ∷ earlier) (take_row now Grace line u)
 take_said_grace now (Shutdown reason ∷ line) u piece earlier waited grace =
-    said_killed (taken now Take (Some (Shutdown reason))) (record u { line = line }) piece earlier waited grace refl refl
+    said_killed (taken now Take (Some (Shutdown reason))) (record u { line = line }) piece earlier waited grace refl refl refl
 take_said_grace now (Stop round ∷ line) u piece earlier waited grace =
-    said_still _ _ _ piece earlier _ refl refl refl refl refl
+    said_still _ _ _ piece earlier _ refl refl refl refl refl refl
 take_said_grace now (Continue ∷ line) u piece earlier waited grace =
-    said_still _ _ _ piece earlier _ refl refl refl refl refl
+    said_still _ _ _ piece earlier _ refl refl refl refl refl refl
 take_said_grace now (OtherCancel ∷ line) u piece earlier waited grace =
-    said_still _ _ _ piece earlier _ refl refl refl refl refl
+    said_still _ _ _ piece earlier _ refl refl refl refl refl refl
 take_said_grace now (GetInfo round ∷ line) u piece earlier waited grace =
-    said_still _ _ _ piece earlier _ refl refl refl refl refl
-take_said_grace now [] u piece earlier waited grace = said_still _ _ _ piece earlier _ refl refl refl refl refl
+    said_still _ _ _ piece earlier _ refl refl refl refl refl refl
+take_said_grace now [] u piece earlier waited grace = said_still _ _ _ piece earlier _ refl refl refl refl refl refl
 
-take_said_leak : (now : ℕ) (line : List Request) (u : UnitView) (piece : List OwnTurn) (earlier : List (List OwnTurn))
+take_said_leak : (now : ℕ) (line : List Request) (u : UnitView) (piece : List OwnTurn) (earlier : List Attempt)
     → any_is ends_wait piece ≡ true
-    → IsSaid u.terms.slow u.test.unit (taken now Take (oldest line)) (piece ∷ earlier) (take_row now Leak line u)
-take_said_leak now [] u piece earlier waited = said_after _ _ _ piece earlier _ waited refl refl refl
-take_said_leak now (request ∷ line) u piece earlier waited = said_after _ _ _ piece earlier _ waited refl refl refl
+    → IsSaid u.terms.slow u.test.unit (taken now Take (oldest line)) (cut piece [] ∷ earlier) (take_row now Leak line u)
+take_said_leak now [] u piece earlier waited = said_after _ _ _ piece earlier _ waited refl refl refl refl
+take_said_leak now (request ∷ line) u piece earlier waited = said_after _ _ _ piece earlier _ waited refl refl refl refl
 
 -- each row of a unit that takes its turn
-row_said : (now : ℕ) (ph : Phase) (turn : UnitTurn) (u : UnitView) (ps : List (List OwnTurn))
+row_said : (now : ℕ) (ph : Phase) (turn : UnitTurn) (u : UnitView) (ps : List Attempt)
     → takes_at now ph u turn ≡ true → u.attempt ≡ attempt_in ps → HasPieces u.terms ph u ps
     → IsSaid u.terms.slow u.test.unit (taken now turn (request_of turn u.line)) ps (row_at now ph turn u)
-row_said now StartSent (Answered true) u [] en a h = start_said now u
+row_said now StartSent (Answered true) u [] en a h = start_said now u []
 row_said now StartSent (Answered false) u [] en a h = record { asks = refl; sends = refl }
-row_said now Starting (Started pid) u (piece ∷ earlier) en a h = said_still _ _ _ piece earlier _ refl refl refl refl refl
-row_said now Starting (StartFailed error) u (piece ∷ earlier) en a h = said_still _ _ _ piece earlier _ refl refl refl refl refl
-row_said now Running Due u (piece ∷ earlier) en a (on, ss) =
+row_said now Starting (Started pid) u (cut piece [] ∷ earlier) en a h =
+    said_still _ _ _ piece earlier _ refl refl refl refl refl refl
+row_said now Starting (StartFailed error) u (cut piece [] ∷ earlier) en a h =
+    said_still _ _ _ piece earlier _ refl refl refl refl refl refl
+row_said now Running Due u (cut piece [] ∷ earlier) en a (on, ss) =
     said_slow now u piece earlier on.is_at.wait_over on.timer.stage.1
     (in_time u.terms u.timers now u.latest piece on.is_at.wait_over on.timer en) on.is_at.counted a
-row_said now Running Take u (piece ∷ earlier) en a (on, ss) =
+row_said now Running Take u (cut piece [] ∷ earlier) en a (on, ss) =
     take_said_running now u.line u piece earlier on.is_at.wait_over on.timer.stage.1
-row_said now Running (Exit exit) u (piece ∷ earlier) en a h = said_still _ _ _ piece earlier _ refl refl refl refl refl
-row_said now Running (WaitFailed error) u (piece ∷ earlier) en a h = said_still _ _ _ piece earlier _ refl refl refl refl refl
-row_said now Running (Piece stream bytes) u (piece ∷ earlier) en a h = said_still _ _ _ piece earlier _ refl refl refl refl refl
-row_said now Running (StreamEnd stream) u (piece ∷ earlier) en a h = said_still _ _ _ piece earlier _ refl refl refl refl refl
-row_said now Running (ReadError stream error) u (piece ∷ earlier) en a h =
-    said_still _ _ _ piece earlier _ refl refl refl refl refl
-row_said now Grace Due u (piece ∷ earlier) en a (on, ss) =
-    said_killed (taken now Due None) u piece earlier on.is_at.wait_over on.timer.stage.1 refl refl
-row_said now Grace Take u (piece ∷ earlier) en a (on, ss) =
+row_said now Running (Exit exit) u (cut piece [] ∷ earlier) en a h =
+    said_still _ _ _ piece earlier _ refl refl refl refl refl refl
+row_said now Running (WaitFailed error) u (cut piece [] ∷ earlier) en a h =
+    said_still _ _ _ piece earlier _ refl refl refl refl refl refl
+row_said now Running (Piece stream bytes) u (cut piece [] ∷ earlier) en a h =
+    said_still _ _ _ piece earlier _ refl refl refl refl refl refl
+row_said now Running (StreamEnd stream) u (cut piece [] ∷ earlier) en a h =
+    said_still _ _ _ piece earlier _ refl refl refl refl refl refl
+row_said now Running (ReadError stream error) u (cut piece [] ∷ earlier) en a h =
+    said_still _ _ _ piece earlier _ refl refl refl refl refl refl
+row_said now Grace Due u (cut piece [] ∷ earlier) en a (on, ss) =
+    said_killed (taken now Due None) u piece earlier on.is_at.wait_over on.timer.stage.1 refl refl refl
+row_said now Grace Take u (cut piece [] ∷ earlier) en a (on, ss) =
     take_said_grace now u.line u piece earlier on.is_at.wait_over on.timer.stage.1
-row_said now Grace (Exit exit) u (piece ∷ earlier) en a h = said_still _ _ _ piece earlier _ refl refl refl refl refl
-row_said now Grace (WaitFailed error) u (piece ∷ earlier) en a h = said_still _ _ _ piece earlier _ refl refl refl refl refl
-row_said now Grace (Piece stream bytes) u (piece ∷ earlier) en a h = said_still _ _ _ piece earlier _ refl refl refl refl refl
-row_said now Grace (StreamEnd stream) u (piece ∷ earlier) en a h = said_still _ _ _ piece earlier _ refl refl refl refl refl
-row_said now Grace (ReadError stream error) u (piece ∷ earlier) en a h =
-    said_still _ _ _ piece earlier _ refl refl refl refl refl
-row_said now KillWait (Exit exit) u (piece ∷ earlier) en a h = said_still _ _ _ piece earlier _ refl refl refl refl refl
-row_said now KillWait (WaitFailed error) u (piece ∷ earlier) en a h = said_still _ _ _ piece earlier _ refl refl refl refl refl
-row_said now Leak Due u (piece ∷ earlier) en a (on, ss) =
-    said_after _ _ _ piece earlier _ on.is_at.wait_over refl refl refl
-row_said now Leak Take u (piece ∷ earlier) en a (on, ss) = take_said_leak now u.line u piece earlier on.is_at.wait_over
-row_said now Leak (Piece stream bytes) u (piece ∷ earlier) en a h = said_still _ _ _ piece earlier _ refl refl refl refl refl
-row_said now Leak (StreamEnd stream) u (piece ∷ earlier) en a h = said_still _ _ _ piece earlier _ refl refl refl refl refl
-row_said now Leak (ReadError stream error) u (piece ∷ earlier) en a h =
-    said_still _ _ _ piece earlier _ refl refl refl refl refl
-row_said now Deciding (Decide word) u (piece ∷ earlier) en a h = said_still _ _ _ piece earlier _ refl refl refl refl refl
-row_said now StartSent turn u (piece ∷ ps) en a h = absurd h
-row_said now Starting turn u [] en a h = absurd h
-row_said now Running turn u [] en a h = absurd h
-row_said now Grace turn u [] en a h = absurd h
-row_said now KillWait turn u [] en a h = absurd h
-row_said now Leak turn u [] en a h = absurd h
-row_said now Deciding turn u [] en a h = absurd h
-row_said now ph turn u ps en a h = cc
+row_said now Grace (Exit exit) u (cut piece [] ∷ earlier) en a h = said_still _ _ _ piece earlier _ refl refl refl refl refl refl
+row_said now Grace (WaitFailed error) u (cut piece [] ∷ earlier) en a h =
+    said_still _ _ _ piece earlier _ refl refl refl refl refl refl
+row_said now Grace (Piece stream bytes) u (cut piece [] ∷ earlier) en a h =
+    said_still _ _ _ piece earlier _ refl refl refl refl refl refl
+row_said now Grace (StreamEnd stream) u (cut piece [] ∷ earlier) en a h =
+    said_still _ _ _ piece earlier _ refl refl refl refl refl refl
+row_said now Grace (ReadError stream error) u (cut piece [] ∷ earlier) en a h =
+    said_still _ _ _ piece earlier _ refl refl refl refl refl refl
+row_said now KillWait (Exit exit) u (cut piece [] ∷ earlier) en a h =
+    said_still _ _ _ piece earlier _ refl refl refl refl refl refl
+row_said now KillWait (WaitFailed error) u (cut piece [] ∷ earlier) en a h =
+    said_still _ _ _ piece earlier _ refl refl refl refl refl refl
+row_said now Leak Due u (cut piece [] ∷ earlier) en a (on, ss) =
+    said_after _ _ _ piece earlier _ on.is_at.wait_over refl refl refl refl
+row_said now Leak Take u (cut piece [] ∷ earlier) en a (on, ss) = take_said_leak now u.line u piece earlier on.is_at.wait_over
+row_said now Leak (Piece stream bytes) u (cut piece [] ∷ earlier) en a h =
+    said_still _ _ _ piece earlier _ refl refl refl refl refl refl
+row_said now Leak (StreamEnd stream) u (cut piece [] ∷ earlier) en a h =
+    said_still _ _ _ piece earlier _ refl refl refl refl refl refl
+row_said now Leak (ReadError stream error) u (cut piece [] ∷ earlier) en a h =
+    said_still _ _ _ piece earlier _ refl refl refl refl refl refl
+row_said now Deciding (Decide word) u (cut piece [] ∷ earlier) en a h = decide_said now word u piece earlier
+row_said now Delay Due u (cut piece (d ∷ after) ∷ earlier) en a h = said_apart _ _ _ _ (retried u) refl refl refl refl
+row_said now Delay Take u (cut piece (d ∷ after) ∷ earlier) en a h = take_said_delay now u.line u piece d after earlier
+row_said now RetrySent (Answered true) u (cut piece (d ∷ after) ∷ earlier) en a h =
+    start_said now (at_next u) (cut piece (d ∷ after) ∷ earlier)
+row_said now RetrySent (Answered false) u (cut piece (d ∷ after) ∷ earlier) en a h =
+    said_apart _ _ _ _ (quiet (left u)) refl refl refl refl
+row_said now ph turn u ps en a h = first_of (cc, grind arith)
 
 -- so what a unit's own turn asks and sends is what it says
 pub own_said : (terms : AttemptTerms) (now : ℕ) (turn : UnitTurn) (u : UnitView) (story : List OwnTurn)

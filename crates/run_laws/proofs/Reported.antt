@@ -47,8 +47,8 @@ pub record DoesReport (slow : SlowTimeout) (k now : ℕ) (run : List Happening) 
       ≡ reports_waiting k (queue run)
 
 -- a deed that is no turn of a unit
-pub still_reports : (slow : SlowTimeout) (k now : ℕ) (run : List Happening) (d : Deed) → own_turn k now d.part (line_of k run) ≡ None
-    → signals_for k d.asked ≡ [] → reports_waiting k (option_to_list d.sent) ≡ []
+pub still_reports : (slow : SlowTimeout) (k now : ℕ) (run : List Happening) (d : Deed)
+    → own_turn k now d.part (line_of k run) ≡ None → signals_for k d.asked ≡ [] → reports_waiting k (option_to_list d.sent) ≡ []
     → reports_told k (deed_events d) ++ reports_waiting k (drop (if d.taken then 1 else 0) (queue run))
     ≡ reports_waiting k (queue run)
     → DoesReport slow k now run d

@@ -10,20 +10,21 @@ use Rattle.run_events.specs.declared.request.TermSignal.TheVariants.{Interrupt, 
 use Rattle.run_events.specs.declared.request.TerminateReason.TheVariants.{Signal}
 use Rattle.run_events.specs.declared.result.ChildExit.{ChildExit}
 use Rattle.run_model.specs.declared.phase.Phase.{Phase}
-use Rattle.run_model.specs.declared.phase.Phase.TheVariants.{Running, Grace, Leak}
+use Rattle.run_model.specs.declared.phase.Phase.TheVariants.{Running, Grace, Leak, Delay}
 use Rattle.run_model.specs.declared.unit_turn.UnitTurn.TheVariants.{Take}
 use Rattle.run_model.specs.declared.unit_view.UnitView.{UnitView}
 use Rattle.run_model.specs.Terminate.{terminate_method}
 use Rattle.run_model.specs.Unit.{asked_to_end, requested, take_row}
-use Rattle.run_model.specs.Story.{OwnTurn, oldest}
+use Rattle.run_model.specs.Story.{OwnTurn, Attempt, cut, oldest}
 use Rattle.run_model.specs.Timing.{signal_of, gives_time}
+use Rattle.run_model.specs.Attempts.{start_of}
 use Rattle.run_laws.proofs.CaptureLemmas.{taken}
 use Rattle.run_laws.proofs.StandingLemmas.{is_heeded, unheeded, unheeded_after}
 use Rattle.run_laws.proofs.TimerLemmas.{timer_still, timer_asked}
 use Rattle.run_laws.proofs.PieceLemmas.{IsAt, quiet_said, at_more, ended_as, unended_has}
 use Rattle.run_laws.proofs.GoingLemmas.{IsGoing, going_more, going_lined}
-use Rattle.run_laws.proofs.MadeLemmas.{GoesOn, HasPieces, IsMade}
-use Rattle.run_laws.proofs.RowLemmas.{made_more, began}
+use Rattle.run_laws.proofs.MadeLemmas.{GoesOn, IsDelayed, HasPieces, IsMade}
+use Rattle.run_laws.proofs.RowLemmas.{made_more, began, retried_made, waiting_made}
 use Rattle.run_laws.proofs.DueLemmas.{killed_made}
 
 -- an attempt that goes on after it took a request
@@ -52,12 +53,12 @@ waits_on ph waited exit u piece on =
 
 -- a request that isn't heeded changes nothing of its attempt
 quiet_made : (ph : Phase) (waited : Bool) (exit : Option ChildExit) (now : ℕ) (request : Option Request) (u : UnitView)
-    (piece : List OwnTurn) (earlier : List (List OwnTurn))
+    (piece : List OwnTurn) (earlier : List Attempt)
     → (GoesOn u.terms ph waited exit u (taken now Take request ∷ piece) earlier
-    → HasPieces u.terms ph u ((taken now Take request ∷ piece) ∷ earlier))
+    → HasPieces u.terms ph u (cut (taken now Take request ∷ piece) [] ∷ earlier))
     → u.phase ≡ ph → u.attempt ≡ length earlier + 1 → GoesOn u.terms ph waited exit u piece earlier
     → is_heeded u.terms.slow (taken now Take request) piece ≡ false
-    → IsMade u.terms u ((taken now Take request ∷ piece) ∷ earlier)
+    → IsMade u.terms u (cut (taken now Take request ∷ piece) [] ∷ earlier)
 quiet_made ph waited exit now request u piece earlier into is a (on, ss) heeds =
     made_more u ph (taken now Take request) piece earlier is a
     (began u.terms u.timers.stopwatch.start waited exit false u.timers.slow_count u.capture
@@ -75,21 +76,21 @@ quiet_made ph waited exit now request u piece earlier into is a (on, ss) heeds =
 
 -- one that is none to end its child isn't heeded while that is waited for
 ignored_made : (ph : Phase) (now : ℕ) (request : Option Request) (u : UnitView) (piece : List OwnTurn)
-    (earlier : List (List OwnTurn))
+    (earlier : List Attempt)
     → (GoesOn u.terms ph false None u (taken now Take request ∷ piece) earlier
-    → HasPieces u.terms ph u ((taken now Take request ∷ piece) ∷ earlier))
+    → HasPieces u.terms ph u (cut (taken now Take request ∷ piece) [] ∷ earlier))
     → u.phase ≡ ph → u.attempt ≡ length earlier + 1 → GoesOn u.terms ph false None u piece earlier
     → signal_of u.terms.slow request ≡ None
-    → IsMade u.terms u ((taken now Take request ∷ piece) ∷ earlier)
+    → IsMade u.terms u (cut (taken now Take request ∷ piece) [] ∷ earlier)
 ignored_made ph now request u piece earlier into is a h none =
     quiet_made ph false None now request u piece earlier into is a h
     (unheeded u.terms.slow (taken now Take request) piece none)
 
 -- its child is asked to end, and given time for that
-asked_made : (now : ℕ) (reason : ShutdownRequest) (u : UnitView) (piece : List OwnTurn) (earlier : List (List OwnTurn))
+asked_made : (now : ℕ) (reason : ShutdownRequest) (u : UnitView) (piece : List OwnTurn) (earlier : List Attempt)
     → now ≤ u.latest → u.attempt ≡ length earlier + 1 → GoesOn u.terms Running false None u piece earlier
     → gives_time (Some (terminate_method (Signal reason) u.terms.slow.grace)) ≡ true
-    → IsMade u.terms (asked_to_end now Term u).next ((taken now Take (Some (Shutdown reason)) ∷ piece) ∷ earlier)
+    → IsMade u.terms (asked_to_end now Term u).next (cut (taken now Take (Some (Shutdown reason)) ∷ piece) [] ∷ earlier)
 asked_made now reason u piece earlier le a (on, ss) gives =
     made_more v Grace t piece earlier refl a
     (began u.terms u.timers.stopwatch.start false None false u.timers.slow_count u.capture (t ∷ piece) it) (
@@ -109,10 +110,10 @@ asked_made now reason u piece earlier le a (on, ss) gives =
     it = at_take Running false None now (Some (Shutdown reason)) u piece on
 
 -- it takes a request while its child runs
-requested_running : (now : ℕ) (request : Request) (u : UnitView) (piece : List OwnTurn) (earlier : List (List OwnTurn))
+requested_running : (now : ℕ) (request : Request) (u : UnitView) (piece : List OwnTurn) (earlier : List Attempt)
     → u.phase ≡ Running → now ≤ u.latest → u.attempt ≡ length earlier + 1
     → GoesOn u.terms Running false None u piece earlier
-    → IsMade u.terms (requested now Running request u).next ((taken now Take (Some request) ∷ piece) ∷ earlier)
+    → IsMade u.terms (requested now Running request u).next (cut (taken now Take (Some request) ∷ piece) [] ∷ earlier)
 requested_running now (Shutdown reason) u piece earlier ph le a (on, ss) =
     by_signal (terminate_method (Signal reason) u.terms.slow.grace) refl
   where
@@ -123,7 +124,7 @@ requested_running now (Shutdown reason) u piece earlier ph le a (on, ss) =
 
     by_signal : (signal : TermSignal) → terminate_method (Signal reason) u.terms.slow.grace ≡ signal
         → IsMade u.terms (asked_to_end now signal u).next
-        ((taken now Take (Some (Shutdown reason)) ∷ piece) ∷ earlier)
+        (cut (taken now Take (Some (Shutdown reason)) ∷ piece) [] ∷ earlier)
     by_signal Kill e =
         quiet_made Running false None now (Some (Shutdown reason)) u piece earlier (λ h. h) ph a (on, ss)
         (rw (on.is_at.wait_over, on.timer.stage.1, e) refl)
@@ -141,9 +142,9 @@ requested_running now (GetInfo round) u piece earlier ph le a h =
     ignored_made Running now (Some (GetInfo round)) u piece earlier (λ h. h) ph a h refl
 
 -- it takes one while its child is given time to end
-requested_grace : (now : ℕ) (request : Request) (u : UnitView) (piece : List OwnTurn) (earlier : List (List OwnTurn))
+requested_grace : (now : ℕ) (request : Request) (u : UnitView) (piece : List OwnTurn) (earlier : List Attempt)
     → u.phase ≡ Grace → u.attempt ≡ length earlier + 1 → GoesOn u.terms Grace false None u piece earlier
-    → IsMade u.terms (requested now Grace request u).next ((taken now Take (Some request) ∷ piece) ∷ earlier)
+    → IsMade u.terms (requested now Grace request u).next (cut (taken now Take (Some request) ∷ piece) [] ∷ earlier)
 requested_grace now (Shutdown reason) u piece earlier ph a (on, ss) =
     killed_made (taken now Take (Some (Shutdown reason))) u piece earlier a (on, ss) refl refl refl
     (at_take Grace false None now (Some (Shutdown reason)) u piece on)
@@ -157,19 +158,19 @@ requested_grace now (GetInfo round) u piece earlier ph a h =
     ignored_made Grace now (Some (GetInfo round)) u piece earlier (λ h. h) ph a h refl
 
 -- it takes the oldest of its line
-pub take_running : (now : ℕ) (line : List Request) (u : UnitView) (piece : List OwnTurn) (earlier : List (List OwnTurn))
+pub take_running : (now : ℕ) (line : List Request) (u : UnitView) (piece : List OwnTurn) (earlier : List Attempt)
     → u.phase ≡ Running → now ≤ u.latest → u.attempt ≡ length earlier + 1
     → GoesOn u.terms Running false None u piece earlier
-    → IsMade u.terms (take_row now Running line u).next ((taken now Take (oldest line) ∷ piece) ∷ earlier)
+    → IsMade u.terms (take_row now Running line u).next (cut (taken now Take (oldest line) ∷ piece) [] ∷ earlier)
 take_running now [] u piece earlier ph le a h =
     ignored_made Running now None u piece earlier (λ h. h) ph a h refl
 take_running now (request ∷ line) u piece earlier ph le a (on, ss) =
     requested_running now request (record u { line = line }) piece earlier ph le a
     (going_lined u.terms Running false None line u piece on, ss)
 
-pub take_grace : (now : ℕ) (line : List Request) (u : UnitView) (piece : List OwnTurn) (earlier : List (List OwnTurn))
+pub take_grace : (now : ℕ) (line : List Request) (u : UnitView) (piece : List OwnTurn) (earlier : List Attempt)
     → u.phase ≡ Grace → u.attempt ≡ length earlier + 1 → GoesOn u.terms Grace false None u piece earlier
-    → IsMade u.terms (take_row now Grace line u).next ((taken now Take (oldest line) ∷ piece) ∷ earlier)
+    → IsMade u.terms (take_row now Grace line u).next (cut (taken now Take (oldest line) ∷ piece) [] ∷ earlier)
 take_grace now [] u piece earlier ph a h =
     ignored_made Grace now None u piece earlier (λ h. h) ph a h refl
 take_grace now (request ∷ line) u piece earlier ph a (on, ss) =
@@ -177,9 +178,9 @@ take_grace now (request ∷ line) u piece earlier ph a (on, ss) =
     (going_lined u.terms Grace false None line u piece on, ss)
 
 -- and while its streams are waited for
-pub take_leak : (now : ℕ) (line : List Request) (u : UnitView) (piece : List OwnTurn) (earlier : List (List OwnTurn))
+pub take_leak : (now : ℕ) (line : List Request) (u : UnitView) (piece : List OwnTurn) (earlier : List Attempt)
     → u.phase ≡ Leak → u.attempt ≡ length earlier + 1 → GoesOn u.terms Leak true u.exit u piece earlier
-    → IsMade u.terms (take_row now Leak line u).next ((taken now Take (oldest line) ∷ piece) ∷ earlier)
+    → IsMade u.terms (take_row now Leak line u).next (cut (taken now Take (oldest line) ∷ piece) [] ∷ earlier)
 take_leak now [] u piece earlier ph a (on, ss) =
     quiet_made Leak true u.exit now None u piece earlier (λ h. h) ph a (on, ss)
     (unheeded_after u.terms.slow (taken now Take None) piece on.is_at.wait_over)
@@ -187,3 +188,30 @@ take_leak now (request ∷ line) u piece earlier ph a (on, ss) =
     quiet_made Leak true u.exit now (Some request) (record u { line = line }) piece earlier (λ h. h) ph a
     (going_lined u.terms Leak true u.exit line u piece on, ss)
     (unheeded_after u.terms.slow (taken now Take (Some request)) piece on.is_at.wait_over)
+
+-- it takes a request while a delay passes: one that cancels the run ends that
+requested_delay : (now : ℕ) (request : Request) (u : UnitView) (piece : List OwnTurn) (d : OwnTurn)
+    (after : List OwnTurn) (earlier : List Attempt)
+    → u.phase ≡ Delay → u.attempt ≡ length earlier + 1 → u.timers.stopwatch.start ≡ start_of piece
+    → IsDelayed u.terms u piece (d ∷ after) earlier
+    → IsMade u.terms (requested now Delay request u).next (cut piece (taken now Take (Some request) ∷ d ∷ after) ∷ earlier)
+requested_delay now (Shutdown reason) u piece d after earlier ph a start h =
+    retried_made (taken now Take (Some (Shutdown reason))) u piece d after earlier a start h refl refl
+requested_delay now OtherCancel u piece d after earlier ph a start h =
+    retried_made (taken now Take (Some OtherCancel)) u piece d after earlier a start h refl refl
+requested_delay now (Stop round) u piece d after earlier ph a start h =
+    waiting_made (taken now Take (Some (Stop round))) u piece d after earlier ph a start h refl refl refl
+requested_delay now Continue u piece d after earlier ph a start h =
+    waiting_made (taken now Take (Some Continue)) u piece d after earlier ph a start h refl refl refl
+requested_delay now (GetInfo round) u piece d after earlier ph a start h =
+    waiting_made (taken now Take (Some (GetInfo round))) u piece d after earlier ph a start h refl refl refl
+
+pub take_delay : (now : ℕ) (line : List Request) (u : UnitView) (piece : List OwnTurn) (d : OwnTurn)
+    (after : List OwnTurn) (earlier : List Attempt)
+    → u.phase ≡ Delay → u.attempt ≡ length earlier + 1 → u.timers.stopwatch.start ≡ start_of piece
+    → IsDelayed u.terms u piece (d ∷ after) earlier
+    → IsMade u.terms (take_row now Delay line u).next (cut piece (taken now Take (oldest line) ∷ d ∷ after) ∷ earlier)
+take_delay now [] u piece d after earlier ph a start h =
+    waiting_made (taken now Take None) u piece d after earlier ph a start h refl refl refl
+take_delay now (request ∷ line) u piece d after earlier ph a start h =
+    requested_delay now request (record u { line = line }) piece d after earlier ph a start h

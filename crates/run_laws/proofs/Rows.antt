@@ -1,6 +1,6 @@
 -- What a row of the unit table does to a unit, apart from its attempt.
 use Rattle.std.proofs.Common.{◌≡◌, ◌⊎◌, inl, inr, ℕ, ◌==◌, List, [], ◌∷◌, ◌++◌, Bool, true, false, if◌then◌else◌}
-use Rattle.std.proofs.Common.{Option, Some, None, refl, ap, sym, subst}
+use Rattle.std.proofs.Common.{Option, Some, None, option_map, refl, ap, sym, subst, ◌∙◌}
 use Rattle.std.specs.Prelude.{⊤}
 use Rattle.run_capture.specs.Captured.{Captured, is_done, with_wait_error}
 use Rattle.run_events.specs.declared.result.ChildExit.{ChildExit}
@@ -8,7 +8,7 @@ use Rattle.run_events.specs.declared.result.ExecuteStatus.{ExecuteStatus}
 use Rattle.run_events.specs.declared.ask.Ask.{Ask}
 use Rattle.run_events.specs.declared.ask.Ask.TheVariants.{Signal}
 use Rattle.run_events.specs.declared.request.Request.{Request}
-use Rattle.run_events.specs.declared.request.Request.TheVariants.{Shutdown}
+use Rattle.run_events.specs.declared.request.Request.TheVariants.{Shutdown, OtherCancel}
 use Rattle.run_events.specs.declared.request.TermSignal.{TermSignal}
 use Rattle.run_events.specs.declared.request.TermSignal.TheVariants.{Kill}
 use Rattle.run_events.specs.declared.request.TerminateReason.TheVariants.{Signal as Signalled}
@@ -17,7 +17,7 @@ use Rattle.run_events.specs.declared.message.Message.{Message}
 use Rattle.run_events.specs.declared.message.Message.TheVariants.{Slow}
 use Rattle.run_model.specs.declared.phase.Phase.{Phase}
 use Rattle.run_model.specs.declared.phase.Phase.TheVariants.{StartSent, Starting, Running, Grace, KillWait, Leak}
-use Rattle.run_model.specs.declared.phase.Phase.TheVariants.{Deciding, Over}
+use Rattle.run_model.specs.declared.phase.Phase.TheVariants.{Deciding, Delay, RetrySent, Over}
 use Rattle.run_model.specs.declared.unit_turn.UnitTurn.{UnitTurn}
 use Rattle.run_model.specs.declared.unit_turn.UnitTurn.TheVariants.{Answered, Started, StartFailed, Exit, WaitFailed}
 use Rattle.run_model.specs.declared.unit_turn.UnitTurn.TheVariants.{Due, Take, Decide}
@@ -25,8 +25,10 @@ use Rattle.run_model.specs.declared.unit_view.UnitView.{UnitView}
 use Rattle.run_model.specs.Environment.{attempts, start_ask}
 use Rattle.run_model.specs.Terminate.{terminate_method}
 use Rattle.run_model.specs.Slow.{one_more, is_out_of_time, slow_time}
-use Rattle.run_model.specs.Unit.{Row, at_moment, row_at, takes_at, settled, exited, leaking, having_heard, heard_with, running_row}
-use Rattle.run_model.specs.Unit.{asked_to_end, requested, take_row, waited_row, slow_message, slow_row, slow_again, in_grace, out_of_time, quiet}
+use Rattle.run_model.specs.Unit.{Row, at_moment, row_at, takes_at, settled, exited, leaking, having_heard, heard_with}
+use Rattle.run_model.specs.Unit.{running_row, asked_to_end, requested, take_row, waited_row, slow_message, slow_row}
+use Rattle.run_model.specs.Unit.{slow_again, in_grace, out_of_time, quiet, has_retry, next_delay, failed_message, delayed}
+use Rattle.run_model.specs.Unit.{decided, decide_row, retry_message, retried, at_next, last_status}
 use Rattle.run_model.specs.Admission.{is_last}
 
 -- whether an attempt goes on in a phase
@@ -38,14 +40,15 @@ is_open KillWait = true
 is_open Leak = true
 is_open _ = false
 
--- a unit keeps its name, its slot and the moment of its latest turn
+-- a unit keeps its name, its slot, its terms and the moment of its latest turn
 pub record Keeps (u v : UnitView) : Type 0 where
   pub test : v.test ≡ u.test
   pub slot : v.slot ≡ u.slot
+  pub terms : v.terms ≡ u.terms
   pub latest : v.latest ≡ u.latest
 
 same : (u : UnitView) → Keeps u u
-same u = record { test = refl; slot = refl; latest = refl }
+same u = record { test = refl; slot = refl; terms = refl; latest = refl }
 
 -- a message that reports that a unit is slow, or none
 abbrev pub IsReport : Option Message → Type 0
@@ -56,11 +59,13 @@ IsReport _ = ⊥
 -- what a row leaves of an attempt: it goes on, or ends
 pub record GoesOn (u : UnitView) (r : Row) : Type 0 where
   pub phase : is_open r.next.phase ≡ true
+  pub attempt : r.next.attempt ≡ u.attempt
   pub statuses : r.next.statuses ≡ u.statuses
   pub sent : IsReport r.sent
 
 pub record Ends (u : UnitView) (r : Row) : Type 0 where
   pub phase : r.next.phase ≡ Deciding
+  pub attempt : r.next.attempt ≡ u.attempt
   pub status : ExecuteStatus
   pub statuses : r.next.statuses ≡ u.statuses ++ status ∷ []
   pub sent : r.sent ≡ None
@@ -88,8 +93,8 @@ record IsOwn (u : UnitView) (r : Row) : Type 0 where
 ends : (now : ℕ) (exit : Option ChildExit) (leaked : Bool) (c : Captured) (u : UnitView)
     → IsOwn u (quiet (exited now exit leaked c u))
 ends now exit leaked c u = record {
-  keeps = record { test = refl; slot = refl; latest = refl };
-  moves = inr (record { phase = refl; status = _; statuses = refl; sent = refl });
+  keeps = record { test = refl; slot = refl; terms = refl; latest = refl };
+  moves = inr (record { phase = refl; attempt = refl; status = _; statuses = refl; sent = refl });
   asks = tt;
   reports = tt;
 }
@@ -100,8 +105,8 @@ settles now exit c u = by_done (is_done c)
     by_done : (b : Bool) → IsOwn u (quiet (if b then exited now exit false c u else leaking now exit c u))
     by_done true = ends now exit false c u
     by_done false = record {
-      keeps = record { test = refl; slot = refl; latest = refl };
-      moves = inl (record { phase = refl; statuses = refl; sent = tt });
+      keeps = record { test = refl; slot = refl; terms = refl; latest = refl };
+      moves = inl (record { phase = refl; attempt = refl; statuses = refl; sent = tt });
       asks = tt;
       reports = tt;
     }
@@ -112,8 +117,8 @@ hears now c u on = by_done (is_done c)
     by_done : (b : Bool) → IsOwn u (quiet (if b then exited now u.exit false c u else record u { capture = c }))
     by_done true = ends now u.exit false c u
     by_done false = record {
-      keeps = record { test = refl; slot = refl; latest = refl };
-      moves = inl (record { phase = on; statuses = refl; sent = tt });
+      keeps = record { test = refl; slot = refl; terms = refl; latest = refl };
+      moves = inl (record { phase = on; attempt = refl; statuses = refl; sent = tt });
       asks = tt;
       reports = tt;
     }
@@ -145,20 +150,20 @@ slows now n u on = by_time (is_out_of_time u.terms.slow n) (u.terms.slow.grace =
     by_time : (out none : Bool)
         → IsOwn u (if out then (if none then out_of_time n u else in_grace now n u) else slow_again now n u)
     by_time false none = record {
-      keeps = record { test = refl; slot = refl; latest = refl };
-      moves = inl (record { phase = on; statuses = refl; sent = reports n u });
+      keeps = record { test = refl; slot = refl; terms = refl; latest = refl };
+      moves = inl (record { phase = on; attempt = refl; statuses = refl; sent = reports n u });
       asks = tt;
       reports = own_report n u;
     }
     by_time true true = record {
-      keeps = record { test = refl; slot = refl; latest = refl };
-      moves = inl (record { phase = refl; statuses = refl; sent = reports n u });
+      keeps = record { test = refl; slot = refl; terms = refl; latest = refl };
+      moves = inl (record { phase = refl; attempt = refl; statuses = refl; sent = reports n u });
       asks = refl;
       reports = own_report n u;
     }
     by_time true false = record {
-      keeps = record { test = refl; slot = refl; latest = refl };
-      moves = inl (record { phase = refl; statuses = refl; sent = reports n u });
+      keeps = record { test = refl; slot = refl; terms = refl; latest = refl };
+      moves = inl (record { phase = refl; attempt = refl; statuses = refl; sent = reports n u });
       asks = refl;
       reports = own_report n u;
     }
@@ -167,8 +172,8 @@ runs : (now : ℕ) (turn : UnitTurn) (u : UnitView) → is_open u.phase ≡ true
 runs now (Exit exit) u on = settles now (Some exit) u.capture u
 runs now (WaitFailed error) u on = settles now None (with_wait_error u.capture error) u
 runs now turn u on = record {
-  keeps = record { test = refl; slot = refl; latest = refl };
-  moves = inl (record { phase = on; statuses = refl; sent = tt });
+  keeps = record { test = refl; slot = refl; terms = refl; latest = refl };
+  moves = inl (record { phase = on; attempt = refl; statuses = refl; sent = tt });
   asks = tt;
   reports = tt;
 }
@@ -179,103 +184,180 @@ waits now turn u on = hears now (having_heard u.capture turn) u on
 
 -- it takes a request
 ends_by : (now : ℕ) (signal : TermSignal) (u v : UnitView) → Keeps u v → v.test ≡ u.test → is_open v.phase ≡ true
-    → v.statuses ≡ u.statuses → IsOwn u (asked_to_end now signal v)
-ends_by now Kill u v keeps same on ss = record {
+    → v.attempt ≡ u.attempt → v.statuses ≡ u.statuses → IsOwn u (asked_to_end now signal v)
+ends_by now Kill u v keeps same on at ss = record {
   keeps = keeps;
-  moves = inl (record { phase = on; statuses = ss; sent = tt });
+  moves = inl (record { phase = on; attempt = at; statuses = ss; sent = tt });
   asks = ap (λ t. t.unit) same;
   reports = tt;
 }
-ends_by now signal u v keeps same on ss = record {
-  keeps = record { test = keeps.test; slot = keeps.slot; latest = keeps.latest };
-  moves = inl (record { phase = refl; statuses = ss; sent = tt });
+ends_by now signal u v keeps same on at ss = record {
+  keeps = record { test = keeps.test; slot = keeps.slot; terms = keeps.terms; latest = keeps.latest };
+  moves = inl (record { phase = refl; attempt = at; statuses = ss; sent = tt });
   asks = ap (λ t. t.unit) same;
   reports = tt;
 }
 
-requests : (now : ℕ) (ph : Phase) (u : UnitView) → is_open u.phase ≡ true → IsOwn u (take_row now ph u.line u)
-requests now ph u on = by_line u.line
+requests : (now : ℕ) (ph : Phase) (u : UnitView) → is_open u.phase ≡ true → is_open ph ≡ true
+    → IsOwn u (take_row now ph u.line u)
+requests now ph u on ph_on = by_line u.line
   where
     still : (line : List Request) → IsOwn u (quiet (record u { line = line }))
     still line = record {
-      keeps = record { test = refl; slot = refl; latest = refl };
-      moves = inl (record { phase = on; statuses = refl; sent = tt });
+      keeps = record { test = refl; slot = refl; terms = refl; latest = refl };
+      moves = inl (record { phase = on; attempt = refl; statuses = refl; sent = tt });
       asks = tt;
       reports = tt;
     }
 
-    by_request : (ph : Phase) (request : Request) (line : List Request)
+    by_request : (ph : Phase) (request : Request) (line : List Request) → is_open ph ≡ true
         → IsOwn u (requested now ph request (record u { line = line }))
-    by_request Running (Shutdown request) line =
+    by_request Running (Shutdown request) line ph_on =
         ends_by now (terminate_method (Signalled request) u.terms.slow.grace) u (record u { line = line })
-        (record { test = refl; slot = refl; latest = refl }) refl on refl
-    by_request Grace (Shutdown request) line = record {
-      keeps = record { test = refl; slot = refl; latest = refl };
-      moves = inl (record { phase = refl; statuses = refl; sent = tt });
+        (record { test = refl; slot = refl; terms = refl; latest = refl }) refl on refl refl
+    by_request Grace (Shutdown request) line ph_on = record {
+      keeps = record { test = refl; slot = refl; terms = refl; latest = refl };
+      moves = inl (record { phase = refl; attempt = refl; statuses = refl; sent = tt });
       asks = refl;
       reports = tt;
     }
-    by_request ph request line = still line
+    by_request Delay request line ph_on = cc
+    by_request ph request line ph_on = still line
 
     by_line : (line : List Request) → IsOwn u (take_row now ph line u)
     by_line [] = still u.line
-    by_line (request ∷ line) = by_request ph request line
+    by_line (request ∷ line) = by_request ph request line ph_on
 
 -- each row of an attempt that goes on
 own : (now : ℕ) (ph : Phase) (turn : UnitTurn) (u : UnitView) → u.phase ≡ ph → is_open ph ≡ true
     → IsOwn u (row_at now ph turn u)
 own now Starting (Started pid) u is on = record {
-  keeps = record { test = refl; slot = refl; latest = refl };
-  moves = inl (record { phase = refl; statuses = refl; sent = tt });
+  keeps = record { test = refl; slot = refl; terms = refl; latest = refl };
+  moves = inl (record { phase = refl; attempt = refl; statuses = refl; sent = tt });
   asks = tt;
   reports = tt;
 }
 own now Starting (StartFailed error) u is on = record {
-  keeps = record { test = refl; slot = refl; latest = refl };
-  moves = inr (record { phase = refl; status = _; statuses = refl; sent = refl });
+  keeps = record { test = refl; slot = refl; terms = refl; latest = refl };
+  moves = inr (record { phase = refl; attempt = refl; status = _; statuses = refl; sent = refl });
   asks = tt;
   reports = tt;
 }
 own now Starting turn u is on = record {
   keeps = same u;
-  moves = inl (record { phase = ap is_open is; statuses = refl; sent = tt });
+  moves = inl (record { phase = ap is_open is; attempt = refl; statuses = refl; sent = tt });
   asks = tt;
   reports = tt;
 }
 own now Running Due u is on = slows now (one_more u.timers.slow_count) u (ap is_open is)
-own now Running Take u is on = requests now Running u (ap is_open is)
+own now Running Take u is on = requests now Running u (ap is_open is) refl
 own now Running turn u is on = runs now turn u (ap is_open is)
 own now Grace Due u is on = record {
-  keeps = record { test = refl; slot = refl; latest = refl };
-  moves = inl (record { phase = refl; statuses = refl; sent = tt });
+  keeps = record { test = refl; slot = refl; terms = refl; latest = refl };
+  moves = inl (record { phase = refl; attempt = refl; statuses = refl; sent = tt });
   asks = refl;
   reports = tt;
 }
-own now Grace Take u is on = requests now Grace u (ap is_open is)
+own now Grace Take u is on = requests now Grace u (ap is_open is) refl
 own now Grace turn u is on = runs now turn u (ap is_open is)
 own now KillWait turn u is on = runs now turn u (ap is_open is)
-own now Leak Take u is on = requests now Leak u (ap is_open is)
+own now Leak Take u is on = requests now Leak u (ap is_open is) refl
 own now Leak turn u is on = waits now turn u (ap is_open is)
 own now ph turn u is on = cc
 
--- a row leaves a unit its name, its slot and the moment of its latest turn
+-- a delay goes on, or is over: its unit is to be let go for its next attempt
+abbrev pub StaysOrGoes : UnitView → Row → Type 0
+StaysOrGoes u r =
+    ((r.next.phase ≡ Delay) × (r.sent ≡ None)) ⊎ ((r.next.phase ≡ RetrySent) × (r.sent ≡ Some (retry_message u)))
+
+pub record Passes (u : UnitView) (r : Row) : Type 0 where
+  pub keeps : Keeps u r.next
+  pub attempt : r.next.attempt ≡ u.attempt
+  pub statuses : r.next.statuses ≡ u.statuses
+  pub asked : r.asked ≡ None
+  pub way : StaysOrGoes u r
+
+-- each row of a delay
+pub row_passes : (now : ℕ) (turn : UnitTurn) (u : UnitView) → u.phase ≡ Delay → Passes u (row_at now Delay turn u)
+row_passes now Due u is = record {
+  keeps = record { test = refl; slot = refl; terms = refl; latest = refl };
+  attempt = refl;
+  statuses = refl;
+  asked = refl;
+  way = inr (refl, refl);
+}
+row_passes now Take u is = by_line u.line
+  where
+    still : (line : List Request) → Passes u (quiet (record u { line = line }))
+    still line = record {
+      keeps = record { test = refl; slot = refl; terms = refl; latest = refl };
+      attempt = refl;
+      statuses = refl;
+      asked = refl;
+      way = inl (is, refl);
+    }
+
+    over : (request : Request) (line : List Request) → requested now Delay request (record u { line = line })
+        ≡ retried (record u { line = line }) → Passes u (requested now Delay request (record u { line = line }))
+    over request line e = rw e (record {
+      keeps = record { test = refl; slot = refl; terms = refl; latest = refl };
+      attempt = refl;
+      statuses = refl;
+      asked = refl;
+      way = inr (refl, refl);
+    })
+
+    by_request : (request : Request) (line : List Request)
+        → Passes u (requested now Delay request (record u { line = line }))
+    by_request (Shutdown request) line = over (Shutdown request) line refl
+    by_request OtherCancel line = over OtherCancel line refl
+    by_request request line = still line
+
+    by_line : (line : List Request) → Passes u (take_row now Delay line u)
+    by_line [] = still u.line
+    by_line (request ∷ line) = by_request request line
+row_passes now turn u is = record {
+  keeps = same u;
+  attempt = refl;
+  statuses = refl;
+  asked = refl;
+  way = inl (is, refl);
+}
+
+-- a unit that decides is tried again, or is done
+pub decide_cases : (P : Row → Type 0) (now word : ℕ) (u : UnitView)
+    → (has_retry u ≡ true → P (delayed now (next_delay word u) u)) → (has_retry u ≡ false → P (decided u))
+    → P (decide_row now word u)
+decide_cases P now word u again done = by_retry (has_retry u) refl
+  where
+    by_retry : (b : Bool) → has_retry u ≡ b → P (if b then delayed now (next_delay word u) u else decided u)
+    by_retry true e = again e
+    by_retry false e = done e
+
+-- a row leaves a unit its name, its slot, its terms and the moment of its latest turn
 pub row_keeps : (now : ℕ) (ph : Phase) (turn : UnitTurn) (u : UnitView) → u.phase ≡ ph
     → Keeps u (row_at now ph turn u).next
 row_keeps now ph turn u is = by_open ph turn is (is_open ph) refl
   where
-    closed : (ph : Phase) (turn : UnitTurn) → is_open ph ≡ false → Keeps u (row_at now ph turn u).next
-    closed StartSent (Answered true) e = record { test = refl; slot = refl; latest = refl }
-    closed StartSent (Answered false) e = record { test = refl; slot = refl; latest = refl }
-    closed StartSent turn e = same u
-    closed Deciding (Decide word) e = record { test = refl; slot = refl; latest = refl }
-    closed Deciding turn e = same u
-    closed Over turn e = same u
-    closed ph turn e = cc
+    closed : (ph : Phase) (turn : UnitTurn) → u.phase ≡ ph → is_open ph ≡ false → Keeps u (row_at now ph turn u).next
+    closed Delay turn is e = (row_passes now turn u is).keeps
+    closed StartSent (Answered true) is e = record { test = refl; slot = refl; terms = refl; latest = refl }
+    closed StartSent (Answered false) is e = record { test = refl; slot = refl; terms = refl; latest = refl }
+    closed StartSent turn is e = same u
+    closed Deciding (Decide word) is e = decide_cases (λ r. Keeps u r.next) now word u
+        (λ _. record { test = refl; slot = refl; terms = refl; latest = refl })
+        (λ _. record { test = refl; slot = refl; terms = refl; latest = refl })
+    closed Deciding turn is e = same u
+    closed RetrySent (Answered true) is e = record { test = refl; slot = refl; terms = refl; latest = refl }
+    closed RetrySent (Answered false) is e = record { test = refl; slot = refl; terms = refl; latest = refl }
+    closed RetrySent turn is e = same u
+    closed Over turn is e = same u
+    closed ph turn is e = cc
 
     by_open : (ph : Phase) (turn : UnitTurn) → u.phase ≡ ph → (b : Bool) → is_open ph ≡ b
         → Keeps u (row_at now ph turn u).next
     by_open ph turn is true e = (own now ph turn u is e).keeps
-    by_open ph turn is false e = closed ph turn e
+    by_open ph turn is false e = closed ph turn is e
 
 -- a row of an attempt that goes on leaves it so, or ends it, and sends nothing but a slow report
 pub row_moves : (now : ℕ) (ph : Phase) (turn : UnitTurn) (u : UnitView) → u.phase ≡ ph → is_open ph ≡ true
@@ -295,16 +377,22 @@ pub continues : (u : UnitView) (r : Row) → Moves u r → Continues r
 continues u r (inl on) = record { phase = open_on r.next.phase on.phase; sent = on.sent }
 continues u r (inr end) = record { phase = ap is_last end.phase; sent = subst IsReport (sym end.sent) tt }
 
--- a unit that takes a turn waits for an answer and gets it, has an attempt that goes on, or decides
+-- a unit that takes a turn waits for an answer and gets it, at first or once more, has an attempt that goes on, decides, or
+-- is in a delay
 pub data Takes (ph : Phase) (turn : UnitTurn) : Type 0 where
   answers : (go : Bool) → ph ≡ StartSent → turn ≡ Answered go → Takes ph turn
   opens : is_open ph ≡ true → Takes ph turn
   decides : (word : ℕ) → ph ≡ Deciding → turn ≡ Decide word → Takes ph turn
+  passes : ph ≡ Delay → (turn ≡ Due) ⊎ (turn ≡ Take) → Takes ph turn
+  again : (go : Bool) → ph ≡ RetrySent → turn ≡ Answered go → Takes ph turn
 
 pub row_takes : (now : ℕ) (ph : Phase) (turn : UnitTurn) (u : UnitView) → takes_at now ph u turn ≡ true
     → Takes ph turn
 row_takes now StartSent (Answered go) u en = answers go refl refl
 row_takes now Deciding (Decide word) u en = decides word refl refl
+row_takes now Delay Due u en = passes refl (inl refl)
+row_takes now Delay Take u en = passes refl (inr refl)
+row_takes now RetrySent (Answered go) u en = again go refl refl
 row_takes now Starting turn u en = opens refl
 row_takes now Running turn u en = opens refl
 row_takes now Grace turn u en = opens refl
@@ -322,12 +410,27 @@ takes_moment now Grace u turn en = en
 takes_moment now KillWait u turn en = en
 takes_moment now Leak u turn en = en
 takes_moment now Deciding u turn en = en
+takes_moment now Delay u turn en = en
+takes_moment now RetrySent u turn en = en
 takes_moment now Over u turn en = en
 
 -- a start is no signal
 asks_start : (u : UnitView) → IsForOwn u.test.unit (Some (start_ask u))
 unfolding start_ask
 asks_start u = tt
+
+-- nor is the failure of an attempt, or its retry, a slow report
+failed_own : (delay : ℕ) (u : UnitView) (status : Option ExecuteStatus)
+    → IsReportOf u.test.unit (option_map (failed_message delay u) status)
+failed_own delay u None = tt
+failed_own delay u (Some status) = tt
+
+passing_own : (u : UnitView) (r : Row) → Passes u r → IsForOwn u.test.unit r.asked × IsReportOf u.test.unit r.sent
+passing_own u r it = rw it.asked (tt, by_way it.way)
+  where
+    by_way : StaysOrGoes u r → IsReportOf u.test.unit r.sent
+    by_way (inl stays) = rw stays.1 tt
+    by_way (inr goes) = rw goes.1 tt
 
 -- what a row asks and reports is of the unit itself
 pub row_asks_own : (now : ℕ) (ph : Phase) (turn : UnitTurn) (u : UnitView) → u.phase ≡ ph
@@ -340,4 +443,9 @@ row_asks_own now ph turn u is en = by_take (row_takes now ph turn u en)
     by_take (answers true at to) = rw (at, to) (asks_start u, tt)
     by_take (answers false at to) = rw (at, to) (tt, tt)
     by_take (opens on) = let it = own now ph turn u is on in (it.asks, it.reports)
-    by_take (decides word at to) = rw (at, to) (tt, tt)
+    by_take (decides word at to) =
+        rw (at, to) (decide_cases (λ r. IsForOwn u.test.unit r.asked × IsReportOf u.test.unit r.sent) now word u
+        (λ _. (tt, failed_own (next_delay word u) u (last_status u.statuses))) (λ _. (tt, tt)))
+    by_take (passes at to) = rw at (passing_own u (row_at now Delay turn u) (row_passes now turn u (is ∙ at)))
+    by_take (again true at to) = rw (at, to) (asks_start (at_next u), tt)
+    by_take (again false at to) = rw (at, to) (tt, tt)

@@ -1,13 +1,15 @@
 -- How many tests run, after one more event.
-use Rattle.std.proofs.Common.{◌≡◌, ◌≢◌, ℕ, zero, suc, ◌+◌, ◌<◌, ◌≤◌, ◌==◌, List, [], ◌∷◌, ◌++◌, Bool, true, false, cond}
-use Rattle.std.proofs.Common.{count_by, refl, ap, sym, ◌∙◌, arith}
+use Rattle.std.proofs.Common.{◌≡◌, ◌≢◌, ℕ, zero, suc, ◌+◌, ◌<◌, ◌≤◌, ◌==◌, List, [], ◌∷◌, ◌++◌, ◌||◌, Bool, true, false}
+use Rattle.std.proofs.Common.{cond, not, count_by, refl, ap, sym, ◌∙◌, arith}
+use Rattle.std.specs.Cmp.{first_so}
 use Rattle.std.specs.List.{range_with_len, list_any}
 use Rattle.std.proofs.lemmas.List.Sums.{sum_by-cons}
 use Rattle.std.proofs.lemmas.List.Folds.{list_any-append}
 use Rattle.std.proofs.lemmas.Grind.{common_steps}
 use Rattle.run_events.specs.declared.events.ReporterEvent.{ReporterEvent}
 use Rattle.run_model.specs.Words.{starts, finishes, is_running}
-use Rattle.run_model.specs.Accounts.{News, started, finished, account_of}
+use Rattle.run_events.specs.declared.result.ExecuteStatus.{ExecuteStatus}
+use Rattle.run_model.specs.Accounts.{News, started, failed, finished, tried, account_of}
 
 -- the first of a range, and the rest
 count-cons : (f : ℕ → Bool) (a n : ℕ)
@@ -121,10 +123,10 @@ running-started n i es e below none s f =
     is = simp (list_any-append, no_start, no_finish, s, f, here) refl
 
 -- a told finish is of one test less
-pub running-finished : (n i : ℕ) (es : List ReporterEvent) (e : ReporterEvent) → i < n → account_of i es ≡ started ∷ []
+pub running-finished : (n i : ℕ) (es : List ReporterEvent) (e : ReporterEvent) → i < n → is_running es i ≡ true
     → ((k : ℕ) → finishes k e ≡ (i == k)) → ((k : ℕ) → starts k e ≡ false)
     → running_in_told n es ≡ running_in_told n (es ++ e ∷ []) + 1
-running-finished n i es e below one f s =
+running-finished n i es e below was f s =
     count-more (is_running (es ++ e ∷ [])) (is_running es) n 0 i (omega arith) (omega arith) is was
     (λ k apart. sym (running-other k es e (s k) (f k ∙ apart_from k apart)))
   where
@@ -132,19 +134,36 @@ running-finished n i es e below one f s =
     apart_from k apart = grind arith
 
     a_start : list_any (starts i) es ≡ true
-    a_start = starts-account i es ∙ ap (list_any is_start) one
-
-    no_finish : list_any (finishes i) es ≡ false
-    no_finish = finishes-account i es ∙ ap (list_any is_finish) one
-
-    was : is_running es i ≡ true
-    was = simp (a_start, no_finish) refl
+    a_start = first_so (list_any (starts i) es) (not (list_any (finishes i) es)) was
 
     here : (i == i) ≡ true
     here = grind arith
 
     is : is_running (es ++ e ∷ []) i ≡ false
-    is = simp (list_any-append, a_start, no_finish, s, f, here) refl
+    is = simp (list_any-append, a_start, s, f, here) (ends (list_any (finishes i) es))
+      where
+        ends : (b : Bool) → not (b || true) ≡ false
+        ends true = refl
+        ends false = refl
+
+-- a test of which this was told runs: that it started, and then no finish
+pub runs-account : (k : ℕ) (es : List ReporterEvent) (ns : List News) → account_of k es ≡ started ∷ ns
+    → list_any is_finish ns ≡ false → is_running es k ≡ true
+runs-account k es ns told none =
+    rw (
+      starts-account k es ∙ ap (list_any is_start) told,
+      finishes-account k es ∙ ap (list_any is_finish) told ∙ none,
+    ) refl
+
+-- what is told of attempts that a further one follows is no finish
+pub tried-unfinished : (ss : List ExecuteStatus) → list_any is_finish (tried ss) ≡ false
+tried-unfinished [] = refl
+tried-unfinished (s ∷ ss) = tried-unfinished ss
+
+pub failing-unfinished : (ss : List ExecuteStatus) (s : ExecuteStatus)
+    → list_any is_finish (tried ss ++ failed s ∷ []) ≡ false
+failing-unfinished [] s = refl
+failing-unfinished (x ∷ ss) s = failing-unfinished ss s
 
 -- any other event leaves the number as it was
 pub running-kept : (n : ℕ) (es : List ReporterEvent) (e : ReporterEvent)

@@ -1,14 +1,16 @@
 -- What each enabled turn does to the seats of the tests.
 use Rattle.std.proofs.Common.{◌≡◌, ℕ, ◌==◌, ◌&&◌, List, [], ◌∷◌, ◌++◌, take, drop, get_or, Bool}
-use Rattle.std.proofs.Common.{true, false, not, if◌then◌else◌, Option, Some, None, option_map, option_to_list}
+use Rattle.std.proofs.Common.{true, false, not, if◌then◌else◌, Option, Some, None, is_some, is_none, option_map, option_to_list}
 use Rattle.std.proofs.Common.{refl, ap, sym, subst, ◌∙◌, arith}
 use Rattle.std.specs.List.{list_any}
-use Rattle.std.proofs.lemmas.Grind.{common_steps}
 use Rattle.std.specs.Cmp.{second_so}
 use Rattle.run_events.specs.declared.settings.Settings.{Settings}
 use Rattle.run_events.specs.declared.turn.Turn.{Turn}
 use Rattle.run_events.specs.declared.message.Message.{Message}
-use Rattle.run_events.specs.declared.message.Message.TheVariants.{Start, Slow, Skip, Finish}
+use Rattle.run_events.specs.declared.message.Message.TheVariants.{Start, Slow, AttemptFailed, Retry, Skip, Finish}
+use Rattle.run_events.specs.declared.message.TestRetry.{TestRetry}
+use Rattle.run_events.specs.declared.cancel.CancelReason.{CancelReason}
+use Rattle.run_model.specs.declared.happening.UnitPart.TheVariants.{Acts}
 use Rattle.run_events.specs.declared.message.TestStart.{TestStart}
 use Rattle.run_events.specs.declared.events.ReporterEvent.{ReporterEvent}
 use Rattle.run_admission.specs.declared.seat.Seat.{Seat}
@@ -24,9 +26,9 @@ use Rattle.run_model.specs.declared.unit_turn.UnitTurn.{UnitTurn}
 use Rattle.run_model.specs.declared.unit_turn.UnitTurn.TheVariants.{Answered}
 use Rattle.run_model.specs.declared.unit_view.UnitView.{UnitView}
 use Rattle.run_model.specs.Unit.{takes, takes_at}
-use Rattle.run_model.specs.Words.{is_on, finished_test, queue, told, finishes, unit_of, units, tally, signals_heard}
+use Rattle.run_model.specs.Words.{is_on, reason, finished_test, queue, told, starts, finishes, unit_of, units, tally, signals_heard}
 use Rattle.run_model.specs.Admission.{Newcomer, newcomer}
-use Rattle.run_model.specs.Dispatch.{may_go, event, with_start, with_finish, started_event}
+use Rattle.run_model.specs.Dispatch.{may_go, event, with_start, with_finish, started_event, retried_event, finished_event}
 use Rattle.run_model.specs.Board.{Board, Deed}
 use Rattle.run_model.specs.Turns.{enabled_on, is_empty, takes_turn, turn_of_unit, unit_takes, taken_by, admission}
 use Rattle.run_model.specs.Turns.{nothing_done, event_of, tally_with, delivered_as, delivery, done_by, deed_on}
@@ -36,7 +38,8 @@ use Rattle.run_laws.proofs.Running.{is_start, starts-account}
 use Rattle.run_laws.proofs.ByTurn.{is_answer, by_turn}
 use Rattle.run_laws.proofs.OnBoard.{board_of, board_with, unit_in-is}
 use Rattle.run_laws.proofs.Newcomers.{new_unit}
-use Rattle.run_laws.proofs.Facts.{start_waits, oldest_built}
+use Rattle.run_model.specs.Story.{was_left}
+use Rattle.run_laws.proofs.Facts.{itself, start_in, start_waits, retry_waits, may_go-is, oldest_built}
 use Rattle.run_laws.proofs.OpenSeats.{opened, at_last, AreLower, same_lower}
 use Rattle.run_laws.proofs.ToldSeats.{seat_told-other, seat_told-nothing, seat_told-started, seat_told-finished}
 use Rattle.run_laws.proofs.BoardSeats.{board_seat, seat_after, AreKeptIn, kept_fewer, acts_lower, acts_last}
@@ -47,13 +50,17 @@ use Rattle.run_laws.proofs.JoinSeats.{joins_kept, joins_last}
 abbrev pub rest_of : Deed → List Happening → List Message
 rest_of d run = drop (if d.taken then 1 else 0) (queue run)
 
--- what a deed does to the seats: what it tells leaves them below what the messages that it takes say; it keeps the limits on the board; and what
--- it sends leaves the last seats below the board's
+-- what a deed does to the seats: what it tells leaves them below what the messages that it takes say, and as they were
+-- or lower where a cause stands; it keeps the limits on the board; and, where none stands, what it sends leaves the last
+-- seats below the board's
 pub record MovesSeats (p : Settings) (now : ℕ) (run : List Happening) (d : Deed) : Type 0 where
   pub tells : AreLower (seat_told (told run ++ option_to_list d.told))
       (at_last (seat_told (told run)) (take (if d.taken then 1 else 0) (queue run)))
+  pub opens_none : is_some (reason run) ≡ true
+      → AreLower (seat_told (told run ++ option_to_list d.told)) (seat_told (told run))
   pub keeps : AreKeptIn p (board_seat run) → AreKeptIn p (seat_after now d.part run)
-  pub sends : AreLower (at_last (seat_told (told run ++ option_to_list d.told)) (rest_of d run)) (board_seat run)
+  pub sends : reason run ≡ None
+      → AreLower (at_last (seat_told (told run ++ option_to_list d.told)) (rest_of d run)) (board_seat run)
       → AreLower (at_last (at_last (seat_told (told run ++ option_to_list d.told)) (rest_of d run))
       (option_to_list d.sent)) (seat_after now d.part run)
 
@@ -64,11 +71,17 @@ tells_nothing run = same_lower _ _ (λ k. seat_told-nothing k (told run))
 -- what an admission does to the seats
 admits : (p : Settings) (now : ℕ) (run : List Happening) (o : Option Newcomer) → newcomer p (units p run) ≡ o
     → MovesSeats p now run (admission o)
-admits p now run None e = record { tells = tells_nothing run; keeps = λ h. h; sends = λ h. h }
+admits p now run None e = record {
+  tells = tells_nothing run;
+  opens_none = λ cause. tells_nothing run;
+  keeps = λ h. h;
+  sends = λ calm h. h;
+}
 admits p now run (Some new) e = record {
   tells = tells_nothing run;
+  opens_none = λ cause. tells_nothing run;
   keeps = joins_kept p now run new e;
-  sends = joins_last p now run new.unit new.sent _ (new_unit p run new e);
+  sends = λ calm. joins_last p now run new.unit new.sent _ (new_unit p run new e);
 }
 
 -- what a unit's own turn does to the seats
@@ -78,8 +91,9 @@ unit_moves : (p : Settings) (over : Bool) (now : ℕ) (run : List Happening) (j 
 unit_moves p over now run j turn None h e en other = cc
 unit_moves p over now run j turn (Some u) h e en other = record {
   tells = tells_nothing run;
+  opens_none = λ cause. tells_nothing run;
   keeps = λ kept. kept_fewer p _ (board_seat run) (acts_lower now j turn run) kept;
-  sends = acts_last now j turn run u _ e en
+  sends = λ calm. acts_last now j turn run u _ e en
       (λ is. let same : is_answer turn ≡ true = ap is_answer is in cc) (h.named j u e).0;
 }
 
@@ -87,7 +101,12 @@ unit_moves p over now run j turn (Some u) h e en other = record {
 caused_moves : (p : Settings) (now : ℕ) (run : List Happening) (o : Option Cause) (t : Tally) (d : Deed)
     → MovesSeats p now run d → MovesSeats p now run (caused now t o d)
 caused_moves p now run None t d moves = moves
-caused_moves p now run (Some cause) t d moves = record { tells = moves.tells; keeps = moves.keeps; sends = moves.sends }
+caused_moves p now run (Some cause) t d moves = record {
+  tells = moves.tells;
+  opens_none = moves.opens_none;
+  keeps = moves.keeps;
+  sends = moves.sends;
+}
 
 -- a test of which nothing was told is in no seat by what was told, and messages that say nothing of it leave its seat
 untold_gone : (k : ℕ) (es : List ReporterEvent) → account_of k es ≡ [] → seat_told es k ≡ Gone
@@ -125,26 +144,32 @@ at_last_apart k (m ∷ ms) seat none =
 start_alone : (p : Settings) (over : Bool) (now : ℕ) (run : List Happening) (start : TestStart) (rest : List Message)
     → Holds p over now run → queue run ≡ Start start ∷ rest → pending_of start.test.unit rest ≡ []
 start_alone p over now run start rest h eq =
-    alone (is_mismatched p (place_of p start.test.unit)) (unit_of start.test.unit run)
+    alone (is_mismatched p (place_of p start.test.unit)) (was_left start.test.unit run) (unit_of start.test.unit run)
     (account_of start.test.unit (told run)) (rw eq at (h.accounts start.test.unit))
   where
-    alone : (mm : Bool) (v : Option UnitView) (t : List News)
-        → HasAccount mm v t (pending_of start.test.unit (Start start ∷ rest)) → pending_of start.test.unit rest ≡ []
-    alone mm None t h = grind (arith, common_steps)
-    alone mm (Some u) t h = grind (arith, common_steps)
+    alone : (mm left : Bool) (v : Option UnitView) (t : List News)
+        → HasAccount mm left v t (pending_of start.test.unit (Start start ∷ rest)) → pending_of start.test.unit rest ≡ []
+    alone mm left None t h = let never = (rw (itself start.test.unit) at h).1 in cc
+    alone mm left (Some u) t h =
+        (start_in mm left u.phase u.statuses t (pending_of start.test.unit rest) (rw (itself start.test.unit) at h)).2
+
+-- nothing is let go where a cause stands
+goes_on : (why : Option CancelReason) → is_some why ≡ true → is_none why ≡ true → false ≡ true
+goes_on None some none = some
+goes_on (Some r) some none = none
 
 -- what the delivery of a start does to the seats: one that isn't let go leaves its seat
 start_moves : (p : Settings) (over : Bool) (now : ℕ) (run : List Happening) (start : TestStart) (rest : List Message)
     (go : Bool) (w : Option UnitView) → Holds p over now run → queue run ≡ Start start ∷ rest
-    → unit_of start.test.unit run ≡ w
+    → go ≡ is_none (reason run) → unit_of start.test.unit run ≡ w
     → MovesSeats p now run (record (taken_by now start.test.unit (Answered go) w) {
       taken = true;
       told = option_map (event now) (if go then Some (started_event start (with_start (tally p run))) else None);
     })
-start_moves p over now run start rest go None h eq ew =
+start_moves p over now run start rest go None h eq goes ew =
     let waits = start_waits p over now run start rest h eq in
     let never : None ≡ Some waits.unit = sym ew ∙ waits.is in cc
-start_moves p over now run start rest true (Some u) h eq ew =
+start_moves p over now run start rest true (Some u) h eq goes ew =
     let waits = start_waits p over now run start rest h eq in
     let same : waits.unit ≡ u = cc (sym waits.is ∙ ew) in
     let waiting : takes now u (Answered true) ≡ true =
@@ -153,11 +178,12 @@ start_moves p over now run start rest true (Some u) h eq ew =
     record {
       tells = same_lower _ _ (λ k. seat_told-started k now (told run) start (with_start (tally p run)) waits.untold
           ∙ ap (λ q. at_last (seat_told (told run)) (take 1 q) k) (sym eq));
+      opens_none = λ cause. absurd (let never = goes_on (reason run) cause (sym goes) in cc);
       keeps = λ kept. kept_fewer p _ (board_seat run) (acts_lower now start.test.unit (Answered true) run) kept;
-      sends = acts_last now start.test.unit (Answered true) run u _ ew waiting (λ is. cc)
+      sends = λ calm. acts_last now start.test.unit (Answered true) run u _ ew waiting (λ is. cc)
           (h.named start.test.unit u ew).0;
     }
-start_moves p over now run start rest false (Some u) h eq ew =
+start_moves p over now run start rest false (Some u) h eq goes ew =
     let waits = start_waits p over now run start rest h eq in
     let same : waits.unit ≡ u = cc (sym waits.is ∙ ew) in
     let phase : u.phase ≡ StartSent = ap (λ (u : UnitView). u.phase) (sym same) ∙ waits.phase in
@@ -166,8 +192,9 @@ start_moves p over now run start rest false (Some u) h eq ew =
     record {
       tells = λ k. subst (λ q. IsBelow (seat_told (told run ++ []) k) (at_last (seat_told (told run)) (take 1 q) k))
           (sym eq) (refused_tells k (start.test.unit == k) refl waits.untold);
+      opens_none = λ cause. tells_nothing run;
       keeps = λ kept. kept_fewer p _ (board_seat run) (acts_lower now start.test.unit (Answered false) run) kept;
-      sends = acts_refused now start.test.unit run u _ ew phase
+      sends = λ calm. acts_refused now start.test.unit run u _ ew phase
           (ap (λ q. at_last (seat_told (told run ++ [])) (drop 1 q) start.test.unit) eq
           ∙ at_last_apart start.test.unit rest (seat_told (told run ++ [])) (start_alone p over now run start rest h eq)
           ∙ untold);
@@ -183,25 +210,79 @@ start_moves p over now run start rest false (Some u) h eq ew =
         let never : false ≡ true = sym (ap is_in_use gone) ∙ used in cc
     refused_tells k false e none used = rw e (seat_told-nothing k (told run))
 
+-- the delivery of a retry leaves the seats by what was told
+retry_told : (run : List Happening) (now : ℕ) (retry : TestRetry) (t : Tally) (go : Bool) (k : ℕ)
+    → seat_told (told run ++ option_to_list (option_map (event now)
+    (if go then Some (retried_event retry t) else None))) k ≡ seat_told (told run) k
+retry_told run now retry t true k = seat_told-other k (told run) _ refl refl
+retry_told run now retry t false k = seat_told-nothing k (told run)
+
+retry_moves : (p : Settings) (over : Bool) (now : ℕ) (run : List Happening) (retry : TestRetry) (rest : List Message)
+    (go : Bool) (w : Option UnitView) → Holds p over now run → queue run ≡ Retry retry ∷ rest
+    → go ≡ is_none (reason run) → unit_of retry.start.test.unit run ≡ w
+    → MovesSeats p now run (record (taken_by now retry.start.test.unit (Answered go) w) {
+      taken = true;
+      told = option_map (event now) (if go then Some (retried_event retry (tally p run)) else None);
+    })
+retry_moves p over now run retry rest go w h eq goes ew = record {
+  tells = same_lower _ _ (λ k. retry_told run now retry (tally p run) go k
+      ∙ ap (λ q. at_last (seat_told (told run)) (take 1 q) k) (sym eq));
+  opens_none = λ cause. same_lower _ _ (retry_told run now retry (tally p run) go);
+  keeps = keeps w;
+  sends = λ calm. by_go go w ew (goes ∙ ap is_none calm);
+}
+  where
+    unit : ℕ
+    unit = retry.start.test.unit
+
+    keeps : (w : Option UnitView) → AreKeptIn p (board_seat run)
+        → AreKeptIn p (seat_after now (option_map (λ v. Acts unit (Answered go)) w) run)
+    keeps None kept = kept
+    keeps (Some u) kept = kept_fewer p _ (board_seat run) (acts_lower now unit (Answered go) run) kept
+
+    by_go : (go : Bool) (w : Option UnitView) → unit_of unit run ≡ w → go ≡ true
+        → {seat : ℕ → Seat} → AreLower seat (board_seat run)
+        → AreLower (at_last seat (option_to_list (taken_by now unit (Answered go) w).sent))
+        (seat_after now (taken_by now unit (Answered go) w).part run)
+    by_go false w ew lets below = cc
+    by_go true None ew lets below = below
+    by_go true (Some u) ew lets below =
+        let waits = retry_waits p over now run retry rest h eq in
+        let same : waits.unit ≡ u = cc (sym waits.is ∙ ew) in
+        let waiting : takes now u (Answered true) ≡ true =
+        ap (λ (u : UnitView). takes now u (Answered true)) (sym same)
+        ∙ ap (λ ph. takes_at now ph waits.unit (Answered true)) waits.phase in
+        acts_last now unit (Answered true) run u _ ew waiting (λ is. cc) (h.named unit u ew).0 below
+
+-- the delivery of a message whose event neither starts nor finishes a test leaves the seats
+told_moves : (p : Settings) (now : ℕ) (run : List Happening) (m : Message) (rest : List Message) (e : ReporterEvent)
+    → queue run ≡ m ∷ rest → ((k : ℕ) → starts k e ≡ false) → ((k : ℕ) → finishes k e ≡ false)
+    → ((seat : ℕ → Seat) (k : ℕ) → opened m seat k ≡ seat k)
+    → MovesSeats p now run (record nothing_done { taken = true; told = Some e })
+told_moves p now run m rest e eq s f leaves = record {
+  tells = same_lower _ _ (λ k. seat_told-other k (told run) e (s k) (f k) ∙ sym (leaves (seat_told (told run)) k)
+      ∙ ap (λ q. at_last (seat_told (told run)) (take 1 q) k) (sym eq));
+  opens_none = λ cause. same_lower _ _ (λ k. seat_told-other k (told run) e (s k) (f k));
+  keeps = λ kept. kept;
+  sends = λ calm below. below;
+}
+
 -- what a delivery does to the seats
 delivers : (p : Settings) (over : Bool) (now : ℕ) (run : List Happening) (q : List Message) → Holds p over now run
     → queue run ≡ q → not (is_empty q) ≡ true → MovesSeats p now run (delivery (board_of p over now run) q)
 delivers p over now run [] h eq en = cc
 delivers p over now run (Start start ∷ rest) h eq en =
     start_moves p over now run start rest (may_go (tally p run)) (get_or (units p run) start.test.unit None) h eq
-    (sym (unit_in-is p over now run start.test.unit h))
-delivers p over now run (Skip skip ∷ rest) h eq en = record {
-  tells = same_lower _ _ (λ k. seat_told-other k (told run) _ refl refl
-      ∙ ap (λ q. at_last (seat_told (told run)) (take 1 q) k) (sym eq));
-  keeps = λ kept. kept;
-  sends = λ below. below;
-}
-delivers p over now run (Slow slow ∷ rest) h eq en = record {
-  tells = same_lower _ _ (λ k. seat_told-other k (told run) _ refl refl
-      ∙ ap (λ q. at_last (seat_told (told run)) (take 1 q) k) (sym eq));
-  keeps = λ kept. kept;
-  sends = λ below. below;
-}
+    (may_go-is p run) (sym (unit_in-is p over now run start.test.unit h))
+delivers p over now run (Retry retry ∷ rest) h eq en =
+    retry_moves p over now run retry rest (may_go (tally p run)) (get_or (units p run) retry.start.test.unit None) h eq
+    (may_go-is p run) (sym (unit_in-is p over now run retry.start.test.unit h))
+delivers p over now run (Skip skip ∷ rest) h eq en =
+    told_moves p now run (Skip skip) rest _ eq (λ k. refl) (λ k. refl) (λ seat k. refl)
+delivers p over now run (Slow slow ∷ rest) h eq en =
+    told_moves p now run (Slow slow) rest _ eq (λ k. refl) (λ k. refl) (λ seat k. refl)
+delivers p over now run (AttemptFailed failure ∷ rest) h eq en =
+    told_moves p now run (AttemptFailed failure) rest _ eq (λ k. refl) (λ k. refl) (λ seat k. refl)
 delivers p over now run (Finish finish ∷ rest) h eq en =
     let b : Board = board_of p over now run in
     let tells : Option ReporterEvent = event_of b (Finish finish) in
@@ -210,9 +291,20 @@ delivers p over now run (Finish finish ∷ rest) h eq en =
       tells = same_lower _ _ (λ k.
           seat_told-finished k now (told run) finish (with_finish (tally p run) (finished_test finish))
           ∙ ap (λ q. at_last (seat_told (told run)) (take 1 q) k) (sym eq));
+      opens_none = λ cause k. closes k;
       keeps = λ kept. kept;
-      sends = λ below. below;
+      sends = λ calm below. below;
     })
+  where
+    closes : (k : ℕ) → IsBelow (seat_told (told run ++ event now (finished_event finish
+        (with_finish (tally p run) (finished_test finish))) ∷ []) k) (seat_told (told run) k)
+    closes k = subst (λ s. IsBelow s (seat_told (told run) k))
+        (sym (seat_told-finished k now (told run) finish (with_finish (tally p run) (finished_test finish))))
+        (by_unit (finish.test.unit == k))
+      where
+        by_unit : (b : Bool) → IsBelow (if b then Gone else seat_told (told run) k) (seat_told (told run) k)
+        by_unit true used = cc
+        by_unit false used = refl
 delivers p over now run (m ∷ rest) h eq en = absurd (oldest_built p over now run m rest h eq)
 
 -- what each enabled turn does to the seats
@@ -224,8 +316,9 @@ moves p over refused now run turn h en =
     (record {
       begin = λ en. record {
         tells = same_lower _ _ (λ k. seat_told-other k (told run) _ refl refl);
+        opens_none = λ cause. same_lower _ _ (λ k. seat_told-other k (told run) _ refl refl);
         keeps = λ kept. kept;
-        sends = λ below. below;
+        sends = λ calm below. below;
       };
       admit = λ en. admits p now run (newcomer p (units p run)) refl;
       deliver = λ en. delivers p over now run (queue run) h refl
@@ -238,15 +331,21 @@ moves p over refused now run turn h en =
       report_cancel = λ en. caused_moves p now run (Some event_refused) (tally p run) nothing_done still;
       end = λ en. record {
         tells = same_lower _ _ (λ k. seat_told-other k (told run) _ refl refl);
+        opens_none = λ cause. same_lower _ _ (λ k. seat_told-other k (told run) _ refl refl);
         keeps = λ kept. kept;
-        sends = λ below. below;
+        sends = λ calm below. below;
       };
       unbuilt = λ turn never en. let no : false ≡ true = sym (never p b) ∙ en in cc;
     })
     turn (second_so (not over) (takes_turn p b turn (turn_of_unit turn)) en)
   where
     still : MovesSeats p now run nothing_done
-    still = record { tells = tells_nothing run; keeps = λ kept. kept; sends = λ below. below }
+    still = record {
+      tells = tells_nothing run;
+      opens_none = λ cause. tells_nothing run;
+      keeps = λ kept. kept;
+      sends = λ calm below. below;
+    }
 
     b : Board
     b = board_with p refused over now run

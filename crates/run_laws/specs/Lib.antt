@@ -4,3 +4,4 @@ pub mod Ready
 pub mod Limits
 pub mod Reports
 pub mod Cancels
+pub mod Once

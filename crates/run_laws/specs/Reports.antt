@@ -21,7 +21,7 @@ use Rattle.run_model.specs.declared.entry.Entry.{Entry}
 use Rattle.run_model.specs.declared.happening.Happening.{Happening}
 use Rattle.run_model.specs.Slow.{slow_time}
 use Rattle.run_model.specs.Terminate.{terminate_method}
-use Rattle.run_model.specs.Story.{OwnTurn, any_is}
+use Rattle.run_model.specs.Story.{OwnTurn, Attempt, cut, any_is}
 use Rattle.run_model.specs.Timing.{ends_wait, signal_of, slow_count, has_timed_out, is_slow_turn, is_timeout, ends_grace}
 use Rattle.run_model.specs.Attempts.{pieces_of}
 use Rattle.run_model.specs.Admission.{unit_of_test, terms_at}
@@ -43,9 +43,9 @@ abbrev pub signals_in : SlowTimeout → List OwnTurn → List TermSignal
 signals_in slow [] = []
 signals_in slow (t ∷ before) = signals_in slow before ++ option_to_list (signal_with slow t before)
 
-abbrev pub signals_by : SlowTimeout → List (List OwnTurn) → List TermSignal
+abbrev pub signals_by : SlowTimeout → List Attempt → List TermSignal
 signals_by slow [] = []
-signals_by slow (piece ∷ earlier) = signals_by slow earlier ++ signals_in slow piece
+signals_by slow (cut piece after ∷ earlier) = signals_by slow earlier ++ signals_in slow piece
 
 -- a report that an attempt is slow: of this attempt, after this time, and whether it has run out of time with that
 pub record SlowReport : Type 0 where
@@ -70,9 +70,9 @@ reports_in slow attempt [] = []
 reports_in slow attempt (t ∷ before) =
     reports_in slow attempt before ++ option_to_list (report_with slow attempt t before)
 
-abbrev pub reports_by : SlowTimeout → List (List OwnTurn) → List SlowReport
+abbrev pub reports_by : SlowTimeout → List Attempt → List SlowReport
 reports_by slow [] = []
-reports_by slow (piece ∷ earlier) = reports_by slow earlier ++ reports_in slow (length earlier + 1) piece
+reports_by slow (cut piece after ∷ earlier) = reports_by slow earlier ++ reports_in slow (length earlier + 1) piece
 
 -- the signal for the child of unit k that is asked, if this asks one, and all of a sub-run
 abbrev pub signal_for : ℕ → Ask → Option ChildSignal

@@ -2,6 +2,7 @@
 ghost use Rattle.run_laws.specs.Laws.{AccountsHold, AttemptsAreOwnTurns, BoardsStep, EventsExtend};
 ghost use Rattle.run_laws.specs.Laws.{EachHasFate, OverHasEnded};
 ghost use Rattle.run_laws.specs.Limits.{LimitsHold};
+ghost use Rattle.run_laws.specs.Once.{AttemptsToldOnce};
 ghost use Rattle.run_laws.specs.Reports.{ReportsAreOwnTurns};
 ghost use Rattle.run_laws.specs.Cancels.{CancelsAreCaused, LinesAreBroadcasts};
 ghost use Rattle.run_laws.specs.Course.{CoursesExclude, NoneRefused};
@@ -17,6 +18,12 @@ pub fn accounts_hold()
 /// starts and times, and where their timers are due, after every legal journal.
 pub fn attempts_are_their_own_turns()
     ensures { AttemptsAreOwnTurns }
+{}
+
+/// The attempts of each test in the newest sub-run that were told as they ended are the first of those that its own turns
+/// made, in order and each once, and a finish is told with just those, after every legal journal.
+pub fn attempts_are_told_once()
+    ensures { AttemptsToldOnce }
 {}
 
 /// The signals that are asked for each test's child in the newest sub-run, and the reports that it is slow, told and
@@ -56,9 +63,11 @@ pub fn turns_are_timely()
 {}
 
 /// In every sub-run that has ended, also in the newest of a run that is over, each test has its fate: one that doesn't
-/// match was told skipped once and nothing else; any other was told started and finished once, with the results of its
-/// own turns, or, exactly where a cause came before the delivery of its start or of a retry, was never started or was
-/// left there.
+/// match was told skipped once and nothing else; any other was told started once, then the failure of each attempt that
+/// was tried again and its retry, and finished once, with the results of its own turns, or, exactly where a cause came
+/// before the delivery of its start or of a retry, was never started or was left there. Of a finished one each attempt but
+/// the last failed, and the last passed or no retry was left; of one that was left each failed, and a retry was left. Each
+/// attempt that was let go has ended, and has its status.
 pub fn each_test_has_its_fate()
     ensures fates { EachHasFate }
     ensures over { OverHasEnded }

@@ -1,5 +1,5 @@
 -- What is told of one test: its account.
-use Rattle.std.specs.Prelude.{ℕ, ◌≡◌, ◌⊎◌, ◌==◌, List, [], ◌∷◌, Bool, true, false, if◌then◌else◌, Option, Some, None}
+use Rattle.std.specs.Prelude.{ℕ, ◌≡◌, ◌⊎◌, ◌==◌, List, [], ◌∷◌, ◌++◌, Bool, true, false, if◌then◌else◌, Option, Some, None}
 use Rattle.std.specs.Prelude.{filter_map, is_some, slice_get}
 use Rattle.run_events.specs.declared.message.Message.{Message}
 use Rattle.run_events.specs.declared.message.Message.TheVariants.{Start, Skip, AttemptFailed, Retry, Finish}
@@ -14,10 +14,11 @@ use Rattle.run_events.specs.declared.events.TestEventKind.TheVariants.{TestRetry
 use Rattle.run_model.specs.declared.happening.Happening.{Happening}
 use Rattle.run_model.specs.declared.phase.Phase.{Phase}
 use Rattle.run_model.specs.declared.phase.Phase.TheVariants.{StartSent, Starting, Running, Grace, KillWait, Leak}
-use Rattle.run_model.specs.declared.phase.Phase.TheVariants.{Deciding, Over}
+use Rattle.run_model.specs.declared.phase.Phase.TheVariants.{Deciding, Delay, RetrySent, Over}
 use Rattle.run_model.specs.declared.unit_view.UnitView.{UnitView}
 use Rattle.run_model.specs.Admission.{unit_of_test}
 use Rattle.run_model.specs.Words.{told, queue, unit_of}
+use Rattle.run_model.specs.Story.{was_left}
 
 -- what is told of a test, apart from moments and counts: that it started; that an attempt failed and the next one
 -- started; that it finished after these attempts; or that it was skipped
@@ -67,19 +68,54 @@ is_skip (Some test) = is_some test.skip
 abbrev pub is_mismatched : Settings → ℕ → Bool
 is_mismatched p j = is_skip (slice_get p.plan.tests j)
 
--- what was told of a matched test and what waits to be told, by its phase and its ended attempts
-abbrev pub HasAccountIn : Phase → List ExecuteStatus → List News → List News → Type 0
-HasAccountIn StartSent [] t q = (t ≡ []) × (q ≡ started ∷ [])
-HasAccountIn Starting [] t q = (t ≡ started ∷ []) × (q ≡ [])
-HasAccountIn Running [] t q = (t ≡ started ∷ []) × (q ≡ [])
-HasAccountIn Grace [] t q = (t ≡ started ∷ []) × (q ≡ [])
-HasAccountIn KillWait [] t q = (t ≡ started ∷ []) × (q ≡ [])
-HasAccountIn Leak [] t q = (t ≡ started ∷ []) × (q ≡ [])
-HasAccountIn Deciding (s ∷ []) t q = (t ≡ started ∷ []) × (q ≡ [])
-HasAccountIn Over [] t q = (t ≡ []) × (q ≡ [])
-HasAccountIn Over (s ∷ []) t q =
-    ((t ≡ started ∷ []) × (q ≡ finished (s ∷ []) ∷ [])) ⊎ ((t ≡ started ∷ finished (s ∷ []) ∷ []) × (q ≡ []))
-HasAccountIn _ _ t q = ⊥
+-- what is told of attempts each of which a further one follows
+abbrev pub tried : List ExecuteStatus → List News
+tried [] = []
+tried (s ∷ ss) = failed s ∷ retried ∷ tried ss
+
+-- there is a last attempt, and of those before it and of it this holds
+abbrev pub HasLast : List ExecuteStatus → (List ExecuteStatus → ExecuteStatus → Type 0) → Type 0
+HasLast ss P = (early : List ExecuteStatus) × ((s : ExecuteStatus) × ((ss ≡ early ++ s ∷ []) × P early s))
+
+-- this was told, and this waits to be told
+abbrev pub AreTold : List News → List News → List News → List News → Type 0
+AreTold told waiting t q = (t ≡ told) × (q ≡ waiting)
+
+-- the failure of an attempt waits to be told, or was told, and nothing else of it
+abbrev pub IsFailing : List News → List News → List ExecuteStatus → ExecuteStatus → Type 0
+IsFailing t q early s =
+    AreTold (started ∷ tried early) (failed s ∷ []) t q ⊎ AreTold (started ∷ tried early ++ failed s ∷ []) [] t q
+
+-- and its retry waits too
+abbrev pub IsRetrying : List News → List News → List ExecuteStatus → ExecuteStatus → Type 0
+IsRetrying t q early s =
+    AreTold (started ∷ tried early) (failed s ∷ retried ∷ []) t q
+    ⊎ AreTold (started ∷ tried early ++ failed s ∷ []) (retried ∷ []) t q
+
+-- the finish of a test waits to be told, or was told
+abbrev pub IsFinishing : List ExecuteStatus → List News → List News → List ExecuteStatus → ExecuteStatus → Type 0
+IsFinishing ss t q early s =
+    AreTold (started ∷ tried early) (finished ss ∷ []) t q ⊎ AreTold (started ∷ tried early ++ finished ss ∷ []) [] t q
+
+-- a test that is over after these attempts, by whether it was left there; else it has none, or finishes
+abbrev pub IsDone : Bool → List ExecuteStatus → List News → List News → Type 0
+IsDone true ss t q = HasLast ss (λ early s. AreTold (started ∷ tried early ++ failed s ∷ []) [] t q)
+IsDone false [] t q = AreTold [] [] t q
+IsDone false (s ∷ ss) t q = HasLast (s ∷ ss) (IsFinishing (s ∷ ss) t q)
+
+-- what was told of a matched test and what waits to be told, by whether it was left, its phase and
+-- its ended attempts
+abbrev pub HasAccountIn : Bool → Phase → List ExecuteStatus → List News → List News → Type 0
+HasAccountIn left StartSent ss t q = (ss ≡ []) × AreTold [] (started ∷ []) t q
+HasAccountIn left Starting ss t q = AreTold (started ∷ tried ss) [] t q
+HasAccountIn left Running ss t q = AreTold (started ∷ tried ss) [] t q
+HasAccountIn left Grace ss t q = AreTold (started ∷ tried ss) [] t q
+HasAccountIn left KillWait ss t q = AreTold (started ∷ tried ss) [] t q
+HasAccountIn left Leak ss t q = AreTold (started ∷ tried ss) [] t q
+HasAccountIn left Deciding ss t q = HasLast ss (λ early s. AreTold (started ∷ tried early) [] t q)
+HasAccountIn left Delay ss t q = HasLast ss (IsFailing t q)
+HasAccountIn left RetrySent ss t q = HasLast ss (IsRetrying t q)
+HasAccountIn left Over ss t q = IsDone left ss t q
 
 -- the same of a skipped one
 abbrev pub HasSkipIn : Phase → List ExecuteStatus → List News → List News → Type 0
@@ -87,19 +123,19 @@ HasSkipIn Over [] t q = ((t ≡ []) × (q ≡ skipped ∷ [])) ⊎ ((t ≡ skipp
 HasSkipIn _ _ t q = ⊥
 
 -- the same of any test, by whether it doesn't match
-abbrev pub HasAccountAt : Bool → Phase → List ExecuteStatus → List News → List News → Type 0
-HasAccountAt true ph ss t q = HasSkipIn ph ss t q
-HasAccountAt false ph ss t q = HasAccountIn ph ss t q
+abbrev pub HasAccountAt : Bool → Bool → Phase → List ExecuteStatus → List News → List News → Type 0
+HasAccountAt true left ph ss t q = HasSkipIn ph ss t q
+HasAccountAt false left ph ss t q = HasAccountIn left ph ss t q
 
 -- the same of a unit; of a test that wasn't admitted nothing is told
-abbrev pub HasAccount : Bool → Option UnitView → List News → List News → Type 0
-HasAccount mismatched None t q = (t ≡ []) × (q ≡ [])
-HasAccount mismatched (Some u) t q = HasAccountAt mismatched u.phase u.statuses t q
+abbrev pub HasAccount : Bool → Bool → Option UnitView → List News → List News → Type 0
+HasAccount mismatched left None t q = (t ≡ []) × (q ≡ [])
+HasAccount mismatched left (Some u) t q = HasAccountAt mismatched left u.phase u.statuses t q
 
 -- the test at a place of the plan, which is unit k, has its account in a sub-run
 abbrev pub IsAccountedAs : Settings → ℕ → ℕ → List Happening → Type 0
 IsAccountedAs p j k run =
-    HasAccount (is_mismatched p j) (unit_of k run) (account_of k (told run)) (pending_of k (queue run))
+    HasAccount (is_mismatched p j) (was_left k run) (unit_of k run) (account_of k (told run)) (pending_of k (queue run))
 
 abbrev pub IsAccounted : Settings → ℕ → List Happening → Type 0
 IsAccounted p j run = IsAccountedAs p j (unit_of_test p j) run

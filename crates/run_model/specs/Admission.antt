@@ -1,13 +1,14 @@
 -- What an admission makes: which test is next, by the rule of `run_admission`, and the unit that it begins as.
-use Rattle.std.specs.Prelude.{ℕ, ◌+◌, List, [], Bool, true, false, if◌then◌else◌, Option, Some, None, option_map}
+use Rattle.std.specs.Prelude.{ℕ, ◌+◌, ◌<◌, ◌^◌, List, [], Bool, true, false, if◌then◌else◌, Option, Some, None, option_map}
 use Rattle.std.specs.Prelude.{option_and_then, map, length, take, drop, count_by, is_none, slice_get, unwrap_or}
 use Rattle.std.specs.List.{list_all}
 use Rattle.run_capture.specs.Output.{uncaptured}
 use Rattle.run_capture.specs.Captured.{begun}
 use Rattle.run_clock.specs.Stopwatch.{started_at}
-use Rattle.run_events.specs.Usual.{usual_slow, usual_leak}
+use Rattle.run_events.specs.Usual.{usual_slow, usual_leak, no_retries}
 use Rattle.run_events.specs.declared.settings.Settings.{Settings}
 use Rattle.run_events.specs.declared.result.FlakyResult.{FlakyResult}
+use Rattle.run_events.specs.declared.retry_policy.RetryPolicy.{RetryPolicy}
 use Rattle.run_events.specs.declared.plan.PlanTest.{PlanTest}
 use Rattle.run_events.specs.declared.plan.GroupSlot.{GroupSlot}
 use Rattle.run_events.specs.declared.plan.TestSlotAssignment.{TestSlotAssignment}
@@ -22,6 +23,8 @@ use Rattle.run_model.specs.declared.phase.Phase.{Phase}
 use Rattle.run_model.specs.declared.phase.Phase.TheVariants.{StartSent, Over}
 use Rattle.run_model.specs.declared.unit_view.AttemptTerms.{AttemptTerms}
 use Rattle.run_model.specs.declared.unit_view.UnitView.{UnitView}
+use Rattle.run_model.specs.Backoff.{retry_count}
+use Rattle.run_model.specs.Environment.{test_start}
 
 -- whether a phase is the last one
 abbrev pub is_last : Phase → Bool
@@ -64,16 +67,25 @@ matched_in p = count_by is_matched p.plan.tests
 abbrev pub flaky_of : Settings → PlanTest → FlakyResult
 flaky_of p test = unwrap_or p.flaky_result test.flaky
 
+-- how often a test is tried again: as often as all tests where that is set
+abbrev pub retries_of : Settings → PlanTest → RetryPolicy
+retries_of p test = unwrap_or p.retries test.retries
+
 -- on which terms the attempts of a test run, and of the test at a place: where there is none, those of a usual test
 abbrev pub terms_of : Settings → PlanTest → AttemptTerms
-terms_of p test = record { strategy = p.capture; slow = test.slow; leak = test.leak }
+terms_of p test = record { strategy = p.capture; slow = test.slow; leak = test.leak; retries = retries_of p test }
 
 abbrev pub terms_if : Settings → Option PlanTest → AttemptTerms
-terms_if p None = record { strategy = p.capture; slow = usual_slow; leak = usual_leak }
+terms_if p None = record { strategy = p.capture; slow = usual_slow; leak = usual_leak; retries = no_retries }
 terms_if p (Some test) = terms_of p test
 
 abbrev pub terms_at : Settings → ℕ → AttemptTerms
 terms_at p j = terms_if p (slice_get p.plan.tests j)
+
+-- a plan that can be numbered: its units are fewer than 2^32, and so are the attempts of each of its tests
+pub record AreFew (p : Settings) : Type 0 where
+  pub units : units_in p < 2 ^ 32
+  pub attempts : (j : ℕ) → retry_count (terms_at p j).retries + 1 < 2 ^ 32
 
 -- a slot outside of all groups
 abbrev pub global_slot : ℕ → TestSlotAssignment
@@ -99,6 +111,7 @@ first_view p k slot test = record {
   terms = terms_of p test;
   phase = StartSent;
   attempt = 1;
+  delay = 0;
   timers = record { stopwatch = started_at 0; slow = None; wait = None; slow_count = 0 };
   line = [];
   latest = 0;
@@ -113,7 +126,7 @@ skipped_view p k test = record (first_view p k (global_slot 0) test) { phase = O
 
 -- the message of a unit's start, and that of its skip for a reason
 abbrev pub start_message : UnitView → Message
-start_message u = Start (record { test = u.test; command = u.command; slot = u.slot })
+start_message u = Start (test_start u)
 
 abbrev pub skip_message : UnitView → List ℕ → Message
 skip_message u reason = Skip (record { test = u.test; reason = reason })

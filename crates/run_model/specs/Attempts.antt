@@ -1,9 +1,9 @@
 -- The attempts of a unit by its own turns, and by what was broadcast while it was live.
 -- Nothing here knows the rows of the unit table.
-use Rattle.std.specs.Prelude.{ℕ, ◌+◌, List, [], ◌∷◌, ◌++◌, length, Bool, true, false, not, ◌&&◌, ◌||◌, nat_lt}
+use Rattle.std.specs.Prelude.{ℕ, ◌+◌, List, [], ◌∷◌, ◌++◌, length, Bool, true, false, not, ◌&&◌, ◌||◌, nat_lt, nat_le}
 use Rattle.std.specs.Prelude.{if◌then◌else◌, Option, Some, None, option_to_list, is_some, unwrap_or}
 use Rattle.std.specs.Option.{option_or}
-use Rattle.run_clock.specs.Counted.{counted_time}
+use Rattle.run_clock.specs.Counted.{Timer, counted_time, is_due as is_timer_due}
 use Rattle.run_capture.specs.Output.{uncaptured}
 use Rattle.run_capture.specs.Heard.{is_stream}
 use Rattle.run_capture.specs.Captured.{read_error}
@@ -15,7 +15,10 @@ use Rattle.run_capture.specs.declared.test_output.ChildOutput.{ChildOutput}
 use Rattle.run_capture.specs.declared.test_output.ChildOutput.TheVariants as outputs
 use Rattle.run_capture.specs.declared.test_output.ChildFdError.{ChildFdError}
 use Rattle.run_capture.specs.declared.test_output.ChildFdError.TheVariants.{Wait}
-use Rattle.run_events.specs.Result.{execution_result}
+use Rattle.run_events.specs.Result.{execution_result, is_success}
+use Rattle.run_events.specs.declared.request.Request.{Request}
+use Rattle.run_events.specs.declared.request.Request.TheVariants.{Shutdown, OtherCancel}
+use Rattle.run_events.specs.declared.retry_policy.RetryPolicy.{RetryPolicy}
 use Rattle.run_events.specs.declared.result.ChildExit.{ChildExit}
 use Rattle.run_events.specs.declared.result.ChildExecutionOutput.{ChildExecutionOutput}
 use Rattle.run_events.specs.declared.result.ChildExecutionOutput.TheVariants.{Output, StartError}
@@ -26,10 +29,13 @@ use Rattle.run_events.specs.declared.settings.Settings.{Settings}
 use Rattle.run_model.specs.declared.happening.Happening.{Happening}
 use Rattle.run_model.specs.declared.unit_turn.UnitTurn.{UnitTurn}
 use Rattle.run_model.specs.declared.unit_turn.UnitTurn.TheVariants.{StartFailed, Exit, WaitFailed}
-use Rattle.run_model.specs.declared.unit_turn.UnitTurn.TheVariants.{Piece, StreamEnd, ReadError}
+use Rattle.run_model.specs.declared.unit_turn.UnitTurn.TheVariants.{Piece, StreamEnd, ReadError, Decide}
 use Rattle.run_model.specs.declared.unit_view.AttemptTerms.{AttemptTerms}
-use Rattle.run_model.specs.Story.{OwnTurn, story_of, pieces, begins_attempt, first_said, any_is}
-use Rattle.run_model.specs.Timing.{ends_wait, slow_count, has_timed_out, has_leaked, timer_of, is_timer_due_at}
+use Rattle.run_model.specs.Backoff.{retry_count, delay_by}
+use Rattle.run_model.specs.Environment.{attempts_by}
+use Rattle.run_model.specs.Story.{OwnTurn, Attempt, cut, story_of, pieces, begins_attempt, decides, first_said, any_is}
+use Rattle.run_model.specs.Timing.{ends_wait, is_due_turn, slow_count, has_timed_out, has_leaked, timer_of}
+use Rattle.run_model.specs.Timing.{is_timer_due_at}
 use Rattle.run_model.specs.Admission.{unit_of_test, terms_at}
 
 -- when an attempt began
@@ -127,13 +133,13 @@ abbrev pub output_by : Option (List ℕ) → ChildOutput → List ChildFdError �
 output_by (Some error) output errors = StartError error
 output_by None output errors = Output output errors
 
--- the status of a piece as the attempt of this number, of so many at most, on these terms: it is slow where it was
--- so once at least, and no delay comes before one yet
+-- the status of a piece as the attempt of this number, after this delay, on these terms: it is slow where it was so once at
+-- least
 abbrev pub status_of : AttemptTerms → ℕ → ℕ → List OwnTurn → ExecuteStatus
-status_of terms attempts attempt piece = record {
+status_of terms delay attempt piece = record {
   attempt = attempt;
-  attempts = attempts;
-  delay = 0;
+  attempts = attempts_by terms.retries;
+  delay = delay;
   result = result_by terms piece (start_error_of piece);
   output = output_by (start_error_of piece) (output_of terms.strategy piece) (errors_of piece);
   slow = nat_lt 0 (slow_count terms.slow piece);
@@ -141,39 +147,88 @@ status_of terms attempts attempt piece = record {
   time = time_of terms piece;
 }
 
--- the statuses of the pieces that have ended, in order: the first piece is attempt 1
-abbrev pub ended_statuses : AttemptTerms → ℕ → List (List OwnTurn) → List ExecuteStatus
-ended_statuses terms attempts [] = []
-ended_statuses terms attempts (piece ∷ earlier) =
-    ended_statuses terms attempts earlier
-    ++ (if has_ended terms piece then status_of terms attempts (length earlier + 1) piece ∷ [] else [])
+-- the word with which an attempt was decided on, and the moment of that
+abbrev pub word_in : UnitTurn → Option ℕ
+word_in (Decide word) = Some word
+word_in _ = None
+
+abbrev pub word_of : List OwnTurn → ℕ
+word_of after = unwrap_or (first_said (λ t. word_in t.turn) after) 0
+
+abbrev pub decided_at : List OwnTurn → ℕ
+decided_at after = unwrap_or (first_said (moment_if decides) after) 0
+
+-- the delay before the attempt that comes after these: none before the first
+abbrev pub delay_after : RetryPolicy → List Attempt → ℕ
+delay_after retries [] = 0
+delay_after retries (cut piece after ∷ earlier) = delay_by retries (length earlier) (word_of after)
+
+-- the statuses of the attempts that have ended, in order
+abbrev pub ended_statuses : AttemptTerms → List Attempt → List ExecuteStatus
+ended_statuses terms [] = []
+ended_statuses terms (cut piece after ∷ earlier) =
+    ended_statuses terms earlier
+    ++ (if has_ended terms piece
+    then status_of terms (delay_after terms.retries earlier) (length earlier + 1) piece ∷ []
+    else [])
 
 -- which attempt a unit is at, and when that began: before the first it is at attempt 1
-abbrev pub attempt_in : List (List OwnTurn) → ℕ
+abbrev pub attempt_in : List Attempt → ℕ
 attempt_in [] = 1
-attempt_in (piece ∷ earlier) = length earlier + 1
+attempt_in (a ∷ earlier) = length earlier + 1
 
-abbrev pub start_in : List (List OwnTurn) → ℕ
+abbrev pub start_in : List Attempt → ℕ
 start_in [] = 0
-start_in (piece ∷ earlier) = start_of piece
+start_in (cut piece after ∷ earlier) = start_of piece
 
--- whether the timer of its attempt is due at a moment: one that has ended has none
-abbrev pub is_due_in : AttemptTerms → ℕ → List (List OwnTurn) → Bool
+-- whether the attempt of this number is tried again on these terms: it failed, and a retry is left
+abbrev pub is_retried : AttemptTerms → ℕ → List OwnTurn → Bool
+is_retried terms attempt piece =
+    not (is_success (result_by terms piece (start_error_of piece))) && nat_le attempt (retry_count terms.retries)
+
+-- a turn ends the delay before a retry where its timer is due, or a request that cancels the run is taken
+abbrev pub cancels : Option Request → Bool
+cancels (Some (Shutdown request)) = true
+cancels (Some OtherCancel) = true
+cancels _ = false
+
+abbrev pub ends_delay : OwnTurn → Bool
+ends_delay t = is_due_turn t.turn || cancels t.request
+
+abbrev pub is_delay_over : List OwnTurn → Bool
+is_delay_over [] = false
+is_delay_over (t ∷ before) = ends_delay t || is_delay_over before
+
+-- the timer of that delay, set where it was decided on
+abbrev pub delay_timer : RetryPolicy → List OwnTurn → List Attempt → Timer
+delay_timer retries after attempts = record {
+  set = decided_at after;
+  duration = delay_after retries attempts;
+  past = [];
+}
+
+-- whether the timer of an attempt is due at a moment, which goes on, or after which a delay passes: one that has ended has
+-- none until it is decided that it is tried again
+abbrev pub is_due_in : AttemptTerms → ℕ → List Attempt → Bool
 is_due_in terms now [] = false
-is_due_in terms now (piece ∷ earlier) = not (has_ended terms piece) && is_timer_due_at now (timer_of terms piece)
+is_due_in terms now (cut piece [] ∷ earlier) =
+    not (has_ended terms piece) && is_timer_due_at now (timer_of terms piece)
+is_due_in terms now (cut piece (d ∷ after) ∷ earlier) =
+    is_retried terms (length earlier + 1) piece && not (is_delay_over (d ∷ after))
+    && is_timer_due (delay_timer terms.retries (d ∷ after) (cut piece (d ∷ after) ∷ earlier)) now
 
 -- whether none of them goes on: it is the newest that does
-abbrev pub none_goes_on : AttemptTerms → List (List OwnTurn) → Bool
+abbrev pub none_goes_on : AttemptTerms → List Attempt → Bool
 none_goes_on terms [] = true
-none_goes_on terms (piece ∷ earlier) = has_ended terms piece
+none_goes_on terms (cut piece after ∷ earlier) = has_ended terms piece
 
--- how many retries the test at a place of the plan has: no plan gives any yet
-abbrev pub retries_of : Settings → ℕ → ℕ
-retries_of p j = 0
+-- how many retries the test at a place of the plan has
+abbrev pub retries_at : Settings → ℕ → ℕ
+retries_at p j = retry_count (terms_at p j).retries
 
 -- the attempts of the test at place j in a sub-run, and what came of those that have ended, by its own turns alone
-abbrev pub pieces_of : Settings → ℕ → List Happening → List (List OwnTurn)
+abbrev pub pieces_of : Settings → ℕ → List Happening → List Attempt
 pieces_of p j run = pieces (story_of (unit_of_test p j) run)
 
 abbrev pub statuses_of : Settings → ℕ → List Happening → List ExecuteStatus
-statuses_of p j run = ended_statuses (terms_at p j) (1 + retries_of p j) (pieces_of p j run)
+statuses_of p j run = ended_statuses (terms_at p j) (pieces_of p j run)

@@ -17,7 +17,7 @@ use Rattle.run_events.specs.declared.retry_policy.MaxFail.TheVariants.{All, Coun
 use Rattle.run_events.specs.declared.retry_policy.TerminateMode.{TerminateMode}
 use Rattle.run_events.specs.declared.retry_policy.TerminateMode.TheVariants.{Wait, Immediate}
 use Rattle.run_events.specs.declared.signal.Signal.{Signal}
-use Rattle.run_events.specs.declared.signal.Signal.TheVariants.{Int, Hup, Term, Quit}
+use Rattle.run_events.specs.declared.signal.Signal.TheVariants.{Int, Hup, Quit}
 use Rattle.run_events.specs.declared.stats.RunStats.{RunStats}
 use Rattle.run_model.specs.declared.dispatcher_view.Tally.{Tally}
 use Rattle.run_model.specs.declared.dispatcher_view.CancelRules.{CancelRules}

@@ -7,15 +7,18 @@ use Rattle.run_events.specs.declared.turn.Turn.{Turn}
 use Rattle.run_events.specs.declared.turn.Turn.TheVariants.{Begin, Deliver, GlobalDue, ReportCancel, End}
 use Rattle.run_events.specs.declared.turn.Turn.TheVariants.{Signal as SignalCame}
 use Rattle.run_events.specs.declared.message.Message.{Message}
-use Rattle.run_events.specs.declared.message.Message.TheVariants.{Start, Slow, Skip, Finish}
+use Rattle.run_events.specs.declared.message.Message.TheVariants.{Start, Slow, AttemptFailed, Retry, Skip, Finish}
 use Rattle.run_events.specs.declared.message.TestStart.{TestStart}
 use Rattle.run_events.specs.declared.message.TestFinish.{TestFinish}
+use Rattle.run_events.specs.declared.message.AttemptFailed.{AttemptFailed as Failure}
+use Rattle.run_events.specs.declared.message.TestRetry.{TestRetry}
 use Rattle.run_events.specs.declared.events.ReporterEvent.{ReporterEvent}
 use Rattle.run_events.specs.declared.events.ReporterEvent.TheVariants.{Test}
 use Rattle.run_events.specs.declared.events.RunStarted.{RunStarted}
 use Rattle.run_events.specs.declared.events.TestEventKind.{TestEventKind}
 use Rattle.run_events.specs.declared.events.TestEventKind.TheVariants.{TestStarted, TestSlow, TestFinished}
-use Rattle.run_events.specs.declared.events.TestEventKind.TheVariants.{TestSkipped}
+use Rattle.run_events.specs.declared.events.TestEventKind.TheVariants.{TestSkipped, TestAttemptFailedWillRetry}
+use Rattle.run_events.specs.declared.events.TestEventKind.TheVariants.{TestRetryStarted}
 use Rattle.run_model.specs.declared.dispatcher_view.CancelRules.{CancelRules}
 use Rattle.run_model.specs.declared.dispatcher_view.DispatcherView.{DispatcherView}
 use Rattle.run_model.specs.Unit.{is_due}
@@ -115,17 +118,27 @@ started_event start t = TestStarted (record { start = start; running = t.running
 abbrev pub finished_event : TestFinish → Tally → TestEventKind
 finished_event finish t = TestFinished (record { finish = finish; running = t.running; stats = t.stats })
 
+-- the failure of an attempt, and the start of a further one, which count nothing
+abbrev pub failed_event : Failure → Tally → TestEventKind
+failed_event failure t = TestAttemptFailedWillRetry (record { failed = failure; running = t.running })
+
+abbrev pub retried_event : TestRetry → Tally → TestEventKind
+retried_event retry t = TestRetryStarted (record { retry = retry; running = t.running })
+
 -- what the delivery of a message tells, with the counts after it
 abbrev pub told_of : Tally → Message → Option TestEventKind
 told_of t (Start start) = if may_go t then Some (started_event start (with_start t)) else None
 told_of t (Skip skip) = Some (TestSkipped skip)
 told_of t (Slow slow) = Some (TestSlow slow)
+told_of t (AttemptFailed failure) = Some (failed_event failure t)
+told_of t (Retry retry) = if may_go t then Some (retried_event retry t) else None
 told_of t (Finish finish) = Some (finished_event finish (with_finish t (finished_test finish)))
 told_of t _ = None
 
--- the answer to a unit whose start is delivered
+-- the answer to a unit whose start, or retry, is delivered
 abbrev pub go_of : Tally → Message → Option Bool
 go_of t (Start start) = Some (may_go t)
+go_of t (Retry retry) = Some (may_go t)
 go_of t _ = None
 
 -- what a message needs: room in the counts, and a finish is of a test that runs, after an attempt
@@ -133,6 +146,8 @@ abbrev pub Fits : Tally → Message → Type 0
 Fits t (Start start) = t.running + 1 < 2 ^ 32
 Fits t (Skip skip) = t.stats.skipped < 2 ^ 32
 Fits t (Slow slow) = ⊤
+Fits t (AttemptFailed failure) = ⊤
+Fits t (Retry retry) = ⊤
 Fits t (Finish finish) = AreBelow (2 ^ 32) t.stats × (0 < length finish.statuses) × (0 < t.running)
 Fits t _ = ⊥
 

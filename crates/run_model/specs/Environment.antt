@@ -1,5 +1,5 @@
 -- What the child of a test is started with: its command, its variables and its streams.
-use Rattle.std.specs.Prelude.{ℕ, List, [], ◌∷◌, ◌++◌, true, false, Option, Some, None, codes, decimal}
+use Rattle.std.specs.Prelude.{ℕ, ◌+◌, List, [], ◌∷◌, ◌++◌, true, false, Option, Some, None, codes, decimal}
 use Rattle.uuid.specs.Text.{hyphenated_text, lower}
 use Rattle.run_capture.specs.declared.test_output.Stream.{Stream}
 use Rattle.run_capture.specs.declared.test_output.Stream.TheVariants as streams
@@ -8,11 +8,21 @@ use Rattle.run_capture.specs.declared.test_output.CaptureStrategy.TheVariants as
 use Rattle.run_events.specs.declared.ask.Ask.{Ask}
 use Rattle.run_events.specs.declared.ask.Ask.TheVariants.{Start as AskStart}
 use Rattle.run_events.specs.declared.plan.GroupSlot.{GroupSlot}
+use Rattle.run_events.specs.declared.message.TestStart.{TestStart}
+use Rattle.run_events.specs.declared.retry_policy.RetryPolicy.{RetryPolicy}
 use Rattle.run_model.specs.declared.unit_view.UnitView.{UnitView}
+use Rattle.run_model.specs.Backoff.{retry_count}
 
--- how many attempts a test has: no test has retries yet
+-- how many attempts a test has at most
+abbrev pub attempts_by : RetryPolicy → ℕ
+attempts_by retries = retry_count retries + 1
+
 abbrev pub attempts : UnitView → ℕ
-attempts u = 1
+attempts u = attempts_by u.terms.retries
+
+-- a test, as its starts tell it
+abbrev pub test_start : UnitView → TestStart
+test_start u = record { test = u.test; command = u.command; slot = u.slot }
 
 -- the variables that a test's child gets: who it is
 unfoldable pub identity_variables : UnitView → List (List ℕ × List ℕ)

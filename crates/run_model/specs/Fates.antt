@@ -1,40 +1,17 @@
 -- What becomes of a test in a sub-run that has ended, and what is told of it then.
-use Rattle.std.specs.Prelude.{ℕ, ◌+◌, ◌-◌, ◌≡◌, ◌⊎◌, ◌≤◌, ◌<◌, ◌==◌, nat_lt, ◌&&◌, ◌||◌, not, List, [], ◌∷◌, ◌++◌}
-use Rattle.std.specs.Prelude.{length, Bool, true, false, if◌then◌else◌, Option, Some, is_some}
+use Rattle.std.specs.Prelude.{ℕ, ◌-◌, ◌≡◌, ◌⊎◌, ◌≤◌, ◌<◌, not, List, [], ◌∷◌, ◌++◌}
+use Rattle.std.specs.Prelude.{length, Bool, true, false, option_to_list}
 use Rattle.std.specs.List.{list_all}
 use Rattle.run_events.specs.Result.{is_success}
 use Rattle.run_events.specs.declared.result.ExecuteStatus.{ExecuteStatus}
 use Rattle.run_events.specs.declared.settings.Settings.{Settings}
 use Rattle.run_model.specs.declared.happening.Happening.{Happening}
-use Rattle.run_model.specs.declared.happening.UnitPart.{UnitPart}
-use Rattle.run_model.specs.declared.happening.UnitPart.TheVariants.{Acts}
-use Rattle.run_model.specs.declared.unit_turn.UnitTurn.TheVariants.{Answered}
 use Rattle.run_model.specs.Admission.{tests_in, unit_of_test, terms_at}
-use Rattle.run_model.specs.Attempts.{none_goes_on, retries_of, pieces_of, statuses_of}
-use Rattle.run_model.specs.Words.{reason, told}
+use Rattle.run_model.specs.Attempts.{none_goes_on, retries_at, pieces_of, statuses_of}
+use Rattle.run_model.specs.Story.{never_started, was_left}
+use Rattle.run_model.specs.Unit.{last_status}
+use Rattle.run_model.specs.Words.{told}
 use Rattle.run_model.specs.Accounts.{News, started, failed, retried, finished, skipped, account_of, is_mismatched}
-
--- whether a turn delivered the start of test k, or its retry
-abbrev pub lets_go : ℕ → Option UnitPart → Bool
-lets_go k (Some (Acts j (Answered go))) = j == k
-lets_go k _ = false
-
--- how many times that was: its start, and then its retries
-abbrev pub deliveries : ℕ → List Happening → ℕ
-deliveries k [] = 0
-deliveries k (x ∷ past) = deliveries k past + (if lets_go k x.part then 1 else 0)
-
--- test k was never started: a cause stands before the delivery of its start
-abbrev pub never_started : ℕ → List Happening → Bool
-never_started k [] = false
-never_started k (x ∷ past) =
-    (lets_go k x.part && (deliveries k past == 0) && is_some (reason past)) || never_started k past
-
--- test k was left between two attempts: a cause stands before the delivery of a retry
-abbrev pub was_left : ℕ → List Happening → Bool
-was_left k [] = false
-was_left k (x ∷ past) =
-    (lets_go k x.part && nat_lt 0 (deliveries k past) && is_some (reason past)) || was_left k past
 
 -- what is told of attempts each of which a further one follows, but the last
 abbrev pub retold : List ExecuteStatus → List News
@@ -55,6 +32,13 @@ account false true left ss = []
 account false false true ss = started ∷ failures ss
 account false false false ss = started ∷ (retold ss ++ finished ss ∷ [])
 
+-- the attempts that are told as they end: each that failed and is to be tried again, and the last with the finish
+abbrev pub told_ended : List News → List ExecuteStatus
+told_ended [] = []
+told_ended (failed s ∷ news) = s ∷ told_ended news
+told_ended (finished ss ∷ news) = option_to_list (last_status ss) ++ told_ended news
+told_ended (n ∷ news) = told_ended news
+
 -- with so many retries: each attempt but the last failed, and the last passed or no retry was left
 abbrev pub MeetsAttemptLaw : ℕ → List ExecuteStatus → Type 0
 MeetsAttemptLaw n [] = ⊥
@@ -66,14 +50,17 @@ abbrev pub HasRetryLeft : ℕ → List ExecuteStatus → Type 0
 HasRetryLeft n ss = (list_all (λ s. not (is_success s.result)) ss ≡ true) × (length ss ≤ n) × (0 < length ss)
 
 -- the test at place j of the plan, which is unit k, has its fate in a sub-run: what was told of it is its account, with
--- the attempts that its own turns made, and these meet their law and have ended
+-- the attempts that its own turns made: they meet their law, they have ended, each that was let go has its status, and
+-- they were told as they ended, each once
 pub record HasFateAs (p : Settings) (run : List Happening) (j k : ℕ) : Type 0 where
   pub account : account_of k (told run)
       ≡ account (is_mismatched p j) (never_started k run) (was_left k run) (statuses_of p j run)
   pub finished : is_mismatched p j ≡ false → never_started k run ≡ false → was_left k run ≡ false
-      → MeetsAttemptLaw (retries_of p j) (statuses_of p j run)
-  pub left : is_mismatched p j ≡ false → was_left k run ≡ true → HasRetryLeft (retries_of p j) (statuses_of p j run)
+      → MeetsAttemptLaw (retries_at p j) (statuses_of p j run)
+  pub left : is_mismatched p j ≡ false → was_left k run ≡ true → HasRetryLeft (retries_at p j) (statuses_of p j run)
   pub ended : none_goes_on (terms_at p j) (pieces_of p j run) ≡ true
+  pub each : length (statuses_of p j run) ≡ length (pieces_of p j run)
+  pub once : told_ended (account_of k (told run)) ≡ statuses_of p j run
 
 abbrev pub HasFate : Settings → List Happening → ℕ → Type 0
 HasFate p run j = HasFateAs p run j (unit_of_test p j)

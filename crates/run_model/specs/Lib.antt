@@ -1,3 +1,4 @@
+pub mod Backoff
 pub mod Slow
 pub mod Environment
 pub mod Terminate
@@ -9,8 +10,8 @@ pub mod Board
 pub mod Cancel
 pub mod Turns
 pub mod Journal
-pub mod Accounts
 pub mod Story
+pub mod Accounts
 pub mod Timing
 pub mod Attempts
 pub mod Fates

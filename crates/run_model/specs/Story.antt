@@ -1,16 +1,16 @@
 -- The story of a unit: its own turns, cut where it was let go.
-use Rattle.std.specs.Prelude.{ℕ, ◌+◌, ◌==◌, List, [], drop, ◌∷◌, ◌++◌, Bool, false, ◌||◌, if◌then◌else◌, Option, Some, None}
-use Rattle.std.specs.Prelude.{option_to_list}
+use Rattle.std.specs.Prelude.{ℕ, ◌+◌, ◌==◌, List, [], drop, ◌∷◌, ◌++◌, Bool, true, false, ◌||◌, if◌then◌else◌, Option, Some, None}
+use Rattle.std.specs.Prelude.{option_to_list, is_some, nat_lt, ◌&&◌}
 use Rattle.std.specs.Option.{option_or}
 use Rattle.run_events.specs.declared.request.Request.{Request}
 use Rattle.run_model.specs.declared.happening.Happening.{Happening}
 use Rattle.run_model.specs.declared.happening.UnitPart.{UnitPart}
 use Rattle.run_model.specs.declared.happening.UnitPart.TheVariants.{Acts}
 use Rattle.run_model.specs.declared.unit_turn.UnitTurn.{UnitTurn}
-use Rattle.run_model.specs.declared.unit_turn.UnitTurn.TheVariants.{Answered, Take}
+use Rattle.run_model.specs.declared.unit_turn.UnitTurn.TheVariants.{Answered, Take, Decide}
 use Rattle.run_model.specs.declared.unit_view.UnitView.{UnitView}
 use Rattle.run_model.specs.Unit.{is_live}
-use Rattle.run_model.specs.Words.{unit_of, unit_after}
+use Rattle.run_model.specs.Words.{unit_of, unit_after, reason}
 
 -- a unit's own turn, at a moment of the run's clock, with the request that it takes, if it takes one
 pub record OwnTurn : Type 0 where
@@ -66,15 +66,27 @@ abbrev pub begins_attempt : UnitTurn → Bool
 begins_attempt (Answered go) = go
 begins_attempt _ = false
 
--- the pieces of a story, one for each attempt: each begins with the turn that let it go, and what comes before the
--- first of these is in none. The newest piece stands first, and in each its newest turn
-abbrev pub with_turn : OwnTurn → List (List OwnTurn) → List (List OwnTurn)
-with_turn t [] = []
-with_turn t (piece ∷ earlier) = (t ∷ piece) ∷ earlier
+-- whether a turn decides what comes after an attempt
+abbrev pub decides : UnitTurn → Bool
+decides (Decide word) = true
+decides _ = false
 
-abbrev pub pieces : List OwnTurn → List (List OwnTurn)
+-- an attempt of a story: its own turns, from the one that let it go until it is decided on, and the turns from then on,
+-- until the next attempt begins. The newest turn stands first
+pub data Attempt : Type 0 where
+  cut : List OwnTurn → List OwnTurn → Attempt
+
+-- the attempts of a story: each begins with the turn that let it go, and what comes before the first of these is in none.
+-- The newest attempt stands first
+abbrev pub with_turn : OwnTurn → List Attempt → List Attempt
+with_turn t [] = []
+with_turn t (cut piece [] ∷ earlier) =
+    (if decides t.turn then cut piece (t ∷ []) else cut (t ∷ piece) []) ∷ earlier
+with_turn t (cut piece (d ∷ after) ∷ earlier) = cut piece (t ∷ d ∷ after) ∷ earlier
+
+abbrev pub pieces : List OwnTurn → List Attempt
 pieces [] = []
-pieces (t ∷ before) = if begins_attempt t.turn then (t ∷ []) ∷ pieces before else with_turn t (pieces before)
+pieces (t ∷ before) = if begins_attempt t.turn then cut (t ∷ []) [] ∷ pieces before else with_turn t (pieces before)
 
 -- what the first of some turns that says anything says
 abbrev pub first_said : {X : Type 0} → (OwnTurn → Option X) → List OwnTurn → Option X
@@ -94,3 +106,25 @@ any_after is (t ∷ before) = is t before || any_after is before
 abbrev pub newest_after : (OwnTurn → List OwnTurn → Bool) → List OwnTurn → ℕ
 newest_after is [] = 0
 newest_after is (t ∷ before) = if is t before then t.moment else newest_after is before
+
+-- whether a turn delivered the start of test k, or its retry
+abbrev pub lets_go : ℕ → Option UnitPart → Bool
+lets_go k (Some (Acts j (Answered go))) = j == k
+lets_go k _ = false
+
+-- how many times that was: its start, and then its retries
+abbrev pub deliveries : ℕ → List Happening → ℕ
+deliveries k [] = 0
+deliveries k (x ∷ past) = deliveries k past + (if lets_go k x.part then 1 else 0)
+
+-- test k was never started: a cause stands before the delivery of its start
+abbrev pub never_started : ℕ → List Happening → Bool
+never_started k [] = false
+never_started k (x ∷ past) =
+    (lets_go k x.part && (deliveries k past == 0) && is_some (reason past)) || never_started k past
+
+-- test k was left between two attempts: a cause stands before the delivery of a retry
+abbrev pub was_left : ℕ → List Happening → Bool
+was_left k [] = false
+was_left k (x ∷ past) =
+    (lets_go k x.part && nat_lt 0 (deliveries k past) && is_some (reason past)) || was_left k past

@@ -8,7 +8,7 @@ use Rattle.run_events.specs.declared.turn.Turn.TheVariants.{Begin, Admit, Delive
 use Rattle.run_events.specs.declared.turn.Turn.TheVariants.{WaitFailed, Piece, StreamEnd, ReadError, Decide, Clock, End}
 use Rattle.run_events.specs.declared.turn.Turn.TheVariants.{UnitDue as TurnDue, Take, GlobalDue, Signal, ReportCancel}
 use Rattle.run_events.specs.declared.message.Message.{Message}
-use Rattle.run_events.specs.declared.message.Message.TheVariants.{Start}
+use Rattle.run_events.specs.declared.message.Message.TheVariants.{Start, Retry}
 use Rattle.run_events.specs.declared.events.TestEventKind.{TestEventKind}
 use Rattle.run_events.specs.declared.events.TestEventKind.TheVariants.{RunStarted, RunFinished}
 use Rattle.run_events.specs.declared.events.RunFinishedStats.TheVariants.{Single}
@@ -110,9 +110,10 @@ abbrev pub admission : Option Newcomer → Deed
 admission None = nothing_done
 admission (Some new) = record nothing_done { part = Some (Joins new.unit); sent = Some new.sent }
 
--- the unit whose start a message is
+-- the unit whose start, or retry, a message is
 abbrev pub starting : Message → Option ℕ
 starting (Start start) = Some start.test.unit
+starting (Retry retry) = Some retry.start.test.unit
 starting _ = None
 
 -- the answer to a unit

@@ -1,5 +1,5 @@
 -- The unit table: what each turn does to a unit in each phase.
-use Rattle.std.specs.Prelude.{ℕ, ◌==◌, List, [], ◌∷◌, ◌++◌, length, nat_lt, Bool, true, false, not, ◌&&◌}
+use Rattle.std.specs.Prelude.{ℕ, ◌+◌, ◌-◌, ◌==◌, List, [], ◌∷◌, ◌++◌, length, nat_lt, nat_le, Bool, true, false, not, ◌&&◌}
 use Rattle.std.specs.Prelude.{if◌then◌else◌, Option, Some, None, option_map}
 use Rattle.run_clock.specs.Stopwatch.{started_at, active_by}
 use Rattle.run_clock.specs.Sleep.{Sleep, set_at, fires_at}
@@ -7,14 +7,14 @@ use Rattle.run_capture.specs.Output.{uncaptured, nothing_of}
 use Rattle.run_capture.specs.Captured.{Captured, begun, takes as takes_stream, is_done, with_piece, with_end}
 use Rattle.run_capture.specs.Captured.{with_error, with_wait_error}
 use Rattle.run_capture.specs.declared.test_output.ChildFdError.{ChildFdError}
-use Rattle.run_events.specs.Result.{execution_result}
+use Rattle.run_events.specs.Result.{execution_result, is_success}
 use Rattle.run_events.specs.declared.ask.Ask.{Ask}
 use Rattle.run_events.specs.declared.ask.Ask.TheVariants.{Signal as AskSignal}
 use Rattle.run_events.specs.declared.message.Message.{Message}
-use Rattle.run_events.specs.declared.message.Message.TheVariants.{Slow, Finish}
+use Rattle.run_events.specs.declared.message.Message.TheVariants.{Slow, AttemptFailed, Retry, Finish}
 use Rattle.run_events.specs.declared.request.ChildSignal.TheVariants.{End}
 use Rattle.run_events.specs.declared.request.Request.{Request}
-use Rattle.run_events.specs.declared.request.Request.TheVariants.{Shutdown}
+use Rattle.run_events.specs.declared.request.Request.TheVariants.{Shutdown, OtherCancel}
 use Rattle.run_events.specs.declared.request.TerminateReason.TheVariants.{Signal}
 use Rattle.run_events.specs.declared.request.TermSignal.{TermSignal}
 use Rattle.run_events.specs.declared.request.TermSignal.TheVariants.{Term, Kill}
@@ -26,7 +26,7 @@ use Rattle.run_events.specs.declared.result.ExecutionResult.{ExecutionResult}
 use Rattle.run_events.specs.declared.result.ExecutionResult.TheVariants.{ExecFail, Timeout}
 use Rattle.run_model.specs.declared.phase.Phase.{Phase}
 use Rattle.run_model.specs.declared.phase.Phase.TheVariants.{StartSent, Starting, Running, Grace, KillWait, Leak}
-use Rattle.run_model.specs.declared.phase.Phase.TheVariants.{Deciding, Over}
+use Rattle.run_model.specs.declared.phase.Phase.TheVariants.{Deciding, Delay, RetrySent, Over}
 use Rattle.run_model.specs.declared.unit_turn.UnitTurn.{UnitTurn}
 use Rattle.run_model.specs.declared.unit_turn.UnitTurn.TheVariants.{Answered, Started, StartFailed, Exit, WaitFailed}
 use Rattle.run_model.specs.declared.unit_turn.UnitTurn.TheVariants.{Piece, StreamEnd, ReadError, Due, Take, Decide}
@@ -34,7 +34,8 @@ use Rattle.run_model.specs.declared.unit_view.Timers.{Timers}
 use Rattle.run_model.specs.declared.unit_view.UnitView.{UnitView}
 use Rattle.run_model.specs.Slow.{one_more, is_out_of_time, slow_time}
 use Rattle.run_model.specs.Terminate.{terminate_method}
-use Rattle.run_model.specs.Environment.{attempts, start_ask}
+use Rattle.run_model.specs.Backoff.{retry_count, delay_by}
+use Rattle.run_model.specs.Environment.{attempts, test_start, start_ask}
 
 -- a signal that is asked for its child, and the group of its child's processes
 abbrev pub signal_ask : TermSignal → UnitView → Ask
@@ -57,7 +58,7 @@ abbrev pub status_at : ℕ → ExecutionResult → ChildExecutionOutput → Unit
 status_at now result output u = record {
   attempt = u.attempt;
   attempts = attempts u;
-  delay = 0;
+  delay = u.delay;
   result = result;
   output = output;
   slow = nat_lt 0 u.timers.slow_count;
@@ -130,6 +131,54 @@ quiet u = record { next = u; sent = None; asked = None }
 abbrev pub decided : UnitView → Row
 decided u = record { next = record u { phase = Over; line = [] }; sent = Some (finish_message u); asked = None }
 
+-- the last status of some
+abbrev pub last_status : List ExecuteStatus → Option ExecuteStatus
+last_status [] = None
+last_status (s ∷ []) = Some s
+last_status (s ∷ t ∷ ss) = last_status (t ∷ ss)
+
+-- whether an attempt with this status passed
+abbrev pub has_passed : Option ExecuteStatus → Bool
+has_passed None = false
+has_passed (Some s) = is_success s.result
+
+-- whether its attempt is tried again: it failed, and a retry is left
+abbrev pub has_retry : UnitView → Bool
+has_retry u = not (has_passed (last_status u.statuses)) && nat_le u.attempt (retry_count u.terms.retries)
+
+-- the delay before that, drawn with this word, and the message of an attempt with this status
+abbrev pub next_delay : ℕ → UnitView → ℕ
+next_delay word u = delay_by u.terms.retries (u.attempt - 1) word
+
+abbrev pub failed_message : ℕ → UnitView → ExecuteStatus → Message
+failed_message delay u status = AttemptFailed (record { test = u.test; status = status; delay_next = delay })
+
+-- it decides that it is tried again, after a delay
+abbrev pub delayed : ℕ → ℕ → UnitView → Row
+delayed now delay u = record {
+  next = record u {
+    phase = Delay;
+    timers = record u.timers { wait = Some (set_at now delay) };
+    delay = delay;
+  };
+  sent = option_map (failed_message delay u) (last_status u.statuses);
+  asked = None;
+}
+
+abbrev pub decide_row : ℕ → ℕ → UnitView → Row
+decide_row now word u = if has_retry u then delayed now (next_delay word u) u else decided u
+
+-- the delay is over, or is passed over: it is to be let go for its next attempt
+abbrev pub retry_message : UnitView → Message
+retry_message u = Retry (record { start = test_start u; attempt = u.attempt + 1; attempts = attempts u })
+
+abbrev pub retried : UnitView → Row
+retried u = record {
+  next = record u { phase = RetrySent; timers = record u.timers { wait = None } };
+  sent = Some (retry_message u);
+  asked = None;
+}
+
 -- it is let go at this moment: its stopwatch starts, and all else of an attempt begins anew
 abbrev pub let_go : ℕ → UnitView → UnitView
 let_go now u = record u {
@@ -137,6 +186,17 @@ let_go now u = record u {
   timers = record { stopwatch = started_at now; slow = None; wait = None; slow_count = 0 };
   capture = begun (nothing_of u.terms.strategy);
 }
+
+-- it is let go at this moment and its start is asked, at first or for its next attempt
+abbrev pub begun_row : ℕ → UnitView → Row
+begun_row now u = record { next = let_go now u; sent = None; asked = Some (start_ask u) }
+
+abbrev pub at_next : UnitView → UnitView
+at_next u = record u { attempt = u.attempt + 1 }
+
+-- it isn't let go for its next attempt: it is left, and what waits in its line is taken no more
+abbrev pub left : UnitView → UnitView
+left u = record u { phase = Over; line = [] }
 
 -- its child has started at this moment, from which on it may be slow
 abbrev pub started : ℕ → UnitView → UnitView
@@ -211,11 +271,14 @@ asked_to_end now signal u = record {
   asked = Some (signal_ask signal u);
 }
 
--- it takes a request: one to end its child is heeded until that ends, and kills it where it was asked to end before
+-- it takes a request: one to end its child is heeded until that ends, and kills it where it was asked to end before; and
+-- one that cancels the run ends a delay
 abbrev pub requested : ℕ → Phase → Request → UnitView → Row
 requested now Running (Shutdown request) u =
     asked_to_end now (terminate_method (Signal request) u.terms.slow.grace) u
 requested now Grace (Shutdown request) u = killed u
+requested now Delay (Shutdown request) u = retried u
+requested now Delay OtherCancel u = retried u
 requested now ph request u = quiet u
 
 -- it takes the oldest request of its line
@@ -240,7 +303,7 @@ waited_row now turn u = quiet (heard_with now (having_heard u.capture turn) u)
 
 -- the rows, at a moment of the run's clock; of a turn that isn't taken in a phase nothing is meant by them
 abbrev pub row_at : ℕ → Phase → UnitTurn → UnitView → Row
-row_at now StartSent (Answered true) u = record { next = let_go now u; sent = None; asked = Some (start_ask u) }
+row_at now StartSent (Answered true) u = begun_row now u
 row_at now StartSent (Answered false) u = quiet (record u { phase = Over })
 row_at now Starting (Started pid) u = quiet (started now u)
 row_at now Starting (StartFailed error) u = quiet (ended now ExecFail (StartError error) u)
@@ -253,7 +316,11 @@ row_at now Grace turn u = running_row now turn u
 row_at now KillWait turn u = running_row now turn u
 row_at now Leak Take u = take_row now Leak u.line u
 row_at now Leak turn u = waited_row now turn u
-row_at now Deciding (Decide word) u = decided u
+row_at now Deciding (Decide word) u = decide_row now word u
+row_at now Delay Due u = retried u
+row_at now Delay Take u = take_row now Delay u.line u
+row_at now RetrySent (Answered true) u = begun_row now (at_next u)
+row_at now RetrySent (Answered false) u = quiet (left u)
 row_at _ _ _ u = quiet u
 
 -- a unit that takes a turn at this moment
@@ -295,6 +362,9 @@ takes_at now Leak u Due = is_due now u.timers.wait
 takes_at now Leak u Take = has_request u.line
 takes_at now Leak u turn = hears u.capture turn
 takes_at now Deciding u (Decide _) = true
+takes_at now Delay u Due = is_due now u.timers.wait
+takes_at now Delay u Take = has_request u.line
+takes_at now RetrySent u (Answered _) = true
 takes_at _ _ _ _ = false
 
 abbrev pub takes : ℕ → UnitView → UnitTurn → Bool

@@ -4,6 +4,7 @@
 //! a sum or a filter over it.
 #![tactic(auto)]
 
+mod backoff;
 mod dispatcher_view;
 mod entry;
 mod happening;
@@ -11,6 +12,7 @@ mod phase;
 mod unit_turn;
 mod unit_view;
 
+pub use backoff::{BackoffIter, delay_by, retry_count};
 pub use dispatcher_view::{CancelRules, Causes, DispatcherView, Facts, Tally};
 pub use entry::Entry;
 pub use happening::{Happening, UnitPart};

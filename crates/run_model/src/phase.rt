@@ -17,6 +17,10 @@ pub enum Phase {
     Leak,
     /// Its attempt has ended.
     Deciding,
+    /// Its attempt failed, and a delay passes before the next.
+    Delay,
+    /// Its retry message was sent, and it waits to be let go once more.
+    RetrySent,
     /// It is done.
     Over,
 }

@@ -6,7 +6,7 @@ use std::alloc::Global;
 /// A turn of one unit.
 #[derive(Drop)]
 pub enum UnitTurn {
-    /// Its start message was delivered, and it is let go or not.
+    /// Its start or retry message was delivered, and it is let go or not.
     Answered { go: bool },
     /// Its child started.
     Started { pid: u32 },

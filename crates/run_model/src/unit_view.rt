@@ -3,8 +3,8 @@ use crate::Phase;
 use run_capture::{CaptureStrategy, ChildAccumulator, List, Text};
 use run_clock::{PausableSleep, StopwatchStart};
 use run_events::{
-    ChildExit, ExecuteStatus, FlakyResult, LeakTimeout, Request, SlowTimeout, TestSlotAssignment,
-    TestUnit,
+    ChildExit, ExecuteStatus, FlakyResult, LeakTimeout, Request, RetryPolicy, SlowTimeout,
+    TestSlotAssignment, TestUnit,
 };
 use uuid::Uuid;
 
@@ -17,6 +17,8 @@ pub struct AttemptTerms {
     pub slow: SlowTimeout,
     /// How long the streams of its ended child are waited for.
     pub leak: LeakTimeout,
+    /// How often it is tried again where it fails, and after which delays.
+    pub retries: RetryPolicy,
 }
 
 /// The time of the current attempt, by the run's clock.
@@ -26,7 +28,8 @@ pub struct Timers {
     pub stopwatch: StopwatchStart,
     /// It is due where the attempt is slow, for the first time or again; none where it can't be.
     pub slow: Option<PausableSleep>,
-    /// It is due where the time to end by itself, or the wait for the streams, is over; none outside of these.
+    /// It is due where the time to end by itself, the wait for the streams, or the delay before a retry is over; none
+    /// outside of these.
     pub wait: Option<PausableSleep>,
     /// How often it was slow.
     pub slow_count: u32,
@@ -44,8 +47,11 @@ pub struct UnitView {
     pub threads: u32,
     pub terms: AttemptTerms,
     pub phase: Phase,
-    /// Its current attempt, from 1.
+    /// Its current attempt, from 1; between two attempts it is the failed one.
     pub attempt: u32,
+    /// The delay before its current attempt, and between two attempts that before the next; 0 before the first. In
+    /// nanoseconds.
+    pub delay: u64,
     pub timers: Timers,
     /// The requests that wait for it, the oldest first.
     pub line: List<Request>,
@@ -72,6 +78,7 @@ impl Drop for UnitView {
             terms: _,
             phase: _,
             attempt: _,
+            delay: _,
             timers: _,
             line: _,
             latest: _,

@@ -1,3 +1,4 @@
 mod Told
 mod Cuts
+mod DelayLemmas
 mod AdmissionLemmas

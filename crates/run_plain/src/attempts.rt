@@ -11,6 +11,7 @@ ghost use Rattle.run_model.specs.Attempts.{
   exit_of,
   has_ended,
   is_due_in,
+  is_retried,
   moment_if,
   none_goes_on,
   output_by,
@@ -19,13 +20,15 @@ ghost use Rattle.run_model.specs.Attempts.{
   start_error_of,
   status_of,
 };
+ghost use Rattle.run_model.specs.Backoff.{retry_count};
 ghost use Rattle.run_model.specs.Story.{begins_attempt, first_said, pieces};
 ghost use Rattle.run_model.specs.Timing.{has_leaked, has_timed_out};
 
 use crate::OwnTurn;
-use crate::results::execution_result;
+use crate::delays::{delay_after, is_delay_due, is_delay_over, retry_count};
+use crate::results::{execution_result, passes};
 use crate::standing::{has_timed_out, is_wait_over, slow_count};
-use crate::story::{begins_attempt, count_pieces, newest};
+use crate::story::{begins_attempt, count_attempts, newest_attempt};
 use crate::streams::{are_streams_done, output_of};
 use crate::timing::{has_leaked, is_timer_due_at, timer_of};
 use run_capture::{ChildFdError, Duplicate, List, Mem, Stream, Text};
@@ -168,23 +171,24 @@ fn outcome_of(
     Ok((outcome, ChildExecutionOutput::Output { output, errors }))
 }
 
-// The status of an attempt of this number, of so many at most.
+// The status of an attempt of this number, after this delay.
 fn status_of(
     alloc: Global,
     terms: AttemptTerms,
-    attempts: u32,
+    delay: u64,
     attempt: u32,
     piece: &[OwnTurn],
 ) -> Mem<ExecuteStatus>
-    ensures { IfOk result (λ s. s ≡ status_of terms attempts attempt piece.now) }
+    requires few { retry_count terms.retries + 1 < 2 ^ 32 }
+    ensures { IfOk result (λ s. s ≡ status_of terms delay attempt piece.now) }
 {
     let (outcome, output) = outcome_of(alloc, terms, piece)?;
     let start = begun_at(piece).unwrap_or(0);
     let end = ended_at(terms, piece).unwrap_or(0);
     Ok(ExecuteStatus {
         attempt,
-        attempts,
-        delay: 0,
+        attempts: retry_count(terms.retries) + 1,
+        delay,
         result: outcome,
         output,
         slow: slow_count(terms.slow, piece) > 0,
@@ -197,67 +201,76 @@ fn status_of(
 fn with_status(
     alloc: Global,
     terms: AttemptTerms,
-    attempts: u32,
+    delay: u64,
     attempt: u32,
     piece: &[OwnTurn],
     statuses: List<ExecuteStatus>,
 ) -> Mem<List<ExecuteStatus>>
+    requires few { retry_count terms.retries + 1 < 2 ^ 32 }
     ensures { IfOk result (λ l. l ≡ statuses
-        ++ (if has_ended terms piece.now then status_of terms attempts attempt piece.now ∷ [] else [])) }
+        ++ (if has_ended terms piece.now then status_of terms delay attempt piece.now ∷ [] else [])) }
 {
     let mut statuses = statuses;
     if has_ended(terms, piece) {
-        let status = status_of(alloc, terms, attempts, attempt, piece)?;
+        let status = status_of(alloc, terms, delay, attempt, piece)?;
         statuses.push(alloc, status)?;
     }
     Ok(statuses)
 }
 
-#[tactic(auto, using(crate::proofs::Cuts::statuses_cut, crate::proofs::Cuts::no_piece))]
-/// What came of the attempts of a unit that have ended, in order, by its story, the newest turn first. It has so many
-/// attempts at most, and they run on these terms.
+/// What came of the attempts of a unit that have ended, in order, by its story, the newest turn first. They run on these
+/// terms.
 pub fn statuses_of(
     alloc: Global,
     terms: AttemptTerms,
-    attempts: u32,
     story: &[OwnTurn],
 ) -> Mem<List<ExecuteStatus>>
-    requires few { length story.now < 2 ^ 32 }
-    ensures { IfOk result (λ l. l ≡ ended_statuses terms attempts (pieces story.now)) }
+    requires short { length story.now < 2 ^ 32 }
+    requires few { retry_count terms.retries + 1 < 2 ^ 32 }
+    ensures { IfOk result (λ l. l ≡ ended_statuses terms (pieces story.now)) }
 {
-    let newest = newest(story);
-    if newest == 0 {
+    let Some(newest) = newest_attempt(story) else {
         return Ok(List::new());
-    }
-    let (piece, before) = story.split_at(newest);
-    let attempt = count_pieces(before) as u32 + 1;
-    let statuses = statuses_of(alloc, terms, attempts, before)?;
-    with_status(alloc, terms, attempts, attempt, piece, statuses)
+    };
+    let attempt = count_attempts(newest.before) as u32 + 1;
+    let delay = delay_after(terms.retries, newest.before);
+    let statuses = statuses_of(alloc, terms, newest.before)?;
+    with_status(alloc, terms, delay, attempt, newest.piece, statuses)
 }
 
-#[tactic(auto, using(crate::proofs::Cuts::due_cut, crate::proofs::Cuts::no_piece))]
-/// Whether the timer of a unit's attempt is due at a moment, by its story, the newest turn first. An attempt that has
-/// ended has none.
-pub fn is_due(terms: AttemptTerms, now: u64, story: &[OwnTurn]) -> bool
-    ensures { result ≡ is_due_in terms now (pieces story.now) }
+// Whether an attempt of this number is tried again: it failed, and a retry is left.
+fn is_retried(alloc: Global, terms: AttemptTerms, attempt: u32, piece: &[OwnTurn]) -> Mem<bool>
+    ensures { IfOk result (λ retried. retried ≡ is_retried terms attempt piece.now) }
 {
-    let newest = newest(story);
-    if newest == 0 {
-        return false;
-    }
-    let (piece, _) = story.split_at(newest);
-    !has_ended(terms, piece) && is_timer_due_at(now, timer_of(terms, piece))
+    let (outcome, _) = outcome_of(alloc, terms, piece)?;
+    Ok(!passes(outcome) && attempt <= retry_count(terms.retries))
 }
 
-#[tactic(auto, using(crate::proofs::Cuts::none_cut, crate::proofs::Cuts::no_piece))]
+/// Whether the timer of a unit is due at a moment, by its story, the newest turn first: that of its attempt, or of the
+/// delay before the next. An attempt that has ended has none until it is decided that it is tried again.
+pub fn is_due(alloc: Global, terms: AttemptTerms, now: u64, story: &[OwnTurn]) -> Mem<bool>
+    requires short { length story.now < 2 ^ 32 }
+    ensures { IfOk result (λ due. due ≡ is_due_in terms now (pieces story.now)) }
+{
+    let Some(newest) = newest_attempt(story) else {
+        return Ok(false);
+    };
+    if newest.after.is_empty() {
+        let timer = timer_of(terms, newest.piece);
+        return Ok(!has_ended(terms, newest.piece) && is_timer_due_at(now, timer));
+    }
+    let attempt = count_attempts(newest.before) as u32 + 1;
+    let retried = is_retried(alloc, terms, attempt, newest.piece)?;
+    let delay = delay_after(terms.retries, story);
+    Ok(retried && !is_delay_over(newest.after) && is_delay_due(now, newest.after, delay))
+}
+
 /// Whether no attempt of a unit goes on, by its story, the newest turn first.
 pub fn none_goes_on(terms: AttemptTerms, story: &[OwnTurn]) -> bool
     ensures { result ≡ none_goes_on terms (pieces story.now) }
 {
-    let newest = newest(story);
-    if newest == 0 {
-        return true;
+    match newest_attempt(story) {
+        Some(newest) => has_ended(terms, newest.piece),
+        None => true,
     }
-    let (piece, _) = story.split_at(newest);
-    has_ended(terms, piece)
 }

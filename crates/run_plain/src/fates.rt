@@ -1,8 +1,10 @@
 // What becomes of a test in a run that is over.
-ghost use Rattle.std.specs.Prelude.{◌≡◌, ◌↔◌, ◌∷◌, ◌++◌, [], false, map, IfOk, IsTrue};
+ghost use Rattle.std.specs.Prelude.{◌≡◌, ◌↔◌, ◌∷◌, ◌++◌, [], false, map, not, IfOk, IsTrue};
+ghost use Rattle.std.specs.List.{list_all};
+ghost use Rattle.run_events.specs.Result.{is_success};
 ghost use Rattle.run_model.specs.Accounts.{finished};
 ghost use Rattle.run_plain.specs.declared.accounts.News.TheVariants.{Failed};
-ghost use Rattle.run_model.specs.Fates.{MeetsAttemptLaw, account, failures, retold};
+ghost use Rattle.run_model.specs.Fates.{HasRetryLeft, MeetsAttemptLaw, account, failures, retold};
 ghost use Rattle.run_plain.specs.News.{defined};
 
 use crate::News;
@@ -102,4 +104,21 @@ pub fn meets_attempt_law(retries: u32, statuses: &[ExecuteStatus]) -> bool
             !passes(status.result) && retries > 0 && meets_attempt_law(retries - 1, rest)
         }
     }
+}
+
+// Whether each attempt failed.
+fn have_failed(statuses: &[ExecuteStatus]) -> bool
+    ensures { result ≡ list_all (λ s. not (is_success s.result)) statuses.now }
+{
+    let [status, rest @ ..] = statuses else {
+        return true;
+    };
+    !passes(status.result) && have_failed(rest)
+}
+
+/// Whether attempts, of which there is one at least, all failed with a retry left, where there are so many.
+pub fn has_retry_left(retries: u32, statuses: &[ExecuteStatus]) -> bool
+    ensures { IsTrue result ↔ HasRetryLeft retries statuses.now }
+{
+    have_failed(statuses) && statuses.len() <= retries as usize && !statuses.is_empty()
 }

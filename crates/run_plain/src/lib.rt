@@ -8,6 +8,7 @@
 mod accounts;
 mod admission;
 mod attempts;
+mod delays;
 mod fates;
 mod front;
 mod results;
@@ -21,7 +22,7 @@ mod timing;
 pub use accounts::{News, account_of};
 pub use admission::{Admissions, candidate, group_weight_in_use, weight_in_use};
 pub use attempts::{is_due, none_goes_on, statuses_of};
-pub use fates::{account, meets_attempt_law};
+pub use fates::{account, has_retry_left, meets_attempt_law};
 pub use slots::{free_group_slot, free_slot};
 pub use statistics::{stats_are_of_told_events, stats_told};
 pub use story::OwnTurn;

@@ -1,9 +1,9 @@
 // What an admission makes.
-ghost use Rattle.std.specs.Prelude.{◌≡◌, ◌<◌, ◌^◌, length, IfOk, Some, option_map, is_some, slice_get, true};
+ghost use Rattle.std.specs.Prelude.{◌≡◌, ◌<◌, length, IfOk, Some, option_map, is_some, slice_get, true};
 ghost use Rattle.run_admission.specs.InUse.{admitted};
 ghost use Rattle.run_model.specs.Admission.{first_view, group_slot, limits_of, newcomer, newcomer_as, scripts_over};
 ghost use Rattle.run_model.specs.Admission.{skip_message, skipped_view, slots_of, start_message, test_of, unit_of_test};
-ghost use Rattle.run_model.specs.Admission.{units_in};
+ghost use Rattle.run_model.specs.Admission.{units_in, AreFew};
 
 use crate::units::Units;
 use run_admission::{Admission, Admitted, Candidate};
@@ -51,7 +51,7 @@ pub struct Newcomer {
 // A test that doesn't match, as it is skipped for this reason.
 fn skip_test(alloc: Global, settings: &Settings, test: u32, reason: &Text) -> Mem<Newcomer>
     requires planned { test < length settings.now.plan.tests }
-    requires few { units_in settings.now < 2 ^ 32 }
+    requires few { AreFew settings.now }
     ensures unit { IfOk result (λ a. option_map (skipped_view settings.now (unit_of_test settings.now test))
         (slice_get settings.now.plan.tests test) ≡ Some a.unit) }
     ensures sent { IfOk result (λ a. a.sent ≡ skip_message a.unit reason.now) }
@@ -82,7 +82,7 @@ fn start_test(
     slots: TestSlotAssignment,
 ) -> Mem<Newcomer>
     requires planned { test < length settings.now.plan.tests }
-    requires few { units_in settings.now < 2 ^ 32 }
+    requires few { AreFew settings.now }
     ensures unit { IfOk result (λ a. option_map (first_view settings.now (unit_of_test settings.now test) slots)
         (slice_get settings.now.plan.tests test) ≡ Some a.unit) }
     ensures sent { IfOk result (λ a. a.sent ≡ start_message a.unit) }
@@ -120,7 +120,7 @@ pub fn newcomer_of(alloc: Global, settings: &Settings, admitted: Admitted) -> Me
     requires planned { test_of admitted < length settings.now.plan.tests }
     requires made { is_some (newcomer_as settings.now admitted
         (slice_get settings.now.plan.tests (test_of admitted))) ≡ true }
-    requires few { units_in settings.now < 2 ^ 32 }
+    requires few { AreFew settings.now }
     ensures made { IfOk result (λ a. newcomer_as settings.now admitted
         (slice_get settings.now.plan.tests (test_of admitted)) ≡ Some (record { unit = a.unit; sent = a.sent })) }
     ensures place { IfOk result (λ a. a.unit.test.unit ≡ unit_of_test settings.now (test_of admitted)) }

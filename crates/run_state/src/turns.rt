@@ -1,9 +1,9 @@
 // The turns of a run: each does to the state what its row of the tables says.
-ghost use Rattle.std.specs.Prelude.{◌≡◌, ◌<◌, ◌≤◌, ◌-◌, ◌^◌, ◌++◌, [], IfOk, OnOk, true, false, option_to_list};
+ghost use Rattle.std.specs.Prelude.{◌≡◌, ◌<◌, ◌≤◌, ◌-◌, ◌++◌, [], IfOk, OnOk, true, false, option_to_list};
 ghost use Rattle.std.specs.Prelude.{None, option_map, if◌then◌else◌};
 ghost use Rattle.std.specs.VecDeque.{deque_len, deque_capacity};
 ghost use Rattle.run_admission.specs.InUse.{is_test_in_use};
-ghost use Rattle.run_model.specs.Admission.{newcomer, scripts_in, units_in};
+ghost use Rattle.run_model.specs.Admission.{newcomer, scripts_in, AreFew};
 ghost use Rattle.run_state.specs.Held.{IsSeated, Comes, units_with, given_back};
 ghost use Rattle.run_state.specs.Cancelled.{Cancels};
 ghost use Rattle.run_model.specs.Board.{unit_in, moved, step, deed_events, reach_all};
@@ -93,7 +93,7 @@ pub fn take_turn(
 pub fn admit(alloc: Global, settings: &Settings, state: &mut State) -> Mem<()>
     requires can { CanAdmit settings.now state.old.board }
     requires seated { IsSeated settings.now state.old }
-    requires few { units_in settings.now < 2 ^ 32 }
+    requires few { AreFew settings.now }
     ensures after { OnOk result (state.new.board
         ≡ moved state.old.board (admission (newcomer settings.now state.old.board.units))) }
     ensures seated { OnOk result (IsSeated settings.now state.new) }
@@ -122,7 +122,7 @@ fn seat(
     admitted: Admitted,
 ) -> Mem<()>
     requires comes { Comes settings.now units.old admitted }
-    requires few { units_in settings.now < 2 ^ 32 }
+    requires few { AreFew settings.now }
     ensures units { OnOk result (units.new
         ≡ units_with settings.now units.old (newcomer settings.now units.old)) }
     ensures queue { OnOk result (queue.new.items
@@ -136,12 +136,13 @@ fn seat(
     Ok(())
 }
 
-// The unit whose start a message is.
+// The unit whose start, or retry, a message is.
 fn starting(message: &Message) -> Option<u32>
     ensures { result ≡ starting message.now }
 {
     match message {
         Message::Start(start) => Some(start.test.unit),
+        Message::Retry(retry) => Some(retry.start.test.unit),
         _ => None,
     }
 }
@@ -213,7 +214,7 @@ pub fn advance(
     requires named { named ≡ turn_of_unit turn.now }
     requires can { CanAdvance settings.now state.old.board turn.now (turn_of_unit turn.now) }
     requires seated { IsSeated settings.now state.old }
-    requires few { units_in settings.now < 2 ^ 32 }
+    requires few { AreFew settings.now }
     ensures after { OnOk result (state.new.board
         ≡ step state.old.board turn.now (deed_on settings.now state.old.board turn.now)) }
     ensures seated { OnOk result (IsSeated settings.now state.new) }
@@ -236,7 +237,7 @@ fn advance_run(alloc: Global, settings: &Settings, state: &mut State, turn: &Tur
     requires can { CanRun settings.now state.old.board turn.now }
     requires seated { IsSeated settings.now state.old }
     requires later { state.old.board.dispatcher.latest ≤ state.old.board.clock }
-    requires few { units_in settings.now < 2 ^ 32 }
+    requires few { AreFew settings.now }
     ensures after { OnOk result (state.new.board
         ≡ step state.old.board turn.now (run_turn settings.now state.old.board turn.now)) }
     ensures seated { OnOk result (IsSeated settings.now state.new) }

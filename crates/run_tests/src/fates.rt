@@ -1,31 +1,40 @@
 // What was told of a test, beside its own turns and the account of its fate.
+ghost use Rattle.std.specs.Prelude.{◌≤◌};
+ghost use Rattle.run_model.specs.Backoff.{retry_count};
+
 use crate::made::{MEMORY, text};
-use crate::plan::Tests;
+use crate::plan::{Tests, retries, retry_count};
 use crate::steps::Walk;
 use run_capture::{CaptureStrategy, ChildFdError, List, Text};
 use run_events::{
     ChildExecutionOutput, ExecuteStatus, LeakTimeout, ReporterEvent, SlowTimeout, TestEventKind,
 };
-use run_model::AttemptTerms;
-use run_plain::{News, OwnTurn, account, account_of, meets_attempt_law, none_goes_on, statuses_of};
+use run_model::{AttemptTerms, UnitTurn};
+use run_plain::{
+    News, OwnTurn, account, account_of, has_retry_left, meets_attempt_law, none_goes_on,
+    statuses_of,
+};
 use std::alloc::Global;
 use std::process::Abort;
 
-// The terms of a usual test, of which no output is captured.
-fn usual_terms() -> AttemptTerms {
+// The terms of the first test, of which no output is captured.
+pub fn usual_terms(of: Tests) -> AttemptTerms
+    ensures { retry_count result.retries ≤ 1 }
+{
     AttemptTerms {
         strategy: CaptureStrategy::None,
         slow: SlowTimeout::usual(),
         leak: LeakTimeout::usual(),
+        retries: retries(of),
     }
 }
 
 // The attempts of the first unit, by its own turns.
-fn attempts(rt: &impl Abort, alloc: Global, story: &[OwnTurn]) -> List<ExecuteStatus> {
+fn attempts(rt: &impl Abort, alloc: Global, of: Tests, story: &[OwnTurn]) -> List<ExecuteStatus> {
     if story.len() > 100 {
         return List::new();
     }
-    statuses_of(alloc, usual_terms(), 1, story).expect(rt, MEMORY)
+    statuses_of(alloc, usual_terms(of), story).expect(rt, MEMORY)
 }
 
 // Whether errors are the same; only those of waits come here.
@@ -81,6 +90,24 @@ fn finished_in(event: &ReporterEvent) -> Option<&[ExecuteStatus]> {
     }
 }
 
+// The attempt that an event tells, where it tells that one failed.
+fn failed_in(event: &ReporterEvent) -> Option<&ExecuteStatus> {
+    match event {
+        ReporterEvent::Test(event) => match &event.kind {
+            TestEventKind::TestAttemptFailedWillRetry(event) => Some(&event.failed.status),
+            _ => None,
+        },
+        ReporterEvent::Tick => None,
+    }
+}
+
+fn last_failed(events: &[ReporterEvent]) -> Option<&ExecuteStatus> {
+    match events.last() {
+        Some(event) => failed_in(event),
+        None => None,
+    }
+}
+
 fn last_finished(events: &[ReporterEvent]) -> Option<&[ExecuteStatus]> {
     match events.last() {
         Some(event) => finished_in(event),
@@ -88,15 +115,28 @@ fn last_finished(events: &[ReporterEvent]) -> Option<&[ExecuteStatus]> {
     }
 }
 
-// Whether the attempts that the last event tells, where it tells that a test finished, are the first unit's own turns.
-pub fn has_own_attempts(rt: &impl Abort, alloc: Global, walk: &Walk) -> bool {
-    match last_finished(walk.events()) {
-        Some(told) => {
-            let attempts = attempts(rt, alloc, walk.story.as_slice());
-            are_same_attempts(told, attempts.as_slice())
-        }
-        None => true,
+// Whether an attempt is the only one of these.
+fn is_only_one(told: &ExecuteStatus, attempts: &[ExecuteStatus]) -> bool {
+    match attempts {
+        [one] => is_same_status(told, one),
+        _ => false,
     }
+}
+
+// Whether the attempts that the last event tells are these, where it tells that a test finished, or that its first attempt
+// failed.
+fn are_told(events: &[ReporterEvent], attempts: &[ExecuteStatus]) -> bool {
+    match (last_finished(events), last_failed(events)) {
+        (Some(told), _) => are_same_attempts(told, attempts),
+        (None, Some(told)) => is_only_one(told, attempts),
+        (None, None) => true,
+    }
+}
+
+// Whether the attempts that the last event tells are the first unit's own turns.
+pub fn has_own_attempts(rt: &impl Abort, alloc: Global, of: Tests, walk: &Walk) -> bool {
+    let attempts = attempts(rt, alloc, of, walk.story.as_slice());
+    are_told(walk.events(), attempts.as_slice())
 }
 
 fn letter(news: &News) -> &'static str {
@@ -124,13 +164,47 @@ fn told_letters(rt: &impl Abort, alloc: Global, walk: &Walk, unit: u32) -> Text 
     letters(rt, alloc, account.as_slice())
 }
 
+// What becomes of a test in a run that is over.
+#[derive(Clone, Copy, Drop)]
+struct Fate {
+    is_mismatched: bool,
+    never_started: bool,
+    was_left: bool,
+}
+
+// How often the unit of a story was let go, or how often it wasn't.
+fn answers(story: &[OwnTurn], go: bool) -> usize {
+    story
+        .iter()
+        .filter(|own| matches!(own.turn, UnitTurn::Answered { go: answer } if answer == go))
+        .count()
+}
+
+// The fate of the first test, by its own turns.
+fn first_fate(story: &[OwnTurn]) -> Fate {
+    let is_refused = answers(story, false) > 0;
+    let has_begun = answers(story, true) > 0;
+    Fate {
+        is_mismatched: false,
+        never_started: is_refused && !has_begun,
+        was_left: is_refused && has_begun,
+    }
+}
+
 fn fate_letters(
     rt: &impl Abort,
     alloc: Global,
-    mismatched: bool,
+    fate: Fate,
     statuses: &List<ExecuteStatus>,
 ) -> Text {
-    let account = account(alloc, mismatched, false, false, statuses).expect(rt, MEMORY);
+    let account = account(
+        alloc,
+        fate.is_mismatched,
+        fate.never_started,
+        fate.was_left,
+        statuses,
+    )
+    .expect(rt, MEMORY);
     letters(rt, alloc, account.as_slice())
 }
 
@@ -140,22 +214,44 @@ fn has_fate(
     alloc: Global,
     walk: &Walk,
     unit: u32,
-    mismatched: bool,
+    fate: Fate,
     statuses: &List<ExecuteStatus>,
 ) -> bool {
-    told_letters(rt, alloc, walk, unit) == fate_letters(rt, alloc, mismatched, statuses)
+    told_letters(rt, alloc, walk, unit) == fate_letters(rt, alloc, fate, statuses)
 }
 
-// The same of the first unit, whose attempts meet their law.
-fn has_first_fate(rt: &impl Abort, alloc: Global, walk: &Walk) -> bool {
-    let statuses = attempts(rt, alloc, walk.story.as_slice());
-    has_fate(rt, alloc, walk, 0, false, &statuses)
-        && meets_attempt_law(0, statuses.as_slice())
-        && none_goes_on(usual_terms(), walk.story.as_slice())
+// Whether the attempts of the first test are as its fate says: there are none, or they meet their law.
+fn are_lawful(of: Tests, fate: Fate, statuses: &[ExecuteStatus]) -> bool {
+    if fate.never_started {
+        statuses.is_empty()
+    } else if fate.was_left {
+        has_retry_left(retry_count(of), statuses)
+    } else {
+        meets_attempt_law(retry_count(of), statuses)
+    }
+}
+
+// Whether each attempt of a story has ended, and has its status.
+fn are_ended(of: Tests, story: &[OwnTurn], statuses: &[ExecuteStatus]) -> bool {
+    none_goes_on(usual_terms(of), story) && answers(story, true) == statuses.len()
+}
+
+fn has_first_fate(rt: &impl Abort, alloc: Global, of: Tests, walk: &Walk) -> bool {
+    let story = walk.story.as_slice();
+    let statuses = attempts(rt, alloc, of, story);
+    let fate = first_fate(story);
+    has_fate(rt, alloc, walk, 0, fate, &statuses)
+        && are_lawful(of, fate, statuses.as_slice())
+        && are_ended(of, story, statuses.as_slice())
 }
 
 fn has_second_fate(rt: &impl Abort, alloc: Global, walk: &Walk) -> bool {
-    has_fate(rt, alloc, walk, 1, true, &List::new())
+    let fate = Fate {
+        is_mismatched: true,
+        never_started: false,
+        was_left: false,
+    };
+    has_fate(rt, alloc, walk, 1, fate, &List::new())
 }
 
 // Whether each test has its fate in a run that is over: the second doesn't match.
@@ -164,9 +260,9 @@ pub fn have_fates(rt: &impl Abort, alloc: Global, of: Tests, walk: &Walk) -> boo
         return true;
     }
     match of {
-        Tests::One => has_first_fate(rt, alloc, walk),
+        Tests::One | Tests::Retried => has_first_fate(rt, alloc, of, walk),
         Tests::OneAndSkipped => {
-            has_first_fate(rt, alloc, walk) && has_second_fate(rt, alloc, walk)
+            has_first_fate(rt, alloc, of, walk) && has_second_fate(rt, alloc, walk)
         }
     }
 }

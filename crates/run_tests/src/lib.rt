@@ -2,9 +2,10 @@
 //! into memory, with the status and the lines of each, and streams that fail. The engine and the plain functions are
 //! both proved to answer what is defined; these tests look at them as they run, over every list of turns up to a
 //! length. What is told and asked of all turns at once is what is told and asked turn by turn; the statistics told
-//! are those that the events come to; the attempts that a test finished with are those of its own turns; and what was
-//! told of each test of a run that is over is the account of its fate. Where memory is wanting a test ends at once,
-//! so that no helper has a second way out: each value that lives across one makes the proof of a test dear.
+//! are those that the events come to; the attempts that a test failed and finished with are those of its own turns; its
+//! timer is due where they say so; and what was told of each test of a run that is over is the account of its fate,
+//! with attempts that meet their law. Where memory is wanting a test ends at once, so that no helper has a second way
+//! out: each value that lives across one makes the proof of a test dear.
 #![tactic(auto)]
 
 #[cfg(test)]
@@ -23,6 +24,8 @@ mod made;
 mod many;
 #[cfg(test)]
 mod plan;
+#[cfg(test)]
+mod retries;
 #[cfg(test)]
 mod statistics;
 #[cfg(test)]

@@ -1,10 +1,11 @@
 // The plans of the walks, and the turns that are tried after each list.
 ghost use Rattle.std.specs.Prelude.{◌≡◌, ◌≤◌, [], length};
+ghost use Rattle.run_model.specs.Backoff.{retry_count};
 
 use crate::made::{MEMORY, one, text};
 use run_capture::{CaptureStrategy, List, Text};
 use run_engine::{TestRunner, TestRunnerBuilder};
-use run_events::{ChildExit, Plan, PlanTest, TestInstanceId, Turn};
+use run_events::{ChildExit, Plan, PlanTest, RetryPolicy, Signal, TestInstanceId, Turn};
 use std::alloc::Global;
 use std::process::Abort;
 use uuid::Uuid;
@@ -16,6 +17,29 @@ pub enum Tests {
     One,
     // One that matches, and then one that doesn't.
     OneAndSkipped,
+    // One that matches, and is tried again once where it fails.
+    Retried,
+}
+
+// How often the first test is tried again where it fails.
+pub fn retry_count(of: Tests) -> u32
+    ensures { result ≤ 1 }
+{
+    match of {
+        Tests::One | Tests::OneAndSkipped => 0,
+        Tests::Retried => 1,
+    }
+}
+
+// The retries of the first test: at once.
+pub fn retries(of: Tests) -> RetryPolicy
+    ensures { retry_count result ≤ 1 }
+{
+    RetryPolicy::Fixed {
+        count: retry_count(of),
+        delay: 0,
+        jitter: false,
+    }
 }
 
 fn planned(rt: &impl Abort, alloc: Global, name: &str, skip: Option<Text>) -> PlanTest {
@@ -30,13 +54,17 @@ fn skipped(rt: &impl Abort, alloc: Global) -> PlanTest {
     planned(rt, alloc, "s", Some(text(rt, alloc, "ignored")))
 }
 
+fn first(rt: &impl Abort, alloc: Global, of: Tests) -> PlanTest {
+    let mut test = planned(rt, alloc, "t", None);
+    test.retries = retries(of);
+    test
+}
+
 fn planned_tests(rt: &impl Abort, alloc: Global, of: Tests) -> List<PlanTest>
     ensures { length result ≤ 2 }
 {
     let mut tests = List::new();
-    tests
-        .push(alloc, planned(rt, alloc, "t", None))
-        .expect(rt, MEMORY);
+    tests.push(alloc, first(rt, alloc, of)).expect(rt, MEMORY);
     if let Tests::OneAndSkipped = of {
         tests.push(alloc, skipped(rt, alloc)).expect(rt, MEMORY);
     }
@@ -91,6 +119,12 @@ fn put_unit(rt: &impl Abort, alloc: Global, turns: &mut Vec<Turn>, unit: u32) {
     put(rt, turns, Turn::Decide { unit, word: 0 });
 }
 
+// The wait for the first unit's child fails; and the turns of a second unit.
+fn put_second(rt: &impl Abort, alloc: Global, turns: &mut Vec<Turn>) {
+    put(rt, turns, wait_failed(rt, alloc, 0));
+    put_unit(rt, alloc, turns, 1);
+}
+
 // Further ends of the first unit.
 fn put_ends(rt: &impl Abort, turns: &mut Vec<Turn>) {
     put(rt, turns, exit(0, ChildExit::Code(1)));
@@ -98,17 +132,34 @@ fn put_ends(rt: &impl Abort, turns: &mut Vec<Turn>) {
     put(rt, turns, Turn::Decide { unit: 0, word: 7 });
 }
 
+// The first unit's child fails, its timer is due, and it takes a request; and the run is interrupted.
+fn put_retry(rt: &impl Abort, turns: &mut Vec<Turn>) {
+    put(rt, turns, exit(0, ChildExit::Code(1)));
+    put(rt, turns, Turn::UnitDue { unit: 0 });
+    put(rt, turns, Turn::Take { unit: 0 });
+    put(
+        rt,
+        turns,
+        Turn::Signal {
+            signal: Signal::Int,
+        },
+    );
+}
+
 fn put_all(rt: &impl Abort, alloc: Global, turns: &mut Vec<Turn>, of: Tests) {
     put_run(rt, turns);
     put_unit(rt, alloc, turns, 0);
-    put(rt, turns, wait_failed(rt, alloc, 0));
-    put_unit(rt, alloc, turns, 1);
-    if let Tests::One = of {
-        put_ends(rt, turns);
+    match of {
+        Tests::One => {
+            put_second(rt, alloc, turns);
+            put_ends(rt, turns);
+        }
+        Tests::OneAndSkipped => put_second(rt, alloc, turns),
+        Tests::Retried => put_retry(rt, turns),
     }
 }
 
-// The turns of the run's own, and those of two units.
+// The turns of the run's own, and those of its units.
 pub fn table(rt: &impl Abort, alloc: Global, of: Tests) -> Vec<Turn> {
     let mut turns = Vec::new(alloc);
     put_all(rt, alloc, &mut turns, of);

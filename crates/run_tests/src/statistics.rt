@@ -1,5 +1,7 @@
 // The statistics told, beside those that the events come to.
-use run_events::{ReporterEvent, RunFinishedStats, RunStats, Settings, TestEventKind};
+use run_events::{
+    CancelReason, ReporterEvent, RunFinishedStats, RunStats, Settings, TestEventKind,
+};
 use run_plain::stats_told;
 
 fn single(stats: &RunFinishedStats) -> Option<&RunStats> {
@@ -15,6 +17,7 @@ fn told_in(event: &ReporterEvent) -> Option<&RunStats> {
         ReporterEvent::Test(event) => match &event.kind {
             TestEventKind::TestStarted(event) => Some(&event.stats),
             TestEventKind::TestFinished(event) => Some(&event.stats),
+            TestEventKind::RunBeginCancel(event) => Some(&event.stats),
             TestEventKind::RunFinished(event) => single(&event.stats),
             _ => None,
         },
@@ -29,18 +32,28 @@ fn last_told(events: &[ReporterEvent]) -> Option<&RunStats> {
     }
 }
 
-// Whether these are the statistics that the events come to. Nothing cancels the run.
-fn are_of(settings: &Settings, events: &[ReporterEvent], stats: &RunStats) -> bool {
+// Why the run is cancelled, if it is: nothing else does it.
+fn reason(is_interrupted: bool) -> Option<CancelReason> {
+    is_interrupted.then_some(CancelReason::Interrupt)
+}
+
+// Whether these are the statistics that the events come to.
+fn are_of(
+    settings: &Settings,
+    events: &[ReporterEvent],
+    is_interrupted: bool,
+    stats: &RunStats,
+) -> bool {
     if settings.plan.tests.len() > 100 || events.len() > 100 {
         return false;
     }
-    *stats == stats_told(settings, None, events)
+    *stats == stats_told(settings, reason(is_interrupted), events)
 }
 
 // Whether the statistics that the last event tells are those of all events told.
-pub fn are_counted(settings: &Settings, events: &[ReporterEvent]) -> bool {
+pub fn are_counted(settings: &Settings, events: &[ReporterEvent], is_interrupted: bool) -> bool {
     match last_told(events) {
-        Some(stats) => are_of(settings, events, stats),
+        Some(stats) => are_of(settings, events, is_interrupted, stats),
         None => true,
     }
 }

@@ -1,11 +1,12 @@
 // A run by the engine.
+use crate::fates::usual_terms;
 use crate::made::{MEMORY, copied};
 use crate::plan::{Tests, runner};
 use crate::statistics::are_counted;
-use crate::units::put_own;
+use crate::units::{Taken, put_own};
 use run_engine::{Run, StepError, TestRunnerExecuteErrors};
 use run_events::{AskList, EventLog, ReporterEvent, RunOutcome, Turn};
-use run_plain::OwnTurn;
+use run_plain::{OwnTurn, is_due};
 use std::alloc::Global;
 use std::process::Abort;
 
@@ -32,8 +33,12 @@ pub struct Walk {
     pub ends: Ends,
     // The first unit's own turns, the newest first.
     pub story: Vec<OwnTurn>,
+    // Whether it was interrupted.
+    pub is_interrupted: bool,
     // Whether the statistics told by each turn are those that the events come to.
     pub counted: bool,
+    // Whether the first unit's timer was due exactly where its own turns say so.
+    pub timed: bool,
 }
 
 // Of a run that has taken no turn.
@@ -43,8 +48,18 @@ pub fn new_walk(alloc: Global) -> Walk {
         outcome: None,
         ends: no_ends(),
         story: Vec::new(alloc),
+        is_interrupted: false,
         counted: true,
+        timed: true,
     }
+}
+
+// Whether the first unit's timer is due, by its own turns.
+fn is_timer_due(rt: &impl Abort, alloc: Global, of: Tests, story: &[OwnTurn]) -> bool {
+    if story.len() > 100 {
+        return false;
+    }
+    is_due(alloc, usual_terms(of), 0, story).expect(rt, MEMORY)
 }
 
 // Whether a turn was taken.
@@ -62,17 +77,54 @@ impl Walk {
         self.ends.log.events()
     }
 
+    // Keeps what is seen of a turn that was taken after so many events.
+    fn see(&mut self, rt: &impl Abort, alloc: Global, turn: &Turn, told: usize) {
+        let events = self.ends.log.events();
+        let taken = Taken {
+            turn,
+            events,
+            is_quiet: events.len() == told,
+            is_interrupted: self.is_interrupted,
+        };
+        put_own(rt, alloc, &mut self.story, taken);
+        self.is_interrupted = self.is_interrupted || matches!(turn, Turn::Signal { .. });
+    }
+
     fn take(&mut self, rt: &impl Abort, alloc: Global, run: &mut Run, turn: &Turn) {
+        let told = self.events().len();
         self.enabled = takes(rt, alloc, run, turn, &mut self.ends);
         if self.enabled {
-            put_own(rt, alloc, &mut self.story, turn, self.ends.log.events());
+            self.see(rt, alloc, turn, told);
         }
     }
 
-    fn take_all(&mut self, rt: &impl Abort, alloc: Global, run: &mut Run, turns: &[Turn]) {
+    // Takes a turn, and looks at whether the first unit's timer is due.
+    fn take_timed(
+        &mut self,
+        rt: &impl Abort,
+        alloc: Global,
+        of: Tests,
+        run: &mut Run,
+        turn: &Turn,
+    ) {
+        let due = is_timer_due(rt, alloc, of, self.story.as_slice());
+        self.take(rt, alloc, run, turn);
+        let differs = matches!(turn, Turn::UnitDue { unit: 0 }) && self.enabled != due;
+        self.timed = self.timed && !differs;
+    }
+
+    fn take_all(
+        &mut self,
+        rt: &impl Abort,
+        alloc: Global,
+        of: Tests,
+        run: &mut Run,
+        turns: &[Turn],
+    ) {
         for turn in turns {
-            self.take(rt, alloc, run, turn);
-            self.counted = self.counted && are_counted(run.settings(), self.events());
+            self.take_timed(rt, alloc, of, run, turn);
+            let counted = are_counted(run.settings(), self.events(), self.is_interrupted);
+            self.counted = self.counted && counted;
         }
         self.outcome = run.outcome();
     }
@@ -80,7 +132,7 @@ impl Walk {
     // Takes turns with a run that has taken none.
     pub fn go(&mut self, rt: &impl Abort, alloc: Global, of: Tests, turns: &[Turn]) {
         let mut run = runner(rt, alloc, of).into_run(alloc).expect(rt, MEMORY);
-        self.take_all(rt, alloc, &mut run, turns);
+        self.take_all(rt, alloc, of, &mut run, turns);
         drop(run);
     }
 }

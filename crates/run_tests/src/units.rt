@@ -1,17 +1,18 @@
 // A unit's own turns, as they are seen in a run.
 use crate::made::{MEMORY, copied};
 use run_capture::Text;
-use run_events::{ReporterEvent, TestEventKind, Turn};
+use run_events::{ReporterEvent, Request, ShutdownRequest, TestEventKind, Turn};
 use run_model::UnitTurn;
 use run_plain::OwnTurn;
 use std::alloc::Global;
 use std::process::Abort;
 
-// Whether an event tells that the first unit started.
+// Whether an event tells that the first unit started, or was tried again.
 fn starts_first(event: &ReporterEvent) -> bool {
     match event {
         ReporterEvent::Test(event) => match &event.kind {
             TestEventKind::TestStarted(event) => event.start.test.unit == 0,
+            TestEventKind::TestRetryStarted(event) => event.retry.start.test.unit == 0,
             _ => false,
         },
         ReporterEvent::Tick => false,
@@ -36,42 +37,55 @@ fn wait_failed(rt: &impl Abort, alloc: Global, error: &Text) -> UnitTurn {
     UnitTurn::WaitFailed { error }
 }
 
-// What a turn is to the first unit, where these events were told by then.
-fn own_turn(
-    rt: &impl Abort,
-    alloc: Global,
-    turn: &Turn,
-    events: &[ReporterEvent],
-) -> Option<UnitTurn> {
-    match turn {
-        Turn::Deliver if last_starts_first(events) => Some(UnitTurn::Answered { go: true }),
+// A turn that was taken, what was told by then, and whether the turn told nothing itself.
+#[derive(Clone, Copy, Drop)]
+pub struct Taken<'a> {
+    pub turn: &'a Turn,
+    pub events: &'a [ReporterEvent],
+    pub is_quiet: bool,
+    // Whether the run was interrupted before it.
+    pub is_interrupted: bool,
+}
+
+// What a turn is to the first unit. It is the only one that starts, and a start, or a retry, whose delivery tells nothing
+// is one that comes to nothing: the unit is let go exactly where nothing cancelled the run before.
+fn own_turn(rt: &impl Abort, alloc: Global, taken: Taken<'_>) -> Option<UnitTurn> {
+    let go = !taken.is_interrupted;
+    match taken.turn {
+        Turn::Deliver if taken.is_quiet || last_starts_first(taken.events) => {
+            Some(UnitTurn::Answered { go })
+        }
         Turn::Started { unit: 0, pid } => Some(UnitTurn::Started { pid: *pid }),
         Turn::StartFailed { unit: 0, error } => Some(start_failed(rt, alloc, error)),
         Turn::Exit { unit: 0, exit } => Some(UnitTurn::Exit { exit: *exit }),
         Turn::WaitFailed { unit: 0, error } => Some(wait_failed(rt, alloc, error)),
         Turn::Decide { unit: 0, word } => Some(UnitTurn::Decide { word: *word }),
+        Turn::UnitDue { unit: 0 } => Some(UnitTurn::Due),
+        Turn::Take { unit: 0 } => Some(UnitTurn::Take),
         _ => None,
     }
 }
 
-// A turn of the first unit's own. No turn that is tried moves the clock, and none makes it take a request.
+// The request that a turn takes: a run is interrupted once at most.
+fn request_of(turn: &UnitTurn) -> Option<Request> {
+    match turn {
+        UnitTurn::Take => Some(Request::Shutdown(ShutdownRequest::Interrupt)),
+        _ => None,
+    }
+}
+
+// A turn of the first unit's own. No turn that is tried moves the clock.
 fn first_turn(turn: UnitTurn) -> OwnTurn {
     OwnTurn {
         moment: 0,
+        request: request_of(&turn),
         turn,
-        request: None,
     }
 }
 
 // Puts a turn before the first unit's story, the newest turn first, where it is its own.
-pub fn put_own(
-    rt: &impl Abort,
-    alloc: Global,
-    story: &mut Vec<OwnTurn>,
-    turn: &Turn,
-    events: &[ReporterEvent],
-) {
-    if let Some(turn) = own_turn(rt, alloc, turn, events) {
+pub fn put_own(rt: &impl Abort, alloc: Global, story: &mut Vec<OwnTurn>, taken: Taken<'_>) {
+    if let Some(turn) = own_turn(rt, alloc, taken) {
         story.insert(0, first_turn(turn)).expect(rt, MEMORY);
     }
 }

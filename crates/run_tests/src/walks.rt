@@ -39,7 +39,10 @@ fn is_executed(rt: &impl Abort, alloc: Global, of: Tests, turns: &[Turn], walk: 
 
 // Whether what was told is as the plain functions say.
 fn is_as_defined(rt: &impl Abort, alloc: Global, of: Tests, walk: &Walk) -> bool {
-    has_own_attempts(rt, alloc, walk) && have_fates(rt, alloc, of, walk) && walk.counted
+    has_own_attempts(rt, alloc, of, walk)
+        && have_fates(rt, alloc, of, walk)
+        && walk.counted
+        && walk.timed
 }
 
 // Whether nothing differs after these turns, and whether the last is enabled.
@@ -93,6 +96,15 @@ fn keep(
     same
 }
 
+fn interrupts(turn: &Turn) -> bool {
+    matches!(turn, Turn::Signal { .. })
+}
+
+// Whether a turn is tried after a list: a run is interrupted once at most.
+fn is_tried(list: &[Turn], turn: &Turn) -> bool {
+    !interrupts(turn) || !list.iter().any(|taken| interrupts(taken))
+}
+
 fn keep_all(
     rt: &impl Abort,
     alloc: Global,
@@ -104,17 +116,17 @@ fn keep_all(
     let mut alike = true;
     for list in lists {
         for turn in table {
-            let same = keep(rt, alloc, of, kept, list, turn);
+            let same = !is_tried(list, turn) || keep(rt, alloc, of, kept, list, turn);
             alike = alike && same;
         }
     }
     alike
 }
 
-// Of each length up to 11, how many lists of turns are enabled, and whether nothing differed at any list. A list whose
+// Of each length up to 17, how many lists of turns are enabled, and whether nothing differed at any list. A list whose
 // turns but the last are enabled stands for all that go on after it.
-fn walk_all(rt: &impl Abort, alloc: Global, of: Tests, table: &[Turn]) -> ([usize; 11], bool) {
-    let mut counts = [0; 11];
+fn walk_all(rt: &impl Abort, alloc: Global, of: Tests, table: &[Turn]) -> ([usize; 17], bool) {
+    let mut counts = [0; 17];
     let mut alike = true;
     let mut lists = Vec::new(alloc);
     lists.push(Vec::new(alloc)).expect(rt, MEMORY);
@@ -128,7 +140,7 @@ fn walk_all(rt: &impl Abort, alloc: Global, of: Tests, table: &[Turn]) -> ([usiz
     (counts, alike)
 }
 
-fn is_alike(rt: &impl Abort, alloc: Global, of: Tests, wanted: [usize; 11]) -> bool {
+fn is_alike(rt: &impl Abort, alloc: Global, of: Tests, wanted: [usize; 17]) -> bool {
     let table = table(rt, alloc, of);
     let (counts, alike) = walk_all(rt, alloc, of, &table);
     alike && counts == wanted
@@ -136,12 +148,18 @@ fn is_alike(rt: &impl Abort, alloc: Global, of: Tests, wanted: [usize; 11]) -> b
 
 #[test]
 fn every_list_of_turns_of_one_test(rt: HostRuntime) {
-    let wanted = [1, 1, 1, 2, 6, 10, 10, 8, 0, 0, 0];
+    let wanted = [1, 1, 1, 2, 6, 10, 10, 8, 0, 0, 0, 0, 0, 0, 0, 0, 0];
     assert!(rt; is_alike(&rt, rt.alloc(), Tests::One, wanted));
 }
 
 #[test]
 fn every_list_of_turns_beside_a_skipped_test(rt: HostRuntime) {
-    let wanted = [1, 1, 2, 4, 11, 25, 40, 40, 40, 30, 0];
+    let wanted = [1, 1, 2, 4, 11, 25, 40, 40, 40, 30, 0, 0, 0, 0, 0, 0, 0];
     assert!(rt; is_alike(&rt, rt.alloc(), Tests::OneAndSkipped, wanted));
+}
+
+#[test]
+fn every_list_of_turns_of_a_retried_test(rt: HostRuntime) {
+    let wanted = [1, 2, 3, 5, 9, 15, 28, 45, 57, 64, 67, 70, 78, 68, 36, 8, 0];
+    assert!(rt; is_alike(&rt, rt.alloc(), Tests::Retried, wanted));
 }

@@ -1,1 +1,3 @@
+mod RetryLemmas
 mod TimelyLemmas
+mod TriedLemmas

@@ -3,14 +3,14 @@ use Rattle.std.proofs.Common.{ℕ, ◌≤◌, ◌==◌, List, [], ◌∷◌, tru
 use Rattle.run_clock.specs.Sleep.{Sleep}
 use Rattle.run_capture.specs.Captured.{Captured, is_done, with_wait_error}
 use Rattle.run_events.specs.declared.request.Request.{Request}
-use Rattle.run_events.specs.declared.request.Request.TheVariants.{Shutdown}
+use Rattle.run_events.specs.declared.request.Request.TheVariants.{Shutdown, OtherCancel}
 use Rattle.run_events.specs.declared.request.TerminateReason.TheVariants.{Signal}
 use Rattle.run_events.specs.declared.request.TermSignal.{TermSignal}
 use Rattle.run_events.specs.declared.request.TermSignal.TheVariants.{Kill}
 use Rattle.run_events.specs.declared.result.ChildExit.{ChildExit}
 use Rattle.run_model.specs.declared.phase.Phase.{Phase}
 use Rattle.run_model.specs.declared.phase.Phase.TheVariants.{StartSent, Starting, Running, Grace, KillWait, Leak}
-use Rattle.run_model.specs.declared.phase.Phase.TheVariants.{Deciding}
+use Rattle.run_model.specs.declared.phase.Phase.TheVariants.{Deciding, Delay, RetrySent}
 use Rattle.run_model.specs.declared.unit_turn.UnitTurn.{UnitTurn}
 use Rattle.run_model.specs.declared.unit_turn.UnitTurn.TheVariants.{Answered, Started, StartFailed, Exit, WaitFailed}
 use Rattle.run_model.specs.declared.unit_turn.UnitTurn.TheVariants.{Due, Take, Decide}
@@ -19,6 +19,7 @@ use Rattle.run_model.specs.declared.unit_view.UnitView.{UnitView}
 use Rattle.run_model.specs.Slow.{one_more, is_out_of_time}
 use Rattle.run_model.specs.Unit.{row_at, running_row, slow_row, slow_again, in_grace, out_of_time, settled, exited}
 use Rattle.run_model.specs.Unit.{leaking, heard_with, having_heard, at_moment, asked_to_end, requested, take_row}
+use Rattle.run_model.specs.Unit.{has_retry, next_delay, delayed, decided}
 use Rattle.run_model.specs.Terminate.{terminate_method}
 use Rattle.run_unit.specs.Timely.{IsTimely, IsCurrent}
 
@@ -85,6 +86,8 @@ requested_current : (now : ℕ) (ph : Phase) (request : Request) (u : UnitView) 
 requested_current now Running (Shutdown request) u le h =
     asked_current now (terminate_method (Signal request) u.terms.slow.grace) u le h
 requested_current now Grace (Shutdown request) u le h = (h.0, h.1, tt)
+requested_current now Delay (Shutdown request) u le h = (h.0, h.1, tt)
+requested_current now Delay OtherCancel u le h = (h.0, h.1, tt)
 requested_current now ph request u le h = h
 
 -- a unit stays current where it takes the oldest request of a line
@@ -92,6 +95,13 @@ take_current : (now : ℕ) (ph : Phase) (line : List Request) (u : UnitView) →
     → IsCurrent (take_row now ph line u).next
 take_current now ph [] u le h = h
 take_current now ph (request ∷ line) u le h = requested_current now ph request (record u { line = line }) le h
+
+-- a unit stays current where it decides
+decide_current : (now word : ℕ) (u : UnitView) → now ≤ u.latest → IsCurrent u
+    → IsCurrent (if has_retry u then delayed now (next_delay word u) u else decided u).next
+decide_current now word u le h =
+    elim (has_retry u) as (λ b. IsCurrent (if b then delayed now (next_delay word u) u else decided u).next)
+    [ true ↦ (h.0, h.1, le) | false ↦ h ]
 
 -- a row leaves a unit current
 pub row_current : (now : ℕ) (ph : Phase) (turn : UnitTurn) (u : UnitView) → now ≤ u.latest → IsCurrent u
@@ -110,5 +120,9 @@ row_current now KillWait turn u le h = running_current now turn u le h
 row_current now Leak Due u le h = (h.0, tt, tt)
 row_current now Leak Take u le h = take_current now Leak u.line u le h
 row_current now Leak turn u le h = heard_current now (having_heard u.capture turn) u h
-row_current now Deciding (Decide word) u le h = h
+row_current now Deciding (Decide word) u le h = decide_current now word u le h
+row_current now Delay Due u le h = (h.0, h.1, tt)
+row_current now Delay Take u le h = take_current now Delay u.line u le h
+row_current now RetrySent (Answered true) u le h = (le, tt, tt)
+row_current now RetrySent (Answered false) u le h = h
 row_current now ph turn u le h = h

@@ -2,3 +2,4 @@ pub mod Effects
 pub mod Heard
 pub mod Same
 pub mod Timely
+pub mod Tried

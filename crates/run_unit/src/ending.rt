@@ -1,6 +1,7 @@
 // The end of an attempt.
-ghost use Rattle.std.specs.Prelude.{◌≡◌, ◌≤◌, ◌<◌, [], OnErr, IfOk, OnOk, false, true};
+ghost use Rattle.std.specs.Prelude.{◌≡◌, ◌≤◌, ◌<◌, ◌^◌, [], OnErr, IfOk, OnOk, false, true};
 ghost use Rattle.std.specs.Prelude.{Some, vec_len, vec_capacity};
+ghost use Rattle.run_model.specs.Environment.{attempts as attempts_of};
 ghost use Rattle.run_model.specs.Unit.{row_at, running_row, waited_row, exited, settled, hears, heard_with};
 ghost use Rattle.run_model.specs.Unit.{having_heard, quiet as quiet_row};
 ghost use Rattle.run_model.specs.Admission.{is_last};
@@ -20,7 +21,8 @@ use std::mem;
 
 /// Its child could not be started, for this reason.
 pub fn fail_start(alloc: Global, view: &mut UnitView, error: Text, now: u64) -> Mem<UnitEffects>
-    requires { view.old.timers.stopwatch.latest ≤ now }
+    requires few { attempts_of view.old < 2 ^ 32 }
+    requires early { view.old.timers.stopwatch.latest ≤ now }
     ensures row { IfOk result (IsRow (row_at now phases.Starting (turns.StartFailed error) view.old) view.new) }
     ensures err { OnErr result (view.new ≡ view.old) }
 {
@@ -33,7 +35,8 @@ pub fn fail_start(alloc: Global, view: &mut UnitView, error: Text, now: u64) -> 
 
 /// Its child ended so.
 pub fn end_child(alloc: Global, view: &mut UnitView, exit: ChildExit, now: u64) -> Mem<UnitEffects>
-    requires { view.old.timers.stopwatch.latest ≤ now }
+    requires few { attempts_of view.old < 2 ^ 32 }
+    requires early { view.old.timers.stopwatch.latest ≤ now }
     ensures row { IfOk result (IsRow (running_row now (turns.Exit exit) view.old) view.new) }
     ensures err { OnErr result (view.new ≡ view.old) }
 {
@@ -44,7 +47,8 @@ pub fn end_child(alloc: Global, view: &mut UnitView, exit: ChildExit, now: u64) 
 
 /// The wait for its child failed, with this error.
 pub fn end_wait(alloc: Global, view: &mut UnitView, error: Text, now: u64) -> Mem<UnitEffects>
-    requires { view.old.timers.stopwatch.latest ≤ now }
+    requires few { attempts_of view.old < 2 ^ 32 }
+    requires early { view.old.timers.stopwatch.latest ≤ now }
     ensures row { IfOk result (IsRow (running_row now (turns.WaitFailed error) view.old) view.new) }
     ensures err { OnErr result (view.new ≡ view.old) }
 {
@@ -63,6 +67,7 @@ pub fn end_wait(alloc: Global, view: &mut UnitView, error: Text, now: u64) -> Me
 
 /// Its capture gets a turn after its child has ended.
 pub fn hear_after(alloc: Global, view: &mut UnitView, turn: UnitTurn, now: u64) -> Mem<UnitEffects>
+    requires few { attempts_of view.old < 2 ^ 32 }
     requires early { view.old.timers.stopwatch.latest ≤ now }
     requires heard { hears view.old.capture turn ≡ true }
     requires going { is_last view.old.phase ≡ false }
@@ -84,7 +89,8 @@ pub fn hear_after(alloc: Global, view: &mut UnitView, turn: UnitTurn, now: u64) 
 
 /// The wait for its streams is over, and they are left open.
 pub fn leave_streams(alloc: Global, view: &mut UnitView, now: u64) -> Mem<UnitEffects>
-    requires { view.old.timers.stopwatch.latest ≤ now }
+    requires few { attempts_of view.old < 2 ^ 32 }
+    requires early { view.old.timers.stopwatch.latest ≤ now }
     ensures row { IfOk result (IsRow (waited_row now turns.Due view.old) view.new) }
     ensures err { OnErr result (view.new ≡ view.old) }
 {
@@ -111,6 +117,7 @@ fn make_room(alloc: Global, statuses: &mut List<ExecuteStatus>) -> Mem<Vec<Execu
 
 // Its child is waited for no more, and ended so: its attempt ends, after these, or it waits for its streams.
 fn settle(view: &mut UnitView, attempts: Vec<ExecuteStatus>, exit: Option<ChildExit>, now: u64)
+    requires few { attempts_of view.old < 2 ^ 32 }
     requires early { view.old.timers.stopwatch.latest ≤ now }
     requires room { vec_len attempts < vec_capacity attempts }
     ensures { view.new ≡ settled now exit view.old.capture (record view.old { statuses = attempts.items }) }
@@ -128,6 +135,7 @@ fn settle(view: &mut UnitView, attempts: Vec<ExecuteStatus>, exit: Option<ChildE
 
 // It heard a turn of a stream: its attempt ends, after these, where all its streams are done.
 fn go_on(view: &mut UnitView, attempts: Vec<ExecuteStatus>, now: u64)
+    requires few { attempts_of view.old < 2 ^ 32 }
     requires early { view.old.timers.stopwatch.latest ≤ now }
     requires room { vec_len attempts < vec_capacity attempts }
     requires going { is_last view.old.phase ≡ false }
@@ -150,6 +158,7 @@ fn end_attempt(
     leaked: bool,
     now: u64,
 )
+    requires few { attempts_of view.old < 2 ^ 32 }
     requires early { view.old.timers.stopwatch.latest ≤ now }
     requires room { vec_len attempts < vec_capacity attempts }
     ensures { view.new ≡ exited now exit leaked view.old.capture (record view.old { statuses = attempts.items }) }

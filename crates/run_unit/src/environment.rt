@@ -1,17 +1,15 @@
 // The start of a test's child: its command and its variables.
-ghost use Rattle.std.specs.Prelude.{◌≡◌, ◌++◌, ◌∷◌, [], IfOk, decimal, codes};
+ghost use Rattle.std.specs.Prelude.{◌≡◌, ◌<◌, ◌^◌, ◌++◌, ◌∷◌, [], IfOk, decimal, codes};
 ghost use Rattle.uuid.specs.Text.{hyphenated_text, lower};
 ghost use Rattle.run_model.specs.Environment.{start_ask, environment, identity_variables, place_variables, version_variables};
-ghost use Rattle.run_model.specs.Environment.{group_name, group_number, streams_of};
+ghost use Rattle.run_model.specs.Environment.{attempts, group_name, group_number, streams_of};
 
+use crate::retry::attempts;
 use run_capture::{CaptureStrategy, Duplicate, List, Mem, Stream, Text};
 use run_events::{Ask, GroupSlot, StartAsk};
 use run_model::UnitView;
 use std::alloc::Global;
 use uuid::Uuid;
-
-/// How many attempts a test has: no test has retries yet.
-pub const ATTEMPTS: u32 = 1;
 
 type Variables = Vec<(Text, Text)>;
 
@@ -61,6 +59,7 @@ fn id_pair(alloc: Global, key: &str, value: Uuid) -> Mem<(Text, Text)>
 
 #[tactic(auto, unfolding(run_model::specs::Environment::identity_variables))]
 fn identity_variables(alloc: Global, unit: &UnitView) -> Mem<Vec<(Text, Text)>>
+    requires { attempts unit.now < 2 ^ 32 }
     ensures { IfOk result (λ v. v.items ≡ identity_variables unit.now) }
 {
     let list = Vec::new(alloc);
@@ -74,7 +73,7 @@ fn identity_variables(alloc: Global, unit: &UnitView) -> Mem<Vec<(Text, Text)>>
     )?;
     let list = with_text(alloc, list, "NEXTEST_TEST_NAME", unit.test.id.name.as_str())?;
     let list = with_number(alloc, list, "NEXTEST_ATTEMPT", unit.attempt)?;
-    let list = with_number(alloc, list, "NEXTEST_TOTAL_ATTEMPTS", ATTEMPTS)?;
+    let list = with_number(alloc, list, "NEXTEST_TOTAL_ATTEMPTS", attempts(unit))?;
     Ok(list)
 }
 
@@ -131,6 +130,7 @@ fn version_variables(alloc: Global) -> Mem<Vec<(Text, Text)>>
 
 #[tactic(auto, unfolding(run_model::specs::Environment::environment))]
 fn environment(alloc: Global, unit: &UnitView) -> Mem<List<(Text, Text)>>
+    requires { attempts unit.now < 2 ^ 32 }
     ensures { IfOk result (λ v. v ≡ environment unit.now) }
 {
     let mut env = identity_variables(alloc, unit)?;
@@ -160,9 +160,10 @@ fn streams_of(alloc: Global, strategy: CaptureStrategy) -> Mem<List<Stream>>
     }
 }
 
-/// The start that is asked where an attempt is let go.
+/// The start that is asked where an attempt is let go, of a test whose attempts fit in a `u32`.
 #[tactic(auto, unfolding(run_model::specs::Environment::start_ask))]
 pub fn start_of(alloc: Global, unit: &UnitView) -> Mem<Ask>
+    requires { attempts unit.now < 2 ^ 32 }
     ensures { IfOk result (λ ask. ask ≡ start_ask unit.now) }
 {
     let command = unit.command.copy(alloc)?;

@@ -1,10 +1,15 @@
-// A test as it begins.
-ghost use Rattle.std.specs.Prelude.{◌≡◌, IfOk};
-ghost use Rattle.run_model.specs.Admission.{first_view, flaky_of};
+// A test as it begins, and an attempt of it that is let go.
+ghost use Rattle.std.specs.Prelude.{◌≡◌, ◌<◌, ◌^◌, IfOk, OnErr};
+ghost use Rattle.run_model.specs.Admission.{first_view, flaky_of, retries_of};
+ghost use Rattle.run_model.specs.Environment.{attempts};
+ghost use Rattle.run_model.specs.Unit.{begun_row};
+ghost use Rattle.run_unit.specs.Effects.{IsRow};
 
+use crate::effects::UnitEffects;
+use crate::environment::start_of;
 use crate::timing::timers_from;
 use run_capture::{ChildAccumulator, Duplicate, List, Mem};
-use run_events::{FlakyResult, PlanTest, Settings, TestSlotAssignment, TestUnit};
+use run_events::{FlakyResult, PlanTest, RetryPolicy, Settings, TestSlotAssignment, TestUnit};
 use run_model::{AttemptTerms, Phase, UnitView};
 use std::alloc::Global;
 
@@ -15,6 +20,16 @@ fn flaky_of(settings: &Settings, test: &PlanTest) -> FlakyResult
     match settings.flaky_result {
         Some(flaky) => flaky,
         None => test.flaky,
+    }
+}
+
+// How often a test is tried again: as often as all tests where that is set.
+fn retries_of(settings: &Settings, test: &PlanTest) -> RetryPolicy
+    ensures { result ≡ retries_of settings.now test.now }
+{
+    match settings.retries {
+        Some(retries) => retries,
+        None => test.retries,
     }
 }
 
@@ -45,14 +60,34 @@ pub fn first_view(
             strategy: settings.capture,
             slow: planned.slow,
             leak: planned.leak,
+            retries: retries_of(settings, planned),
         },
         phase: Phase::StartSent,
         attempt: 1,
+        delay: 0,
         timers: timers_from(0),
         line: List::new(),
         latest: 0,
         capture: ChildAccumulator::uncaptured(),
         exit: None,
         statuses: List::new(),
+    })
+}
+
+/// It is let go: its attempt begins now, and its start is asked.
+pub fn let_go(alloc: Global, view: &mut UnitView, now: u64) -> Mem<UnitEffects>
+    requires { attempts view.old < 2 ^ 32 }
+    ensures row { IfOk result (IsRow (begun_row now view.old) view.new) }
+    ensures err { OnErr result (view.new ≡ view.old) }
+{
+    let capture = ChildAccumulator::new(alloc, view.terms.strategy)?;
+    let ask = start_of(alloc, view)?;
+    view.phase = Phase::Starting;
+    view.timers = timers_from(now);
+    view.capture = capture;
+    Ok(UnitEffects {
+        sent: None,
+        asked: Some(ask),
+        over: false,
     })
 }

@@ -9,6 +9,7 @@ mod environment;
 mod first;
 mod hearing;
 mod requests;
+mod retry;
 mod same;
 mod slow;
 mod status;
@@ -17,9 +18,9 @@ mod timing;
 mod unit;
 
 pub use effects::UnitEffects;
-// `start_of` has the environment in its contract, and the next three are the given surface of a unit.
+// `start_of` has the environment in its contract, and the next four are the given surface of a unit.
 pub use environment::start_of;
 pub use run_events::create_execution_result;
-pub use run_model::{Phase, UnitTurn};
+pub use run_model::{BackoffIter, Phase, UnitTurn};
 pub use terminate::terminate_method;
 pub use unit::Unit;

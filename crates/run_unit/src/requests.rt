@@ -1,16 +1,19 @@
 // The requests that wait for a unit.
-ghost use Rattle.std.specs.Prelude.{◌≡◌, ◌∷◌, true, false};
+ghost use Rattle.std.specs.Prelude.{◌≡◌, ◌≢◌, ◌∷◌, IfOk, OnErr, true, false};
 ghost use Rattle.std.specs.List.{list_any};
 ghost use Rattle.run_model.specs.Admission.{is_last};
 ghost use Rattle.run_model.specs.Unit.{has_request, take_row, requested, asked_to_end, is_live};
+ghost use Rattle.run_model.specs.declared.phase.Phase.TheVariants as phases;
 ghost use Rattle.run_unit.specs.Effects.{IsRow};
 ghost use Rattle.run_unit.specs.Same.{is_request};
+ghost use Rattle.run_unit.specs.Tried.{IsTried};
 
 use crate::effects::{UnitEffects, quiet};
+use crate::retry::take_in_delay;
 use crate::same::is_request;
 use crate::slow::{kill, signal_ask};
 use crate::terminate::terminate_method;
-use run_capture::List;
+use run_capture::{List, Mem};
 use run_clock::PausableSleep;
 use run_events::{Request, TermSignal, TerminateReason};
 use run_model::{Phase, UnitView};
@@ -39,17 +42,33 @@ pub fn holds(line: &[Request], request: Request) -> bool
 }
 
 /// It takes the oldest request of its line.
-pub fn take(alloc: Global, view: &mut UnitView, now: u64) -> UnitEffects
+pub fn take(alloc: Global, view: &mut UnitView, now: u64) -> Mem<UnitEffects>
     requires waits { has_request view.old.line ≡ true }
     requires going { is_last view.old.phase ≡ false }
+    requires tried { IsTried view.old }
+    ensures row { IfOk result (IsRow (take_row now view.old.phase view.old.line view.old) view.new) }
+    ensures err { OnErr result (view.new ≡ view.old) }
+{
+    if matches!(view.phase, Phase::Delay) {
+        take_in_delay(alloc, view)
+    } else {
+        Ok(take_and_heed(alloc, view, now))
+    }
+}
+
+// It takes the oldest request of its line while no delay passes.
+fn take_and_heed(alloc: Global, view: &mut UnitView, now: u64) -> UnitEffects
+    requires waits { has_request view.old.line ≡ true }
+    requires going { is_last view.old.phase ≡ false }
+    requires attempted { view.old.phase ≢ phases.Delay }
     ensures { IsRow (take_row now view.old.phase view.old.line view.old) view.new result }
 {
     let request = take_oldest(alloc, &mut view.line);
     heed(view, request, now)
 }
 
-// Takes the oldest request out of a line.
-fn take_oldest(alloc: Global, line: &mut List<Request>) -> Request
+/// Takes the oldest request out of a line.
+pub fn take_oldest(alloc: Global, line: &mut List<Request>) -> Request
     requires { has_request line.old ≡ true }
     ensures { line.old ≡ result ∷ line.new }
 {
@@ -59,9 +78,10 @@ fn take_oldest(alloc: Global, line: &mut List<Request>) -> Request
     oldest
 }
 
-// It gets a request: one to end its child is heeded until that ends.
+// It gets a request while no delay passes: one to end its child is heeded until that ends.
 fn heed(view: &mut UnitView, request: Request, now: u64) -> UnitEffects
-    requires { is_last view.old.phase ≡ false }
+    requires going { is_last view.old.phase ≡ false }
+    requires attempted { view.old.phase ≢ phases.Delay }
     ensures { IsRow (requested now view.old.phase request view.old) view.new result }
 {
     let Request::Shutdown(request) = request else {

@@ -1,12 +1,13 @@
 // An attempt that is slow, and one that has run out of time.
-ghost use Rattle.std.specs.Prelude.{◌≡◌, OnErr, IfOk, Some, true, false};
+ghost use Rattle.std.specs.Prelude.{◌≡◌, ◌<◌, ◌^◌, OnErr, IfOk, Some, true, false};
 ghost use Rattle.run_model.specs.Admission.{is_last};
+ghost use Rattle.run_model.specs.Environment.{attempts};
 ghost use Rattle.run_model.specs.Slow.{one_more, is_out_of_time, slow_time};
 ghost use Rattle.run_model.specs.Unit.{signal_ask, slow_message, slow_row, killed};
 ghost use Rattle.run_unit.specs.Effects.{IsRow};
 
 use crate::effects::UnitEffects;
-use crate::environment::ATTEMPTS;
+use crate::retry::attempts;
 use run_capture::{Duplicate, Mem};
 use run_clock::PausableSleep;
 use run_events::{Ask, ChildSignal, Message, SignalAsk, SlowTimeout, TermSignal, TestSlow};
@@ -25,7 +26,8 @@ pub fn is_out_of_time(slow: &SlowTimeout, count: u32) -> bool
 
 /// Its timer is due while its child runs: it is slow once more.
 pub fn be_slow(alloc: Global, view: &mut UnitView, now: u64) -> Mem<UnitEffects>
-    requires { is_last view.old.phase ≡ false }
+    requires few { attempts view.old < 2 ^ 32 }
+    requires going { is_last view.old.phase ≡ false }
     ensures row { IfOk result (IsRow (slow_row now (one_more view.old.timers.slow_count) view.old) view.new) }
     ensures err { OnErr result (view.new ≡ view.old) }
 {
@@ -54,6 +56,7 @@ pub fn kill(view: &mut UnitView) -> UnitEffects
 
 // The message that its attempt was slow so often, where it is given some time to end by itself.
 fn slow_message(alloc: Global, view: &UnitView, count: u32) -> Mem<Option<Message>>
+    requires { attempts view.now < 2 ^ 32 }
     ensures { IfOk result (λ sent. sent ≡ slow_message count view.now) }
 {
     if view.terms.slow.grace == 0 {
@@ -63,7 +66,7 @@ fn slow_message(alloc: Global, view: &UnitView, count: u32) -> Mem<Option<Messag
     Ok(Some(Message::Slow(TestSlow {
         test,
         attempt: view.attempt,
-        attempts: ATTEMPTS,
+        attempts: attempts(view),
         elapsed_slow: slow_time(&view.terms.slow, count),
         terminates: is_out_of_time(&view.terms.slow, count),
     })))

@@ -1,12 +1,13 @@
 // The status of an attempt that ends.
-ghost use Rattle.std.specs.Prelude.{◌≡◌, ◌≤◌, None};
+ghost use Rattle.std.specs.Prelude.{◌≡◌, ◌≤◌, ◌<◌, ◌^◌, None};
 ghost use Rattle.run_capture.specs.Output.{uncaptured};
 ghost use Rattle.run_capture.specs.Captured.{begun};
 ghost use Rattle.run_events.specs.declared.result.ChildExecutionOutput.TheVariants.{Output};
+ghost use Rattle.run_model.specs.Environment.{attempts};
 ghost use Rattle.run_model.specs.Unit.{result_of, status_at, silent};
 ghost use Rattle.run_model.specs.declared.phase.Phase.TheVariants as phases;
 
-use crate::environment::ATTEMPTS;
+use crate::retry::attempts;
 use crate::slow::is_out_of_time;
 use run_capture::{ChildAccumulator, ChildFdError};
 use run_events::{
@@ -22,7 +23,8 @@ pub fn exit_status(
     capture: ChildAccumulator,
     now: u64,
 ) -> ExecuteStatus
-    requires { view.now.timers.stopwatch.latest ≤ now }
+    requires few { attempts view.now < 2 ^ 32 }
+    requires early { view.now.timers.stopwatch.latest ≤ now }
     ensures { result ≡ status_at now (result_of exit capture.errors leaked view.now)
         (Output capture.output capture.errors) view.now }
 {
@@ -39,14 +41,15 @@ pub fn status_at(
     output: ChildExecutionOutput,
     now: u64,
 ) -> ExecuteStatus
-    requires { view.now.timers.stopwatch.latest ≤ now }
+    requires few { attempts view.now < 2 ^ 32 }
+    requires early { view.now.timers.stopwatch.latest ≤ now }
     ensures { result ≡ status_at now outcome output view.now }
 {
     let shown = view.timers.stopwatch.snapshot(now);
     ExecuteStatus {
         attempt: view.attempt,
-        attempts: ATTEMPTS,
-        delay: 0,
+        attempts: attempts(view),
+        delay: view.delay,
         result: outcome,
         output,
         slow: 0 < view.timers.slow_count,

@@ -38,7 +38,7 @@ pub fn is_timer_due(view: &UnitView, now: u64) -> bool
 {
     match view.phase {
         Phase::Running => is_due(&view.timers.slow, now),
-        Phase::Grace | Phase::Leak => is_due(&view.timers.wait, now),
+        Phase::Grace | Phase::Leak | Phase::Delay => is_due(&view.timers.wait, now),
         _ => false,
     }
 }

@@ -1,8 +1,8 @@
 // A unit: one test with its attempts.
-ghost use Rattle.std.specs.Prelude.{◌≡◌, ◌≤◌, ◌<◌, ◌^◌, length, IfOk, OnOk, OnErr, Some, option_map, slice_get, true};
+ghost use Rattle.std.specs.Prelude.{◌≡◌, ◌≤◌, ◌<◌, length, IfOk, OnOk, OnErr, Some, option_map, slice_get, true};
 ghost use Rattle.std.specs.List.{list_any};
 ghost use Rattle.run_model.specs.Unit.{row, takes, is_live, reached};
-ghost use Rattle.run_model.specs.Admission.{first_view, skipped_view, start_message, skip_message, units_in};
+ghost use Rattle.run_model.specs.Admission.{first_view, skipped_view, start_message, skip_message, AreFew};
 ghost use Rattle.run_model.specs.Admission.{unit_of_test};
 ghost use Rattle.run_model.specs.declared.phase.Phase.TheVariants as phases;
 ghost use Rattle.run_unit.specs.Effects.{IsRow};
@@ -12,8 +12,9 @@ use crate::acting::{act, is_enabled};
 use crate::effects::UnitEffects;
 use crate::first::first_view;
 use crate::requests::{holds, is_live};
+use crate::retry::test_start;
 use run_capture::{Duplicate, Mem, Text};
-use run_events::{Message, Request, Settings, TestSkip, TestSlotAssignment, TestStart};
+use run_events::{Message, Request, Settings, TestSkip, TestSlotAssignment};
 use run_model::{Phase, UnitTurn, UnitView};
 use std::alloc::Global;
 use std::marker::Model;
@@ -27,12 +28,13 @@ pub struct Unit {
 impl Model for Unit {
     ghost use Rattle.run_model.specs.declared.unit_view.UnitView.{UnitView};
     ghost use Rattle.run_unit.specs.Timely.{IsCurrent};
+    ghost use Rattle.run_unit.specs.Tried.{IsTried};
 
     ghost Value = { UnitView };
 
     ghost view = { λ u. u.view };
 
-    ghost invariant = { λ u. IsCurrent u.view };
+    ghost invariant = { λ u. IsCurrent u.view × IsTried u.view };
 }
 
 impl Unit {
@@ -44,7 +46,7 @@ impl Unit {
         slot: TestSlotAssignment,
     ) -> Mem<Unit>
         requires planned { test < length settings.now.plan.tests }
-        requires few { units_in settings.now < 2 ^ 32 }
+        requires few { AreFew settings.now }
         ensures view { IfOk result (λ u. option_map (first_view settings.now (unit_of_test settings.now test) slot)
             (slice_get settings.now.plan.tests test) ≡ Some u) }
         ensures phase { IfOk result (λ u. u.phase ≡ phases.StartSent) }
@@ -58,7 +60,7 @@ impl Unit {
     /// The test at this place of the plan, which doesn't match: it is over from its admission.
     pub fn skipped(alloc: Global, settings: &Settings, test: u32) -> Mem<Unit>
         requires planned { test < length settings.now.plan.tests }
-        requires few { units_in settings.now < 2 ^ 32 }
+        requires few { AreFew settings.now }
         ensures view { IfOk result (λ u. option_map (skipped_view settings.now (unit_of_test settings.now test))
             (slice_get settings.now.plan.tests test) ≡ Some u) }
         ensures phase { IfOk result (λ u. u.phase ≡ phases.Over) }
@@ -76,14 +78,8 @@ impl Unit {
     pub fn start_message(&self, alloc: Global) -> Mem<Message>
         ensures { IfOk result (λ m. m ≡ start_message self.now) }
     {
-        let command = self.view.command.copy(alloc)?;
-        let slot = self.view.slot.copy(alloc)?;
-        let test = self.view.test.copy(alloc)?;
-        Ok(Message::Start(TestStart {
-            test,
-            command,
-            slot,
-        }))
+        let start = test_start(alloc, &self.view)?;
+        Ok(Message::Start(start))
     }
 
     /// The message that it sends when it is admitted and skipped, for this reason.

@@ -12,6 +12,7 @@ use Rattle.run_engine.proofs.builder.tests_refusal.Goals as goal
 pub returns-then-is_some : goal.returns-then-is_some
 returns-then-is_some c =
     let groups = c.args.groups.now in
+    let retries = c.args.retries in
     let tests = c.args.tests.now in
     let place = c.loop-place.place in
     let test = c.index-tests-place.result in
@@ -21,18 +22,19 @@ returns-then-is_some c =
     let among : list_any (λ (t : PlanTest). same_id t.id test.id) (take place tests) ≡ not c.in_ok-fresh.fresh =
     sym (c.loop-place.invariant.known (record { ref_ptr = (0, 0); now = test.id }))
     ∙ sym (found _ _ c.in_ok-fresh.ensures.added) in
-    let here : test_refusal groups tests place ≡ c.refusal_at-refusal.result =
-    refusal_here groups tests place test (not c.in_ok-fresh.fresh) at among ∙ sym c.refusal_at-refusal.ensures in
-    let some : is_some (test_refusal groups tests place) ≡ true =
+    let here : test_refusal groups retries tests place ≡ c.refusal_at-refusal.result =
+    refusal_here groups retries tests place test (not c.in_ok-fresh.fresh) at among ∙ sym c.refusal_at-refusal.ensures in
+    let some : is_some (test_refusal groups retries tests place) ≡ true =
     ap is_some here ∙ sym c.is_some.ensures ∙ c.if-is_some.true in
-    let first : first_refused groups tests ≡ Some place =
-    found_first (λ k. is_some (test_refusal groups tests k)) (length tests) place inside c.loop-place.invariant.first
+    let first : first_refused groups retries tests ≡ Some place =
+    found_first (λ k. is_some (test_refusal groups retries tests k)) (length tests) place inside c.loop-place.invariant.first
     some in
-    sym (ap (option_and_then (test_refusal groups tests)) first ∙ here)
+    sym (ap (option_and_then (test_refusal groups retries tests)) first ∙ here)
 
 pub loop-place-preserved : goal.loop-place-preserved
 loop-place-preserved c =
     let groups = c.args.groups.now in
+    let retries = c.args.retries in
     let tests = c.args.tests.now in
     let place = c.loop-place.place in
     let test = c.index-tests-place.result in
@@ -42,9 +44,9 @@ loop-place-preserved c =
     let among : list_any (λ (t : PlanTest). same_id t.id test.id) (take place tests) ≡ not c.in_ok-fresh.fresh =
     sym (c.loop-place.invariant.known (record { ref_ptr = (0, 0); now = test.id }))
     ∙ sym (found _ _ c.in_ok-fresh.ensures.added) in
-    let here : test_refusal groups tests place ≡ c.refusal_at-refusal.result =
-    refusal_here groups tests place test (not c.in_ok-fresh.fresh) at among ∙ sym c.refusal_at-refusal.ensures in
-    let none : is_some (test_refusal groups tests place) ≡ false =
+    let here : test_refusal groups retries tests place ≡ c.refusal_at-refusal.result =
+    refusal_here groups retries tests place test (not c.in_ok-fresh.fresh) at among ∙ sym c.refusal_at-refusal.ensures in
+    let none : is_some (test_refusal groups retries tests place) ≡ false =
     ap is_some here ∙ sym c.is_some.ensures ∙ c.if-is_some.false in
     record {
       known = λ q.
@@ -61,8 +63,9 @@ loop-place-preserved c =
 pub returns : goal.returns
 returns c =
     let groups = c.args.groups.now in
+    let retries = c.args.retries in
     let tests = c.args.tests.now in
-    let none : first_refused groups tests ≡ None =
-    found_none (λ k. is_some (test_refusal groups tests k)) (length tests)
+    let none : first_refused groups retries tests ≡ None =
+    found_none (λ k. is_some (test_refusal groups retries tests k)) (length tests)
     (λ k h. c.loop-place.invariant.first k (omega arith)) in
-    sym (ap (option_and_then (test_refusal groups tests)) none)
+    sym (ap (option_and_then (test_refusal groups retries tests)) none)

@@ -9,5 +9,5 @@ abbrev pub invariant-loop-place : goal.invariant-loop-place
 invariant-loop-place l = record {
   known : (q : _) → contains (λ x y. id_cmp x.now y.now) l.ids q
       ≡ list_any (λ t. same_id t.id q.now) (take l.place l.tests);
-  first : (k : ℕ) → k < l.place → is_some (test_refusal l.groups l.tests k) ≡ false;
+  first : (k : ℕ) → k < l.place → is_some (test_refusal l.groups l.retries l.tests k) ≡ false;
 }
