@@ -40,24 +40,25 @@ mode_named name =
 abbrev pub mode_of : Data → Option RunMode
 mode_of d = option_and_then mode_named (as_str d)
 
--- the nanoseconds, since the start of 1970, of the first moment and of the last that have a name
+-- the first moment that a timestamp has, and the last, in nanoseconds since the start of 1970
 abbrev pub first_moment : ℤ
 first_moment = neg_ℤ (pos 377_705_023_201_000_000_000)
 
 abbrev pub last_moment : ℤ
 last_moment = pos 253_402_207_200_999_999_999
 
+-- the moment so many nanoseconds after the start of 1970, where it isn't after the last one, and isn't before the first
 abbrev pub not_after_last : (n : ℤ) → first_moment ≤ℤ n → (b : Bool) → (T b → n ≤ℤ last_moment) → Option Timestamp
 not_after_last n above true below = Some (record { nanosecond = n; in_range = (above, below tt) })
 not_after_last n above false below = None
 
 abbrev pub not_before_first : (n : ℤ) → (b : Bool) → (T b → first_moment ≤ℤ n) → Option Timestamp
-not_before_first n true above = not_after_last n (above tt) (le_z n last_moment) (λ yes. le_z_yes yes)
+not_before_first n true above = not_after_last n (above tt) (le_z n last_moment) (λ h. le_z_yes h)
 not_before_first n false above = None
 
--- the moment so many nanoseconds after the start of 1970, where it has a name
+-- the moment so many nanoseconds after the start of 1970, where there is one
 abbrev pub moment_at : ℤ → Option Timestamp
-moment_at n = not_before_first n (le_z first_moment n) (λ yes. le_z_yes yes)
+moment_at n = not_before_first n (le_z first_moment n) (λ h. le_z_yes h)
 
 -- the moment that a text writes in the Temporal format
 abbrev pub moment_named : List ℕ → Option Timestamp

@@ -60,11 +60,7 @@ fn runner_from(alloc: Global, value: &Value) -> Result<PlatformRunner, LineError
 }
 
 // A runner of this program, with these arguments.
-fn runner_with(
-    alloc: Global,
-    program: &Value,
-    args: &[Value],
-) -> Result<PlatformRunner, LineError>
+fn runner_with(alloc: Global, program: &Value, args: &[Value]) -> Result<PlatformRunner, LineError>
     ensures { ReadsValue result (runner_from (item (view program.now) (items_view args.now))) }
 {
     let source = PlatformRunnerSource::Env(Text::from_str(alloc, "nextest_run")?);
