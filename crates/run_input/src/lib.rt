@@ -3,6 +3,7 @@
 //! the first line that is anything else is named by its number.
 #![tactic(auto)]
 
+mod both;
 mod errors;
 mod fields;
 mod floats;

@@ -13,6 +13,7 @@ ghost use Rattle.run_input.specs.PlanHead.{version_named, version_of, versions_o
 ghost use Rattle.run_input.specs.ReadsValue.{ReadsValue};
 
 use crate::LineError;
+use crate::both::both;
 use crate::fields::{str_at, text_or, texts_or_none};
 use crate::plan_runners::runners_at;
 use jiff::Timestamp;
@@ -29,8 +30,7 @@ pub fn frame_from(alloc: Global, value: &Value) -> Result<(RunHead, TargetRunner
     ensures { ReadsValue result (frame_of (view value.now)) }
 {
     let head = head_from(alloc, value)?;
-    let runners = runners_at(alloc, value.get("runners"))?;
-    Ok((head, runners))
+    both(head, runners_at(alloc, value.get("runners")))
 }
 
 fn head_from(alloc: Global, value: &Value) -> Result<RunHead, LineError>
@@ -149,8 +149,13 @@ fn versions_from(alloc: Global, value: &Value) -> Result<VersionEnvVars, LineErr
     ensures { ReadsValue result (versions_of (view value.now)) }
 {
     let current_version = current_version_at(alloc, value.get("nextest_version"))?;
-    let required_version = optional_version_at(alloc, value.get("required_version"))?;
-    let recommended_version = optional_version_at(alloc, value.get("recommended_version"))?;
+    let required = optional_version_at(alloc, value.get("required_version"));
+    let (current_version, required_version) = both(current_version, required)?;
+    let recommended = optional_version_at(alloc, value.get("recommended_version"));
+    let ((current_version, required_version), recommended_version) = both(
+        (current_version, required_version),
+        recommended,
+    )?;
     Ok(VersionEnvVars {
         current_version,
         required_version,

@@ -8,6 +8,7 @@ ghost use Rattle.run_input.specs.PlanLine.{group_of, keys_of, rules_of, lists_of
 ghost use Rattle.run_input.specs.Fields.{or_usual};
 
 use crate::LineError;
+use crate::both::both;
 use crate::fields::{optional_u32_at, optional_u64_at, text_at, u32_at};
 use crate::objects::has_keys_of;
 use crate::plan_head::frame_from;
@@ -94,7 +95,7 @@ fn plan_from(alloc: Global, value: &Value) -> Result<(RunnerKeys, Plan), LineErr
     let keys = runner_keys(value).ok_or(LineError::NotInTable)?;
     let rules = rules_from(value).ok_or(LineError::NotInTable)?;
     let frame = frame_from(alloc, value)?;
-    let lists = lists_from(alloc, value)?;
+    let (frame, lists) = both(frame, lists_from(alloc, value))?;
     Ok((keys, plan_with(rules, frame, lists)))
 }
 

@@ -8,6 +8,7 @@ ghost use Rattle.run_input.specs.PlanHead.{runner_from, runner_of, runners_of};
 ghost use Rattle.run_input.specs.ReadsValue.{ReadsValue};
 
 use crate::LineError;
+use crate::both::both;
 use crate::fields::{text_at, texts_in};
 use crate::objects::has_keys_of;
 use run_capture::Text;
@@ -63,10 +64,10 @@ fn runner_from(alloc: Global, value: &Value) -> Result<PlatformRunner, LineError
 fn runner_with(alloc: Global, program: &Value, args: &[Value]) -> Result<PlatformRunner, LineError>
     ensures { ReadsValue result (runner_from (item (view program.now) (items_view args.now))) }
 {
-    let source = PlatformRunnerSource::Env(Text::from_str(alloc, "nextest_run")?);
-    let binary = text_at(alloc, Some(program))?;
-    let args = texts_in(alloc, args)?;
-    Ok(PlatformRunner::debug_new(binary, args, source))
+    let source = Text::from_str(alloc, "nextest_run")?;
+    let (source, binary) = both(source, text_at(alloc, Some(program)))?;
+    let ((source, binary), args) = both((source, binary), texts_in(alloc, args))?;
+    Ok(PlatformRunner::debug_new(binary, args, PlatformRunnerSource::Env(source)))
 }
 
 // The runner of these words, of which the first is its program.

@@ -9,6 +9,7 @@ ghost use Rattle.run_input.specs.PlanTest.{slow_of, leak_of, timeout_of, leak_re
 ghost use Rattle.run_input.specs.Fields.{u32_of, or_usual};
 
 use crate::LineError;
+use crate::both::both;
 use crate::fields::{optional_text_at, optional_u32_at, str_at, text_at, texts_at, u32_at, u64_or};
 use crate::objects::has_keys_of;
 use crate::plan_retries::{flaky_at, retries_at};
@@ -39,7 +40,7 @@ pub fn test_from(alloc: Global, value: &Value) -> Result<PlanTest, LineError>
     let trials = trials_from(value).ok_or(LineError::NotInTable)?;
     let platform = platform_at(value.get("platform")).ok_or(LineError::NotInTable)?;
     let group = optional_text_at(alloc, value.get("group"))?;
-    let test = named_from(alloc, value)?;
+    let (group, test) = both(group, named_from(alloc, value))?;
     Ok(set(test, terms, trials, platform, group))
 }
 
