@@ -49,10 +49,10 @@ pub struct RunnerKeys {
 /// `name`, and may have `group` (the name of one), `leak`, `platform` (the text `target` or `host`; `target` where it is
 /// missing), `skip` (the reason for which it is skipped), `slow`, `weight` (a number, 1 where it is missing), `retries`
 /// and `flaky` (the text `pass` or `fail`, as `flaky_result`; `pass` where it is missing). `slow` may have `grace`,
-/// `on_timeout` (the text `fail` or `pass`), `period` and `terminate_after`, and `leak` may have `period` and `result` (the text `fail` or `pass`); what is missing
-/// is as usual. `retries` has `count` (a number), and may have `delay` (0 where it is missing), `jitter` (`false` where it
-/// is missing), `backoff` (the text `fixed` or `exponential`; `fixed` where it is missing) and, where it is exponential,
-/// `max_delay`.
+/// `on_timeout` (the text `fail` or `pass`), `period` and `terminate_after`, and `leak` may have `period` and `result`
+/// (the text `fail` or `pass`); what is missing is as usual. `retries` has `count` (a number), and may have `delay` (0
+/// where it is missing), `jitter` (`false` where it is missing), `backoff` (the text `fixed` or `exponential`; `fixed`
+/// where it is missing) and, where it is exponential, `max_delay`.
 pub fn read_plan_line(alloc: Global, line: &[u8]) -> Result<(RunnerKeys, Plan), LineError>
     ensures { ReadsValue result (option_and_then plan_of (value_of line.now)) }
 {
