@@ -41,15 +41,18 @@ pub struct RunnerKeys {
 /// Its keys are `run_id` (a UUID) and `tests` (a list of tests, which may be empty), and it may have `capture` (the
 /// text `none`, `split` or `combined`; `split` where it is missing), `threads` (a number), `max_fail`, `retries` and
 /// `flaky_result` (each replaces that of every test), `signals` (the text `standard`, `debugger` or `noop`; `standard`
-/// where it is missing), `global_timeout` (a number) and `groups` (a list of groups). `max_fail` has `count` (a number)
-/// and `mode` (the text `wait` or `immediate`). A group has `limit` (a number) and `name`. A test has `binary`,
-/// `command` and `name`, and may have `group` (the name of one), `leak`, `skip` (the reason for which it is skipped),
-/// `slow`, `weight` (a number, 1 where it is missing), `retries` and `flaky` (the text `pass` or `fail`, as
-/// `flaky_result`; `pass` where it is missing). `slow` may have `grace`, `on_timeout` (the text `fail` or `pass`),
-/// `period` and `terminate_after`, and `leak` may have `period` and `result` (the text `fail` or `pass`); what is missing
-/// is as usual. `retries` has `count` (a number), and may have `delay` (0 where it is missing), `jitter` (`false` where it
-/// is missing), `backoff` (the text `fixed` or `exponential`; `fixed` where it is missing) and, where it is exponential,
-/// `max_delay`.
+/// where it is missing), `global_timeout` (a number) and `groups` (a list of groups). It may also have `profile`,
+/// `workspace_root`, `args` (a list of texts), `mode` (the text `test` or `benchmark`), `started_at` (a moment),
+/// `nextest_version`, `required_version` and `recommended_version` (versions), and `runners`, which may have `host` and
+/// `target` (each a program with its arguments); what is missing is as usual. `max_fail` has `count` (a number) and
+/// `mode` (the text `wait` or `immediate`). A group has `limit` (a number) and `name`. A test has `binary`, `command` and
+/// `name`, and may have `group` (the name of one), `leak`, `platform` (the text `target` or `host`; `target` where it is
+/// missing), `skip` (the reason for which it is skipped), `slow`, `weight` (a number, 1 where it is missing), `retries`
+/// and `flaky` (the text `pass` or `fail`, as `flaky_result`; `pass` where it is missing). `slow` may have `grace`,
+/// `on_timeout` (the text `fail` or `pass`), `period` and `terminate_after`, and `leak` may have `period` and `result`
+/// (the text `fail` or `pass`); what is missing is as usual. `retries` has `count` (a number), and may have `delay` (0
+/// where it is missing), `jitter` (`false` where it is missing), `backoff` (the text `fixed` or `exponential`; `fixed`
+/// where it is missing) and, where it is exponential, `max_delay`.
 pub fn read_plan_line(alloc: Global, line: &[u8]) -> Result<(RunnerKeys, Plan), LineError>
     ensures { ReadsValue result (option_and_then plan_of (value_of line.now)) }
 {
