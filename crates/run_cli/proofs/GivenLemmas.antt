@@ -3,10 +3,11 @@ use Rattle.std.proofs.Common.{◌≡◌, ℕ, nat_lt, suc, ◌+◌, ◌^◌, ◌
 use Rattle.std.proofs.Common.{reverse, Bool, true, false, if◌then◌else◌, Option, Some, None, option_and_then, Result}
 use Rattle.std.proofs.Common.{Ok, Err, refl, ap, sym, subst, ◌∙◌, arith, codes}
 use Rattle.run_input.specs.declared.plan_line.RunnerKeys.{RunnerKeys}
-use Rattle.run_events.specs.Usual.{usual_hearing, usual_plan}
+use Rattle.run_commands.specs.declared.target_runner.TargetRunner.{TargetRunner}
 use Rattle.run_events.specs.declared.plan.Group.{Group}
 use Rattle.run_events.specs.declared.plan.Plan.{Plan}
 use Rattle.run_events.specs.declared.plan.PlanTest.{PlanTest}
+use Rattle.run_events.specs.declared.plan.RunHead.{RunHead}
 use Rattle.run_events.specs.declared.signal.SignalHandlerKind.{SignalHandlerKind}
 use Rattle.run_events.specs.declared.turn.Turn.{Turn}
 use Rattle.run_events.specs.declared.outcome.RunOutcome.{RunOutcome}
@@ -21,8 +22,9 @@ use Rattle.run_engine.specs.declared.errors.TestRunnerBuildError.TheVariants as 
 use Rattle.std.proofs.lemmas.Option.{same_Some}
 use Rattle.run_input.specs.Lines.{lines_of, at_front}
 use Rattle.run_input.specs.Input.{IsInput, turns_of, turn_line_of}
-use Rattle.run_input.specs.PlanLine.{plan_tests_of, plan_groups_of, plan_with, plan_of, keys_of, run_id_of}
-use Rattle.run_input.specs.PlanLine.{tests_of, rules_of}
+use Rattle.run_input.specs.PlanHead.{frame_of}
+use Rattle.run_input.specs.PlanLine.{keys_of, rules_of, tests_of, plan_tests_of, plan_groups_of, lists_of, plan_names}
+use Rattle.run_input.specs.PlanLine.{plan_with, plan_of}
 use Rattle.run_input.specs.Fields.{when, is_object_of}
 use Rattle.run_input.specs.ValueOf.{value_of}
 use Rattle.serde_json.specs.Data.{Data}
@@ -86,20 +88,21 @@ few_plan_tests d tests e =
 abbrev pub IsFew : Plan → Type 0
 IsFew plan = length plan.scripts + length plan.tests < 2 ^ 32
 
--- the plan that a line with these rules says, of these groups and tests
-abbrev planned : List ℕ → SignalHandlerKind × Option ℕ → List Group → List PlanTest → Plan
-planned run_id rules groups tests = record (usual_plan run_id tests)
-    { hearing = record usual_hearing { signals = rules.0 }; global_timeout = rules.1; groups = groups }
+-- a plan of few tests has few units
+few_plan : (rules : SignalHandlerKind × Option ℕ) (frame : RunHead × TargetRunner) (lists : List Group × List PlanTest)
+    → length lists.1 < 2 ^ 32 → IsFew (plan_with rules frame lists)
+few_plan rules frame lists few = omega arith
 
-few_plan : (run_id : List ℕ) (rules : SignalHandlerKind × Option ℕ) (groups tests : Option Data) (plan : Plan)
-    → plan_with run_id rules groups tests ≡ Some plan → IsFew plan
-few_plan run_id rules groups tests plan e =
+-- the tests of a plan line are few
+few_lists : (d : Data) (lists : List Group × List PlanTest) → lists_of d ≡ Some lists → length lists.1 < 2 ^ 32
+few_lists d lists e =
+    let groups : Option Data = get (codes "groups") d in
+    let tests : Option Data = get (codes "tests") d in
     let gs = then_some (plan_groups_of groups)
-    (λ gs. option_and_then (λ ts. Some (planned run_id rules gs ts)) (plan_tests_of tests)) plan e in
-    let ts = then_some (plan_tests_of tests) (λ ts. Some (planned run_id rules gs.0 ts)) plan gs.2 in
-    let fewer = few_plan_tests tests ts.0 ts.1 in
-    let few : 0 + length ts.0 < 2 ^ 32 = omega arith in
-    subst IsFew (same_Some (planned run_id rules gs.0 ts.0) plan ts.2) few
+    (λ gs. option_and_then (λ ts. Some (gs, ts)) (plan_tests_of tests)) lists e in
+    let ts = then_some (plan_tests_of tests) (λ ts. Some (gs.0, ts)) lists gs.2 in
+    let same : (gs.0, ts.0) ≡ lists = same_Some (gs.0, ts.0) lists ts.2 in
+    subst (λ (x : List Group × List PlanTest). length x.1 < 2 ^ 32) same (few_plan_tests tests ts.0 ts.1)
 
 few_as : (k l : RunnerKeys) (p q : Plan) → ◌≡◌ {A = RunnerKeys × Plan} (k, p) (l, q) → IsFew p → IsFew q
 few_as k l p q e few = subst IsFew (ap (λ (x : RunnerKeys × Plan). x.1) e) few
@@ -107,27 +110,23 @@ few_as k l p q e few = subst IsFew (ap (λ (x : RunnerKeys × Plan). x.1) e) few
 few_line : (d : Data) (keys : RunnerKeys) (plan : Plan) → plan_of d ≡ Some (keys, plan) → IsFew plan
 unfolding plan_of
 few_line d keys plan e =
-    let groups : Option Data = get (codes "groups") d in
-    let tests : Option Data = get (codes "tests") d in
-    let run_ids : Option (List ℕ) = option_and_then run_id_of (get (codes "run_id") d) in
-    let a = then_some (when (is_object_of (codes "capture" ∷ codes "flaky_result" ∷ codes "global_timeout"
-    ∷ codes "groups" ∷ codes "max_fail" ∷ codes "retries" ∷ codes "run_id" ∷ codes "signals" ∷ codes "tests"
-    ∷ codes "threads" ∷ []) d))
-    (λ _. option_and_then (λ k. option_and_then (λ o. option_and_then (λ r. option_and_then (λ q. Some (k, q))
-    (plan_with r o groups tests)) run_ids) (rules_of d)) (keys_of d))
+    let a = then_some (when (is_object_of plan_names d))
+    (λ _. option_and_then (λ k. option_and_then (λ r. option_and_then (λ f. option_and_then
+    (λ l. Some (k, plan_with r f l)) (lists_of d)) (frame_of d)) (rules_of d)) (keys_of d))
     (keys, plan) e in
-    let b = then_some (keys_of d)
-    (λ k. option_and_then (λ o. option_and_then (λ r. option_and_then (λ q. Some (k, q)) (plan_with r o groups tests))
-    run_ids) (rules_of d))
+    let k = then_some (keys_of d)
+    (λ k. option_and_then (λ r. option_and_then (λ f. option_and_then (λ l. Some (k, plan_with r f l)) (lists_of d))
+    (frame_of d)) (rules_of d))
     (keys, plan) a.2 in
-    let o = then_some (rules_of d)
-    (λ o. option_and_then (λ r. option_and_then (λ q. Some (b.0, q)) (plan_with r o groups tests)) run_ids)
-    (keys, plan) b.2 in
-    let c = then_some run_ids (λ r. option_and_then (λ q. Some (b.0, q)) (plan_with r o.0 groups tests)) (keys, plan)
-    o.2 in
-    let f = then_some (plan_with c.0 o.0 groups tests) (λ q. Some (b.0, q)) (keys, plan) c.2 in
-    let pair : (b.0, f.0) ≡ (keys, plan) = same_Some (b.0, f.0) (keys, plan) f.2 in
-    few_as b.0 keys f.0 plan pair (few_plan c.0 o.0 groups tests f.0 f.1)
+    let r = then_some (rules_of d)
+    (λ r. option_and_then (λ f. option_and_then (λ l. Some (k.0, plan_with r f l)) (lists_of d)) (frame_of d))
+    (keys, plan) k.2 in
+    let f = then_some (frame_of d) (λ f. option_and_then (λ l. Some (k.0, plan_with r.0 f l)) (lists_of d)) (keys, plan)
+    r.2 in
+    let l = then_some (lists_of d) (λ l. Some (k.0, plan_with r.0 f.0 l)) (keys, plan) f.2 in
+    let says : Plan = plan_with r.0 f.0 l.0 in
+    let pair : (k.0, says) ≡ (keys, plan) = same_Some (k.0, says) (keys, plan) l.2 in
+    few_as k.0 keys says plan pair (few_plan r.0 f.0 l.0 (few_lists d l.0 l.1))
 
 -- an input has few units and few turns
 pub given_few : (r : Reading) (keys : RunnerKeys) (plan : Plan) (turns : List Turn)

@@ -16,6 +16,14 @@ abbrev pub runner_for : TargetRunner → BuildPlatform → Option PlatformRunner
 runner_for runners built_for.Target = runners.target
 runner_for runners built_for.Host = runners.host
 
+-- these runners, of the host and of the target
+abbrev pub runners_with : Option PlatformRunner → Option PlatformRunner → TargetRunner
+runners_with host target = record { host = host; target = target }
+
+-- a runner of these parts
+abbrev pub runner_with : List ℕ → List (List ℕ) → PlatformRunnerSource → PlatformRunner
+runner_with binary args source = record { runner_binary = binary; args = args; source = source }
+
 -- a runner's program
 abbrev pub binary_of : PlatformRunner → List ℕ
 binary_of runner = runner.runner_binary

@@ -5,7 +5,8 @@ ghost use Rattle.std.specs.Iterator.{YieldsFirstRef, item_count};
 ghost use Rattle.run_commands.specs.declared.target_runner.BuildPlatform.{BuildPlatform};
 ghost use Rattle.run_commands.specs.declared.target_runner.BuildPlatform.TheVariants as built_for;
 ghost use Rattle.run_commands.specs.declared.target_runner.PlatformRunner.{PlatformRunner};
-ghost use Rattle.run_commands.specs.TargetRunner.{no_runners, runner_for, binary_of, args_of, source_of, args_left};
+ghost use Rattle.run_commands.specs.TargetRunner.{no_runners, runners_with, runner_with, runner_for};
+ghost use Rattle.run_commands.specs.TargetRunner.{binary_of, args_of, source_of, args_left};
 ghost use Rattle.run_commands.specs.RunnerVariable.{letter_in_variable, runner_variable};
 
 use run_capture::{Duplicate, List, Mem, Text};
@@ -85,6 +86,7 @@ impl TargetRunner {
 
     /// These runners.
     pub fn of(host: Option<PlatformRunner>, target: Option<PlatformRunner>) -> Self
+        ensures same { result ≡ runners_with host target }
         ensures host { runner_for result built_for.Host ≡ host }
         ensures target { runner_for result built_for.Target ≡ target }
     {
@@ -132,6 +134,7 @@ impl PlatformRunner {
         args: List<Text>,
         source: PlatformRunnerSource,
     ) -> PlatformRunner
+        ensures same { result ≡ runner_with runner_binary args source }
         ensures binary { binary_of result ≡ runner_binary }
         ensures args { args_of result ≡ args }
         ensures source { source_of result ≡ source }

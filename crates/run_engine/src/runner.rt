@@ -1,6 +1,6 @@
 // A runner carries out the turns of a run.
 ghost use Rattle.std.specs.Prelude.{◌≡◌, ◌<◌, ◌^◌, ◌∷◌, [], length, map, take, slice_get, IfOk, IfErr, OnOk, Option};
-ghost use Rattle.std.specs.Prelude.{Some, None, List, true, false};
+ghost use Rattle.std.specs.Prelude.{Some, None, List, true, false, pos, IfSome};
 ghost use Rattle.run_events.specs.Tell.{Adds};
 ghost use Rattle.run_model.specs.declared.entry.Entry.{Entry};
 ghost use Rattle.run_model.specs.Admission.{AreFew};
@@ -18,6 +18,7 @@ ghost use Rattle.run_model.specs.Words.{is_over};
 use crate::errors::{StepError, TestRunnerExecuteErrors};
 use crate::run::Run;
 use crate::tell::first_of;
+use jiff::Timestamp;
 use run_capture::{Duplicate, Mem, Whole};
 use run_events::{Children, EventLog, Reporter, RunOutcome, Settings, Turn};
 use run_state::State;
@@ -165,6 +166,19 @@ impl TestRunner {
         ensures { result ≡ self.now.plan.head.run_id }
     {
         self.settings.get().plan.head.run_id
+    }
+
+    /// The moment at which the run's clock is 0: the start of 1970 where the plan gives none.
+    pub fn started_at(&self) -> Timestamp
+        ensures given { IfSome self.now.plan.head.started_at (λ moment. result ≡ moment) }
+        ensures usual { self.now.plan.head.started_at ≡ None → result.nanosecond ≡ pos 0 }
+    {
+        self.settings
+            .get()
+            .plan
+            .head
+            .started_at
+            .unwrap_or(Timestamp::UNIX_EPOCH)
     }
 
     /// How many tests may run at a time.

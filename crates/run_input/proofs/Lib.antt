@@ -1,3 +1,4 @@
 pub mod InputLemmas
 mod LineLemmas
+mod MomentLemmas
 mod ValueLemmas

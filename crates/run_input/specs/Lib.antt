@@ -1,8 +1,10 @@
 pub mod Fields
 pub mod Input
 pub mod Lines
-pub mod PlanRetries
+pub mod PlanHead
 pub mod PlanLine
+pub mod PlanRetries
+pub mod PlanTest
 pub mod ReadsValue
 pub mod Refused
 pub mod TurnLine

@@ -1,6 +1,6 @@
 // The fields of an object. Each reader is given what stands at a key, and refuses a missing one unless
 // its name says that the key is optional.
-ghost use Rattle.std.specs.Prelude.{◌≡◌, List, ℕ, option_map, option_and_then};
+ghost use Rattle.std.specs.Prelude.{◌≡◌, [], List, ℕ, option_map, option_and_then};
 ghost use Rattle.serde_json.specs.Find.{as_str};
 ghost use Rattle.serde_json.specs.View.{view, items_view};
 ghost use Rattle.run_input.specs.Fields.{optional, or_usual, u32_of, u64_of, truth_of, i32_of, texts_of, texts_from};
@@ -105,8 +105,18 @@ pub fn optional_text_at(alloc: Global, value: Option<&Value>) -> Result<Option<T
     }
 }
 
-// The texts of a list, copied.
-fn texts_in(alloc: Global, items: &[Value]) -> Result<List<Text>, LineError>
+/// A text, copied, and the usual one where it is missing.
+pub fn text_or(alloc: Global, usual: &str, value: Option<&Value>) -> Result<Text, LineError>
+    ensures { ReadsValue result (or_usual usual.now as_str (option_map (λ v. view v.now) value.entry)) }
+{
+    match value {
+        Some(_) => text_at(alloc, value),
+        None => Ok(Text::from_str(alloc, usual)?),
+    }
+}
+
+/// The texts of a list, copied.
+pub fn texts_in(alloc: Global, items: &[Value]) -> Result<List<Text>, LineError>
     ensures { ReadsValue result (texts_from (items_view items.now)) }
 {
     let mut texts = List::new();
@@ -123,5 +133,15 @@ pub fn texts_at(alloc: Global, value: Option<&Value>) -> Result<List<Text>, Line
     match value.and_then(Value::as_array) {
         Some(items) => texts_in(alloc, items.as_slice()),
         None => Err(LineError::NotInTable),
+    }
+}
+
+/// A list of texts, copied, and none where it is missing.
+pub fn texts_or_none(alloc: Global, value: Option<&Value>) -> Result<List<Text>, LineError>
+    ensures { ReadsValue result (or_usual [] texts_of (option_map (λ v. view v.now) value.entry)) }
+{
+    match value {
+        Some(_) => texts_at(alloc, value),
+        None => Ok(List::new()),
     }
 }

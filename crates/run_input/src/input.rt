@@ -1,9 +1,10 @@
 // A whole input: a plan line, and a turn line for each turn.
-ghost use Rattle.std.specs.Prelude.{◌≡◌, Some, IfOk, IfErr, Ok, Err};
+ghost use Rattle.std.specs.Prelude.{◌≡◌, Some, IfOk, IfErr};
 ghost use Rattle.run_input.specs.Lines.{lines_of};
 ghost use Rattle.run_input.specs.Input.{turns_of, IsInput, IsFirstBadTurn};
 ghost use Rattle.run_input.specs.Refused.{error_at, IsRefusedInput, IsRefusedTurns};
 
+use crate::both::both;
 use crate::lines::split_line;
 use crate::{InputError, LineError, RunnerKeys, read_plan_line, read_turn_line};
 use run_capture::List;
@@ -48,18 +49,6 @@ fn read_turns(alloc: Global, bytes: &[u8]) -> Result<List<Turn>, InputError>
         number += 1;
     }
     Ok(turns)
-}
-
-// Both, where the second is there.
-fn both<A: Drop, B>(first: A, second: Result<B, InputError>) -> Result<(A, B), InputError>
-    ensures first { IfOk result (λ pair. pair.0 ≡ first) }
-    ensures second { IfOk result (λ pair. second ≡ Ok pair.1) }
-    ensures refused { IfErr result (λ e. second ≡ Err e) }
-{
-    match second {
-        Ok(second) => Ok((first, second)),
-        Err(e) => Err(e),
-    }
 }
 
 /// Reads an input: its first line is the plan line, each later one a turn line.

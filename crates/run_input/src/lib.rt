@@ -3,6 +3,7 @@
 //! the first line that is anything else is named by its number.
 #![tactic(auto)]
 
+mod both;
 mod errors;
 mod fields;
 mod floats;
@@ -10,9 +11,11 @@ mod input;
 mod laws;
 mod lines;
 mod objects;
+mod plan_head;
 mod plan_keys;
 mod plan_line;
 mod plan_retries;
+mod plan_runners;
 mod plan_test;
 mod reading;
 mod turn_fields;

@@ -1,27 +1,28 @@
 // The plan line: the first line of an input.
 ghost use Rattle.std.specs.Prelude.{◌≡◌, [], option_map, option_and_then};
-ghost use Rattle.serde_json.specs.Find.{as_str};
 ghost use Rattle.serde_json.specs.View.{view, items_view};
 ghost use Rattle.run_input.specs.ReadsValue.{ReadsValue};
 ghost use Rattle.run_input.specs.ValueOf.{value_of};
-ghost use Rattle.uuid.specs.Text.{parsed};
-ghost use Rattle.run_input.specs.PlanLine.{uuid_of, run_id_of, tests_of, tests_from, rules_of};
-ghost use Rattle.run_input.specs.PlanLine.{plan_tests_of, plan_of, keys_of, plan_with, plan_groups_of, group_of};
-ghost use Rattle.run_input.specs.PlanLine.{groups_of, groups_from};
+ghost use Rattle.run_input.specs.PlanLine.{tests_of, tests_from, plan_tests_of, groups_of, groups_from, plan_groups_of};
+ghost use Rattle.run_input.specs.PlanLine.{group_of, keys_of, rules_of, lists_of, plan_with, plan_of};
 ghost use Rattle.run_input.specs.Fields.{or_usual};
 
 use crate::LineError;
-use crate::fields::{optional_u32_at, optional_u64_at, str_at, text_at, u32_at};
+use crate::both::both;
+use crate::fields::{optional_u32_at, optional_u64_at, text_at, u32_at};
 use crate::objects::has_keys_of;
+use crate::plan_head::frame_from;
 use crate::plan_keys::{capture_at, max_fail_at, signals_at};
 use crate::plan_retries::{optional_flaky_at, optional_retries_at};
 use crate::plan_test::test_from;
 use crate::value::read_value;
 use run_capture::{CaptureStrategy, List};
-use run_events::{FlakyResult, Group, MaxFail, Plan, PlanTest, RetryPolicy, SignalHandlerKind};
+use run_commands::TargetRunner;
+use run_events::{
+    FlakyResult, Group, Hearing, MaxFail, Plan, PlanTest, RetryPolicy, RunHead, SignalHandlerKind,
+};
 use serde_json::Value;
 use std::alloc::Global;
-use uuid::Uuid;
 
 /// What the keys of a plan line set of a runner.
 #[derive(Clone, Copy, Drop)]
@@ -40,15 +41,18 @@ pub struct RunnerKeys {
 /// Its keys are `run_id` (a UUID) and `tests` (a list of tests, which may be empty), and it may have `capture` (the
 /// text `none`, `split` or `combined`; `split` where it is missing), `threads` (a number), `max_fail`, `retries` and
 /// `flaky_result` (each replaces that of every test), `signals` (the text `standard`, `debugger` or `noop`; `standard`
-/// where it is missing), `global_timeout` (a number) and `groups` (a list of groups). `max_fail` has `count` (a number)
-/// and `mode` (the text `wait` or `immediate`). A group has `limit` (a number) and `name`. A test has `binary`,
-/// `command` and `name`, and may have `group` (the name of one), `leak`, `skip` (the reason for which it is skipped),
-/// `slow`, `weight` (a number, 1 where it is missing), `retries` and `flaky` (the text `pass` or `fail`, as
-/// `flaky_result`; `pass` where it is missing). `slow` may have `grace`, `on_timeout` (the text `fail` or `pass`),
-/// `period` and `terminate_after`, and `leak` may have `period` and `result` (the text `fail` or `pass`); what is missing
-/// is as usual. `retries` has `count` (a number), and may have `delay` (0 where it is missing), `jitter` (`false` where it
-/// is missing), `backoff` (the text `fixed` or `exponential`; `fixed` where it is missing) and, where it is exponential,
-/// `max_delay`.
+/// where it is missing), `global_timeout` (a number) and `groups` (a list of groups). It may also have `profile`,
+/// `workspace_root`, `args` (a list of texts), `mode` (the text `test` or `benchmark`), `started_at` (a moment),
+/// `nextest_version`, `required_version` and `recommended_version` (versions), and `runners`, which may have `host` and
+/// `target` (each a program with its arguments); what is missing is as usual. `max_fail` has `count` (a number) and
+/// `mode` (the text `wait` or `immediate`). A group has `limit` (a number) and `name`. A test has `binary`, `command` and
+/// `name`, and may have `group` (the name of one), `leak`, `platform` (the text `target` or `host`; `target` where it is
+/// missing), `skip` (the reason for which it is skipped), `slow`, `weight` (a number, 1 where it is missing), `retries`
+/// and `flaky` (the text `pass` or `fail`, as `flaky_result`; `pass` where it is missing). `slow` may have `grace`,
+/// `on_timeout` (the text `fail` or `pass`), `period` and `terminate_after`, and `leak` may have `period` and `result`
+/// (the text `fail` or `pass`); what is missing is as usual. `retries` has `count` (a number), and may have `delay` (0
+/// where it is missing), `jitter` (`false` where it is missing), `backoff` (the text `fixed` or `exponential`; `fixed`
+/// where it is missing) and, where it is exponential, `max_delay`.
 pub fn read_plan_line(alloc: Global, line: &[u8]) -> Result<(RunnerKeys, Plan), LineError>
     ensures { ReadsValue result (option_and_then plan_of (value_of line.now)) }
 {
@@ -68,31 +72,34 @@ fn plan_from(alloc: Global, value: &Value) -> Result<(RunnerKeys, Plan), LineErr
     if !has_keys_of(
         value,
         &[
+            "args",
             "capture",
             "flaky_result",
             "global_timeout",
             "groups",
             "max_fail",
+            "mode",
+            "nextest_version",
+            "profile",
+            "recommended_version",
+            "required_version",
             "retries",
             "run_id",
+            "runners",
             "signals",
+            "started_at",
             "tests",
             "threads",
+            "workspace_root",
         ],
     ) {
         return Err(LineError::NotInTable);
     }
     let keys = runner_keys(value).ok_or(LineError::NotInTable)?;
     let rules = rules_from(value).ok_or(LineError::NotInTable)?;
-    let run_id = run_id_at(value.get("run_id")).ok_or(LineError::NotInTable)?;
-    let plan = plan_with(
-        alloc,
-        run_id,
-        rules,
-        value.get("groups"),
-        value.get("tests"),
-    )?;
-    Ok((keys, plan))
+    let frame = frame_from(alloc, value)?;
+    let (frame, lists) = both(frame, lists_from(alloc, value))?;
+    Ok((keys, plan_with(rules, frame, lists)))
 }
 
 // What the keys set of a runner.
@@ -122,21 +129,37 @@ fn rules_from(value: &Value) -> Option<(SignalHandlerKind, Option<u64>)>
     Some((signals, global_timeout))
 }
 
-// A plan with these rules, of these groups and tests.
+// A plan with these rules, of this head and these runners, with these groups and tests.
 fn plan_with(
-    alloc: Global,
-    run_id: Uuid,
     rules: (SignalHandlerKind, Option<u64>),
-    groups: Option<&Value>,
-    tests: Option<&Value>,
-) -> Result<Plan, LineError>
-    ensures { ReadsValue result (plan_with run_id rules (option_map (λ v. view v.now) groups.entry)
-        (option_map (λ v. view v.now) tests.entry)) }
+    frame: (RunHead, TargetRunner),
+    lists: (List<Group>, List<PlanTest>),
+) -> Plan
+    ensures { result ≡ plan_with rules frame lists }
 {
-    let groups = groups_of_plan(alloc, groups)?;
-    let tests = tests_of_plan(alloc, tests)?;
-    let plan = Plan::usual(alloc, run_id, tests)?;
-    Ok(set(plan, rules, groups))
+    let (signals, global_timeout) = rules;
+    let (head, runners) = frame;
+    let (groups, tests) = lists;
+    let mut hearing = Hearing::usual();
+    hearing.signals = signals;
+    Plan {
+        head,
+        hearing,
+        global_timeout,
+        groups,
+        runners,
+        scripts: List::new(),
+        tests,
+    }
+}
+
+// The groups and the tests of a plan.
+fn lists_from(alloc: Global, value: &Value) -> Result<(List<Group>, List<PlanTest>), LineError>
+    ensures { ReadsValue result (lists_of (view value.now)) }
+{
+    let groups = groups_of_plan(alloc, value.get("groups"))?;
+    let tests = tests_of_plan(alloc, value.get("tests"))?;
+    Ok((groups, tests))
 }
 
 // The groups of a plan, which are fewer than 2^32.
@@ -149,17 +172,6 @@ fn groups_of_plan(alloc: Global, value: Option<&Value>) -> Result<List<Group>, L
     } else {
         Ok(groups)
     }
-}
-
-// A plan with these rules and groups.
-fn set(plan: Plan, rules: (SignalHandlerKind, Option<u64>), groups: List<Group>) -> Plan
-    ensures { result ≡ record plan
-        { hearing = record plan.hearing { signals = rules.0 }; global_timeout = rules.1; groups = groups } }
-{
-    let mut plan = plan;
-    (plan.hearing.signals, plan.global_timeout) = rules;
-    plan.groups = groups;
-    plan
 }
 
 #[tactic(auto, unfolding(crate::specs::PlanLine::group_of))]
@@ -195,34 +207,6 @@ fn groups_at(alloc: Global, value: Option<&Value>) -> Result<List<Group>, LineEr
         },
         None => Ok(List::new()),
     }
-}
-
-// The UUID that a text writes in any form that `Uuid` reads.
-fn parse_uuid(text: &str) -> Option<Uuid>
-    ensures { result ≡ parsed text.now }
-{
-    match Uuid::parse_str(text) {
-        Ok(run_id) => Some(run_id),
-        Err(_) => None,
-    }
-}
-
-// The UUID that a text writes. `Uuid` reads the prefix of the urn form in either case, and a plan line in lower case
-// alone.
-fn parse_run_id(text: &str) -> Option<Uuid>
-    ensures { result ≡ uuid_of text.now }
-{
-    if text.len() == 45 && !text.as_bytes().starts_with("urn:uuid:".as_bytes()) {
-        None
-    } else {
-        parse_uuid(text)
-    }
-}
-
-fn run_id_at(value: Option<&Value>) -> Option<Uuid>
-    ensures { result ≡ option_and_then run_id_of (option_map (λ v. view v.now) value.entry) }
-{
-    parse_run_id(str_at(value)?)
 }
 
 fn tests_in(alloc: Global, items: &[Value]) -> Result<List<PlanTest>, LineError>

@@ -3,15 +3,18 @@ ghost use Rattle.std.specs.Prelude.{◌≡◌, option_map, option_and_then};
 ghost use Rattle.serde_json.specs.View.{view};
 ghost use Rattle.run_events.specs.Usual.{usual_slow, usual_leak};
 ghost use Rattle.run_input.specs.ReadsValue.{ReadsValue};
-ghost use Rattle.run_input.specs.PlanLine.{id_of, named_of, terms_of, test_of, trials_of};
-ghost use Rattle.run_input.specs.PlanLine.{slow_of, leak_of, timeout_of, leak_result_of};
+ghost use Rattle.run_commands.specs.declared.target_runner.BuildPlatform.TheVariants as platforms;
+ghost use Rattle.run_input.specs.PlanTest.{id_of, named_of, platform_of, terms_of, test_of, trials_of};
+ghost use Rattle.run_input.specs.PlanTest.{slow_of, leak_of, timeout_of, leak_result_of};
 ghost use Rattle.run_input.specs.Fields.{u32_of, or_usual};
 
 use crate::LineError;
+use crate::both::both;
 use crate::fields::{optional_text_at, optional_u32_at, str_at, text_at, texts_at, u32_at, u64_or};
 use crate::objects::has_keys_of;
 use crate::plan_retries::{flaky_at, retries_at};
 use run_capture::Text;
+use run_commands::BuildPlatform;
 use run_events::{
     FlakyResult, LeakTimeout, LeakTimeoutResult, PlanTest, RetryPolicy, SlowTimeout,
     SlowTimeoutResult, TestInstanceId,
@@ -20,31 +23,33 @@ use serde_json::Value;
 use std::alloc::Global;
 
 /// A test, by its keys.
-#[tactic(auto, unfolding(crate::specs::PlanLine::test_of))]
+#[tactic(auto, unfolding(crate::specs::PlanTest::test_of))]
 pub fn test_from(alloc: Global, value: &Value) -> Result<PlanTest, LineError>
     ensures { ReadsValue result (test_of (view value.now)) }
 {
     if !has_keys_of(
         value,
         &[
-            "binary", "command", "flaky", "group", "leak", "name", "retries", "skip", "slow",
-            "weight",
+            "binary", "command", "flaky", "group", "leak", "name", "platform", "retries", "skip",
+            "slow", "weight",
         ],
     ) {
         return Err(LineError::NotInTable);
     }
     let terms = terms_from(value).ok_or(LineError::NotInTable)?;
     let trials = trials_from(value).ok_or(LineError::NotInTable)?;
+    let platform = platform_at(value.get("platform")).ok_or(LineError::NotInTable)?;
     let group = optional_text_at(alloc, value.get("group"))?;
-    let test = named_from(alloc, value)?;
-    Ok(set(test, terms, trials, group))
+    let (group, test) = both(group, named_from(alloc, value))?;
+    Ok(set(test, terms, trials, platform, group))
 }
 
-// A test of this weight, with these time-outs and retries, in this group.
+// A test of this weight, with these time-outs and retries, for this platform, in this group.
 fn set(
     test: PlanTest,
     terms: (u32, SlowTimeout, LeakTimeout),
     trials: (RetryPolicy, FlakyResult),
+    platform: BuildPlatform,
     group: Option<Text>,
 ) -> PlanTest
     ensures { result ≡ record test {
@@ -54,13 +59,35 @@ fn set(
       retries = trials.0;
       flaky = trials.1;
       group = group;
+      platform = platform;
     } }
 {
     let mut test = test;
     (test.weight, test.slow, test.leak) = terms;
     (test.retries, test.flaky) = trials;
+    test.platform = platform;
     test.group = group;
     test
+}
+
+// The platform of a test, and the target's where nothing is said.
+fn platform_at(value: Option<&Value>) -> Option<BuildPlatform>
+    ensures { result ≡ or_usual platforms.Target platform_of (option_map (λ v. view v.now) value.entry) }
+{
+    match value {
+        Some(_) => named_platform(value),
+        None => Some(BuildPlatform::Target),
+    }
+}
+
+fn named_platform(value: Option<&Value>) -> Option<BuildPlatform>
+    ensures { result ≡ option_and_then platform_of (option_map (λ v. view v.now) value.entry) }
+{
+    match str_at(value)? {
+        "target" => Some(BuildPlatform::Target),
+        "host" => Some(BuildPlatform::Host),
+        _ => None,
+    }
 }
 
 // How often a test is tried again, and what a pass counts as then.
@@ -121,7 +148,7 @@ fn slow_at(value: Option<&Value>) -> Option<SlowTimeout>
     }
 }
 
-#[tactic(auto, unfolding(crate::specs::PlanLine::slow_of))]
+#[tactic(auto, unfolding(crate::specs::PlanTest::slow_of))]
 fn slow_from(value: &Value) -> Option<SlowTimeout>
     ensures { result ≡ slow_of (view value.now) }
 {
@@ -171,7 +198,7 @@ fn leak_at(value: Option<&Value>) -> Option<LeakTimeout>
     }
 }
 
-#[tactic(auto, unfolding(crate::specs::PlanLine::leak_of))]
+#[tactic(auto, unfolding(crate::specs::PlanTest::leak_of))]
 fn leak_from(value: &Value) -> Option<LeakTimeout>
     ensures { result ≡ leak_of (view value.now) }
 {

@@ -1,7 +1,10 @@
 -- What an admission makes: which test is next, by the rule of `run_admission`, and the unit that it begins as.
-use Rattle.std.specs.Prelude.{ℕ, ◌+◌, ◌<◌, ◌^◌, List, [], Bool, true, false, if◌then◌else◌, Option, Some, None, option_map}
+use Rattle.std.specs.Prelude.{ℕ, ◌+◌, ◌<◌, ◌^◌, List, [], ◌∷◌, ◌++◌, Bool, true, false, if◌then◌else◌, Option, Some, None, option_map}
 use Rattle.std.specs.Prelude.{option_and_then, map, length, take, drop, count_by, is_none, slice_get, unwrap_or}
 use Rattle.std.specs.List.{list_all}
+use Rattle.run_commands.specs.TargetRunner.{runner_for, binary_of, args_of}
+use Rattle.run_commands.specs.VersionEnvVars.{version_pairs}
+use Rattle.run_commands.specs.declared.target_runner.PlatformRunner.{PlatformRunner}
 use Rattle.run_capture.specs.Output.{uncaptured}
 use Rattle.run_capture.specs.Captured.{begun}
 use Rattle.run_clock.specs.Stopwatch.{started_at}
@@ -22,6 +25,7 @@ use Rattle.run_admission.specs.InUse.{Admissions, claim_of, admitted}
 use Rattle.run_model.specs.declared.phase.Phase.{Phase}
 use Rattle.run_model.specs.declared.phase.Phase.TheVariants.{StartSent, Over}
 use Rattle.run_model.specs.declared.unit_view.AttemptTerms.{AttemptTerms}
+use Rattle.run_model.specs.declared.unit_view.Surroundings.{Surroundings}
 use Rattle.run_model.specs.declared.unit_view.UnitView.{UnitView}
 use Rattle.run_model.specs.Backoff.{retry_count}
 use Rattle.run_model.specs.Environment.{test_start}
@@ -87,6 +91,24 @@ pub record AreFew (p : Settings) : Type 0 where
   pub units : units_in p < 2 ^ 32
   pub attempts : (j : ℕ) → retry_count (terms_at p j).retries + 1 < 2 ^ 32
 
+-- what the children of a run are told alike
+abbrev pub surroundings_of : Settings → Surroundings
+surroundings_of p = record {
+  run_id = p.plan.head.run_id;
+  mode = p.plan.head.mode;
+  threads = p.threads;
+  workspace_root = p.plan.head.workspace_root;
+  versions = version_pairs p.plan.head.versions;
+}
+
+-- the words of a runner, and the command of a test, before whose words stand those of its platform's runner
+abbrev pub runner_words : Option PlatformRunner → List (List ℕ)
+runner_words None = []
+runner_words (Some runner) = binary_of runner ∷ args_of runner
+
+abbrev pub command_of : Settings → PlanTest → List (List ℕ)
+command_of p test = runner_words (runner_for p.plan.runners test.platform) ++ test.command
+
 -- a slot outside of all groups
 abbrev pub global_slot : ℕ → TestSlotAssignment
 global_slot n = record { global = n; group = None }
@@ -103,11 +125,10 @@ slots_of test global slot = record { global = global; group = group_slot slot te
 abbrev pub first_view : Settings → ℕ → TestSlotAssignment → PlanTest → UnitView
 first_view p k slot test = record {
   test = record { unit = k; id = test.id; stress_index = None };
-  command = test.command;
+  command = command_of p test;
   slot = slot;
   flaky = flaky_of p test;
-  run_id = p.plan.head.run_id;
-  threads = p.threads;
+  around = surroundings_of p;
   terms = terms_of p test;
   phase = StartSent;
   attempt = 1;

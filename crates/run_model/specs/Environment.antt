@@ -10,6 +10,8 @@ use Rattle.run_events.specs.declared.ask.Ask.TheVariants.{Start as AskStart}
 use Rattle.run_events.specs.declared.plan.GroupSlot.{GroupSlot}
 use Rattle.run_events.specs.declared.message.TestStart.{TestStart}
 use Rattle.run_events.specs.declared.retry_policy.RetryPolicy.{RetryPolicy}
+use Rattle.run_events.specs.declared.retry_policy.RunMode.{RunMode}
+use Rattle.run_events.specs.declared.retry_policy.RunMode.TheVariants as modes
 use Rattle.run_model.specs.declared.unit_view.UnitView.{UnitView}
 use Rattle.run_model.specs.Backoff.{retry_count}
 
@@ -24,11 +26,16 @@ attempts u = attempts_by u.terms.retries
 abbrev pub test_start : UnitView → TestStart
 test_start u = record { test = u.test; command = u.command; slot = u.slot }
 
+-- what the tests of a run are run as
+abbrev pub mode_name : RunMode → List ℕ
+mode_name modes.Test = codes "test"
+mode_name modes.Benchmark = codes "benchmark"
+
 -- the variables that a test's child gets: who it is
 unfoldable pub identity_variables : UnitView → List (List ℕ × List ℕ)
 identity_variables u =
-    (codes "NEXTEST_RUN_ID", hyphenated_text lower u.run_id)
-    ∷ (codes "NEXTEST_RUN_MODE", codes "test")
+    (codes "NEXTEST_RUN_ID", hyphenated_text lower u.around.run_id)
+    ∷ (codes "NEXTEST_RUN_MODE", mode_name u.around.mode)
     ∷ (codes "NEXTEST_BINARY_ID", u.test.id.binary)
     ∷ (codes "NEXTEST_TEST_NAME", u.test.id.name)
     ∷ (codes "NEXTEST_ATTEMPT", decimal u.attempt)
@@ -52,21 +59,13 @@ place_variables u =
     ∷ (codes "NEXTEST_TEST_GLOBAL_SLOT", decimal u.slot.global)
     ∷ (codes "NEXTEST_TEST_GROUP", group_name u.slot.group)
     ∷ (codes "NEXTEST_TEST_GROUP_SLOT", group_number u.slot.group)
-    ∷ (codes "NEXTEST_TEST_THREADS", decimal u.threads)
-    ∷ (codes "NEXTEST_WORKSPACE_ROOT", codes "/")
+    ∷ (codes "NEXTEST_TEST_THREADS", decimal u.around.threads)
+    ∷ (codes "NEXTEST_WORKSPACE_ROOT", u.around.workspace_root)
     ∷ []
 
--- the versions of the runner: no plan gives them yet
-unfoldable pub version_variables : List (List ℕ × List ℕ)
-version_variables =
-    (codes "NEXTEST_VERSION", codes "0.0.0")
-    ∷ (codes "NEXTEST_REQUIRED_VERSION", codes "none")
-    ∷ (codes "NEXTEST_RECOMMENDED_VERSION", codes "none")
-    ∷ []
-
--- all of them, in order
+-- all of them, in order: the versions come last
 unfoldable pub environment : UnitView → List (List ℕ × List ℕ)
-environment u = identity_variables u ++ (place_variables u ++ version_variables)
+environment u = identity_variables u ++ (place_variables u ++ u.around.versions)
 
 -- the streams that a strategy captures, in order
 abbrev pub streams_of : CaptureStrategy → List Stream

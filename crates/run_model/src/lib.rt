@@ -18,4 +18,4 @@ pub use entry::Entry;
 pub use happening::{Happening, UnitPart};
 pub use phase::Phase;
 pub use unit_turn::UnitTurn;
-pub use unit_view::{AttemptTerms, Timers, UnitView};
+pub use unit_view::{AttemptTerms, Surroundings, Timers, UnitView};

@@ -3,7 +3,7 @@ use crate::Phase;
 use run_capture::{CaptureStrategy, ChildAccumulator, List, Text};
 use run_clock::{PausableSleep, StopwatchStart};
 use run_events::{
-    ChildExit, ExecuteStatus, FlakyResult, LeakTimeout, Request, RetryPolicy, SlowTimeout,
+    ChildExit, ExecuteStatus, FlakyResult, LeakTimeout, Request, RetryPolicy, RunMode, SlowTimeout,
     TestSlotAssignment, TestUnit,
 };
 use uuid::Uuid;
@@ -19,6 +19,18 @@ pub struct AttemptTerms {
     pub leak: LeakTimeout,
     /// How often it is tried again where it fails, and after which delays.
     pub retries: RetryPolicy,
+}
+
+/// What is the same for all tests of a run, and is told to each child.
+#[derive(Drop)]
+pub struct Surroundings {
+    pub run_id: Uuid,
+    pub mode: RunMode,
+    /// How much may run at a time.
+    pub threads: u32,
+    pub workspace_root: Text,
+    /// The variables that tell the versions, with their values.
+    pub versions: List<(Text, Text)>,
 }
 
 /// The time of the current attempt, by the run's clock.
@@ -39,12 +51,12 @@ pub struct Timers {
 pub struct UnitView {
     /// Its number and its name.
     pub test: TestUnit,
+    /// The runner of its platform, where there is one, and then its own words.
     pub command: List<Text>,
     pub slot: TestSlotAssignment,
     /// What a pass after a failed attempt counts as.
     pub flaky: FlakyResult,
-    pub run_id: Uuid,
-    pub threads: u32,
+    pub around: Surroundings,
     pub terms: AttemptTerms,
     pub phase: Phase,
     /// Its current attempt, from 1; between two attempts it is the failed one.
@@ -73,8 +85,7 @@ impl Drop for UnitView {
             command: _,
             slot: _,
             flaky: _,
-            run_id: _,
-            threads: _,
+            around: _,
             terms: _,
             phase: _,
             attempt: _,

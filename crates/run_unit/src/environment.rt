@@ -1,12 +1,12 @@
 // The start of a test's child: its command and its variables.
 ghost use Rattle.std.specs.Prelude.{◌≡◌, ◌<◌, ◌^◌, ◌++◌, ◌∷◌, [], IfOk, decimal, codes};
 ghost use Rattle.uuid.specs.Text.{hyphenated_text, lower};
-ghost use Rattle.run_model.specs.Environment.{start_ask, environment, identity_variables, place_variables, version_variables};
+ghost use Rattle.run_model.specs.Environment.{start_ask, environment, identity_variables, place_variables, mode_name};
 ghost use Rattle.run_model.specs.Environment.{attempts, group_name, group_number, streams_of};
 
 use crate::retry::attempts;
 use run_capture::{CaptureStrategy, Duplicate, List, Mem, Stream, Text};
-use run_events::{Ask, GroupSlot, StartAsk};
+use run_events::{Ask, GroupSlot, RunMode, StartAsk};
 use run_model::UnitView;
 use std::alloc::Global;
 use uuid::Uuid;
@@ -57,14 +57,24 @@ fn id_pair(alloc: Global, key: &str, value: Uuid) -> Mem<(Text, Text)>
     Ok((Text::from_str(alloc, key)?, Text::from_string(text)))
 }
 
+// What the tests of a run are run as.
+fn mode_name(mode: RunMode) -> &'static str
+    ensures { result.now ≡ mode_name mode }
+{
+    match mode {
+        RunMode::Test => "test",
+        RunMode::Benchmark => "benchmark",
+    }
+}
+
 #[tactic(auto, unfolding(run_model::specs::Environment::identity_variables))]
 fn identity_variables(alloc: Global, unit: &UnitView) -> Mem<Vec<(Text, Text)>>
     requires { attempts unit.now < 2 ^ 32 }
     ensures { IfOk result (λ v. v.items ≡ identity_variables unit.now) }
 {
     let list = Vec::new(alloc);
-    let list = with_id(alloc, list, "NEXTEST_RUN_ID", unit.run_id)?;
-    let list = with_text(alloc, list, "NEXTEST_RUN_MODE", "test")?;
+    let list = with_id(alloc, list, "NEXTEST_RUN_ID", unit.around.run_id)?;
+    let list = with_text(alloc, list, "NEXTEST_RUN_MODE", mode_name(unit.around.mode))?;
     let list = with_text(
         alloc,
         list,
@@ -112,19 +122,13 @@ fn place_variables(alloc: Global, unit: &UnitView) -> Mem<Vec<(Text, Text)>>
     let list = stress_variables(alloc)?;
     let list = with_number(alloc, list, "NEXTEST_TEST_GLOBAL_SLOT", unit.slot.global)?;
     let list = with_group(alloc, list, &unit.slot.group)?;
-    let list = with_number(alloc, list, "NEXTEST_TEST_THREADS", unit.threads)?;
-    let list = with_text(alloc, list, "NEXTEST_WORKSPACE_ROOT", "/")?;
-    Ok(list)
-}
-
-#[tactic(auto, unfolding(run_model::specs::Environment::version_variables))]
-fn version_variables(alloc: Global) -> Mem<Vec<(Text, Text)>>
-    ensures { IfOk result (λ v. v.items ≡ version_variables) }
-{
-    let list = Vec::new(alloc);
-    let list = with_text(alloc, list, "NEXTEST_VERSION", "0.0.0")?;
-    let list = with_text(alloc, list, "NEXTEST_REQUIRED_VERSION", "none")?;
-    let list = with_text(alloc, list, "NEXTEST_RECOMMENDED_VERSION", "none")?;
+    let list = with_number(alloc, list, "NEXTEST_TEST_THREADS", unit.around.threads)?;
+    let list = with_text(
+        alloc,
+        list,
+        "NEXTEST_WORKSPACE_ROOT",
+        unit.around.workspace_root.as_str(),
+    )?;
     Ok(list)
 }
 
@@ -135,9 +139,9 @@ fn environment(alloc: Global, unit: &UnitView) -> Mem<List<(Text, Text)>>
 {
     let mut env = identity_variables(alloc, unit)?;
     let mut place = place_variables(alloc, unit)?;
-    let mut version = version_variables(alloc)?;
-    place.append(&mut version)?;
     env.append(&mut place)?;
+    let mut versions = unit.around.versions.copy(alloc)?.into_vec(alloc);
+    env.append(&mut versions)?;
     Ok(List::from_vec(env))
 }
 

@@ -1,6 +1,7 @@
 // A test as it begins, and an attempt of it that is let go.
-ghost use Rattle.std.specs.Prelude.{◌≡◌, ◌<◌, ◌^◌, IfOk, OnErr};
-ghost use Rattle.run_model.specs.Admission.{first_view, flaky_of, retries_of};
+ghost use Rattle.std.specs.Prelude.{◌≡◌, ◌<◌, ◌^◌, ◌∷◌, ◌++◌, IfOk, OnErr};
+ghost use Rattle.run_commands.specs.TargetRunner.{binary_of, args_of};
+ghost use Rattle.run_model.specs.Admission.{first_view, flaky_of, retries_of, surroundings_of, command_of};
 ghost use Rattle.run_model.specs.Environment.{attempts};
 ghost use Rattle.run_model.specs.Unit.{begun_row};
 ghost use Rattle.run_unit.specs.Effects.{IsRow};
@@ -8,9 +9,10 @@ ghost use Rattle.run_unit.specs.Effects.{IsRow};
 use crate::effects::UnitEffects;
 use crate::environment::start_of;
 use crate::timing::timers_from;
-use run_capture::{ChildAccumulator, Duplicate, List, Mem};
+use run_capture::{ChildAccumulator, Duplicate, List, Mem, Text};
+use run_commands::PlatformRunner;
 use run_events::{FlakyResult, PlanTest, RetryPolicy, Settings, TestSlotAssignment, TestUnit};
-use run_model::{AttemptTerms, Phase, UnitView};
+use run_model::{AttemptTerms, Phase, Surroundings, UnitView};
 use std::alloc::Global;
 
 // What a pass after a failed attempt counts as: for all tests alike where that is set.
@@ -33,6 +35,57 @@ fn retries_of(settings: &Settings, test: &PlanTest) -> RetryPolicy
     }
 }
 
+// What the children of a run are told alike.
+fn surroundings_of(alloc: Global, settings: &Settings) -> Mem<Surroundings>
+    ensures { IfOk result (λ around. around ≡ surroundings_of settings.now) }
+{
+    let head = &settings.plan.head;
+    let workspace_root = head.workspace_root.copy(alloc)?;
+    let versions = head.versions.pairs(alloc)?;
+    Ok(Surroundings {
+        run_id: head.run_id,
+        mode: head.mode,
+        threads: settings.threads,
+        workspace_root,
+        versions,
+    })
+}
+
+// The words of a runner.
+fn runner_words(alloc: Global, runner: &PlatformRunner) -> Mem<List<Text>>
+    ensures { IfOk result (λ words. words ≡ binary_of runner.now ∷ args_of runner.now) }
+{
+    let mut words = List::new();
+    words.push(alloc, Text::from_str(alloc, runner.binary())?)?;
+    for word in runner.args() {
+        words.push(alloc, Text::from_str(alloc, word)?)?;
+    }
+    Ok(words)
+}
+
+// These words and then those of a command.
+fn followed_by(alloc: Global, words: List<Text>, command: &List<Text>) -> Mem<List<Text>>
+    ensures { IfOk result (λ all. all ≡ words ++ command.now) }
+{
+    let mut words = words.into_vec(alloc);
+    let mut own = command.copy(alloc)?.into_vec(alloc);
+    words.append(&mut own)?;
+    Ok(List::from_vec(words))
+}
+
+// The command of a test: before its own words stand those of its platform's runner.
+fn command_of(alloc: Global, settings: &Settings, test: &PlanTest) -> Mem<List<Text>>
+    ensures { IfOk result (λ command. command ≡ command_of settings.now test.now) }
+{
+    match settings.plan.runners.for_build_platform(test.platform) {
+        Some(runner) => {
+            let words = runner_words(alloc, runner)?;
+            followed_by(alloc, words, &test.command)
+        }
+        None => test.command.copy(alloc),
+    }
+}
+
 /// A planned test as the unit of this number.
 pub fn first_view(
     alloc: Global,
@@ -43,7 +96,8 @@ pub fn first_view(
 ) -> Mem<UnitView>
     ensures { IfOk result (λ u. u ≡ first_view settings.now unit slot planned.now) }
 {
-    let command = planned.command.copy(alloc)?;
+    let command = command_of(alloc, settings, planned)?;
+    let around = surroundings_of(alloc, settings)?;
     let id = planned.id.copy(alloc)?;
     Ok(UnitView {
         test: TestUnit {
@@ -54,8 +108,7 @@ pub fn first_view(
         command,
         slot,
         flaky: flaky_of(settings, planned),
-        run_id: settings.plan.head.run_id,
-        threads: settings.threads,
+        around,
         terms: AttemptTerms {
             strategy: settings.capture,
             slow: planned.slow,

@@ -1,0 +1,119 @@
+-- What a plan line says of a test.
+use Rattle.std.specs.Prelude.{ℕ, List, [], ◌∷◌, Option, Some, None, option_and_then, if◌then◌else◌, nat_eq, codes}
+use Rattle.serde_json.specs.Data.{Data}
+use Rattle.serde_json.specs.Find.{get, as_str}
+use Rattle.run_commands.specs.declared.target_runner.BuildPlatform.{BuildPlatform}
+use Rattle.run_commands.specs.declared.target_runner.BuildPlatform.TheVariants as platforms
+use Rattle.run_events.specs.declared.plan.PlanTest.{PlanTest}
+use Rattle.run_events.specs.declared.plan.SlowTimeout.{SlowTimeout}
+use Rattle.run_events.specs.declared.plan.LeakTimeout.{LeakTimeout}
+use Rattle.run_events.specs.declared.plan.TestInstanceId.{TestInstanceId}
+use Rattle.run_events.specs.declared.result.FlakyResult.{FlakyResult}
+use Rattle.run_events.specs.declared.result.FlakyResult.TheVariants as flakies
+use Rattle.run_events.specs.declared.result.LeakTimeoutResult.{LeakTimeoutResult}
+use Rattle.run_events.specs.declared.result.LeakTimeoutResult.TheVariants as leaks
+use Rattle.run_events.specs.declared.result.SlowTimeoutResult.{SlowTimeoutResult}
+use Rattle.run_events.specs.declared.result.SlowTimeoutResult.TheVariants as timeouts
+use Rattle.run_events.specs.declared.retry_policy.RetryPolicy.{RetryPolicy}
+use Rattle.run_events.specs.Usual.{usual_slow, usual_leak, no_retries, usual_test}
+use Rattle.run_input.specs.Fields.{◌>>=◌, when, is_object_of, optional, or_usual, u32_of, u64_of, texts_of}
+use Rattle.run_input.specs.PlanRetries.{retries_of, flaky_of}
+use lib.Pointwise.{pointwise}
+
+-- the name of a test
+abbrev pub id_of : Data → Option TestInstanceId
+id_of d = do
+  binary ← option_and_then as_str (get (codes "binary") d)
+  name ← option_and_then as_str (get (codes "name") d)
+  Some (record { binary = binary; name = name })
+
+-- what a text says that a time-out counts as
+abbrev pub timeout_named : List ℕ → Option SlowTimeoutResult
+timeout_named name =
+    if pointwise nat_eq name (codes "fail") then Some timeouts.Fail
+    else if pointwise nat_eq name (codes "pass") then Some timeouts.Pass
+    else None
+
+abbrev pub timeout_of : Data → Option SlowTimeoutResult
+timeout_of d = option_and_then timeout_named (as_str d)
+
+-- what a text says that a leak counts as
+abbrev pub leak_named : List ℕ → Option LeakTimeoutResult
+leak_named name =
+    if pointwise nat_eq name (codes "fail") then Some leaks.Fail
+    else if pointwise nat_eq name (codes "pass") then Some leaks.Pass
+    else None
+
+abbrev pub leak_result_of : Data → Option LeakTimeoutResult
+leak_result_of d = option_and_then leak_named (as_str d)
+
+-- when a test is slow, and what comes of that, as usual where nothing else is said
+unfoldable pub slow_of : Data → Option SlowTimeout
+slow_of d = do
+  _ ← when (is_object_of (codes "grace" ∷ codes "on_timeout" ∷ codes "period" ∷ codes "terminate_after" ∷ []) d)
+  period ← or_usual usual_slow.period u64_of (get (codes "period") d)
+  terminate_after ← optional u32_of (get (codes "terminate_after") d)
+  grace ← or_usual usual_slow.grace u64_of (get (codes "grace") d)
+  on_timeout ← or_usual usual_slow.on_timeout timeout_of (get (codes "on_timeout") d)
+  Some (record { period = period; terminate_after = terminate_after; grace = grace; on_timeout = on_timeout })
+
+-- how long open descriptors are waited for, and what a leak counts as, as usual where nothing else is said
+unfoldable pub leak_of : Data → Option LeakTimeout
+leak_of d = do
+  _ ← when (is_object_of (codes "period" ∷ codes "result" ∷ []) d)
+  period ← or_usual usual_leak.period u64_of (get (codes "period") d)
+  result ← or_usual usual_leak.result leak_result_of (get (codes "result") d)
+  Some (record { period = period; result = result })
+
+-- the platform that a text names
+abbrev pub platform_named : List ℕ → Option BuildPlatform
+platform_named name =
+    if pointwise nat_eq name (codes "target") then Some platforms.Target
+    else if pointwise nat_eq name (codes "host") then Some platforms.Host
+    else None
+
+abbrev pub platform_of : Data → Option BuildPlatform
+platform_of d = option_and_then platform_named (as_str d)
+
+-- the weight of a test, 1 where nothing is said, and its time-outs
+abbrev pub terms_of : Data → Option (ℕ × SlowTimeout × LeakTimeout)
+terms_of d = do
+  weight ← or_usual 1 u32_of (get (codes "weight") d)
+  slow ← or_usual usual_slow slow_of (get (codes "slow") d)
+  leak ← or_usual usual_leak leak_of (get (codes "leak") d)
+  Some (weight, slow, leak)
+
+-- how often it is tried again, never where nothing is said, and what a pass counts as then
+abbrev pub trials_of : Data → Option (RetryPolicy × FlakyResult)
+trials_of d = do
+  retries ← or_usual no_retries retries_of (get (codes "retries") d)
+  flaky ← or_usual flakies.Pass flaky_of (get (codes "flaky") d)
+  Some (retries, flaky)
+
+-- a test with its name and its command, and the reason for which it is skipped where it doesn't match
+abbrev pub named_of : Data → Option PlanTest
+named_of d = do
+  id ← id_of d
+  command ← option_and_then texts_of (get (codes "command") d)
+  skip ← optional as_str (get (codes "skip") d)
+  Some (usual_test id command skip)
+
+-- a test in its group, for its platform, with its weight, its time-outs and its retries
+unfoldable pub test_of : Data → Option PlanTest
+test_of d = do
+  _ ← when (is_object_of (codes "binary" ∷ codes "command" ∷ codes "flaky" ∷ codes "group" ∷ codes "leak"
+      ∷ codes "name" ∷ codes "platform" ∷ codes "retries" ∷ codes "skip" ∷ codes "slow" ∷ codes "weight" ∷ []) d)
+  terms ← terms_of d
+  trials ← trials_of d
+  platform ← or_usual platforms.Target platform_of (get (codes "platform") d)
+  group ← optional as_str (get (codes "group") d)
+  test ← named_of d
+  Some (record test {
+    weight = terms.0;
+    slow = terms.1;
+    leak = terms.2;
+    retries = trials.0;
+    flaky = trials.1;
+    group = group;
+    platform = platform;
+  })
