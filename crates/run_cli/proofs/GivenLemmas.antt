@@ -24,7 +24,7 @@ use Rattle.run_input.specs.Lines.{lines_of, at_front}
 use Rattle.run_input.specs.Input.{IsInput, turns_of, turn_line_of}
 use Rattle.run_input.specs.PlanHead.{frame_of}
 use Rattle.run_input.specs.PlanLine.{keys_of, rules_of, tests_of, plan_tests_of, plan_groups_of, lists_of, plan_names}
-use Rattle.run_input.specs.PlanLine.{plan_with, plan_of}
+use Rattle.run_input.specs.PlanLine.{plan_with, plan_alone_of, plan_of}
 use Rattle.run_input.specs.Fields.{when, is_object_of}
 use Rattle.run_input.specs.ValueOf.{value_of}
 use Rattle.serde_json.specs.Data.{Data}
@@ -107,26 +107,24 @@ few_lists d lists e =
 few_as : (k l : RunnerKeys) (p q : Plan) → ◌≡◌ {A = RunnerKeys × Plan} (k, p) (l, q) → IsFew p → IsFew q
 few_as k l p q e few = subst IsFew (ap (λ (x : RunnerKeys × Plan). x.1) e) few
 
+few_alone : (d : Data) (plan : Plan) → plan_alone_of d ≡ Some plan → IsFew plan
+few_alone d plan e =
+    let r = then_some (rules_of d)
+    (λ r. option_and_then (λ f. option_and_then (λ l. Some (plan_with r f l)) (lists_of d)) (frame_of d)) plan e in
+    let f = then_some (frame_of d) (λ f. option_and_then (λ l. Some (plan_with r.0 f l)) (lists_of d)) plan r.2 in
+    let l = then_some (lists_of d) (λ l. Some (plan_with r.0 f.0 l)) plan f.2 in
+    let says : Plan = plan_with r.0 f.0 l.0 in
+    subst IsFew (same_Some says plan l.2) (few_plan r.0 f.0 l.0 (few_lists d l.0 l.1))
+
 few_line : (d : Data) (keys : RunnerKeys) (plan : Plan) → plan_of d ≡ Some (keys, plan) → IsFew plan
 unfolding plan_of
 few_line d keys plan e =
     let a = then_some (when (is_object_of plan_names d))
-    (λ _. option_and_then (λ k. option_and_then (λ r. option_and_then (λ f. option_and_then
-    (λ l. Some (k, plan_with r f l)) (lists_of d)) (frame_of d)) (rules_of d)) (keys_of d))
-    (keys, plan) e in
-    let k = then_some (keys_of d)
-    (λ k. option_and_then (λ r. option_and_then (λ f. option_and_then (λ l. Some (k, plan_with r f l)) (lists_of d))
-    (frame_of d)) (rules_of d))
-    (keys, plan) a.2 in
-    let r = then_some (rules_of d)
-    (λ r. option_and_then (λ f. option_and_then (λ l. Some (k.0, plan_with r f l)) (lists_of d)) (frame_of d))
-    (keys, plan) k.2 in
-    let f = then_some (frame_of d) (λ f. option_and_then (λ l. Some (k.0, plan_with r.0 f l)) (lists_of d)) (keys, plan)
-    r.2 in
-    let l = then_some (lists_of d) (λ l. Some (k.0, plan_with r.0 f.0 l)) (keys, plan) f.2 in
-    let says : Plan = plan_with r.0 f.0 l.0 in
-    let pair : (k.0, says) ≡ (keys, plan) = same_Some (k.0, says) (keys, plan) l.2 in
-    few_as k.0 keys says plan pair (few_plan r.0 f.0 l.0 (few_lists d l.0 l.1))
+    (λ _. option_and_then (λ k. option_and_then (λ p. Some (k, p)) (plan_alone_of d)) (keys_of d)) (keys, plan) e in
+    let k = then_some (keys_of d) (λ k. option_and_then (λ p. Some (k, p)) (plan_alone_of d)) (keys, plan) a.2 in
+    let p = then_some (plan_alone_of d) (λ p. Some (k.0, p)) (keys, plan) k.2 in
+    let pair : (k.0, p.0) ≡ (keys, plan) = same_Some (k.0, p.0) (keys, plan) p.2 in
+    few_as k.0 keys p.0 plan pair (few_alone d p.0 p.1)
 
 -- an input has few units and few turns
 pub given_few : (r : Reading) (keys : RunnerKeys) (plan : Plan) (turns : List Turn)

@@ -20,6 +20,7 @@ builder_of keys = record {
   max_fail = keys.max_fail;
   retries = keys.retries;
   flaky_result = keys.flaky_result;
+  interceptor = keys.interceptor;
 }
 
 -- the settings of a plan with these keys, and why it is refused, where it is

@@ -26,6 +26,7 @@ pub fn builder_of(keys: RunnerKeys) -> TestRunnerBuilder
     if let Some(flaky_result) = keys.flaky_result {
         builder.set_flaky_result(flaky_result);
     }
+    builder.set_interceptor(keys.interceptor);
     builder
 }
 

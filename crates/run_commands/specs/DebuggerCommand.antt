@@ -1,5 +1,5 @@
 -- What a debugger's command is, and why one is refused.
-use Rattle.std.specs.Prelude.{ℕ, ◌≡◌, List, [], Result, Ok, Err, ⊤}
+use Rattle.std.specs.Prelude.{ℕ, ◌≡◌, List, [], Option, Some, None, Result, Ok, Err, ⊤}
 use Rattle.run_commands.specs.declared.errors.DebuggerCommandParseError.{DebuggerCommandParseError}
 use Rattle.run_commands.specs.declared.errors.DebuggerCommandParseError.TheVariants as errors
 use Rattle.run_commands.specs.Words.{HasWords, IsOpenQuote}
@@ -17,3 +17,11 @@ IsDebuggerAnswer words (Ok command) = command ≡ words
 IsDebuggerAnswer words (Err (errors.ShellWordsParse place)) = ⊥
 IsDebuggerAnswer words (Err errors.EmptyCommand) = words ≡ []
 IsDebuggerAnswer words (Err errors.OutOfMemory) = ⊤
+
+-- where these are the text's command words, this is the answer: they are the command's, or there are none, or memory
+-- was refused
+abbrev pub GivesDebugger : Option (List (List ℕ)) → Result (List (List ℕ)) DebuggerCommandParseError → Type 0
+GivesDebugger words (Ok command) = words ≡ Some command
+GivesDebugger words (Err (errors.ShellWordsParse place)) = words ≡ None
+GivesDebugger words (Err errors.EmptyCommand) = words ≡ None
+GivesDebugger words (Err errors.OutOfMemory) = ⊤

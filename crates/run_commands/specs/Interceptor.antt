@@ -1,5 +1,5 @@
 -- How an interceptor changes the run of a test: one line for each row and column of the table.
-use Rattle.std.specs.Prelude.{Bool, true, false}
+use Rattle.std.specs.Prelude.{ℕ, Bool, true, false, List, []}
 use Rattle.run_commands.specs.declared.interceptor.Interceptor.{Interceptor}
 use Rattle.run_commands.specs.declared.interceptor.Interceptor.TheVariants as under
 
@@ -38,3 +38,9 @@ abbrev pub sends_sigtstp : Interceptor → Bool
 sends_sigtstp under.None = true
 sends_sigtstp (under.Debugger _) = false
 sends_sigtstp (under.Tracer _) = true
+
+-- the words that stand before each command
+abbrev pub interceptor_words : Interceptor → List (List ℕ)
+interceptor_words under.None = []
+interceptor_words (under.Debugger words) = words
+interceptor_words (under.Tracer words) = words

@@ -1,3 +1,4 @@
+pub mod CommandWords
 pub mod DebuggerCommand
 pub mod EnvFile
 pub mod EnvLine

@@ -1,4 +1,5 @@
--- How the words of a text are read, byte by byte. Private clauses cite this, and no public one does.
+-- How the words of a text are read, byte by byte. A public clause speaks of it by `command_words` alone, which a law
+-- ties to the grammar.
 use Rattle.std.specs.Prelude.{ℕ, Bool, true, false, List, [], ◌∷◌, ◌++◌, None, Result, Ok, Err, suc, ◌≡◌, ⊤, is_some}
 use Rattle.std.specs.Prelude.{encode_utf8, if◌then◌else◌}
 use Rattle.run_commands.specs.declared.words.char_kind.CharKind.{CharKind}

@@ -1,10 +1,11 @@
 // The commands of debuggers and tracers, which contracts see as their words.
-ghost use Rattle.std.specs.Prelude.{◌≡◌, ℕ, List, drop, slice_get, Some, IfOk, IfErr};
+ghost use Rattle.std.specs.Prelude.{◌≡◌, ℕ, List as Items, drop, slice_get, Some, IfOk, IfErr};
+ghost use Rattle.run_commands.specs.CommandWords.{command_words};
 ghost use Rattle.run_commands.specs.Words.{HasWords};
 
 use crate::errors::{DebuggerCommandParseError, TracerCommandParseError};
 use crate::words::{CommandWords, WordsError};
-use run_capture::{Duplicate, Mem, Text};
+use run_capture::{Duplicate, List, Mem, Text};
 use std::alloc::Global;
 use std::marker::Model;
 
@@ -23,7 +24,7 @@ impl Model for DebuggerCommand {
 }
 
 impl DebuggerCommand {
-    ghost use Rattle.run_commands.specs.DebuggerCommand.{IsDebuggerAnswer, IsRefusedDebugger};
+    ghost use Rattle.run_commands.specs.DebuggerCommand.{GivesDebugger, IsDebuggerAnswer, IsRefusedDebugger};
 
     /// Splits a text into words as a POSIX shell does, with no expansion: the program, and then the
     /// arguments.
@@ -32,7 +33,8 @@ impl DebuggerCommand {
         ensures ok { IfOk result (HasWords command.now) }
         ensures refused { IfErr result (IsRefusedDebugger command.now) }
         // What is in the grammar is read, with its words.
-        ensures only { (words : List (List ℕ)) → HasWords command.now words → IsDebuggerAnswer words result }
+        ensures only { (words : Items (Items ℕ)) → HasWords command.now words → IsDebuggerAnswer words result }
+        ensures words { GivesDebugger (command_words command.now) result }
     {
         match CommandWords::from_str(alloc, command) {
             Ok(words) => Ok(DebuggerCommand { words }),
@@ -54,6 +56,13 @@ impl DebuggerCommand {
         ensures { result.now ≡ drop 1 self.now }
     {
         self.words.args()
+    }
+
+    /// Its words: the program, then the arguments.
+    pub fn words(&self, alloc: Global) -> Mem<List<Text>>
+        ensures { IfOk result (λ words. words ≡ self.now) }
+    {
+        self.words.words(alloc)
     }
 }
 
@@ -81,7 +90,7 @@ impl Model for TracerCommand {
 }
 
 impl TracerCommand {
-    ghost use Rattle.run_commands.specs.TracerCommand.{IsTracerAnswer, IsRefusedTracer};
+    ghost use Rattle.run_commands.specs.TracerCommand.{GivesTracer, IsTracerAnswer, IsRefusedTracer};
 
     /// Splits a text into words as a POSIX shell does, with no expansion: the program, and then the
     /// arguments.
@@ -90,7 +99,8 @@ impl TracerCommand {
         ensures ok { IfOk result (HasWords command.now) }
         ensures refused { IfErr result (IsRefusedTracer command.now) }
         // What is in the grammar is read, with its words.
-        ensures only { (words : List (List ℕ)) → HasWords command.now words → IsTracerAnswer words result }
+        ensures only { (words : Items (Items ℕ)) → HasWords command.now words → IsTracerAnswer words result }
+        ensures words { GivesTracer (command_words command.now) result }
     {
         match CommandWords::from_str(alloc, command) {
             Ok(words) => Ok(TracerCommand { words }),
@@ -112,6 +122,13 @@ impl TracerCommand {
         ensures { result.now ≡ drop 1 self.now }
     {
         self.words.args()
+    }
+
+    /// Its words: the program, then the arguments.
+    pub fn words(&self, alloc: Global) -> Mem<List<Text>>
+        ensures { IfOk result (λ words. words ≡ self.now) }
+    {
+        self.words.words(alloc)
     }
 }
 

@@ -1,10 +1,11 @@
 // What a test runs under, and how that changes its run.
-ghost use Rattle.std.specs.Prelude.{◌≡◌};
+ghost use Rattle.std.specs.Prelude.{◌≡◌, IfOk};
+ghost use Rattle.run_commands.specs.Interceptor.{interceptor_words};
 ghost use Rattle.run_commands.specs.Interceptor.{disables_timeouts, passes_stdin_through, has_process_group};
 ghost use Rattle.run_commands.specs.Interceptor.{skips_leak_detection, shows_wrapper_command, sends_sigtstp};
 
 use crate::{DebuggerCommand, TracerCommand};
-use run_capture::{Duplicate, Mem};
+use run_capture::{Duplicate, List, Mem, Text};
 use std::alloc::Global;
 
 /// What each test runs under.
@@ -52,6 +53,17 @@ impl Interceptor {
         ensures { result ≡ shows_wrapper_command self.now }
     {
         !matches!(self, Interceptor::None)
+    }
+
+    /// The words that stand before each command.
+    pub fn words(&self, alloc: Global) -> Mem<List<Text>>
+        ensures { IfOk result (λ words. words ≡ interceptor_words self.now) }
+    {
+        match self {
+            Interceptor::None => Ok(List::new()),
+            Interceptor::Debugger(command) => command.words(alloc),
+            Interceptor::Tracer(command) => command.words(alloc),
+        }
     }
 
     /// Whether a stop of the run is sent on to the child. A debugger's child has the terminal's own.

@@ -1,4 +1,5 @@
 // What holds of every environment text and of every command.
+ghost use Rattle.run_commands.specs.CommandWords.{AreCommandWords};
 ghost use Rattle.run_commands.specs.EnvText.{HasNoBadLine};
 ghost use Rattle.run_commands.specs.Words.{HasOneReading};
 
@@ -10,4 +11,9 @@ pub fn an_env_text_has_no_bad_line()
 /// A text has one list of words at most.
 pub fn a_text_has_one_reading()
     ensures { HasOneReading }
+{}
+
+/// The words of a command are those that the grammar gives it.
+pub fn a_command_has_its_words()
+    ensures { AreCommandWords }
 {}

@@ -3,7 +3,7 @@ ghost use Rattle.std.specs.Prelude.{◌≡◌, ◌<◌, ◌≤◌, ◌^◌, IfOk
 ghost use Rattle.run_model.specs.Admission.{tests_in};
 ghost use Rattle.run_model.specs.Cancel.{time_is_up, event_refused, signal_cause};
 ghost use Rattle.run_model.specs.Dispatch.{head_of, unbegun, dispatch_takes, go_of, shuts_down, CanDeliver};
-ghost use Rattle.run_model.specs.Words.{armed};
+ghost use Rattle.run_model.specs.Words.{armed, time_limit};
 ghost use Rattle.run_dispatch.specs.Deeds.{Does, begins, ends, delivers, cancels};
 ghost use Rattle.run_dispatch.specs.Dispatch.{state_of, is_third};
 
@@ -56,6 +56,17 @@ fn head_of(alloc: Global, settings: &Settings) -> Mem<RunStarted>
     })
 }
 
+// How long a sub-run may take, if that has a limit: it has none under an interceptor.
+fn time_limit(settings: &Settings) -> Option<u64>
+    ensures { result ≡ time_limit settings.now }
+{
+    if settings.interceptor.should_disable_timeouts() {
+        None
+    } else {
+        settings.plan.global_timeout
+    }
+}
+
 impl Dispatcher {
     /// The dispatcher of a run that hasn't begun.
     pub fn new(alloc: Global, settings: &Settings) -> Mem<Dispatcher>
@@ -70,7 +81,7 @@ impl Dispatcher {
                 rules: CancelRules {
                     hearing: settings.plan.hearing,
                     max_fail: settings.max_fail,
-                    global_timeout: settings.plan.global_timeout,
+                    global_timeout: time_limit(settings),
                 },
                 on: false,
                 over: false,

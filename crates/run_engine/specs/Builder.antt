@@ -17,7 +17,7 @@ use Rattle.run_events.specs.declared.retry_policy.MaxFail.{MaxFail}
 use Rattle.run_events.specs.declared.retry_policy.RetryPolicy.{RetryPolicy}
 use Rattle.run_events.specs.declared.retry_policy.TestThreads.{TestThreads}
 use Rattle.run_events.specs.declared.retry_policy.TestThreads.TheVariants.{Count}
-use Rattle.run_commands.specs.declared.interceptor.Interceptor.TheVariants as interceptors
+use Rattle.run_commands.specs.declared.interceptor.Interceptor.{Interceptor}
 use Rattle.run_admission.specs.InUse.{group_of}
 use Rattle.run_model.specs.Backoff.{retry_count}
 use Rattle.run_engine.specs.declared.errors.TestRunnerBuildError.{TestRunnerBuildError}
@@ -32,6 +32,7 @@ pub record Builder : Type 0 where
   pub max_fail : MaxFail
   pub retries : Option RetryPolicy
   pub flaky_result : Option FlakyResult
+  pub interceptor : Interceptor
 
 -- the number of threads that is set
 abbrev pub count_of : TestThreads → ℕ
@@ -54,7 +55,7 @@ settings_of builder plan = record {
   threads = threads_of builder;
   max_fail = builder.max_fail;
   stress = None;
-  interceptor = interceptors.None;
+  interceptor = builder.interceptor;
   expected = None;
   retries = builder.retries;
   flaky_result = builder.flaky_result;

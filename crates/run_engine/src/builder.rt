@@ -22,8 +22,8 @@ use std::marker::Model;
 const MOST_GROUPS: usize = 4_294_967_295;
 
 /// What is set of a runner beside its plan: how the output of tests is captured, how many tests run at a time,
-/// after how many failures no test starts any more, and, for all tests alike, how often a failed one is tried again and
-/// what a pass counts as then.
+/// after how many failures no test starts any more, what tests run under, and, for all tests alike, how often a failed
+/// one is tried again and what a pass counts as then.
 #[derive(Drop)]
 pub struct TestRunnerBuilder {
     capture: CaptureStrategy,
@@ -31,6 +31,7 @@ pub struct TestRunnerBuilder {
     max_fail: MaxFail,
     retries: Option<RetryPolicy>,
     flaky_result: Option<FlakyResult>,
+    interceptor: Interceptor,
 }
 
 impl Model for TestRunnerBuilder {
@@ -44,6 +45,7 @@ impl Model for TestRunnerBuilder {
       max_fail = b.max_fail;
       retries = b.retries;
       flaky_result = b.flaky_result;
+      interceptor = b.interceptor;
     } };
 }
 
@@ -53,11 +55,12 @@ impl Debug for TestRunnerBuilder {
     }
 }
 
-/// Each stream is captured by itself, the number of threads is unset, all tests run, whatever fails, and each by its own
-/// retries.
+/// Each stream is captured by itself, the number of threads is unset, all tests run, whatever fails, each by its own
+/// retries, and none under a debugger or a tracer.
 impl Default for TestRunnerBuilder {
     ghost use Rattle.std.specs.Prelude.{◌≡◌, None};
     ghost use Rattle.run_capture.specs.declared.test_output.CaptureStrategy.TheVariants as strategies;
+    ghost use Rattle.run_commands.specs.declared.interceptor.Interceptor.TheVariants as interceptors;
     ghost use Rattle.run_events.specs.declared.retry_policy.MaxFail.TheVariants.{All};
 
     ghost is_default = { λ b. b ≡ record {
@@ -66,6 +69,7 @@ impl Default for TestRunnerBuilder {
       max_fail = All;
       retries = None;
       flaky_result = None;
+      interceptor = interceptors.None;
     } };
 
     fn default() -> Self {
@@ -75,6 +79,7 @@ impl Default for TestRunnerBuilder {
             max_fail: MaxFail::All,
             retries: None,
             flaky_result: None,
+            interceptor: Interceptor::None,
         }
     }
 }
@@ -127,6 +132,15 @@ impl TestRunnerBuilder {
         self
     }
 
+    /// Sets what each test runs under.
+    pub fn set_interceptor(&mut self, interceptor: Interceptor) -> &mut Self
+        ensures same { result.ghost_name ≡ self.entry.ghost_name }
+        ensures set { result.now ≡ record self.old { interceptor = interceptor } }
+    {
+        self.interceptor = interceptor;
+        self
+    }
+
     // How many threads there are.
     fn effective_threads(&self) -> u32
         ensures { result ≡ threads_of self.now }
@@ -146,16 +160,16 @@ impl TestRunnerBuilder {
     {
         let threads = self.effective_threads();
         if plan.groups.len() > MOST_GROUPS {
-            drop(plan);
+            drop((self, plan));
             return Err(TestRunnerBuildError::OutOfMemory);
         }
         match refusal(alloc, threads, self.retries, &plan) {
             Err(_) => {
-                drop(plan);
+                drop((self, plan));
                 Err(TestRunnerBuildError::OutOfMemory)
             }
             Ok(Some(error)) => {
-                drop(plan);
+                drop((self, plan));
                 Err(error)
             }
             Ok(None) => Ok(TestRunner::new(Settings {
@@ -164,7 +178,7 @@ impl TestRunnerBuilder {
                 threads,
                 max_fail: self.max_fail,
                 stress: None,
-                interceptor: Interceptor::None,
+                interceptor: self.interceptor,
                 expected: None,
                 retries: self.retries,
                 flaky_result: self.flaky_result,

@@ -2,6 +2,7 @@ pub mod Fields
 pub mod Input
 pub mod Lines
 pub mod PlanHead
+pub mod PlanInterceptor
 pub mod PlanLine
 pub mod PlanRetries
 pub mod PlanTest

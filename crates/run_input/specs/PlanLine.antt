@@ -5,13 +5,16 @@ use Rattle.serde_json.specs.Data.{Data, Items, no_items, item}
 use Rattle.serde_json.specs.Find.{get, as_str, as_array}
 use Rattle.run_capture.specs.declared.test_output.CaptureStrategy.{CaptureStrategy}
 use Rattle.run_capture.specs.declared.test_output.CaptureStrategy.TheVariants as capture
+use Rattle.run_commands.specs.declared.interceptor.Interceptor.TheVariants as under
 use Rattle.run_commands.specs.declared.target_runner.TargetRunner.{TargetRunner}
 use Rattle.run_events.specs.declared.plan.Group.{Group}
 use Rattle.run_events.specs.declared.plan.Plan.{Plan}
 use Rattle.run_events.specs.declared.plan.PlanTest.{PlanTest}
 use Rattle.run_events.specs.declared.plan.RunHead.{RunHead}
+use Rattle.run_events.specs.declared.result.FlakyResult.{FlakyResult}
 use Rattle.run_events.specs.declared.retry_policy.MaxFail.{MaxFail}
 use Rattle.run_events.specs.declared.retry_policy.MaxFail.TheVariants.{All, Count}
+use Rattle.run_events.specs.declared.retry_policy.RetryPolicy.{RetryPolicy}
 use Rattle.run_events.specs.declared.retry_policy.TerminateMode.{TerminateMode}
 use Rattle.run_events.specs.declared.retry_policy.TerminateMode.TheVariants as modes
 use Rattle.run_events.specs.declared.signal.SignalHandlerKind.{SignalHandlerKind}
@@ -20,6 +23,7 @@ use Rattle.run_events.specs.Usual.{usual_hearing}
 use Rattle.run_input.specs.declared.plan_line.RunnerKeys.{RunnerKeys}
 use Rattle.run_input.specs.Fields.{◌>>=◌, when, is_object_of, optional, or_usual, u32_of, u64_of}
 use Rattle.run_input.specs.PlanHead.{frame_of}
+use Rattle.run_input.specs.PlanInterceptor.{interceptor_of}
 use Rattle.run_input.specs.PlanRetries.{retries_of, flaky_of}
 use Rattle.run_input.specs.PlanTest.{test_of}
 use lib.Pointwise.{pointwise}
@@ -53,21 +57,35 @@ max_fail_of d = do
   mode ← option_and_then terminate_of (get (codes "mode") d)
   Some (Count count mode)
 
--- what the keys of a plan line set of a runner: where nothing else is said output is captured split, all tests run, and
--- each has its own retries
-abbrev pub keys_of : Data → Option RunnerKeys
-keys_of d = do
+-- how output is captured, how many tests run at a time, and after how many failures none starts any more
+abbrev pub limits_of : Data → Option (CaptureStrategy × Option ℕ × MaxFail)
+limits_of d = do
   capture ← or_usual capture.Split capture_of (get (codes "capture") d)
   threads ← optional u32_of (get (codes "threads") d)
   max_fail ← or_usual All max_fail_of (get (codes "max_fail") d)
+  Some (capture, threads, max_fail)
+
+-- how often each test is tried again, and what a pass counts as then
+abbrev pub retrying_of : Data → Option (Option RetryPolicy × Option FlakyResult)
+retrying_of d = do
   retries ← optional retries_of (get (codes "retries") d)
   flaky_result ← optional flaky_of (get (codes "flaky_result") d)
+  Some (retries, flaky_result)
+
+-- what the keys of a plan line set of a runner: where nothing else is said output is captured split, all tests run,
+-- each has its own retries, and none runs under a debugger or a tracer
+abbrev pub keys_of : Data → Option RunnerKeys
+keys_of d = do
+  limits ← limits_of d
+  retrying ← retrying_of d
+  interceptor ← or_usual under.None interceptor_of (get (codes "interceptor") d)
   Some (record {
-    capture = capture;
-    threads = threads;
-    max_fail = max_fail;
-    retries = retries;
-    flaky_result = flaky_result;
+    capture = limits.0;
+    threads = limits.1;
+    max_fail = limits.2;
+    retries = retrying.0;
+    flaky_result = retrying.1;
+    interceptor = interceptor;
   })
 
 -- the signals that a text names
@@ -156,17 +174,23 @@ plan_with rules frame lists = record {
 -- the keys that a plan line may have
 abbrev pub plan_names : List (List ℕ)
 plan_names =
-    codes "args" ∷ codes "capture" ∷ codes "flaky_result" ∷ codes "global_timeout" ∷ codes "groups" ∷ codes "max_fail"
-    ∷ codes "mode" ∷ codes "nextest_version" ∷ codes "profile" ∷ codes "recommended_version"
-    ∷ codes "required_version" ∷ codes "retries" ∷ codes "run_id" ∷ codes "runners" ∷ codes "signals"
+    codes "args" ∷ codes "capture" ∷ codes "flaky_result" ∷ codes "global_timeout" ∷ codes "groups"
+    ∷ codes "interceptor" ∷ codes "max_fail" ∷ codes "mode" ∷ codes "nextest_version" ∷ codes "profile"
+    ∷ codes "recommended_version" ∷ codes "required_version" ∷ codes "retries" ∷ codes "run_id" ∷ codes "runners" ∷ codes "signals"
     ∷ codes "started_at" ∷ codes "tests" ∷ codes "threads" ∷ codes "workspace_root" ∷ []
+
+-- the plan, without what is set of a runner
+abbrev pub plan_alone_of : Data → Option Plan
+plan_alone_of d = do
+  rules ← rules_of d
+  frame ← frame_of d
+  lists ← lists_of d
+  Some (plan_with rules frame lists)
 
 -- a plan line: what it sets of a runner, and its plan
 unfoldable pub plan_of : Data → Option (RunnerKeys × Plan)
 plan_of d = do
   _ ← when (is_object_of plan_names d)
   keys ← keys_of d
-  rules ← rules_of d
-  frame ← frame_of d
-  lists ← lists_of d
-  Some (keys, plan_with rules frame lists)
+  plan ← plan_alone_of d
+  Some (keys, plan)

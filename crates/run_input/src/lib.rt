@@ -12,6 +12,7 @@ mod laws;
 mod lines;
 mod objects;
 mod plan_head;
+mod plan_interceptor;
 mod plan_keys;
 mod plan_line;
 mod plan_retries;

@@ -4,7 +4,8 @@ ghost use Rattle.serde_json.specs.View.{view, items_view};
 ghost use Rattle.run_input.specs.ReadsValue.{ReadsValue};
 ghost use Rattle.run_input.specs.ValueOf.{value_of};
 ghost use Rattle.run_input.specs.PlanLine.{tests_of, tests_from, plan_tests_of, groups_of, groups_from, plan_groups_of};
-ghost use Rattle.run_input.specs.PlanLine.{group_of, keys_of, rules_of, lists_of, plan_with, plan_of};
+ghost use Rattle.run_input.specs.PlanLine.{group_of, limits_of, retrying_of, keys_of, rules_of, lists_of};
+ghost use Rattle.run_input.specs.PlanLine.{plan_with, plan_alone_of, plan_of};
 ghost use Rattle.run_input.specs.Fields.{or_usual};
 
 use crate::LineError;
@@ -12,12 +13,13 @@ use crate::both::both;
 use crate::fields::{optional_u32_at, optional_u64_at, text_at, u32_at};
 use crate::objects::has_keys_of;
 use crate::plan_head::frame_from;
+use crate::plan_interceptor::interceptor_at;
 use crate::plan_keys::{capture_at, max_fail_at, signals_at};
 use crate::plan_retries::{optional_flaky_at, optional_retries_at};
 use crate::plan_test::test_from;
 use crate::value::read_value;
 use run_capture::{CaptureStrategy, List};
-use run_commands::TargetRunner;
+use run_commands::{Interceptor, TargetRunner};
 use run_events::{
     FlakyResult, Group, Hearing, MaxFail, Plan, PlanTest, RetryPolicy, RunHead, SignalHandlerKind,
 };
@@ -25,7 +27,7 @@ use serde_json::Value;
 use std::alloc::Global;
 
 /// What the keys of a plan line set of a runner.
-#[derive(Clone, Copy, Drop)]
+#[derive(Drop)]
 pub struct RunnerKeys {
     pub capture: CaptureStrategy,
     /// How much may run at a time, where it is given.
@@ -34,6 +36,8 @@ pub struct RunnerKeys {
     /// What each test is given in place of its own, where it is given.
     pub retries: Option<RetryPolicy>,
     pub flaky_result: Option<FlakyResult>,
+    /// What each test runs under.
+    pub interceptor: Interceptor,
 }
 
 /// Reads a plan line: what it sets of a runner, and its plan.
@@ -52,7 +56,8 @@ pub struct RunnerKeys {
 /// `on_timeout` (the text `fail` or `pass`), `period` and `terminate_after`, and `leak` may have `period` and `result`
 /// (the text `fail` or `pass`); what is missing is as usual. `retries` has `count` (a number), and may have `delay` (0
 /// where it is missing), `jitter` (`false` where it is missing), `backoff` (the text `fixed` or `exponential`; `fixed`
-/// where it is missing) and, where it is exponential, `max_delay`.
+/// where it is missing) and, where it is exponential, `max_delay`. `interceptor` may be there too, and has `command` (a
+/// text with a word at least, as a shell splits it) and `kind` (the text `debugger` or `tracer`).
 pub fn read_plan_line(alloc: Global, line: &[u8]) -> Result<(RunnerKeys, Plan), LineError>
     ensures { ReadsValue result (option_and_then plan_of (value_of line.now)) }
 {
@@ -77,6 +82,7 @@ fn plan_from(alloc: Global, value: &Value) -> Result<(RunnerKeys, Plan), LineErr
             "flaky_result",
             "global_timeout",
             "groups",
+            "interceptor",
             "max_fail",
             "mode",
             "nextest_version",
@@ -95,28 +101,53 @@ fn plan_from(alloc: Global, value: &Value) -> Result<(RunnerKeys, Plan), LineErr
     ) {
         return Err(LineError::NotInTable);
     }
-    let keys = runner_keys(value).ok_or(LineError::NotInTable)?;
+    let keys = runner_keys(alloc, value)?;
+    both(keys, plan_alone(alloc, value))
+}
+
+// The plan, without what is set of a runner.
+fn plan_alone(alloc: Global, value: &Value) -> Result<Plan, LineError>
+    ensures { ReadsValue result (plan_alone_of (view value.now)) }
+{
     let rules = rules_from(value).ok_or(LineError::NotInTable)?;
     let frame = frame_from(alloc, value)?;
     let (frame, lists) = both(frame, lists_from(alloc, value))?;
-    Ok((keys, plan_with(rules, frame, lists)))
+    Ok(plan_with(rules, frame, lists))
 }
 
-// What the keys set of a runner.
-fn runner_keys(value: &Value) -> Option<RunnerKeys>
-    ensures { result ≡ keys_of (view value.now) }
+// How output is captured, how many tests run at a time, and after how many failures none starts any more.
+fn limits_from(value: &Value) -> Option<(CaptureStrategy, Option<u32>, MaxFail)>
+    ensures { result ≡ limits_of (view value.now) }
 {
     let capture = capture_at(value.get("capture"))?;
     let threads = optional_u32_at(value.get("threads"))?;
     let max_fail = max_fail_at(value.get("max_fail"))?;
+    Some((capture, threads, max_fail))
+}
+
+// How often each test is tried again, and what a pass counts as then.
+fn retrying_from(value: &Value) -> Option<(Option<RetryPolicy>, Option<FlakyResult>)>
+    ensures { result ≡ retrying_of (view value.now) }
+{
     let retries = optional_retries_at(value.get("retries"))?;
     let flaky_result = optional_flaky_at(value.get("flaky_result"))?;
-    Some(RunnerKeys {
+    Some((retries, flaky_result))
+}
+
+// What the keys set of a runner.
+fn runner_keys(alloc: Global, value: &Value) -> Result<RunnerKeys, LineError>
+    ensures { ReadsValue result (keys_of (view value.now)) }
+{
+    let (capture, threads, max_fail) = limits_from(value).ok_or(LineError::NotInTable)?;
+    let (retries, flaky_result) = retrying_from(value).ok_or(LineError::NotInTable)?;
+    let interceptor = interceptor_at(alloc, value.get("interceptor"))?;
+    Ok(RunnerKeys {
         capture,
         threads,
         max_fail,
         retries,
         flaky_result,
+        interceptor,
     })
 }
 

@@ -29,7 +29,7 @@ use Rattle.run_model.specs.declared.unit_view.UnitView.{UnitView}
 use Rattle.run_model.specs.Unit.{row}
 use Rattle.run_model.specs.Words.{clock, ns_of, is_over, sub_run, told, reason, unit_after, unit_of, units, finish_of}
 use Rattle.run_model.specs.Words.{finished_test, skips, stats_after, tally, was_refused, is_by_signal, is_by_report}
-use Rattle.run_model.specs.Words.{is_by_time, signals_heard, was_reported, armed, global_timer, causes_of}
+use Rattle.run_model.specs.Words.{is_by_time, signals_heard, was_reported, armed, time_limit, global_timer, causes_of}
 use Rattle.run_model.specs.Admission.{units_in}
 use Rattle.run_model.specs.Unit.{reached, reach}
 use Rattle.run_model.specs.Dispatch.{rules_of, tallied, having_told}
@@ -213,7 +213,7 @@ causes-cons p now run e d =
       signals = n;
       reported = is_by_report d.cause || was_reported run;
       global =
-          if d.begins then armed now p.plan.global_timeout
+          if d.begins then armed now (time_limit p)
           else if is_by_time d.cause then None
           else global_timer p run;
     }) (sum_by-cons (λ (x : Happening). cond (is_by_signal x.cause) 1 0) (said now e d) run

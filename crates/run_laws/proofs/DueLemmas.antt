@@ -29,12 +29,13 @@ pub leaked_made : (now : ℕ) (u : UnitView) (piece : List OwnTurn) (earlier : L
 leaked_made now u piece earlier a (on, ss) =
     made_more (exited now u.exit true u.capture u) Deciding (taken now Due None) piece earlier refl a
     (began u.terms u.timers.stopwatch.start true u.exit true u.timers.slow_count u.capture (taken now Due None ∷ piece) it)
-    (past_exited now u.exit true u.capture Due u piece earlier it on.not_ended (or_true (is_done u.capture)) on.watch a
-    ss)
+    (past_exited now u.exit true u.capture Due u piece earlier it on.not_ended (leaks u.terms.skips_leak_detection (is_done u.capture))
+    on.watch a ss)
   where
-    or_true : (b : Bool) → (b || true) ≡ true
-    or_true true = refl
-    or_true false = refl
+    leaks : (skips done : Bool) → (skips || done || true) ≡ true
+    leaks true done = refl
+    leaks false true = refl
+    leaks false false = refl
 
     count : slow_count u.terms.slow (taken now Due None ∷ piece) ≡ u.timers.slow_count
     count = count_kept u.terms.slow (taken now Due None) piece on.is_at.wait_over ∙ on.is_at.counted

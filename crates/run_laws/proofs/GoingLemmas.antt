@@ -9,7 +9,7 @@ use Rattle.run_events.specs.declared.result.ChildExecutionOutput.TheVariants.{Ou
 use Rattle.run_events.specs.declared.result.ExecuteStatus.{ExecuteStatus}
 use Rattle.run_events.specs.declared.result.ExecutionResult.TheVariants.{ExecFail}
 use Rattle.run_model.specs.declared.phase.Phase.{Phase}
-use Rattle.run_model.specs.declared.phase.Phase.TheVariants.{Starting}
+use Rattle.run_model.specs.declared.phase.Phase.TheVariants.{Starting, Leak}
 use Rattle.run_model.specs.declared.unit_turn.UnitTurn.{UnitTurn}
 use Rattle.run_model.specs.declared.unit_turn.UnitTurn.TheVariants.{StartFailed}
 use Rattle.run_model.specs.declared.unit_view.AttemptTerms.{AttemptTerms}
@@ -19,7 +19,7 @@ use Rattle.run_model.specs.Story.{OwnTurn, Attempt, cut}
 use Rattle.run_model.specs.Attempts.{has_ended, end_of, status_of, delay_after, ended_statuses}
 use Rattle.run_laws.proofs.CaptureLemmas.{taken}
 use Rattle.run_laws.proofs.TimerLemmas.{HasTimer, timer_later}
-use Rattle.run_laws.proofs.PieceLemmas.{IsAt, ended_as, end_more, status_as, refused_as}
+use Rattle.run_laws.proofs.PieceLemmas.{IsAt, ended_as, unended_has, end_more, status_as, refused_as}
 
 -- the attempt of a unit goes on after the turns of a piece, on these terms and in this phase: whether its child is waited
 -- for no more, and how that ended
@@ -61,16 +61,18 @@ going_lined terms ph waited exit line u piece on = record {
   timer = on.timer;
 }
 
--- it goes on where its child is waited for, or some stream isn't done
-unsettled : (waited done : Bool) → (waited && done) ≡ false → (waited && (done || false)) ≡ false
-unsettled true true e = cc
-unsettled true false e = refl
-unsettled false done e = refl
+-- it goes on where its child is waited for, or some stream is waited for and isn't done
+unsettled : (waited skips done : Bool) → (waited && (skips || done)) ≡ false
+    → (waited && (skips || done || false)) ≡ false
+unsettled true true done e = cc
+unsettled true false true e = cc
+unsettled true false false e = refl
+unsettled false skips done e = refl
 
 pub going_more : (terms : AttemptTerms) (ph : Phase) (waited : Bool) (exit : Option ChildExit) (u : UnitView)
     (t : OwnTurn) (before : List OwnTurn)
     → IsAt terms u.timers.stopwatch.start waited exit false u.timers.slow_count u.capture (t ∷ before)
-    → end_of terms before ≡ None → (waited && is_done u.capture) ≡ false
+    → end_of terms before ≡ None → (waited && (terms.skips_leak_detection || is_done u.capture)) ≡ false
     → u.timers.stopwatch ≡ started_at u.timers.stopwatch.start
     → HasTimer terms ph u.timers u.latest (t ∷ before)
     → IsGoing terms ph waited exit u (t ∷ before)
@@ -79,10 +81,48 @@ going_more terms ph waited exit u t before it none goes watch timer = record {
   not_ended =
       end_more terms t before false none
       (ended_as terms u.timers.stopwatch.start waited exit false u.timers.slow_count u.capture (t ∷ before) it
-      ∙ unsettled waited (is_done u.capture) goes);
+      ∙ unsettled waited terms.skips_leak_detection (is_done u.capture) goes);
   watch = watch;
   timer = timer;
 }
+
+-- one that goes on and whose child is waited for no more waits for a stream
+pub waits_on : (ph : Phase) (waited : Bool) (exit : Option ChildExit) (u : UnitView) (piece : List OwnTurn)
+    → IsGoing u.terms ph waited exit u piece
+    → (waited && (u.terms.skips_leak_detection || is_done u.capture)) ≡ false
+waits_on ph waited exit u piece on =
+    by_done waited u.terms.skips_leak_detection (is_done u.capture)
+    (sym (ended_as u.terms u.timers.stopwatch.start waited exit false u.timers.slow_count u.capture piece on.is_at)
+    ∙ unended_has u.terms piece on.not_ended)
+  where
+    by_done : (w s d : Bool) → (w && (s || d || false)) ≡ false → (w && (s || d)) ≡ false
+    by_done true true d e = e
+    by_done true false true e = e
+    by_done true false false e = refl
+    by_done false s d e = refl
+
+-- so streams are waited for
+unskipped : (s d : Bool) → (s || d) ≡ false → s ≡ false
+unskipped true d e = e
+unskipped false d e = refl
+
+-- and it goes on where they aren't done after one more turn
+pub waits_further : (exit : Option ChildExit) (c : Captured) (u : UnitView) (piece : List OwnTurn)
+    → IsGoing u.terms Leak true exit u piece → is_done c ≡ false
+    → (u.terms.skips_leak_detection || is_done c) ≡ false
+waits_further exit c u piece on e =
+    rw (unskipped u.terms.skips_leak_detection (is_done u.capture) (waits_on Leak true exit u piece on), e) refl
+
+-- an attempt has ended where its streams aren't waited for or are done, and where they are done
+pub ended_or : (skips done : Bool) → (skips || done) ≡ true → (skips || done || false) ≡ true
+ended_or true done e = refl
+ended_or false true e = refl
+ended_or false false e = cc
+
+pub ended_done : (skips done : Bool) → done ≡ true → (skips || done || false) ≡ true
+ended_done true done e = refl
+ended_done false true e = refl
+ended_done false false e = cc
 
 -- the status of a piece after these attempts, and the statuses where it has ended
 abbrev pub next_status : AttemptTerms → List OwnTurn → List Attempt → ExecuteStatus
@@ -104,11 +144,12 @@ past_with terms statuses status piece earlier ends is ss =
     ap (λ ss. ss ++ status ∷ []) ss ∙ ap (λ status. ended_statuses terms earlier ++ status ∷ []) is
     ∙ sym (ended_statuses-past terms piece earlier ends)
 
--- it ends where its child is waited for no more, and its streams are done or were waited for as long as they may be
+-- it ends where its child is waited for no more, and its streams aren't waited for, are done, or were waited for as long
+-- as they may be
 pub past_exited : (now : ℕ) (exit : Option ChildExit) (leaked : Bool) (c : Captured) (turn : UnitTurn) (u : UnitView)
     (piece : List OwnTurn) (earlier : List Attempt)
     → IsAt u.terms u.timers.stopwatch.start true exit leaked u.timers.slow_count c (taken now turn None ∷ piece)
-    → end_of u.terms piece ≡ None → (is_done c || leaked) ≡ true
+    → end_of u.terms piece ≡ None → (u.terms.skips_leak_detection || is_done c || leaked) ≡ true
     → u.timers.stopwatch ≡ started_at u.timers.stopwatch.start → u.attempt ≡ length earlier + 1
     → Follows u.terms u earlier → IsPast u.terms (exited now exit leaked c u) (taken now turn None ∷ piece) earlier
 past_exited now exit leaked c turn u piece earlier it none done watch a (ss, delay) = (

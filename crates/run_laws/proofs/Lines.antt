@@ -1,5 +1,5 @@
 -- The line of a unit after a row of the unit table, and after a broadcast.
-use Rattle.std.proofs.Common.{◌≡◌, ◌⊎◌, inl, inr, ℕ, ◌+◌, ◌≤◌, ◌==◌, List, [], ◌∷◌, ◌++◌, drop, length, Bool, true, false, ◌&&◌}
+use Rattle.std.proofs.Common.{◌≡◌, ◌⊎◌, inl, inr, ℕ, ◌+◌, ◌≤◌, ◌==◌, List, [], ◌∷◌, ◌++◌, drop, length, Bool, true, false, ◌&&◌, ◌||◌}
 use Rattle.std.proofs.Common.{if◌then◌else◌, Option, Some, None, option_to_list, refl, ap, sym, subst, ◌∙◌}
 use Rattle.std.proofs.Common.{arith, length-drop}
 use Rattle.std.proofs.lemmas.List.{append-nil}
@@ -35,7 +35,7 @@ left_of _ line = line
 
 -- a row of an attempt that goes on leaves the line so
 settled_line : (now : ℕ) (exit : Option ChildExit) (c : Captured) (u : UnitView) → (settled now exit c u).line ≡ u.line
-settled_line now exit c u = by_done (is_done c)
+settled_line now exit c u = by_done (u.terms.skips_leak_detection || is_done c)
   where
     by_done : (b : Bool) → (if b then exited now exit false c u else leaking now exit c u).line ≡ u.line
     by_done true = refl

@@ -74,13 +74,13 @@ at_due terms start waited exit count more c now piece it counted = record {
     or_false true = refl
     or_false false = refl
 
--- it has ended where its child is waited for no more, and its capture is done or it leaked
+-- it has ended where its child is waited for no more, and its streams aren't waited for, its capture is done, or it leaked
 pub ended_as : (terms : AttemptTerms) (start : ℕ) (waited : Bool) (exit : Option ChildExit) (leaked : Bool) (count : ℕ)
     (c : Captured) (piece : List OwnTurn) → IsAt terms start waited exit leaked count c piece
-    → has_ended terms piece ≡ (waited && (is_done c || leaked))
+    → has_ended terms piece ≡ (waited && (terms.skips_leak_detection || is_done c || leaked))
 ended_as terms start waited exit leaked count c piece it =
     rw (it.not_refused, it.wait_over, it.leaked_so)
-    (ap (λ d. waited && (d || leaked)) (sym (done_as terms.strategy piece) ∙ ap is_done (sym it.captured)))
+    (ap (λ d. waited && (terms.skips_leak_detection || d || leaked)) (sym (done_as terms.strategy piece) ∙ ap is_done (sym it.captured)))
 
 -- when it ended, where it had not before its newest turn
 pub end_more : (terms : AttemptTerms) (t : OwnTurn) (before : List OwnTurn) (b : Bool) → end_of terms before ≡ None

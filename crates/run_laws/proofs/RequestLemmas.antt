@@ -1,7 +1,6 @@
 -- A unit at the attempt that its pieces say, after it took a request.
 use Rattle.std.proofs.Common.{◌≡◌, ℕ, ◌+◌, ◌≤◌, List, [], ◌∷◌, length, Bool, true, false, ◌&&◌, ◌||◌}
 use Rattle.std.proofs.Common.{Option, Some, None, refl, ap, sym, subst, ◌∙◌}
-use Rattle.run_capture.specs.Captured.{is_done}
 use Rattle.run_events.specs.declared.request.Request.{Request}
 use Rattle.run_events.specs.declared.request.Request.TheVariants.{Stop, Continue, Shutdown, OtherCancel, GetInfo}
 use Rattle.run_events.specs.declared.request.ShutdownRequest.{ShutdownRequest}
@@ -21,8 +20,8 @@ use Rattle.run_model.specs.Attempts.{start_of}
 use Rattle.run_laws.proofs.CaptureLemmas.{taken}
 use Rattle.run_laws.proofs.StandingLemmas.{is_heeded, unheeded, unheeded_after}
 use Rattle.run_laws.proofs.TimerLemmas.{timer_still, timer_asked}
-use Rattle.run_laws.proofs.PieceLemmas.{IsAt, quiet_said, at_more, ended_as, unended_has}
-use Rattle.run_laws.proofs.GoingLemmas.{IsGoing, going_more, going_lined}
+use Rattle.run_laws.proofs.PieceLemmas.{IsAt, quiet_said, at_more}
+use Rattle.run_laws.proofs.GoingLemmas.{IsGoing, going_more, going_lined, waits_on}
 use Rattle.run_laws.proofs.MadeLemmas.{GoesOn, IsDelayed, HasPieces, IsMade}
 use Rattle.run_laws.proofs.RowLemmas.{made_more, began, retried_made, waiting_made}
 use Rattle.run_laws.proofs.DueLemmas.{killed_made}
@@ -37,19 +36,6 @@ at_take ph waited exit now request u piece on =
     (taken now Take request ∷ piece)) (quiet_said exit)
     (at_more u.terms u.timers.stopwatch.start waited exit false u.timers.slow_count u.capture now Take request piece on.is_at
     refl refl)
-
--- one that goes on and whose child is waited for no more waits for a stream
-waits_on : (ph : Phase) (waited : Bool) (exit : Option ChildExit) (u : UnitView) (piece : List OwnTurn)
-    → IsGoing u.terms ph waited exit u piece → (waited && is_done u.capture) ≡ false
-waits_on ph waited exit u piece on =
-    by_done waited (is_done u.capture)
-    (sym (ended_as u.terms u.timers.stopwatch.start waited exit false u.timers.slow_count u.capture piece on.is_at)
-    ∙ unended_has u.terms piece on.not_ended)
-  where
-    by_done : (w d : Bool) → (w && (d || false)) ≡ false → (w && d) ≡ false
-    by_done true true e = e
-    by_done true false e = refl
-    by_done false d e = refl
 
 -- a request that isn't heeded changes nothing of its attempt
 quiet_made : (ph : Phase) (waited : Bool) (exit : Option ChildExit) (now : ℕ) (request : Option Request) (u : UnitView)

@@ -29,6 +29,7 @@ use Rattle.run_laws.proofs.StandingLemmas.{unheeded}
 use Rattle.run_laws.proofs.TimerLemmas.{timer_first, timer_started, timer_left, timer_still}
 use Rattle.run_laws.proofs.PieceLemmas.{IsAt, quiet_said, at_more}
 use Rattle.run_laws.proofs.GoingLemmas.{Follows, IsPast, next_status, ended_statuses-past, going_more, past_exited}
+use Rattle.run_laws.proofs.GoingLemmas.{waits_further, ended_or, ended_done}
 use Rattle.run_laws.proofs.MadeLemmas.{GoesOn, IsDelayed, IsAwaited, HasPieces, IsMade}
 
 -- a unit in this phase whose newest attempt is this one
@@ -65,18 +66,20 @@ settled_made : (now : ℕ) (exit : Option ChildExit) (c : Captured) (turn : Unit
     → end_of u.terms piece ≡ None
     → u.timers.stopwatch ≡ started_at u.timers.stopwatch.start → u.attempt ≡ length earlier + 1
     → Follows u.terms u earlier → IsMade u.terms (settled now exit c u) (cut (taken now turn None ∷ piece) [] ∷ earlier)
-settled_made now exit c turn u piece earlier le ends it none watch a ss = by_done (is_done c) refl
+settled_made now exit c turn u piece earlier le ends it none watch a ss =
+    by_done (u.terms.skips_leak_detection || is_done c) refl
   where
     start : u.timers.stopwatch.start ≡ start_of (taken now turn None ∷ piece)
     start =
         began u.terms u.timers.stopwatch.start true exit false u.timers.slow_count c (taken now turn None ∷ piece) it
 
-    by_done : (b : Bool) → is_done c ≡ b
+    by_done : (b : Bool) → (u.terms.skips_leak_detection || is_done c) ≡ b
         → IsMade u.terms (if b then exited now exit false c u else leaking now exit c u)
         (cut (taken now turn None ∷ piece) [] ∷ earlier)
     by_done true e =
         made_more (exited now exit false c u) Deciding (taken now turn None) piece earlier refl a start
-        (past_exited now exit false c turn u piece earlier it none (ap (λ b. b || false) e) watch a ss)
+        (past_exited now exit false c turn u piece earlier it none
+        (ended_or u.terms.skips_leak_detection (is_done c) e) watch a ss)
     by_done false e =
         made_more (leaking now exit c u) Leak (taken now turn None) piece earlier refl a start (
           going_more u.terms Leak true exit (leaking now exit c u) (taken now turn None) piece it none e watch
@@ -162,10 +165,12 @@ heard_made now turn u piece earlier ph a (on, ss) unrefused due ends is starts h
         (cut (taken now turn None ∷ piece) [] ∷ earlier)
     by_done true e =
         made_more (exited now u.exit false c u) Deciding (taken now turn None) piece earlier refl a start
-        (past_exited now u.exit false c turn u piece earlier it on.not_ended (ap (λ b. b || false) e) on.watch a ss)
+        (past_exited now u.exit false c turn u piece earlier it on.not_ended
+        (ended_done u.terms.skips_leak_detection (is_done c) e) on.watch a ss)
     by_done false e =
         made_more (record u { capture = c }) Leak (taken now turn None) piece earlier ph a start (
-          going_more u.terms Leak true u.exit (record u { capture = c }) (taken now turn None) piece it on.not_ended e on.watch
+          going_more u.terms Leak true u.exit (record u { capture = c }) (taken now turn None) piece it on.not_ended
+              (waits_further u.exit c u piece on e) on.watch
               (timer_still u.terms Leak u.timers u.latest (taken now turn None) piece due ends starts
               (unheeded u.terms.slow (taken now turn None) piece refl) on.timer),
           ss,

@@ -1,6 +1,6 @@
 -- What a row of the unit table does to a unit, apart from its attempt.
 use Rattle.std.proofs.Common.{◌≡◌, ◌⊎◌, inl, inr, ℕ, ◌==◌, List, [], ◌∷◌, ◌++◌, Bool, true, false, if◌then◌else◌}
-use Rattle.std.proofs.Common.{Option, Some, None, option_map, refl, ap, sym, subst, ◌∙◌}
+use Rattle.std.proofs.Common.{◌||◌, Option, Some, None, option_map, refl, ap, sym, subst, ◌∙◌}
 use Rattle.std.specs.Prelude.{⊤}
 use Rattle.run_capture.specs.Captured.{Captured, is_done, with_wait_error}
 use Rattle.run_events.specs.declared.result.ChildExit.{ChildExit}
@@ -100,7 +100,7 @@ ends now exit leaked c u = record {
 }
 
 settles : (now : ℕ) (exit : Option ChildExit) (c : Captured) (u : UnitView) → IsOwn u (quiet (settled now exit c u))
-settles now exit c u = by_done (is_done c)
+settles now exit c u = by_done (u.terms.skips_leak_detection || is_done c)
   where
     by_done : (b : Bool) → IsOwn u (quiet (if b then exited now exit false c u else leaking now exit c u))
     by_done true = ends now exit false c u

@@ -7,7 +7,7 @@ use Rattle.run_model.specs.declared.unit_turn.UnitTurn.TheVariants.{Due}
 use Rattle.run_model.specs.declared.unit_view.Timers.{Timers}
 use Rattle.run_model.specs.declared.unit_view.AttemptTerms.{AttemptTerms}
 use Rattle.run_model.specs.Slow.{one_more, is_out_of_time}
-use Rattle.run_model.specs.Unit.{is_due}
+use Rattle.run_model.specs.Unit.{is_due, slow_timer_at}
 use Rattle.run_model.specs.Story.{OwnTurn, any_is}
 use Rattle.run_model.specs.Timing.{ends_wait, starts_child, slow_count, has_timed_out}
 use Rattle.run_model.specs.Timing.{slow_timer, timer_of}
@@ -15,6 +15,7 @@ use Rattle.run_laws.proofs.CaptureLemmas.{taken}
 use Rattle.run_laws.proofs.StandingLemmas.{is_in_grace, grace_next}
 use Rattle.run_laws.proofs.StandingLemmas.{slow_timer_by, count_slow}
 use Rattle.run_laws.proofs.TimerLemmas.{HasTimer, timer_known, timer_of-runs, timer_of-grace, sleep_of, IsSetBy}
+use Rattle.run_laws.proofs.TimerLemmas.{set_now, set_now_by, set_now_sleeps}
 
 -- where its timer is due while its child runs, it has not run out of time
 pub in_time : (terms : AttemptTerms) (t : Timers) (now latest : ℕ) (piece : List OwnTurn)
@@ -47,15 +48,15 @@ out_next terms now piece out is next =
 
 -- it goes on, and is timed again
 pub timer_again : (terms : AttemptTerms) (after : Timers) (now latest : ℕ) (piece : List OwnTurn)
-    → now ≤ latest → after.slow ≡ Some (set_at now terms.slow.period) → IsSlow terms piece
+    → now ≤ latest → after.slow ≡ slow_timer_at now terms → IsSlow terms piece
     → is_out_of_time terms.slow (one_more (slow_count terms.slow piece)) ≡ false
     → HasTimer terms Running after latest (taken now Due None ∷ piece)
 timer_again terms after now latest piece le slow is next =
-    timer_known terms Running after latest (t ∷ piece)
-    (Some (record { set = now; duration = terms.slow.period; past = [] }))
+    timer_known terms Running after latest (t ∷ piece) (set_now terms now)
     (timer_of-runs terms (t ∷ piece) is.waited runs
     ∙ slow_timer_by terms (t ∷ piece) false (out_next terms now piece false is next)
-    ∙ rw (is.waited, is.grace, is.in_time, is.child) refl) (refl, le) slow (is.child, runs)
+    ∙ rw (is.waited, is.grace, is.in_time, is.child) refl) (set_now_by terms now latest le)
+    (slow ∙ set_now_sleeps terms now) (is.child, runs)
   where
     t : OwnTurn
     t = taken now Due None

@@ -1,5 +1,5 @@
 -- How an attempt stands after one more turn: how often it was slow, and whether its child is given time to end.
-use Rattle.std.proofs.Common.{◌≡◌, ℕ, List, ◌∷◌, Bool, true, false, not, ◌&&◌, if◌then◌else◌}
+use Rattle.std.proofs.Common.{◌≡◌, ◌||◌, ℕ, List, ◌∷◌, Bool, true, false, not, ◌&&◌, if◌then◌else◌}
 use Rattle.std.proofs.Common.{Option, Some, None, is_some, refl, ap, ◌∙◌, arith}
 use Rattle.run_clock.specs.Counted.{Timer}
 use Rattle.run_events.specs.declared.plan.SlowTimeout.{SlowTimeout}
@@ -95,7 +95,7 @@ grace_still slow t piece due heeds = by_case (any_is ends_wait piece) (is_in_gra
 -- the timer until an attempt is slow, where it is known whether it has run out of time
 abbrev slow_timer_if : AttemptTerms → List OwnTurn → Bool → Option Timer
 slow_timer_if terms piece out =
-    if out then None
+    if out || terms.disables_timeouts then None
     else if any_is starts_child piece then Some (timer_since (sets_slow terms.slow) terms.slow.period piece)
     else None
 

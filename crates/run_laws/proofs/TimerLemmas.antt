@@ -1,6 +1,6 @@
 -- The timer of an attempt, as its unit keeps it and as its turns say.
 use Rattle.std.proofs.Common.{◌≡◌, ℕ, ◌+◌, ◌-◌, ◌≤◌, List, [], ◌∷◌, Bool, true, false, ◌||◌, nat_le}
-use Rattle.std.proofs.Common.{Option, Some, None, option_map, is_some, refl, ap, sym, subst, ◌∙◌, arith}
+use Rattle.std.proofs.Common.{if◌then◌else◌, Option, Some, None, option_map, is_some, refl, ap, sym, subst, ◌∙◌, arith}
 use Rattle.run_clock.specs.Counted.{Timer}
 use Rattle.run_clock.specs.Stopwatch.{Watch, started_at, active_by}
 use Rattle.run_clock.specs.Sleep.{Sleep, set_at}
@@ -12,7 +12,7 @@ use Rattle.run_model.specs.declared.unit_turn.UnitTurn.TheVariants.{Answered, St
 use Rattle.run_model.specs.declared.unit_view.Timers.{Timers}
 use Rattle.run_model.specs.declared.unit_view.AttemptTerms.{AttemptTerms}
 use Rattle.run_model.specs.Slow.{is_out_of_time}
-use Rattle.run_model.specs.Unit.{is_due}
+use Rattle.run_model.specs.Unit.{is_due, slow_timer_at}
 use Rattle.run_model.specs.Story.{OwnTurn, any_is}
 use Rattle.run_model.specs.Timing.{ends_wait, starts_child, is_due_turn, signal_of, gives_time, slow_count, has_timed_out}
 use Rattle.run_model.specs.Timing.{standing, standing_after, begins_grace, timer_since, slow_timer, timer_of, is_timer_due_at}
@@ -107,25 +107,47 @@ pub timer_of-grace : (terms : AttemptTerms) (piece : List OwnTurn) → any_is en
     → timer_of terms piece ≡ Some (timer_since (begins_grace terms.slow) terms.slow.grace piece)
 timer_of-grace terms piece waited grace = rw (waited, grace) refl
 
+none_either : (b : Bool) → Path (Option Timer) (if b then None else None) None
+none_either true = refl
+none_either false = refl
+
 -- at first it waits for none
 pub timer_first : (terms : AttemptTerms) (t : Timers) (now latest : ℕ)
     → HasTimer terms Starting t latest (taken now (Answered true) None ∷ [])
 timer_first terms t now latest = record {
-  set_by = rw (never_slow terms.slow) tt;
-  waits_for = rw (never_slow terms.slow) refl;
+  set_by = rw (never_slow terms.slow, none_either terms.disables_timeouts) tt;
+  waits_for = rw (never_slow terms.slow, none_either terms.disables_timeouts) refl;
   stage = (refl, refl);
 }
 
+-- the timer until it is slow, where it is set now
+abbrev pub set_now : AttemptTerms → ℕ → Option Timer
+set_now terms now =
+    if terms.disables_timeouts then None else Some (record { set = now; duration = terms.slow.period; past = [] })
+
+pub set_now_by : (terms : AttemptTerms) (now latest : ℕ) → now ≤ latest → IsSetBy latest (set_now terms now)
+set_now_by terms now latest le =
+    elim terms.disables_timeouts as
+    (λ b. IsSetBy latest (if b then None else Some (record { set = now; duration = terms.slow.period; past = [] })))
+    [ true ↦ tt | false ↦ (refl, le) ]
+
+pub set_now_sleeps : (terms : AttemptTerms) (now : ℕ)
+    → slow_timer_at now terms ≡ option_map sleep_of (set_now terms now)
+set_now_sleeps terms now =
+    elim terms.disables_timeouts as
+    (λ b. (if b then None else Some (set_at now terms.slow.period)) ≡ option_map sleep_of
+    (if b then None else Some (record { set = now; duration = terms.slow.period; past = [] })))
+    [ true ↦ refl | false ↦ refl ]
+
 -- its child starts
 pub timer_started : (terms : AttemptTerms) (t : Timers) (now latest pid : ℕ) (piece : List OwnTurn)
-    → now ≤ latest → t.slow ≡ Some (set_at now terms.slow.period)
+    → now ≤ latest → t.slow ≡ slow_timer_at now terms
     → any_is ends_wait piece ≡ false → slow_count terms.slow piece ≡ 0 → is_in_grace terms.slow piece ≡ false
     → HasTimer terms Running t latest (taken now (Started pid) None ∷ piece)
 timer_started terms t now latest pid piece le slow waited count grace =
-    timer_known terms Running t latest (turn ∷ piece)
-    (Some (record { set = now; duration = terms.slow.period; past = [] }))
-    (timer_of-runs terms (turn ∷ piece) waited runs ∙ slow_timer_by terms (turn ∷ piece) false in_time) (refl, le) slow
-    (refl, runs)
+    timer_known terms Running t latest (turn ∷ piece) (set_now terms now)
+    (timer_of-runs terms (turn ∷ piece) waited runs ∙ slow_timer_by terms (turn ∷ piece) false in_time)
+    (set_now_by terms now latest le) (slow ∙ set_now_sleeps terms now) (refl, runs)
   where
     turn : OwnTurn
     turn = taken now (Started pid) None

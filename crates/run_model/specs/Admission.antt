@@ -2,6 +2,8 @@
 use Rattle.std.specs.Prelude.{ℕ, ◌+◌, ◌<◌, ◌^◌, List, [], ◌∷◌, ◌++◌, Bool, true, false, if◌then◌else◌, Option, Some, None, option_map}
 use Rattle.std.specs.Prelude.{option_and_then, map, length, take, drop, count_by, is_none, slice_get, unwrap_or}
 use Rattle.std.specs.List.{list_all}
+use Rattle.run_commands.specs.Interceptor.{disables_timeouts, skips_leak_detection, has_process_group}
+use Rattle.run_commands.specs.Interceptor.{passes_stdin_through, interceptor_words}
 use Rattle.run_commands.specs.TargetRunner.{runner_for, binary_of, args_of}
 use Rattle.run_commands.specs.VersionEnvVars.{version_pairs}
 use Rattle.run_commands.specs.declared.target_runner.PlatformRunner.{PlatformRunner}
@@ -77,10 +79,24 @@ retries_of p test = unwrap_or p.retries test.retries
 
 -- on which terms the attempts of a test run, and of the test at a place: where there is none, those of a usual test
 abbrev pub terms_of : Settings → PlanTest → AttemptTerms
-terms_of p test = record { strategy = p.capture; slow = test.slow; leak = test.leak; retries = retries_of p test }
+terms_of p test = record {
+  strategy = p.capture;
+  slow = test.slow;
+  leak = test.leak;
+  disables_timeouts = disables_timeouts p.interceptor;
+  skips_leak_detection = skips_leak_detection p.interceptor;
+  retries = retries_of p test;
+}
 
 abbrev pub terms_if : Settings → Option PlanTest → AttemptTerms
-terms_if p None = record { strategy = p.capture; slow = usual_slow; leak = usual_leak; retries = no_retries }
+terms_if p None = record {
+  strategy = p.capture;
+  slow = usual_slow;
+  leak = usual_leak;
+  disables_timeouts = disables_timeouts p.interceptor;
+  skips_leak_detection = skips_leak_detection p.interceptor;
+  retries = no_retries;
+}
 terms_if p (Some test) = terms_of p test
 
 abbrev pub terms_at : Settings → ℕ → AttemptTerms
@@ -91,7 +107,7 @@ pub record AreFew (p : Settings) : Type 0 where
   pub units : units_in p < 2 ^ 32
   pub attempts : (j : ℕ) → retry_count (terms_at p j).retries + 1 < 2 ^ 32
 
--- what the children of a run are told alike
+-- what the children of a run have alike
 abbrev pub surroundings_of : Settings → Surroundings
 surroundings_of p = record {
   run_id = p.plan.head.run_id;
@@ -99,6 +115,9 @@ surroundings_of p = record {
   threads = p.threads;
   workspace_root = p.plan.head.workspace_root;
   versions = version_pairs p.plan.head.versions;
+  wrapper = interceptor_words p.interceptor;
+  group = has_process_group p.interceptor;
+  stdin = passes_stdin_through p.interceptor;
 }
 
 -- the words of a runner, and the command of a test, before whose words stand those of its platform's runner

@@ -102,12 +102,13 @@ are_streams_done strategies.None piece = true
 are_streams_done strategies.Split piece = is_stream_done Stdout piece && is_stream_done Stderr piece
 are_streams_done strategies.Combined piece = is_stream_done Combined piece
 
--- an attempt has ended where its start was refused, or its child is waited for no more and its streams are done or
--- were waited for as long as they may be
+-- an attempt has ended where its start was refused, or its child is waited for no more and its streams aren't waited
+-- for, are done, or were waited for as long as they may be
 abbrev pub has_ended : AttemptTerms → List OwnTurn → Bool
 has_ended terms piece =
     is_some (start_error_of piece)
-    || (any_is ends_wait piece && (are_streams_done terms.strategy piece || has_leaked piece))
+    || (any_is ends_wait piece
+    && (terms.skips_leak_detection || are_streams_done terms.strategy piece || has_leaked piece))
 
 -- when it ended, if it has: at the first turn after which it has ended
 abbrev pub end_of : AttemptTerms → List OwnTurn → Option ℕ

@@ -30,7 +30,7 @@ use Rattle.run_events.specs.declared.signal.Signal.{Signal}
 use Rattle.run_model.specs.declared.dispatcher_view.Tally.{Tally}
 use Rattle.run_model.specs.declared.dispatcher_view.Facts.{Facts}
 use Rattle.run_model.specs.Admission.{tests_in, matched_in}
-use Rattle.run_model.specs.Words.{finished_test}
+use Rattle.run_model.specs.Words.{finished_test, time_limit}
 
 -- what is told of a run as it starts
 abbrev pub head_of : Settings → RunStarted
@@ -47,7 +47,7 @@ abbrev pub rules_of : Settings → CancelRules
 rules_of p = record {
   hearing = p.plan.hearing;
   max_fail = p.max_fail;
-  global_timeout = p.plan.global_timeout;
+  global_timeout = time_limit p;
 }
 
 -- before the run begins: all tests that match are to run

@@ -73,15 +73,16 @@ streams_of strategies.None = []
 streams_of strategies.Split = streams.Stdout ∷ streams.Stderr ∷ []
 streams_of strategies.Combined = streams.Combined ∷ []
 
--- the start of a test's child that is asked where its attempt is let go
+-- the start of a test's child that is asked where its attempt is let go: the words of the interceptor stand before its
+-- command
 unfoldable pub start_ask : UnitView → Ask
 start_ask u = AskStart (record {
   unit = u.test.unit;
   attempt = u.attempt;
-  command = u.command;
+  command = u.around.wrapper ++ u.command;
   env = environment u;
-  group = true;
-  stdin = false;
+  group = u.around.group;
+  stdin = u.around.stdin;
   streams = streams_of u.terms.strategy;
   env_path = None;
 })

@@ -112,10 +112,11 @@ sets_slow slow t before = starts_child t.turn || is_slow_turn slow t before
 abbrev pub timer_since : (OwnTurn → List OwnTurn → Bool) → ℕ → List OwnTurn → Timer
 timer_since sets duration piece = record { set = newest_after sets piece; duration = duration; past = [] }
 
--- the timer until an attempt is slow, from where its child started: none once it has run out of time
+-- the timer until an attempt is slow, from where its child started: none once it has run out of time, and none where
+-- slow timers are off
 abbrev pub slow_timer : AttemptTerms → List OwnTurn → Option Timer
 slow_timer terms piece =
-    if has_timed_out terms.slow piece then None
+    if has_timed_out terms.slow piece || terms.disables_timeouts then None
     else if any_is starts_child piece then Some (timer_since (sets_slow terms.slow) terms.slow.period piece)
     else None
 

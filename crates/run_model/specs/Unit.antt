@@ -1,6 +1,6 @@
 -- The unit table: what each turn does to a unit in each phase.
 use Rattle.std.specs.Prelude.{ℕ, ◌+◌, ◌-◌, ◌==◌, List, [], ◌∷◌, ◌++◌, length, nat_lt, nat_le, Bool, true, false, not, ◌&&◌}
-use Rattle.std.specs.Prelude.{if◌then◌else◌, Option, Some, None, option_map}
+use Rattle.std.specs.Prelude.{◌||◌, if◌then◌else◌, Option, Some, None, option_map}
 use Rattle.run_clock.specs.Stopwatch.{started_at, active_by}
 use Rattle.run_clock.specs.Sleep.{Sleep, set_at, fires_at}
 use Rattle.run_capture.specs.Output.{uncaptured, nothing_of}
@@ -30,6 +30,7 @@ use Rattle.run_model.specs.declared.phase.Phase.TheVariants.{Deciding, Delay, Re
 use Rattle.run_model.specs.declared.unit_turn.UnitTurn.{UnitTurn}
 use Rattle.run_model.specs.declared.unit_turn.UnitTurn.TheVariants.{Answered, Started, StartFailed, Exit, WaitFailed}
 use Rattle.run_model.specs.declared.unit_turn.UnitTurn.TheVariants.{Piece, StreamEnd, ReadError, Due, Take, Decide}
+use Rattle.run_model.specs.declared.unit_view.AttemptTerms.{AttemptTerms}
 use Rattle.run_model.specs.declared.unit_view.Timers.{Timers}
 use Rattle.run_model.specs.declared.unit_view.UnitView.{UnitView}
 use Rattle.run_model.specs.Slow.{one_more, is_out_of_time, slow_time}
@@ -37,9 +38,9 @@ use Rattle.run_model.specs.Terminate.{terminate_method}
 use Rattle.run_model.specs.Backoff.{retry_count, delay_by}
 use Rattle.run_model.specs.Environment.{attempts, test_start, start_ask}
 
--- a signal that is asked for its child, and the group of its child's processes
+-- a signal that is asked for its child, and for the group of its child's processes where it has one of its own
 abbrev pub signal_ask : TermSignal → UnitView → Ask
-signal_ask signal u = AskSignal (record { unit = u.test.unit; signal = End signal; group = true })
+signal_ask signal u = AskSignal (record { unit = u.test.unit; signal = End signal; group = u.around.group })
 
 -- whether its attempt has run out of time
 abbrev pub is_timed_out : UnitView → Bool
@@ -95,9 +96,10 @@ leaking now exit c u = record u {
 }
 
 -- a unit whose child ended so, none where the wait for it failed, and of which this was captured: its attempt ends
--- where all streams are done, and else it waits for them
+-- where all streams are done or aren't waited for, and else it waits for them
 abbrev pub settled : ℕ → Option ChildExit → Captured → UnitView → UnitView
-settled now exit c u = if is_done c then exited now exit false c u else leaking now exit c u
+settled now exit c u =
+    if u.terms.skips_leak_detection || is_done c then exited now exit false c u else leaking now exit c u
 
 -- which turns a capture gets: those of a stream that is captured and not done, where a piece has bytes
 abbrev pub hears : Captured → UnitTurn → Bool
@@ -198,11 +200,15 @@ at_next u = record u { attempt = u.attempt + 1 }
 abbrev pub left : UnitView → UnitView
 left u = record u { phase = Over; line = [] }
 
+-- the timer until it is slow, set at this moment: none where slow timers are off
+abbrev pub slow_timer_at : ℕ → AttemptTerms → Option Sleep
+slow_timer_at now terms = if terms.disables_timeouts then None else Some (set_at now terms.slow.period)
+
 -- its child has started at this moment, from which on it may be slow
 abbrev pub started : ℕ → UnitView → UnitView
 started now u = record u {
   phase = Running;
-  timers = record u.timers { slow = Some (set_at now u.terms.slow.period) };
+  timers = record u.timers { slow = slow_timer_at now u.terms };
 }
 
 -- the message that its attempt was slow so often: none where it is given no time to end by itself
@@ -222,7 +228,7 @@ slow_message n u =
 abbrev pub slow_again : ℕ → ℕ → UnitView → Row
 slow_again now n u = record {
   next =
-      record u { timers = record u.timers { slow = Some (set_at now u.terms.slow.period); slow_count = n } };
+      record u { timers = record u.timers { slow = slow_timer_at now u.terms; slow_count = n } };
   sent = slow_message n u;
   asked = None;
 }

@@ -3,6 +3,7 @@ use Rattle.std.specs.Prelude.{ℕ, ◌+◌, List, [], ◌∷◌, ◌++◌, map, 
 use Rattle.std.specs.Prelude.{if◌then◌else◌, Option, Some, None, option_map, option_to_list, filter_map, count_by, zip, is_some}
 use Rattle.std.specs.List.{range_with_len, list_any}
 use Rattle.run_clock.specs.Sleep.{Sleep, set_at}
+use Rattle.run_commands.specs.Interceptor.{disables_timeouts}
 use Rattle.run_events.specs.Stats.{FinishedTest, nothing, total, last_or}
 use Rattle.run_events.specs.Cancel.{greater}
 use Rattle.run_events.specs.declared.stats.RunStats.{RunStats}
@@ -140,6 +141,10 @@ signals_heard past = count_by (λ x. is_by_signal x.cause) past
 abbrev pub was_reported : List Happening → Bool
 was_reported past = list_any (λ x. is_by_report x.cause) past
 
+-- how long a sub-run may take, if that has a limit: it has none under an interceptor
+abbrev pub time_limit : Settings → Option ℕ
+time_limit p = if disables_timeouts p.interceptor then None else p.plan.global_timeout
+
 -- the timer of a sub-run: it is set where that begins, and is gone once it was due
 abbrev pub armed : ℕ → Option ℕ → Option Sleep
 armed now None = None
@@ -148,7 +153,7 @@ armed now (Some duration) = Some (set_at now duration)
 abbrev pub global_timer : Settings → List Happening → Option Sleep
 global_timer p [] = None
 global_timer p (x ∷ past) =
-    if x.begins then armed x.moment p.plan.global_timeout
+    if x.begins then armed x.moment (time_limit p)
     else if is_by_time x.cause then None
     else global_timer p past
 

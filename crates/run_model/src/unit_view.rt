@@ -17,11 +17,15 @@ pub struct AttemptTerms {
     pub slow: SlowTimeout,
     /// How long the streams of its ended child are waited for.
     pub leak: LeakTimeout,
+    /// It is never slow: it runs under an interceptor.
+    pub disables_timeouts: bool,
+    /// The streams of its ended child aren't waited for: it runs under an interceptor.
+    pub skips_leak_detection: bool,
     /// How often it is tried again where it fails, and after which delays.
     pub retries: RetryPolicy,
 }
 
-/// What is the same for all tests of a run, and is told to each child.
+/// What is the same for the children of all tests of a run.
 #[derive(Drop)]
 pub struct Surroundings {
     pub run_id: Uuid,
@@ -31,6 +35,12 @@ pub struct Surroundings {
     pub workspace_root: Text,
     /// The variables that tell the versions, with their values.
     pub versions: List<(Text, Text)>,
+    /// The words of the interceptor, which stand before each command.
+    pub wrapper: List<Text>,
+    /// Whether each child has a process group of its own.
+    pub group: bool,
+    /// Whether each child reads the program's own standard input.
+    pub stdin: bool,
 }
 
 /// The time of the current attempt, by the run's clock.

@@ -61,7 +61,10 @@ fn has_ended(terms: AttemptTerms, piece: &[OwnTurn]) -> bool
     ensures { result ≡ has_ended terms piece.now }
 {
     is_refused(piece)
-        || is_wait_over(piece) && (are_streams_done(terms.strategy, piece) || has_leaked(piece))
+        || is_wait_over(piece)
+            && (terms.skips_leak_detection
+                || are_streams_done(terms.strategy, piece)
+                || has_leaked(piece))
 }
 
 // When it ended: at the first turn after which it has ended.

@@ -105,11 +105,12 @@ impl Model for Timer {
     ghost view = { λ t. record { set = t.set; duration = t.duration; past = [] } };
 }
 
-// The timer until an attempt is slow: none before its child started, and none once it has run out of time.
+// The timer until an attempt is slow: none before its child started, none once it has run out of time, and none where
+// slow timers are off.
 fn slow_timer(terms: AttemptTerms, piece: &[OwnTurn]) -> Option<Timer>
     ensures { result ≡ slow_timer terms piece.now }
 {
-    if has_timed_out(terms.slow, piece) || !is_started(piece) {
+    if has_timed_out(terms.slow, piece) || terms.disables_timeouts || !is_started(piece) {
         return None;
     }
     Some(Timer {

@@ -25,6 +25,8 @@ pub fn usual_terms(of: Tests) -> AttemptTerms
         strategy: CaptureStrategy::None,
         slow: SlowTimeout::usual(),
         leak: LeakTimeout::usual(),
+        disables_timeouts: false,
+        skips_leak_detection: false,
         retries: retries(of),
     }
 }

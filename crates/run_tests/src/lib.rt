@@ -31,6 +31,8 @@ mod statistics;
 #[cfg(test)]
 mod steps;
 #[cfg(test)]
+mod surroundings;
+#[cfg(test)]
 mod timeouts;
 #[cfg(test)]
 mod units;

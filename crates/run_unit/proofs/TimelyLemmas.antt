@@ -1,6 +1,7 @@
 -- A row leaves no timer that was given a later moment than that of the unit's latest turn.
-use Rattle.std.proofs.Common.{ℕ, ◌≤◌, ◌==◌, List, [], ◌∷◌, true, false, if◌then◌else◌, Option, Some, None, IfSome, arith}
-use Rattle.run_clock.specs.Sleep.{Sleep}
+use Rattle.std.proofs.Common.{ℕ, ◌≤◌, ◌==◌, List, [], ◌∷◌, true, false, ◌||◌, if◌then◌else◌, Option, Some, None}
+use Rattle.std.proofs.Common.{IfSome, arith}
+use Rattle.run_clock.specs.Sleep.{Sleep, set_at}
 use Rattle.run_capture.specs.Captured.{Captured, is_done, with_wait_error}
 use Rattle.run_events.specs.declared.request.Request.{Request}
 use Rattle.run_events.specs.declared.request.Request.TheVariants.{Shutdown, OtherCancel}
@@ -14,12 +15,13 @@ use Rattle.run_model.specs.declared.phase.Phase.TheVariants.{Deciding, Delay, Re
 use Rattle.run_model.specs.declared.unit_turn.UnitTurn.{UnitTurn}
 use Rattle.run_model.specs.declared.unit_turn.UnitTurn.TheVariants.{Answered, Started, StartFailed, Exit, WaitFailed}
 use Rattle.run_model.specs.declared.unit_turn.UnitTurn.TheVariants.{Due, Take, Decide}
+use Rattle.run_model.specs.declared.unit_view.AttemptTerms.{AttemptTerms}
 use Rattle.run_model.specs.declared.unit_view.Timers.{Timers}
 use Rattle.run_model.specs.declared.unit_view.UnitView.{UnitView}
 use Rattle.run_model.specs.Slow.{one_more, is_out_of_time}
 use Rattle.run_model.specs.Unit.{row_at, running_row, slow_row, slow_again, in_grace, out_of_time, settled, exited}
 use Rattle.run_model.specs.Unit.{leaking, heard_with, having_heard, at_moment, asked_to_end, requested, take_row}
-use Rattle.run_model.specs.Unit.{has_retry, next_delay, delayed, decided}
+use Rattle.run_model.specs.Unit.{slow_timer_at, has_retry, next_delay, delayed, decided}
 use Rattle.run_model.specs.Terminate.{terminate_method}
 use Rattle.run_unit.specs.Timely.{IsTimely, IsCurrent}
 
@@ -43,7 +45,8 @@ at_moment_current now u le h = timely_later u.timers u.latest now le h
 settled_current : (now : ℕ) (exit : Option ChildExit) (c : Captured) (u : UnitView) → now ≤ u.latest → IsCurrent u
     → IsCurrent (settled now exit c u)
 settled_current now exit c u le h =
-    elim (is_done c) as (λ b. IsCurrent (if b then exited now exit false c u else leaking now exit c u))
+    elim (u.terms.skips_leak_detection || is_done c) as
+    (λ b. IsCurrent (if b then exited now exit false c u else leaking now exit c u))
     [ true ↦ (h.0, tt, tt) | false ↦ (h.0, tt, le) ]
 
 -- a unit stays current where it hears a turn of a stream after its child ended
@@ -59,13 +62,21 @@ out_of_time_current now n u le h =
     elim (u.terms.slow.grace == 0) as (λ b. IsCurrent (if b then out_of_time n u else in_grace now n u).next)
     [ true ↦ (h.0, tt, h.2) | false ↦ (h.0, tt, le) ]
 
+-- the timer until it is slow was given no later moment than that at which it was set
+slow_timer_set : (now latest : ℕ) (terms : AttemptTerms) → now ≤ latest
+    → IfSome (slow_timer_at now terms) (λ timer. timer.latest ≤ latest)
+slow_timer_set now latest terms le =
+    elim terms.disables_timeouts as
+    (λ b. IfSome (if b then None else Some (set_at now terms.slow.period)) (λ timer. timer.latest ≤ latest))
+    [ true ↦ tt | false ↦ le ]
+
 -- a unit stays current where it is slow
 slow_current : (now n : ℕ) (u : UnitView) → now ≤ u.latest → IsCurrent u → IsCurrent (slow_row now n u).next
 slow_current now n u le h =
     elim (is_out_of_time u.terms.slow n) as (λ b. IsCurrent (if b
     then (if u.terms.slow.grace == 0 then out_of_time n u else in_grace now n u)
     else slow_again now n u).next)
-    [ true ↦ out_of_time_current now n u le h | false ↦ (h.0, le, h.2) ]
+    [ true ↦ out_of_time_current now n u le h | false ↦ (h.0, slow_timer_set now u.latest u.terms le, h.2) ]
 
 -- a unit stays current where it takes a turn while its child runs
 running_current : (now : ℕ) (turn : UnitTurn) (u : UnitView) → now ≤ u.latest → IsCurrent u
@@ -108,7 +119,7 @@ pub row_current : (now : ℕ) (ph : Phase) (turn : UnitTurn) (u : UnitView) → 
     → IsCurrent (row_at now ph turn u).next
 row_current now StartSent (Answered true) u le h = (le, tt, tt)
 row_current now StartSent (Answered false) u le h = h
-row_current now Starting (Started pid) u le h = (h.0, le, h.2)
+row_current now Starting (Started pid) u le h = (h.0, slow_timer_set now u.latest u.terms le, h.2)
 row_current now Starting (StartFailed error) u le h = (h.0, tt, tt)
 row_current now Running Due u le h = slow_current now (one_more u.timers.slow_count) u le h
 row_current now Running Take u le h = take_current now Running u.line u le h

@@ -1,6 +1,6 @@
 -- A row leaves a unit at one of its attempts.
 use Rattle.std.proofs.Common.{ℕ, ◌≡◌, ◌+◌, ◌<◌, ◌≤◌, ◌^◌, ◌==◌, List, [], ◌∷◌, Bool, true, false, if◌then◌else◌}
-use Rattle.std.proofs.Common.{Option, Some, None, arith, subst, refl}
+use Rattle.std.proofs.Common.{◌||◌, Option, Some, None, arith, subst, refl}
 use Rattle.std.specs.Prelude.{slice_get}
 use Rattle.run_capture.specs.Captured.{Captured, is_done, with_wait_error}
 use Rattle.run_events.specs.declared.plan.PlanTest.{PlanTest}
@@ -54,7 +54,8 @@ tried_in ph u is h =
 settled_tried : (now : ℕ) (exit : Option ChildExit) (c : Captured) (u : UnitView) → IsTried u
     → IsTried (settled now exit c u)
 settled_tried now exit c u h =
-    elim (is_done c) as (λ b. IsTried (if b then exited now exit false c u else leaking now exit c u))
+    elim (u.terms.skips_leak_detection || is_done c) as
+    (λ b. IsTried (if b then exited now exit false c u else leaking now exit c u))
     [ true ↦ tried_on u h | false ↦ tried_on u h ]
 
 -- where it hears a turn of a stream after its child ended

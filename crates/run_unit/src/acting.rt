@@ -15,9 +15,8 @@ use crate::hearing::{hear, hears, is_heard};
 use crate::requests::{has_request, take};
 use crate::retry::{answer_retry, decide, retry};
 use crate::slow::{be_slow, kill};
-use crate::timing::is_timer_due;
+use crate::timing::{is_timer_due, slow_timer_at};
 use run_capture::Mem;
-use run_clock::PausableSleep;
 use run_model::{Phase, UnitTurn, UnitView};
 use std::alloc::Global;
 
@@ -137,7 +136,7 @@ fn start(view: &mut UnitView, now: u64) -> UnitEffects
     ensures { IsRow (quiet_row (started now view.old)) view.new result }
 {
     view.phase = Phase::Running;
-    view.timers.slow = Some(PausableSleep::new(now, view.terms.slow.period));
+    view.timers.slow = slow_timer_at(now, &view.terms);
     quiet(false)
 }
 

@@ -164,13 +164,24 @@ fn streams_of(alloc: Global, strategy: CaptureStrategy) -> Mem<List<Stream>>
     }
 }
 
+/// These words and then those of a command.
+pub fn followed_by(alloc: Global, words: List<Text>, command: &List<Text>) -> Mem<List<Text>>
+    ensures { IfOk result (λ all. all ≡ words ++ command.now) }
+{
+    let mut words = words.into_vec(alloc);
+    let mut own = command.copy(alloc)?.into_vec(alloc);
+    words.append(&mut own)?;
+    Ok(List::from_vec(words))
+}
+
 /// The start that is asked where an attempt is let go, of a test whose attempts fit in a `u32`.
 #[tactic(auto, unfolding(run_model::specs::Environment::start_ask))]
 pub fn start_of(alloc: Global, unit: &UnitView) -> Mem<Ask>
     requires { attempts unit.now < 2 ^ 32 }
     ensures { IfOk result (λ ask. ask ≡ start_ask unit.now) }
 {
-    let command = unit.command.copy(alloc)?;
+    let wrapper = unit.around.wrapper.copy(alloc)?;
+    let command = followed_by(alloc, wrapper, &unit.command)?;
     let streams = streams_of(alloc, unit.terms.strategy)?;
     let env = environment(alloc, unit)?;
     Ok(Ask::Start(StartAsk {
@@ -178,8 +189,8 @@ pub fn start_of(alloc: Global, unit: &UnitView) -> Mem<Ask>
         attempt: unit.attempt,
         command,
         env,
-        group: true,
-        stdin: false,
+        group: unit.around.group,
+        stdin: unit.around.stdin,
         streams,
         env_path: None,
     }))

@@ -1,13 +1,13 @@
 // A test as it begins, and an attempt of it that is let go.
 ghost use Rattle.std.specs.Prelude.{◌≡◌, ◌<◌, ◌^◌, ◌∷◌, ◌++◌, IfOk, OnErr};
 ghost use Rattle.run_commands.specs.TargetRunner.{binary_of, args_of};
-ghost use Rattle.run_model.specs.Admission.{first_view, flaky_of, retries_of, surroundings_of, command_of};
+ghost use Rattle.run_model.specs.Admission.{first_view, flaky_of, retries_of, terms_of, surroundings_of, command_of};
 ghost use Rattle.run_model.specs.Environment.{attempts};
 ghost use Rattle.run_model.specs.Unit.{begun_row};
 ghost use Rattle.run_unit.specs.Effects.{IsRow};
 
 use crate::effects::UnitEffects;
-use crate::environment::start_of;
+use crate::environment::{followed_by, start_of};
 use crate::timing::timers_from;
 use run_capture::{ChildAccumulator, Duplicate, List, Mem, Text};
 use run_commands::PlatformRunner;
@@ -35,19 +35,39 @@ fn retries_of(settings: &Settings, test: &PlanTest) -> RetryPolicy
     }
 }
 
-// What the children of a run are told alike.
+// On which terms the attempts of a test run.
+fn terms_of(settings: &Settings, test: &PlanTest) -> AttemptTerms
+    ensures { result ≡ terms_of settings.now test.now }
+{
+    let interceptor = &settings.interceptor;
+    AttemptTerms {
+        strategy: settings.capture,
+        slow: test.slow,
+        leak: test.leak,
+        disables_timeouts: interceptor.should_disable_timeouts(),
+        skips_leak_detection: interceptor.should_skip_leak_detection(),
+        retries: retries_of(settings, test),
+    }
+}
+
+// What the children of a run have alike.
 fn surroundings_of(alloc: Global, settings: &Settings) -> Mem<Surroundings>
     ensures { IfOk result (λ around. around ≡ surroundings_of settings.now) }
 {
     let head = &settings.plan.head;
     let workspace_root = head.workspace_root.copy(alloc)?;
     let versions = head.versions.pairs(alloc)?;
+    let interceptor = &settings.interceptor;
+    let wrapper = interceptor.words(alloc)?;
     Ok(Surroundings {
         run_id: head.run_id,
         mode: head.mode,
         threads: settings.threads,
         workspace_root,
         versions,
+        wrapper,
+        group: interceptor.should_create_process_group(),
+        stdin: interceptor.should_passthrough_stdin(),
     })
 }
 
@@ -63,16 +83,6 @@ fn runner_words(alloc: Global, runner: &PlatformRunner) -> Mem<List<Text>>
     Ok(words)
 }
 
-// These words and then those of a command.
-fn followed_by(alloc: Global, words: List<Text>, command: &List<Text>) -> Mem<List<Text>>
-    ensures { IfOk result (λ all. all ≡ words ++ command.now) }
-{
-    let mut words = words.into_vec(alloc);
-    let mut own = command.copy(alloc)?.into_vec(alloc);
-    words.append(&mut own)?;
-    Ok(List::from_vec(words))
-}
-
 // The command of a test: before its own words stand those of its platform's runner.
 fn command_of(alloc: Global, settings: &Settings, test: &PlanTest) -> Mem<List<Text>>
     ensures { IfOk result (λ command. command ≡ command_of settings.now test.now) }
@@ -86,6 +96,19 @@ fn command_of(alloc: Global, settings: &Settings, test: &PlanTest) -> Mem<List<T
     }
 }
 
+// The command of a test, and what its child has as the others have it.
+fn start_parts(
+    alloc: Global,
+    settings: &Settings,
+    planned: &PlanTest,
+) -> Mem<(List<Text>, Surroundings)>
+    ensures { IfOk result (λ parts. parts ≡ (command_of settings.now planned.now, surroundings_of settings.now)) }
+{
+    let command = command_of(alloc, settings, planned)?;
+    let around = surroundings_of(alloc, settings)?;
+    Ok((command, around))
+}
+
 /// A planned test as the unit of this number.
 pub fn first_view(
     alloc: Global,
@@ -96,9 +119,8 @@ pub fn first_view(
 ) -> Mem<UnitView>
     ensures { IfOk result (λ u. u ≡ first_view settings.now unit slot planned.now) }
 {
-    let command = command_of(alloc, settings, planned)?;
-    let around = surroundings_of(alloc, settings)?;
     let id = planned.id.copy(alloc)?;
+    let (command, around) = start_parts(alloc, settings, planned)?;
     Ok(UnitView {
         test: TestUnit {
             unit,
@@ -109,12 +131,7 @@ pub fn first_view(
         slot,
         flaky: flaky_of(settings, planned),
         around,
-        terms: AttemptTerms {
-            strategy: settings.capture,
-            slow: planned.slow,
-            leak: planned.leak,
-            retries: retries_of(settings, planned),
-        },
+        terms: terms_of(settings, planned),
         phase: Phase::StartSent,
         attempt: 1,
         delay: 0,

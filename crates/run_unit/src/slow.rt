@@ -8,6 +8,7 @@ ghost use Rattle.run_unit.specs.Effects.{IsRow};
 
 use crate::effects::UnitEffects;
 use crate::retry::attempts;
+use crate::timing::slow_timer_at;
 use run_capture::{Duplicate, Mem};
 use run_clock::PausableSleep;
 use run_events::{Ask, ChildSignal, Message, SignalAsk, SlowTimeout, TermSignal, TestSlow};
@@ -79,14 +80,14 @@ fn slow_time(slow: &SlowTimeout, count: u32) -> u64
     u64::from(count).saturating_mul(slow.period)
 }
 
-/// A signal that is asked for its child, and the group of its child's processes.
+/// A signal that is asked for its child, and for the group of its child's processes where it has one of its own.
 pub fn signal_ask(view: &UnitView, signal: TermSignal) -> Ask
     ensures { result ≡ signal_ask signal view.now }
 {
     Ask::Signal(SignalAsk {
         unit: view.test.unit,
         signal: ChildSignal::End(signal),
-        group: true,
+        group: view.around.group,
     })
 }
 
@@ -100,7 +101,7 @@ fn count_slow(view: &mut UnitView, count: u32, now: u64) -> Option<Ask>
     if is_out_of_time(&view.terms.slow, count) {
         Some(run_out(view, count, now))
     } else {
-        view.timers.slow = Some(PausableSleep::new(now, view.terms.slow.period));
+        view.timers.slow = slow_timer_at(now, &view.terms);
         view.timers.slow_count = count;
         None
     }

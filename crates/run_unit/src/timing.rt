@@ -1,12 +1,12 @@
 // The timers of a unit.
 ghost use Rattle.std.specs.Prelude.{◌≡◌, ◌≤◌, IfSome, None, true};
 ghost use Rattle.run_clock.specs.Stopwatch.{started_at};
-ghost use Rattle.run_model.specs.Unit.{is_due, takes_at};
+ghost use Rattle.run_model.specs.Unit.{is_due, takes_at, slow_timer_at};
 ghost use Rattle.run_model.specs.declared.unit_turn.UnitTurn.TheVariants.{Due};
 ghost use Rattle.run_unit.specs.Timely.{IsTimely};
 
 use run_clock::{PausableSleep, Poll, StopwatchStart};
-use run_model::{Phase, Timers, UnitView};
+use run_model::{AttemptTerms, Phase, Timers, UnitView};
 
 /// The timers of an attempt that is let go now.
 pub fn timers_from(now: u64) -> Timers
@@ -17,6 +17,17 @@ pub fn timers_from(now: u64) -> Timers
         slow: None,
         wait: None,
         slow_count: 0,
+    }
+}
+
+/// The timer until an attempt on these terms is slow, set now: none where slow timers are off.
+pub fn slow_timer_at(now: u64, terms: &AttemptTerms) -> Option<PausableSleep>
+    ensures { result ≡ slow_timer_at now terms.now }
+{
+    if terms.disables_timeouts {
+        None
+    } else {
+        Some(PausableSleep::new(now, terms.slow.period))
     }
 }
 

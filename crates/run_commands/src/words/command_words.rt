@@ -1,7 +1,8 @@
 // The words of a command, which contracts see as a list.
-ghost use Rattle.std.specs.Prelude.{◌≡◌, [], ℕ, List as Items, drop, slice_get, Some, IfOk, IfErr, IfSome, IfNone};
+ghost use Rattle.std.specs.Prelude.{◌≡◌, ◌≢◌, [], ℕ, List as Items, drop, slice_get, Some, IfOk, IfErr, IfSome, IfNone};
 ghost use Rattle.run_commands.specs.Words.{HasWords};
-ghost use Rattle.run_commands.specs.WordsRefused.{IsRefusedWords, IsWordsAnswer};
+ghost use Rattle.run_commands.specs.CommandWords.{command_words};
+ghost use Rattle.run_commands.specs.WordsRefused.{GivesWords, IsRefusedWords, IsWordsAnswer};
 
 use super::splitting::split_words;
 use super::words_error::WordsError;
@@ -43,6 +44,7 @@ fn split_first(alloc: Global, words: List<Text>) -> Option<CommandWords>
 // The words of a command that has some.
 fn some_words(alloc: Global, command: &str) -> Result<CommandWords, WordsError>
     ensures ok { IfOk result (HasWords command.now) }
+    ensures some { IfOk result (λ words. words ≢ []) }
     ensures refused { IfErr result (IsRefusedWords command.now) }
 {
     let words = split_words(alloc, command)?;
@@ -58,6 +60,7 @@ impl CommandWords {
         ensures ok { IfOk result (HasWords command.now) }
         ensures refused { IfErr result (IsRefusedWords command.now) }
         ensures only { (words : Items (Items ℕ)) → HasWords command.now words → IsWordsAnswer words result }
+        ensures words { GivesWords (command_words command.now) result }
     {
         some_words(alloc, command)
     }
@@ -72,6 +75,17 @@ impl CommandWords {
         ensures { result.now ≡ drop 1 self.now }
     {
         self.args.as_slice()
+    }
+
+    /// All of them.
+    pub fn words(&self, alloc: Global) -> Mem<List<Text>>
+        ensures { IfOk result (λ words. words ≡ self.now) }
+    {
+        let mut words = Vec::new(alloc);
+        words.push(self.program.copy(alloc)?)?;
+        let mut args = self.args.copy(alloc)?.into_vec(alloc);
+        words.append(&mut args)?;
+        Ok(List::from_vec(words))
     }
 }
 
