@@ -62,7 +62,7 @@ const NOT_ENABLED: &str = "a turn of the input is not enabled after the turns be
     the turn t stands on line t + 2 of the input, since the plan stands on line 1";
 
 const THIRD_SIGNAL: &str =
-    "a turn of the input is a third shutdown signal: the first asked the tests that ran \
+    "a turn of the input is a third shutdown signal: the first asked the scripts and tests that ran \
     to end and the second killed them, and no third is taken; the turns before it were all taken, and \
     the fault's \"turn\" is its place among the turns, counted from 0";
 

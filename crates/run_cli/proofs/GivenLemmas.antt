@@ -6,6 +6,7 @@ use Rattle.run_input.specs.declared.plan_line.RunnerKeys.{RunnerKeys}
 use Rattle.run_commands.specs.declared.target_runner.TargetRunner.{TargetRunner}
 use Rattle.run_events.specs.declared.plan.Group.{Group}
 use Rattle.run_events.specs.declared.plan.Plan.{Plan}
+use Rattle.run_events.specs.declared.plan.PlanScript.{PlanScript}
 use Rattle.run_events.specs.declared.plan.PlanTest.{PlanTest}
 use Rattle.run_events.specs.declared.plan.RunHead.{RunHead}
 use Rattle.run_events.specs.declared.signal.SignalHandlerKind.{SignalHandlerKind}
@@ -23,8 +24,8 @@ use Rattle.std.proofs.lemmas.Option.{same_Some}
 use Rattle.run_input.specs.Lines.{lines_of, at_front}
 use Rattle.run_input.specs.Input.{IsInput, turns_of, turn_line_of}
 use Rattle.run_input.specs.PlanHead.{frame_of}
-use Rattle.run_input.specs.PlanLine.{keys_of, rules_of, tests_of, plan_tests_of, plan_groups_of, lists_of, plan_names}
-use Rattle.run_input.specs.PlanLine.{plan_with, plan_alone_of, plan_of}
+use Rattle.run_input.specs.PlanLine.{keys_of, rules_of, plan_scripts_of, plan_tests_of, plan_groups_of, lists_of}
+use Rattle.run_input.specs.PlanLine.{plan_names, plan_with, plan_alone_of, plan_of}
 use Rattle.run_input.specs.Fields.{when, is_object_of}
 use Rattle.run_input.specs.ValueOf.{value_of}
 use Rattle.serde_json.specs.Data.{Data}
@@ -75,34 +76,37 @@ when_is : (b : Bool) (u : Unit {0}) → when b ≡ Some u → b ≡ true
 when_is true u e = refl
 when_is false u e = cc
 
--- the tests of a plan are few
-few_plan_tests : (d : Option Data) (tests : List PlanTest) → plan_tests_of d ≡ Some tests → length tests < 2 ^ 32
-few_plan_tests d tests e =
-    let read = then_some (option_and_then tests_of d)
-    (λ ts. option_and_then (λ _. Some ts) (when (nat_lt (length ts) 4294967296))) tests e in
-    let last = then_some (when (nat_lt (length read.0) 4294967296)) (λ _. Some read.0) tests read.2 in
-    let fewer : length read.0 < 2 ^ 32 = grind (arith, when_is (nat_lt (length read.0) 4294967296) last.0 last.1) in
-    subst (λ (ts : List PlanTest). length ts < 2 ^ 32) (same_Some read.0 tests last.2) fewer
-
 -- a plan that a line says has few units
 abbrev pub IsFew : Plan → Type 0
 IsFew plan = length plan.scripts + length plan.tests < 2 ^ 32
 
--- a plan of few tests has few units
-few_plan : (rules : SignalHandlerKind × Option ℕ) (frame : RunHead × TargetRunner) (lists : List Group × List PlanTest)
-    → length lists.1 < 2 ^ 32 → IsFew (plan_with rules frame lists)
-few_plan rules frame lists few = omega arith
+-- a plan with few scripts and tests has few units
+few_plan : (rules : SignalHandlerKind × Option ℕ) (frame : RunHead × TargetRunner)
+    (lists : List Group × List PlanScript × List PlanTest)
+    → length lists.1 + length lists.2 < 2 ^ 32 → IsFew (plan_with rules frame lists)
+few_plan rules frame lists few = few
 
--- the tests of a plan line are few
-few_lists : (d : Data) (lists : List Group × List PlanTest) → lists_of d ≡ Some lists → length lists.1 < 2 ^ 32
+-- the scripts and tests of a plan line are few
+few_lists : (d : Data) (lists : List Group × List PlanScript × List PlanTest) → lists_of d ≡ Some lists
+    → length lists.1 + length lists.2 < 2 ^ 32
 few_lists d lists e =
+    let few : ℕ → ℕ → Bool = λ m n. nat_lt (m + n) 4294967296 in
     let groups : Option Data = get (codes "groups") d in
+    let scripts : Option Data = get (codes "scripts") d in
     let tests : Option Data = get (codes "tests") d in
     let gs = then_some (plan_groups_of groups)
-    (λ gs. option_and_then (λ ts. Some (gs, ts)) (plan_tests_of tests)) lists e in
-    let ts = then_some (plan_tests_of tests) (λ ts. Some (gs.0, ts)) lists gs.2 in
-    let same : (gs.0, ts.0) ≡ lists = same_Some (gs.0, ts.0) lists ts.2 in
-    subst (λ (x : List Group × List PlanTest). length x.1 < 2 ^ 32) same (few_plan_tests tests ts.0 ts.1)
+    (λ gs. option_and_then (λ ss. option_and_then (λ ts. option_and_then (λ _. Some (gs, ss, ts))
+    (when (few (length ss) (length ts)))) (plan_tests_of tests)) (plan_scripts_of scripts)) lists e in
+    let ss = then_some (plan_scripts_of scripts)
+    (λ ss. option_and_then (λ ts. option_and_then (λ _. Some (gs.0, ss, ts))
+    (when (few (length ss) (length ts)))) (plan_tests_of tests)) lists gs.2 in
+    let ts = then_some (plan_tests_of tests)
+    (λ ts. option_and_then (λ _. Some (gs.0, ss.0, ts)) (when (few (length ss.0) (length ts)))) lists ss.2 in
+    let last = then_some (when (few (length ss.0) (length ts.0))) (λ _. Some (gs.0, ss.0, ts.0)) lists ts.2 in
+    let fewer : length ss.0 + length ts.0 < 2 ^ 32 =
+    grind (arith, when_is (few (length ss.0) (length ts.0)) last.0 last.1) in
+    let same : (gs.0, ss.0, ts.0) ≡ lists = same_Some (gs.0, ss.0, ts.0) lists last.2 in
+    subst (λ (x : List Group × List PlanScript × List PlanTest). length x.1 + length x.2 < 2 ^ 32) same fewer
 
 few_as : (k l : RunnerKeys) (p q : Plan) → ◌≡◌ {A = RunnerKeys × Plan} (k, p) (l, q) → IsFew p → IsFew q
 few_as k l p q e few = subst IsFew (ap (λ (x : RunnerKeys × Plan). x.1) e) few

@@ -43,9 +43,10 @@ settings_in r = settings_for r.keys r.plan
 abbrev pub history_in : {c : Call} → Replays c → List Happening
 history_in r = past_of (settings_for r.keys r.plan) r.journal
 
--- the run took every turn of the input and is over with this outcome, and each test of the plan has its fate in each
--- sub-run that has ended, the newest among them: one that doesn't match was skipped once; any other was started and
--- finished once, by its own turns' results, or, exactly where a cause came first, was never started or was left there
+-- the run took every turn of the input and is over with this outcome, and each script and each test of the plan has its
+-- fate in each sub-run that has ended, the newest among them: a test that doesn't match was skipped once; any other, and
+-- any script, was started and finished once, by its own turns' results, or, exactly where a cause came first, was never
+-- started or was left there
 pub record IsWhole {c : Call} (r : Replays c) (o : RunOutcome) : Type 0 where
   pub all : turns_of r.journal ≡ r.turns
   pub over : outcome (settings_in r) (history_in r) ≡ Some o

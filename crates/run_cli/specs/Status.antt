@@ -24,8 +24,8 @@ abbrev pub is_status : ℕ → Bool
 is_status status = list_any (λ known. known == status) (0 ∷ 2 ∷ 3 ∷ 4 ∷ 5 ∷ 6 ∷ 7 ∷ 8 ∷ 9 ∷ 10 ∷ 11 ∷ 12 ∷ 100 ∷ 105 ∷ [])
 
 -- every turn of the input was enabled and the run is over after the last, the bytes that the sink took are the lines of
--- what the journal told and asked and of the outcome, and nothing else, each test has its fate, by its own turns'
--- results, and the status is that of the outcome
+-- what the journal told and asked and of the outcome, and nothing else, each script and each test has its fate, by its own
+-- turns' results, and the status is that of the outcome
 pub record Headline (c : Call) (status : ℕ) : Type 0 where
   pub run : Replays c
   pub outcome : RunOutcome

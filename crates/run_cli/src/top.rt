@@ -107,11 +107,10 @@ fn run_to_end<S: Source, K: Sink>(
 }
 
 /// Does all that the program does: reads the words and the source, builds the run of its plan, carries out the turns,
-/// writes
-/// the lines to the sink, and answers the status. Lines come as events are told, then the asks, then the outcome or the
-/// fault. What each status says and what status each cause gives stands in `Answers`, the headline first. Want of
-/// memory
-/// may come at any point, and is status 11.
+/// writes the lines to the sink, and answers the status. Lines come as events are told, then the asks, then the outcome
+/// or the fault. What each status says and what status each cause gives stands in `Answers`, the headline first: where
+/// the status is that of an outcome, each setup script and each test of the plan has its fate. Want of memory may come
+/// at any point, and is status 11.
 pub fn run<S: Source, K: Sink>(alloc: Global, words: &[String], source: &mut S, sink: K) -> Ran<K>
     ensures { Answers (call_of (map (λ w. string_bytes w) words.now) (reading S.left S.faults source.old source.new)
         (writing K.taken K.faults sink result.sink)) result.status }

@@ -17,12 +17,13 @@ use Rattle.run_commands.specs.declared.env_line.BrokenRule.{BrokenRule}
 use Rattle.run_commands.specs.declared.env_line.BrokenRule.TheVariants as rule
 use Rattle.run_commands.specs.Pair.{Pair}
 use Rattle.run_commands.specs.EnvLine.{pair_of}
+use Rattle.run_commands.specs.EnvGiven.{set_pair, set_by, env_from}
 use Rattle.run_commands.specs.EnvMap.{value_of, value_in, pairs_in, SetsVariable}
 use Rattle.run_commands.specs.EnvText.{Set, IsEnvOf, IsFirstBreach, IsRefusedEnv, HasNoBadLine, refusal_for}
 use Rattle.run_commands.proofs.EnvMapLemmas.{by_name}
 
 -- one line more sets one pair more
-set-push : (read : List (List ℕ)) (line : List ℕ) (given : List Pair) (pair : Pair)
+pub set-push : (read : List (List ℕ)) (line : List ℕ) (given : List Pair) (pair : Pair)
     → Set read given → pair_of line ≡ Ok pair → Set (read ++ line ∷ []) (given ++ pair ∷ [])
 set-push read line given pair so_far sets =
     map-append pair_of read (line ∷ [])
@@ -52,7 +53,8 @@ value-in (entry ∷ entries) name =
     rw (is_eq-slice_cmp name (string_bytes entry.0))
     (ap (cond (bytes_eq name (string_bytes entry.0)) (Some entry.1)) (value-in entries name))
 
--- the lines before the rest set pairs, the map has the latest of them, and the next line has this number
+-- the lines before the rest set pairs, the map has the latest of them, the next line has this number, and what is given
+-- of all lines is what comes after the map's pairs
 pub record ReadSoFar (bytes rest : List ℕ) (entries : BTreeMap (String Global) (List ℕ)) (number : ℕ) : Type 0 where
   pub read : List (List ℕ)
   pub split : lines bytes ≡ read ++ lines rest
@@ -62,6 +64,7 @@ pub record ReadSoFar (bytes rest : List ℕ) (entries : BTreeMap (String Global)
   pub latest : (name : List ℕ) → value_in name entries ≡ value_of name (reverse given)
   pub counted : number ≡ length read + 1
   pub room : number + length rest ≤ length bytes + 1
+  pub going : env_from 1 [] (lines bytes) ≡ env_from number (pairs_in entries.entries) (lines rest)
 
 -- nothing is read at the start
 pub read_nothing : (bytes : List ℕ) (entries : BTreeMap (String Global) (List ℕ)) → entries.entries ≡ []
@@ -76,13 +79,15 @@ read_nothing bytes entries empty ordered = record {
   latest = λ name. ap (lookup (is_at (λ k. slice_cmp nat_cmp name (string_bytes k)))) empty;
   counted = refl;
   room = omega arith;
+  going = ap (λ es. env_from 1 (pairs_in es) (lines bytes)) (sym empty);
 }
 
 -- one line more is read
 pub read_more : (bytes rest after line name value : List ℕ) (old new : BTreeMap (String Global) (List ℕ)) (number : ℕ)
     → ReadSoFar bytes rest old number → lines rest ≡ line ∷ lines after → length after < length rest
-    → pair_of line ≡ Ok (name, value) → SetsVariable old new name value → ReadSoFar bytes after new (number + 1)
-read_more bytes rest after line name value old new number so_far first shorter says change = record {
+    → pair_of line ≡ Ok (name, value) → SetsVariable old new name value
+    → pairs_in new.entries ≡ set_pair (pairs_in old.entries) (name, value) → ReadSoFar bytes after new (number + 1)
+read_more bytes rest after line name value old new number so_far first shorter says change set = record {
   read = so_far.read ++ line ∷ [];
   split = so_far.split ∙ ap (λ lines'. so_far.read ++ lines') first
       ∙ sym (append_assoc so_far.read (line ∷ []) (lines after));
@@ -94,6 +99,9 @@ read_more bytes rest after line name value old new number so_far first shorter s
       ∙ ap (value_of other) (sym (reverse-append so_far.given ((name, value) ∷ [])));
   counted = omega (arith, so_far.counted, length-append so_far.read (line ∷ []));
   room = omega (arith, so_far.room);
+  going = so_far.going ∙ ap (env_from number (pairs_in old.entries)) first
+      ∙ ap (λ says'. set_by number (pairs_in old.entries) says' (λ more. env_from (number + 1) more (lines after))) says
+      ∙ ap (λ pairs. env_from (number + 1) pairs (lines after)) (sym set);
 }
 
 -- a list that is found empty

@@ -2,6 +2,7 @@ mod CharLemmas
 mod EnvLineLemmas
 mod EnvMapLemmas
 mod EnvTextLemmas
+mod EnvGivenLemmas
 mod WordLemmas
 mod WordSoundLemmas
 mod OpenQuoteLemmas

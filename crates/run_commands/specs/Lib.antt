@@ -1,6 +1,7 @@
 pub mod CommandWords
 pub mod DebuggerCommand
 pub mod EnvFile
+pub mod EnvGiven
 pub mod EnvLine
 pub mod EnvMap
 pub mod EnvOutcome

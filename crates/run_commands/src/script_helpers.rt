@@ -2,7 +2,8 @@
 ghost use Rattle.std.specs.Prelude.{◌≡◌, IfOk, IfErr, OnOk};
 ghost use Rattle.std.specs.Str.Lines.{lines};
 ghost use Rattle.run_commands.specs.EnvText.{IsEnvOf, IsRefusedEnv, refusal_for};
-ghost use Rattle.run_commands.specs.EnvMap.{SetsVariable};
+ghost use Rattle.run_commands.specs.EnvMap.{SetsVariable, pairs_in};
+ghost use Rattle.run_commands.specs.EnvGiven.{IsGiven, IsTextGiven, set_pair};
 ghost use Rattle.run_commands.specs.EnvOutcome.{IsOutcome};
 
 use crate::env_line::{BrokenRule, split_line, split_pair};
@@ -37,6 +38,7 @@ fn refusal(broken: BrokenRule, line: u64) -> SetupScriptOutputError
 // Sets a variable.
 fn put(alloc: Global, map: &mut BTreeMap<String, Text>, name: &str, value: &str) -> Mem<()>
     ensures ok { OnOk result (SetsVariable map.old map.new name.now value.now) }
+    ensures pairs { OnOk result (pairs_in map.new.entries ≡ set_pair (pairs_in map.old.entries) (name.now, value.now)) }
 {
     map.insert(
         String::from_str(alloc, name)?,
@@ -51,6 +53,7 @@ fn put(alloc: Global, map: &mut BTreeMap<String, Text>, name: &str, value: &str)
 pub fn parse_env_text(alloc: Global, bytes: &[u8]) -> Result<EnvMap, SetupScriptOutputError>
     ensures ok { IfOk result (IsEnvOf bytes.now) }
     ensures refused { IfErr result (IsRefusedEnv (lines bytes.now)) }
+    ensures given { IsTextGiven bytes.now result }
 {
     let mut map = BTreeMap::new(alloc);
     let mut rest = bytes;
@@ -69,7 +72,8 @@ pub fn parse_env_text(alloc: Global, bytes: &[u8]) -> Result<EnvMap, SetupScript
 
 /// The environment that a script hands on, from what came of reading its file.
 pub fn env_outcome(alloc: Global, input: &EnvInput) -> Result<EnvMap, SetupScriptOutputError>
-    ensures { IsOutcome input.now result }
+    ensures outcome { IsOutcome input.now result }
+    ensures given { IsGiven input.now result }
 {
     match input {
         EnvInput::Bytes(bytes) => parse_env_text(alloc, bytes.as_slice()),

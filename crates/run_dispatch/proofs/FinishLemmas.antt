@@ -6,19 +6,24 @@ use Rattle.run_events.specs.declared.cancel.CancelReason.{CancelReason}
 use Rattle.run_events.specs.declared.cancel.CancelReason.TheVariants.{SecondSignal}
 use Rattle.run_events.specs.declared.events.ReporterEvent.{ReporterEvent}
 use Rattle.run_events.specs.declared.message.TestFinish.{TestFinish}
-use Rattle.run_events.specs.declared.message.Message.TheVariants.{Finish}
+use Rattle.run_events.specs.declared.events.TestEventKind.TheVariants.{SetupScriptFinished}
+use Rattle.run_events.specs.declared.message.ScriptFinish.{ScriptFinish}
+use Rattle.run_events.specs.declared.message.Message.TheVariants.{Finish, ScriptFinish as ScriptFinished}
+use Rattle.run_events.specs.declared.result.ExecutionResult.{ExecutionResult}
 use Rattle.run_events.specs.declared.retry_policy.MaxFail.{MaxFail}
 use Rattle.run_events.specs.declared.retry_policy.MaxFail.TheVariants.{All, Count}
 use Rattle.run_events.specs.declared.retry_policy.TerminateMode.{TerminateMode}
 use Rattle.run_events.specs.declared.retry_policy.TerminateMode.TheVariants.{Wait, Immediate}
 use Rattle.run_events.specs.declared.stats.RunStats.{RunStats}
 use Rattle.run_events.specs.Outcome.{failed_count}
+use Rattle.run_events.specs.Result.{is_success}
 use Rattle.run_model.specs.declared.dispatcher_view.CancelRules.{CancelRules}
 use Rattle.run_model.specs.declared.dispatcher_view.Causes.{Causes}
 use Rattle.run_model.specs.declared.dispatcher_view.DispatcherView.{DispatcherView}
 use Rattle.run_model.specs.declared.dispatcher_view.Tally.{Tally}
 use Rattle.run_model.specs.Board.{Deed, deed_events, dispatched, causes_after, with_cause}
 use Rattle.run_model.specs.Cancel.{Cause, caused, cancel_event, cancelled_for, is_above, failure_cause, too_many_failed}
+use Rattle.run_model.specs.Cancel.{script_cause, script_failed}
 use Rattle.run_model.specs.Dispatch.{event, having_told, finished_event}
 use Rattle.run_model.specs.Turns.{nothing_done}
 use Rattle.run_model.specs.Words.{is_by_signal, is_by_report, is_by_time}
@@ -98,19 +103,25 @@ failure_is (Count most terminate) stats =
     as (λ b. IfSome (if b then Some (too_many_failed terminate) else None) (λ cause. IsOther (Some cause.reason)))
     [ true ↦ mode_is terminate | false ↦ tt ]
 
--- the delivery of a finish, which may be the last failure
-finish_as : (now : ℕ) (d : DispatcherView) (finish : TestFinish) (cause : Option Cause)
+-- a failed script is another cause
+script_is : (ended : ExecutionResult) → IfSome (script_cause ended) (λ cause. IsOther (Some cause.reason))
+script_is ended =
+    elim (is_success ended)
+    as (λ b. IfSome (if b then None else Some script_failed) (λ cause. IsOther (Some cause.reason)))
+    [ true ↦ tt | false ↦ record { no_signal = refl; no_report = refl; no_time = refl } ]
+
+-- the delivery of a message that tells this, and may be another cause
+heeded_as : (now : ℕ) (d : DispatcherView) (told : Option ReporterEvent) (cause : Option Cause)
     → IfSome cause (λ cause. IsOther (Some cause.reason))
-    → dispatched now d (caused now (tally_by now d (Finish finish)) cause
-    (record nothing_done { taken = true; told = told_by now d (Finish finish) }))
+    → dispatched now d (caused now (having_told d.tally told) cause (record nothing_done { taken = true; told = told }))
     ≡ record d {
-      tally = with_cause (option_map (λ cause. cause.reason) cause) (tally_by now d (Finish finish));
+      tally = with_cause (option_map (λ cause. cause.reason) cause) (having_told d.tally told);
       latest = now;
     }
-finish_as now d finish None is =
-    delivered now d (told_by now d (Finish finish))
-    ∙ ap (λ t. record d { tally = t; latest = now }) (sym (with_cause-none (tally_by now d (Finish finish))))
-finish_as now d finish (Some cause) is = delivered_as now d (told_by now d (Finish finish)) cause is
+heeded_as now d told None is =
+    delivered now d told
+    ∙ ap (λ t. record d { tally = t; latest = now }) (sym (with_cause-none (having_told d.tally told)))
+heeded_as now d told (Some cause) is = delivered_as now d told cause is
 
 -- its event, then that of the cause
 events_as : (now : ℕ) (t : Tally) (told : Option ReporterEvent) (cause : Option Cause)
@@ -125,56 +136,97 @@ request_as : (now : ℕ) (t : Tally) (told : Option ReporterEvent) (cause : Opti
 request_as now t told None = refl
 request_as now t told (Some cause) = refl
 
--- what a call gives and leaves that delivered a finish, is what its deed does
-finish_does : (now : ℕ) (d new : DispatcherView) (finish : TestFinish) (t : Tally) (fx : DispatchEffects)
-    (events : List ReporterEvent) → t ≡ tally_by now d (Finish finish)
-    → events ≡ event now (finished_event finish t) ∷ []
+-- what a call gives and leaves that heeded what it told, is what its deed does
+heeded : (now : ℕ) (d new : DispatcherView) (told : Option ReporterEvent) (cause : Option Cause)
+    (fx : DispatchEffects) → IfSome cause (λ cause. IsOther (Some cause.reason))
     → fx ≡ record {
       events =
-          events ++ option_to_list (caused now t (failure_cause d.rules.max_fail t.stats) nothing_done).cancel;
-      request = (caused now t (failure_cause d.rules.max_fail t.stats) nothing_done).request;
+          option_to_list told ++ option_to_list (caused now (having_told d.tally told) cause nothing_done).cancel;
+      request = (caused now (having_told d.tally told) cause nothing_done).request;
       go = None;
     }
     → new ≡ record d {
-      tally = with_cause (option_map (λ cause. cause.reason) (failure_cause d.rules.max_fail t.stats)) t;
+      tally = with_cause (option_map (λ cause. cause.reason) cause) (having_told d.tally told);
       latest = now;
     }
-    → Does now d (delivers now d (Finish finish)) None new fx
-finish_does now d new finish t fx events counts tells gives leaves =
-    let told = told_by now d (Finish finish) in
-    let all = tally_by now d (Finish finish) in
-    let cause = failure_cause d.rules.max_fail all.stats in
-    let gives_all : fx ≡ record {
-      events = option_to_list told ++ option_to_list (caused now all cause nothing_done).cancel;
-      request = (caused now all cause nothing_done).request;
-      go = None;
-    } = rw (tells, counts) at gives in
-    let leaves_all : new ≡ record d {
-      tally = with_cause (option_map (λ cause. cause.reason) cause) all;
-      latest = now;
-    } = rw counts at leaves in
+    → Does now d (caused now (having_told d.tally told) cause (record nothing_done { taken = true; told = told }))
+    None new fx
+heeded now d new told cause fx is gives leaves =
+    let t = having_told d.tally told in
     record {
-      told = ap (λ (fx : DispatchEffects). fx.events) gives_all ∙ events_as now all told cause;
-      request = ap (λ (fx : DispatchEffects). fx.request) gives_all ∙ request_as now all told cause;
-      go = ap (λ (fx : DispatchEffects). fx.go) gives_all;
-      after = leaves_all ∙ sym (finish_as now d finish cause (failure_is d.rules.max_fail all.stats));
+      told = ap (λ (fx : DispatchEffects). fx.events) gives ∙ events_as now t told cause;
+      request = ap (λ (fx : DispatchEffects). fx.request) gives ∙ request_as now t told cause;
+      go = ap (λ (fx : DispatchEffects). fx.go) gives;
+      after = leaves ∙ sym (heeded_as now d told cause is);
     }
 
--- the same of an answer
-pub finish_answers : {E : Type 0} (now : ℕ) (d new : DispatcherView) (finish : TestFinish) (t : Tally)
-    (answer : Result DispatchEffects E) (events : List ReporterEvent) → t ≡ tally_by now d (Finish finish)
-    → events ≡ event now (finished_event finish t) ∷ []
+-- the same of an answer, by the events that were told, the counts after them and the cause
+heeded_answers : {E : Type 0} (now : ℕ) (d new : DispatcherView) (told : Option ReporterEvent) (heard : Option Cause)
+    (t : Tally) (cause : Option Cause) (answer : Result DispatchEffects E) (events : List ReporterEvent)
+    → IfSome heard (λ cause. IsOther (Some cause.reason))
+    → t ≡ having_told d.tally told → events ≡ option_to_list told → cause ≡ heard
     → IfOk answer (λ fx. fx ≡ record {
-      events =
-          events ++ option_to_list (caused now t (failure_cause d.rules.max_fail t.stats) nothing_done).cancel;
-      request = (caused now t (failure_cause d.rules.max_fail t.stats) nothing_done).request;
+      events = events ++ option_to_list (caused now t cause nothing_done).cancel;
+      request = (caused now t cause nothing_done).request;
       go = None;
     })
     → OnOk answer (new ≡ record d {
-      tally = with_cause (option_map (λ cause. cause.reason) (failure_cause d.rules.max_fail t.stats)) t;
+      tally = with_cause (option_map (λ cause. cause.reason) cause) t;
+      latest = now;
+    })
+    → IfOk answer (Does now d
+    (caused now (having_told d.tally told) heard (record nothing_done { taken = true; told = told })) None new)
+heeded_answers now d new told heard t cause (Ok fx) events is counts tells why gives leaves =
+    let all = having_told d.tally told in
+    let gives_all : fx ≡ record {
+      events = option_to_list told ++ option_to_list (caused now all heard nothing_done).cancel;
+      request = (caused now all heard nothing_done).request;
+      go = None;
+    } = rw (tells, counts, why) at gives in
+    let leaves_all : new ≡ record d {
+      tally = with_cause (option_map (λ cause. cause.reason) heard) all;
+      latest = now;
+    } = rw (counts, why) at leaves in
+    heeded now d new told heard fx is gives_all leaves_all
+heeded_answers now d new told heard t cause (Err error) events is counts tells why gives leaves = tt
+
+-- the delivery of a finish, which may be the last failure
+pub finish_answers : {E : Type 0} (now : ℕ) (d new : DispatcherView) (finish : TestFinish) (t : Tally)
+    (cause : Option Cause) (answer : Result DispatchEffects E) (events : List ReporterEvent)
+    → t ≡ tally_by now d (Finish finish) → events ≡ event now (finished_event finish t) ∷ []
+    → cause ≡ failure_cause d.rules.max_fail t.stats
+    → IfOk answer (λ fx. fx ≡ record {
+      events = events ++ option_to_list (caused now t cause nothing_done).cancel;
+      request = (caused now t cause nothing_done).request;
+      go = None;
+    })
+    → OnOk answer (new ≡ record d {
+      tally = with_cause (option_map (λ cause. cause.reason) cause) t;
       latest = now;
     })
     → IfOk answer (Does now d (delivers now d (Finish finish)) None new)
-finish_answers now d new finish t (Ok fx) events counts tells gives leaves =
-    finish_does now d new finish t fx events counts tells gives leaves
-finish_answers now d new finish t (Err error) events counts tells gives leaves = tt
+finish_answers now d new finish t cause answer events counts tells why gives leaves =
+    let all = tally_by now d (Finish finish) in
+    let tells_all : events ≡ event now (finished_event finish all) ∷ [] = rw counts at tells in
+    let why_all : cause ≡ failure_cause d.rules.max_fail all.stats = rw counts at why in
+    heeded_answers now d new (told_by now d (Finish finish)) (failure_cause d.rules.max_fail all.stats) t cause answer
+    events (failure_is d.rules.max_fail all.stats) counts tells_all why_all gives leaves
+
+-- the delivery of a script's finish, which may be a failure
+pub script_answers : {E : Type 0} (now : ℕ) (d new : DispatcherView) (finish : ScriptFinish) (t : Tally)
+    (cause : Option Cause) (answer : Result DispatchEffects E) (events : List ReporterEvent)
+    → t ≡ tally_by now d (ScriptFinished finish) → events ≡ event now (SetupScriptFinished finish) ∷ []
+    → cause ≡ script_cause finish.status.result
+    → IfOk answer (λ fx. fx ≡ record {
+      events = events ++ option_to_list (caused now t cause nothing_done).cancel;
+      request = (caused now t cause nothing_done).request;
+      go = None;
+    })
+    → OnOk answer (new ≡ record d {
+      tally = with_cause (option_map (λ cause. cause.reason) cause) t;
+      latest = now;
+    })
+    → IfOk answer (Does now d (delivers now d (ScriptFinished finish)) None new)
+script_answers now d new finish t cause answer events counts tells why gives leaves =
+    heeded_answers now d new (told_by now d (ScriptFinished finish)) (script_cause finish.status.result) t cause answer
+    events (script_is finish.status.result) counts tells why gives leaves

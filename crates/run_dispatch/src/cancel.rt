@@ -1,6 +1,6 @@
 // What a cause does.
 ghost use Rattle.std.specs.Prelude.{◌≡◌, ◌+◌, ◌<◌, ◌≤◌, ◌++◌, IfOk, IfSome, OnOk, OnErr, None, Some};
-ghost use Rattle.std.specs.Prelude.{option_to_list};
+ghost use Rattle.std.specs.Prelude.{option_map, option_to_list};
 ghost use Rattle.run_model.specs.Board.{deed_events, with_cause};
 ghost use Rattle.run_model.specs.Cancel.{is_above, cancelled_for, cancel_event, caused, signal_cause};
 ghost use Rattle.run_model.specs.Cancel.{time_is_up, event_refused};
@@ -79,7 +79,7 @@ fn cancel_event(reason: CancelReason, tally: Tally) -> TestEventKind
 {
     let event = RunCancelled {
         running: tally.running,
-        scripts_running: 0,
+        scripts_running: tally.scripts_running,
         stats: tally.stats,
     };
     match reason {
@@ -114,6 +114,41 @@ pub fn add_cause(
         request: Some(cause.request()),
         go: None,
     })
+}
+
+/// A finish was told by these events, and has these counts after it: it is this cause, or none.
+pub fn heed(
+    alloc: Global,
+    view: &mut DispatcherView,
+    events: List<ReporterEvent>,
+    cause: Option<Cause>,
+    tally: Tally,
+    now: u64,
+) -> Fx
+    ensures gives { IfOk result (λ fx. fx ≡ record {
+      events = events ++ option_to_list (caused now tally cause nothing_done).cancel;
+      request = (caused now tally cause nothing_done).request;
+      go = None;
+    }) }
+    ensures after { OnOk result (view.new ≡ record view.old {
+      tally = with_cause (option_map (λ cause. cause.reason) cause) tally;
+      latest = now;
+    }) }
+    ensures err { OnErr result (view.new ≡ view.old) }
+{
+    match cause {
+        Some(cause) => {
+            let effects = add_cause(alloc, events, &cause, tally, now)?;
+            view.tally = with_cause(cause.reason(), tally);
+            view.latest = now;
+            Ok(effects)
+        }
+        None => {
+            view.tally = tally;
+            view.latest = now;
+            Ok(telling(events, None))
+        }
+    }
 }
 
 // A cause alone: its reason is the run's where it is above the current one.

@@ -1,10 +1,11 @@
 // What cancels a run.
 ghost use Rattle.std.specs.Prelude.{◌≡◌};
 ghost use Rattle.run_model.specs.Cancel.{time_is_up, event_refused, too_many_failed, failure_cause, shutdown_by};
-ghost use Rattle.run_model.specs.Cancel.{first_reason, signal_cause};
+ghost use Rattle.run_model.specs.Cancel.{first_reason, script_cause, script_failed, signal_cause};
 
 use run_events::{
-    CancelReason, MaxFail, Request, RunStats, ShutdownRequest, Signal, TerminateMode,
+    CancelReason, ExecutionResult, MaxFail, Request, RunStats, ShutdownRequest, Signal,
+    TerminateMode,
 };
 use std::marker::Model;
 
@@ -85,6 +86,17 @@ impl Cause {
             _ => None,
         }
     }
+
+    /// A setup script ended with this result, where that is a failure.
+    pub fn script_failure(ended: ExecutionResult) -> Option<Cause>
+        ensures { result ≡ script_cause ended }
+    {
+        if ended.is_success() {
+            None
+        } else {
+            Some(script_failed())
+        }
+    }
 }
 
 // Those that run go on to their end, or are ended at once.
@@ -100,6 +112,16 @@ fn too_many_failed(terminate: TerminateMode) -> Cause
             reason: CancelReason::TestFailureImmediate,
             request: Request::Shutdown(ShutdownRequest::TestFailureImmediate),
         },
+    }
+}
+
+// A script failed: units that run go on to their end.
+fn script_failed() -> Cause
+    ensures { result ≡ script_failed }
+{
+    Cause {
+        reason: CancelReason::SetupScriptFailure,
+        request: Request::OtherCancel,
     }
 }
 

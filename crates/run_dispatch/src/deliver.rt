@@ -1,17 +1,14 @@
 // The delivery of a message.
-ghost use Rattle.std.specs.Prelude.{◌≡◌, ◌+◌, ◌<◌, ◌^◌, length, ◌∷◌, [], ◌++◌, IfOk, OnOk, OnErr, None};
-ghost use Rattle.std.specs.Prelude.{option_map, option_to_list};
+ghost use Rattle.std.specs.Prelude.{◌≡◌, ◌+◌, ◌<◌, ◌^◌, length, ◌∷◌, [], IfOk, OnErr};
 ghost use Rattle.run_events.specs.Stats.{AreBelow};
 ghost use Rattle.run_events.specs.declared.message.Message.TheVariants as messages;
 ghost use Rattle.run_model.specs.Dispatch.{CanDeliver, go_of, event, finished_event};
-ghost use Rattle.run_model.specs.Board.{with_cause};
-ghost use Rattle.run_model.specs.Cancel.{caused, failure_cause};
-ghost use Rattle.run_model.specs.Turns.{nothing_done};
 ghost use Rattle.run_dispatch.specs.Deeds.{Does, delivers};
 
-use crate::cancel::{add_cause, with_cause};
+use crate::cancel::heed;
 use crate::cause::Cause;
 use crate::effects::{Fx, one_event, telling};
+use crate::scripts::{hear_script_finish, hear_script_slow, hear_script_start};
 use crate::tally::{with_finish, with_skip, with_start};
 use run_capture::{List, Mem};
 use run_events::{
@@ -22,8 +19,8 @@ use run_model::{DispatcherView, Tally};
 use std::alloc::Global;
 
 /// Delivers a message: a start and a retry are told and let go where nothing cancels the run; a slow report and the
-/// failure of an attempt are told; a skip and a finish are counted and told; and a finish may be the last failure, which
-/// cancels the run.
+/// failure of an attempt are told; a skip and a finish are counted and told; and a script that failed, or a test that
+/// is the last failure, cancels the run.
 pub fn hear(alloc: Global, view: &mut DispatcherView, message: Message, now: u64) -> Fx
     requires fits { CanDeliver view.old message }
     ensures does { IfOk result
@@ -31,13 +28,15 @@ pub fn hear(alloc: Global, view: &mut DispatcherView, message: Message, now: u64
     ensures err { OnErr result (view.new ≡ view.old) }
 {
     match message {
+        Message::ScriptStart(start) => hear_script_start(alloc, view, start, now),
+        Message::ScriptSlow(slow) => hear_script_slow(alloc, view, slow, now),
+        Message::ScriptFinish(finish) => hear_script_finish(alloc, view, finish, now),
         Message::Start(start) => hear_start(alloc, view, start, now),
         Message::Slow(slow) => hear_slow(alloc, view, slow, now),
         Message::AttemptFailed(failed) => hear_failed(alloc, view, failed, now),
         Message::Retry(retry) => hear_retry(alloc, view, retry, now),
         Message::Skip(skip) => hear_skip(alloc, view, skip, now),
         Message::Finish(finish) => hear_finish(alloc, view, finish, now),
-        _ => unreachable!(),
     }
 }
 
@@ -130,43 +129,8 @@ fn hear_finish(alloc: Global, view: &mut DispatcherView, finish: TestFinish, now
 {
     let tally = with_finish(alloc, view.tally, &finish)?;
     let events = told_finish(alloc, tally, finish, now)?;
-    heed_failures(alloc, view, events, tally, now)
-}
-
-// A finish was told by these events, and has these counts after it: as many tests may have failed as end the run.
-fn heed_failures(
-    alloc: Global,
-    view: &mut DispatcherView,
-    events: List<ReporterEvent>,
-    tally: Tally,
-    now: u64,
-) -> Fx
-    ensures gives { IfOk result (λ fx. fx ≡ record {
-      events = events
-          ++ option_to_list (caused now tally (failure_cause view.old.rules.max_fail tally.stats) nothing_done).cancel;
-      request = (caused now tally (failure_cause view.old.rules.max_fail tally.stats) nothing_done).request;
-      go = None;
-    }) }
-    ensures after { OnOk result (view.new ≡ record view.old {
-      tally =
-          with_cause (option_map (λ cause. cause.reason) (failure_cause view.old.rules.max_fail tally.stats)) tally;
-      latest = now;
-    }) }
-    ensures err { OnErr result (view.new ≡ view.old) }
-{
-    match Cause::failure(view.rules.max_fail, &tally.stats) {
-        Some(cause) => {
-            let effects = add_cause(alloc, events, &cause, tally, now)?;
-            view.tally = with_cause(cause.reason(), tally);
-            view.latest = now;
-            Ok(effects)
-        }
-        None => {
-            view.tally = tally;
-            view.latest = now;
-            Ok(telling(events, None))
-        }
-    }
+    let cause = Cause::failure(view.rules.max_fail, &tally.stats);
+    heed(alloc, view, events, cause, tally, now)
 }
 
 // The event of a finish, with the counts after it.

@@ -73,6 +73,7 @@ impl Dispatcher {
         requires { tests_in settings.now < 2 ^ 32 }
         ensures { IfOk result (λ d. d ≡ unbegun settings.now) }
     {
+        let scripts = settings.plan.scripts.len() as u64;
         let matched = count_matched(settings.plan.tests.as_slice()) as u64;
         let head = head_of(alloc, settings)?;
         Ok(Dispatcher {
@@ -92,7 +93,8 @@ impl Dispatcher {
                 },
                 tally: Tally {
                     running: 0,
-                    stats: RunStats::started(0, matched),
+                    scripts_running: 0,
+                    stats: RunStats::started(scripts, matched),
                 },
                 latest: 0,
             },
@@ -191,8 +193,8 @@ impl Dispatcher {
     }
 
     /// Delivers a message: a start and a retry are told and let go where nothing cancels the run; a slow report and the
-    /// failure of an attempt are told; a skip and a finish are counted and told; and a finish may be the last failure,
-    /// which cancels the run.
+    /// failure of an attempt are told; a skip and a finish are counted and told; and a script that failed, or a test
+    /// that is the last failure, cancels the run.
     pub fn deliver(&mut self, alloc: Global, message: Message, now: u64) -> Fx
         requires fits { CanDeliver self.old message }
         requires later { self.old.latest ≤ now }

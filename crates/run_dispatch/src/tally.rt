@@ -2,8 +2,8 @@
 ghost use Rattle.std.specs.Prelude.{◌≡◌, ◌+◌, ◌<◌, ◌≤◌, ◌^◌, length, count_by, map, IfOk};
 ghost use Rattle.run_events.specs.Stats.{AreBelow};
 ghost use Rattle.run_model.specs.Admission.{is_matched};
-ghost use Rattle.run_model.specs.Words.{finished_test, last_slow};
-ghost use Rattle.run_model.specs.Dispatch.{with_start, with_finish, with_skip};
+ghost use Rattle.run_model.specs.Words.{a_script, a_test, finished_test, last_slow};
+ghost use Rattle.run_model.specs.Dispatch.{with_start, with_script, with_finish, with_skip};
 
 use run_capture::Mem;
 use run_events::{ExecuteStatus, ExecutionResult, PlanTest, RunStats, TestFinish};
@@ -41,6 +41,17 @@ pub fn with_start(tally: Tally) -> Tally
     }
 }
 
+/// The counts after a setup script has started.
+pub fn with_script(tally: Tally) -> Tally
+    requires { tally.scripts_running + 1 < 2 ^ 32 }
+    ensures { result ≡ with_script tally }
+{
+    Tally {
+        scripts_running: tally.scripts_running + 1,
+        ..tally
+    }
+}
+
 /// The counts after one more test was skipped.
 pub fn with_skip(tally: Tally) -> Tally
     requires { tally.stats.skipped < 2 ^ 32 }
@@ -58,7 +69,7 @@ pub fn with_finish(alloc: Global, tally: Tally, finish: &TestFinish) -> Mem<Tall
     requires counts { AreBelow (2 ^ 32) tally.stats }
     requires attempts { 0 < length finish.now.statuses }
     requires runs { 0 < tally.running }
-    ensures { IfOk result (λ t. t ≡ with_finish tally (finished_test finish.now)) }
+    ensures { IfOk result (λ t. t ≡ with_finish tally (a_test (finished_test finish.now))) }
 {
     let statuses = finish.statuses.as_slice();
     let results = results_of(alloc, statuses)?;
@@ -67,7 +78,23 @@ pub fn with_finish(alloc: Global, tally: Tally, finish: &TestFinish) -> Mem<Tall
     Ok(Tally {
         running: tally.running - 1,
         stats,
+        ..tally
     })
+}
+
+/// The counts after a setup script has finished with this result.
+pub fn with_script_finish(tally: Tally, ended: ExecutionResult) -> Tally
+    requires counts { AreBelow (2 ^ 32) tally.stats }
+    requires runs { 0 < tally.scripts_running }
+    ensures { result ≡ with_finish tally (a_script ended) }
+{
+    let mut stats = tally.stats;
+    stats.on_setup_script_finished(ended);
+    Tally {
+        scripts_running: tally.scripts_running - 1,
+        stats,
+        ..tally
+    }
 }
 
 // The results of the attempts, in order.

@@ -66,3 +66,15 @@ texts_from (item d ds) = do
 -- a list of texts
 abbrev pub texts_of : Data → Option (List (List ℕ))
 texts_of d = option_and_then texts_from (as_array d)
+
+-- the numbers of items, each of which is one of 32 bits
+abbrev pub numbers_from : Items → Option (List ℕ)
+numbers_from no_items = Some []
+numbers_from (item d ds) = do
+  number ← u32_of d
+  numbers ← numbers_from ds
+  Some (number ∷ numbers)
+
+-- a list of numbers of 32 bits
+abbrev pub numbers_of : Data → Option (List ℕ)
+numbers_of d = option_and_then numbers_from (as_array d)

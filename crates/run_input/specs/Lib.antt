@@ -5,6 +5,7 @@ pub mod PlanHead
 pub mod PlanInterceptor
 pub mod PlanLine
 pub mod PlanRetries
+pub mod PlanScripts
 pub mod PlanTest
 pub mod ReadsValue
 pub mod Refused

@@ -1,6 +1,6 @@
 -- What a plan line says.
 use Rattle.std.specs.Prelude.{ℕ, List, [], ◌∷◌, length, Option, Some, None, option_and_then, if◌then◌else◌, nat_eq, codes}
-use Rattle.std.specs.Prelude.{nat_lt}
+use Rattle.std.specs.Prelude.{◌+◌, nat_lt}
 use Rattle.serde_json.specs.Data.{Data, Items, no_items, item}
 use Rattle.serde_json.specs.Find.{get, as_str, as_array}
 use Rattle.run_capture.specs.declared.test_output.CaptureStrategy.{CaptureStrategy}
@@ -9,6 +9,7 @@ use Rattle.run_commands.specs.declared.interceptor.Interceptor.TheVariants as un
 use Rattle.run_commands.specs.declared.target_runner.TargetRunner.{TargetRunner}
 use Rattle.run_events.specs.declared.plan.Group.{Group}
 use Rattle.run_events.specs.declared.plan.Plan.{Plan}
+use Rattle.run_events.specs.declared.plan.PlanScript.{PlanScript}
 use Rattle.run_events.specs.declared.plan.PlanTest.{PlanTest}
 use Rattle.run_events.specs.declared.plan.RunHead.{RunHead}
 use Rattle.run_events.specs.declared.result.FlakyResult.{FlakyResult}
@@ -25,6 +26,7 @@ use Rattle.run_input.specs.Fields.{◌>>=◌, when, is_object_of, optional, or_u
 use Rattle.run_input.specs.PlanHead.{frame_of}
 use Rattle.run_input.specs.PlanInterceptor.{interceptor_of}
 use Rattle.run_input.specs.PlanRetries.{retries_of, flaky_of}
+use Rattle.run_input.specs.PlanScripts.{scripts_of}
 use Rattle.run_input.specs.PlanTest.{test_of}
 use lib.Pointwise.{pointwise}
 
@@ -152,23 +154,33 @@ plan_groups_of d = do
   _ ← when (nat_lt (length groups) 4294967296)
   Some groups
 
--- the groups and the tests of a plan
-abbrev pub lists_of : Data → Option (List Group × List PlanTest)
+-- the setup scripts of a plan, none where nothing is said, are fewer than 2^32
+abbrev pub plan_scripts_of : Option Data → Option (List PlanScript)
+plan_scripts_of d = do
+  scripts ← or_usual [] scripts_of d
+  _ ← when (nat_lt (length scripts) 4294967296)
+  Some scripts
+
+-- the groups, the setup scripts and the tests of a plan: scripts and tests together are fewer than 2^32
+abbrev pub lists_of : Data → Option (List Group × List PlanScript × List PlanTest)
 lists_of d = do
   groups ← plan_groups_of (get (codes "groups") d)
+  scripts ← plan_scripts_of (get (codes "scripts") d)
   tests ← plan_tests_of (get (codes "tests") d)
-  Some (groups, tests)
+  _ ← when (nat_lt (length scripts + length tests) 4294967296)
+  Some (groups, scripts, tests)
 
--- a plan with these rules, of this head and these runners, with these groups and tests
-abbrev pub plan_with : SignalHandlerKind × Option ℕ → RunHead × TargetRunner → List Group × List PlanTest → Plan
+-- a plan with these rules, of this head and these runners, with these groups, scripts and tests
+abbrev pub plan_with : SignalHandlerKind × Option ℕ → RunHead × TargetRunner
+    → List Group × List PlanScript × List PlanTest → Plan
 plan_with rules frame lists = record {
   head = frame.0;
   hearing = record usual_hearing { signals = rules.0 };
   global_timeout = rules.1;
   groups = lists.0;
   runners = frame.1;
-  scripts = [];
-  tests = lists.1;
+  scripts = lists.1;
+  tests = lists.2;
 }
 
 -- the keys that a plan line may have
@@ -176,8 +188,9 @@ abbrev pub plan_names : List (List ℕ)
 plan_names =
     codes "args" ∷ codes "capture" ∷ codes "flaky_result" ∷ codes "global_timeout" ∷ codes "groups"
     ∷ codes "interceptor" ∷ codes "max_fail" ∷ codes "mode" ∷ codes "nextest_version" ∷ codes "profile"
-    ∷ codes "recommended_version" ∷ codes "required_version" ∷ codes "retries" ∷ codes "run_id" ∷ codes "runners" ∷ codes "signals"
-    ∷ codes "started_at" ∷ codes "tests" ∷ codes "threads" ∷ codes "workspace_root" ∷ []
+    ∷ codes "recommended_version" ∷ codes "required_version" ∷ codes "retries" ∷ codes "run_id" ∷ codes "runners"
+    ∷ codes "scripts" ∷ codes "signals" ∷ codes "started_at" ∷ codes "tests" ∷ codes "threads"
+    ∷ codes "workspace_root" ∷ []
 
 -- the plan, without what is set of a runner
 abbrev pub plan_alone_of : Data → Option Plan

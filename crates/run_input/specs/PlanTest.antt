@@ -16,7 +16,7 @@ use Rattle.run_events.specs.declared.result.SlowTimeoutResult.{SlowTimeoutResult
 use Rattle.run_events.specs.declared.result.SlowTimeoutResult.TheVariants as timeouts
 use Rattle.run_events.specs.declared.retry_policy.RetryPolicy.{RetryPolicy}
 use Rattle.run_events.specs.Usual.{usual_slow, usual_leak, no_retries, usual_test}
-use Rattle.run_input.specs.Fields.{◌>>=◌, when, is_object_of, optional, or_usual, u32_of, u64_of, texts_of}
+use Rattle.run_input.specs.Fields.{◌>>=◌, when, is_object_of, optional, or_usual, u32_of, u64_of, texts_of, numbers_of}
 use Rattle.run_input.specs.PlanRetries.{retries_of, flaky_of}
 use lib.Pointwise.{pointwise}
 
@@ -47,14 +47,14 @@ leak_named name =
 abbrev pub leak_result_of : Data → Option LeakTimeoutResult
 leak_result_of d = option_and_then leak_named (as_str d)
 
--- when a test is slow, and what comes of that, as usual where nothing else is said
-unfoldable pub slow_of : Data → Option SlowTimeout
-slow_of d = do
+-- when something is slow, and what comes of that, as is usual for it where nothing else is said
+unfoldable pub slow_of : SlowTimeout → Data → Option SlowTimeout
+slow_of usual d = do
   _ ← when (is_object_of (codes "grace" ∷ codes "on_timeout" ∷ codes "period" ∷ codes "terminate_after" ∷ []) d)
-  period ← or_usual usual_slow.period u64_of (get (codes "period") d)
+  period ← or_usual usual.period u64_of (get (codes "period") d)
   terminate_after ← optional u32_of (get (codes "terminate_after") d)
-  grace ← or_usual usual_slow.grace u64_of (get (codes "grace") d)
-  on_timeout ← or_usual usual_slow.on_timeout timeout_of (get (codes "on_timeout") d)
+  grace ← or_usual usual.grace u64_of (get (codes "grace") d)
+  on_timeout ← or_usual usual.on_timeout timeout_of (get (codes "on_timeout") d)
   Some (record { period = period; terminate_after = terminate_after; grace = grace; on_timeout = on_timeout })
 
 -- how long open descriptors are waited for, and what a leak counts as, as usual where nothing else is said
@@ -79,7 +79,7 @@ platform_of d = option_and_then platform_named (as_str d)
 abbrev pub terms_of : Data → Option (ℕ × SlowTimeout × LeakTimeout)
 terms_of d = do
   weight ← or_usual 1 u32_of (get (codes "weight") d)
-  slow ← or_usual usual_slow slow_of (get (codes "slow") d)
+  slow ← or_usual usual_slow (slow_of usual_slow) (get (codes "slow") d)
   leak ← or_usual usual_leak leak_of (get (codes "leak") d)
   Some (weight, slow, leak)
 
@@ -90,6 +90,13 @@ trials_of d = do
   flaky ← or_usual flakies.Pass flaky_of (get (codes "flaky") d)
   Some (retries, flaky)
 
+-- the group of a test, and the setup scripts whose variables its child gets, none where nothing is said
+abbrev pub ties_of : Data → Option (Option (List ℕ) × List ℕ)
+ties_of d = do
+  group ← optional as_str (get (codes "group") d)
+  scripts ← or_usual [] numbers_of (get (codes "scripts") d)
+  Some (group, scripts)
+
 -- a test with its name and its command, and the reason for which it is skipped where it doesn't match
 abbrev pub named_of : Data → Option PlanTest
 named_of d = do
@@ -98,15 +105,16 @@ named_of d = do
   skip ← optional as_str (get (codes "skip") d)
   Some (usual_test id command skip)
 
--- a test in its group, for its platform, with its weight, its time-outs and its retries
+-- a test in its group, for its platform, with its weight, its time-outs, its retries and its scripts
 unfoldable pub test_of : Data → Option PlanTest
 test_of d = do
   _ ← when (is_object_of (codes "binary" ∷ codes "command" ∷ codes "flaky" ∷ codes "group" ∷ codes "leak"
-      ∷ codes "name" ∷ codes "platform" ∷ codes "retries" ∷ codes "skip" ∷ codes "slow" ∷ codes "weight" ∷ []) d)
+      ∷ codes "name" ∷ codes "platform" ∷ codes "retries" ∷ codes "scripts" ∷ codes "skip" ∷ codes "slow"
+      ∷ codes "weight" ∷ []) d)
   terms ← terms_of d
   trials ← trials_of d
   platform ← or_usual platforms.Target platform_of (get (codes "platform") d)
-  group ← optional as_str (get (codes "group") d)
+  ties ← ties_of d
   test ← named_of d
   Some (record test {
     weight = terms.0;
@@ -114,6 +122,7 @@ test_of d = do
     leak = terms.2;
     retries = trials.0;
     flaky = trials.1;
-    group = group;
+    group = ties.0;
+    scripts = ties.1;
     platform = platform;
   })

@@ -4,6 +4,7 @@ ghost use Rattle.std.specs.Prelude.{◌≡◌, [], List, ℕ, option_map, option
 ghost use Rattle.serde_json.specs.Find.{as_str};
 ghost use Rattle.serde_json.specs.View.{view, items_view};
 ghost use Rattle.run_input.specs.Fields.{optional, or_usual, u32_of, u64_of, truth_of, i32_of, texts_of, texts_from};
+ghost use Rattle.run_input.specs.Fields.{numbers_of, numbers_from};
 ghost use Rattle.run_input.specs.ReadsValue.{ReadsValue};
 
 use crate::LineError;
@@ -60,6 +61,16 @@ pub fn truth_at(value: Option<&Value>) -> Option<bool>
     ensures { result ≡ option_and_then truth_of (option_map (λ v. view v.now) value.entry) }
 {
     value?.as_bool()
+}
+
+/// A truth value, and the usual one where it is missing.
+pub fn truth_or(usual: bool, value: Option<&Value>) -> Option<bool>
+    ensures { result ≡ or_usual usual truth_of (option_map (λ v. view v.now) value.entry) }
+{
+    match value {
+        Some(_) => truth_at(value),
+        None => Some(usual),
+    }
 }
 
 /// A whole number from -2147483648 to 2147483647.
@@ -142,6 +153,31 @@ pub fn texts_or_none(alloc: Global, value: Option<&Value>) -> Result<List<Text>,
 {
     match value {
         Some(_) => texts_at(alloc, value),
+        None => Ok(List::new()),
+    }
+}
+
+// The numbers of a list, each from 0 to 4294967295.
+fn numbers_in(alloc: Global, items: &[Value]) -> Result<List<u32>, LineError>
+    ensures { ReadsValue result (numbers_from (items_view items.now)) }
+{
+    let mut numbers = List::new();
+    for item in items {
+        let number = u32_at(Some(item)).ok_or(LineError::NotInTable)?;
+        numbers.push(alloc, number)?;
+    }
+    Ok(numbers)
+}
+
+/// A list of whole numbers from 0 to 4294967295, and none where it is missing.
+pub fn numbers_or_none(alloc: Global, value: Option<&Value>) -> Result<List<u32>, LineError>
+    ensures { ReadsValue result (or_usual [] numbers_of (option_map (λ v. view v.now) value.entry)) }
+{
+    match value {
+        Some(list) => match list.as_array() {
+            Some(items) => numbers_in(alloc, items.as_slice()),
+            None => Err(LineError::NotInTable),
+        },
         None => Ok(List::new()),
     }
 }

@@ -17,6 +17,7 @@ mod plan_keys;
 mod plan_line;
 mod plan_retries;
 mod plan_runners;
+mod plan_scripts;
 mod plan_test;
 mod reading;
 mod turn_fields;

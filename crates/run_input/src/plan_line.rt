@@ -1,12 +1,12 @@
 // The plan line: the first line of an input.
-ghost use Rattle.std.specs.Prelude.{◌≡◌, [], option_map, option_and_then};
+ghost use Rattle.std.specs.Prelude.{◌≡◌, [], ◌+◌, length, nat_lt, option_map, option_and_then};
 ghost use Rattle.serde_json.specs.View.{view, items_view};
 ghost use Rattle.run_input.specs.ReadsValue.{ReadsValue};
 ghost use Rattle.run_input.specs.ValueOf.{value_of};
 ghost use Rattle.run_input.specs.PlanLine.{tests_of, tests_from, plan_tests_of, groups_of, groups_from, plan_groups_of};
 ghost use Rattle.run_input.specs.PlanLine.{group_of, limits_of, retrying_of, keys_of, rules_of, lists_of};
-ghost use Rattle.run_input.specs.PlanLine.{plan_with, plan_alone_of, plan_of};
-ghost use Rattle.run_input.specs.Fields.{or_usual};
+ghost use Rattle.run_input.specs.PlanLine.{plan_scripts_of, plan_with, plan_alone_of, plan_of};
+ghost use Rattle.run_input.specs.Fields.{or_usual, when};
 
 use crate::LineError;
 use crate::both::both;
@@ -16,12 +16,14 @@ use crate::plan_head::frame_from;
 use crate::plan_interceptor::interceptor_at;
 use crate::plan_keys::{capture_at, max_fail_at, signals_at};
 use crate::plan_retries::{optional_flaky_at, optional_retries_at};
+use crate::plan_scripts::scripts_at;
 use crate::plan_test::test_from;
 use crate::value::read_value;
 use run_capture::{CaptureStrategy, List};
 use run_commands::{Interceptor, TargetRunner};
 use run_events::{
-    FlakyResult, Group, Hearing, MaxFail, Plan, PlanTest, RetryPolicy, RunHead, SignalHandlerKind,
+    FlakyResult, Group, Hearing, MaxFail, Plan, PlanScript, PlanTest, RetryPolicy, RunHead,
+    SignalHandlerKind,
 };
 use serde_json::Value;
 use std::alloc::Global;
@@ -45,19 +47,23 @@ pub struct RunnerKeys {
 /// Its keys are `run_id` (a UUID) and `tests` (a list of tests, which may be empty), and it may have `capture` (the
 /// text `none`, `split` or `combined`; `split` where it is missing), `threads` (a number), `max_fail`, `retries` and
 /// `flaky_result` (each replaces that of every test), `signals` (the text `standard`, `debugger` or `noop`; `standard`
-/// where it is missing), `global_timeout` (a number) and `groups` (a list of groups). It may also have `profile`,
-/// `workspace_root`, `args` (a list of texts), `mode` (the text `test` or `benchmark`), `started_at` (a moment),
-/// `nextest_version`, `required_version` and `recommended_version` (versions), and `runners`, which may have `host` and
-/// `target` (each a program with its arguments); what is missing is as usual. `max_fail` has `count` (a number) and
-/// `mode` (the text `wait` or `immediate`). A group has `limit` (a number) and `name`. A test has `binary`, `command` and
-/// `name`, and may have `group` (the name of one), `leak`, `platform` (the text `target` or `host`; `target` where it is
-/// missing), `skip` (the reason for which it is skipped), `slow`, `weight` (a number, 1 where it is missing), `retries`
-/// and `flaky` (the text `pass` or `fail`, as `flaky_result`; `pass` where it is missing). `slow` may have `grace`,
+/// where it is missing), `global_timeout` (a number), `groups` (a list of groups) and `scripts` (a list of setup
+/// scripts). It may also have `profile`, `workspace_root`, `args` (a list of texts), `mode` (the text `test` or
+/// `benchmark`), `started_at` (a moment), `nextest_version`, `required_version` and `recommended_version` (versions),
+/// and `runners`, which may have `host` and `target` (each a program with its arguments); what is missing is as usual.
+/// `max_fail` has `count` (a number) and `mode` (the text `wait` or `immediate`). A group has `limit` (a number) and
+/// `name`. A script has `command` (a list of texts) and `id`, and may have `env_path` (empty where it is missing),
+/// `capture_stdout` and `capture_stderr` (truth values, `true` where they are missing), `leak` and `slow`. A test has
+/// `binary`, `command` and `name`, and may have `group` (the name of one), `leak`, `platform` (the text `target` or
+/// `host`; `target` where it is missing), `scripts` (a list of numbers, each of a script; none where it is missing),
+/// `skip` (the reason for which it is skipped), `slow`, `weight` (a number, 1 where it is missing), `retries` and
+/// `flaky` (the text `pass` or `fail`, as `flaky_result`; `pass` where it is missing). `slow` may have `grace`,
 /// `on_timeout` (the text `fail` or `pass`), `period` and `terminate_after`, and `leak` may have `period` and `result`
-/// (the text `fail` or `pass`); what is missing is as usual. `retries` has `count` (a number), and may have `delay` (0
-/// where it is missing), `jitter` (`false` where it is missing), `backoff` (the text `fixed` or `exponential`; `fixed`
-/// where it is missing) and, where it is exponential, `max_delay`. `interceptor` may be there too, and has `command` (a
-/// text with a word at least, as a shell splits it) and `kind` (the text `debugger` or `tracer`).
+/// (the text `fail` or `pass`); what is missing is as usual for a test or a script. `retries` has `count` (a number), and
+/// may have `delay` (0 where it is missing), `jitter` (`false` where it is missing), `backoff` (the text `fixed` or
+/// `exponential`; `fixed` where it is missing) and, where it is exponential, `max_delay`. `interceptor` may be there
+/// too, and has `command` (a text with a word at least, as a shell splits it) and `kind` (the text `debugger` or
+/// `tracer`).
 pub fn read_plan_line(alloc: Global, line: &[u8]) -> Result<(RunnerKeys, Plan), LineError>
     ensures { ReadsValue result (option_and_then plan_of (value_of line.now)) }
 {
@@ -67,7 +73,7 @@ pub fn read_plan_line(alloc: Global, line: &[u8]) -> Result<(RunnerKeys, Plan), 
     }
 }
 
-/// The most groups, and the most tests, that a plan may have. No input within its limit has as many.
+/// The most groups that a plan may have, and the most scripts and tests together. No input within its limit has as many.
 const MOST: usize = 4_294_967_295;
 
 #[tactic(auto, unfolding(crate::specs::PlanLine::plan_of))]
@@ -92,6 +98,7 @@ fn plan_from(alloc: Global, value: &Value) -> Result<(RunnerKeys, Plan), LineErr
             "retries",
             "run_id",
             "runners",
+            "scripts",
             "signals",
             "started_at",
             "tests",
@@ -160,17 +167,17 @@ fn rules_from(value: &Value) -> Option<(SignalHandlerKind, Option<u64>)>
     Some((signals, global_timeout))
 }
 
-// A plan with these rules, of this head and these runners, with these groups and tests.
+// A plan with these rules, of this head and these runners, with these groups, scripts and tests.
 fn plan_with(
     rules: (SignalHandlerKind, Option<u64>),
     frame: (RunHead, TargetRunner),
-    lists: (List<Group>, List<PlanTest>),
+    lists: (List<Group>, List<PlanScript>, List<PlanTest>),
 ) -> Plan
     ensures { result ≡ plan_with rules frame lists }
 {
     let (signals, global_timeout) = rules;
     let (head, runners) = frame;
-    let (groups, tests) = lists;
+    let (groups, scripts, tests) = lists;
     let mut hearing = Hearing::usual();
     hearing.signals = signals;
     Plan {
@@ -179,18 +186,45 @@ fn plan_with(
         global_timeout,
         groups,
         runners,
-        scripts: List::new(),
+        scripts,
         tests,
     }
 }
 
-// The groups and the tests of a plan.
-fn lists_from(alloc: Global, value: &Value) -> Result<(List<Group>, List<PlanTest>), LineError>
+// The groups, the setup scripts and the tests of a plan: scripts and tests together are fewer than 2^32.
+fn lists_from(
+    alloc: Global,
+    value: &Value,
+) -> Result<(List<Group>, List<PlanScript>, List<PlanTest>), LineError>
     ensures { ReadsValue result (lists_of (view value.now)) }
 {
     let groups = groups_of_plan(alloc, value.get("groups"))?;
+    let scripts = scripts_of_plan(alloc, value.get("scripts"))?;
     let tests = tests_of_plan(alloc, value.get("tests"))?;
-    Ok((groups, tests))
+    all_lists(groups, scripts, tests)
+}
+
+// These lists, where scripts and tests are together fewer than 2^32.
+fn all_lists(
+    groups: List<Group>,
+    scripts: List<PlanScript>,
+    tests: List<PlanTest>,
+) -> Result<(List<Group>, List<PlanScript>, List<PlanTest>), LineError>
+    ensures { ReadsValue result (option_map (λ _. (groups, scripts, tests))
+        (when (nat_lt (length scripts + length tests) 4294967296))) }
+{
+    if are_few(scripts.len(), tests.len()) {
+        Ok((groups, scripts, tests))
+    } else {
+        Err(LineError::NotInTable)
+    }
+}
+
+// Whether so many scripts and so many tests are together fewer than 2^32.
+fn are_few(scripts: usize, tests: usize) -> bool
+    ensures { result ≡ nat_lt (scripts + tests) 4294967296 }
+{
+    scripts <= MOST && tests <= MOST - scripts
 }
 
 // The groups of a plan, which are fewer than 2^32.
@@ -202,6 +236,18 @@ fn groups_of_plan(alloc: Global, value: Option<&Value>) -> Result<List<Group>, L
         Err(LineError::NotInTable)
     } else {
         Ok(groups)
+    }
+}
+
+// The setup scripts of a plan, which are fewer than 2^32.
+fn scripts_of_plan(alloc: Global, value: Option<&Value>) -> Result<List<PlanScript>, LineError>
+    ensures { ReadsValue result (plan_scripts_of (option_map (λ v. view v.now) value.entry)) }
+{
+    let scripts = scripts_at(alloc, value)?;
+    if scripts.len() > MOST {
+        Err(LineError::NotInTable)
+    } else {
+        Ok(scripts)
     }
 }
 

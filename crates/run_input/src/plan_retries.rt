@@ -1,12 +1,12 @@
 // How often a test of a plan line is tried again, and what a pass after a failed attempt counts as.
-ghost use Rattle.std.specs.Prelude.{◌≡◌, Bool, option_map, option_and_then, false};
+ghost use Rattle.std.specs.Prelude.{◌≡◌, option_map, option_and_then, false};
 ghost use Rattle.serde_json.specs.View.{view};
 ghost use Rattle.run_events.specs.Usual.{no_retries};
 ghost use Rattle.run_events.specs.declared.result.FlakyResult.TheVariants.{Pass};
-ghost use Rattle.run_input.specs.Fields.{optional, or_usual, truth_of};
+ghost use Rattle.run_input.specs.Fields.{optional, or_usual};
 ghost use Rattle.run_input.specs.PlanRetries.{grows_of, fixed_of, exponential_of, retries_of, flaky_of};
 
-use crate::fields::{optional_u64_at, str_at, truth_at, u32_at, u64_or};
+use crate::fields::{optional_u64_at, str_at, truth_or, u32_at, u64_or};
 use crate::objects::has_keys_of;
 use run_events::{FlakyResult, RetryPolicy};
 use serde_json::Value;
@@ -76,16 +76,6 @@ fn exponential_from(value: &Value) -> Option<RetryPolicy>
         jitter,
         max_delay,
     })
-}
-
-// A truth value, and the usual one where it is missing.
-fn truth_or(usual: bool, value: Option<&Value>) -> Option<bool>
-    ensures { result ≡ or_usual usual truth_of (option_map (λ v. view v.now) value.entry) }
-{
-    match value {
-        Some(_) => truth_at(value),
-        None => Some(usual),
-    }
 }
 
 // Whether the delays grow, and that they don't where nothing is said.

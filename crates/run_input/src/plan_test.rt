@@ -1,19 +1,21 @@
 // A test of a plan line.
 ghost use Rattle.std.specs.Prelude.{◌≡◌, option_map, option_and_then};
 ghost use Rattle.serde_json.specs.View.{view};
-ghost use Rattle.run_events.specs.Usual.{usual_slow, usual_leak};
+ghost use Rattle.run_events.specs.Usual.{usual_leak};
 ghost use Rattle.run_input.specs.ReadsValue.{ReadsValue};
 ghost use Rattle.run_commands.specs.declared.target_runner.BuildPlatform.TheVariants as platforms;
-ghost use Rattle.run_input.specs.PlanTest.{id_of, named_of, platform_of, terms_of, test_of, trials_of};
+ghost use Rattle.run_input.specs.PlanTest.{id_of, named_of, platform_of, terms_of, test_of, ties_of, trials_of};
 ghost use Rattle.run_input.specs.PlanTest.{slow_of, leak_of, timeout_of, leak_result_of};
 ghost use Rattle.run_input.specs.Fields.{u32_of, or_usual};
 
 use crate::LineError;
 use crate::both::both;
-use crate::fields::{optional_text_at, optional_u32_at, str_at, text_at, texts_at, u32_at, u64_or};
+use crate::fields::{
+    numbers_or_none, optional_text_at, optional_u32_at, str_at, text_at, texts_at, u32_at, u64_or,
+};
 use crate::objects::has_keys_of;
 use crate::plan_retries::{flaky_at, retries_at};
-use run_capture::Text;
+use run_capture::{List, Text};
 use run_commands::BuildPlatform;
 use run_events::{
     FlakyResult, LeakTimeout, LeakTimeoutResult, PlanTest, RetryPolicy, SlowTimeout,
@@ -30,8 +32,8 @@ pub fn test_from(alloc: Global, value: &Value) -> Result<PlanTest, LineError>
     if !has_keys_of(
         value,
         &[
-            "binary", "command", "flaky", "group", "leak", "name", "platform", "retries", "skip",
-            "slow", "weight",
+            "binary", "command", "flaky", "group", "leak", "name", "platform", "retries",
+            "scripts", "skip", "slow", "weight",
         ],
     ) {
         return Err(LineError::NotInTable);
@@ -39,18 +41,18 @@ pub fn test_from(alloc: Global, value: &Value) -> Result<PlanTest, LineError>
     let terms = terms_from(value).ok_or(LineError::NotInTable)?;
     let trials = trials_from(value).ok_or(LineError::NotInTable)?;
     let platform = platform_at(value.get("platform")).ok_or(LineError::NotInTable)?;
-    let group = optional_text_at(alloc, value.get("group"))?;
-    let (group, test) = both(group, named_from(alloc, value))?;
-    Ok(set(test, terms, trials, platform, group))
+    let ties = ties_from(alloc, value)?;
+    let (ties, test) = both(ties, named_from(alloc, value))?;
+    Ok(set(test, terms, trials, platform, ties))
 }
 
-// A test of this weight, with these time-outs and retries, for this platform, in this group.
+// A test of this weight, with these time-outs and retries, for this platform, in this group, with these scripts.
 fn set(
     test: PlanTest,
     terms: (u32, SlowTimeout, LeakTimeout),
     trials: (RetryPolicy, FlakyResult),
     platform: BuildPlatform,
-    group: Option<Text>,
+    ties: (Option<Text>, List<u32>),
 ) -> PlanTest
     ensures { result ≡ record test {
       weight = terms.0;
@@ -58,7 +60,8 @@ fn set(
       leak = terms.2;
       retries = trials.0;
       flaky = trials.1;
-      group = group;
+      group = ties.0;
+      scripts = ties.1;
       platform = platform;
     } }
 {
@@ -66,7 +69,7 @@ fn set(
     (test.weight, test.slow, test.leak) = terms;
     (test.retries, test.flaky) = trials;
     test.platform = platform;
-    test.group = group;
+    (test.group, test.scripts) = ties;
     test
 }
 
@@ -99,6 +102,15 @@ fn trials_from(value: &Value) -> Option<(RetryPolicy, FlakyResult)>
     Some((retries, flaky))
 }
 
+// The group of a test, and its setup scripts by number.
+fn ties_from(alloc: Global, value: &Value) -> Result<(Option<Text>, List<u32>), LineError>
+    ensures { ReadsValue result (ties_of (view value.now)) }
+{
+    let group = optional_text_at(alloc, value.get("group"))?;
+    let scripts = numbers_or_none(alloc, value.get("scripts"))?;
+    Ok((group, scripts))
+}
+
 // The name of a test, its command, and why it is skipped.
 fn named_from(alloc: Global, value: &Value) -> Result<PlanTest, LineError>
     ensures { ReadsValue result (named_of (view value.now)) }
@@ -114,7 +126,7 @@ fn terms_from(value: &Value) -> Option<(u32, SlowTimeout, LeakTimeout)>
     ensures { result ≡ terms_of (view value.now) }
 {
     let weight = weight_at(value.get("weight"))?;
-    let slow = slow_at(value.get("slow"))?;
+    let slow = slow_or(SlowTimeout::usual(), value.get("slow"))?;
     let leak = leak_at(value.get("leak"))?;
     Some((weight, slow, leak))
 }
@@ -138,28 +150,27 @@ fn id_from(alloc: Global, value: &Value) -> Result<TestInstanceId, LineError>
     Ok(TestInstanceId { binary, name })
 }
 
-// When a test is slow, and as usual where nothing is said.
-fn slow_at(value: Option<&Value>) -> Option<SlowTimeout>
-    ensures { result ≡ or_usual usual_slow slow_of (option_map (λ v. view v.now) value.entry) }
+/// When a test or a script is slow, and as is usual for it where nothing is said.
+pub fn slow_or(usual: SlowTimeout, value: Option<&Value>) -> Option<SlowTimeout>
+    ensures { result ≡ or_usual usual (slow_of usual) (option_map (λ v. view v.now) value.entry) }
 {
     match value {
-        Some(slow) => slow_from(slow),
-        None => Some(SlowTimeout::usual()),
+        Some(slow) => slow_from(usual, slow),
+        None => Some(usual),
     }
 }
 
 #[tactic(auto, unfolding(crate::specs::PlanTest::slow_of))]
-fn slow_from(value: &Value) -> Option<SlowTimeout>
-    ensures { result ≡ slow_of (view value.now) }
+fn slow_from(usual: SlowTimeout, value: &Value) -> Option<SlowTimeout>
+    ensures { result ≡ slow_of usual (view value.now) }
 {
     if !has_keys_of(value, &["grace", "on_timeout", "period", "terminate_after"]) {
         return None;
     }
-    let usual = SlowTimeout::usual();
     let period = u64_or(usual.period, value.get("period"))?;
     let terminate_after = optional_u32_at(value.get("terminate_after"))?;
     let grace = u64_or(usual.grace, value.get("grace"))?;
-    let on_timeout = timeout_at(value.get("on_timeout"))?;
+    let on_timeout = timeout_or(usual.on_timeout, value.get("on_timeout"))?;
     Some(SlowTimeout {
         period,
         terminate_after,
@@ -168,13 +179,13 @@ fn slow_from(value: &Value) -> Option<SlowTimeout>
     })
 }
 
-// What a time-out counts as, and as usual where nothing is said.
-fn timeout_at(value: Option<&Value>) -> Option<SlowTimeoutResult>
-    ensures { result ≡ or_usual usual_slow.on_timeout timeout_of (option_map (λ v. view v.now) value.entry) }
+// What a time-out counts as, and the usual result where nothing is said.
+fn timeout_or(usual: SlowTimeoutResult, value: Option<&Value>) -> Option<SlowTimeoutResult>
+    ensures { result ≡ or_usual usual timeout_of (option_map (λ v. view v.now) value.entry) }
 {
     match value {
         Some(_) => named_timeout(value),
-        None => Some(SlowTimeout::usual().on_timeout),
+        None => Some(usual),
     }
 }
 
@@ -188,8 +199,8 @@ fn named_timeout(value: Option<&Value>) -> Option<SlowTimeoutResult>
     }
 }
 
-// How long open descriptors are waited for, and as usual where nothing is said.
-fn leak_at(value: Option<&Value>) -> Option<LeakTimeout>
+/// How long open descriptors are waited for, and as usual where nothing is said.
+pub fn leak_at(value: Option<&Value>) -> Option<LeakTimeout>
     ensures { result ≡ or_usual usual_leak leak_of (option_map (λ v. view v.now) value.entry) }
 {
     match value {

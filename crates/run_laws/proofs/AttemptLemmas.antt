@@ -6,10 +6,10 @@ use Rattle.run_capture.specs.Captured.{with_wait_error}
 use Rattle.run_events.specs.declared.request.Request.{Request}
 use Rattle.run_model.specs.declared.phase.Phase.{Phase}
 use Rattle.run_model.specs.declared.phase.Phase.TheVariants.{StartSent, Starting, Running, Grace, KillWait, Leak}
-use Rattle.run_model.specs.declared.phase.Phase.TheVariants.{Deciding, Delay, RetrySent}
+use Rattle.run_model.specs.declared.phase.Phase.TheVariants.{EnvWait, Deciding, Delay, RetrySent}
 use Rattle.run_model.specs.declared.unit_turn.UnitTurn.{UnitTurn}
 use Rattle.run_model.specs.declared.unit_turn.UnitTurn.TheVariants.{Answered, Started, StartFailed, Exit, WaitFailed}
-use Rattle.run_model.specs.declared.unit_turn.UnitTurn.TheVariants.{Piece, StreamEnd, ReadError, Due, Take, Decide}
+use Rattle.run_model.specs.declared.unit_turn.UnitTurn.TheVariants.{Piece, StreamEnd, ReadError, Env, Due, Take, Decide}
 use Rattle.run_model.specs.declared.unit_view.AttemptTerms.{AttemptTerms}
 use Rattle.run_model.specs.declared.unit_view.UnitView.{UnitView}
 use Rattle.run_model.specs.Unit.{at_moment, row, row_at, takes, takes_at}
@@ -21,7 +21,7 @@ use Rattle.run_laws.proofs.PieceLemmas.{quiet_said}
 use Rattle.run_laws.proofs.GoingLemmas.{past_refused}
 use Rattle.run_laws.proofs.MadeLemmas.{later_pieces, made_lined}
 use Rattle.run_laws.proofs.RowLemmas.{made_more, exit_made, heard_running, heard_made, started_made}
-use Rattle.run_laws.proofs.RowLemmas.{begun_made, decide_made, retried_made, left_made}
+use Rattle.run_laws.proofs.RowLemmas.{begun_made, read_made, decide_made, retried_made, left_made}
 use Rattle.run_laws.proofs.DueLemmas.{leaked_made, killed_due, slow_made}
 use Rattle.run_laws.proofs.RequestLemmas.{take_running, take_grace, take_leak, take_delay}
 pub use Rattle.run_laws.proofs.MadeLemmas.{HasPieces, IsMade, made_first, made_statuses, made_ended, made_last, made_due}
@@ -52,42 +52,44 @@ row_made now Running Due before u (cut piece [] ∷ earlier) same en is le a st 
 row_made now Running Take before u (cut piece [] ∷ earlier) same en is le a st h =
     take_running now u.line u piece earlier is le a h
 row_made now Running (Exit exit) before u (cut piece [] ∷ earlier) same en is le a st h =
-    exit_made Running now (Some exit) u.capture (Exit exit) u piece earlier le a h refl refl refl refl refl
+    exit_made Running now (Some exit) u.capture (Exit exit) u piece earlier le a h refl refl refl refl refl refl
 row_made now Running (WaitFailed error) before u (cut piece [] ∷ earlier) same en is le a st h =
     exit_made Running now None (with_wait_error u.capture error) (WaitFailed error) u piece earlier le a h refl refl refl
-    refl refl
+    refl refl refl
 row_made now Running (Piece stream bytes) before u (cut piece [] ∷ earlier) same en is le a st h =
-    heard_running Running now (Piece stream bytes) u piece earlier (λ h. h) is a h refl refl refl refl refl refl
+    heard_running Running now (Piece stream bytes) u piece earlier (λ h. h) is a h refl refl refl refl refl refl refl
 row_made now Running (StreamEnd stream) before u (cut piece [] ∷ earlier) same en is le a st h =
-    heard_running Running now (StreamEnd stream) u piece earlier (λ h. h) is a h refl refl refl refl refl refl
+    heard_running Running now (StreamEnd stream) u piece earlier (λ h. h) is a h refl refl refl refl refl refl refl
 row_made now Running (ReadError stream error) before u (cut piece [] ∷ earlier) same en is le a st h =
-    heard_running Running now (ReadError stream error) u piece earlier (λ h. h) is a h refl refl refl refl refl refl
+    heard_running Running now (ReadError stream error) u piece earlier (λ h. h) is a h refl refl refl refl refl refl refl
 row_made now Grace Due before u (cut piece [] ∷ earlier) same en is le a st h = killed_due now u piece earlier a h
 row_made now Grace Take before u (cut piece [] ∷ earlier) same en is le a st h = take_grace now u.line u piece earlier is a h
 row_made now Grace (Exit exit) before u (cut piece [] ∷ earlier) same en is le a st h =
-    exit_made Grace now (Some exit) u.capture (Exit exit) u piece earlier le a h refl refl refl refl refl
+    exit_made Grace now (Some exit) u.capture (Exit exit) u piece earlier le a h refl refl refl refl refl refl
 row_made now Grace (WaitFailed error) before u (cut piece [] ∷ earlier) same en is le a st h =
     exit_made Grace now None (with_wait_error u.capture error) (WaitFailed error) u piece earlier le a h refl refl refl
-    refl refl
+    refl refl refl
 row_made now Grace (Piece stream bytes) before u (cut piece [] ∷ earlier) same en is le a st h =
-    heard_running Grace now (Piece stream bytes) u piece earlier (λ h. h) is a h refl refl refl refl refl refl
+    heard_running Grace now (Piece stream bytes) u piece earlier (λ h. h) is a h refl refl refl refl refl refl refl
 row_made now Grace (StreamEnd stream) before u (cut piece [] ∷ earlier) same en is le a st h =
-    heard_running Grace now (StreamEnd stream) u piece earlier (λ h. h) is a h refl refl refl refl refl refl
+    heard_running Grace now (StreamEnd stream) u piece earlier (λ h. h) is a h refl refl refl refl refl refl refl
 row_made now Grace (ReadError stream error) before u (cut piece [] ∷ earlier) same en is le a st h =
-    heard_running Grace now (ReadError stream error) u piece earlier (λ h. h) is a h refl refl refl refl refl refl
+    heard_running Grace now (ReadError stream error) u piece earlier (λ h. h) is a h refl refl refl refl refl refl refl
 row_made now KillWait (Exit exit) before u (cut piece [] ∷ earlier) same en is le a st h =
-    exit_made KillWait now (Some exit) u.capture (Exit exit) u piece earlier le a h refl refl refl refl refl
+    exit_made KillWait now (Some exit) u.capture (Exit exit) u piece earlier le a h refl refl refl refl refl refl
 row_made now KillWait (WaitFailed error) before u (cut piece [] ∷ earlier) same en is le a st h =
     exit_made KillWait now None (with_wait_error u.capture error) (WaitFailed error) u piece earlier le a h refl refl refl
-    refl refl
+    refl refl refl
 row_made now Leak (Piece stream bytes) before u (cut piece [] ∷ earlier) same en is le a st h =
-    heard_made now (Piece stream bytes) u piece earlier is a h refl refl refl refl refl refl
+    heard_made now (Piece stream bytes) u piece earlier is a h refl refl refl refl refl refl refl
 row_made now Leak (StreamEnd stream) before u (cut piece [] ∷ earlier) same en is le a st h =
-    heard_made now (StreamEnd stream) u piece earlier is a h refl refl refl refl refl refl
+    heard_made now (StreamEnd stream) u piece earlier is a h refl refl refl refl refl refl refl
 row_made now Leak (ReadError stream error) before u (cut piece [] ∷ earlier) same en is le a st h =
-    heard_made now (ReadError stream error) u piece earlier is a h refl refl refl refl refl refl
+    heard_made now (ReadError stream error) u piece earlier is a h refl refl refl refl refl refl refl
 row_made now Leak Take before u (cut piece [] ∷ earlier) same en is le a st h = take_leak now u.line u piece earlier is a h
 row_made now Leak Due before u (cut piece [] ∷ earlier) same en is le a st h = leaked_made now u piece earlier a h
+row_made now EnvWait (Env input) before u (cut piece [] ∷ earlier) same en is le a st (on, ss) =
+    read_made now input u piece earlier a st on ss
 row_made now Deciding (Decide word) before u (cut piece [] ∷ earlier) same en is le a st h =
     decide_made now word u piece earlier le a st h
 row_made now Delay Due before u (cut piece (d ∷ after) ∷ earlier) same en is le a st h =

@@ -1,5 +1,5 @@
 -- The board after one more turn: a field at a time.
-use Rattle.std.proofs.Common.{◌≡◌, ◌≢◌, ◌⊎◌, inl, inr, ℕ, add-zero, ◌+◌, ◌<◌, ◌==◌, ◌||◌, List, [], ◌∷◌, ◌++◌, length}
+use Rattle.std.proofs.Common.{◌≡◌, ◌≢◌, ◌⊎◌, inl, inr, ℕ, add-zero, ◌+◌, ◌<◌, ◌≤◌, ◌==◌, ◌||◌, List, [], ◌∷◌, ◌++◌, length}
 use Rattle.std.proofs.Common.{get_or, set, Bool, true, false, if◌then◌else◌, Option, Some, None, option_map, option_to_list}
 use Rattle.std.proofs.Common.{filter_map, count_by, sum_by, cond, refl, ap, sym, subst, ◌∙◌, arith, get_or-set_other}
 use Rattle.std.proofs.Math.ListN.{length-set}
@@ -9,8 +9,9 @@ use Rattle.std.proofs.lemmas.List.FromFn.{fill_by_all}
 use Rattle.std.proofs.lemmas.Grind.{get_or-set_at}
 use Rattle.std.proofs.lemmas.List.Sums.{sum_by-append, sum_by-cons}
 use Rattle.run_events.specs.Cancel.{greater}
-use Rattle.run_events.specs.Stats.{FinishedTest, adds_of, total_by}
-use Rattle.run_events.proofs.StatsLemmas.{total_push}
+use Rattle.run_events.specs.Stats.{plus, total_by}
+use Rattle.run_events.proofs.StatsLemmas.{total_by_push}
+use Rattle.run_events.specs.declared.stats.RunStats.{RunStats}
 use Rattle.run_events.specs.declared.settings.Settings.{Settings}
 use Rattle.run_events.specs.declared.turn.Turn.{Turn}
 use Rattle.run_events.specs.declared.cancel.CancelReason.{CancelReason}
@@ -19,7 +20,7 @@ use Rattle.run_events.specs.declared.events.ReporterEvent.{ReporterEvent}
 use Rattle.run_events.specs.declared.events.ReporterEvent.TheVariants.{Tick, Test}
 use Rattle.run_events.specs.declared.events.TestEventKind.{TestEventKind}
 use Rattle.run_events.specs.declared.events.TestEventKind.TheVariants.{RunBeginCancel, RunBeginKill, TestStarted, TestFinished}
-use Rattle.run_events.specs.declared.events.TestEventKind.TheVariants.{TestSkipped}
+use Rattle.run_events.specs.declared.events.TestEventKind.TheVariants.{TestSkipped, SetupScriptStarted, SetupScriptFinished}
 use Rattle.run_model.specs.declared.dispatcher_view.Tally.{Tally}
 use Rattle.run_model.specs.declared.entry.Entry.{Entry}
 use Rattle.run_model.specs.declared.happening.Happening.{Happening}
@@ -28,9 +29,11 @@ use Rattle.run_model.specs.declared.happening.UnitPart.TheVariants.{Joins, Acts}
 use Rattle.run_model.specs.declared.unit_view.UnitView.{UnitView}
 use Rattle.run_model.specs.Unit.{row}
 use Rattle.run_model.specs.Words.{clock, ns_of, is_over, sub_run, told, reason, unit_after, unit_of, units, finish_of}
-use Rattle.run_model.specs.Words.{finished_test, skips, stats_after, tally, was_refused, is_by_signal, is_by_report}
+use Rattle.run_model.specs.Words.{FinishedUnit, a_test, a_script, adds_by, finished_test, skips, stats_after, tally}
+use Rattle.run_model.specs.Words.{was_refused, is_by_signal, is_by_report}
 use Rattle.run_model.specs.Words.{is_by_time, signals_heard, was_reported, armed, time_limit, global_timer, causes_of}
-use Rattle.run_model.specs.Admission.{units_in}
+use Rattle.run_model.specs.Environment.{number}
+use Rattle.run_model.specs.Admission.{scripts_in, tests_in, units_in}
 use Rattle.run_model.specs.Unit.{reached, reach}
 use Rattle.run_model.specs.Dispatch.{rules_of, tallied, having_told}
 use Rattle.run_model.specs.Board.{Board, Deed, deed_events, board, said, units_after, reach_all, causes_after, with_cause}
@@ -38,7 +41,7 @@ use Rattle.run_model.specs.Board.{step, answered}
 use Rattle.run_model.specs.Turns.{nothing_done, enabled, deed_on, happening}
 use Rattle.run_model.specs.Journal.{history, IsLegalBackward}
 use Rattle.run_laws.proofs.Queue.{queue-cons}
-use Rattle.run_laws.proofs.Running.{running_in_told, running-started, running-finished, running-kept}
+use Rattle.run_laws.proofs.Running.{running_in_told, running-started, running-finished, running-apart, running-kept}
 use Rattle.run_laws.proofs.OnBoard.{board_of, units-length, units-at}
 use Rattle.run_laws.proofs.Cancels.{IsCancel, IsCancelKind, cancel_is}
 use Rattle.run_laws.proofs.Deeds.{ToldFits, ToldFitsIn, Does}
@@ -48,15 +51,15 @@ use Rattle.run_laws.proofs.Kept.{HoldsAfter, does_after, IsOfRun, IsBeforeRuns, 
 at_part : (now : ℕ) (part : Option UnitPart) (us : List (Option UnitView)) (k : ℕ) → k < length us
     → get_or (units_after now part us) k None ≡ unit_after now k part (get_or us k None)
 at_part now None us k h = refl
-at_part now (Some (Joins first)) us k h = by_part (first.test.unit == k) refl
+at_part now (Some (Joins first)) us k h = by_part ((number first) == k) refl
   where
-    by_part : (b : Bool) → (first.test.unit == k) ≡ b
-        → get_or (set us first.test.unit (Some first)) k None
-        ≡ (if first.test.unit == k then Some first else get_or us k None)
-    by_part true e = let here : k ≡ first.test.unit = grind arith in
-        rw e (get_or-set_at us first.test.unit k (Some first) None here (omega arith))
-    by_part false e = let apart : k ≢ first.test.unit = grind arith in
-        rw e (get_or-set_other us first.test.unit k (Some first) None apart)
+    by_part : (b : Bool) → ((number first) == k) ≡ b
+        → get_or (set us (number first) (Some first)) k None
+        ≡ (if (number first) == k then Some first else get_or us k None)
+    by_part true e = let here : k ≡ (number first) = grind arith in
+        rw e (get_or-set_at us (number first) k (Some first) None here (omega arith))
+    by_part false e = let apart : k ≢ (number first) = grind arith in
+        rw e (get_or-set_other us (number first) k (Some first) None apart)
 at_part now (Some (Acts j turn)) us k h = by_part (j == k) refl
   where
     by_part : (b : Bool) → (j == k) ≡ b
@@ -71,7 +74,7 @@ at_part now (Some (Acts j turn)) us k h = by_part (j == k) refl
 length-units_after : (now : ℕ) (part : Option UnitPart) (us : List (Option UnitView))
     → length (units_after now part us) ≡ length us
 length-units_after now None us = refl
-length-units_after now (Some (Joins first)) us = length-set us first.test.unit (Some first)
+length-units_after now (Some (Joins first)) us = length-set us (number first) (Some first)
 length-units_after now (Some (Acts j turn)) us = length-set us j _
 
 -- and after a broadcast
@@ -102,74 +105,115 @@ units-cons p x run =
 -- what a dispatcher counts, by the events that were told
 abbrev pub counts : Settings → Option CancelReason → List ReporterEvent → Tally
 counts p why events = record {
-  running = running_in_told (units_in p) events;
+  running = running_in_told (scripts_in p) (tests_in p) events;
+  scripts_running = running_in_told 0 (scripts_in p) events;
   stats = stats_after p why (count_by skips events) (filter_map finish_of events);
 }
 
+-- a unit that isn't among some is none of them
+other_unit : (i a n : ℕ) → (i < a) ⊎ (a + n ≤ i) → (k : ℕ) → a ≤ k → k < a + n → (i == k) ≡ false
+other_unit i a n (inl below) k low high = grind arith
+other_unit i a n (inr above) k low high = grind arith
+
 -- how many tests run after one more event
+abbrev told_kind : ℕ → ℕ → TestEventKind → ReporterEvent
+told_kind now elapsed kind = Test (record { clock = now; elapsed = elapsed; kind = kind })
+
 running_one : (p : Settings) (why : Option CancelReason) (now elapsed : ℕ) (kind : TestEventKind)
     (es : List ReporterEvent)
-    → ToldFitsIn (units_in p) es kind
-    → running_in_told (units_in p) (es ++ Test (record { clock = now; elapsed = elapsed; kind = kind }) ∷ [])
+    → ToldFitsIn p es kind
+    → running_in_told (scripts_in p) (tests_in p) (es ++ told_kind now elapsed kind ∷ [])
     ≡ (tallied kind (counts p why es)).running
+running_one p why now elapsed (SetupScriptStarted e) es fits =
+    running-apart (scripts_in p) (tests_in p) es (told_kind now elapsed (SetupScriptStarted e))
+    (λ k low high. (other_unit e.script.unit (scripts_in p) (tests_in p) (inl fits.0) k low high, refl))
+running_one p why now elapsed (SetupScriptFinished e) es fits =
+    running-apart (scripts_in p) (tests_in p) es (told_kind now elapsed (SetupScriptFinished e))
+    (λ k low high. (refl, other_unit e.script.unit (scripts_in p) (tests_in p) (inl fits.0) k low high))
 running_one p why now elapsed (TestStarted e) es fits =
-    running-started (units_in p) e.start.test.unit es _ fits.0 fits.1 (λ k. refl) (λ k. refl)
+    running-started (scripts_in p) (tests_in p) e.start.test.unit es _ fits.0 fits.1 fits.2 (λ k. refl) (λ k. refl)
 running_one p why now elapsed (TestFinished e) es fits =
-    let less = running-finished (units_in p) e.finish.test.unit es
-    (Test (record { clock = now; elapsed = elapsed; kind = TestFinished e }))
-    fits.0 fits.1 (λ k. refl) (λ k. refl) in omega arith
-running_one p why now elapsed kind es fits = running-kept (units_in p) es _ (λ k. refl) (λ k. refl)
+    let less = running-finished (scripts_in p) (tests_in p) e.finish.test.unit es (told_kind now elapsed (TestFinished e))
+    fits.0 fits.1 fits.2 (λ k. refl) (λ k. refl) in omega arith
+running_one p why now elapsed kind es fits =
+    running-kept (scripts_in p) (tests_in p) es _ (λ k. refl) (λ k. refl)
+
+-- and how many scripts
+scripts_one : (p : Settings) (why : Option CancelReason) (now elapsed : ℕ) (kind : TestEventKind)
+    (es : List ReporterEvent)
+    → ToldFitsIn p es kind
+    → running_in_told 0 (scripts_in p) (es ++ told_kind now elapsed kind ∷ [])
+    ≡ (tallied kind (counts p why es)).scripts_running
+scripts_one p why now elapsed (SetupScriptStarted e) es fits =
+    running-started 0 (scripts_in p) e.script.unit es _ (omega arith) (omega (arith, fits.0)) fits.1 (λ k. refl) (λ k. refl)
+scripts_one p why now elapsed (SetupScriptFinished e) es fits =
+    let less = running-finished 0 (scripts_in p) e.script.unit es (told_kind now elapsed (SetupScriptFinished e))
+    (omega arith) (omega (arith, fits.0)) fits.1 (λ k. refl) (λ k. refl) in omega arith
+scripts_one p why now elapsed (TestStarted e) es fits =
+    running-apart 0 (scripts_in p) es (told_kind now elapsed (TestStarted e))
+    (λ k low high. (other_unit e.start.test.unit 0 (scripts_in p) (inr (omega (arith, fits.0))) k low high, refl))
+scripts_one p why now elapsed (TestFinished e) es fits =
+    running-apart 0 (scripts_in p) es (told_kind now elapsed (TestFinished e))
+    (λ k low high. (refl, other_unit e.finish.test.unit 0 (scripts_in p) (inr (omega (arith, fits.0))) k low high))
+scripts_one p why now elapsed kind es fits = running-kept 0 (scripts_in p) es _ (λ k. refl) (λ k. refl)
 
 -- one skip more is counted
-one_skip_more : (p : Settings) (why : Option CancelReason) (n : ℕ) (fs : List FinishedTest)
+one_skip_more : (p : Settings) (why : Option CancelReason) (n : ℕ) (fs : List FinishedUnit)
     → stats_after p why (n + 1) fs ≡ record (stats_after p why n fs) { skipped = (stats_after p why n fs).skipped + 1 }
 unfolding total_by
 one_skip_more p why n fs =
     ap (λ m. record (stats_after p why n fs) { skipped = m })
-    (let more : n + 1 + sum_by (λ f. (adds_of f).skipped) fs ≡ n + sum_by (λ f. (adds_of f).skipped) fs + 1 =
+    (let more : n + 1 + sum_by (λ f. (adds_by f).skipped) fs ≡ n + sum_by (λ f. (adds_by f).skipped) fs + 1 =
     omega arith in more)
 
 -- the statistics after one more event: one finish more adds what it adds, and what tells neither leaves them
-stats_one : (p : Settings) (why : Option CancelReason) (n now elapsed running : ℕ) (kind : TestEventKind)
-    (fs : List FinishedTest)
-    → stats_after p why (n + count_by skips (Test (record { clock = now; elapsed = elapsed; kind = kind }) ∷ []))
-    (fs ++ filter_map finish_of (Test (record { clock = now; elapsed = elapsed; kind = kind }) ∷ []))
-    ≡ (tallied kind (record { running = running; stats = stats_after p why n fs })).stats
-stats_one p why n now elapsed running (TestFinished e) fs =
-    ap (λ m. stats_after p why m (fs ++ finished_test e.finish ∷ [])) (add-zero n)
-    ∙ total_push _ fs (finished_test e.finish)
-stats_one p why n now elapsed running (TestSkipped e) fs = ap (stats_after p why (n + 1)) (append-nil fs)
-    ∙ one_skip_more p why n fs
-stats_one p why n now elapsed running kind fs =
-    ap (λ m. stats_after p why m (fs ++ [])) (add-zero n) ∙ ap (stats_after p why n) (append-nil fs)
+stats_one : (p : Settings) (why : Option CancelReason) (n now elapsed : ℕ) (kind : TestEventKind) (t : Tally)
+    (fs : List FinishedUnit) → t.stats ≡ stats_after p why n fs
+    → stats_after p why (n + count_by skips (told_kind now elapsed kind ∷ []))
+    (fs ++ filter_map finish_of (told_kind now elapsed kind ∷ []))
+    ≡ (tallied kind t).stats
+stats_one p why n now elapsed (TestFinished e) t fs is =
+    ap (λ m. stats_after p why m (fs ++ a_test (finished_test e.finish) ∷ [])) (add-zero n)
+    ∙ total_by_push adds_by _ fs (a_test (finished_test e.finish))
+    ∙ ap (λ s. plus s (adds_by (a_test (finished_test e.finish)))) (sym is)
+stats_one p why n now elapsed (SetupScriptFinished e) t fs is =
+    ap (λ m. stats_after p why m (fs ++ a_script e.status.result ∷ [])) (add-zero n)
+    ∙ total_by_push adds_by _ fs (a_script e.status.result)
+    ∙ ap (λ s. plus s (adds_by (a_script e.status.result))) (sym is)
+stats_one p why n now elapsed (TestSkipped e) t fs is = ap (stats_after p why (n + 1)) (append-nil fs)
+    ∙ one_skip_more p why n fs ∙ ap (λ (s : RunStats). record s { skipped = s.skipped + 1 }) (sym is)
+stats_one p why n now elapsed kind t fs is =
+    ap (λ m. stats_after p why m (fs ++ [])) (add-zero n) ∙ ap (stats_after p why n) (append-nil fs) ∙ sym is
 
-same_counts : (a b : Tally) → a.running ≡ b.running → a.stats ≡ b.stats → a ≡ b
-same_counts a b running stats =
-    ap (λ n. record { running = n; stats = a.stats }) running
-    ∙ ap (λ s. record { running = b.running; stats = s }) stats
+same_counts : (a b : Tally) → a.running ≡ b.running → a.scripts_running ≡ b.scripts_running → a.stats ≡ b.stats → a ≡ b
+same_counts a b running scripts stats =
+    ap (λ n. record a { running = n }) running
+    ∙ ap (λ n. record a { running = b.running; scripts_running = n }) scripts
+    ∙ ap (λ s. record b { stats = s }) stats
 
 -- so what is counted after one more event is what the dispatcher makes of it
 pub counts-more : (p : Settings) (why : Option CancelReason) (o : Option ReporterEvent) (es : List ReporterEvent)
-    → ToldFits (units_in p) es o
+    → ToldFits p es o
     → counts p why (es ++ option_to_list o) ≡ having_told (counts p why es) o
 counts-more p why None es fits = ap (counts p why) (append-nil es)
 counts-more p why (Some Tick) es fits =
     same_counts (counts p why (es ++ Tick ∷ [])) (counts p why es)
-    (running-kept (units_in p) es Tick (λ k. refl) (λ k. refl))
+    (running-kept (scripts_in p) (tests_in p) es Tick (λ k. refl) (λ k. refl))
+    (running-kept 0 (scripts_in p) es Tick (λ k. refl) (λ k. refl))
     (ap (λ n. stats_after p why n (filter_map finish_of (es ++ Tick ∷ [])))
     (sum_by-append (λ x. cond (skips x) 1 0) es (Tick ∷ []) ∙ add-zero _)
     ∙ ap (stats_after p why (count_by skips es)) (filter_map-append finish_of es _ ∙ append-nil _))
 counts-more p why (Some (Test e)) es fits =
     same_counts (counts p why (es ++ Test e ∷ [])) (tallied e.kind (counts p why es))
     (running_one p why e.clock e.elapsed e.kind es fits)
+    (scripts_one p why e.clock e.elapsed e.kind es fits)
     (ap (λ n. stats_after p why n (filter_map finish_of (es ++ Test e ∷ [])))
     (sum_by-append (λ x. cond (skips x) 1 0) es (Test e ∷ []))
     ∙ ap (stats_after p why (count_by skips es + count_by skips (Test e ∷ []))) (filter_map-append finish_of es _)
-    ∙ stats_one p why (count_by skips es) e.clock e.elapsed (running_in_told (units_in p) es) e.kind
-    (filter_map finish_of es))
+    ∙ stats_one p why (count_by skips es) e.clock e.elapsed e.kind (counts p why es) (filter_map finish_of es) refl)
 
 -- a cause sets the reason of the statistics alone
-stats-cause : (p : Settings) (why cause : Option CancelReason) (n : ℕ) (fs : List FinishedTest)
+stats-cause : (p : Settings) (why cause : Option CancelReason) (n : ℕ) (fs : List FinishedUnit)
     → stats_after p (greater why cause) n fs
     ≡ record (stats_after p why n fs) { cancel_reason = greater (stats_after p why n fs).cancel_reason cause }
 unfolding total_by
@@ -178,16 +222,16 @@ stats-cause p why cause n fs = refl
 counts-cause : (p : Settings) (why cause : Option CancelReason) (es : List ReporterEvent)
     → counts p (greater why cause) es ≡ with_cause cause (counts p why es)
 counts-cause p why cause es =
-    ap (λ s. record { running = running_in_told (units_in p) es; stats = s })
+    ap (λ s. record (counts p why es) { stats = s })
     (stats-cause p why cause (count_by skips es) (filter_map finish_of es))
 
 -- an event that the run is cancelled counts nothing
-cancel_fits : (n : ℕ) (es : List ReporterEvent) (o : Option ReporterEvent) → IsCancel o → ToldFits n es o
-cancel_fits n es None h = tt
-cancel_fits n es (Some Tick) h = absurd h
-cancel_fits n es (Some (Test e)) h = by_kind e.kind h
+cancel_fits : (p : Settings) (es : List ReporterEvent) (o : Option ReporterEvent) → IsCancel o → ToldFits p es o
+cancel_fits p es None h = tt
+cancel_fits p es (Some Tick) h = absurd h
+cancel_fits p es (Some (Test e)) h = by_kind e.kind h
   where
-    by_kind : (kind : TestEventKind) → IsCancelKind kind → ToldFitsIn n es kind
+    by_kind : (kind : TestEventKind) → IsCancelKind kind → ToldFitsIn p es kind
     by_kind (RunBeginCancel cancelled) h = tt
     by_kind (RunBeginKill cancelled) h = tt
     by_kind kind h = absurd h
@@ -201,7 +245,7 @@ tally-cons p over now run e d does =
     ∙ ap (with_cause d.cause)
     (ap (counts p (reason run)) (sym (append_assoc (told run) (option_to_list d.told) (option_to_list d.cancel)))
     ∙ counts-more p (reason run) d.cancel (told run ++ option_to_list d.told)
-    (cancel_fits (units_in p) (told run ++ option_to_list d.told) d.cancel
+    (cancel_fits p (told run ++ option_to_list d.told) d.cancel
     (subst IsCancel (sym does.marks.cancel) (cancel_is now (having_told (tally p run) d.told) d.cause)))
     ∙ ap (λ t. having_told t d.cancel) (counts-more p (reason run) d.told (told run) does.tells))
 

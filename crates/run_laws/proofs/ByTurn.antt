@@ -3,7 +3,7 @@ use Rattle.std.proofs.Common.{◌≡◌, ℕ, Bool, true, false, Option, Some, N
 use Rattle.run_events.specs.declared.settings.Settings.{Settings}
 use Rattle.run_events.specs.declared.turn.Turn.{Turn}
 use Rattle.run_events.specs.declared.turn.Turn.TheVariants.{Begin, Admit, Deliver, Started, StartFailed, Exit}
-use Rattle.run_events.specs.declared.turn.Turn.TheVariants.{WaitFailed, Piece, StreamEnd, ReadError, Decide, UnitDue}
+use Rattle.run_events.specs.declared.turn.Turn.TheVariants.{WaitFailed, Piece, StreamEnd, ReadError, Env, Decide, UnitDue}
 use Rattle.run_events.specs.declared.turn.Turn.TheVariants.{Take, Clock, GlobalDue, Signal, ReportCancel, End}
 use Rattle.run_events.specs.declared.signal.Signal.{Signal as SignalName}
 use Rattle.run_model.specs.declared.unit_turn.UnitTurn.{UnitTurn}
@@ -44,6 +44,7 @@ by_turn P c (WaitFailed unit error) = c.named _ _ _ refl
 by_turn P c (Piece unit stream bytes) = c.named _ _ _ refl
 by_turn P c (StreamEnd unit stream) = c.named _ _ _ refl
 by_turn P c (ReadError unit stream error) = c.named _ _ _ refl
+by_turn P c (Env unit input) = c.named _ _ _ refl
 by_turn P c (UnitDue unit) = c.named _ _ _ refl
 by_turn P c (Take unit) = c.named _ _ _ refl
 by_turn P c (Decide unit word) = c.named _ _ _ refl

@@ -4,10 +4,12 @@ use Rattle.std.proofs.Common.{option_map, is_none, is_some, reverse, refl, ap, s
 use Rattle.std.specs.Prelude.{IfSome}
 use Rattle.std.specs.Cmp.{second_so}
 use Rattle.std.proofs.lemmas.List.{reverse-append}
-use Rattle.run_events.proofs.StatsLemmas.{total-cancel_reason}
+use Rattle.run_events.specs.declared.ask.Ask.{Ask}
+use Rattle.run_events.specs.declared.ask.Ask.TheVariants.{Start as StartAsked, Signal as SignalAsked, StopSelf}
 use Rattle.run_events.specs.declared.settings.Settings.{Settings}
 use Rattle.run_events.specs.declared.turn.Turn.{Turn}
 use Rattle.run_events.specs.declared.message.Message.{Message}
+use Rattle.run_events.specs.declared.message.Message.TheVariants.{ScriptStart as ScriptStarts, ScriptSlow, ScriptFinish}
 use Rattle.run_events.specs.declared.message.Message.TheVariants.{Start, Slow, AttemptFailed, Retry, Skip, Finish}
 use Rattle.run_events.specs.declared.message.TestStart.{TestStart}
 use Rattle.run_events.specs.declared.message.TestRetry.{TestRetry}
@@ -19,7 +21,13 @@ use Rattle.run_events.specs.declared.events.ReporterEvent.{ReporterEvent}
 use Rattle.run_model.specs.declared.dispatcher_view.Tally.{Tally}
 use Rattle.run_model.specs.declared.entry.Entry.{Entry}
 use Rattle.run_model.specs.declared.happening.Happening.{Happening}
+use Rattle.run_model.specs.declared.happening.UnitPart.{UnitPart}
+use Rattle.run_model.specs.declared.happening.UnitPart.TheVariants.{Joins, Acts}
+use Rattle.run_model.specs.declared.unit_turn.UnitTurn.{UnitTurn}
+use Rattle.run_model.specs.declared.unit_turn.UnitTurn.TheVariants.{Answered}
 use Rattle.run_model.specs.declared.unit_view.UnitView.{UnitView}
+use Rattle.run_model.specs.Story.{begins_attempt}
+use Rattle.run_model.specs.Unit.{at_moment, row, takes}
 use Rattle.run_model.specs.Words.{is_on, is_over, clock, sub_run, queue, reason, told, units, tally, was_refused}
 use Rattle.run_model.specs.Admission.{Newcomer, newcomer}
 use Rattle.run_model.specs.Dispatch.{event, having_told, with_start, may_go, started_event, retried_event}
@@ -28,14 +36,17 @@ use Rattle.run_model.specs.Board.{Board, Deed, board}
 use Rattle.run_model.specs.Turns.{enabled, enabled_on, is_empty, takes_turn, turn_of_unit, admission}
 use Rattle.run_model.specs.Turns.{event_of, tally_with, delivered_as, delivery, nothing_done, done_by, deed_on, happening}
 use Rattle.run_model.specs.Journal.{history, past_of, IsLegal, IsLegalBackward}
-use Rattle.run_laws.specs.Cancels.{reason_told, kills, begins, rises, is_second, IsCancelled}
+use Rattle.run_laws.specs.Cancels.{reason_told, kills, begins, rises, is_second, asks_start, IsCancelled}
 use Rattle.run_laws.proofs.Holds.{Holds}
 use Rattle.run_laws.proofs.ByTurn.{by_turn}
 use Rattle.run_laws.proofs.OnBoard.{board_of, board_with}
-use Rattle.run_laws.proofs.Facts.{may_go-is, oldest_built}
+use Rattle.run_laws.proofs.Facts.{may_go-is, stats-reason}
+use Rattle.run_events.specs.declared.message.ScriptStart.{ScriptStart}
+use Rattle.run_events.specs.declared.events.TestEventKind.TheVariants.{SetupScriptStarted}
 use Rattle.run_laws.proofs.Cancels.{cancel_for}
 use Rattle.run_laws.proofs.CauseLemmas.{cause_is}
-use Rattle.run_laws.proofs.Deeds.{Does}
+use Rattle.run_laws.proofs.Deeds.{Does, PartFits, asked_by}
+use Rattle.run_laws.proofs.Rows.{IsNoStart, row_starts_none, takes_moment}
 use Rattle.run_laws.proofs.Boards.{counts-more}
 use Rattle.run_laws.proofs.Kept.{HoldsAfter, does_after, holds}
 
@@ -66,6 +77,11 @@ start_own : (p : Settings) (now : ℕ) (run : List Happening) (start : TestStart
 start_own p now run start true goes = (refl, λ e. no_reason (reason run) (sym goes))
 start_own p now run start false goes = (tt, tt)
 
+script_own : (now : ℕ) (run : List Happening) (start : ScriptStart) (go : Bool) → go ≡ is_none (reason run)
+    → TellsOwn run (option_map (event now) (if go then Some (SetupScriptStarted start) else None))
+script_own now run start true goes = (refl, λ e. no_reason (reason run) (sym goes))
+script_own now run start false goes = (tt, tt)
+
 retry_own : (p : Settings) (now : ℕ) (run : List Happening) (retry : TestRetry) (go : Bool)
     → go ≡ is_none (reason run)
     → TellsOwn run (option_map (event now) (if go then Some (retried_event retry (tally p run)) else None))
@@ -77,6 +93,14 @@ delivers_own : (p : Settings) (over : Bool) (now : ℕ) (run : List Happening) (
 delivers_own p over now run [] h eq en = cc
 delivers_own p over now run (Start start ∷ rest) h eq en =
     start_own p now run start (may_go (tally p run)) (may_go-is p run)
+delivers_own p over now run (ScriptStarts start ∷ rest) h eq en =
+    script_own now run start (may_go (tally p run)) (may_go-is p run)
+delivers_own p over now run (ScriptSlow slow ∷ rest) h eq en = (refl, λ e. cc)
+delivers_own p over now run (ScriptFinish finish ∷ rest) h eq en =
+    let b : Board = board_of p over now run in
+    let tells : Option ReporterEvent = event_of b (ScriptFinish finish) in
+    caused_own run now (tally_with b tells) (cause_of b.dispatcher.rules (tally_with b tells) (ScriptFinish finish))
+    (delivered_as b (ScriptFinish finish) nothing_done) (refl, λ e. cc)
 delivers_own p over now run (Retry retry ∷ rest) h eq en =
     retry_own p now run retry (may_go (tally p run)) (may_go-is p run)
 delivers_own p over now run (AttemptFailed failure ∷ rest) h eq en = (refl, λ e. cc)
@@ -87,7 +111,6 @@ delivers_own p over now run (Finish finish ∷ rest) h eq en =
     let tells : Option ReporterEvent = event_of b (Finish finish) in
     caused_own run now (tally_with b tells) (cause_of b.dispatcher.rules (tally_with b tells) (Finish finish))
     (delivered_as b (Finish finish) nothing_done) (refl, λ e. cc)
-delivers_own p over now run (m ∷ rest) h eq en = absurd (oldest_built p over now run m rest h eq)
 
 own : (p : Settings) (over refused : Bool) (now : ℕ) (run : List Happening) (turn : Turn) → Holds p over now run
     → enabled_on p (board_with p refused over now run) turn ≡ true
@@ -111,6 +134,40 @@ own p over refused now run turn h en =
   where
     b : Board
     b = board_with p refused over now run
+
+-- a start is asked only where no cause came
+abbrev AsksFirst : List Happening → Option Ask → Type 0
+AsksFirst run o = IfSome o (λ ask. asks_start ask ≡ true → reason run ≡ None)
+
+no_start : (run : List Happening) (o : Option Ask) → IsNoStart o → AsksFirst run o
+no_start run None none = tt
+no_start run (Some (StartAsked ask)) none = absurd none
+no_start run (Some (SignalAsked ask)) none = λ e. cc
+no_start run (Some StopSelf) none = λ e. cc
+
+asks_first : (now : ℕ) (run : List Happening) (p : Settings) (part : Option UnitPart) → PartFits p now run part
+    → AsksFirst run (asked_by now run part)
+asks_first now run p None fits = tt
+asks_first now run p (Some (Joins first)) fits = tt
+asks_first now run p (Some (Acts j turn)) taken = rw taken.is (by_turn_of turn taken.takes taken.answers)
+  where
+    u : UnitView
+    u = taken.unit
+
+    any_ask : reason run ≡ None → (o : Option Ask) → AsksFirst run o
+    any_ask none None = tt
+    any_ask none (Some ask) = λ e. none
+
+    others : (turn : UnitTurn) → takes now u turn ≡ true → begins_attempt turn ≡ false → AsksFirst run (row now turn u).asked
+    others turn en none = no_start run (row now turn u).asked
+        (row_starts_none now u.phase turn (at_moment now u) refl (takes_moment now u.phase u turn en) none)
+
+    by_turn_of : (turn : UnitTurn) → takes now u turn ≡ true → ((go : Bool) → turn ≡ Answered go → go ≡ is_none (reason run))
+        → AsksFirst run (row now turn u).asked
+    by_turn_of (Answered true) en answers =
+        any_ask (no_reason (reason run) (sym (answers true refl))) (row now (Answered true) u).asked
+    by_turn_of (Answered false) en answers = others (Answered false) en refl
+    by_turn_of turn en answers = others turn en refl
 
 -- the event of a cause has its reason, and is that of a kill for a second signal
 event_reason : (now : ℕ) (r : CancelReason) (t : Tally)
@@ -170,7 +227,7 @@ reason_kept : (p : Settings) (over : Bool) (now : ℕ) (run : List Happening) (d
     → (having_told (tally p run) d.told).stats.cancel_reason ≡ reason run
 reason_kept p over now run d does =
     ap (λ (t : Tally). t.stats.cancel_reason) (sym (counts-more p (reason run) d.told (told run) does.tells))
-    ∙ total-cancel_reason _ _
+    ∙ stats-reason p (reason run) _ _
 
 -- so each enabled turn after a history that holds
 pub cancelled_after : (p : Settings) (past : List Happening) (e : Entry) → HoldsAfter p past
@@ -182,6 +239,7 @@ cancelled_after p past e h en = record {
   kills = told_cause.killing;
   own = tells.0;
   starts = tells.1;
+  asks = subst (AsksFirst run) (sym does.asks) (asks_first (clock past) run p d.part does.part);
 }
   where
     run : List Happening

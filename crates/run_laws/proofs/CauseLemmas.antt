@@ -3,7 +3,13 @@ use Rattle.std.proofs.Common.{◌≡◌, ℕ, ◌==◌, List, [], ◌∷◌, nat
 use Rattle.std.proofs.Common.{option_map, refl, ap, sym, ◌∙◌}
 use Rattle.run_events.specs.Outcome.{failed_count}
 use Rattle.run_events.specs.declared.message.Message.{Message}
-use Rattle.run_events.specs.declared.message.Message.TheVariants.{Start, Retry, Finish}
+use Rattle.run_events.specs.declared.message.Message.TheVariants.{ScriptStart as ScriptStarts, ScriptFinish, Start, Retry}
+use Rattle.run_events.specs.declared.message.Message.TheVariants.{Finish}
+use Rattle.run_events.specs.declared.message.ScriptStart.{ScriptStart}
+use Rattle.run_events.specs.declared.cancel.CancelReason.TheVariants.{SetupScriptFailure}
+use Rattle.run_events.specs.declared.events.TestEventKind.TheVariants.{SetupScriptStarted}
+use Rattle.run_events.specs.declared.result.ExecutionResult.{ExecutionResult}
+use Rattle.run_events.specs.Result.{is_success}
 use Rattle.run_events.specs.declared.message.TestStart.{TestStart}
 use Rattle.run_events.specs.declared.message.TestRetry.{TestRetry}
 use Rattle.run_events.specs.declared.retry_policy.MaxFail.{MaxFail}
@@ -20,11 +26,12 @@ use Rattle.run_model.specs.declared.dispatcher_view.Tally.{Tally}
 use Rattle.run_model.specs.declared.happening.Happening.{Happening}
 use Rattle.run_model.specs.Admission.{Newcomer, newcomer}
 use Rattle.run_model.specs.Board.{Board, Deed}
-use Rattle.run_model.specs.Cancel.{Cause, first_reason, signal_cause, too_many_failed, failure_cause, caused}
+use Rattle.run_model.specs.Cancel.{Cause, first_reason, signal_cause, too_many_failed, failure_cause, script_failed}
+use Rattle.run_model.specs.Cancel.{script_cause, caused}
 use Rattle.run_model.specs.Dispatch.{event, go_of, may_go, started_event, retried_event, with_start}
 use Rattle.run_model.specs.Turns.{admission, answer_to, deed_on, delivered_as, delivery, event_of, starting, tally_with}
 use Rattle.run_model.specs.Words.{queue, signals_heard, tally, units}
-use Rattle.run_laws.specs.Cancels.{cause_by, delivery_reason, failure_reason, failures_reason, first_signal}
+use Rattle.run_laws.specs.Cancels.{cause_by, delivery_reason, failure_reason, failures_reason, script_reason, first_signal}
 use Rattle.run_laws.specs.Cancels.{signal_reason}
 use Rattle.run_laws.proofs.OnBoard.{board_with}
 
@@ -70,7 +77,22 @@ finish_is now t most stats d none tells =
     failure_is now t most stats d none ∙ tells
     ∙ sym (ap (delivery_reason most) (told_is now t (failure_cause most stats) d))
 
+-- a script that failed
+script_is : (now : ℕ) (t : Tally) (result : ExecutionResult) (d : Deed) → d.cause ≡ None
+    → (caused now t (script_cause result) d).cause ≡ script_reason result
+script_is now t result d none = by_success (is_success result)
+  where
+    by_success : (b : Bool) → (caused now t (if b then None else Some script_failed) d).cause
+        ≡ (if b then None else Some SetupScriptFailure)
+    by_success true = none
+    by_success false = refl
+
 -- the delivery of a message
+script_start_is : (most : MaxFail) (now : ℕ) (start : ScriptStart) (go : Bool)
+    → None ≡ delivery_reason most (option_map (event now) (if go then Some (SetupScriptStarted start) else None))
+script_start_is most now start true = refl
+script_start_is most now start false = refl
+
 start_is : (most : MaxFail) (now : ℕ) (t : Tally) (start : TestStart) (go : Bool)
     → None ≡ delivery_reason most
     (option_map (event now) (if go then Some (started_event start (with_start t)) else None))
@@ -88,6 +110,15 @@ delivery_is : (p : Settings) (over refused : Bool) (now : ℕ) (run : List Happe
 delivery_is p over refused now run [] = refl
 delivery_is p over refused now run (Start start ∷ rest) =
     start_is p.max_fail now (tally p run) start (may_go (tally p run))
+delivery_is p over refused now run (ScriptStarts start ∷ rest) =
+    script_start_is p.max_fail now start (may_go (tally p run))
+delivery_is p over refused now run (ScriptFinish finish ∷ rest) =
+    let b : Board = board_with p refused over now run in
+    let t : Tally = tally_with b (event_of b (ScriptFinish finish)) in
+    let d : Deed = delivered_as b (ScriptFinish finish)
+    (answer_to b (starting (ScriptFinish finish)) (go_of (tally p run) (ScriptFinish finish))) in
+    script_is now t finish.status.result d refl
+    ∙ sym (ap (delivery_reason p.max_fail) (told_is now t (script_cause finish.status.result) d))
 delivery_is p over refused now run (Finish finish ∷ rest) =
     let b : Board = board_with p refused over now run in
     let t : Tally = tally_with b (event_of b (Finish finish)) in

@@ -4,7 +4,6 @@ use Rattle.std.proofs.Common.{if◌then◌else◌, None, refl, ap, ◌∙◌}
 use Rattle.run_capture.specs.Captured.{is_done}
 use Rattle.run_model.specs.declared.phase.Phase.{Phase}
 use Rattle.run_model.specs.declared.phase.Phase.TheVariants.{Running, Grace, KillWait, Leak}
-use Rattle.run_model.specs.declared.phase.Phase.TheVariants.{Deciding}
 use Rattle.run_model.specs.declared.unit_turn.UnitTurn.TheVariants.{Due}
 use Rattle.run_model.specs.declared.unit_view.UnitView.{UnitView}
 use Rattle.run_model.specs.Slow.{one_more, is_out_of_time}
@@ -12,25 +11,23 @@ use Rattle.run_model.specs.Unit.{is_due, exited}
 use Rattle.run_model.specs.Unit.{slow_row, slow_again, in_grace, out_of_time, killed}
 use Rattle.run_model.specs.Story.{OwnTurn, Attempt, cut, any_is}
 use Rattle.run_model.specs.Timing.{ends_wait, starts_child, slow_count}
-use Rattle.run_model.specs.Attempts.{start_of}
+use Rattle.run_model.specs.Attempts.{env_in, start_of}
 use Rattle.run_laws.proofs.CaptureLemmas.{taken}
 use Rattle.run_laws.proofs.StandingLemmas.{count_kept, count_killed, count_slow}
 use Rattle.run_laws.proofs.TimerLemmas.{HasTimer, ends_time, timer_killed}
 use Rattle.run_laws.proofs.SlowLemmas.{IsSlow, in_time, timer_again, timer_grace, timer_kill_wait}
 use Rattle.run_laws.proofs.PieceLemmas.{IsAt, at_due}
-use Rattle.run_laws.proofs.GoingLemmas.{IsGoing, going_more, past_exited}
+use Rattle.run_laws.proofs.GoingLemmas.{IsGoing, going_more}
 use Rattle.run_laws.proofs.MadeLemmas.{GoesOn, IsMade}
-use Rattle.run_laws.proofs.RowLemmas.{made_more, began}
+use Rattle.run_laws.proofs.RowLemmas.{made_more, began, exited_made}
 
 -- the wait for its streams is over
 pub leaked_made : (now : ℕ) (u : UnitView) (piece : List OwnTurn) (earlier : List Attempt)
     → u.attempt ≡ length earlier + 1 → GoesOn u.terms Leak true u.exit u piece earlier
     → IsMade u.terms (exited now u.exit true u.capture u) (cut (taken now Due None ∷ piece) [] ∷ earlier)
 leaked_made now u piece earlier a (on, ss) =
-    made_more (exited now u.exit true u.capture u) Deciding (taken now Due None) piece earlier refl a
-    (began u.terms u.timers.stopwatch.start true u.exit true u.timers.slow_count u.capture (taken now Due None ∷ piece) it)
-    (past_exited now u.exit true u.capture Due u piece earlier it on.not_ended (leaks u.terms.skips_leak_detection (is_done u.capture))
-    on.watch a ss)
+    exited_made now u.exit true u.capture Due u piece earlier it on.not_ended refl
+    (leaks u.terms.skips_leak_detection (is_done u.capture)) on.watch a ss
   where
     leaks : (skips done : Bool) → (skips || done || true) ≡ true
     leaks true done = refl
@@ -48,13 +45,13 @@ leaked_made now u piece earlier a (on, ss) =
 -- its time to end by itself is over, by this turn
 pub killed_made : (t : OwnTurn) (u : UnitView) (piece : List OwnTurn) (earlier : List Attempt)
     → u.attempt ≡ length earlier + 1 → GoesOn u.terms Grace false None u piece earlier
-    → ends_wait t.turn ≡ false → starts_child t.turn ≡ false → ends_time u.terms.slow t ≡ true
+    → ends_wait t.turn ≡ false → env_in t.turn ≡ None → starts_child t.turn ≡ false → ends_time u.terms.slow t ≡ true
     → IsAt u.terms u.timers.stopwatch.start false None false u.timers.slow_count u.capture (t ∷ piece)
     → IsMade u.terms (killed u).next (cut (t ∷ piece) [] ∷ earlier)
-killed_made t u piece earlier a (on, ss) ends starts over it =
+killed_made t u piece earlier a (on, ss) ends quiet starts over it =
     made_more (killed u).next Running t piece earlier refl a
     (began u.terms u.timers.stopwatch.start false None false u.timers.slow_count u.capture (t ∷ piece) it) (
-      going_more u.terms Running false None (killed u).next t piece it on.not_ended refl on.watch
+      going_more u.terms Running false None (killed u).next t piece it on.not_ended quiet refl on.watch
           (timer_killed u.terms u.timers (killed u).next.timers u.latest t piece refl on.is_at.wait_over on.timer.stage ends
           starts over),
       ss,
@@ -65,7 +62,7 @@ pub killed_due : (now : ℕ) (u : UnitView) (piece : List OwnTurn) (earlier : Li
     → u.attempt ≡ length earlier + 1 → GoesOn u.terms Grace false None u piece earlier
     → IsMade u.terms (killed u).next (cut (taken now Due None ∷ piece) [] ∷ earlier)
 killed_due now u piece earlier a (on, ss) =
-    killed_made (taken now Due None) u piece earlier a (on, ss) refl refl refl
+    killed_made (taken now Due None) u piece earlier a (on, ss) refl refl refl refl
     (at_due u.terms u.timers.stopwatch.start false None u.timers.slow_count u.timers.slow_count u.capture now piece on.is_at
     (count_killed u.terms.slow (taken now Due None) piece on.timer.stage.1 ∙ on.is_at.counted))
 
@@ -110,7 +107,7 @@ slow_made now u piece earlier ph le due a (on, ss) =
         → v.capture ≡ u.capture → HasTimer u.terms ph v.timers v.latest (t ∷ piece)
         → IsGoing u.terms ph false None v (t ∷ piece)
     goes ph v watch count capture timer =
-        going_more u.terms ph false None v t piece (rw (watch, count, capture) it) on.not_ended refl
+        going_more u.terms ph false None v t piece (rw (watch, count, capture) it) on.not_ended refl refl
         (rw watch on.watch) timer
 
     by_out : (o g : Bool) → is_out_of_time u.terms.slow n ≡ o → (u.terms.slow.grace == 0) ≡ g

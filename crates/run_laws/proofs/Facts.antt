@@ -3,7 +3,12 @@ use Rattle.std.proofs.Common.{◌≡◌, inl, inr, ℕ, ◌<◌, ◌≤◌, ◌=
 use Rattle.std.proofs.Common.{None, is_none, refl, ap, sym, subst, arith}
 use Rattle.std.specs.List.{list_any}
 use Rattle.std.proofs.lemmas.List.Elements.{All-head, All-same, All-drop}
-use Rattle.run_events.proofs.StatsLemmas.{total-cancel_reason}
+use Rattle.std.proofs.lemmas.Bool.Decides.{nat_tests}
+use Rattle.run_events.specs.Stats.{total_by}
+use Rattle.run_events.specs.declared.cancel.CancelReason.{CancelReason}
+use Rattle.run_events.specs.declared.message.ScriptStart.{ScriptStart}
+use Rattle.run_events.specs.declared.message.ScriptFinish.{ScriptFinish}
+use Rattle.run_events.specs.declared.message.Message.TheVariants.{ScriptStart as ScriptStarts, ScriptFinish as ScriptFinishes}
 use Rattle.run_events.specs.declared.settings.Settings.{Settings}
 use Rattle.run_events.specs.declared.message.Message.{Message}
 use Rattle.run_events.specs.declared.message.Message.TheVariants.{Start, Retry, Finish}
@@ -14,20 +19,20 @@ use Rattle.run_events.specs.declared.result.ExecuteStatus.{ExecuteStatus}
 use Rattle.run_model.specs.declared.happening.Happening.{Happening}
 use Rattle.run_model.specs.declared.phase.Phase.{Phase}
 use Rattle.run_model.specs.declared.phase.Phase.TheVariants.{StartSent, Starting, Running, Grace, KillWait, Leak}
-use Rattle.run_model.specs.declared.phase.Phase.TheVariants.{Deciding, Delay, RetrySent, Over}
+use Rattle.run_model.specs.declared.phase.Phase.TheVariants.{EnvWait, Deciding, Delay, RetrySent, Over}
 use Rattle.run_model.specs.declared.unit_turn.UnitTurn.{UnitTurn}
 use Rattle.run_model.specs.declared.unit_view.UnitView.{UnitView}
-use Rattle.run_model.specs.Words.{reason, finished as finishes_told, sent, delivered, queue, told, unit_of, tally}
-use Rattle.run_model.specs.Words.{is_running}
+use Rattle.run_model.specs.Words.{FinishedUnit, reason, finished as finishes_told, skipped, sent, delivered, queue, told}
+use Rattle.run_model.specs.Words.{unit_of, tally, stats_after, is_running}
 use Rattle.run_model.specs.Story.{was_left}
-use Rattle.run_model.specs.Admission.{units_in}
+use Rattle.run_model.specs.Admission.{is_script, scripts_in, units_in}
 use Rattle.run_model.specs.Dispatch.{may_go}
 use Rattle.run_model.specs.Accounts.{News, started, failed, retried, finished, tried, HasAccount, HasAccountAt}
-use Rattle.run_model.specs.Accounts.{is_mismatched, account_of, pending_of}
+use Rattle.run_model.specs.Accounts.{is_mismatched, attempt_of, account_of, pending_in, pending_of}
 use Rattle.run_model.specs.Backoff.{retry_count}
 use Rattle.run_model.specs.Unit.{takes, takes_at}
 use Rattle.run_laws.proofs.Running.{is_finish, runs-account, tried-unfinished, failing-unfinished}
-use Rattle.run_laws.proofs.Holds.{Holds, IsBuilt, Way, IsOnWayIn, IsOnWayAt, place_of}
+use Rattle.run_laws.proofs.Holds.{Holds, IsOfKind, Way, IsOnWayIn, IsOnWayAt}
 
 -- a unit that takes a turn wasn't left
 pub unleft : (mm : Bool) (now : ℕ) (u : UnitView) (turn : UnitTurn) (w : Way) → takes now u turn ≡ true
@@ -72,6 +77,7 @@ start_in false left Running ss t q (told, waits) = cc
 start_in false left Grace ss t q (told, waits) = cc
 start_in false left KillWait ss t q (told, waits) = cc
 start_in false left Leak ss t q (told, waits) = cc
+start_in false left EnvWait ss t q (told, waits) = cc
 start_in false left Deciding ss t q (early, (s, (e, (told, waits)))) = cc
 start_in false left Delay ss t q (early, (s, (e, inl (told, waits)))) = cc
 start_in false left Delay ss t q (early, (s, (e, inr (told, waits)))) = cc
@@ -86,22 +92,26 @@ start_in true left Over [] t q (inr (told, waits)) = cc
 start_in true left Over (s ∷ ss) t q h = absurd h
 start_in true left ph ss t q h = absurd h
 
-start_of_unit : (mm left : Bool) (start : TestStart) (v : Option UnitView) (t : List News) (rest : List Message)
-    → HasAccount mm left v t (pending_of start.test.unit (Start start ∷ rest))
+start_of_unit : (mm left : Bool) (k : ℕ) (m : Message) (v : Option UnitView) (t : List News) (rest : List Message)
+    → pending_in k m ≡ Some started → HasAccount mm left v t (pending_of k (m ∷ rest))
     → (u : UnitView) × (v ≡ Some u) × (u.phase ≡ StartSent) × (t ≡ [])
-start_of_unit mm left start None t rest h = let never = (rw (itself start.test.unit) at h).1 in cc
-start_of_unit mm left start (Some u) t rest h =
-    let found = start_in mm left u.phase u.statuses t (pending_of start.test.unit rest)
-    (rw (itself start.test.unit) at h) in
+start_of_unit mm left k m None t rest starts h = let never = (rw starts at h).1 in cc
+start_of_unit mm left k m (Some u) t rest starts h =
+    let found = start_in mm left u.phase u.statuses t (pending_of k rest) (rw starts at h) in
     (u, refl, found.0, found.1)
 
-pub start_waits : (p : Settings) (over : Bool) (now : ℕ) (run : List Happening) (start : TestStart)
-    (rest : List Message)
-    → Holds p over now run → queue run ≡ Start start ∷ rest → Waits p now run start.test.unit
-start_waits p over now run start rest h eq =
-    let k : ℕ = start.test.unit in
-    let found = start_of_unit (is_mismatched p (place_of p k)) (was_left k run) start (unit_of k run)
-    (account_of k (told run)) rest (rw eq at (h.accounts k)) in
+-- what a start, and a finish, tell of their own unit
+pub start_own : (start : TestStart) → pending_in start.test.unit (Start start) ≡ Some started
+start_own start = rw (itself start.test.unit) refl
+
+pub script_own : (start : ScriptStart) → pending_in start.script.unit (ScriptStarts start) ≡ Some started
+script_own start = rw (itself start.script.unit) refl
+
+pub start_waits : (p : Settings) (over : Bool) (now : ℕ) (run : List Happening) (k : ℕ) (m : Message) (rest : List Message)
+    → Holds p over now run → queue run ≡ m ∷ rest → pending_in k m ≡ Some started → Waits p now run k
+start_waits p over now run k m rest h eq starts =
+    let found = start_of_unit (is_mismatched p k) (was_left k run) k m (unit_of k run)
+    (account_of k (told run)) rest starts (rw eq at (h.accounts k)) in
     let named = h.named k found.0 found.1 in
     record { unit = found.0; is = found.1; phase = found.2; latest = named.2; below = named.1; untold = found.3 }
 
@@ -112,7 +122,7 @@ pub record WaitsAgain (p : Settings) (now : ℕ) (run : List Happening) (k : ℕ
   pub phase : unit.phase ≡ RetrySent
   pub latest : unit.latest ≤ now
   pub below : k < units_in p
-  pub matched : is_mismatched p (place_of p k) ≡ false
+  pub matched : is_mismatched p k ≡ false
   pub runs : is_running (told run) k ≡ true
 
 -- it was told started, and then no finish
@@ -130,6 +140,7 @@ retry_in false left Running ss t q (told, waits) = cc
 retry_in false left Grace ss t q (told, waits) = cc
 retry_in false left KillWait ss t q (told, waits) = cc
 retry_in false left Leak ss t q (told, waits) = cc
+retry_in false left EnvWait ss t q (told, waits) = cc
 retry_in false left Deciding ss t q (early, (s, (e, (told, waits)))) = cc
 retry_in false left Delay ss t q (early, (s, (e, inl (told, waits)))) = cc
 retry_in false left Delay ss t q (early, (s, (e, inr (told, waits)))) = cc
@@ -158,7 +169,7 @@ pub retry_waits : (p : Settings) (over : Bool) (now : ℕ) (run : List Happening
     → Holds p over now run → queue run ≡ Retry retry ∷ rest → WaitsAgain p now run retry.start.test.unit
 retry_waits p over now run retry rest h eq =
     let k : ℕ = retry.start.test.unit in
-    let found = retry_of_unit (is_mismatched p (place_of p k)) (was_left k run) retry (unit_of k run)
+    let found = retry_of_unit (is_mismatched p k) (was_left k run) retry (unit_of k run)
     (account_of k (told run)) rest (rw eq at (h.accounts k)) in
     let named = h.named k found.0 found.1 in
     record {
@@ -186,6 +197,7 @@ finish_in false left Running ss fs t q (told, waits) = cc
 finish_in false left Grace ss fs t q (told, waits) = cc
 finish_in false left KillWait ss fs t q (told, waits) = cc
 finish_in false left Leak ss fs t q (told, waits) = cc
+finish_in false left EnvWait ss fs t q (told, waits) = cc
 finish_in false left Deciding ss fs t q (early, (s, (e, (told, waits)))) = cc
 finish_in false left Delay ss fs t q (early, (s, (e, inl (told, waits)))) = cc
 finish_in false left Delay ss fs t q (early, (s, (e, inr (told, waits)))) = cc
@@ -203,25 +215,27 @@ finish_in true left Over [] fs t q (inr (told, waits)) = cc
 finish_in true left Over (s ∷ ss) fs t q h = absurd h
 finish_in true left ph ss fs t q h = absurd h
 
-finish_of_unit : (mm left : Bool) (finish : TestFinish) (v : Option UnitView) (t : List News) (rest : List Message)
-    → HasAccount mm left v t (pending_of finish.test.unit (Finish finish ∷ rest))
+finish_of_unit : (mm left : Bool) (k : ℕ) (m : Message) (fs : List ExecuteStatus) (v : Option UnitView) (t : List News)
+    (rest : List Message) → pending_in k m ≡ Some (finished fs) → HasAccount mm left v t (pending_of k (m ∷ rest))
     → (u : UnitView) × (v ≡ Some u)
-    × ((early : List ExecuteStatus) × ((t ≡ started ∷ tried early) × (0 < length finish.statuses)))
-finish_of_unit mm left finish None t rest h = let never = (rw (itself finish.test.unit) at h).1 in cc
-finish_of_unit mm left finish (Some u) t rest h = (
-  u,
-  refl,
-  finish_in mm left u.phase u.statuses finish.statuses t (pending_of finish.test.unit rest)
-      (rw (itself finish.test.unit) at h),
-)
+    × ((early : List ExecuteStatus) × ((t ≡ started ∷ tried early) × (0 < length fs)))
+finish_of_unit mm left k m fs None t rest ends h = let never = (rw ends at h).1 in cc
+finish_of_unit mm left k m fs (Some u) t rest ends h =
+    (u, refl, finish_in mm left u.phase u.statuses fs t (pending_of k rest) (rw ends at h))
 
-pub finish_follows : (p : Settings) (over : Bool) (now : ℕ) (run : List Happening) (finish : TestFinish)
-    (rest : List Message)
-    → Holds p over now run → queue run ≡ Finish finish ∷ rest → Finishes p run finish.test.unit finish.statuses
-finish_follows p over now run finish rest h eq =
-    let k : ℕ = finish.test.unit in
-    let found = finish_of_unit (is_mismatched p (place_of p k)) (was_left k run) finish (unit_of k run)
-    (account_of k (told run)) rest (rw eq at (h.accounts k)) in
+pub finish_own : (finish : TestFinish) → pending_in finish.test.unit (Finish finish) ≡ Some (finished finish.statuses)
+finish_own finish = rw (itself finish.test.unit) refl
+
+pub script_finish_own : (finish : ScriptFinish)
+    → pending_in finish.script.unit (ScriptFinishes finish) ≡ Some (finished (attempt_of finish.status ∷ []))
+script_finish_own finish = rw (itself finish.script.unit) refl
+
+pub finish_follows : (p : Settings) (over : Bool) (now : ℕ) (run : List Happening) (k : ℕ) (m : Message)
+    (fs : List ExecuteStatus) (rest : List Message)
+    → Holds p over now run → queue run ≡ m ∷ rest → pending_in k m ≡ Some (finished fs) → Finishes p run k fs
+finish_follows p over now run k m fs rest h eq ends =
+    let found = finish_of_unit (is_mismatched p k) (was_left k run) k m fs (unit_of k run)
+    (account_of k (told run)) rest ends (rw eq at (h.accounts k)) in
     let named = h.named k found.0 found.1 in
     record {
       below = named.1;
@@ -229,13 +243,26 @@ finish_follows p over now run finish rest h eq =
       attempted = found.2.1.1;
     }
 
+-- the statistics have the reason that is given
+pub stats-reason : (p : Settings) (why : Option CancelReason) (n : ℕ) (fs : List FinishedUnit)
+    → (stats_after p why n fs).cancel_reason ≡ why
+unfolding total_by
+stats-reason p why n fs = refl
+
 -- a unit is let go where no cause stands
 pub may_go-is : (p : Settings) (run : List Happening) → may_go (tally p run) ≡ is_none (reason run)
-may_go-is p run = ap is_none (total-cancel_reason _ (finishes_told run))
+may_go-is p run = ap is_none (stats-reason p (reason run) (skipped run) (finishes_told run))
 
--- the oldest message is one that is sent yet
-pub oldest_built : (p : Settings) (over : Bool) (now : ℕ) (run : List Happening) (m : Message) (rest : List Message)
-    → Holds p over now run → queue run ≡ m ∷ rest → IsBuilt m
-oldest_built p over now run m rest h eq =
-    All-head IsBuilt m rest (All-same IsBuilt (m ∷ rest) (queue run) (sym eq)
-    (All-drop IsBuilt (delivered run) (sent run) h.built))
+-- the oldest message is one of its kind
+pub oldest_kind : (p : Settings) (over : Bool) (now : ℕ) (run : List Happening) (m : Message) (rest : List Message)
+    → Holds p over now run → queue run ≡ m ∷ rest → IsOfKind p m
+oldest_kind p over now run m rest h eq =
+    All-head (IsOfKind p) m rest (All-same (IsOfKind p) (m ∷ rest) (queue run) (sym eq)
+    (All-drop (IsOfKind p) (delivered run) (sent run) h.kinds))
+
+-- so the number of a script is below those of the tests
+pub script_below : (p : Settings) (k : ℕ) → is_script p k ≡ true → k < scripts_in p
+script_below p k is = grind (arith, nat_tests)
+
+pub test_above : (p : Settings) (k : ℕ) → is_script p k ≡ false → scripts_in p ≤ k
+test_above p k is = grind (arith, nat_tests)

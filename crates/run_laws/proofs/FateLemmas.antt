@@ -1,5 +1,5 @@
 -- Every test of a sub-run that has ended has its fate.
-use Rattle.std.proofs.Common.{◌≡◌, ◌≢◌, ◌⊎◌, inl, inr, ℕ, zero, suc, ◌<◌, ◌||◌, List, [], ◌∷◌, ◌++◌, length, get_or}
+use Rattle.std.proofs.Common.{◌≡◌, ◌≢◌, ◌⊎◌, inl, inr, ℕ, ◌<◌, ◌||◌, List, [], ◌∷◌, ◌++◌, length}
 use Rattle.std.proofs.Common.{Bool, true, false, not, if◌then◌else◌, Option, Some, None, refl, ap, sym, subst, ◌∙◌, arith}
 use Rattle.std.specs.Prelude.{IsTrue}
 use Rattle.std.specs.List.{list_all, All, Contains}
@@ -17,7 +17,7 @@ use Rattle.run_model.specs.declared.phase.Phase.TheVariants.{Over}
 use Rattle.run_model.specs.declared.unit_view.AttemptTerms.{AttemptTerms}
 use Rattle.run_model.specs.declared.unit_view.UnitView.{UnitView}
 use Rattle.run_model.specs.Words.{clock, is_over, sub_run, ended_runs, queue, told, unit_of, units}
-use Rattle.run_model.specs.Admission.{is_done, is_last, tests_in, unit_of_test, terms_at}
+use Rattle.run_model.specs.Admission.{is_done, is_last, units_in, unit_terms}
 use Rattle.run_model.specs.Board.{Deed, board, said}
 use Rattle.run_model.specs.Turns.{enabled, is_complete, is_empty, takes_turn, turn_of_unit, run_turn, deed_on, happening}
 use Rattle.run_model.specs.Journal.{history, IsLegalBackward}
@@ -31,7 +31,7 @@ use Rattle.run_model.specs.Fates.{told_ended, account, retold, failures, MeetsAt
 use Rattle.run_laws.proofs.Holds.{Holds, Way, way_of, HasEndedAs, IsOnWayIn, IsOnWayAt, IsOnWay}
 use Rattle.run_laws.proofs.AttemptLemmas.{IsMadeIf, made_statuses, made_ended, made_last}
 use Rattle.run_laws.proofs.OnBoard.{board_of, units-length, units-at}
-use Rattle.run_laws.proofs.Newcomers.{place-of_test}
+use Rattle.run_laws.proofs.Order.{all_at}
 use Rattle.run_laws.proofs.Kept.{HoldsAfter, does_after, IsOfRun, IsBeforeRuns, where_joins, holds}
 
 -- all that was told of some attempts: each but the last was tried again, and the last finished, or failed too
@@ -138,62 +138,49 @@ each_of mm w terms (Some u) story t d a made h =
     by_last (inl none) = ap length none.1 ∙ sym (ap length none.0)
     by_last (inr some) = sym (by_match mm a h some.1) ∙ some.0
 
--- each item of a list on which a test holds throughout passes
-all_at : {X : Type 0} (f : X → Bool) (xs : List X) (k : ℕ) (d : X) → list_all f xs ≡ true → k < length xs
-    → f (get_or xs k d) ≡ true
-all_at f [] k d h l = absurd (omega arith)
-all_at f (x ∷ xs) zero d h l = first_so (f x) (list_all f xs) h
-all_at f (x ∷ xs) (suc k) d h l = all_at f xs k d (second_so (f x) (list_all f xs) h) (omega arith)
-
 empty_is : (q : List Message) → is_empty q ≡ true → q ≡ []
 empty_is [] h = refl
 empty_is (m ∷ ms) h = cc
 
--- the end of a complete sub-run leaves each test with its fate
-end_fates : (p : Settings) (over : Bool) (now : ℕ) (run : List Happening) (e : Entry) (j : ℕ) → Holds p over now run
-    → j < tests_in p → is_complete (board_of p over now run) ≡ true
-    → HasFate p (said now e (run_turn p (board_of p over now run) End) ∷ run) j
-end_fates p over now run e j h below complete =
-    let k : ℕ = unit_of_test p j in
+-- the end of a complete sub-run leaves each unit with its fate
+end_fates : (p : Settings) (over : Bool) (now : ℕ) (run : List Happening) (e : Entry) (k : ℕ) → Holds p over now run
+    → k < units_in p → is_complete (board_of p over now run) ≡ true
+    → HasFate p (said now e (run_turn p (board_of p over now run) End) ∷ run) k
+end_fates p over now run e k h below complete =
     let all : list_all is_done (units p run) ≡ true =
     second_so (is_empty (queue run)) (list_all is_done (units p run)) complete in
     let empty : queue run ≡ [] = empty_is (queue run)
     (first_so (is_empty (queue run)) (list_all is_done (units p run)) complete) in
     let done : is_done (unit_of k run) ≡ true =
-    sym (ap is_done (units-at p run k (omega arith)))
+    sym (ap is_done (units-at p run k below))
     ∙ all_at is_done (units p run) k None all (omega (arith, units-length p run)) in
-    let made : IsMadeIf (terms_at p j) (unit_of k run) (story_of k run) =
-    subst (λ j. IsMadeIf (terms_at p j) (unit_of k run) (story_of k run)) (place-of_test p j) (h.made k) in
-    let way : IsOnWay (is_mismatched p j) (unit_of k run) (way_of k run) =
-    subst (λ j. IsOnWay (is_mismatched p j) (unit_of k run) (way_of k run)) (place-of_test p j) (h.on_way k) in
-    let told_all : HasAccount (is_mismatched p j) (was_left k run) (unit_of k run) (account_of k (told run)) [] =
-    subst (λ j. HasAccount (is_mismatched p j) (was_left k run) (unit_of k run) (account_of k (told run)) [])
-    (place-of_test p j) (rw empty at (h.accounts k)) in
-    let fate = fate_of (is_mismatched p j) (way_of k run) (terms_at p j) (unit_of k run) (story_of k run)
-    (account_of k (told run)) done way made told_all in
+    let made : IsMadeIf (unit_terms p k) (unit_of k run) (story_of k run) = h.made k in
+    let told_all : HasAccount (is_mismatched p k) (was_left k run) (unit_of k run) (account_of k (told run)) [] =
+    rw empty at (h.accounts k) in
+    let fate = fate_of (is_mismatched p k) (way_of k run) (unit_terms p k) (unit_of k run) (story_of k run)
+    (account_of k (told run)) done (h.on_way k) made told_all in
     record {
       account = filter_map-append (news_of k) (told run) _ ∙ append-nil (account_of k (told run)) ∙ fate.0;
       finished = fate.1;
       left = fate.2;
-      ended = going_none (terms_at p j) (unit_of k run) (story_of k run) done made;
+      ended = going_none (unit_terms p k) (unit_of k run) (story_of k run) done made;
       once = ap told_ended (filter_map-append (news_of k) (told run) _ ∙ append-nil (account_of k (told run)))
-          ∙ all_told (is_mismatched p j) (was_left k run) (unit_of k run) (statuses_of p j run) (account_of k (told run)) done
+          ∙ all_told (is_mismatched p k) (was_left k run) (unit_of k run) (statuses_of p k run) (account_of k (told run)) done
           told_all (λ u is. own_statuses u is made);
-      each = each_of (is_mismatched p j) (way_of k run) (terms_at p j) (unit_of k run) (story_of k run)
-          (account_of k (told run)) done way made told_all;
+      each = each_of (is_mismatched p k) (way_of k run) (unit_terms p k) (unit_of k run) (story_of k run)
+          (account_of k (told run)) done (h.on_way k) made told_all;
     }
   where
-    own_statuses : (u : UnitView) → unit_of (unit_of_test p j) run ≡ Some u
-        → IsMadeIf (terms_at p j) (unit_of (unit_of_test p j) run) (story_of (unit_of_test p j) run)
-        → u.statuses ≡ statuses_of p j run
+    own_statuses : (u : UnitView) → unit_of k run ≡ Some u → IsMadeIf (unit_terms p k) (unit_of k run) (story_of k run)
+        → u.statuses ≡ statuses_of p k run
     own_statuses u is made =
-        made_statuses (terms_at p j) u (pieces (story_of (unit_of_test p j) run))
-        (subst (λ v. IsMadeIf (terms_at p j) v (story_of (unit_of_test p j) run)) is made)
+        made_statuses (unit_terms p k) u (pieces (story_of k run))
+        (subst (λ v. IsMadeIf (unit_terms p k) v (story_of k run)) is made)
 
--- each test has its fate in the sub-run that a turn ends
+-- each unit has its fate in the sub-run that a turn ends
 ends_fates : (p : Settings) (past : List Happening) (e : Entry) (j : ℕ) → HoldsAfter p past
     → IsTrue (enabled p past e.turn)
-    → (happening p past e).ends ≡ true → j < tests_in p → HasFate p (sub_run (happening p past e ∷ past)) j
+    → (happening p past e).ends ≡ true → j < units_in p → HasFate p (sub_run (happening p past e ∷ past)) j
 ends_fates p past e j h en ends below =
     let end = (does_after p past e h en).marks.ends ends in by_run end (where_joins p past e h en)
   where
@@ -206,7 +193,7 @@ ends_fates p past e j h en ends below =
     by_run end (inr before) =
         let never : false ≡ true = sym (ap (λ (d : Deed). d.ends) before.idle) ∙ ends in cc
 
--- each test has its fate in each sub-run that has ended
+-- each unit has its fate in each sub-run that has ended
 pub ended_fates : (p : Settings) (backward : List Entry) → IsLegalBackward p backward
     → All (HaveFates p) (ended_runs (history p backward))
 ended_fates p [] legal = All-nil (HaveFates p)
@@ -250,7 +237,7 @@ over_ended p (e ∷ before) legal over =
     ends = sym (does_after p past e (holds p before legal.2) legal.0).marks.finishes
         ∙ first_holds (happening p past e).over (is_over past) over going
 
--- so where the run is over each test has its fate in its newest sub-run
+-- so where the run is over each unit has its fate in its newest sub-run
 pub fates : (p : Settings) (backward : List Entry) → IsLegalBackward p backward → is_over (history p backward) ≡ true
     → HaveFates p (sub_run (history p backward))
 fates p backward legal over =

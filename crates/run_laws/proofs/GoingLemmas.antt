@@ -1,6 +1,6 @@
 -- An attempt that goes on, and one that has ended, after one more turn.
 use Rattle.std.proofs.Common.{◌≡◌, ℕ, ◌+◌, ◌≤◌, List, [], ◌∷◌, ◌++◌, length, Bool, true, false, ◌&&◌, ◌||◌}
-use Rattle.std.proofs.Common.{if◌then◌else◌, Option, Some, None, refl, ap, sym, ◌∙◌}
+use Rattle.std.proofs.Common.{if◌then◌else◌, Option, Some, None, not, refl, ap, sym, ◌∙◌}
 use Rattle.run_clock.specs.Stopwatch.{started_at}
 use Rattle.run_capture.specs.Captured.{Captured, is_done}
 use Rattle.run_events.specs.declared.request.Request.{Request}
@@ -8,25 +8,35 @@ use Rattle.run_events.specs.declared.result.ChildExit.{ChildExit}
 use Rattle.run_events.specs.declared.result.ChildExecutionOutput.TheVariants.{Output, StartError}
 use Rattle.run_events.specs.declared.result.ExecuteStatus.{ExecuteStatus}
 use Rattle.run_events.specs.declared.result.ExecutionResult.TheVariants.{ExecFail}
+use Rattle.run_events.specs.declared.result.ScriptEnv.TheVariants.{Unread}
 use Rattle.run_model.specs.declared.phase.Phase.{Phase}
 use Rattle.run_model.specs.declared.phase.Phase.TheVariants.{Starting, Leak}
 use Rattle.run_model.specs.declared.unit_turn.UnitTurn.{UnitTurn}
-use Rattle.run_model.specs.declared.unit_turn.UnitTurn.TheVariants.{StartFailed}
+use Rattle.run_commands.specs.declared.script_helpers.EnvInput.{EnvInput}
+use Rattle.run_model.specs.declared.unit_turn.UnitTurn.TheVariants.{StartFailed, Env}
 use Rattle.run_model.specs.declared.unit_view.AttemptTerms.{AttemptTerms}
 use Rattle.run_model.specs.declared.unit_view.UnitView.{UnitView}
-use Rattle.run_model.specs.Unit.{at_moment, result_of, status_at, ended, exited}
+use Rattle.run_model.specs.Env.{env_of}
+use Rattle.run_model.specs.Unit.{at_moment, result_of, result_with, status_at, ended, ended_with, awaits_env, awaiting_env}
 use Rattle.run_model.specs.Story.{OwnTurn, Attempt, cut}
-use Rattle.run_model.specs.Attempts.{has_ended, end_of, status_of, delay_after, ended_statuses}
+use Rattle.run_model.specs.Attempts.{env_in, env_read, is_settled, awaits_env_file, has_ended, end_of, status_of, delay_after}
+use Rattle.run_model.specs.Attempts.{ended_statuses}
 use Rattle.run_laws.proofs.CaptureLemmas.{taken}
 use Rattle.run_laws.proofs.TimerLemmas.{HasTimer, timer_later}
-use Rattle.run_laws.proofs.PieceLemmas.{IsAt, ended_as, unended_has, end_more, status_as, refused_as}
+use Rattle.run_laws.proofs.PieceLemmas.{IsAt, at_more, settled_as, awaits_as, end_more, status_as, refused_as}
+use Rattle.run_laws.proofs.PieceLemmas.{refused_ends, quiet_said}
+
+-- the attempt of a piece hasn't ended, and no environment file was read
+abbrev pub IsUnended : AttemptTerms → List OwnTurn → Type 0
+IsUnended terms piece = (end_of terms piece ≡ None) × (env_read piece ≡ None)
 
 -- the attempt of a unit goes on after the turns of a piece, on these terms and in this phase: whether its child is waited
 -- for no more, and how that ended
 pub record IsGoing (terms : AttemptTerms) (ph : Phase) (waited : Bool) (exit : Option ChildExit) (u : UnitView)
     (piece : List OwnTurn) : Type 0 where
   pub is_at : IsAt terms u.timers.stopwatch.start waited exit false u.timers.slow_count u.capture piece
-  pub not_ended : end_of terms piece ≡ None
+  pub not_ended : IsUnended terms piece
+  pub unsettled : is_settled terms piece ≡ false
   pub watch : u.timers.stopwatch ≡ started_at u.timers.stopwatch.start
   pub timer : HasTimer terms ph u.timers u.latest piece
 
@@ -46,6 +56,7 @@ pub going_later : (terms : AttemptTerms) (ph : Phase) (waited : Bool) (exit : Op
 going_later terms ph waited exit now u piece le on = record {
   is_at = on.is_at;
   not_ended = on.not_ended;
+  unsettled = on.unsettled;
   watch = on.watch;
   timer = timer_later terms ph u.timers u.latest now piece le on.timer;
 }
@@ -57,6 +68,7 @@ pub going_lined : (terms : AttemptTerms) (ph : Phase) (waited : Bool) (exit : Op
 going_lined terms ph waited exit line u piece on = record {
   is_at = on.is_at;
   not_ended = on.not_ended;
+  unsettled = on.unsettled;
   watch = on.watch;
   timer = on.timer;
 }
@@ -69,22 +81,38 @@ unsettled true false true e = cc
 unsettled true false false e = refl
 unsettled false skips done e = refl
 
+ended_not : (settled awaits : Bool) → settled ≡ false → (settled && not awaits) ≡ false
+ended_not true awaits e = cc
+ended_not false awaits e = refl
+
+-- no environment file is read with such a turn
+pub unread_more : (t : OwnTurn) (before : List OwnTurn) → env_read before ≡ None → env_in t.turn ≡ None
+    → env_read (t ∷ before) ≡ None
+unread_more t before none quiet = rw none quiet
+
 pub going_more : (terms : AttemptTerms) (ph : Phase) (waited : Bool) (exit : Option ChildExit) (u : UnitView)
     (t : OwnTurn) (before : List OwnTurn)
     → IsAt terms u.timers.stopwatch.start waited exit false u.timers.slow_count u.capture (t ∷ before)
-    → end_of terms before ≡ None → (waited && (terms.skips_leak_detection || is_done u.capture)) ≡ false
+    → IsUnended terms before → env_in t.turn ≡ None
+    → (waited && (terms.skips_leak_detection || is_done u.capture)) ≡ false
     → u.timers.stopwatch ≡ started_at u.timers.stopwatch.start
     → HasTimer terms ph u.timers u.latest (t ∷ before)
     → IsGoing terms ph waited exit u (t ∷ before)
-going_more terms ph waited exit u t before it none goes watch timer = record {
+going_more terms ph waited exit u t before it none quiet goes watch timer = record {
   is_at = it;
-  not_ended =
-      end_more terms t before false none
-      (ended_as terms u.timers.stopwatch.start waited exit false u.timers.slow_count u.capture (t ∷ before) it
-      ∙ unsettled waited terms.skips_leak_detection (is_done u.capture) goes);
+  not_ended = (
+    end_more terms t before false none.0 (ended_not _ (awaits_env_file terms (t ∷ before)) still),
+    unread_more t before none.1 quiet,
+  );
+  unsettled = still;
   watch = watch;
   timer = timer;
 }
+  where
+    still : is_settled terms (t ∷ before) ≡ false
+    still =
+        settled_as terms u.timers.stopwatch.start waited exit false u.timers.slow_count u.capture (t ∷ before) it
+        ∙ unsettled waited terms.skips_leak_detection (is_done u.capture) goes
 
 -- one that goes on and whose child is waited for no more waits for a stream
 pub waits_on : (ph : Phase) (waited : Bool) (exit : Option ChildExit) (u : UnitView) (piece : List OwnTurn)
@@ -92,8 +120,8 @@ pub waits_on : (ph : Phase) (waited : Bool) (exit : Option ChildExit) (u : UnitV
     → (waited && (u.terms.skips_leak_detection || is_done u.capture)) ≡ false
 waits_on ph waited exit u piece on =
     by_done waited u.terms.skips_leak_detection (is_done u.capture)
-    (sym (ended_as u.terms u.timers.stopwatch.start waited exit false u.timers.slow_count u.capture piece on.is_at)
-    ∙ unended_has u.terms piece on.not_ended)
+    (sym (settled_as u.terms u.timers.stopwatch.start waited exit false u.timers.slow_count u.capture piece on.is_at)
+    ∙ on.unsettled)
   where
     by_done : (w s d : Bool) → (w && (s || d || false)) ≡ false → (w && (s || d)) ≡ false
     by_done true true d e = e
@@ -144,29 +172,132 @@ past_with terms statuses status piece earlier ends is ss =
     ap (λ ss. ss ++ status ∷ []) ss ∙ ap (λ status. ended_statuses terms earlier ++ status ∷ []) is
     ∙ sym (ended_statuses-past terms piece earlier ends)
 
--- it ends where its child is waited for no more, and its streams aren't waited for, are done, or were waited for as long
--- as they may be
+-- it ends where its child is done with, and no environment file is to be read
+ends_settled : (settled awaits : Bool) → settled ≡ true → awaits ≡ false → (settled && not awaits) ≡ true
+ends_settled true false e n = refl
+ends_settled settled awaits e n = cc
+
 pub past_exited : (now : ℕ) (exit : Option ChildExit) (leaked : Bool) (c : Captured) (turn : UnitTurn) (u : UnitView)
     (piece : List OwnTurn) (earlier : List Attempt)
     → IsAt u.terms u.timers.stopwatch.start true exit leaked u.timers.slow_count c (taken now turn None ∷ piece)
-    → end_of u.terms piece ≡ None → (u.terms.skips_leak_detection || is_done c || leaked) ≡ true
+    → IsUnended u.terms piece → env_in turn ≡ None → (u.terms.skips_leak_detection || is_done c || leaked) ≡ true
+    → awaits_env (result_of exit c.errors leaked u) u ≡ false
     → u.timers.stopwatch ≡ started_at u.timers.stopwatch.start → u.attempt ≡ length earlier + 1
-    → Follows u.terms u earlier → IsPast u.terms (exited now exit leaked c u) (taken now turn None ∷ piece) earlier
-past_exited now exit leaked c turn u piece earlier it none done watch a (ss, delay) = (
+    → Follows u.terms u earlier
+    → IsPast u.terms (ended now (result_of exit c.errors leaked u) (Output c.output c.errors) u)
+    (taken now turn None ∷ piece) earlier
+past_exited now exit leaked c turn u piece earlier it none quiet done awaits watch a (ss, delay) = (
   ends,
   past_with u.terms u.statuses
       (status_at now (result_of exit c.errors leaked u) (Output c.output c.errors) u) (taken now turn None ∷ piece) earlier ends
-      (status_as true exit leaked c now (delay_after u.terms.retries earlier) (length earlier + 1)
-      (taken now turn None ∷ piece) u it watch end a delay) ss,
+      (status_as Unread true exit leaked c now (delay_after u.terms.retries earlier) (length earlier + 1)
+      (taken now turn None ∷ piece) u it watch (rw unread refl) end a delay) ss,
 )
   where
+    unread : env_read (taken now turn None ∷ piece) ≡ None
+    unread = unread_more (taken now turn None) piece none.1 quiet
+
     ends : has_ended u.terms (taken now turn None ∷ piece) ≡ true
     ends =
-        ended_as u.terms u.timers.stopwatch.start true exit leaked u.timers.slow_count c (taken now turn None ∷ piece) it
-        ∙ done
+        ends_settled _ _
+        (settled_as u.terms u.timers.stopwatch.start true exit leaked u.timers.slow_count c (taken now turn None ∷ piece) it
+        ∙ done)
+        (awaits_as u.timers.stopwatch.start true exit leaked c (taken now turn None ∷ piece) u it unread ∙ awaits)
 
     end : end_of u.terms (taken now turn None ∷ piece) ≡ Some now
-    end = end_more u.terms (taken now turn None) piece true none ends
+    end = end_more u.terms (taken now turn None) piece true none.0 ends
+
+-- the child of a unit is done with, and its environment file is to be read
+pub record IsAwaiting (terms : AttemptTerms) (u : UnitView) (piece : List OwnTurn) : Type 0 where
+  pub is_at : IsAt terms u.timers.stopwatch.start true u.exit u.leaked u.timers.slow_count u.capture piece
+  pub not_ended : IsUnended terms piece
+  pub settled : is_settled terms piece ≡ true
+  pub watch : u.timers.stopwatch ≡ started_at u.timers.stopwatch.start
+
+-- so where it ended well
+ended_awaiting : (settled awaits : Bool) → awaits ≡ true → (settled && not awaits) ≡ false
+ended_awaiting true true e = refl
+ended_awaiting false true e = refl
+ended_awaiting settled false e = cc
+
+pub awaiting_exited : (now : ℕ) (exit : Option ChildExit) (leaked : Bool) (c : Captured) (turn : UnitTurn) (u : UnitView)
+    (piece : List OwnTurn)
+    → IsAt u.terms u.timers.stopwatch.start true exit leaked u.timers.slow_count c (taken now turn None ∷ piece)
+    → IsUnended u.terms piece → env_in turn ≡ None → (u.terms.skips_leak_detection || is_done c || leaked) ≡ true
+    → awaits_env (result_of exit c.errors leaked u) u ≡ true
+    → u.timers.stopwatch ≡ started_at u.timers.stopwatch.start
+    → IsAwaiting u.terms (awaiting_env exit leaked c u) (taken now turn None ∷ piece)
+awaiting_exited now exit leaked c turn u piece it none quiet done awaits watch = record {
+  is_at = it;
+  not_ended = (
+    end_more u.terms (taken now turn None) piece false none.0 (ended_awaiting _ _
+        (awaits_as u.timers.stopwatch.start true exit leaked c (taken now turn None ∷ piece) u it unread ∙ awaits)),
+    unread,
+  );
+  settled =
+      settled_as u.terms u.timers.stopwatch.start true exit leaked u.timers.slow_count c (taken now turn None ∷ piece) it
+      ∙ done;
+  watch = watch;
+}
+  where
+    unread : env_read (taken now turn None ∷ piece) ≡ None
+    unread = unread_more (taken now turn None) piece none.1 quiet
+
+-- the moment of the latest turn may be later, and the requests that wait for it say nothing of it
+pub awaiting_later : (terms : AttemptTerms) (now : ℕ) (u : UnitView) (piece : List OwnTurn)
+    → IsAwaiting terms u piece → IsAwaiting terms (at_moment now u) piece
+awaiting_later terms now u piece on = record {
+  is_at = on.is_at;
+  not_ended = on.not_ended;
+  settled = on.settled;
+  watch = on.watch;
+}
+
+pub awaiting_lined : (terms : AttemptTerms) (line : List Request) (u : UnitView) (piece : List OwnTurn)
+    → IsAwaiting terms u piece → IsAwaiting terms (record u { line = line }) piece
+awaiting_lined terms line u piece on = record {
+  is_at = on.is_at;
+  not_ended = on.not_ended;
+  settled = on.settled;
+  watch = on.watch;
+}
+
+-- it ends where its environment file was read, or could not be
+reads_no_more : (reads success : Bool) → not (reads && success && false) ≡ true
+reads_no_more true true = refl
+reads_no_more true false = refl
+reads_no_more false success = refl
+
+pub past_read : (now : ℕ) (input : EnvInput) (u : UnitView) (piece : List OwnTurn) (earlier : List Attempt)
+    → IsAwaiting u.terms u piece → u.attempt ≡ length earlier + 1 → Follows u.terms u earlier
+    → IsPast u.terms (ended_with now (env_of input) u.exit u.leaked u.capture u) (taken now (Env input) None ∷ piece) earlier
+past_read now input u piece earlier on a (ss, delay) = (
+  ends,
+  past_with u.terms u.statuses
+      (status_at now (result_with (env_of input) (result_of u.exit u.capture.errors u.leaked u))
+      (Output u.capture.output u.capture.errors) u) (taken now (Env input) None ∷ piece) earlier ends
+      (status_as (env_of input) true u.exit u.leaked u.capture now (delay_after u.terms.retries earlier) (length earlier + 1)
+      (taken now (Env input) None ∷ piece) u it on.watch (rw on.not_ended.1 refl) end a delay) ss,
+)
+  where
+    it : IsAt u.terms u.timers.stopwatch.start true u.exit u.leaked u.timers.slow_count u.capture
+        (taken now (Env input) None ∷ piece)
+    it = rw (quiet_said u.exit) at
+        (at_more u.terms u.timers.stopwatch.start true u.exit u.leaked u.timers.slow_count u.capture now (Env input) None piece
+        on.is_at refl refl)
+
+    still : is_settled u.terms (taken now (Env input) None ∷ piece) ≡ true
+    still =
+        settled_as u.terms u.timers.stopwatch.start true u.exit u.leaked u.timers.slow_count u.capture
+        (taken now (Env input) None ∷ piece) it
+        ∙ sym (settled_as u.terms u.timers.stopwatch.start true u.exit u.leaked u.timers.slow_count u.capture piece on.is_at)
+        ∙ on.settled
+
+    ends : has_ended u.terms (taken now (Env input) None ∷ piece) ≡ true
+    ends = rw (still, on.not_ended.1) (reads_no_more u.terms.reads_env _)
+
+    end : end_of u.terms (taken now (Env input) None ∷ piece) ≡ Some now
+    end = end_more u.terms (taken now (Env input) None) piece true on.not_ended.0 ends
 
 -- it ends where its start was refused
 pub past_refused : (now : ℕ) (error : List ℕ) (exit : Option ChildExit) (u : UnitView) (piece : List OwnTurn)
@@ -178,8 +309,8 @@ past_refused now error exit u piece earlier on a (ss, delay) = (
   past_with u.terms u.statuses (status_at now ExecFail (StartError error) u)
       (taken now (StartFailed error) None ∷ piece) earlier ends
       (refused_as now (delay_after u.terms.retries earlier) (length earlier + 1) error exit u.capture piece u on.is_at
-      on.watch on.not_ended a delay) ss,
+      on.watch on.not_ended.1 on.not_ended.0 a delay) ss,
 )
   where
     ends : has_ended u.terms (taken now (StartFailed error) None ∷ piece) ≡ true
-    ends = rw on.is_at.not_refused refl
+    ends = refused_ends u.terms now error piece on.is_at.not_refused

@@ -1,10 +1,11 @@
 -- What holds of the newest sub-run after every legal journal.
-use Rattle.std.specs.Prelude.{ℕ, ◌≡◌, ◌+◌, ◌-◌, ◌<◌, ◌≤◌, List, [], ◌∷◌, ◌++◌, map, length, Bool, true, false, not}
-use Rattle.std.specs.Prelude.{Option, Some, None, ⊤}
-use Rattle.std.specs.List.{All, list_all}
+use Rattle.std.specs.Prelude.{ℕ, ◌≡◌, ◌+◌, ◌<◌, ◌≤◌, List, [], ◌∷◌, ◌++◌, map, length, Bool, true, false, not}
+use Rattle.std.specs.Prelude.{Option, Some, None, is_some}
+use Rattle.std.specs.List.{All, list_all, list_any}
 use Rattle.run_events.specs.Result.{is_success}
 use Rattle.run_events.specs.declared.message.Message.{Message}
-use Rattle.run_events.specs.declared.message.Message.TheVariants.{Start, Slow, AttemptFailed, Retry, Skip, Finish}
+use Rattle.run_events.specs.declared.message.Message.TheVariants.{ScriptStart, ScriptSlow, ScriptFinish, Start, Slow}
+use Rattle.run_events.specs.declared.message.Message.TheVariants.{AttemptFailed, Retry, Skip, Finish}
 use Rattle.run_events.specs.declared.plan.SlowTimeout.{SlowTimeout}
 use Rattle.run_events.specs.declared.request.ChildSignal.TheVariants.{End}
 use Rattle.run_events.specs.declared.settings.Settings.{Settings}
@@ -13,23 +14,31 @@ use Rattle.run_events.specs.declared.result.ExecuteStatus.{ExecuteStatus}
 use Rattle.run_model.specs.declared.happening.Happening.{Happening}
 use Rattle.run_model.specs.declared.phase.Phase.{Phase}
 use Rattle.run_model.specs.declared.phase.Phase.TheVariants.{StartSent, Deciding, Delay, RetrySent, Over}
+use Rattle.run_model.specs.declared.unit_view.UnitRole.{UnitRole}
+use Rattle.run_model.specs.declared.unit_view.UnitRole.TheVariants as roles
 use Rattle.run_model.specs.declared.unit_view.UnitView.{UnitView}
-use Rattle.run_model.specs.Admission.{scripts_in, units_in, terms_at}
+use Rattle.run_model.specs.Environment.{number}
+use Rattle.run_model.specs.Admission.{is_script, units_in, unit_terms}
 use Rattle.run_model.specs.Words.{is_on, heard, sent, delivered, queue, told, skipped, finished, unit_of}
-use Rattle.run_model.specs.Accounts.{HasLast, is_mismatched, IsAccountedAs}
+use Rattle.run_model.specs.Accounts.{HasLast, is_mismatched, IsAccounted}
 use Rattle.run_model.specs.Backoff.{retry_count}
 use Rattle.run_model.specs.Story.{story_of, line_of, taken_by, broadcast_to, pieces, deliveries, never_started, was_left}
 use Rattle.run_model.specs.Fates.{MeetsAttemptLaw, HasRetryLeft}
 use Rattle.run_laws.specs.Reports.{signals_asked, signals_by, reports_told, reports_waiting, reports_by}
+use Rattle.run_laws.specs.Scripts.{starts_test}
 use Rattle.run_laws.proofs.AttemptLemmas.{IsMadeIf}
+use Rattle.run_laws.proofs.Order.{is_of_script, AreSorted, AreScriptsOver, AreSettled}
 
--- the place of a unit among the tests of the plan, where it is a test
-abbrev pub place_of : Settings → ℕ → ℕ
-place_of p k = k - scripts_in p
+-- whether a role is that of a script
+abbrev pub is_script_role : UnitRole → Bool
+is_script_role (roles.Test t) = false
+is_script_role (roles.Script s) = true
 
--- a unit is known by its number, that is one of the plan, and took no turn later than now
-abbrev pub IsNamed : ℕ → ℕ → ℕ → Option UnitView → Type 0
-IsNamed n now k v = (u : UnitView) → v ≡ Some u → (u.test.unit ≡ k) × (k < n) × (u.latest ≤ now)
+-- a unit is known by its number, that is one of the plan, and took no turn later than now; it is a script where its number
+-- says so
+abbrev pub IsNamed : Settings → ℕ → ℕ → Option UnitView → Type 0
+IsNamed p now k v = (u : UnitView) → v ≡ Some u
+    → (number u ≡ k) × (k < units_in p) × (u.latest ≤ now) × (is_script_role u.role ≡ is_script p k)
 
 -- the requests in the line of a unit are those that it has not taken: none before it was let go, and once it is over
 abbrev pub HasLineIn : Phase → List Request → List Request → Type 0
@@ -41,15 +50,17 @@ abbrev pub HasLine : Option UnitView → List Request → Type 0
 HasLine None is = is ≡ []
 HasLine (Some u) is = HasLineIn u.phase u.line is
 
--- a message that is sent yet: one of a test
-abbrev pub IsBuilt : Message → Type 0
-IsBuilt (Start start) = ⊤
-IsBuilt (Slow slow) = ⊤
-IsBuilt (AttemptFailed failure) = ⊤
-IsBuilt (Retry retry) = ⊤
-IsBuilt (Skip skip) = ⊤
-IsBuilt (Finish finish) = ⊤
-IsBuilt m = ⊥
+-- a message of a script has the number of one, and a message of a test that of one
+abbrev pub IsOfKind : Settings → Message → Type 0
+IsOfKind p (ScriptStart start) = is_script p start.script.unit ≡ true
+IsOfKind p (ScriptSlow slow) = is_script p slow.script.unit ≡ true
+IsOfKind p (ScriptFinish finish) = is_script p finish.script.unit ≡ true
+IsOfKind p (Start start) = is_script p start.test.unit ≡ false
+IsOfKind p (Slow slow) = is_script p slow.test.unit ≡ false
+IsOfKind p (AttemptFailed failure) = is_script p failure.test.unit ≡ false
+IsOfKind p (Retry retry) = is_script p retry.start.test.unit ≡ false
+IsOfKind p (Skip skip) = is_script p skip.test.unit ≡ false
+IsOfKind p (Finish finish) = is_script p finish.test.unit ≡ false
 
 -- what becomes of a test in a sub-run: it was never started, or it was left, by so many deliveries of its start and its retries
 pub record Way : Type 0 where
@@ -107,21 +118,25 @@ pub record IsReported (slow : SlowTimeout) (k : ℕ) (run : List Happening) : Ty
       ≡ reports_by slow (pieces (story_of k run))
 
 -- of a sub-run at this moment, by whether the run is over: no more messages are delivered than sent, no more skips and
--- finishes are told than it has turns, the dispatcher heard none later, units are named, each test has its account, and
--- its attempts, signals and slow reports are its own turns. No script is a unit yet, so of a number that is no test's
--- nothing is told
+-- finishes are told than it has turns, the dispatcher heard none later, units are named, each has its account, and its
+-- attempts, signals and slow reports are its own turns
 pub record Holds (p : Settings) (over : Bool) (now : ℕ) (run : List Happening) : Type 0 where
   pub fits : delivered run ≤ length (sent run)
   pub counted : skipped run + length (finished run) ≤ length run
   pub heard : heard run ≤ now
-  pub named : (k : ℕ) → IsNamed (units_in p) now k (unit_of k run)
-  pub accounts : (k : ℕ) → IsAccountedAs p (place_of p k) k run
-  pub reported : (k : ℕ) → IsReported (terms_at p (place_of p k)).slow k run
-  pub made : (k : ℕ) → IsMadeIf (terms_at p (place_of p k)) (unit_of k run) (story_of k run)
+  pub named : (k : ℕ) → IsNamed p now k (unit_of k run)
+  pub accounts : (k : ℕ) → IsAccounted p k run
+  pub reported : (k : ℕ) → IsReported (unit_terms p k).slow k run
+  pub made : (k : ℕ) → IsMadeIf (unit_terms p k) (unit_of k run) (story_of k run)
   -- before a sub-run is on, and the run not over, nothing has happened: no further sub-run begins yet
   pub fresh : is_on run ≡ false → over ≡ false → run ≡ []
-  -- no other message is sent yet
-  pub built : All IsBuilt (sent run)
-  pub on_way : (k : ℕ) → IsOnWay (is_mismatched p (place_of p k)) (unit_of k run) (way_of k run)
+  pub kinds : All (IsOfKind p) (sent run)
+  pub on_way : (k : ℕ) → IsOnWay (is_mismatched p k) (unit_of k run) (way_of k run)
   pub lines : (k : ℕ) → HasLine (unit_of k run) (line_of k run)
   pub taken : (k : ℕ) → taken_by k run ≤ length (broadcast_to k run)
+  -- a test is admitted, and sends, once all scripts are over; so no message of a script comes after one of a test, and
+  -- none waits once a test was told started
+  pub admitted : (k : ℕ) → is_script p k ≡ false → is_some (unit_of k run) ≡ true → AreScriptsOver p run
+  pub tests_sent : list_any (λ m. not (is_of_script m)) (sent run) ≡ true → AreScriptsOver p run
+  pub sorted : AreSorted (sent run)
+  pub tests_told : list_any starts_test (told run) ≡ true → AreSettled p run

@@ -1,5 +1,5 @@
 -- Where the tests stand on the board, after one was admitted.
-use Rattle.std.proofs.Common.{◌≡◌, ◌≢◌, slice_get, inl, inr, ℕ, ◌<◌, ◌==◌, List, [], ◌∷◌}
+use Rattle.std.proofs.Common.{◌≡◌, ◌≢◌, ◌⊎◌, slice_get, inl, inr, ℕ, ◌<◌, ◌==◌, List, [], ◌∷◌}
 use Rattle.std.proofs.Common.{length, get_or, set, map, drop, Bool}
 use Rattle.std.proofs.Common.{true, false, if◌then◌else◌, Option, Some, None, option_map, option_and_then}
 use Rattle.std.proofs.Common.{refl, ap, sym, subst, ◌∙◌, arith, get_or-set_other, length-drop}
@@ -21,15 +21,20 @@ use Rattle.run_admission.proofs.FewerLemmas.{AreKept, IsBelow}
 use Rattle.run_admission.proofs.AdmittedLemmas.{IsRun, run_is, kept_admitted}
 use Rattle.run_model.specs.declared.happening.Happening.{Happening}
 use Rattle.run_model.specs.declared.happening.UnitPart.TheVariants.{Joins}
+use Rattle.run_model.specs.declared.phase.Phase.TheVariants.{StartSent}
+use Rattle.run_model.specs.declared.unit_view.UnitRole.{UnitRole}
+use Rattle.run_model.specs.declared.unit_view.UnitRole.TheVariants as roles
 use Rattle.run_model.specs.declared.unit_view.UnitView.{UnitView}
+use Rattle.run_model.specs.Environment.{number_of, number}
 use Rattle.run_model.specs.Words.{unit_of, units}
-use Rattle.run_model.specs.Admission.{seat_of, scripts_in, tests_in, unit_of_test, limits_of, group_slot}
-use Rattle.run_model.specs.Admission.{Newcomer, newcomer, first_view, skipped_view, slots_of, is_last}
+use Rattle.run_model.specs.Admission.{seat_as, seat_of, scripts_in, tests_in, unit_of_test, limits_of, group_slot}
+use Rattle.run_model.specs.Admission.{Newcomer, newcomer, first_view, skipped_view, script_view, handed_to, slots_of, is_last}
+use Rattle.run_model.specs.Admission.{start_message}
 use Rattle.run_laws.specs.Limits.{seat_in, limits_with}
 use Rattle.run_laws.proofs.OnBoard.{units-length, units-at}
 use Rattle.run_laws.proofs.OpenSeats.{opened, at_last, AreLower}
 use Rattle.run_laws.proofs.AccountLemmas.{IsFirst}
-use Rattle.run_laws.proofs.Newcomers.{Becomes, Newcomes, newcomer_is, IsNew}
+use Rattle.run_laws.proofs.Newcomers.{Becomes, Newcomes, ScriptComes, newcomer_is, IsNew}
 use Rattle.run_laws.proofs.BoardSeats.{board_seat, seat_after, AreKeptIn, kept_fewer}
 
 -- the seats of the tests on the board are those of the history, one by one
@@ -98,16 +103,17 @@ no_group_slot p us test place global slot planned runs none = by_run (run_is (li
         ∙ ap (λ o. option_map (λ g. least_free (slot_in g) (tests (limits_of p us)))
         (option_and_then (group_of p.plan.groups) o)) none
 
--- an admission keeps the limits on the board
-pub joins_kept : (p : Settings) (now : ℕ) (run : List Happening) (new : Newcomer) → newcomer p (units p run) ≡ Some new
+-- the admission of a test keeps the limits on the board
+test_kept : (p : Settings) (now : ℕ) (run : List Happening) (new : Newcomer) → Newcomes p (units p run) new
     → AreKeptIn p (board_seat run) → AreKeptIn p (seat_after now (Some (Joins new.unit)) run)
-joins_kept p now run new e kept = by_case found.is
+test_kept p now run new found kept = by_case found.is
   where
-    found : Newcomes p (units p run) new
-    found = newcomer_is p (units p run) new e
-
     k : ℕ
     k = unit_of_test p found.place
+
+    first_in : ℕ → Option ℕ → UnitView
+    first_in global slot =
+        first_view p k (slots_of found.test global slot) (handed_to p (units p run) found.test) found.test
 
     skips : AreLower (seat_after now (Some (Joins (skipped_view p k found.test))) run) (board_seat run)
     skips i = by_unit (k == i)
@@ -118,7 +124,7 @@ joins_kept p now run new e kept = by_case found.is
         by_unit false used = refl
 
     starts : (global : ℕ) (slot : Option ℕ) → admitted (limits_of p (units p run)) ≡ Some (Run found.place global slot)
-        → AreKeptIn p (seat_after now (Some (Joins (first_view p k (slots_of found.test global slot) found.test))) run)
+        → AreKeptIn p (seat_after now (Some (Joins (first_in global slot))) run)
     starts global slot runs =
         subst (λ ss. AreKept (record (limits_with p (board_seat run)) { seats = ss }))
         (ap (λ ss. set ss found.place (InUse global slot)) (seats_listed p run)
@@ -128,7 +134,7 @@ joins_kept p now run new e kept = by_case found.is
         (subst AreKept (sym (limits_on_board p run)) kept))
       where
         first : UnitView
-        first = first_view p k (slots_of found.test global slot) found.test
+        first = first_in global slot
 
         after : ℕ → Seat
         after = seat_after now (Some (Joins first)) run
@@ -155,6 +161,32 @@ joins_kept p now run new e kept = by_case found.is
         subst (λ (n : Newcomer). AreKeptIn p (seat_after now (Some (Joins n.unit)) run)) (sym is)
         (starts global slot runs)
 
+-- and so does that of a script, which holds none
+script_kept : (p : Settings) (now : ℕ) (run : List Happening) (new : Newcomer) → ScriptComes p (units p run) new
+    → AreKeptIn p (board_seat run) → AreKeptIn p (seat_after now (Some (Joins new.unit)) run)
+script_kept p now run new found kept =
+    subst (λ (n : Newcomer). AreKeptIn p (seat_after now (Some (Joins n.unit)) run)) (sym found.is)
+    (kept_fewer p (seat_after now (Some (Joins (script_view p found.place found.script))) run) (board_seat run) lower kept)
+  where
+    lower : AreLower (seat_after now (Some (Joins (script_view p found.place found.script))) run) (board_seat run)
+    lower i = by_unit (found.place == i)
+      where
+        by_unit : (b : Bool)
+            → IsBelow (seat_of (if b then Some (script_view p found.place found.script) else unit_of i run))
+            (board_seat run i)
+        by_unit true used = cc
+        by_unit false used = refl
+
+-- an admission keeps the limits on the board
+pub joins_kept : (p : Settings) (now : ℕ) (run : List Happening) (new : Newcomer) → newcomer p (units p run) ≡ Some new
+    → AreKeptIn p (board_seat run) → AreKeptIn p (seat_after now (Some (Joins new.unit)) run)
+joins_kept p now run new e kept = by_kind (newcomer_is p (units p run) new e)
+  where
+    by_kind : Newcomes p (units p run) new ⊎ ScriptComes p (units p run) new
+        → AreKeptIn p (seat_after now (Some (Joins new.unit)) run)
+    by_kind (inl test) = test_kept p now run new test kept
+    by_kind (inr script) = script_kept p now run new script kept
+
 -- an admission leaves the last seats below the board's: a start opens its seat
 pub joins_last : (p : Settings) (now : ℕ) (run : List Happening) (first : UnitView) (sent : Message) (seat : ℕ → Seat)
     → IsNew p run first sent → AreLower seat (board_seat run)
@@ -164,24 +196,38 @@ joins_last p now run first sent seat new below = by_kind _ first sent new.first 
     idle : (s t : Seat) → IsBelow s Waiting → IsBelow s t
     idle s t h used = let bad : true ≡ false = sym used ∙ ap is_in_use (h used) in cc
 
-    by_kind : (mm : Bool) (u : UnitView) (m : Message) → IsFirst mm u m → unit_of u.test.unit run ≡ None
-        → AreLower (at_last seat (m ∷ [])) (seat_after now (Some (Joins u)) run)
-    by_kind true u m (ph, (reason, is)) unknown k =
-        subst (λ m. IsBelow (opened m seat k) (seat_after now (Some (Joins u)) run k)) (sym is)
-        (by_unit (u.test.unit == k) refl)
+    -- no seat of a unit that isn't one yet is in use
+    unseated : (u : UnitView) (k : ℕ) → unit_of (number u) run ≡ None → (number u == k) ≡ true
+        → IsBelow (seat k) (seat_of (Some u))
+    unseated u k unknown e =
+        let here : (number u) ≡ k = grind arith in
+        idle (seat k) (seat_of (Some u))
+        (subst (λ v. IsBelow (seat k) (seat_of v)) (ap (λ k. unit_of k run) (sym here) ∙ unknown) (below k))
+
+    still : (u : UnitView) (k : ℕ) → unit_of (number u) run ≡ None
+        → IsBelow (seat k) (seat_of (if number u == k then Some u else unit_of k run))
+    still u k unknown = by_unit (number u == k) refl
       where
-        by_unit : (b : Bool) → (u.test.unit == k) ≡ b
-            → IsBelow (seat k) (seat_of (if b then Some u else unit_of k run))
-        by_unit true e =
-            let here : u.test.unit ≡ k = grind arith in
-            idle (seat k) (seat_of (Some u))
-            (subst (λ v. IsBelow (seat k) (seat_of v)) (ap (λ k. unit_of k run) (sym here) ∙ unknown) (below k))
+        by_unit : (b : Bool) → (number u == k) ≡ b → IsBelow (seat k) (seat_of (if b then Some u else unit_of k run))
+        by_unit true e = unseated u k unknown e
         by_unit false e = below k
+
+    starts : (u : UnitView) (role : UnitRole) (k : ℕ) → u.role ≡ role → u.phase ≡ StartSent → unit_of (number u) run ≡ None
+        → IsBelow (opened (start_message role u) seat k) (seat_of (if number u == k then Some u else unit_of k run))
+    starts u (roles.Script s) k is ph unknown = still u k unknown
+    starts u (roles.Test t) k is ph unknown =
+        subst (λ n. IsBelow (if t.test.unit == k then seat_in (Some t.slot) else seat k)
+        (seat_of (if n == k then Some u else unit_of k run))) (sym (ap number_of is)) (by_unit (t.test.unit == k))
+      where
+        by_unit : (b : Bool) → IsBelow (if b then seat_in (Some t.slot) else seat k)
+            (seat_of (if b then Some u else unit_of k run))
+        by_unit true used = sym (ap (λ ph. if is_last ph then Gone else seat_as u.role) ph ∙ ap seat_as is)
+        by_unit false used = below k used
+
+    by_kind : (mm : Bool) (u : UnitView) (m : Message) → IsFirst mm u m → unit_of (number u) run ≡ None
+        → AreLower (at_last seat (m ∷ [])) (seat_after now (Some (Joins u)) run)
+    by_kind true u m (ph, (t, (role, (reason, is)))) unknown k =
+        subst (λ m. IsBelow (opened m seat k) (seat_after now (Some (Joins u)) run k)) (sym is) (still u k unknown)
     by_kind false u m (ph, is) unknown k =
         subst (λ m. IsBelow (opened m seat k) (seat_after now (Some (Joins u)) run k)) (sym is)
-        (by_unit (u.test.unit == k))
-      where
-        by_unit : (b : Bool) → IsBelow (if b then seat_in (Some u.slot) else seat k)
-            (seat_of (if b then Some u else unit_of k run))
-        by_unit true used = ap (λ ph. if is_last ph then Gone else seat_in (Some u.slot)) (sym ph)
-        by_unit false used = below k used
+        (starts u u.role k refl ph unknown)

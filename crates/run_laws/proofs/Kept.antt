@@ -13,7 +13,7 @@ use Rattle.run_events.specs.declared.request.Request.{Request}
 use Rattle.run_events.specs.declared.events.ReporterEvent.{ReporterEvent}
 use Rattle.run_events.specs.declared.events.ReporterEvent.TheVariants.{Tick, Test}
 use Rattle.run_events.specs.declared.events.TestEventKind.{TestEventKind}
-use Rattle.run_events.specs.declared.events.TestEventKind.TheVariants.{TestFinished, TestSkipped}
+use Rattle.run_events.specs.declared.events.TestEventKind.TheVariants.{SetupScriptFinished, TestFinished, TestSkipped}
 use Rattle.run_model.specs.declared.entry.Entry.{Entry}
 use Rattle.run_model.specs.declared.happening.Happening.{Happening}
 use Rattle.run_model.specs.declared.happening.UnitPart.{UnitPart}
@@ -24,12 +24,13 @@ use Rattle.run_model.specs.Unit.{at_moment, row, is_live, reach}
 use Rattle.run_model.specs.Words.{events_in, clock, ns_of, is_on, is_over, joined, sub_run, is_heard, heard, sent}
 use Rattle.run_model.specs.Words.{delivered, queue, was_refused, tally}
 use Rattle.run_model.specs.Words.{told, finish_of, finished, skips, skipped, unit_of, unit_after}
-use Rattle.run_model.specs.Admission.{units_in, unit_of_test, terms_at}
+use Rattle.run_model.specs.Environment.{number_of, number}
+use Rattle.run_model.specs.Admission.{is_script, units_in, unit_terms}
 use Rattle.run_model.specs.Dispatch.{event, having_told}
 use Rattle.run_model.specs.Board.{Deed, board, said}
 use Rattle.run_model.specs.Turns.{nothing_done, enabled, deed_on, happening}
 use Rattle.run_model.specs.Journal.{history, IsLegalBackward}
-use Rattle.run_model.specs.Accounts.{News, HasAccount, IsAccounted, IsAccountedAs, is_mismatched}
+use Rattle.run_model.specs.Accounts.{News, HasAccount, IsAccounted, is_mismatched}
 use Rattle.run_model.specs.Accounts.{account_of, pending_of}
 use Rattle.run_model.specs.Story.{Attempt, own_turn, story_of, line_of, request_of, pieces}
 use Rattle.run_laws.specs.Laws.{IsMadeByItsTurns}
@@ -37,17 +38,17 @@ use Rattle.run_laws.specs.Reports.{IsReportedByItsTurns}
 use Rattle.run_laws.specs.Cancels.{HasItsLine}
 use Rattle.run_model.specs.declared.phase.Phase.{Phase}
 use Rattle.run_model.specs.declared.phase.Phase.TheVariants.{StartSent, Starting, Running, Grace, KillWait, Leak}
-use Rattle.run_model.specs.declared.phase.Phase.TheVariants.{Deciding, Delay, RetrySent, Over}
-use Rattle.run_laws.proofs.Holds.{Holds, HasLine, HasLineIn, IsBuilt, IsNamed, IsReported, way_of, place_of}
+use Rattle.run_model.specs.declared.phase.Phase.TheVariants.{EnvWait, Deciding, Delay, RetrySent, Over}
+use Rattle.run_laws.proofs.Holds.{Holds, HasLine, HasLineIn, IsOfKind, IsNamed, is_script_role, way_of}
 use Rattle.run_laws.proofs.AttemptLemmas.{IsMade, IsMadeIf, made_statuses, made_due, row_made_if, reach_made_if}
 use Rattle.run_laws.proofs.Queue.{queue-cons}
-use Rattle.run_laws.proofs.AccountLemmas.{IsFirst, IsBuiltIf}
+use Rattle.run_laws.proofs.AccountLemmas.{IsFirst, IsOfKindIf}
 use Rattle.run_laws.proofs.Rows.{row_keeps}
 use Rattle.run_laws.proofs.LetGo.{on_way_after}
+use Rattle.run_laws.proofs.Ordered.{IsOrdered, ordered_after}
 use Rattle.run_laws.proofs.Lines.{own_request}
 use Rattle.run_laws.proofs.LineMoves.{line_after}
 use Rattle.run_laws.proofs.Cancels.{IsCancel, cancel_is, cancel_skips, cancel_finishes}
-use Rattle.run_laws.proofs.Newcomers.{place-of_test}
 use Rattle.run_laws.proofs.Reported.{reported_after}
 use Rattle.run_laws.proofs.Deeds.{PartFits, left_with, Does, does}
 
@@ -62,31 +63,34 @@ reach_account mm left (Some request) (Some u) t q h = by_live (is_live u.phase)
     by_live true = h
     by_live false = h
 
-reach_named : (n now k : ℕ) (request : Option Request) (v : Option UnitView) → IsNamed n now k v
-    → IsNamed n now k (reach request v)
-reach_named n now k None v h = h
-reach_named n now k (Some request) None h = λ u e. cc
-reach_named n now k (Some request) (Some u) h = by_live (is_live u.phase)
+-- a unit of this number that took no turn later than now
+abbrev IsUnit : Settings → ℕ → ℕ → UnitView → Type 0
+IsUnit p now k u =
+    (number u ≡ k) × (k < units_in p) × (u.latest ≤ now) × (is_script_role u.role ≡ is_script p k)
+
+reach_named : (p : Settings) (now k : ℕ) (request : Option Request) (v : Option UnitView) → IsNamed p now k v
+    → IsNamed p now k (reach request v)
+reach_named p now k None v h = h
+reach_named p now k (Some request) None h = λ u e. cc
+reach_named p now k (Some request) (Some u) h = by_live (is_live u.phase)
   where
-    at : (u.test.unit ≡ k) × (k < n) × (u.latest ≤ now)
+    at : IsUnit p now k u
     at = h u refl
 
-    by_live : (b : Bool) → IsNamed n now k (Some (if b then record u { line = u.line ++ request ∷ [] } else u))
-    by_live true w e =
-        subst (λ (w : UnitView). (w.test.unit ≡ k) × (k < n) × (w.latest ≤ now)) (same_Some _ _ e) (at.0, at.1, at.2)
-    by_live false w e =
-        subst (λ (w : UnitView). (w.test.unit ≡ k) × (k < n) × (w.latest ≤ now)) (same_Some _ _ e) at
+    by_live : (b : Bool) → IsNamed p now k (Some (if b then record u { line = u.line ++ request ∷ [] } else u))
+    by_live true w e = subst (IsUnit p now k) (same_Some _ _ e) (at.0, at.1, at.2, at.3)
+    by_live false w e = subst (IsUnit p now k) (same_Some _ _ e) at
 
 -- the account of a test after one more turn, from the parts of that turn
-accounted-cons : (p : Settings) (j k : ℕ) (x : Happening) (run : List Happening)
+accounted-cons : (p : Settings) (k : ℕ) (x : Happening) (run : List Happening)
     → delivered (x ∷ run) ≤ length (sent run)
-    → HasAccount (is_mismatched p j) (left_with k run x.part) (unit_after x.moment k x.part (unit_of k run))
+    → HasAccount (is_mismatched p k) (left_with k run x.part) (unit_after x.moment k x.part (unit_of k run))
     (account_of k (told run) ++ account_of k (events_in x))
     (pending_of k (drop (if x.taken then 1 else 0) (queue run) ++ option_to_list x.sent))
-    → IsAccountedAs p j k (x ∷ run)
-accounted-cons p j k x run fits h =
+    → IsAccounted p k (x ∷ run)
+accounted-cons p k x run fits h =
     rw (filter_map-append, queue-cons x run fits)
-    (reach_account (is_mismatched p j) (left_with k run x.part) x.request
+    (reach_account (is_mismatched p k) (left_with k run x.part) x.request
     (unit_after x.moment k x.part (unit_of k run)) _ _ h)
 
 -- a turn tells one skip or one finish at most
@@ -100,6 +104,7 @@ counted_one (Some (Test e)) = by_kind e.kind
         → count_by skips (event 0 kind ∷ []) + length (filter_map finish_of (event 0 kind ∷ [])) ≤ 1
     by_kind (TestSkipped skip) = omega arith
     by_kind (TestFinished finish) = omega arith
+    by_kind (SetupScriptFinished finish) = omega arith
     by_kind kind = omega arith
 
 counted-cons : (x : Happening) (run : List Happening) → IsCancel x.cancel
@@ -124,43 +129,42 @@ counted-cons x run none short =
     ∙ length-append (finished run) (filter_map finish_of (events_in x)) in
     omega arith
 
--- what is sent is built
-built_if : (o : Option Message) → IsBuiltIf o → All IsBuilt (option_to_list o)
-built_if None h = All-nil IsBuilt
-built_if (Some m) h = All-cons IsBuilt m [] h (All-nil IsBuilt)
+-- what is sent is of its kind
+kind_if : (p : Settings) (o : Option Message) → IsOfKindIf p o → All (IsOfKind p) (option_to_list o)
+kind_if p None h = All-nil (IsOfKind p)
+kind_if p (Some m) h = All-cons (IsOfKind p) m [] h (All-nil (IsOfKind p))
 
 -- a part keeps the name of each unit
 named_after : (p : Settings) (run : List Happening) (now later k : ℕ) (part : Option UnitPart) (v : Option UnitView)
     → now ≤ later
-    → IsNamed (units_in p) now k v → PartFits p now run part → IsNamed (units_in p) later k (unit_after now k part v)
-named_after p run now later k None v le h fits u e = let at = h u e in (at.0, at.1, omega arith)
-named_after p run now later k (Some (Joins first)) v le h (sent, new) u e = at_once (first.test.unit == k) refl e
+    → IsNamed p now k v → PartFits p now run part → IsNamed p later k (unit_after now k part v)
+named_after p run now later k None v le h fits u e = let at = h u e in (at.0, at.1, omega arith, at.3)
+named_after p run now later k (Some (Joins first)) v le h (sent, new) u e = at_once (number first == k) refl e
   where
-    at_once : (b : Bool) → (first.test.unit == k) ≡ b → (if b then Some first else v) ≡ Some u
-        → (u.test.unit ≡ k) × (k < units_in p) × (u.latest ≤ later)
+    at_once : (b : Bool) → (number first == k) ≡ b → (if b then Some first else v) ≡ Some u → IsUnit p later k u
     at_once true be e =
         let same : first ≡ u = cc in
-        let below = new.below in
+        let here : number first ≡ k = grind arith in
         let latest = new.latest in
-        subst (λ (w : UnitView). (w.test.unit ≡ k) × (k < units_in p) × (w.latest ≤ later)) same (grind arith)
-    at_once false be e = let at = h u e in (at.0, at.1, omega arith)
+        subst (IsUnit p later k) same
+        (here, subst (λ k. k < units_in p) here new.below, omega arith, new.role ∙ ap (is_script p) here)
+    at_once false be e = let at = h u e in (at.0, at.1, omega arith, at.3)
 named_after p run now later k (Some (Acts j turn)) v le h fits u e = by_unit (j == k) e
   where
-    by_view : (v : Option UnitView) → IsNamed (units_in p) now k v → option_map (λ w. (row now turn w).next) v ≡ Some u
-        → (u.test.unit ≡ k) × (k < units_in p) × (u.latest ≤ later)
+    by_view : (v : Option UnitView) → IsNamed p now k v → option_map (λ w. (row now turn w).next) v ≡ Some u
+        → IsUnit p later k u
     by_view None h e = cc
     by_view (Some w) h e =
         let same : (row now turn w).next ≡ u = cc in
-        let named : (w.test.unit ≡ k) × (k < units_in p) × (w.latest ≤ now) = h w refl in
+        let named : IsUnit p now k w = h w refl in
         let keeps = row_keeps now w.phase turn (at_moment now w) refl in
         let early : (row now turn w).next.latest ≡ now = keeps.latest in
-        subst (λ (v : UnitView). (v.test.unit ≡ k) × (k < units_in p) × (v.latest ≤ later)) same
-        (ap (λ t. t.unit) keeps.test ∙ named.0, named.1, omega arith)
+        subst (IsUnit p later k) same
+        (ap number_of keeps.role ∙ named.0, named.1, omega arith, ap is_script_role keeps.role ∙ named.3)
 
-    by_unit : (b : Bool) → (if b then option_map (λ w. (row now turn w).next) v else v) ≡ Some u
-        → (u.test.unit ≡ k) × (k < units_in p) × (u.latest ≤ later)
+    by_unit : (b : Bool) → (if b then option_map (λ w. (row now turn w).next) v else v) ≡ Some u → IsUnit p later k u
     by_unit true e = by_view v h e
-    by_unit false e = let at = h u e in (at.0, at.1, omega arith)
+    by_unit false e = let at = h u e in (at.0, at.1, omega arith, at.3)
 
 -- a unit that begins is at its first attempt, of which there is none yet
 first_made : (mm : Bool) (s : AttemptTerms) (u : UnitView) (sent : Message) → IsFirst mm u sent → u.attempt ≡ 1
@@ -172,25 +176,25 @@ first_made false s u sent (ph, is) a st delay terms ss =
 
 -- a part leaves each unit as its own turns make it
 made_after : (p : Settings) (run : List Happening) (now k : ℕ) (part : Option UnitPart)
-    → IsMadeIf (terms_at p (place_of p k)) (unit_of k run) (story_of k run)
-    → IsNamed (units_in p) now k (unit_of k run) → HasLine (unit_of k run) (line_of k run) → PartFits p now run part
-    → IsMadeIf (terms_at p (place_of p k)) (unit_after now k part (unit_of k run))
+    → IsMadeIf (unit_terms p k) (unit_of k run) (story_of k run)
+    → IsNamed p now k (unit_of k run) → HasLine (unit_of k run) (line_of k run) → PartFits p now run part
+    → IsMadeIf (unit_terms p k) (unit_after now k part (unit_of k run))
     (option_to_list (own_turn k now part (line_of k run)) ++ story_of k run)
 made_after p run now k None h named line fits = h
-made_after p run now k (Some (Joins first)) h named line (sent, new) = begins (first.test.unit == k) refl
+made_after p run now k (Some (Joins first)) h named line (sent, new) = begins ((number first) == k) refl
   where
-    begins : (b : Bool) → (first.test.unit == k) ≡ b
-        → IsMadeIf (terms_at p (place_of p k)) (if b then Some first else unit_of k run) (story_of k run)
+    begins : (b : Bool) → ((number first) == k) ≡ b
+        → IsMadeIf (unit_terms p k) (if b then Some first else unit_of k run) (story_of k run)
     begins true e =
-        let here : k ≡ first.test.unit = grind arith in
+        let here : k ≡ (number first) = grind arith in
         let none : unit_of k run ≡ None = ap (λ k. unit_of k run) here ∙ new.unknown in
         rw (rw none at h) (first_made _ _ first sent new.first new.attempt new.start new.delay
-        (new.terms ∙ ap (λ k. terms_at p (place_of p k)) (sym here)) new.statuses)
+        (new.terms ∙ ap (unit_terms p) (sym here)) new.statuses)
     begins false e = h
 made_after p run now k (Some (Acts j turn)) h named line taken = by_unit (j == k) refl
   where
     by_unit : (b : Bool) → (j == k) ≡ b
-        → IsMadeIf (terms_at p (place_of p k))
+        → IsMadeIf (unit_terms p k)
         (if b then option_map (λ w. (row now turn w).next) (unit_of k run) else unit_of k run)
         (option_to_list (if b then Some (record {
           moment = now;
@@ -202,7 +206,7 @@ made_after p run now k (Some (Acts j turn)) h named line taken = by_unit (j == k
         let is : unit_of k run ≡ Some taken.unit = ap (λ k. unit_of k run) here ∙ taken.is in
         rw (own_request now turn taken.unit (line_of k run) taken.takes
         (subst (λ v. HasLine v (line_of k run)) is line))
-        (row_made_if (terms_at p (place_of p k)) now turn taken.unit (unit_of k run) (story_of k run)
+        (row_made_if (unit_terms p k) now turn taken.unit (unit_of k run) (story_of k run)
         is taken.takes (named taken.unit is).2 h)
     by_unit false e = h
 
@@ -227,20 +231,27 @@ holds-cons p over now run e d h does on = record {
   counted = counted-cons (said now e d) run
       (subst IsCancel (sym does.marks.cancel) (cancel_is now (having_told (tally p run) d.told) d.cause)) h.counted;
   heard = heard-within (is_heard (said now e d)) now (ns_of e.turn) (heard run) h.heard;
-  named = λ k. reach_named (units_in p) (now + ns_of e.turn) k d.request (unit_after now k d.part (unit_of k run))
+  named = λ k. reach_named p (now + ns_of e.turn) k d.request (unit_after now k d.part (unit_of k run))
       (named_after p run now (now + ns_of e.turn) k d.part (unit_of k run) (omega arith) (h.named k) does.part);
-  accounts = λ k. accounted-cons p (place_of p k) k (said now e d) run does.room (does.accounts k);
-  reported = λ k. reported_after (terms_at p (place_of p k)).slow k now run e d does.room (h.reported k)
+  accounts = λ k. accounted-cons p k (said now e d) run does.room (does.accounts k);
+  reported = λ k. reported_after (unit_terms p k).slow k now run e d does.room (h.reported k)
       (does.reported k);
-  made = λ k. reach_made_if (terms_at p (place_of p k)) d.request (unit_after now k d.part (unit_of k run)) _
+  made = λ k. reach_made_if (unit_terms p k) d.request (unit_after now k d.part (unit_of k run)) _
       (made_after p run now k d.part (h.made k) (h.named k) (h.lines k) does.part);
   fresh = λ off going. absurd (stays_on d.begins (is_on run) d.ends d.over over does.marks.finishes on off going);
-  built = All-append IsBuilt (sent run) (option_to_list d.sent) h.built (built_if d.sent does.sends);
+  kinds = All-append (IsOfKind p) (sent run) (option_to_list d.sent) h.kinds (kind_if p d.sent does.sends);
   on_way = λ k. on_way_after p run now k d.request d.part (unit_of k run) _ _ (way_of k run) (h.on_way k)
       (h.accounts k) refl does.part;
   lines = λ k. (line_after p run now k d.request d.part (h.lines k) (h.taken k) does.part).0;
   taken = λ k. (line_after p run now k d.request d.part (h.lines k) (h.taken k) does.part).1;
+  admitted = ordered.admitted;
+  tests_sent = ordered.tests_sent;
+  sorted = ordered.sorted;
+  tests_told = ordered.tests_told;
 }
+  where
+    ordered : IsOrdered p (said now e d ∷ run)
+    ordered = ordered_after p over now run e d h does
 
 -- the newest sub-run after a turn that begins one where nothing has happened, or finds one that is on
 sub_run-cons : (x : Happening) (past : List Happening) → (x.begins ≡ true → sub_run past ≡ [])
@@ -307,10 +318,14 @@ holds-none p over now = record {
   reported = λ k. record { signals = refl; reports = refl };
   made = λ k. refl;
   fresh = λ off going. refl;
-  built = All-nil IsBuilt;
+  kinds = All-nil (IsOfKind p);
   on_way = λ k. (refl, refl, refl);
   lines = λ k. refl;
   taken = λ k. omega arith;
+  admitted = λ k test some. cc;
+  tests_sent = λ some. cc;
+  sorted = tt;
+  tests_told = λ some. cc;
 }
 
 pub kept : (p : Settings) (past : List Happening) (e : Entry) → HoldsAfter p past → enabled p past e.turn ≡ true
@@ -330,56 +345,51 @@ pub holds : (p : Settings) (backward : List Entry) → IsLegalBackward p backwar
 holds p [] legal = holds-none p false 0
 holds p (e ∷ before) legal = kept p (history p before) e (holds p before legal.2) legal.0
 
--- so each test has its account
-pub accounts : (p : Settings) (backward : List Entry) → IsLegalBackward p backward → (j : ℕ)
-    → IsAccounted p j (sub_run (history p backward))
-accounts p backward legal j =
-    subst (λ i. IsAccountedAs p i (unit_of_test p j) (sub_run (history p backward))) (place-of_test p j)
-    ((holds p backward legal).accounts (unit_of_test p j))
+-- so each unit has its account
+pub accounts : (p : Settings) (backward : List Entry) → IsLegalBackward p backward → (k : ℕ)
+    → IsAccounted p k (sub_run (history p backward))
+accounts p backward legal k = (holds p backward legal).accounts k
 
 -- and its attempts are its own turns
-pub made : (p : Settings) (backward : List Entry) → IsLegalBackward p backward → (j : ℕ) (u : UnitView)
-    → unit_of (unit_of_test p j) (sub_run (history p backward)) ≡ Some u
-    → IsMadeByItsTurns p (sub_run (history p backward)) j u
-made p backward legal j u is =
-    let k : ℕ = unit_of_test p j in
+pub made : (p : Settings) (backward : List Entry) → IsLegalBackward p backward → (k : ℕ) (u : UnitView)
+    → unit_of k (sub_run (history p backward)) ≡ Some u → IsMadeByItsTurns p (sub_run (history p backward)) k u
+made p backward legal k u is =
     let ps : List Attempt = pieces (story_of k (sub_run (history p backward))) in
-    let it : IsMade (terms_at p j) u ps =
-    subst (λ i. IsMade (terms_at p i) u ps) (place-of_test p j) (rw is at ((holds p backward legal).made k)) in
+    let it : IsMade (unit_terms p k) u ps =
+    subst (λ v. IsMadeIf (unit_terms p k) v (story_of k (sub_run (history p backward)))) is
+    ((holds p backward legal).made k) in
     record {
-      statuses = made_statuses (terms_at p j) u ps it;
+      statuses = made_statuses (unit_terms p k) u ps it;
       attempt = it.attempt;
       start = it.start;
-      due = made_due (terms_at p j) u ps it;
+      due = made_due (unit_terms p k) u ps it;
     }
 
 -- and what is asked and told of it is what its own turns say
-pub reported : (p : Settings) (backward : List Entry) → IsLegalBackward p backward → (j : ℕ)
-    → IsReportedByItsTurns p (sub_run (history p backward)) j
-reported p backward legal j =
-    let it = subst (λ i. IsReported (terms_at p i).slow (unit_of_test p j) (sub_run (history p backward)))
-    (place-of_test p j) ((holds p backward legal).reported (unit_of_test p j)) in
-    record { signals = it.signals; reports = it.reports }
+pub reported : (p : Settings) (backward : List Entry) → IsLegalBackward p backward → (k : ℕ)
+    → IsReportedByItsTurns p (sub_run (history p backward)) k
+reported p backward legal k =
+    let it = (holds p backward legal).reported k in record { signals = it.signals; reports = it.reports }
 
 -- and its line is what was broadcast to it
-pub lined : (p : Settings) (backward : List Entry) → IsLegalBackward p backward → (j : ℕ) (u : UnitView)
-    → unit_of (unit_of_test p j) (sub_run (history p backward)) ≡ Some u → is_live u.phase ≡ true
-    → HasItsLine (sub_run (history p backward)) (unit_of_test p j) u
-lined p backward legal j u is live =
-    let k : ℕ = unit_of_test p j in
+pub lined : (p : Settings) (backward : List Entry) → IsLegalBackward p backward → (k : ℕ) (u : UnitView)
+    → unit_of k (sub_run (history p backward)) ≡ Some u → is_live u.phase ≡ true
+    → HasItsLine (sub_run (history p backward)) k u
+lined p backward legal k u is live =
     let run : List Happening = sub_run (history p backward) in
     record {
       line = live_line u.phase live (subst (λ v. HasLine v (line_of k run)) is ((holds p backward legal).lines k));
       took = (holds p backward legal).taken k;
     }
   where
-    live_line : (ph : Phase) → is_live ph ≡ true → HasLineIn ph u.line (line_of (unit_of_test p j) (sub_run (history p backward)))
-        → u.line ≡ line_of (unit_of_test p j) (sub_run (history p backward))
+    live_line : (ph : Phase) → is_live ph ≡ true → HasLineIn ph u.line (line_of k (sub_run (history p backward)))
+        → u.line ≡ line_of k (sub_run (history p backward))
     live_line Starting e h = h
     live_line Running e h = h
     live_line Grace e h = h
     live_line KillWait e h = h
     live_line Leak e h = h
+    live_line EnvWait e h = h
     live_line Deciding e h = h
     live_line Delay e h = h
     live_line RetrySent e h = h

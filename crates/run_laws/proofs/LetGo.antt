@@ -18,10 +18,11 @@ use Rattle.run_model.specs.declared.happening.UnitPart.{UnitPart}
 use Rattle.run_model.specs.declared.happening.UnitPart.TheVariants.{Joins, Acts}
 use Rattle.run_model.specs.declared.phase.Phase.{Phase}
 use Rattle.run_model.specs.declared.phase.Phase.TheVariants.{StartSent, Starting, Running, Grace, KillWait, Leak}
-use Rattle.run_model.specs.declared.phase.Phase.TheVariants.{Deciding, Delay, RetrySent, Over}
+use Rattle.run_model.specs.declared.phase.Phase.TheVariants.{EnvWait, Deciding, Delay, RetrySent, Over}
 use Rattle.run_model.specs.declared.unit_turn.UnitTurn.{UnitTurn}
 use Rattle.run_model.specs.declared.unit_turn.UnitTurn.TheVariants.{Answered, Due, Take, Decide}
 use Rattle.run_model.specs.declared.unit_view.UnitView.{UnitView}
+use Rattle.run_model.specs.Environment.{number}
 use Rattle.run_model.specs.Backoff.{retry_count}
 use Rattle.run_model.specs.Unit.{Row, at_moment, row, row_at, takes, takes_at, is_live, reach, last_status, has_passed, has_retry}
 use Rattle.run_model.specs.Unit.{decide_row}
@@ -33,7 +34,6 @@ use Rattle.run_laws.proofs.Rows.{is_open, Keeps, Moves, StaysOrGoes, Passes, Tak
 use Rattle.run_laws.proofs.Rows.{row_keeps, row_moves, row_passes, row_takes, decide_cases}
 use Rattle.run_laws.proofs.ByTurn.{is_answer}
 use Rattle.run_laws.proofs.Holds.{Way, IsWaiting, IsUnderWay, AreFailed, HasEndedAs, IsOverWith, IsOnWayIn, IsOnWayAt, IsOnWay}
-use Rattle.run_laws.proofs.Holds.{place_of}
 use Rattle.run_laws.proofs.AccountLemmas.{IsFirst, last-append}
 use Rattle.run_laws.proofs.Deeds.{PartFits}
 
@@ -157,6 +157,7 @@ open_on_way retries Running attempt ss w on h = h
 open_on_way retries Grace attempt ss w on h = h
 open_on_way retries KillWait attempt ss w on h = h
 open_on_way retries Leak attempt ss w on h = h
+open_on_way retries EnvWait attempt ss w on h = h
 open_on_way retries ph attempt ss w on h = cc
 
 open_is : (retries : ℕ) (ph : Phase) (attempt : ℕ) (ss : List ExecuteStatus) (w : Way) → is_open ph ≡ true
@@ -166,6 +167,7 @@ open_is retries Running attempt ss w on h = h
 open_is retries Grace attempt ss w on h = h
 open_is retries KillWait attempt ss w on h = h
 open_is retries Leak attempt ss w on h = h
+open_is retries EnvWait attempt ss w on h = h
 open_is retries ph attempt ss w on h = cc
 
 moved_on_way : (u : UnitView) (r : Row) (w : Way) → Keeps u r.next → Moves u r
@@ -326,33 +328,33 @@ reach_on_way mm (Some request) (Some u) w h = by_live mm (is_live u.phase) h
 -- how far a test is after one more part
 part_on_way : (p : Settings) (run : List Happening) (now k : ℕ) (part : Option UnitPart) (v : Option UnitView)
     (t q : List News) (w : Way)
-    → IsOnWay (is_mismatched p (place_of p k)) v w → HasAccount (is_mismatched p (place_of p k)) w.left v t q
+    → IsOnWay (is_mismatched p k) v w → HasAccount (is_mismatched p k) w.left v t q
     → v ≡ unit_of k run → PartFits p now run part
-    → IsOnWay (is_mismatched p (place_of p k)) (unit_after now k part v) (way_with (lets_go k part) (reason run) w)
+    → IsOnWay (is_mismatched p k) (unit_after now k part v) (way_with (lets_go k part) (reason run) w)
 part_on_way p run now k None v t q w h a is fits =
-    subst (IsOnWay (is_mismatched p (place_of p k)) v) (sym (way_still (reason run) w)) h
+    subst (IsOnWay (is_mismatched p k) v) (sym (way_still (reason run) w)) h
 part_on_way p run now k (Some (Joins first)) v t q w h a is (sent, new) =
-    subst (IsOnWay (is_mismatched p (place_of p k)) (if first.test.unit == k then Some first else v))
-    (sym (way_still (reason run) w)) (begins (first.test.unit == k) refl)
+    subst (IsOnWay (is_mismatched p k) (if (number first) == k then Some first else v))
+    (sym (way_still (reason run) w)) (begins ((number first) == k) refl)
   where
     first_on_way : (mm : Bool) (m : Message) → IsFirst mm first m → IsWaiting w → IsOnWayAt mm first w
     first_on_way true m is waits = waits
     first_on_way false m (ph, sends) waits = rw ph (waits, new.attempt, new.statuses)
 
-    begins : (b : Bool) → (first.test.unit == k) ≡ b
-        → IsOnWay (is_mismatched p (place_of p k)) (if b then Some first else v) w
+    begins : (b : Bool) → ((number first) == k) ≡ b
+        → IsOnWay (is_mismatched p k) (if b then Some first else v) w
     begins true e =
-        let here : first.test.unit ≡ k = grind arith in
+        let here : (number first) ≡ k = grind arith in
         let none : v ≡ None = is ∙ ap (λ k. unit_of k run) (sym here) ∙ new.unknown in
-        subst (λ k. IsOnWay (is_mismatched p (place_of p k)) (Some first) w) here
-        (first_on_way _ sent new.first (subst (λ v. IsOnWay (is_mismatched p (place_of p k)) v w) none h))
+        subst (λ k. IsOnWay (is_mismatched p k) (Some first) w) here
+        (first_on_way _ sent new.first (subst (λ v. IsOnWay (is_mismatched p k) v w) none h))
     begins false e = h
 part_on_way p run now k (Some (Acts j turn)) v t q w h a is taken =
-    subst (λ b. IsOnWay (is_mismatched p (place_of p k)) (unit_after now k (Some (Acts j turn)) v)
+    subst (λ b. IsOnWay (is_mismatched p k) (unit_after now k (Some (Acts j turn)) v)
     (way_with b (reason run) w)) (sym (lets_go-is j k turn)) (by_unit (j == k) refl)
   where
     mm : Bool
-    mm = is_mismatched p (place_of p k)
+    mm = is_mismatched p k
 
     by_unit : (b : Bool) → (j == k) ≡ b
         → IsOnWay mm (if b then option_map (λ w. (row now turn w).next) v else v)
@@ -372,10 +374,10 @@ part_on_way p run now k (Some (Acts j turn)) v t q w h a is taken =
 
 pub on_way_after : (p : Settings) (run : List Happening) (now k : ℕ) (request : Option Request) (part : Option UnitPart)
     (v : Option UnitView) (t q : List News) (w : Way)
-    → IsOnWay (is_mismatched p (place_of p k)) v w → HasAccount (is_mismatched p (place_of p k)) w.left v t q
+    → IsOnWay (is_mismatched p k) v w → HasAccount (is_mismatched p k) w.left v t q
     → v ≡ unit_of k run → PartFits p now run part
-    → IsOnWay (is_mismatched p (place_of p k)) (reach request (unit_after now k part v))
+    → IsOnWay (is_mismatched p k) (reach request (unit_after now k part v))
     (way_with (lets_go k part) (reason run) w)
 on_way_after p run now k request part v t q w h a is fits =
-    reach_on_way (is_mismatched p (place_of p k)) request (unit_after now k part v) _
+    reach_on_way (is_mismatched p k) request (unit_after now k part v) _
     (part_on_way p run now k part v t q w h a is fits)

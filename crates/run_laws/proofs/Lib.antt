@@ -1,3 +1,4 @@
+pub mod Order
 pub mod Holds
 pub mod ByTurn
 pub mod Queue
@@ -16,21 +17,30 @@ pub mod RequestLemmas
 pub mod AttemptLemmas
 pub mod ReportLemmas
 pub mod AccountLemmas
+mod OneOff
 pub mod OnceLemmas
 pub mod Lines
 pub mod Running
 pub mod Scan
 pub mod OnBoard
+pub mod FaceLemmas
+pub mod ReadLemmas
 pub mod Newcomers
 pub mod Cancels
 pub mod Reported
 pub mod Facts
 pub mod Deeds
+pub mod Ordered
+pub mod Planned
 pub mod LetGo
 pub mod LineMoves
 pub mod Kept
 pub mod Boards
 pub mod FateLemmas
+pub mod FirstLemmas
+pub mod StartLemmas
+pub mod FileLemmas
+pub mod DelayLemmas
 pub mod Cancelled
 pub mod Ready
 pub mod Courses

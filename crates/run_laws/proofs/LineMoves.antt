@@ -6,6 +6,7 @@ use Rattle.std.proofs.lemmas.List.{drop-drop, drop-append-le}
 use Rattle.run_events.specs.declared.settings.Settings.{Settings}
 use Rattle.run_events.specs.declared.message.Message.{Message}
 use Rattle.run_events.specs.declared.request.Request.{Request}
+use Rattle.run_model.specs.Environment.{number}
 use Rattle.run_model.specs.declared.happening.Happening.{Happening}
 use Rattle.run_model.specs.declared.happening.UnitPart.{UnitPart}
 use Rattle.run_model.specs.declared.happening.UnitPart.TheVariants.{Joins, Acts}
@@ -26,8 +27,8 @@ part_line : (p : Settings) (run : List Happening) (now k : ℕ) (part : Option U
 part_line p run now k None h le fits =
     (subst (λ n. HasLine (unit_of k run) (drop n (broadcast_to k run))) (sym (add-zero (taken_by k run))) h, omega arith)
 part_line p run now k (Some (Joins first)) h le (sent, new) = (
-  subst (λ n. HasLine (if first.test.unit == k then Some first else unit_of k run) (drop n (broadcast_to k run)))
-      (sym (add-zero (taken_by k run))) (begins (first.test.unit == k) refl),
+  subst (λ n. HasLine (if (number first) == k then Some first else unit_of k run) (drop n (broadcast_to k run)))
+      (sym (add-zero (taken_by k run))) (begins ((number first) == k) refl),
   omega arith,
 )
   where
@@ -36,10 +37,10 @@ part_line p run now k (Some (Joins first)) h le (sent, new) = (
     first_line true m is (ph, sends) none = rw ph new.line
     first_line false m is (ph, sends) none = rw ph (new.line, none)
 
-    begins : (b : Bool) → (first.test.unit == k) ≡ b
+    begins : (b : Bool) → ((number first) == k) ≡ b
         → HasLine (if b then Some first else unit_of k run) (line_of k run)
     begins true e =
-        let here : k ≡ first.test.unit = grind arith in
+        let here : k ≡ (number first) = grind arith in
         let none : unit_of k run ≡ None = ap (λ k. unit_of k run) here ∙ new.unknown in
         first_line _ sent (line_of k run) new.first (subst (λ v. HasLine v (line_of k run)) none h)
     begins false e = h

@@ -1,10 +1,11 @@
 -- The line of a unit after a row of the unit table, and after a broadcast.
-use Rattle.std.proofs.Common.{◌≡◌, ◌⊎◌, inl, inr, ℕ, ◌+◌, ◌≤◌, ◌==◌, List, [], ◌∷◌, ◌++◌, drop, length, Bool, true, false, ◌&&◌, ◌||◌}
+use Rattle.std.proofs.Common.{◌≡◌, inl, inr, ℕ, ◌+◌, ◌≤◌, ◌==◌, List, [], ◌∷◌, ◌++◌, drop, length, Bool, true, false, ◌&&◌, ◌||◌}
 use Rattle.std.proofs.Common.{if◌then◌else◌, Option, Some, None, option_to_list, refl, ap, sym, subst, ◌∙◌}
 use Rattle.std.proofs.Common.{arith, length-drop}
 use Rattle.std.proofs.lemmas.List.{append-nil}
 use Rattle.run_capture.specs.Captured.{Captured, is_done, with_wait_error}
 use Rattle.run_events.specs.declared.result.ChildExit.{ChildExit}
+use Rattle.run_events.specs.declared.result.ChildExecutionOutput.TheVariants.{Output}
 use Rattle.run_events.specs.declared.request.Request.{Request}
 use Rattle.run_events.specs.declared.request.Request.TheVariants.{Shutdown, OtherCancel}
 use Rattle.run_events.specs.declared.request.TermSignal.{TermSignal}
@@ -13,20 +14,20 @@ use Rattle.run_events.specs.declared.request.TerminateReason.TheVariants.{Signal
 use Rattle.run_model.specs.declared.happening.UnitPart.TheVariants.{Acts}
 use Rattle.run_model.specs.declared.phase.Phase.{Phase}
 use Rattle.run_model.specs.declared.phase.Phase.TheVariants.{StartSent, Starting, Running, Grace, KillWait, Leak}
-use Rattle.run_model.specs.declared.phase.Phase.TheVariants.{Deciding, Delay, RetrySent, Over}
+use Rattle.run_model.specs.declared.phase.Phase.TheVariants.{EnvWait, Deciding, Delay, RetrySent, Over}
 use Rattle.run_model.specs.declared.unit_turn.UnitTurn.{UnitTurn}
 use Rattle.run_model.specs.declared.unit_turn.UnitTurn.TheVariants.{Answered, Started, StartFailed, Exit, WaitFailed}
-use Rattle.run_model.specs.declared.unit_turn.UnitTurn.TheVariants.{Piece, StreamEnd, ReadError, Due, Take}
+use Rattle.run_model.specs.declared.unit_turn.UnitTurn.TheVariants.{Piece, StreamEnd, ReadError, Env, Due, Take}
 use Rattle.run_model.specs.declared.unit_view.UnitView.{UnitView}
 use Rattle.run_model.specs.Terminate.{terminate_method}
 use Rattle.run_model.specs.Slow.{one_more, is_out_of_time}
 use Rattle.run_model.specs.Unit.{Row, at_moment, row, row_at, takes, takes_at, settled, exited, leaking, having_heard}
 use Rattle.run_model.specs.Unit.{heard_with, slow_row, slow_again, in_grace, out_of_time, asked_to_end, requested, take_row}
-use Rattle.run_model.specs.Unit.{is_live, reach, has_request, retry_message}
+use Rattle.run_model.specs.Unit.{is_live, reach, has_request, awaits_env, awaiting_env, ended, result_of}
 use Rattle.run_model.specs.Story.{is_live_unit, oldest, request_of, takes_request}
 use Rattle.run_laws.proofs.Holds.{HasLineIn, HasLine}
 use Rattle.run_laws.proofs.Rows.{is_open, Takes, answers, opens, decides, passes, again, Moves, row_moves, row_takes}
-use Rattle.run_laws.proofs.Rows.{takes_moment, decide_cases, row_passes}
+use Rattle.run_laws.proofs.Rows.{takes_moment, decide_cases, StaysOrGoes, row_passes}
 
 -- the line after a turn: the oldest request is taken
 abbrev pub left_of : UnitTurn → List Request → List Request
@@ -34,18 +35,28 @@ left_of Take line = drop 1 line
 left_of _ line = line
 
 -- a row of an attempt that goes on leaves the line so
+exited_line : (now : ℕ) (exit : Option ChildExit) (leaked : Bool) (c : Captured) (u : UnitView)
+    → (exited now exit leaked c u).line ≡ u.line
+exited_line now exit leaked c u = by_env (awaits_env (result_of exit c.errors leaked u) u)
+  where
+    by_env : (b : Bool) → (if b
+        then awaiting_env exit leaked c u
+        else ended now (result_of exit c.errors leaked u) (Output c.output c.errors) u).line ≡ u.line
+    by_env true = refl
+    by_env false = refl
+
 settled_line : (now : ℕ) (exit : Option ChildExit) (c : Captured) (u : UnitView) → (settled now exit c u).line ≡ u.line
 settled_line now exit c u = by_done (u.terms.skips_leak_detection || is_done c)
   where
     by_done : (b : Bool) → (if b then exited now exit false c u else leaking now exit c u).line ≡ u.line
-    by_done true = refl
+    by_done true = exited_line now exit false c u
     by_done false = refl
 
 heard_line : (now : ℕ) (c : Captured) (u : UnitView) → (heard_with now c u).line ≡ u.line
 heard_line now c u = by_done (is_done c)
   where
     by_done : (b : Bool) → (if b then exited now u.exit false c u else record u { capture = c }).line ≡ u.line
-    by_done true = refl
+    by_done true = exited_line now u.exit false c u
     by_done false = refl
 
 slow_line : (now n : ℕ) (u : UnitView) → (slow_row now n u).next.line ≡ u.line
@@ -95,11 +106,12 @@ row_line now Grace (StreamEnd stream) u on en = refl
 row_line now Grace (ReadError stream error) u on en = refl
 row_line now KillWait (Exit exit) u on en = settled_line now (Some exit) u.capture u
 row_line now KillWait (WaitFailed error) u on en = settled_line now None (with_wait_error u.capture error) u
-row_line now Leak Due u on en = refl
+row_line now Leak Due u on en = exited_line now u.exit true u.capture u
 row_line now Leak Take u on en = taken_line now Leak u
 row_line now Leak (Piece stream bytes) u on en = heard_line now (having_heard u.capture (Piece stream bytes)) u
 row_line now Leak (StreamEnd stream) u on en = heard_line now (having_heard u.capture (StreamEnd stream)) u
 row_line now Leak (ReadError stream error) u on en = heard_line now (having_heard u.capture (ReadError stream error)) u
+row_line now EnvWait (Env input) u on en = refl
 row_line now ph turn u on en = cc
 
 -- whether a turn takes a request
@@ -117,6 +129,7 @@ open_line Running line is on h = h
 open_line Grace line is on h = h
 open_line KillWait line is on h = h
 open_line Leak line is on h = h
+open_line EnvWait line is on h = h
 open_line ph line is on h = cc
 
 has_open_line : (ph : Phase) (line is : List Request) → is_open ph ≡ true → line ≡ is → HasLineIn ph line is
@@ -125,6 +138,7 @@ has_open_line Running line is on e = e
 has_open_line Grace line is on e = e
 has_open_line KillWait line is on e = e
 has_open_line Leak line is on e = e
+has_open_line EnvWait line is on e = e
 has_open_line ph line is on e = cc
 
 moved_line : (u : UnitView) (r : Row) (is : List Request) → Moves u r → r.next.line ≡ is
@@ -137,8 +151,7 @@ delay_line : (now : ℕ) (u : UnitView) (is : List Request) → u.phase ≡ Dela
     → HasLineIn (row_at now Delay Take u).next.phase (row_at now Delay Take u).next.line (drop 1 is)
 delay_line now u is at e = by_way (row_passes now Take u at).way (taken_line now Delay u ∙ ap (drop 1) e)
   where
-    by_way : ((row_at now Delay Take u).next.phase ≡ Delay) × ((row_at now Delay Take u).sent ≡ None)
-        ⊎ ((row_at now Delay Take u).next.phase ≡ RetrySent) × ((row_at now Delay Take u).sent ≡ Some (retry_message u))
+    by_way : StaysOrGoes u (row_at now Delay Take u)
         → (row_at now Delay Take u).next.line ≡ drop 1 is
         → HasLineIn (row_at now Delay Take u).next.phase (row_at now Delay Take u).next.line (drop 1 is)
     by_way (inl way) line = subst (λ ph. HasLineIn ph (row_at now Delay Take u).next.line (drop 1 is)) (sym way.0) line
@@ -238,6 +251,7 @@ reach_line (Some request) (Some u) is h = by_phase u.phase refl h
     live Grace h e = ap (λ line. line ++ request ∷ []) h
     live KillWait h e = ap (λ line. line ++ request ∷ []) h
     live Leak h e = ap (λ line. line ++ request ∷ []) h
+    live EnvWait h e = ap (λ line. line ++ request ∷ []) h
     live Deciding h e = ap (λ line. line ++ request ∷ []) h
     live Delay h e = ap (λ line. line ++ request ∷ []) h
     live RetrySent h e = ap (λ line. line ++ request ∷ []) h

@@ -7,20 +7,22 @@ use Rattle.run_events.specs.declared.result.ChildExit.{ChildExit}
 use Rattle.run_events.specs.declared.result.ExecuteStatus.{ExecuteStatus}
 use Rattle.run_model.specs.declared.phase.Phase.{Phase}
 use Rattle.run_model.specs.declared.phase.Phase.TheVariants.{StartSent, Starting, Running, Grace, KillWait, Leak}
-use Rattle.run_model.specs.declared.phase.Phase.TheVariants.{Deciding, Delay, RetrySent, Over}
+use Rattle.run_model.specs.declared.phase.Phase.TheVariants.{EnvWait, Deciding, Delay, RetrySent, Over}
 use Rattle.run_model.specs.declared.unit_turn.UnitTurn.TheVariants.{Due}
 use Rattle.run_model.specs.declared.unit_view.AttemptTerms.{AttemptTerms}
 use Rattle.run_model.specs.declared.unit_view.UnitView.{UnitView}
 use Rattle.run_model.specs.Unit.{at_moment, takes, takes_at, is_due}
 use Rattle.run_model.specs.Story.{OwnTurn, Attempt, cut}
 use Rattle.run_model.specs.Timing.{timer_of, is_timer_due_at}
-use Rattle.run_model.specs.Attempts.{has_ended, end_of, delay_after, ended_statuses, attempt_in, start_in, is_retried}
+use Rattle.run_model.specs.Attempts.{is_settled, awaits_env_file, end_of, delay_after, ended_statuses, attempt_in, start_in}
+use Rattle.run_model.specs.Attempts.{is_retried}
 use Rattle.run_model.specs.Attempts.{is_delay_over, decided_at, delay_timer, is_due_in, none_goes_on}
 use Rattle.run_model.specs.Admission.{is_last}
 use Rattle.run_laws.proofs.TimerLemmas.{waits, due_as, sleep_of}
 use Rattle.run_laws.proofs.TimerLemmas.{set_by_later}
 use Rattle.run_laws.proofs.PieceLemmas.{unended_has}
-use Rattle.run_laws.proofs.GoingLemmas.{IsGoing, Follows, IsPast, next_status, ended_statuses-past, going_later, going_lined}
+use Rattle.run_laws.proofs.GoingLemmas.{IsGoing, IsAwaiting, Follows, IsPast, next_status, ended_statuses-past, going_later}
+use Rattle.run_laws.proofs.GoingLemmas.{going_lined, awaiting_later, awaiting_lined}
 
 -- the newest attempt of a unit goes on in this phase, and its statuses are those of the attempts before it
 abbrev pub GoesOn : AttemptTerms → Phase → Bool → Option ChildExit → UnitView → List OwnTurn → List Attempt → Type 0
@@ -57,6 +59,7 @@ HasPieces terms Running u (cut piece [] ∷ earlier) = GoesOn terms Running fals
 HasPieces terms Grace u (cut piece [] ∷ earlier) = GoesOn terms Grace false None u piece earlier
 HasPieces terms KillWait u (cut piece [] ∷ earlier) = GoesOn terms KillWait false None u piece earlier
 HasPieces terms Leak u (cut piece [] ∷ earlier) = GoesOn terms Leak true u.exit u piece earlier
+HasPieces terms EnvWait u (cut piece [] ∷ earlier) = IsAwaiting terms u piece × Follows terms u earlier
 HasPieces terms Deciding u (cut piece [] ∷ earlier) = IsPast terms u piece earlier
 HasPieces terms Delay u (cut piece (d ∷ after) ∷ earlier) = IsDelayed terms u piece (d ∷ after) earlier
 HasPieces terms RetrySent u (cut piece (d ∷ after) ∷ earlier) = IsAwaited terms u piece (d ∷ after) earlier
@@ -95,11 +98,12 @@ made_statuses terms u ps made = by_phase u.phase ps made.has
 
     by_phase : (ph : Phase) (ps : List Attempt) → HasPieces terms ph u ps → u.statuses ≡ ended_statuses terms ps
     by_phase StartSent [] h = h.0
-    by_phase Starting (cut piece [] ∷ earlier) (on, is) = unended piece earlier on.not_ended is.0
-    by_phase Running (cut piece [] ∷ earlier) (on, is) = unended piece earlier on.not_ended is.0
-    by_phase Grace (cut piece [] ∷ earlier) (on, is) = unended piece earlier on.not_ended is.0
-    by_phase KillWait (cut piece [] ∷ earlier) (on, is) = unended piece earlier on.not_ended is.0
-    by_phase Leak (cut piece [] ∷ earlier) (on, is) = unended piece earlier on.not_ended is.0
+    by_phase Starting (cut piece [] ∷ earlier) (on, is) = unended piece earlier on.not_ended.0 is.0
+    by_phase Running (cut piece [] ∷ earlier) (on, is) = unended piece earlier on.not_ended.0 is.0
+    by_phase Grace (cut piece [] ∷ earlier) (on, is) = unended piece earlier on.not_ended.0 is.0
+    by_phase KillWait (cut piece [] ∷ earlier) (on, is) = unended piece earlier on.not_ended.0 is.0
+    by_phase Leak (cut piece [] ∷ earlier) (on, is) = unended piece earlier on.not_ended.0 is.0
+    by_phase EnvWait (cut piece [] ∷ earlier) (on, is) = unended piece earlier on.not_ended.0 is.0
     by_phase Deciding (cut piece [] ∷ earlier) h = h.1
     by_phase Delay (cut piece (d ∷ after) ∷ earlier) h = h.0.0.1
     by_phase RetrySent (cut piece (d ∷ after) ∷ earlier) h = h.0.0.1
@@ -147,11 +151,15 @@ made_due terms u ps made now le = by_phase u.phase ps made.has
   where
     on_timer : (ph : Phase) (waited : Bool) (exit : Option ChildExit) (piece : List OwnTurn)
         → IsGoing terms ph waited exit u piece
-        → is_due now (waits ph u.timers) ≡ (not (has_ended terms piece) && is_timer_due_at now (timer_of terms piece))
+        → is_due now (waits ph u.timers) ≡ (not (is_settled terms piece) && is_timer_due_at now (timer_of terms piece))
     on_timer ph waited exit piece on =
-        rw (unended_has terms piece on.not_ended)
+        rw on.unsettled
         (ap (is_due now) on.timer.waits_for
         ∙ due_as now (timer_of terms piece) (set_by_later u.latest now le (timer_of terms piece) on.timer.set_by))
+
+    decided : (settled awaits due : Bool) → (settled && not awaits) ≡ true → false ≡ (not settled && due)
+    decided true awaits due e = refl
+    decided false awaits due e = cc
 
     over : (r o d : Bool) → (r && not o) ≡ false → false ≡ (r && not o && d)
     over true true d e = refl
@@ -166,7 +174,8 @@ made_due terms u ps made now le = by_phase u.phase ps made.has
     by_phase Grace (cut piece [] ∷ earlier) (on, is) = on_timer Grace false None piece on
     by_phase KillWait (cut piece [] ∷ earlier) (on, is) = on_timer KillWait false None piece on
     by_phase Leak (cut piece [] ∷ earlier) (on, is) = on_timer Leak true u.exit piece on
-    by_phase Deciding (cut piece [] ∷ earlier) h = rw h.0 refl
+    by_phase EnvWait (cut piece [] ∷ earlier) (on, is) = rw on.settled refl
+    by_phase Deciding (cut piece [] ∷ earlier) h = decided _ (awaits_env_file terms piece) _ h.0
     by_phase Delay (cut piece (d ∷ after) ∷ earlier) (again, not_over, wait, set) =
         rw (again.1, not_over) (ap (is_due now) wait
         ∙ due_as now (Some (delay_timer terms.retries (d ∷ after) (cut piece (d ∷ after) ∷ earlier)))
@@ -190,6 +199,7 @@ later_pieces terms now KillWait u (cut piece [] ∷ earlier) le (on, ss) =
     (going_later terms KillWait false None now u piece le on, ss)
 later_pieces terms now Leak u (cut piece [] ∷ earlier) le (on, ss) =
     (going_later terms Leak true u.exit now u piece le on, ss)
+later_pieces terms now EnvWait u (cut piece [] ∷ earlier) le (on, ss) = (awaiting_later terms now u piece on, ss)
 later_pieces terms now Deciding u (cut piece [] ∷ earlier) le h = h
 later_pieces terms now Delay u (cut piece (d ∷ after) ∷ earlier) le (again, not_over, wait, set) =
     (again, not_over, wait, omega arith)
@@ -212,6 +222,7 @@ lined_pieces terms KillWait line u (cut piece [] ∷ earlier) (on, ss) =
     (going_lined terms KillWait false None line u piece on, ss)
 lined_pieces terms Leak line u (cut piece [] ∷ earlier) (on, ss) =
     (going_lined terms Leak true u.exit line u piece on, ss)
+lined_pieces terms EnvWait line u (cut piece [] ∷ earlier) (on, ss) = (awaiting_lined terms line u piece on, ss)
 lined_pieces terms Deciding line u (cut piece [] ∷ earlier) h = h
 lined_pieces terms Delay line u (cut piece (d ∷ after) ∷ earlier) h = h
 lined_pieces terms RetrySent line u (cut piece (d ∷ after) ∷ earlier) h = h

@@ -1,27 +1,35 @@
 -- Who is admitted, and as what.
-use Rattle.std.proofs.Common.{◌≡◌, ◌⊎◌, inl, inr, ℕ, ◌+◌, ◌-◌, ◌<◌, List, [], drop}
+use Rattle.std.proofs.Common.{◌≡◌, ◌⊎◌, inl, inr, ℕ, suc, ◌+◌, ◌-◌, ◌<◌, List, [], ◌∷◌, drop}
 use Rattle.std.proofs.Common.{length, get_or, map, Bool, true, false}
+use Rattle.std.proofs.lemmas.Bool.Decides.{nat_tests}
 use Rattle.std.proofs.Common.{if◌then◌else◌, Option, Some, None, option_and_then, option_map}
 use Rattle.std.proofs.Common.{is_none, is_some, slice_get}
 use Rattle.std.proofs.Common.{refl, ap, sym, subst, ◌∙◌, arith}
-use Rattle.std.proofs.lemmas.List.{get_or-drop, get_or-map, length-drop, length-map}
+use Rattle.std.proofs.lemmas.List.{get_or-drop, get_or-take, get_or-map, length-drop, length-map}
 use Rattle.std.proofs.lemmas.Option.{slice_get_within, slice_get-map, same_Some}
 use Rattle.run_events.specs.declared.settings.Settings.{Settings}
+use Rattle.run_events.specs.declared.plan.PlanScript.{PlanScript}
 use Rattle.run_events.specs.declared.plan.PlanTest.{PlanTest}
+use Rattle.run_events.specs.declared.plan.TestSlotAssignment.{TestSlotAssignment}
 use Rattle.run_events.specs.declared.message.Message.{Message}
+use Rattle.run_events.specs.declared.result.ScriptEnv.TheVariants.{Unread}
 use Rattle.run_admission.specs.declared.seat.Claim.{Claim}
-use Rattle.run_admission.specs.declared.seat.Seat.TheVariants.{InUse, Gone}
+use Rattle.run_admission.specs.declared.seat.Seat.TheVariants.{Gone}
 use Rattle.run_admission.specs.declared.seat.Admitted.{Admitted}
 use Rattle.run_admission.specs.declared.seat.Admitted.TheVariants.{Skip as Skipped, Run}
 use Rattle.run_admission.specs.InUse.{is_waiting, claim_of, admitted}
 use Rattle.run_model.specs.declared.happening.Happening.{Happening}
+use Rattle.run_model.specs.declared.unit_view.UnitRole.{UnitRole}
+use Rattle.run_model.specs.declared.unit_view.UnitRole.TheVariants as roles
 use Rattle.run_model.specs.declared.unit_view.UnitView.{UnitView}
+use Rattle.run_model.specs.Environment.{number}
 use Rattle.run_model.specs.Words.{unit_of, units}
-use Rattle.run_model.specs.Admission.{is_last, scripts_in, units_in, unit_of_test, scripts_over, seat_of, limits_of}
-use Rattle.run_model.specs.Admission.{slots_of, first_view, skipped_view, Newcomer, skipped_newcomer, started_newcomer}
-use Rattle.run_model.specs.Admission.{terms_of, terms_if, terms_at, newcomer_skipped, newcomer_as, test_of, newcomer}
+use Rattle.run_model.specs.Admission.{is_last, is_script, scripts_in, units_in, unit_of_test, scripts_over, seat_as, seat_of}
+use Rattle.run_model.specs.Admission.{limits_of, slots_of, first_view, script_view, handed_to, Newcomer, skipped_newcomer}
+use Rattle.run_model.specs.Admission.{started_newcomer, terms_of, terms_if, script_terms_if, unit_terms, newcomer_skipped}
+use Rattle.run_model.specs.Admission.{newcomer_as, test_of, test_newcomer, scripts_of, open_script, script_newcomer, newcomer}
 use Rattle.run_model.specs.Accounts.{is_skip, is_mismatched}
-use Rattle.run_laws.proofs.Holds.{place_of}
+use Rattle.run_laws.proofs.Holds.{is_script_role}
 use Rattle.run_laws.proofs.AccountLemmas.{IsFirst}
 use Rattle.run_laws.proofs.Admitted.{IsAdmitted, runs, admitted_is}
 use Rattle.run_laws.proofs.OnBoard.{units-at}
@@ -30,10 +38,11 @@ use Rattle.run_laws.proofs.OnBoard.{units-at}
 abbrev pub Becomes : Settings → List (Option UnitView) → ℕ → PlanTest → Newcomer → Type 0
 Becomes p us place test new =
     ((reason : List ℕ) × (test.skip ≡ Some reason)
-    × (new ≡ skipped_newcomer (skipped_view p (unit_of_test p place) test) reason))
+    × (new ≡ skipped_newcomer p (unit_of_test p place) test reason))
     ⊎ ((test.skip ≡ None)
     × ((global : ℕ) × ((slot : Option ℕ) × (admitted (limits_of p us) ≡ Some (Run place global slot))
-    × (new ≡ started_newcomer (first_view p (unit_of_test p place) (slots_of test global slot) test)))))
+    × (new ≡ started_newcomer
+    (first_view p (unit_of_test p place) (slots_of test global slot) (handed_to p us test) test)))))
 
 -- who is admitted: a test of the plan that wasn't yet
 pub record Newcomes (p : Settings) (us : List (Option UnitView)) (new : Newcomer) : Type 0 where
@@ -41,18 +50,48 @@ pub record Newcomes (p : Settings) (us : List (Option UnitView)) (new : Newcomer
   pub test : PlanTest
   pub absent : get_or (drop (scripts_in p) us) place None ≡ None
   pub planned : slice_get p.plan.tests place ≡ Some test
+  pub scripts : scripts_over p us ≡ true
   pub is : Becomes p us place test new
+
+-- or the next script, which wasn't yet either
+pub record ScriptComes (p : Settings) (us : List (Option UnitView)) (new : Newcomer) : Type 0 where
+  pub place : ℕ
+  pub script : PlanScript
+  pub absent : get_or us place None ≡ None
+  pub planned : slice_get p.plan.scripts place ≡ Some script
+  pub is : new ≡ started_newcomer (script_view p place script)
 
 -- a test that waits isn't a unit yet
 absent_where : (v : Option UnitView) → is_waiting (seat_of v) ≡ true → v ≡ None
 absent_where None e = refl
-absent_where (Some u) e = by_end (is_last u.phase) e
+absent_where (Some u) e = by_end (is_last u.phase) u.role e
   where
-    by_end : (b : Bool) → is_waiting (if b then Gone else InUse u.slot.global (option_map (λ g. g.slot) u.slot.group))
-        ≡ true
-        → Some u ≡ None
-    by_end true e = cc
-    by_end false e = cc
+    by_end : (b : Bool) (role : UnitRole) → is_waiting (if b then Gone else seat_as role) ≡ true → Some u ≡ None
+    by_end true role e = cc
+    by_end false (roles.Test t) e = cc
+    by_end false (roles.Script s) e = cc
+
+-- the place of an open script is that of no unit yet
+open_absent : (us : List (Option UnitView)) (i : ℕ) → open_script us ≡ Some i → get_or us i None ≡ None
+open_absent [] i e = cc
+open_absent (None ∷ us) i e = let first : 0 ≡ i = same_Some _ _ e in subst (λ i. get_or (None ∷ us) i None ≡ None) first refl
+open_absent (Some u ∷ us) i e = by_last (is_last u.phase) (λ j. open_absent us j) e
+  where
+    Rest : Type 0
+    Rest = (j : ℕ) → open_script us ≡ Some j → get_or us j None ≡ None
+
+    later : (o : Option ℕ) → open_script us ≡ o → Rest → option_map (λ i. i + 1) o ≡ Some i
+        → get_or (Some u ∷ us) i None ≡ None
+    later None is rest e = cc
+    later (Some j) is rest e =
+        let next : j + 1 ≡ i = same_Some _ _ e in
+        let step : suc j ≡ i = omega arith in
+        subst (λ i. get_or (Some u ∷ us) i None ≡ None) step (rest j is)
+
+    by_last : (b : Bool) → Rest → (if b then option_map (λ i. i + 1) (open_script us) else None) ≡ Some i
+        → get_or (Some u ∷ us) i None ≡ None
+    by_last true rest e = later (open_script us) refl rest e
+    by_last false rest e = cc
 
 none_there : (x : Option (List ℕ)) → is_none x ≡ true → x ≡ None
 none_there None e = refl
@@ -103,45 +142,47 @@ seats p us r e =
 
 -- so something becomes of it
 pub becomes : (p : Settings) (us : List (Option UnitView)) (r : Admitted) → admitted (limits_of p us) ≡ Some r
-    → is_some (newcomer_as p r (slice_get p.plan.tests (test_of r))) ≡ true
+    → is_some (newcomer_as p us r (slice_get p.plan.tests (test_of r))) ≡ true
 becomes p us r e =
-    let it = seats p us r e in ap (λ o. is_some (newcomer_as p r o)) it.planned ∙ made r it.test it.matched
+    let it = seats p us r e in ap (λ o. is_some (newcomer_as p us r o)) it.planned ∙ made r it.test it.matched
   where
     skipped : (j : ℕ) (test : PlanTest) (skip : Option (List ℕ)) → is_none skip ≡ false
         → is_some (newcomer_skipped p j test skip) ≡ true
     skipped j test None h = cc
     skipped j test (Some reason) h = refl
 
-    made : (r : Admitted) (test : PlanTest) → is_none test.skip ≡ runs r → is_some (newcomer_as p r (Some test)) ≡ true
+    made : (r : Admitted) (test : PlanTest) → is_none test.skip ≡ runs r → is_some (newcomer_as p us r (Some test)) ≡ true
     made (Skipped j) test h = skipped j test test.skip h
     made (Run j global slot) test h = refl
 
 pub newcomer_is : (p : Settings) (us : List (Option UnitView)) (new : Newcomer) → newcomer p us ≡ Some new
-    → Newcomes p us new
-newcomer_is p us new e = by_scripts (scripts_over p us) e
+    → Newcomes p us new ⊎ ScriptComes p us new
+newcomer_is p us new e = by_scripts (scripts_over p us) refl e
   where
-    skipped : (j : ℕ) (test : PlanTest) (skip : Option (List ℕ)) → test.skip ≡ skip
+    skipped : (j : ℕ) (test : PlanTest) (skip : Option (List ℕ)) → scripts_over p us ≡ true → test.skip ≡ skip
         → slice_get p.plan.tests j ≡ Some test → IsAdmitted (limits_of p us) j false
         → newcomer_skipped p j test skip ≡ Some new → Newcomes p us new
-    skipped j test None es planned it e = cc
-    skipped j test (Some reason) es planned it e = record {
+    skipped j test None over es planned it e = cc
+    skipped j test (Some reason) over es planned it e = record {
       place = j;
       test = test;
       absent = absent p us j it.within it.waits;
       planned = planned;
+      scripts = over;
       is = inl (reason, es, cc);
     }
 
-    by_test : (r : Admitted) (o : Option PlanTest) → slice_get p.plan.tests (test_of r) ≡ o
+    by_test : (r : Admitted) (o : Option PlanTest) → scripts_over p us ≡ true → slice_get p.plan.tests (test_of r) ≡ o
         → admitted (limits_of p us) ≡ Some r
-        → IsAdmitted (limits_of p us) (test_of r) (runs r) → newcomer_as p r o ≡ Some new → Newcomes p us new
-    by_test r None planned is it e = cc
-    by_test (Skipped j) (Some test) planned is it e = skipped j test test.skip refl planned it e
-    by_test (Run j global slot) (Some test) planned is it e = record {
+        → IsAdmitted (limits_of p us) (test_of r) (runs r) → newcomer_as p us r o ≡ Some new → Newcomes p us new
+    by_test r None over planned is it e = cc
+    by_test (Skipped j) (Some test) over planned is it e = skipped j test test.skip over refl planned it e
+    by_test (Run j global slot) (Some test) over planned is it e = record {
       place = j;
       test = test;
       absent = absent p us j it.within it.waits;
       planned = planned;
+      scripts = over;
       is = inr (
         none_there test.skip (ap (λ (c : Claim). c.matched) (claimed p j it.claim test planned it.claimed)
             ∙ it.matched),
@@ -149,43 +190,85 @@ newcomer_is p us new e = by_scripts (scripts_over p us) e
       );
     }
 
-    by_admitted : (o : Option Admitted) → admitted (limits_of p us) ≡ o
-        → option_and_then (λ a. newcomer_as p a (slice_get p.plan.tests (test_of a))) o ≡ Some new → Newcomes p us new
-    by_admitted None is e = cc
-    by_admitted (Some r) is e =
-        by_test r (slice_get p.plan.tests (test_of r)) refl is (admitted_is (limits_of p us) r is).0 e
+    by_admitted : (o : Option Admitted) → scripts_over p us ≡ true → admitted (limits_of p us) ≡ o
+        → option_and_then (λ a. newcomer_as p us a (slice_get p.plan.tests (test_of a))) o ≡ Some new → Newcomes p us new
+    by_admitted None over is e = cc
+    by_admitted (Some r) over is e =
+        by_test r (slice_get p.plan.tests (test_of r)) over refl is (admitted_is (limits_of p us) r is).0 e
 
-    by_scripts : (b : Bool) → (if b then option_and_then
-        (λ a. newcomer_as p a (slice_get p.plan.tests (test_of a))) (admitted (limits_of p us)) else None) ≡ Some new
-        → Newcomes p us new
-    by_scripts true e = by_admitted (admitted (limits_of p us)) refl e
-    by_scripts false e = cc
+    by_script : (i : ℕ) (o : Option PlanScript) → open_script (scripts_of p us) ≡ Some i → slice_get p.plan.scripts i ≡ o
+        → script_newcomer p i o ≡ Some new → ScriptComes p us new
+    by_script i None opens planned e = cc
+    by_script i (Some script) opens planned e = record {
+      place = i;
+      script = script;
+      absent = sym (get_or-take (scripts_in p) us i None (slice_get_within p.plan.scripts i script planned))
+          ∙ open_absent (scripts_of p us) i opens;
+      planned = planned;
+      is = cc;
+    }
 
--- the test at a place is unit k
-pub place-of_test : (p : Settings) (j : ℕ) → place_of p (unit_of_test p j) ≡ j
-place-of_test p j = let same : scripts_in p + j - scripts_in p ≡ j = omega arith in same
+    by_open : (o : Option ℕ) → open_script (scripts_of p us) ≡ o
+        → option_and_then (λ i. script_newcomer p i (slice_get p.plan.scripts i)) o ≡ Some new → ScriptComes p us new
+    by_open None opens e = cc
+    by_open (Some i) opens e = by_script i (slice_get p.plan.scripts i) opens refl e
+
+    by_scripts : (b : Bool) → scripts_over p us ≡ b → (if b
+        then test_newcomer p us
+        else option_and_then (λ i. script_newcomer p i (slice_get p.plan.scripts i)) (open_script (scripts_of p us)))
+        ≡ Some new → Newcomes p us new ⊎ ScriptComes p us new
+    by_scripts true over e = inl (by_admitted (admitted (limits_of p us)) over refl e)
+    by_scripts false over e = inr (by_open (open_script (scripts_of p us)) refl e)
+
+-- the test at a place is unit k, and a script is below all of them
+pub place-of_test : (p : Settings) (j : ℕ) → scripts_in p + j - scripts_in p ≡ j
+place-of_test p j = omega arith
+
+pub test_number : (p : Settings) (j : ℕ) → is_script p (unit_of_test p j) ≡ false
+test_number p j = grind (arith, nat_tests)
+
+pub script_number : (p : Settings) (i : ℕ) → i < scripts_in p → is_script p i ≡ true
+script_number p i within = grind (arith, nat_tests)
+
+-- the unit that the plan makes of this number, as it begins: a script, or a test in some slots with what its scripts handed on
+pub record IsPlannedScript (p : Settings) (k : ℕ) (u : UnitView) : Type 0 where
+  pub script : PlanScript
+  pub kind : is_script p k ≡ true
+  pub planned : slice_get p.plan.scripts k ≡ Some script
+  pub is : u ≡ script_view p k script
+
+pub record IsPlannedTest (p : Settings) (us : List (Option UnitView)) (k : ℕ) (u : UnitView) : Type 0 where
+  pub test : PlanTest
+  pub slot : TestSlotAssignment
+  pub kind : is_script p k ≡ false
+  pub planned : slice_get p.plan.tests (k - scripts_in p) ≡ Some test
+  pub is : u ≡ first_view p k slot (handed_to p us test) test
+
+abbrev pub IsPlanned : Settings → List (Option UnitView) → ℕ → UnitView → Type 0
+IsPlanned p us k u = IsPlannedScript p k u ⊎ IsPlannedTest p us k u
 
 -- a unit that begins: it is one of the plan, it wasn't admitted before, and it sends its first message
 pub record IsNew (p : Settings) (run : List Happening) (u : UnitView) (sent : Message) : Type 0 where
-  pub below : u.test.unit < units_in p
-  pub unknown : unit_of u.test.unit run ≡ None
-  pub first : IsFirst (is_mismatched p (place_of p u.test.unit)) u sent
+  pub below : number u < units_in p
+  pub unknown : unit_of (number u) run ≡ None
+  pub first : IsFirst (is_mismatched p (number u)) u sent
+  pub role : is_script_role u.role ≡ is_script p (number u)
   pub start : u.timers.stopwatch.start ≡ 0
   pub latest : u.latest ≡ 0
   pub attempt : u.attempt ≡ 1
   pub delay : u.delay ≡ 0
-  pub terms : u.terms ≡ terms_at p (place_of p u.test.unit)
+  pub terms : u.terms ≡ unit_terms p (number u)
   pub statuses : u.statuses ≡ []
+  pub env : u.env ≡ Unread
   pub line : u.line ≡ []
+  pub scripts : is_script p (number u) ≡ false → scripts_over p (units p run) ≡ true
+  pub planned : is_mismatched p (number u) ≡ false → IsPlanned p (units p run) (number u) u
 
 -- a newcomer begins
-pub new_unit : (p : Settings) (run : List Happening) (new : Newcomer) → newcomer p (units p run) ≡ Some new
+new_test : (p : Settings) (run : List Happening) (new : Newcomer) → Newcomes p (units p run) new
     → IsNew p run new.unit new.sent
-new_unit p run new e = by_case found.is
+new_test p run new found = by_case found.is
   where
-    found : Newcomes p (units p run) new
-    found = newcomer_is p (units p run) new e
-
     k : ℕ
     k = unit_of_test p found.place
 
@@ -196,38 +279,93 @@ new_unit p run new e = by_case found.is
     unknown =
         sym (units-at p run k below) ∙ sym (get_or-drop (scripts_in p) (units p run) found.place None) ∙ found.absent
 
-    mismatched : is_mismatched p (place_of p k) ≡ is_some found.test.skip
-    mismatched = ap (is_mismatched p) (place-of_test p found.place) ∙ ap is_skip found.planned
+    mismatched : is_mismatched p k ≡ is_some found.test.skip
+    mismatched =
+        rw (test_number p found.place, place-of_test p found.place) (ap is_skip found.planned)
 
-    terms : terms_of p found.test ≡ terms_at p (place_of p k)
-    terms = sym (ap (terms_at p) (place-of_test p found.place) ∙ ap (terms_if p) found.planned)
+    terms : terms_of p found.test ≡ unit_terms p k
+    terms = sym (rw (test_number p found.place, place-of_test p found.place) (ap (terms_if p) found.planned))
 
     by_case : Becomes p (units p run) found.place found.test new → IsNew p run new.unit new.sent
     by_case (inl (reason, skip, is)) =
-        let mm : is_mismatched p (place_of p k) ≡ true = mismatched ∙ ap is_some skip in
+        let mm : is_mismatched p k ≡ true = mismatched ∙ ap is_some skip in
         subst (λ (n : Newcomer). IsNew p run n.unit n.sent) (sym is) (record {
           below = below;
           unknown = unknown;
-          first = rw mm (refl, (reason, refl));
+          first = rw mm (refl, (_, (refl, (reason, refl))));
+          role = sym (test_number p found.place);
           start = refl;
           latest = refl;
           attempt = refl;
           delay = refl;
           terms = terms;
           statuses = refl;
+          env = refl;
           line = refl;
+          scripts = λ e. found.scripts;
+          planned = λ e. let never : true ≡ false = sym mm ∙ e in cc;
         })
     by_case (inr (skip, (global, (slot, runs, is)))) =
-        let mm : is_mismatched p (place_of p k) ≡ false = mismatched ∙ ap is_some skip in
+        let mm : is_mismatched p k ≡ false = mismatched ∙ ap is_some skip in
         subst (λ (n : Newcomer). IsNew p run n.unit n.sent) (sym is) (record {
           below = below;
           unknown = unknown;
           first = rw mm (refl, refl);
+          role = sym (test_number p found.place);
           start = refl;
           latest = refl;
           attempt = refl;
           delay = refl;
           terms = terms;
           statuses = refl;
+          env = refl;
           line = refl;
+          scripts = λ e. found.scripts;
+          planned = λ e. inr (record {
+            test = found.test;
+            slot = slots_of found.test global slot;
+            kind = test_number p found.place;
+            planned = ap (slice_get p.plan.tests) (place-of_test p found.place) ∙ found.planned;
+            is = refl;
+          });
         })
+
+new_script : (p : Settings) (run : List Happening) (new : Newcomer) → ScriptComes p (units p run) new
+    → IsNew p run new.unit new.sent
+new_script p run new found =
+    subst (λ (n : Newcomer). IsNew p run n.unit n.sent) (sym found.is) (record {
+      below = below;
+      unknown = sym (units-at p run found.place below) ∙ found.absent;
+      first = rw mm (refl, refl);
+      role = sym script;
+      start = refl;
+      latest = refl;
+      attempt = refl;
+      delay = refl;
+      terms = sym (rw script (ap (script_terms_if p) found.planned));
+      statuses = refl;
+      env = refl;
+      line = refl;
+      scripts = λ e. let never : true ≡ false = sym script ∙ e in cc;
+      planned = λ e. inl (record { script = found.script; kind = script; planned = found.planned; is = refl });
+    })
+  where
+    within : found.place < scripts_in p
+    within = slice_get_within p.plan.scripts found.place found.script found.planned
+
+    below : found.place < units_in p
+    below = let inside = slice_get_within p.plan.scripts found.place found.script found.planned in omega arith
+
+    script : is_script p found.place ≡ true
+    script = script_number p found.place within
+
+    mm : is_mismatched p found.place ≡ false
+    mm = rw script refl
+
+pub new_unit : (p : Settings) (run : List Happening) (new : Newcomer) → newcomer p (units p run) ≡ Some new
+    → IsNew p run new.unit new.sent
+new_unit p run new e = by_kind (newcomer_is p (units p run) new e)
+  where
+    by_kind : Newcomes p (units p run) new ⊎ ScriptComes p (units p run) new → IsNew p run new.unit new.sent
+    by_kind (inl test) = new_test p run new test
+    by_kind (inr script) = new_script p run new script

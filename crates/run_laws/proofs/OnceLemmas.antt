@@ -8,18 +8,18 @@ use Rattle.run_events.specs.declared.settings.Settings.{Settings}
 use Rattle.run_model.specs.declared.happening.Happening.{Happening}
 use Rattle.run_model.specs.declared.phase.Phase.{Phase}
 use Rattle.run_model.specs.declared.phase.Phase.TheVariants.{StartSent, Starting, Running, Grace, KillWait, Leak}
-use Rattle.run_model.specs.declared.phase.Phase.TheVariants.{Deciding, Delay, RetrySent, Over}
+use Rattle.run_model.specs.declared.phase.Phase.TheVariants.{EnvWait, Deciding, Delay, RetrySent, Over}
 use Rattle.run_model.specs.declared.unit_view.UnitView.{UnitView}
 use Rattle.run_model.specs.Accounts.{News, started, failed, finished, tried, HasAccount, HasAccountAt}
-use Rattle.run_model.specs.Accounts.{IsAccounted, is_mismatched}
-use Rattle.run_model.specs.Admission.{is_done, is_last, unit_of_test}
+use Rattle.run_model.specs.Accounts.{IsAccounted, account_of, is_mismatched}
+use Rattle.run_model.specs.Admission.{is_done, is_last}
 use Rattle.run_model.specs.Attempts.{statuses_of}
 use Rattle.run_model.specs.Story.{was_left}
 use Rattle.run_model.specs.Unit.{last_status}
-use Rattle.run_model.specs.Words.{unit_of}
+use Rattle.run_model.specs.Words.{told as told_events, unit_of}
 use Rattle.run_laws.specs.Laws.{Extends}
 use Rattle.run_model.specs.Fates.{told_ended}
-use Rattle.run_laws.specs.Once.{finished_with, account_at, IsToldOnce}
+use Rattle.run_laws.specs.Once.{finished_with, IsToldOnce}
 use Rattle.run_laws.proofs.AccountLemmas.{last-append}
 
 -- attempts that a further one follows, with what is told after them
@@ -91,6 +91,7 @@ by_phase false left Running ss t q (told, waits) = rw told (begun ss)
 by_phase false left Grace ss t q (told, waits) = rw told (begun ss)
 by_phase false left KillWait ss t q (told, waits) = rw told (begun ss)
 by_phase false left Leak ss t q (told, waits) = rw told (begun ss)
+by_phase false left EnvWait ss t q (told, waits) = rw told (begun ss)
 by_phase false left Deciding ss t q (early, (s, (e, (told, waits)))) = rw told (waiting early ss s e)
 by_phase false left Delay ss t q (early, (s, (e, inl (told, waits)))) = rw told (waiting early ss s e)
 by_phase false left Delay ss t q (early, (s, (e, inr (told, waits)))) = rw told (failing early ss s e)
@@ -111,13 +112,13 @@ by_unit mm left None ss t q h same = rw h.0 (none_told ss)
 by_unit mm left (Some u) ss t q h same =
     subst (TellsOnce t) (same u refl) (by_phase mm left u.phase u.statuses t q h)
 
--- so of each test, whose attempts are its own turns
-pub told_once : (p : Settings) (run : List Happening) (j : ℕ) → IsAccounted p j run
-    → ((u : UnitView) → unit_of (unit_of_test p j) run ≡ Some u → u.statuses ≡ statuses_of p j run)
-    → IsToldOnce p run j
-told_once p run j h same =
-    let it = by_unit (is_mismatched p j) (was_left (unit_of_test p j) run) (unit_of (unit_of_test p j) run)
-    (statuses_of p j run) (account_at p j run) _ h same in
+-- so of each unit, whose attempts are its own turns
+pub told_once : (p : Settings) (run : List Happening) (k : ℕ) → IsAccounted p k run
+    → ((u : UnitView) → unit_of k run ≡ Some u → u.statuses ≡ statuses_of p k run)
+    → IsToldOnce p run k
+told_once p run k h same =
+    let it = by_unit (is_mismatched p k) (was_left k run) (unit_of k run) (statuses_of p k run)
+    (account_of k (told_events run)) _ h same in
     record { once = it.once; finish = it.finish }
 
 -- where it is over and nothing waits to be told, all attempts were told

@@ -7,15 +7,19 @@ use Rattle.std.specs.Cmp.{first_so, second_so}
 use Rattle.std.proofs.lemmas.List.{length-reverse}
 use Rattle.std.proofs.lemmas.List.FromFn.{length-range_with_len}
 use Rattle.std.proofs.lemmas.List.Sums.{count_by-le-length, sum_by-cons}
-use Rattle.run_events.specs.Stats.{FinishedTest, AreBelow, adds_of, nothing, total, total_by}
-use Rattle.run_events.proofs.StatsLemmas.{total_below}
+use Rattle.run_events.specs.Stats.{FinishedTest, AreBelow, adds_of, script_adds, nothing, total_by}
+use Rattle.run_events.proofs.StatsLemmas.{total_by_below, adds_of_small, script_adds_small}
+use Rattle.run_events.specs.declared.events.ReporterEvent.{ReporterEvent}
+use Rattle.run_events.specs.declared.events.TestEventKind.TheVariants.{SetupScriptStarted, SetupScriptFinished}
+use Rattle.run_events.specs.declared.result.ExecutionResult.{ExecutionResult}
 use Rattle.run_events.specs.declared.settings.Settings.{Settings}
 use Rattle.run_events.specs.declared.stats.RunStats.{RunStats}
 use Rattle.run_events.specs.declared.cancel.CancelReason.{CancelReason}
 use Rattle.run_events.specs.declared.turn.Turn.{Turn}
 use Rattle.run_events.specs.declared.turn.Turn.TheVariants.{Clock}
 use Rattle.run_events.specs.declared.message.Message.{Message}
-use Rattle.run_events.specs.declared.message.Message.TheVariants.{Start, Slow, AttemptFailed, Retry, Skip, Finish}
+use Rattle.run_events.specs.declared.message.Message.TheVariants.{ScriptStart, ScriptSlow, ScriptFinish, Start, Slow}
+use Rattle.run_events.specs.declared.message.Message.TheVariants.{AttemptFailed, Retry, Skip, Finish}
 use Rattle.run_model.specs.declared.entry.Entry.{Entry}
 use Rattle.run_model.specs.declared.happening.Happening.{Happening}
 use Rattle.run_model.specs.declared.unit_turn.UnitTurn.{UnitTurn}
@@ -24,8 +28,9 @@ use Rattle.run_model.specs.declared.unit_view.UnitView.{UnitView}
 use Rattle.run_model.specs.Unit.{takes_at, is_due}
 use Rattle.run_model.specs.Words.{ns_of, was_refused, signals_heard, was_reported, global_timer}
 use Rattle.run_model.specs.Words.{clock, is_on, is_over, joined, sub_run, told, queue, reason, units, skipped, finished}
-use Rattle.run_model.specs.Words.{stats_after, tally}
-use Rattle.run_model.specs.Admission.{is_matched, tests_in, units_in, newcomer}
+use Rattle.run_model.specs.Words.{FinishedUnit, a_test, a_script, adds_by, stats_after, is_running, tally}
+use Rattle.run_model.specs.Admission.{is_matched, scripts_in, tests_in, units_in, newcomer}
+use Rattle.run_model.specs.Accounts.{started, attempt_of, pending_in}
 use Rattle.run_model.specs.Dispatch.{shuts_down, event, may_go, started_event, finished_event}
 use Rattle.run_model.specs.Board.{board}
 use Rattle.run_model.specs.Turns.{enabled, enabled_on, takes_turn, turn_of_unit, unit_takes, is_empty, is_complete}
@@ -34,7 +39,8 @@ use Rattle.run_laws.proofs.Holds.{Holds}
 use Rattle.run_laws.specs.Ready.{moved_by, IsTimely, CanTake, CanDeliverOldest, CanAdvance}
 use Rattle.run_laws.proofs.ByTurn.{by_turn}
 use Rattle.run_laws.proofs.OnBoard.{board_of, board_with, units-length, unit_in-is}
-use Rattle.run_laws.proofs.Facts.{start_waits, retry_waits, finish_follows, oldest_built}
+use Rattle.run_laws.proofs.Facts.{start_waits, start_own, script_own, retry_waits, finish_follows, finish_own}
+use Rattle.run_laws.proofs.Facts.{script_finish_own, oldest_kind, script_below, test_above}
 use Rattle.run_laws.proofs.Kept.{holds}
 use Rattle.run_laws.proofs.Running.{running_in_told, running-started, running-finished}
 
@@ -48,19 +54,34 @@ take_ready p over refused now run k turn (Some u) h e t =
     let below : k < units_in p = named.1 in
     record { unit = u; is = e; named = named.0; below = omega (arith, units-length p run); takes = t; later = named.2 }
 
--- no test adds to the number of tests
-adds_none : (f : FinishedTest) → (adds_of f).initial_run_count ≡ 0
+-- no finished unit adds to the numbers of tests and of scripts to run
+test_adds_none : (f : FinishedTest) → ((adds_of f).initial_run_count ≡ 0) × ((adds_of f).setup_scripts_initial_count ≡ 0)
 unfolding adds_of
-adds_none f = search rules
+test_adds_none f = search rules
 
-sum_none : (fs : List FinishedTest) → sum_by (λ f. (adds_of f).initial_run_count) fs ≡ 0
-sum_none [] = refl
-sum_none (f ∷ fs) = sum_by-cons (λ f. (adds_of f).initial_run_count) f fs ∙ omega (arith, adds_none f, sum_none fs)
+script_adds_none : (r : ExecutionResult)
+    → ((script_adds r).initial_run_count ≡ 0) × ((script_adds r).setup_scripts_initial_count ≡ 0)
+script_adds_none r = search rules
 
--- a count of tests to run below a limit leaves the others below it
-with_tests : (limit tests : ℕ) (why : Option CancelReason) (s : RunStats) → AreBelow limit s → tests < limit
-    → AreBelow limit (record s { initial_run_count = tests; cancel_reason = why })
-with_tests limit tests why s b h = search rules
+adds_none : (f : FinishedUnit) → ((adds_by f).initial_run_count ≡ 0) × ((adds_by f).setup_scripts_initial_count ≡ 0)
+adds_none (a_test test) = test_adds_none test
+adds_none (a_script result) = script_adds_none result
+
+sum_none_tests : (fs : List FinishedUnit) → sum_by (λ f. (adds_by f).initial_run_count) fs ≡ 0
+sum_none_tests [] = refl
+sum_none_tests (f ∷ fs) =
+    sum_by-cons (λ f. (adds_by f).initial_run_count) f fs ∙ omega (arith, (adds_none f).0, sum_none_tests fs)
+
+sum_none_scripts : (fs : List FinishedUnit) → sum_by (λ f. (adds_by f).setup_scripts_initial_count) fs ≡ 0
+sum_none_scripts [] = refl
+sum_none_scripts (f ∷ fs) =
+    sum_by-cons (λ f. (adds_by f).setup_scripts_initial_count) f fs ∙ omega (arith, (adds_none f).1, sum_none_scripts fs)
+
+-- numbers of scripts and of tests to run below a limit leave the others below it
+with_units : (limit tests scripts : ℕ) (why : Option CancelReason) (s : RunStats) → AreBelow limit s → tests < limit
+    → scripts < limit
+    → AreBelow limit (record s { initial_run_count = tests; setup_scripts_initial_count = scripts; cancel_reason = why })
+with_units limit tests scripts why s b h k = search rules
 
 zero_below : (n : ℕ) → 0 < n + 1
 zero_below n = omega arith
@@ -68,34 +89,60 @@ zero_below n = omega arith
 below_more : (n : ℕ) → n < n + 1
 below_more n = omega arith
 
--- the counts stay below a limit that the number of tests and of finishes are below
-stats_below : (p : Settings) (why : Option CancelReason) (n limit : ℕ) (fs : List FinishedTest)
-    → tests_in p < limit → n + length fs < limit → AreBelow limit (stats_after p why n fs)
+-- a finished unit adds at most 1 to each count
+adds_small : (f : FinishedUnit) → AreBelow 2 (adds_by f)
+adds_small (a_test test) = adds_of_small test
+adds_small (a_script result) = script_adds_small result
+
+-- the counts stay below a limit that the number of units and of finishes are below
+stats_below : (p : Settings) (why : Option CancelReason) (n limit : ℕ) (fs : List FinishedUnit)
+    → units_in p < limit → n + length fs < limit → AreBelow limit (stats_after p why n fs)
 unfolding total_by
 stats_below p why n limit fs few short =
-    with_tests limit _ why (total (record nothing { skipped = n }) fs)
-    (total_below limit (n + 1) (record nothing { skipped = n }) fs (search (rules, zero_below n, below_more n))
-    (omega arith))
-    (omega (arith, sum_none fs, count_by-le-length is_matched p.plan.tests))
+    with_units limit _ _ why (total_by adds_by (record nothing { skipped = n }) fs)
+    (total_by_below adds_by adds_small limit (n + 1) (record nothing { skipped = n }) fs
+    (search (rules, zero_below n, below_more n)) (omega arith))
+    (omega (arith, sum_none_tests fs, count_by-le-length is_matched p.plan.tests))
+    (omega (arith, sum_none_scripts fs))
+
+-- as many units of a range run at most as it has
+most_run : (a n : ℕ) (es : List ReporterEvent) → running_in_told a n es ≤ n
+most_run a n es = let most = count_by-le-length (is_running es) (range_with_len a n) in
+    omega (arith, length-range_with_len a n)
 
 -- the oldest message can be delivered
+start_ready : (p : Settings) (over refused : Bool) (now : ℕ) (run : List Happening) (k : ℕ) (m : Message)
+    (rest : List Message) → Holds p over now run → queue run ≡ m ∷ rest → pending_in k m ≡ Some started
+    → CanTake (board_with p refused over now run) k (Answered (may_go (tally p run)))
+start_ready p over refused now run k m rest h eq starts =
+    let waits = start_waits p over now run k m rest h eq starts in
+    take_ready p over refused now run k (Answered (may_go (tally p run))) (Some waits.unit) h
+    (unit_in-is p over now run k h ∙ waits.is)
+    (ap (λ ph. takes_at now ph waits.unit (Answered (may_go (tally p run)))) waits.phase)
+
 oldest_ready : (p : Settings) (over refused : Bool) (now : ℕ) (run : List Happening) (q : List Message) → Holds p over now run
     → is_on run ≡ true
     → units_in p < 2 ^ 32 → length run < 2 ^ 32 → queue run ≡ q → not (is_empty q) ≡ true
     → CanDeliverOldest (board_with p refused over now run) q
 oldest_ready p over refused now run [] h on few short eq en = cc
+oldest_ready p over refused now run (ScriptStart start ∷ rest) h on few short eq en =
+    let k : ℕ = start.script.unit in
+    let e = event 0 (SetupScriptStarted start) in
+    let waits = start_waits p over now run k (ScriptStart start) rest h eq (script_own start) in
+    let below = script_below p k (oldest_kind p over now run (ScriptStart start) rest h eq) in
+    let more = running-started 0 (scripts_in p) k (told run) e (omega arith) (omega (arith, below)) waits.untold (λ k. refl)
+    (λ k. refl) in
+    let most = most_run 0 (scripts_in p) (told run ++ e ∷ []) in
+    ((on, omega arith), start_ready p over refused now run k (ScriptStart start) rest h eq (script_own start))
 oldest_ready p over refused now run (Start start ∷ rest) h on few short eq en =
-    let n : ℕ = units_in p in
+    let k : ℕ = start.test.unit in
     let e = event 0 (started_event start (tally p run)) in
-    let waits = start_waits p over now run start rest h eq in
-    let more = running-started n start.test.unit (told run) e waits.below waits.untold (λ k. refl) (λ k. refl) in
-    let most : running_in_told n (told run ++ e ∷ []) ≤ length (range_with_len 0 n) =
-    count_by-le-length _ (range_with_len 0 n) in (
-      (on, omega (arith, length-range_with_len 0 n)),
-      take_ready p over refused now run start.test.unit (Answered (may_go (tally p run))) (Some waits.unit) h
-          (unit_in-is p over now run start.test.unit h ∙ waits.is)
-          (ap (λ ph. takes_at now ph waits.unit (Answered (may_go (tally p run)))) waits.phase),
-    )
+    let waits = start_waits p over now run k (Start start) rest h eq (start_own start) in
+    let above = test_above p k (oldest_kind p over now run (Start start) rest h eq) in
+    let more = running-started (scripts_in p) (tests_in p) k (told run) e above waits.below waits.untold (λ k. refl)
+    (λ k. refl) in
+    let most = most_run (scripts_in p) (tests_in p) (told run ++ e ∷ []) in
+    ((on, omega arith), start_ready p over refused now run k (Start start) rest h eq (start_own start))
 oldest_ready p over refused now run (Retry retry ∷ rest) h on few short eq en =
     let waits = retry_waits p over now run retry rest h eq in (
       (on, tt),
@@ -105,15 +152,30 @@ oldest_ready p over refused now run (Retry retry ∷ rest) h on few short eq en 
     )
 oldest_ready p over refused now run (AttemptFailed failure ∷ rest) h on few short eq en = ((on, tt), tt)
 oldest_ready p over refused now run (Slow slow ∷ rest) h on few short eq en = ((on, tt), tt)
+oldest_ready p over refused now run (ScriptSlow slow ∷ rest) h on few short eq en = ((on, tt), tt)
 oldest_ready p over refused now run (Skip skip ∷ rest) h on few short eq en =
     let counted = h.counted in
     ((on, (stats_below p (reason run) (skipped run) (2 ^ 32) (finished run) (omega arith) (omega arith)).skipped), tt)
+oldest_ready p over refused now run (ScriptFinish finish ∷ rest) h on few short eq en =
+    let k : ℕ = finish.script.unit in
+    let follows = finish_follows p over now run k (ScriptFinish finish) (attempt_of finish.status ∷ []) rest h eq
+    (script_finish_own finish) in
+    let below = script_below p k (oldest_kind p over now run (ScriptFinish finish) rest h eq) in
+    let less = running-finished 0 (scripts_in p) k (told run) (event 0 (SetupScriptFinished finish)) (omega arith)
+    (omega (arith, below)) follows.runs (λ k. refl) (λ k. refl) in
+    let counted = h.counted in (
+      (
+        on,
+        (stats_below p (reason run) (skipped run) (2 ^ 32) (finished run) (omega arith) (omega arith), omega arith),
+      ),
+      tt,
+    )
 oldest_ready p over refused now run (Finish finish ∷ rest) h on few short eq en =
-    let n : ℕ = units_in p in
-    let e = event 0 (finished_event finish (tally p run)) in
-    let follows = finish_follows p over now run finish rest h eq in
-    let less = running-finished n finish.test.unit (told run) e follows.below follows.runs (λ k. refl)
-    (λ k. refl) in
+    let k : ℕ = finish.test.unit in
+    let follows = finish_follows p over now run k (Finish finish) finish.statuses rest h eq (finish_own finish) in
+    let above = test_above p k (oldest_kind p over now run (Finish finish) rest h eq) in
+    let less = running-finished (scripts_in p) (tests_in p) k (told run) (event 0 (finished_event finish (tally p run))) above
+    follows.below follows.runs (λ k. refl) (λ k. refl) in
     let counted = h.counted in (
       (
         on,
@@ -125,7 +187,6 @@ oldest_ready p over refused now run (Finish finish ∷ rest) h on few short eq e
       ),
       tt,
     )
-oldest_ready p over refused now run (m ∷ rest) h on few short eq en = absurd (oldest_built p over now run m rest h eq)
 
 -- each enabled turn can be taken
 ready : (p : Settings) (over refused : Bool) (now : ℕ) (run : List Happening) (turn : Turn) → Holds p over now run

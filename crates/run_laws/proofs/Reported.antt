@@ -8,9 +8,8 @@ use Rattle.run_events.specs.declared.plan.SlowTimeout.{SlowTimeout}
 use Rattle.run_events.specs.declared.ask.Ask.{Ask}
 use Rattle.run_events.specs.declared.ask.Ask.TheVariants.{Signal}
 use Rattle.run_events.specs.declared.message.Message.{Message}
-use Rattle.run_events.specs.declared.message.Message.TheVariants.{Slow}
-use Rattle.run_events.specs.declared.message.TestSlow.{TestSlow}
-use Rattle.run_events.specs.declared.events.TestEventKind.TheVariants.{TestSlow as TestSlowed}
+use Rattle.run_events.specs.declared.message.Message.TheVariants.{ScriptSlow, Slow}
+use Rattle.run_events.specs.declared.events.TestEventKind.{TestEventKind}
 use Rattle.run_events.specs.declared.request.ChildSignal.TheVariants.{End}
 use Rattle.run_model.specs.declared.entry.Entry.{Entry}
 use Rattle.run_model.specs.declared.happening.Happening.{Happening}
@@ -18,20 +17,26 @@ use Rattle.run_model.specs.declared.happening.UnitPart.{UnitPart}
 use Rattle.run_model.specs.declared.happening.UnitPart.TheVariants.{Acts}
 use Rattle.run_model.specs.declared.unit_turn.UnitTurn.{UnitTurn}
 use Rattle.run_model.specs.declared.unit_view.AttemptTerms.{AttemptTerms}
+use Rattle.run_model.specs.declared.unit_view.UnitRole.{UnitRole}
+use Rattle.run_model.specs.declared.unit_view.UnitRole.TheVariants as roles
 use Rattle.run_model.specs.declared.unit_view.UnitView.{UnitView}
+use Rattle.run_model.specs.Environment.{number_of, number}
 use Rattle.run_model.specs.Unit.{at_moment, row, takes}
 use Rattle.run_events.specs.declared.request.Request.{Request}
 use Rattle.run_model.specs.Story.{OwnTurn, own_turn, story_of, line_of, request_of, pieces}
 use Rattle.run_model.specs.Words.{sent, delivered, queue, told, asked}
 use Rattle.run_model.specs.Dispatch.{event}
 use Rattle.run_model.specs.Board.{Deed, deed_events, said}
-use Rattle.run_laws.specs.Reports.{SlowReport, signal_for, signals_for, signals_asked, signals_by, report_in, report_of}
+use Rattle.run_laws.specs.Reports.{SlowReport, signal_for, signals_for, signals_asked, signals_by, report_in, report_of_kind}
+use Rattle.run_laws.specs.Reports.{report_of}
 use Rattle.run_laws.specs.Reports.{reports_told, reports_waiting, reports_by}
 use Rattle.run_laws.proofs.Holds.{IsReported}
 use Rattle.run_laws.proofs.Queue.{queue-cons}
 use Rattle.run_laws.proofs.Rows.{IsForOwn, IsReportOf, row_asks_own, takes_moment}
 use Rattle.run_laws.proofs.AttemptLemmas.{IsMadeIf}
 use Rattle.run_laws.proofs.ReportLemmas.{own_said}
+use Rattle.run_laws.proofs.AccountLemmas.{IsTriedOnce}
+use Rattle.std.specs.List.{cons_option}
 
 -- the story of unit k with its own turn of a part
 abbrev pub story_with : ℕ → ℕ → Option UnitPart → List Request → List OwnTurn → List OwnTurn
@@ -69,12 +74,16 @@ other_signals j k (Some (Signal ask)) own apart = let other : (ask.unit == k) �
     rw other refl
 other_signals j k (Some ask) own apart = refl
 
-other_reports : (j k : ℕ) (m : Option Message) → IsReportOf j m → (j == k) ≡ false
+other_reports : (role : UnitRole) (k : ℕ) (m : Option Message) → IsReportOf role m → (number_of role == k) ≡ false
     → reports_waiting k (option_to_list m) ≡ []
-other_reports j k None own apart = refl
-other_reports j k (Some (Slow slow)) own apart =
+other_reports role k None own apart = refl
+other_reports (roles.Test t) k (Some (Slow slow)) own apart =
     let other : (slow.test.unit == k) ≡ false = ap (λ i. i == k) own ∙ apart in rw other refl
-other_reports j k (Some m) own apart = refl
+other_reports (roles.Script s) k (Some (ScriptSlow slow)) own apart =
+    let other : (slow.script.unit == k) ≡ false = ap (λ i. i == k) own ∙ apart in rw other refl
+other_reports (roles.Test t) k (Some (ScriptSlow slow)) own apart = absurd own
+other_reports (roles.Script s) k (Some (Slow slow)) own apart = absurd own
+other_reports role k (Some m) own apart = refl
 
 -- what a unit's own turn asks and sends
 pub record ActsReport (slow : SlowTimeout) (k now : ℕ) (part : Option UnitPart) (line : List Request)
@@ -85,21 +94,21 @@ pub record ActsReport (slow : SlowTimeout) (k now : ℕ) (part : Option UnitPart
       ≡ reports_by slow (pieces story) ++ reports_waiting k (option_to_list sent)
 
 pub acts_report : (terms : AttemptTerms) (k now j : ℕ) (turn : UnitTurn) (u : UnitView) (v : Option UnitView)
-    (line : List Request) (story : List OwnTurn) → takes now u turn ≡ true → u.latest ≤ now → u.test.unit ≡ j
+    (line : List Request) (story : List OwnTurn) → takes now u turn ≡ true → u.latest ≤ now → IsTriedOnce u → (number u) ≡ j
     → ((j == k) ≡ true → request_of turn line ≡ request_of turn u.line)
     → ((j == k) ≡ true → v ≡ Some u) → IsMadeIf terms v story
     → ActsReport terms.slow k now (Some (Acts j turn)) line story (row now turn u).asked (row now turn u).sent
-acts_report terms k now j turn u v line story en le named oldest same made = by_unit (j == k) refl
+acts_report terms k now j turn u v line story en le once named oldest same made = by_unit (j == k) refl
   where
-    own : IsForOwn u.test.unit (row now turn u).asked × IsReportOf u.test.unit (row now turn u).sent
+    own : IsForOwn (number u) (row now turn u).asked × IsReportOf u.role (row now turn u).sent
     own = row_asks_own now u.phase turn (at_moment now u) refl (takes_moment now u.phase u turn en)
 
     by_unit : (b : Bool) → (j == k) ≡ b
         → ActsReport terms.slow k now (Some (Acts j turn)) line story (row now turn u).asked (row now turn u).sent
     by_unit true e =
-        let here : u.test.unit ≡ k = grind arith in
+        let here : (number u) ≡ k = grind arith in
         let is_made : IsMadeIf terms (Some u) story = subst (λ w. IsMadeIf terms w story) (same e) made in
-        let said = own_said terms now turn u story en le is_made in
+        let said = own_said terms now turn u story en le once is_made in
         record {
           asks = rw (e, oldest e) (said.asks
               ∙ ap (λ i. map End (signals_by terms.slow (pieces story)) ++ signals_for i (row now turn u).asked) here);
@@ -108,23 +117,21 @@ acts_report terms k now j turn u v line story en le named oldest same made = by_
               ++ reports_waiting i (option_to_list (row now turn u).sent)) here);
         }
     by_unit false e =
-        let apart : (u.test.unit == k) ≡ false = grind arith in
+        let apart : ((number u) == k) ≡ false = grind arith in
         record {
-          asks = rw (e, other_signals u.test.unit k (row now turn u).asked own.0 apart) (sym (append-nil _));
-          sends = rw (e, other_reports u.test.unit k (row now turn u).sent own.1 apart) (sym (append-nil _));
+          asks = rw (e, other_signals (number u) k (row now turn u).asked own.0 apart) (sym (append-nil _));
+          sends = rw (e, other_reports u.role k (row now turn u).sent own.1 apart) (sym (append-nil _));
         }
 
 -- a slow report that is told had waited
-pub told_report : (k now : ℕ) (slow : TestSlow) (rest : List Message)
-    → reports_told k (event now (TestSlowed slow) ∷ []) ++ reports_waiting k rest
-    ≡ reports_waiting k (Slow slow ∷ rest)
-told_report k now slow rest = by_unit (slow.test.unit == k) refl
+pub told_report : (k now : ℕ) (m : Message) (kind : TestEventKind) (rest : List Message)
+    → report_of_kind k kind ≡ report_in k m
+    → reports_told k (event now kind ∷ []) ++ reports_waiting k rest ≡ reports_waiting k (m ∷ rest)
+told_report k now m kind rest same = rw same (by_report (report_in k m))
   where
-    by_unit : (b : Bool) → (slow.test.unit == k) ≡ b
-        → reports_told k (event now (TestSlowed slow) ∷ []) ++ reports_waiting k rest
-        ≡ reports_waiting k (Slow slow ∷ rest)
-    by_unit true e = rw e refl
-    by_unit false e = rw e refl
+    by_report : (o : Option SlowReport) → cons_option o [] ++ reports_waiting k rest ≡ cons_option o (reports_waiting k rest)
+    by_report None = refl
+    by_report (Some report) = refl
 
 -- what was asked, told and waits after one more deed
 signals_one : (k n : ℕ) (ask : Option Ask)

@@ -1,6 +1,6 @@
 -- A unit at the attempt that its pieces say, after it took a request.
-use Rattle.std.proofs.Common.{◌≡◌, ℕ, ◌+◌, ◌≤◌, List, [], ◌∷◌, length, Bool, true, false, ◌&&◌, ◌||◌}
-use Rattle.std.proofs.Common.{Option, Some, None, refl, ap, sym, subst, ◌∙◌}
+use Rattle.std.proofs.Common.{◌≡◌, ℕ, ◌+◌, ◌≤◌, List, [], ◌∷◌, length, Bool, true, false}
+use Rattle.std.proofs.Common.{Option, Some, None, refl, ap, subst, ◌∙◌}
 use Rattle.run_events.specs.declared.request.Request.{Request}
 use Rattle.run_events.specs.declared.request.Request.TheVariants.{Stop, Continue, Shutdown, OtherCancel, GetInfo}
 use Rattle.run_events.specs.declared.request.ShutdownRequest.{ShutdownRequest}
@@ -50,7 +50,7 @@ quiet_made ph waited exit now request u piece earlier into is a (on, ss) heeds =
     (began u.terms u.timers.stopwatch.start waited exit false u.timers.slow_count u.capture
     (taken now Take request ∷ piece) it)
     (into (
-      going_more u.terms ph waited exit u (taken now Take request) piece it on.not_ended
+      going_more u.terms ph waited exit u (taken now Take request) piece it on.not_ended refl
           (waits_on ph waited exit u piece on) on.watch
           (timer_still u.terms ph u.timers u.latest (taken now Take request) piece refl refl refl heeds on.timer),
       ss,
@@ -80,7 +80,7 @@ asked_made : (now : ℕ) (reason : ShutdownRequest) (u : UnitView) (piece : List
 asked_made now reason u piece earlier le a (on, ss) gives =
     made_more v Grace t piece earlier refl a
     (began u.terms u.timers.stopwatch.start false None false u.timers.slow_count u.capture (t ∷ piece) it) (
-      going_more u.terms Grace false None v t piece it on.not_ended refl on.watch
+      going_more u.terms Grace false None v t piece it on.not_ended refl refl on.watch
           (timer_asked u.terms u.timers v.timers u.latest t piece le refl refl on.is_at.wait_over on.timer refl refl refl
           gives),
       ss,
@@ -132,7 +132,7 @@ requested_grace : (now : ℕ) (request : Request) (u : UnitView) (piece : List O
     → u.phase ≡ Grace → u.attempt ≡ length earlier + 1 → GoesOn u.terms Grace false None u piece earlier
     → IsMade u.terms (requested now Grace request u).next (cut (taken now Take (Some request) ∷ piece) [] ∷ earlier)
 requested_grace now (Shutdown reason) u piece earlier ph a (on, ss) =
-    killed_made (taken now Take (Some (Shutdown reason))) u piece earlier a (on, ss) refl refl refl
+    killed_made (taken now Take (Some (Shutdown reason))) u piece earlier a (on, ss) refl refl refl refl
     (at_take Grace false None now (Some (Shutdown reason)) u piece on)
 requested_grace now (Stop round) u piece earlier ph a h =
     ignored_made Grace now (Some (Stop round)) u piece earlier (λ h. h) ph a h refl

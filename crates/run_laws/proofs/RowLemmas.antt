@@ -11,24 +11,28 @@ use Rattle.run_events.specs.declared.result.ExecuteStatus.{ExecuteStatus}
 use Rattle.run_events.specs.declared.retry_policy.RetryPolicy.{RetryPolicy}
 use Rattle.run_model.specs.declared.phase.Phase.{Phase}
 use Rattle.run_model.specs.declared.phase.Phase.TheVariants.{Starting, Running, Leak}
-use Rattle.run_model.specs.declared.phase.Phase.TheVariants.{Deciding, Delay, RetrySent, Over}
+use Rattle.run_model.specs.declared.phase.Phase.TheVariants.{EnvWait, Deciding, Delay, RetrySent, Over}
+use Rattle.run_commands.specs.declared.script_helpers.EnvInput.{EnvInput}
+use Rattle.run_events.specs.declared.result.ChildExecutionOutput.TheVariants.{Output}
 use Rattle.run_model.specs.declared.unit_turn.UnitTurn.{UnitTurn}
-use Rattle.run_model.specs.declared.unit_turn.UnitTurn.TheVariants.{Answered, Started, Decide}
+use Rattle.run_model.specs.declared.unit_turn.UnitTurn.TheVariants.{Answered, Started, Env, Decide}
 use Rattle.run_model.specs.declared.unit_view.AttemptTerms.{AttemptTerms}
 use Rattle.run_model.specs.declared.unit_view.UnitView.{UnitView}
 use Rattle.run_model.specs.Backoff.{retry_count, delay_by}
-use Rattle.run_model.specs.Unit.{exited, leaking, settled, having_heard}
+use Rattle.run_model.specs.Env.{env_of}
+use Rattle.run_model.specs.Unit.{result_of, ended, ended_with, awaits_env, awaiting_env, exited, leaking, settled, having_heard}
 use Rattle.run_model.specs.Unit.{heard_with, started, let_go, begun_row, last_status, has_passed, has_retry, next_delay}
 use Rattle.run_model.specs.Unit.{delayed, decided, decide_row, retried, left}
 use Rattle.run_model.specs.Story.{OwnTurn, Attempt, cut, decides, first_said}
 use Rattle.run_model.specs.Timing.{ends_wait, is_due_turn, starts_child}
-use Rattle.run_model.specs.Attempts.{start_error_in, exit_in, end_of, moment_if, word_in, word_of, decided_at}
+use Rattle.run_model.specs.Attempts.{start_error_in, exit_in, env_in, moment_if, word_in, word_of, decided_at}
 use Rattle.run_model.specs.Attempts.{delay_after, ended_statuses, start_of, start_in, is_retried, ends_delay}
 use Rattle.run_laws.proofs.CaptureLemmas.{captured_first, heard_by, taken}
 use Rattle.run_laws.proofs.StandingLemmas.{unheeded}
 use Rattle.run_laws.proofs.TimerLemmas.{timer_first, timer_started, timer_left, timer_still}
 use Rattle.run_laws.proofs.PieceLemmas.{IsAt, quiet_said, at_more}
-use Rattle.run_laws.proofs.GoingLemmas.{Follows, IsPast, next_status, ended_statuses-past, going_more, past_exited}
+use Rattle.run_laws.proofs.GoingLemmas.{IsUnended, IsAwaiting, Follows, IsPast, next_status, ended_statuses-past, going_more}
+use Rattle.run_laws.proofs.GoingLemmas.{past_exited, awaiting_exited, past_read}
 use Rattle.run_laws.proofs.GoingLemmas.{waits_further, ended_or, ended_done}
 use Rattle.run_laws.proofs.MadeLemmas.{GoesOn, IsDelayed, IsAwaited, HasPieces, IsMade}
 
@@ -58,15 +62,52 @@ pub began : (terms : AttemptTerms) (start : ℕ) (waited : Bool) (exit : Option 
     (c : Captured) (piece : List OwnTurn) → IsAt terms start waited exit leaked count c piece → start ≡ start_of piece
 began terms start waited exit leaked count c piece it = sym (ap (λ o. unwrap_or o 0) it.let_go)
 
+-- an attempt whose child is done with ends, or its environment file is to be read
+pub exited_made : (now : ℕ) (exit : Option ChildExit) (leaked : Bool) (c : Captured) (turn : UnitTurn) (u : UnitView)
+    (piece : List OwnTurn) (earlier : List Attempt)
+    → IsAt u.terms u.timers.stopwatch.start true exit leaked u.timers.slow_count c (taken now turn None ∷ piece)
+    → IsUnended u.terms piece → env_in turn ≡ None → (u.terms.skips_leak_detection || is_done c || leaked) ≡ true
+    → u.timers.stopwatch ≡ started_at u.timers.stopwatch.start → u.attempt ≡ length earlier + 1
+    → Follows u.terms u earlier
+    → IsMade u.terms (exited now exit leaked c u) (cut (taken now turn None ∷ piece) [] ∷ earlier)
+exited_made now exit leaked c turn u piece earlier it none quiet done watch a ss =
+    by_env (awaits_env (result_of exit c.errors leaked u) u) refl
+  where
+    start : u.timers.stopwatch.start ≡ start_of (taken now turn None ∷ piece)
+    start =
+        began u.terms u.timers.stopwatch.start true exit leaked u.timers.slow_count c (taken now turn None ∷ piece) it
+
+    by_env : (b : Bool) → awaits_env (result_of exit c.errors leaked u) u ≡ b
+        → IsMade u.terms (if b
+        then awaiting_env exit leaked c u
+        else ended now (result_of exit c.errors leaked u) (Output c.output c.errors) u)
+        (cut (taken now turn None ∷ piece) [] ∷ earlier)
+    by_env true e =
+        made_more (awaiting_env exit leaked c u) EnvWait (taken now turn None) piece earlier refl a start
+        (awaiting_exited now exit leaked c turn u piece it none quiet done e watch, ss)
+    by_env false e =
+        made_more (ended now (result_of exit c.errors leaked u) (Output c.output c.errors) u) Deciding (taken now turn None)
+        piece earlier refl a start (past_exited now exit leaked c turn u piece earlier it none quiet done e watch a ss)
+
+-- its environment file was read, or could not be
+pub read_made : (now : ℕ) (input : EnvInput) (u : UnitView) (piece : List OwnTurn) (earlier : List Attempt)
+    → u.attempt ≡ length earlier + 1 → u.timers.stopwatch.start ≡ start_of piece → IsAwaiting u.terms u piece
+    → Follows u.terms u earlier
+    → IsMade u.terms (ended_with now (env_of input) u.exit u.leaked u.capture u)
+    (cut (taken now (Env input) None ∷ piece) [] ∷ earlier)
+read_made now input u piece earlier a start on ss =
+    made_more (ended_with now (env_of input) u.exit u.leaked u.capture u) Deciding (taken now (Env input) None) piece earlier
+    refl a (simp quiet_said start) (past_read now input u piece earlier on a ss)
+
 -- an attempt whose child is waited for no more ends, or waits for its streams
 settled_made : (now : ℕ) (exit : Option ChildExit) (c : Captured) (turn : UnitTurn) (u : UnitView)
     (piece : List OwnTurn) (earlier : List Attempt)
-    → now ≤ u.latest → ends_wait turn ≡ true
+    → now ≤ u.latest → ends_wait turn ≡ true → env_in turn ≡ None
     → IsAt u.terms u.timers.stopwatch.start true exit false u.timers.slow_count c (taken now turn None ∷ piece)
-    → end_of u.terms piece ≡ None
+    → IsUnended u.terms piece
     → u.timers.stopwatch ≡ started_at u.timers.stopwatch.start → u.attempt ≡ length earlier + 1
     → Follows u.terms u earlier → IsMade u.terms (settled now exit c u) (cut (taken now turn None ∷ piece) [] ∷ earlier)
-settled_made now exit c turn u piece earlier le ends it none watch a ss =
+settled_made now exit c turn u piece earlier le ends quiet it none watch a ss =
     by_done (u.terms.skips_leak_detection || is_done c) refl
   where
     start : u.timers.stopwatch.start ≡ start_of (taken now turn None ∷ piece)
@@ -77,12 +118,11 @@ settled_made now exit c turn u piece earlier le ends it none watch a ss =
         → IsMade u.terms (if b then exited now exit false c u else leaking now exit c u)
         (cut (taken now turn None ∷ piece) [] ∷ earlier)
     by_done true e =
-        made_more (exited now exit false c u) Deciding (taken now turn None) piece earlier refl a start
-        (past_exited now exit false c turn u piece earlier it none
-        (ended_or u.terms.skips_leak_detection (is_done c) e) watch a ss)
+        exited_made now exit false c turn u piece earlier it none quiet
+        (ended_or u.terms.skips_leak_detection (is_done c) e) watch a ss
     by_done false e =
         made_more (leaking now exit c u) Leak (taken now turn None) piece earlier refl a start (
-          going_more u.terms Leak true exit (leaking now exit c u) (taken now turn None) piece it none e watch
+          going_more u.terms Leak true exit (leaking now exit c u) (taken now turn None) piece it none quiet e watch
               (timer_left u.terms (leaking now exit c u).timers now u.latest turn piece le refl ends),
           ss,
         )
@@ -91,15 +131,15 @@ settled_made now exit c turn u piece earlier le ends it none watch a ss =
 pub exit_made : (ph : Phase) (now : ℕ) (exit : Option ChildExit) (c : Captured) (turn : UnitTurn) (u : UnitView)
     (piece : List OwnTurn) (earlier : List Attempt)
     → now ≤ u.latest → u.attempt ≡ length earlier + 1 → GoesOn u.terms ph false None u piece earlier
-    → start_error_in turn ≡ None → is_due_turn turn ≡ false → ends_wait turn ≡ true → exit_in turn ≡ exit
-    → heard_by u.capture turn ≡ c
+    → start_error_in turn ≡ None → is_due_turn turn ≡ false → ends_wait turn ≡ true → env_in turn ≡ None
+    → exit_in turn ≡ exit → heard_by u.capture turn ≡ c
     → IsMade u.terms (settled now exit c u) (cut (taken now turn None ∷ piece) [] ∷ earlier)
-exit_made ph now exit c turn u piece earlier le a (on, ss) unrefused due ends is heard =
+exit_made ph now exit c turn u piece earlier le a (on, ss) unrefused due ends quiet is heard =
     let it : IsAt u.terms u.timers.stopwatch.start (ends_wait turn || false) (exit_in turn) false u.timers.slow_count
     (heard_by u.capture turn) (taken now turn None ∷ piece) =
     at_more u.terms u.timers.stopwatch.start false None false u.timers.slow_count u.capture now turn None piece on.is_at
     unrefused due in
-    settled_made now exit c turn u piece earlier le ends (rw (ends, is, heard) at it) on.not_ended on.watch a ss
+    settled_made now exit c turn u piece earlier le ends quiet (rw (ends, is, heard) at it) on.not_ended on.watch a ss
 
 -- a unit whose capture got a turn
 abbrev pub having_captured : UnitTurn → UnitView → UnitView
@@ -112,13 +152,13 @@ pub heard_running : (ph : Phase) (now : ℕ) (turn : UnitTurn) (u : UnitView) (p
     → HasPieces u.terms ph (having_captured turn u) (cut (taken now turn None ∷ piece) [] ∷ earlier))
     → u.phase ≡ ph → u.attempt ≡ length earlier + 1 → GoesOn u.terms ph false None u piece earlier
     → start_error_in turn ≡ None → is_due_turn turn ≡ false → ends_wait turn ≡ false → exit_in turn ≡ None
-    → starts_child turn ≡ false → heard_by u.capture turn ≡ having_heard u.capture turn
+    → env_in turn ≡ None → starts_child turn ≡ false → heard_by u.capture turn ≡ having_heard u.capture turn
     → IsMade u.terms (having_captured turn u) (cut (taken now turn None ∷ piece) [] ∷ earlier)
-heard_running ph now turn u piece earlier into phase a (on, ss) unrefused due ends is starts heard =
+heard_running ph now turn u piece earlier into phase a (on, ss) unrefused due ends is quiet starts heard =
     made_more (having_captured turn u) ph (taken now turn None) piece earlier phase a
     (began u.terms u.timers.stopwatch.start false None false u.timers.slow_count c (taken now turn None ∷ piece) it)
     (into (
-      going_more u.terms ph false None (having_captured turn u) (taken now turn None) piece it on.not_ended refl
+      going_more u.terms ph false None (having_captured turn u) (taken now turn None) piece it on.not_ended quiet refl
           on.watch (timer_still u.terms ph u.timers u.latest (taken now turn None) piece due ends starts
           (unheeded u.terms.slow (taken now turn None) piece refl) on.timer),
       ss,
@@ -140,9 +180,9 @@ heard_running ph now turn u piece earlier into phase a (on, ss) unrefused due en
 pub heard_made : (now : ℕ) (turn : UnitTurn) (u : UnitView) (piece : List OwnTurn) (earlier : List Attempt)
     → u.phase ≡ Leak → u.attempt ≡ length earlier + 1 → GoesOn u.terms Leak true u.exit u piece earlier
     → start_error_in turn ≡ None → is_due_turn turn ≡ false → ends_wait turn ≡ false → exit_in turn ≡ None
-    → starts_child turn ≡ false → heard_by u.capture turn ≡ having_heard u.capture turn
+    → env_in turn ≡ None → starts_child turn ≡ false → heard_by u.capture turn ≡ having_heard u.capture turn
     → IsMade u.terms (heard_with now (having_heard u.capture turn) u) (cut (taken now turn None ∷ piece) [] ∷ earlier)
-heard_made now turn u piece earlier ph a (on, ss) unrefused due ends is starts heard = by_done (is_done c) refl
+heard_made now turn u piece earlier ph a (on, ss) unrefused due ends is quiet starts heard = by_done (is_done c) refl
   where
     c : Captured
     c = having_heard u.capture turn
@@ -164,12 +204,11 @@ heard_made now turn u piece earlier ph a (on, ss) unrefused due ends is starts h
         → IsMade u.terms (if b then exited now u.exit false c u else record u { capture = c })
         (cut (taken now turn None ∷ piece) [] ∷ earlier)
     by_done true e =
-        made_more (exited now u.exit false c u) Deciding (taken now turn None) piece earlier refl a start
-        (past_exited now u.exit false c turn u piece earlier it on.not_ended
-        (ended_done u.terms.skips_leak_detection (is_done c) e) on.watch a ss)
+        exited_made now u.exit false c turn u piece earlier it on.not_ended quiet
+        (ended_done u.terms.skips_leak_detection (is_done c) e) on.watch a ss
     by_done false e =
         made_more (record u { capture = c }) Leak (taken now turn None) piece earlier ph a start (
-          going_more u.terms Leak true u.exit (record u { capture = c }) (taken now turn None) piece it on.not_ended
+          going_more u.terms Leak true u.exit (record u { capture = c }) (taken now turn None) piece it on.not_ended quiet
               (waits_further u.exit c u piece on e) on.watch
               (timer_still u.terms Leak u.timers u.latest (taken now turn None) piece due ends starts
               (unheeded u.terms.slow (taken now turn None) piece refl) on.timer),
@@ -184,7 +223,7 @@ started_made now pid u piece earlier le a (on, ss) =
     made_more (started now u) Running (taken now (Started pid) None) piece earlier refl a
     (began u.terms u.timers.stopwatch.start false None false u.timers.slow_count u.capture
     (taken now (Started pid) None ∷ piece) it) (
-      going_more u.terms Running false None (started now u) (taken now (Started pid) None) piece it on.not_ended refl on.watch
+      going_more u.terms Running false None (started now u) (taken now (Started pid) None) piece it on.not_ended refl refl on.watch
           (timer_started u.terms (started now u).timers now u.latest pid piece le refl on.is_at.wait_over on.timer.stage.0
           on.timer.stage.1),
       ss,
@@ -213,9 +252,10 @@ begun_made now u earlier a ss = record {
         ended_so = refl;
         leaked_so = refl;
         counted = refl;
-        captured = captured_first u.terms.strategy now;
+        captured = captured_first u.terms.streams now;
       };
-      not_ended = refl;
+      not_ended = (refl, refl);
+      unsettled = refl;
       watch = refl;
       timer = timer_first u.terms (let_go now u).timers now u.latest;
     },
@@ -229,7 +269,7 @@ last_of [] s = refl
 last_of (x ∷ []) s = refl
 last_of (x ∷ y ∷ ss) s = last_of (y ∷ ss) s
 
-retry_as : (u : UnitView) (piece : List OwnTurn) (earlier : List Attempt) → u.attempt ≡ length earlier + 1
+pub retry_as : (u : UnitView) (piece : List OwnTurn) (earlier : List Attempt) → u.attempt ≡ length earlier + 1
     → IsPast u.terms u piece earlier → has_retry u ≡ is_retried u.terms (length earlier + 1) piece
 retry_as u piece earlier a (ends, ss) =
     ap (λ o. not (has_passed o) && nat_le u.attempt (retry_count u.terms.retries))
@@ -273,7 +313,7 @@ decided_kept t after none =
     ap (λ b. unwrap_or (option_or (first_said (moment_if decides) after) (if b then Some t.moment else None)) 0) none
     ∙ ap (λ o. unwrap_or o 0) (quiet_said (first_said (moment_if decides) after))
 
-delay_kept : (retries : RetryPolicy) (t : OwnTurn) (piece after : List OwnTurn) (earlier : List Attempt)
+pub delay_kept : (retries : RetryPolicy) (t : OwnTurn) (piece after : List OwnTurn) (earlier : List Attempt)
     → word_in t.turn ≡ None
     → delay_after retries (cut piece (t ∷ after) ∷ earlier) ≡ delay_after retries (cut piece after ∷ earlier)
 delay_kept retries t piece after earlier none =

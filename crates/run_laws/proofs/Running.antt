@@ -17,13 +17,13 @@ count-cons : (f : ℕ → Bool) (a n : ℕ)
 count-cons f a n = sum_by-cons (λ x. cond (f x) 1 0) a (range_with_len (a + 1) n)
 
 -- two tests that agree on a range count alike
-pub count-same : (f g : ℕ → Bool) (n a : ℕ) → ((k : ℕ) → a ≤ k → g k ≡ f k)
+pub count-same : (f g : ℕ → Bool) (n a : ℕ) → ((k : ℕ) → a ≤ k → k < a + n → g k ≡ f k)
     → count_by g (range_with_len a n) ≡ count_by f (range_with_len a n)
 count-same f g zero a same = refl
 count-same f g (suc n) a same =
     count-cons g a n
-    ∙ ap (λ b. cond b 1 0 + count_by g (range_with_len (a + 1) n)) (same a (omega arith))
-    ∙ ap (λ m. cond (f a) 1 0 + m) (count-same f g n (a + 1) (λ k h. same k (omega arith)))
+    ∙ ap (λ b. cond b 1 0 + count_by g (range_with_len (a + 1) n)) (same a (omega arith) (omega arith))
+    ∙ ap (λ m. cond (f a) 1 0 + m) (count-same f g n (a + 1) (λ k low high. same k (omega arith) (omega arith)))
     ∙ sym (count-cons f a n)
 
 -- one more member counts one more
@@ -42,7 +42,7 @@ count-more f g (suc n) a i low high was is same =
         let ga : g a ≡ true = ap g here ∙ is in
         let fa : f a ≡ false = ap f here ∙ was in
         let rest : count_by g (range_with_len (a + 1) n) ≡ count_by f (range_with_len (a + 1) n) =
-        count-same f g n (a + 1) (λ k h. same k (omega arith)) in
+        count-same f g n (a + 1) (λ k low high. same k (omega arith)) in
         let left : count_by g (range_with_len a (suc n)) ≡ 1 + count_by g (range_with_len (a + 1) n) =
         count-cons g a n ∙ ap (λ b. cond b 1 0 + count_by g (range_with_len (a + 1) n)) ga in
         let right : count_by f (range_with_len a (suc n)) ≡ 0 + count_by f (range_with_len (a + 1) n) =
@@ -92,16 +92,17 @@ pub running-other : (k : ℕ) (es : List ReporterEvent) (e : ReporterEvent) → 
     → is_running (es ++ e ∷ []) k ≡ is_running es k
 running-other k es e s f = simp (list_any-append, s, f) (grind (arith, common_steps))
 
--- how many tests below n run, by what was told
-abbrev pub running_in_told : ℕ → List ReporterEvent → ℕ
-running_in_told n es = count_by (is_running es) (range_with_len 0 n)
+-- how many of n units from one on run, by what was told
+abbrev pub running_in_told : ℕ → ℕ → List ReporterEvent → ℕ
+running_in_told a n es = count_by (is_running es) (range_with_len a n)
 
--- a told start is of one test more
-pub running-started : (n i : ℕ) (es : List ReporterEvent) (e : ReporterEvent) → i < n → account_of i es ≡ []
+-- a told start is of one unit more
+pub running-started : (a n i : ℕ) (es : List ReporterEvent) (e : ReporterEvent) → a ≤ i → i < a + n
+    → account_of i es ≡ []
     → ((k : ℕ) → starts k e ≡ (i == k)) → ((k : ℕ) → finishes k e ≡ false)
-    → running_in_told n (es ++ e ∷ []) ≡ running_in_told n es + 1
-running-started n i es e below none s f =
-    count-more (is_running es) (is_running (es ++ e ∷ [])) n 0 i (omega arith) (omega arith) was is
+    → running_in_told a n (es ++ e ∷ []) ≡ running_in_told a n es + 1
+running-started a n i es e above below none s f =
+    count-more (is_running es) (is_running (es ++ e ∷ [])) n a i above below was is
     (λ k apart. running-other k es e (s k ∙ apart_from k apart) (f k))
   where
     apart_from : (k : ℕ) → k ≢ i → (i == k) ≡ false
@@ -122,12 +123,13 @@ running-started n i es e below none s f =
     is : is_running (es ++ e ∷ []) i ≡ true
     is = simp (list_any-append, no_start, no_finish, s, f, here) refl
 
--- a told finish is of one test less
-pub running-finished : (n i : ℕ) (es : List ReporterEvent) (e : ReporterEvent) → i < n → is_running es i ≡ true
+-- a told finish is of one unit less
+pub running-finished : (a n i : ℕ) (es : List ReporterEvent) (e : ReporterEvent) → a ≤ i → i < a + n
+    → is_running es i ≡ true
     → ((k : ℕ) → finishes k e ≡ (i == k)) → ((k : ℕ) → starts k e ≡ false)
-    → running_in_told n es ≡ running_in_told n (es ++ e ∷ []) + 1
-running-finished n i es e below was f s =
-    count-more (is_running (es ++ e ∷ [])) (is_running es) n 0 i (omega arith) (omega arith) is was
+    → running_in_told a n es ≡ running_in_told a n (es ++ e ∷ []) + 1
+running-finished a n i es e above below was f s =
+    count-more (is_running (es ++ e ∷ [])) (is_running es) n a i above below is was
     (λ k apart. sym (running-other k es e (s k) (f k ∙ apart_from k apart)))
   where
     apart_from : (k : ℕ) → k ≢ i → (i == k) ≡ false
@@ -165,9 +167,15 @@ pub failing-unfinished : (ss : List ExecuteStatus) (s : ExecuteStatus)
 failing-unfinished [] s = refl
 failing-unfinished (x ∷ ss) s = failing-unfinished ss s
 
--- any other event leaves the number as it was
-pub running-kept : (n : ℕ) (es : List ReporterEvent) (e : ReporterEvent)
+-- an event of no unit among these leaves the number as it was
+pub running-apart : (a n : ℕ) (es : List ReporterEvent) (e : ReporterEvent)
+    → ((k : ℕ) → a ≤ k → k < a + n → (starts k e ≡ false) × (finishes k e ≡ false))
+    → running_in_told a n (es ++ e ∷ []) ≡ running_in_told a n es
+running-apart a n es e apart = count-same (is_running es) (is_running (es ++ e ∷ [])) n a
+    (λ k low high. let none = apart k low high in running-other k es e none.0 none.1)
+
+-- and so does any other event
+pub running-kept : (a n : ℕ) (es : List ReporterEvent) (e : ReporterEvent)
     → ((k : ℕ) → starts k e ≡ false) → ((k : ℕ) → finishes k e ≡ false)
-    → running_in_told n (es ++ e ∷ []) ≡ running_in_told n es
-running-kept n es e s f = count-same (is_running es) (is_running (es ++ e ∷ [])) n 0
-    (λ k h. running-other k es e (s k) (f k))
+    → running_in_told a n (es ++ e ∷ []) ≡ running_in_told a n es
+running-kept a n es e s f = running-apart a n es e (λ k low high. (s k, f k))

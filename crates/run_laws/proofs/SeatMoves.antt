@@ -7,7 +7,12 @@ use Rattle.std.specs.Cmp.{second_so}
 use Rattle.run_events.specs.declared.settings.Settings.{Settings}
 use Rattle.run_events.specs.declared.turn.Turn.{Turn}
 use Rattle.run_events.specs.declared.message.Message.{Message}
-use Rattle.run_events.specs.declared.message.Message.TheVariants.{Start, Slow, AttemptFailed, Retry, Skip, Finish}
+use Rattle.run_events.specs.declared.message.Message.TheVariants.{ScriptStart as ScriptStarts, ScriptSlow}
+use Rattle.run_events.specs.declared.message.Message.TheVariants.{ScriptFinish as ScriptFinishes, Start, Slow, AttemptFailed}
+use Rattle.run_events.specs.declared.message.Message.TheVariants.{Retry, Skip, Finish}
+use Rattle.run_events.specs.declared.message.ScriptStart.{ScriptStart}
+use Rattle.run_events.specs.declared.message.ScriptFinish.{ScriptFinish}
+use Rattle.run_events.specs.declared.events.TestEventKind.TheVariants.{SetupScriptStarted, SetupScriptFinished}
 use Rattle.run_events.specs.declared.message.TestRetry.{TestRetry}
 use Rattle.run_events.specs.declared.cancel.CancelReason.{CancelReason}
 use Rattle.run_model.specs.declared.happening.UnitPart.TheVariants.{Acts}
@@ -25,23 +30,26 @@ use Rattle.run_model.specs.declared.happening.Happening.{Happening}
 use Rattle.run_model.specs.declared.unit_turn.UnitTurn.{UnitTurn}
 use Rattle.run_model.specs.declared.unit_turn.UnitTurn.TheVariants.{Answered}
 use Rattle.run_model.specs.declared.unit_view.UnitView.{UnitView}
-use Rattle.run_model.specs.Unit.{takes, takes_at}
-use Rattle.run_model.specs.Words.{is_on, reason, finished_test, queue, told, starts, finishes, unit_of, units, tally, signals_heard}
+use Rattle.run_model.specs.Unit.{row, takes, takes_at}
+use Rattle.run_model.specs.Words.{is_on, is_running, reason, a_test, finished_test, queue, told, starts, finishes, unit_of}
+use Rattle.run_model.specs.Words.{units, tally, signals_heard}
+use Rattle.std.specs.Option.{option_or}
 use Rattle.run_model.specs.Admission.{Newcomer, newcomer}
 use Rattle.run_model.specs.Dispatch.{may_go, event, with_start, with_finish, started_event, retried_event, finished_event}
 use Rattle.run_model.specs.Board.{Board, Deed}
 use Rattle.run_model.specs.Turns.{enabled_on, is_empty, takes_turn, turn_of_unit, unit_takes, taken_by, admission}
 use Rattle.run_model.specs.Turns.{nothing_done, event_of, tally_with, delivered_as, delivery, done_by, deed_on}
 use Rattle.run_laws.specs.Limits.{slots_told, seat_in, seat_told}
-use Rattle.run_laws.proofs.Holds.{Holds, place_of}
+use Rattle.run_laws.proofs.Holds.{Holds}
 use Rattle.run_laws.proofs.Running.{is_start, starts-account}
 use Rattle.run_laws.proofs.ByTurn.{is_answer, by_turn}
 use Rattle.run_laws.proofs.OnBoard.{board_of, board_with, unit_in-is}
 use Rattle.run_laws.proofs.Newcomers.{new_unit}
 use Rattle.run_model.specs.Story.{was_left}
-use Rattle.run_laws.proofs.Facts.{itself, start_in, start_waits, retry_waits, may_go-is, oldest_built}
+use Rattle.run_laws.proofs.Facts.{start_in, start_own, script_own, start_waits, retry_waits, may_go-is}
 use Rattle.run_laws.proofs.OpenSeats.{opened, at_last, AreLower, same_lower}
-use Rattle.run_laws.proofs.ToldSeats.{seat_told-other, seat_told-nothing, seat_told-started, seat_told-finished}
+use Rattle.run_laws.proofs.ToldSeats.{slots_told-append, none_told, seat_told-other, seat_told-nothing, seat_told-started}
+use Rattle.run_laws.proofs.ToldSeats.{finished_gone, seat_told-finished}
 use Rattle.run_laws.proofs.BoardSeats.{board_seat, seat_after, AreKeptIn, kept_fewer, acts_lower, acts_last}
 use Rattle.run_laws.proofs.BoardSeats.{acts_refused}
 use Rattle.run_laws.proofs.JoinSeats.{joins_kept, joins_last}
@@ -140,18 +148,17 @@ at_last_apart k (m ∷ ms) seat none =
     both None e none = (e, rw e at none)
     both (Some news) e none = let never = rw e at none in cc
 
--- what waits of a test whose start is the oldest message: nothing else
-start_alone : (p : Settings) (over : Bool) (now : ℕ) (run : List Happening) (start : TestStart) (rest : List Message)
-    → Holds p over now run → queue run ≡ Start start ∷ rest → pending_of start.test.unit rest ≡ []
-start_alone p over now run start rest h eq =
-    alone (is_mismatched p (place_of p start.test.unit)) (was_left start.test.unit run) (unit_of start.test.unit run)
-    (account_of start.test.unit (told run)) (rw eq at (h.accounts start.test.unit))
+-- what waits of a unit whose start is the oldest message: nothing else
+start_alone : (p : Settings) (over : Bool) (now : ℕ) (run : List Happening) (k : ℕ) (m : Message) (rest : List Message)
+    → Holds p over now run → queue run ≡ m ∷ rest → pending_in k m ≡ Some started → pending_of k rest ≡ []
+start_alone p over now run k m rest h eq starts =
+    alone (is_mismatched p k) (was_left k run) (unit_of k run) (account_of k (told run)) (rw eq at (h.accounts k))
   where
     alone : (mm left : Bool) (v : Option UnitView) (t : List News)
-        → HasAccount mm left v t (pending_of start.test.unit (Start start ∷ rest)) → pending_of start.test.unit rest ≡ []
-    alone mm left None t h = let never = (rw (itself start.test.unit) at h).1 in cc
+        → HasAccount mm left v t (pending_of k (m ∷ rest)) → pending_of k rest ≡ []
+    alone mm left None t h = let never = (rw starts at h).1 in cc
     alone mm left (Some u) t h =
-        (start_in mm left u.phase u.statuses t (pending_of start.test.unit rest) (rw (itself start.test.unit) at h)).2
+        (start_in mm left u.phase u.statuses t (pending_of k rest) (rw starts at h)).2
 
 -- nothing is let go where a cause stands
 goes_on : (why : Option CancelReason) → is_some why ≡ true → is_none why ≡ true → false ≡ true
@@ -167,10 +174,10 @@ start_moves : (p : Settings) (over : Bool) (now : ℕ) (run : List Happening) (s
       told = option_map (event now) (if go then Some (started_event start (with_start (tally p run))) else None);
     })
 start_moves p over now run start rest go None h eq goes ew =
-    let waits = start_waits p over now run start rest h eq in
+    let waits = start_waits p over now run start.test.unit (Start start) rest h eq (start_own start) in
     let never : None ≡ Some waits.unit = sym ew ∙ waits.is in cc
 start_moves p over now run start rest true (Some u) h eq goes ew =
-    let waits = start_waits p over now run start rest h eq in
+    let waits = start_waits p over now run start.test.unit (Start start) rest h eq (start_own start) in
     let same : waits.unit ≡ u = cc (sym waits.is ∙ ew) in
     let waiting : takes now u (Answered true) ≡ true =
     ap (λ (u : UnitView). takes now u (Answered true)) (sym same)
@@ -184,7 +191,7 @@ start_moves p over now run start rest true (Some u) h eq goes ew =
           (h.named start.test.unit u ew).0;
     }
 start_moves p over now run start rest false (Some u) h eq goes ew =
-    let waits = start_waits p over now run start rest h eq in
+    let waits = start_waits p over now run start.test.unit (Start start) rest h eq (start_own start) in
     let same : waits.unit ≡ u = cc (sym waits.is ∙ ew) in
     let phase : u.phase ≡ StartSent = ap (λ (u : UnitView). u.phase) (sym same) ∙ waits.phase in
     let untold : seat_told (told run ++ []) start.test.unit ≡ Gone =
@@ -196,7 +203,7 @@ start_moves p over now run start rest false (Some u) h eq goes ew =
       keeps = λ kept. kept_fewer p _ (board_seat run) (acts_lower now start.test.unit (Answered false) run) kept;
       sends = λ calm. acts_refused now start.test.unit run u _ ew phase
           (ap (λ q. at_last (seat_told (told run ++ [])) (drop 1 q) start.test.unit) eq
-          ∙ at_last_apart start.test.unit rest (seat_told (told run ++ [])) (start_alone p over now run start rest h eq)
+          ∙ at_last_apart start.test.unit rest (seat_told (told run ++ [])) (start_alone p over now run start.test.unit (Start start) rest h eq (start_own start))
           ∙ untold);
     }
   where
@@ -209,6 +216,80 @@ start_moves p over now run start rest false (Some u) h eq goes ew =
         seat_told-nothing k (told run) ∙ untold_gone k (told run) (ap (λ k. account_of k (told run)) (sym here) ∙ none) in
         let never : false ≡ true = sym (ap is_in_use gone) ∙ used in cc
     refused_tells k false e none used = rw e (seat_told-nothing k (told run))
+
+-- a script that is told started is in no seat, and neither is one that is told finished
+script_started : (k now : ℕ) (es : List ReporterEvent) (start : ScriptStart) → account_of start.script.unit es ≡ []
+    → IsBelow (seat_told (es ++ event now (SetupScriptStarted start) ∷ []) k) (seat_told es k)
+script_started k now es start none = by_unit (start.script.unit == k) refl
+  where
+    e : ReporterEvent
+    e = event now (SetupScriptStarted start)
+
+    by_unit : (b : Bool) → (start.script.unit == k) ≡ b → IsBelow (seat_told (es ++ e ∷ []) k) (seat_told es k)
+    by_unit true is used =
+        let here : start.script.unit ≡ k = grind arith in
+        let no_start : list_any (starts k) es ≡ false =
+        starts-account k es ∙ ap (list_any is_start) (ap (λ k. account_of k es) (sym here) ∙ none) in
+        let no_slots : slots_told k (es ++ e ∷ []) ≡ None =
+        slots_told-append k es (e ∷ []) ∙ ap (λ o. option_or o None) (none_told k es no_start) in
+        let gone : seat_told (es ++ e ∷ []) k ≡ Gone =
+        ap (λ o. if is_running (es ++ e ∷ []) k then seat_in o else Gone) no_slots ∙ either (is_running (es ++ e ∷ []) k) in
+        let never : false ≡ true = sym (ap is_in_use gone) ∙ used in cc
+      where
+        either : (b : Bool) → (if b then Gone else Gone) ≡ Gone
+        either true = refl
+        either false = refl
+    by_unit false is used = seat_told-other k es e is refl
+
+script_finished : (k now : ℕ) (es : List ReporterEvent) (finish : ScriptFinish)
+    → IsBelow (seat_told (es ++ event now (SetupScriptFinished finish) ∷ []) k) (seat_told es k)
+script_finished k now es finish = by_unit (finish.script.unit == k) refl
+  where
+    e : ReporterEvent
+    e = event now (SetupScriptFinished finish)
+
+    by_unit : (b : Bool) → (finish.script.unit == k) ≡ b → IsBelow (seat_told (es ++ e ∷ []) k) (seat_told es k)
+    by_unit true is used =
+        let gone : seat_told (es ++ e ∷ []) k ≡ Gone = finished_gone k es e is in
+        let never : false ≡ true = sym (ap is_in_use gone) ∙ used in cc
+    by_unit false is used = seat_told-other k es e refl is
+
+-- what the delivery of a script's start does to the seats
+script_moves : (p : Settings) (over : Bool) (now : ℕ) (run : List Happening) (start : ScriptStart) (rest : List Message)
+    (go : Bool) (w : Option UnitView) → Holds p over now run → queue run ≡ ScriptStarts start ∷ rest
+    → go ≡ is_none (reason run) → unit_of start.script.unit run ≡ w
+    → MovesSeats p now run (record (taken_by now start.script.unit (Answered go) w) {
+      taken = true;
+      told = option_map (event now) (if go then Some (SetupScriptStarted start) else None);
+    })
+script_moves p over now run start rest go None h eq goes ew =
+    let waits = start_waits p over now run start.script.unit (ScriptStarts start) rest h eq (script_own start) in
+    let never : None ≡ Some waits.unit = sym ew ∙ waits.is in cc
+script_moves p over now run start rest go (Some u) h eq goes ew =
+    let waits = start_waits p over now run start.script.unit (ScriptStarts start) rest h eq (script_own start) in
+    let same : waits.unit ≡ u = cc (sym waits.is ∙ ew) in
+    let phase : u.phase ≡ StartSent = ap (λ (u : UnitView). u.phase) (sym same) ∙ waits.phase in
+    record {
+      tells = λ k used. tells go k waits.untold used
+          ∙ ap (λ q. at_last (seat_told (told run)) (take 1 q) k) (sym eq);
+      opens_none = λ cause k used. tells go k waits.untold used;
+      keeps = λ kept. kept_fewer p _ (board_seat run) (acts_lower now start.script.unit (Answered go) run) kept;
+      sends = λ calm. by_go go phase (goes ∙ ap is_none calm);
+    }
+  where
+    tells : (go : Bool) (k : ℕ) → account_of start.script.unit (told run) ≡ []
+        → IsBelow (seat_told (told run ++ option_to_list (option_map (event now)
+        (if go then Some (SetupScriptStarted start) else None))) k) (seat_told (told run) k)
+    tells true k untold used = script_started k now (told run) start untold used
+    tells false k untold used = seat_told-nothing k (told run)
+
+    by_go : (go : Bool) → u.phase ≡ StartSent → go ≡ true → {seat : ℕ → Seat} → AreLower seat (board_seat run)
+        → AreLower (at_last seat (option_to_list (row now (Answered go) u).sent))
+        (seat_after now (Some (Acts start.script.unit (Answered go))) run)
+    by_go false phase lets below = cc
+    by_go true phase lets below =
+        acts_last now start.script.unit (Answered true) run u _ ew (ap (λ ph. takes_at now ph u (Answered true)) phase)
+        (λ is. cc) (h.named start.script.unit u ew).0 below
 
 -- the delivery of a retry leaves the seats by what was told
 retry_told : (run : List Happening) (now : ℕ) (retry : TestRetry) (t : Tally) (go : Bool) (k : ℕ)
@@ -274,6 +355,22 @@ delivers p over now run [] h eq en = cc
 delivers p over now run (Start start ∷ rest) h eq en =
     start_moves p over now run start rest (may_go (tally p run)) (get_or (units p run) start.test.unit None) h eq
     (may_go-is p run) (sym (unit_in-is p over now run start.test.unit h))
+delivers p over now run (ScriptStarts start ∷ rest) h eq en =
+    script_moves p over now run start rest (may_go (tally p run)) (get_or (units p run) start.script.unit None) h eq
+    (may_go-is p run) (sym (unit_in-is p over now run start.script.unit h))
+delivers p over now run (ScriptSlow slow ∷ rest) h eq en =
+    told_moves p now run (ScriptSlow slow) rest _ eq (λ k. refl) (λ k. refl) (λ seat k. refl)
+delivers p over now run (ScriptFinishes finish ∷ rest) h eq en =
+    let b : Board = board_of p over now run in
+    let tells : Option ReporterEvent = event_of b (ScriptFinishes finish) in
+    caused_moves p now run (cause_of b.dispatcher.rules (tally_with b tells) (ScriptFinishes finish)) (tally_with b tells)
+    (delivered_as b (ScriptFinishes finish) nothing_done) (record {
+      tells = λ k used. script_finished k now (told run) finish used
+          ∙ ap (λ q. at_last (seat_told (told run)) (take 1 q) k) (sym eq);
+      opens_none = λ cause k. script_finished k now (told run) finish;
+      keeps = λ kept. kept;
+      sends = λ calm below. below;
+    })
 delivers p over now run (Retry retry ∷ rest) h eq en =
     retry_moves p over now run retry rest (may_go (tally p run)) (get_or (units p run) retry.start.test.unit None) h eq
     (may_go-is p run) (sym (unit_in-is p over now run retry.start.test.unit h))
@@ -289,7 +386,7 @@ delivers p over now run (Finish finish ∷ rest) h eq en =
     caused_moves p now run (cause_of b.dispatcher.rules (tally_with b tells) (Finish finish)) (tally_with b tells)
     (delivered_as b (Finish finish) nothing_done) (record {
       tells = same_lower _ _ (λ k.
-          seat_told-finished k now (told run) finish (with_finish (tally p run) (finished_test finish))
+          seat_told-finished k now (told run) finish (with_finish (tally p run) (a_test (finished_test finish)))
           ∙ ap (λ q. at_last (seat_told (told run)) (take 1 q) k) (sym eq));
       opens_none = λ cause k. closes k;
       keeps = λ kept. kept;
@@ -297,15 +394,14 @@ delivers p over now run (Finish finish ∷ rest) h eq en =
     })
   where
     closes : (k : ℕ) → IsBelow (seat_told (told run ++ event now (finished_event finish
-        (with_finish (tally p run) (finished_test finish))) ∷ []) k) (seat_told (told run) k)
+        (with_finish (tally p run) (a_test (finished_test finish)))) ∷ []) k) (seat_told (told run) k)
     closes k = subst (λ s. IsBelow s (seat_told (told run) k))
-        (sym (seat_told-finished k now (told run) finish (with_finish (tally p run) (finished_test finish))))
+        (sym (seat_told-finished k now (told run) finish (with_finish (tally p run) (a_test (finished_test finish)))))
         (by_unit (finish.test.unit == k))
       where
         by_unit : (b : Bool) → IsBelow (if b then Gone else seat_told (told run) k) (seat_told (told run) k)
         by_unit true used = cc
         by_unit false used = refl
-delivers p over now run (m ∷ rest) h eq en = absurd (oldest_built p over now run m rest h eq)
 
 -- what each enabled turn does to the seats
 pub moves : (p : Settings) (over refused : Bool) (now : ℕ) (run : List Happening) (turn : Turn) → Holds p over now run

@@ -19,7 +19,7 @@ use Rattle.run_laws.specs.Limits.{slots_by, slots_told, seat_in, seat_told}
 use Rattle.run_laws.proofs.Running.{is_start, is_finish, starts-account, finishes-account, running-other}
 
 -- the slots told by events and later ones are those of the events, else of the later ones
-slots_told-append : (k : ℕ) (es fs : List ReporterEvent)
+pub slots_told-append : (k : ℕ) (es fs : List ReporterEvent)
     → slots_told k (es ++ fs) ≡ option_or (slots_told k es) (slots_told k fs)
 slots_told-append k [] fs = refl
 slots_told-append k (e ∷ es) fs = by_first (slots_by k e) (slots_told-append k es fs)
@@ -35,7 +35,7 @@ no_slots : (k : ℕ) (e : ReporterEvent) → starts k e ≡ false → slots_by k
 no_slots k e s = grind (arith, common_steps)
 
 -- events of which none starts a test tell no slots of it
-none_told : (k : ℕ) (es : List ReporterEvent) → list_any (starts k) es ≡ false → slots_told k es ≡ None
+pub none_told : (k : ℕ) (es : List ReporterEvent) → list_any (starts k) es ≡ false → slots_told k es ≡ None
 none_told k [] h = refl
 none_told k (e ∷ es) h = by_first (starts k e) refl (none_told k es) h
   where
@@ -88,7 +88,26 @@ seat_told-started k now es start tally none = by_unit (start.test.unit == k) ref
         ∙ ap seat_in slots
     by_unit false is = seat_told-other k es (event now (started_event start tally)) is refl
 
--- after its finish was told, a test is not in use; other seats stay
+-- after its finish was told, a unit is not in use
+pub finished_gone : (k : ℕ) (es : List ReporterEvent) (e : ReporterEvent) → finishes k e ≡ true
+    → seat_told (es ++ e ∷ []) k ≡ Gone
+finished_gone k es e is =
+    let ends : list_any (finishes k) (es ++ e ∷ []) ≡ true =
+    list_any-append (finishes k) es (e ∷ []) ∙ ap (λ b. list_any (finishes k) es || (b || false)) is
+    ∙ or_true (list_any (finishes k) es) in
+    let stopped : is_running (es ++ e ∷ []) k ≡ false =
+    ap (λ b. list_any (starts k) (es ++ e ∷ []) && not b) ends ∙ and_false (list_any (starts k) (es ++ e ∷ [])) in
+    ap (λ b. if b then seat_in (slots_told k (es ++ e ∷ [])) else Gone) stopped
+  where
+    or_true : (b : Bool) → (b || true) ≡ true
+    or_true true = refl
+    or_true false = refl
+
+    and_false : (b : Bool) → (b && false) ≡ false
+    and_false true = refl
+    and_false false = refl
+
+-- the same of a test; other seats stay
 pub seat_told-finished : (k now : ℕ) (es : List ReporterEvent) (finish : TestFinish) (tally : Tally)
     → seat_told (es ++ event now (finished_event finish tally) ∷ []) k
     ≡ (if finish.test.unit == k then Gone else seat_told es k)
@@ -96,21 +115,5 @@ seat_told-finished k now es finish tally = by_unit (finish.test.unit == k) refl
   where
     by_unit : (b : Bool) → (finish.test.unit == k) ≡ b
         → seat_told (es ++ event now (finished_event finish tally) ∷ []) k ≡ (if b then Gone else seat_told es k)
-    by_unit true is =
-        let ends : list_any (finishes k) (es ++ event now (finished_event finish tally) ∷ []) ≡ true =
-        list_any-append (finishes k) es (event now (finished_event finish tally) ∷ [])
-        ∙ ap (λ b. list_any (finishes k) es || (b || false)) is ∙ or_true (list_any (finishes k) es) in
-        let stopped : is_running (es ++ event now (finished_event finish tally) ∷ []) k ≡ false =
-        ap (λ b. list_any (starts k) (es ++ event now (finished_event finish tally) ∷ []) && not b) ends
-        ∙ and_false (list_any (starts k) (es ++ event now (finished_event finish tally) ∷ [])) in
-        ap (λ b. if b then seat_in (slots_told k (es ++ event now (finished_event finish tally) ∷ [])) else Gone)
-        stopped
-      where
-        or_true : (b : Bool) → (b || true) ≡ true
-        or_true true = refl
-        or_true false = refl
-
-        and_false : (b : Bool) → (b && false) ≡ false
-        and_false true = refl
-        and_false false = refl
+    by_unit true is = finished_gone k es (event now (finished_event finish tally)) is
     by_unit false is = seat_told-other k es (event now (finished_event finish tally)) refl is

@@ -5,6 +5,9 @@ use Rattle.std.specs.Prelude.{IfSome}
 use Rattle.run_events.specs.declared.cancel.CancelReason.{CancelReason}
 use Rattle.run_events.specs.declared.cancel.CancelReason.TheVariants.{SecondSignal, Interrupt, Signal as BySignal}
 use Rattle.run_events.specs.declared.cancel.CancelReason.TheVariants.{GlobalTimeout, ReportError, TestFailure}
+use Rattle.run_events.specs.declared.cancel.CancelReason.TheVariants.{SetupScriptFailure}
+use Rattle.run_events.specs.Result.{is_success}
+use Rattle.run_events.specs.declared.result.ExecutionResult.{ExecutionResult}
 use Rattle.run_events.specs.declared.cancel.CancelReason.TheVariants.{TestFailureImmediate}
 use Rattle.run_events.specs.Outcome.{failed_count}
 use Rattle.run_events.specs.declared.retry_policy.MaxFail.{MaxFail}
@@ -20,14 +23,16 @@ use Rattle.run_events.specs.declared.events.ReporterEvent.{ReporterEvent}
 use Rattle.run_events.specs.declared.events.ReporterEvent.TheVariants.{Test}
 use Rattle.run_events.specs.declared.events.TestEventKind.{TestEventKind}
 use Rattle.run_events.specs.declared.events.TestEventKind.TheVariants.{RunBeginCancel, RunBeginKill, SetupScriptStarted}
-use Rattle.run_events.specs.declared.events.TestEventKind.TheVariants.{TestStarted, TestRetryStarted, TestFinished}
+use Rattle.run_events.specs.declared.events.TestEventKind.TheVariants.{SetupScriptFinished, TestStarted, TestRetryStarted}
+use Rattle.run_events.specs.declared.events.TestEventKind.TheVariants.{TestFinished}
+use Rattle.run_events.specs.declared.ask.Ask.{Ask}
+use Rattle.run_events.specs.declared.ask.Ask.TheVariants.{Start}
 use Rattle.run_events.specs.declared.settings.Settings.{Settings}
 use Rattle.run_model.specs.declared.entry.Entry.{Entry}
 use Rattle.run_model.specs.declared.happening.Happening.{Happening}
 use Rattle.run_model.specs.declared.unit_view.UnitView.{UnitView}
 use Rattle.run_model.specs.Unit.{is_live}
 use Rattle.run_model.specs.Story.{broadcast_to, taken_by, line_of}
-use Rattle.run_model.specs.Admission.{unit_of_test}
 use Rattle.run_model.specs.Words.{reason, signals_heard, sub_run, unit_of}
 use Rattle.run_events.specs.Cancel.{rank}
 use Rattle.run_model.specs.Turns.{happening}
@@ -64,8 +69,8 @@ begins (Test event) = begins_in event.kind
 begins _ = false
 
 -- what a turn is as a cause after others of its sub-run, if it is one: a shutdown signal, the first or the second that was
--- heard; the time of the sub-run; an event that was refused; or the delivery of a finish, which is told with the counts
--- after it, where as many tests have failed as end the run
+-- heard; the time of the sub-run; an event that was refused; the delivery of a script's finish, where it is no success; or
+-- that of a test's, which is told with the counts after it, where as many tests have failed as end the run
 abbrev pub first_signal : SignalKind → CancelReason
 first_signal Int = Interrupt
 first_signal _ = BySignal
@@ -81,7 +86,11 @@ abbrev pub failures_reason : MaxFail → RunStats → Option CancelReason
 failures_reason All stats = None
 failures_reason (Count most mode) stats = if nat_le most (failed_count stats) then Some (failure_reason mode) else None
 
+abbrev pub script_reason : ExecutionResult → Option CancelReason
+script_reason result = if is_success result then None else Some SetupScriptFailure
+
 abbrev pub finish_reason : MaxFail → TestEventKind → Option CancelReason
+finish_reason most (SetupScriptFinished event) = script_reason event.status.result
 finish_reason most (TestFinished event) = failures_reason most event.stats
 finish_reason most _ = None
 
@@ -106,9 +115,15 @@ abbrev pub is_second : Option CancelReason → Bool
 is_second (Some SecondSignal) = true
 is_second _ = false
 
--- a turn after others of its sub-run: it is a cause by itself and what it tells; it tells that the run is cancelled exactly where it is a cause whose reason is above
--- that of each cause before it, with its own reason; and that it is killed exactly for a second signal. Its other event
--- comes first, and tells no such thing; and it tells a start only where no cause came before
+-- whether a start is asked
+abbrev pub asks_start : Ask → Bool
+asks_start (Start ask) = true
+asks_start _ = false
+
+-- a turn after others of its sub-run: it is a cause by itself and what it tells; it tells that the run is cancelled exactly
+-- where it is a cause whose reason is above that of each cause before it, with its own reason; and that it is killed
+-- exactly for a second signal. Its other event comes first, and tells no such thing; and it tells a start, and asks one,
+-- only where no cause came before
 pub record IsCancelled (p : Settings) (before : List Happening) (x : Happening) : Type 0 where
   pub cause : x.cause ≡ cause_by p before x.turn x.told
   pub exactly : is_some x.cancel ≡ rises (reason before) x.cause
@@ -116,19 +131,20 @@ pub record IsCancelled (p : Settings) (before : List Happening) (x : Happening) 
   pub kills : IfSome x.cancel (λ event. kills event ≡ is_second x.cause)
   pub own : IfSome x.told (λ event. reason_told event ≡ None)
   pub starts : IfSome x.told (λ event. begins event ≡ true → reason before ≡ None)
+  pub asks : IfSome x.asked (λ ask. asks_start ask ≡ true → reason before ≡ None)
 
 -- that holds of each turn of every legal journal
 abbrev pub CancelsAreCaused : Type 0
 CancelsAreCaused = (p : Settings) (journal : List Entry) (e : Entry) → IsLegal p (journal ++ e ∷ [])
     → IsCancelled p (sub_run (past_of p journal)) (happening p (past_of p journal) e)
 
--- after every legal journal the line of each live test in the newest sub-run is what was broadcast while it was live, but
+-- after every legal journal the line of each live unit in the newest sub-run is what was broadcast while it was live, but
 -- for as many requests as it took, and it took no more
 pub record HasItsLine (run : List Happening) (k : ℕ) (u : UnitView) : Type 0 where
   pub line : u.line ≡ line_of k run
   pub took : taken_by k run ≤ length (broadcast_to k run)
 
 abbrev pub LinesAreBroadcasts : Type 0
-LinesAreBroadcasts = (p : Settings) (journal : List Entry) → IsLegal p journal → (j : ℕ) (u : UnitView)
-    → unit_of (unit_of_test p j) (sub_run (past_of p journal)) ≡ Some u → is_live u.phase ≡ true
-    → HasItsLine (sub_run (past_of p journal)) (unit_of_test p j) u
+LinesAreBroadcasts = (p : Settings) (journal : List Entry) → IsLegal p journal → (k : ℕ) (u : UnitView)
+    → unit_of k (sub_run (past_of p journal)) ≡ Some u → is_live u.phase ≡ true
+    → HasItsLine (sub_run (past_of p journal)) k u

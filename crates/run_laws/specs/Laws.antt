@@ -7,7 +7,7 @@ use Rattle.run_model.specs.declared.happening.Happening.{Happening}
 use Rattle.run_model.specs.declared.unit_turn.UnitTurn.TheVariants.{Due}
 use Rattle.run_model.specs.declared.unit_view.UnitView.{UnitView}
 use Rattle.run_model.specs.Unit.{takes}
-use Rattle.run_model.specs.Admission.{unit_of_test, terms_at}
+use Rattle.run_model.specs.Admission.{unit_terms}
 use Rattle.run_model.specs.Attempts.{pieces_of, statuses_of, attempt_in, start_in, is_due_in}
 use Rattle.run_model.specs.Board.{board, step, answered}
 use Rattle.run_model.specs.Turns.{enabled, happening, deed_on}
@@ -16,26 +16,25 @@ use Rattle.run_model.specs.Words.{is_over, sub_run, ended_runs, told, unit_of}
 use Rattle.run_model.specs.Accounts.{IsAccounted}
 use Rattle.run_model.specs.Fates.{HaveFates}
 
--- after every legal journal each test has its account in the newest sub-run
+-- after every legal journal each unit has its account in the newest sub-run
 abbrev pub AccountsHold : Type 0
-AccountsHold = (p : Settings) (journal : List Entry) → IsLegal p journal → (j : ℕ)
-    → IsAccounted p j (sub_run (past_of p journal))
+AccountsHold = (p : Settings) (journal : List Entry) → IsLegal p journal → (k : ℕ)
+    → IsAccounted p k (sub_run (past_of p journal))
 
--- a test is at the attempt that its own turns in a sub-run say, and those that have ended are as they say; its timer is
+-- a unit is at the attempt that its own turns in a sub-run say, and those that have ended are as they say; its timer is
 -- due at a moment from its latest turn on exactly where they say so
-pub record IsMadeByItsTurns (p : Settings) (run : List Happening) (j : ℕ) (u : UnitView) : Type 0 where
-  pub statuses : u.statuses ≡ statuses_of p j run
-  pub attempt : u.attempt ≡ attempt_in (pieces_of p j run)
-  pub start : u.timers.stopwatch.start ≡ start_in (pieces_of p j run)
-  pub due : (now : ℕ) → u.latest ≤ now → takes now u Due ≡ is_due_in (terms_at p j) now (pieces_of p j run)
+pub record IsMadeByItsTurns (p : Settings) (run : List Happening) (k : ℕ) (u : UnitView) : Type 0 where
+  pub statuses : u.statuses ≡ statuses_of p k run
+  pub attempt : u.attempt ≡ attempt_in (pieces_of k run)
+  pub start : u.timers.stopwatch.start ≡ start_in (pieces_of k run)
+  pub due : (now : ℕ) → u.latest ≤ now → takes now u Due ≡ is_due_in (unit_terms p k) now (pieces_of k run)
 
--- after every legal journal that holds of each admitted test in the newest sub-run
+-- after every legal journal that holds of each admitted unit in the newest sub-run
 abbrev pub AttemptsAreOwnTurns : Type 0
-AttemptsAreOwnTurns = (p : Settings) (journal : List Entry) → IsLegal p journal → (j : ℕ) (u : UnitView)
-    → unit_of (unit_of_test p j) (sub_run (past_of p journal)) ≡ Some u
-    → IsMadeByItsTurns p (sub_run (past_of p journal)) j u
+AttemptsAreOwnTurns = (p : Settings) (journal : List Entry) → IsLegal p journal → (k : ℕ) (u : UnitView)
+    → unit_of k (sub_run (past_of p journal)) ≡ Some u → IsMadeByItsTurns p (sub_run (past_of p journal)) k u
 
--- in every legal journal each test of the plan has its fate in each sub-run that has ended
+-- in every legal journal each script and each test of the plan has its fate in each sub-run that has ended
 abbrev pub EachHasFate : Type 0
 EachHasFate = (p : Settings) (journal : List Entry) → IsLegal p journal
     → All (HaveFates p) (ended_runs (past_of p journal))

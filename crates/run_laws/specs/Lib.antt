@@ -5,3 +5,6 @@ pub mod Limits
 pub mod Reports
 pub mod Cancels
 pub mod Once
+pub mod Scripts
+pub mod Starts
+pub mod Delays

@@ -5,7 +5,6 @@ use Rattle.run_events.specs.declared.settings.Settings.{Settings}
 use Rattle.run_model.specs.declared.entry.Entry.{Entry}
 use Rattle.run_model.specs.declared.happening.Happening.{Happening}
 use Rattle.run_model.specs.Accounts.{News, finished, account_of}
-use Rattle.run_model.specs.Admission.{unit_of_test}
 use Rattle.run_model.specs.Attempts.{statuses_of}
 use Rattle.run_model.specs.Fates.{told_ended}
 use Rattle.run_model.specs.Journal.{IsLegal, past_of}
@@ -18,16 +17,12 @@ finished_with [] = None
 finished_with (finished ss ∷ news) = Some ss
 finished_with (n ∷ news) = finished_with news
 
--- what is told of the test at a place in a sub-run
-abbrev pub account_at : Settings → ℕ → List Happening → List News
-account_at p j run = account_of (unit_of_test p j) (told run)
-
 -- those told as they ended are the first of its attempts by its own turns, each once; and a finish is told with just those
-pub record IsToldOnce (p : Settings) (run : List Happening) (j : ℕ) : Type 0 where
-  pub once : Extends (told_ended (account_at p j run)) (statuses_of p j run)
-  pub finish : IfSome (finished_with (account_at p j run)) (λ ss. told_ended (account_at p j run) ≡ ss)
+pub record IsToldOnce (p : Settings) (run : List Happening) (k : ℕ) : Type 0 where
+  pub once : Extends (told_ended (account_of k (told run))) (statuses_of p k run)
+  pub finish : IfSome (finished_with (account_of k (told run))) (λ ss. told_ended (account_of k (told run)) ≡ ss)
 
--- that holds of each test in the newest sub-run after every legal journal
+-- that holds of each unit in the newest sub-run after every legal journal
 abbrev pub AttemptsToldOnce : Type 0
-AttemptsToldOnce = (p : Settings) (journal : List Entry) → IsLegal p journal → (j : ℕ)
-    → IsToldOnce p (sub_run (past_of p journal)) j
+AttemptsToldOnce = (p : Settings) (journal : List Entry) → IsLegal p journal → (k : ℕ)
+    → IsToldOnce p (sub_run (past_of p journal)) k

@@ -13,6 +13,7 @@ use Rattle.run_model.specs.declared.unit_view.UnitView.{UnitView}
 use Rattle.run_model.specs.Unit.{takes}
 use Rattle.run_model.specs.Words.{clock}
 use Rattle.run_model.specs.declared.happening.Happening.{Happening}
+use Rattle.run_model.specs.Environment.{number}
 use Rattle.run_model.specs.Admission.{units_in, newcomer}
 use Rattle.run_model.specs.Dispatch.{shuts_down, go_of, CanDeliver}
 use Rattle.run_model.specs.Board.{Board, board, unit_in}
@@ -28,7 +29,7 @@ pub record IsTimely (b : Board) : Type 0 where
 pub record CanTake (b : Board) (k : ℕ) (turn : UnitTurn) : Type 0 where
   pub unit : UnitView
   pub is : unit_in b k ≡ Some unit
-  pub named : unit.test.unit ≡ k
+  pub named : number unit ≡ k
   pub below : k < length b.units
   pub takes : takes b.clock unit turn ≡ true
   pub later : unit.latest ≤ b.clock
@@ -43,7 +44,7 @@ abbrev pub CanDeliverOldest : Board → List Message → Type 0
 CanDeliverOldest b [] = ⊥
 CanDeliverOldest b (m ∷ rest) = CanDeliver b.dispatcher m × CanAnswer b (starting m) (go_of b.dispatcher.tally m)
 
--- the next test can be admitted
+-- the next script or test can be admitted
 pub record CanAdmit (p : Settings) (b : Board) : Type 0 where
   pub candidate : is_some (newcomer p b.units) ≡ true
   pub whole : length b.units ≡ units_in p

@@ -1,4 +1,4 @@
--- The signals that are asked for the child of a test, and the reports that it is slow, by its own turns alone, and as they
+-- The signals that are asked for the child of a unit, and the reports that it is slow, by its own turns alone, and as they
 -- were asked and told.
 use Rattle.std.specs.Prelude.{ℕ, ◌≡◌, ◌+◌, ◌==◌, List, [], ◌∷◌, ◌++◌, map, length, Bool, not, ◌&&◌, if◌then◌else◌, Option}
 use Rattle.std.specs.Prelude.{Some, None, option_to_list, filter_map}
@@ -12,11 +12,11 @@ use Rattle.run_events.specs.declared.request.TermSignal.{TermSignal}
 use Rattle.run_events.specs.declared.request.TermSignal.TheVariants.{Kill}
 use Rattle.run_events.specs.declared.request.TerminateReason.TheVariants.{Timeout}
 use Rattle.run_events.specs.declared.message.Message.{Message}
-use Rattle.run_events.specs.declared.message.Message.TheVariants.{Slow}
+use Rattle.run_events.specs.declared.message.Message.TheVariants.{ScriptSlow, Slow}
 use Rattle.run_events.specs.declared.events.ReporterEvent.{ReporterEvent}
 use Rattle.run_events.specs.declared.events.ReporterEvent.TheVariants.{Test}
 use Rattle.run_events.specs.declared.events.TestEventKind.{TestEventKind}
-use Rattle.run_events.specs.declared.events.TestEventKind.TheVariants.{TestSlow}
+use Rattle.run_events.specs.declared.events.TestEventKind.TheVariants.{SetupScriptSlow, TestSlow}
 use Rattle.run_model.specs.declared.entry.Entry.{Entry}
 use Rattle.run_model.specs.declared.happening.Happening.{Happening}
 use Rattle.run_model.specs.Slow.{slow_time}
@@ -24,7 +24,7 @@ use Rattle.run_model.specs.Terminate.{terminate_method}
 use Rattle.run_model.specs.Story.{OwnTurn, Attempt, cut, any_is}
 use Rattle.run_model.specs.Timing.{ends_wait, signal_of, slow_count, has_timed_out, is_slow_turn, is_timeout, ends_grace}
 use Rattle.run_model.specs.Attempts.{pieces_of}
-use Rattle.run_model.specs.Admission.{unit_of_test, terms_at}
+use Rattle.run_model.specs.Admission.{unit_terms}
 use Rattle.run_model.specs.Words.{sub_run, told, queue, asked}
 use Rattle.run_model.specs.Journal.{IsLegal, past_of}
 
@@ -85,8 +85,12 @@ signals_for k ask = filter_map (signal_for k) (option_to_list ask)
 abbrev pub signals_asked : ℕ → List Happening → List ChildSignal
 signals_asked k run = filter_map (λ a. signal_for k a.1) (asked run)
 
--- the slow report of unit k that a message sends, if it sends one, and all that wait
+-- the slow report of unit k that a message sends, if it sends one, and all that wait: a script has one attempt
 abbrev pub report_in : ℕ → Message → Option SlowReport
+report_in k (ScriptSlow slow) =
+    if slow.script.unit == k
+    then Some (record { attempt = 1; elapsed = slow.elapsed_slow; terminates = slow.terminates })
+    else None
 report_in k (Slow slow) =
     if slow.test.unit == k
     then Some (record { attempt = slow.attempt; elapsed = slow.elapsed_slow; terminates = slow.terminates })
@@ -98,6 +102,7 @@ reports_waiting k messages = filter_map (report_in k) messages
 
 -- the slow report of unit k that an event tells, if it tells one, and all that were told
 abbrev pub report_of_kind : ℕ → TestEventKind → Option SlowReport
+report_of_kind k (SetupScriptSlow slow) = report_in k (ScriptSlow slow)
 report_of_kind k (TestSlow slow) = report_in k (Slow slow)
 report_of_kind k _ = None
 
@@ -108,14 +113,14 @@ report_of k _ = None
 abbrev pub reports_told : ℕ → List ReporterEvent → List SlowReport
 reports_told k events = filter_map (report_of k) events
 
--- the signals that were asked for the child of a test are those of its own turns, and so are the slow reports of it that
+-- the signals that were asked for the child of a unit are those of its own turns, and so are the slow reports of it that
 -- were told, followed by those that wait to be told
-pub record IsReportedByItsTurns (p : Settings) (run : List Happening) (j : ℕ) : Type 0 where
-  pub signals : signals_asked (unit_of_test p j) run ≡ map End (signals_by (terms_at p j).slow (pieces_of p j run))
-  pub reports : reports_told (unit_of_test p j) (told run) ++ reports_waiting (unit_of_test p j) (queue run)
-      ≡ reports_by (terms_at p j).slow (pieces_of p j run)
+pub record IsReportedByItsTurns (p : Settings) (run : List Happening) (k : ℕ) : Type 0 where
+  pub signals : signals_asked k run ≡ map End (signals_by (unit_terms p k).slow (pieces_of k run))
+  pub reports : reports_told k (told run) ++ reports_waiting k (queue run)
+      ≡ reports_by (unit_terms p k).slow (pieces_of k run)
 
--- after every legal journal that holds of each test in the newest sub-run
+-- after every legal journal that holds of each unit in the newest sub-run
 abbrev pub ReportsAreOwnTurns : Type 0
-ReportsAreOwnTurns = (p : Settings) (journal : List Entry) → IsLegal p journal → (j : ℕ)
-    → IsReportedByItsTurns p (sub_run (past_of p journal)) j
+ReportsAreOwnTurns = (p : Settings) (journal : List Entry) → IsLegal p journal → (k : ℕ)
+    → IsReportedByItsTurns p (sub_run (past_of p journal)) k

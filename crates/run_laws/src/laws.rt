@@ -4,18 +4,21 @@ ghost use Rattle.run_laws.specs.Laws.{EachHasFate, OverHasEnded};
 ghost use Rattle.run_laws.specs.Limits.{LimitsHold};
 ghost use Rattle.run_laws.specs.Once.{AttemptsToldOnce};
 ghost use Rattle.run_laws.specs.Reports.{ReportsAreOwnTurns};
+ghost use Rattle.run_laws.specs.Scripts.{ScriptsComeFirst, ScriptsHaveFates, ScriptsToldAsRead};
+ghost use Rattle.run_laws.specs.Starts.{StartsArePlanned};
+ghost use Rattle.run_laws.specs.Delays.{DelaysAreOwnTurns};
 ghost use Rattle.run_laws.specs.Cancels.{CancelsAreCaused, LinesAreBroadcasts};
 ghost use Rattle.run_laws.specs.Course.{CoursesExclude, NoneRefused};
 ghost use Rattle.run_laws.specs.Ready.{AllAreTimely, ClockMoves, EnabledCan};
 
-/// What is told of each test in the newest sub-run, and what waits to be told, is its account, after every legal
-/// journal.
+/// What is told of each script and test in the newest sub-run, and what waits to be told, is its account, after every
+/// legal journal.
 pub fn accounts_hold()
     ensures { AccountsHold }
 {}
 
-/// The attempts of each test in the newest sub-run are its own turns, cut where it was let go: their results, outputs,
-/// starts and times, and where their timers are due, after every legal journal.
+/// The attempts of each script and test in the newest sub-run are its own turns, cut where it was let go: their results,
+/// outputs, starts and times, and where their timers are due, after every legal journal.
 pub fn attempts_are_their_own_turns()
     ensures { AttemptsAreOwnTurns }
 {}
@@ -26,21 +29,27 @@ pub fn attempts_are_told_once()
     ensures { AttemptsToldOnce }
 {}
 
-/// The signals that are asked for each test's child in the newest sub-run, and the reports that it is slow, told and
-/// waiting, are those of its own turns, after every legal journal.
+/// The signals that are asked for the child of each script and test in the newest sub-run, and the reports that it is slow,
+/// told and waiting, are those of its own turns, after every legal journal.
 pub fn reports_are_own_turns()
     ensures { ReportsAreOwnTurns }
 {}
 
+/// The delays that are told with the failed attempts of each test in the newest sub-run, followed by those that wait to be
+/// told, are those of its own turns, which the statuses of its further attempts have, after every legal journal.
+pub fn delays_are_own_turns()
+    ensures { DelaysAreOwnTurns }
+{}
+
 /// Each turn of a legal journal tells that the run is cancelled exactly where it is a cause whose reason is above that of
 /// each cause before it in its sub-run, after all else and with its reason; that the run is killed exactly for a second
-/// signal; and a start only where no cause came before.
+/// signal; and a start, told or asked, only where no cause came before.
 pub fn cancels_are_caused()
     ensures { CancelsAreCaused }
 {}
 
-/// The line of each test that is let go and isn't over holds what was broadcast while it was live, but for as many
-/// requests as it took, in the newest sub-run after every legal journal.
+/// The line of each script and test that is let go and isn't over holds what was broadcast while it was live, but for as
+/// many requests as it took, in the newest sub-run after every legal journal.
 pub fn lines_are_broadcasts()
     ensures { LinesAreBroadcasts }
 {}
@@ -71,6 +80,32 @@ pub fn turns_are_timely()
 pub fn each_test_has_its_fate()
     ensures fates { EachHasFate }
     ensures over { OverHasEnded }
+{}
+
+/// In every sub-run that has ended each script was told started once and then finished, with the one result of its own
+/// turns, or, exactly where a cause came before the delivery of its start, nothing was told of it.
+pub fn each_script_has_its_fate()
+    ensures { ScriptsHaveFates }
+{}
+
+/// In the newest sub-run of every legal journal each script that was told started at all is told finished before any test
+/// is told started.
+pub fn scripts_come_first()
+    ensures { ScriptsComeFirst }
+{}
+
+/// In the newest sub-run of every legal journal what came of a script's environment file is told with its finish as its own
+/// turns say it.
+pub fn scripts_are_told_as_read()
+    ensures { ScriptsToldAsRead }
+{}
+
+/// In the newest sub-run of every legal journal one start is asked of each script and test for each attempt that was let
+/// go, in order, with the command, the variables and all else that the plan says: a test's in the slots with which it was
+/// told started, and with the variables that the scripts it lists gave by their own turns, where they passed. Each start
+/// that is told is that of the plan too.
+pub fn starts_are_planned()
+    ensures { StartsArePlanned }
 {}
 
 /// After each event that is told in the newest sub-run of a legal journal, the tests told started and not told finished

@@ -6,7 +6,8 @@ mod laws;
 
 pub use laws::{
     a_list_of_turns_has_one_course, accounts_hold, attempts_are_their_own_turns,
-    attempts_are_told_once, boards_step, cancels_are_caused, each_test_has_its_fate,
-    enabled_turns_can_be_taken, events_extend, limits_hold, lines_are_broadcasts,
-    reports_are_own_turns, turns_are_timely,
+    attempts_are_told_once, boards_step, cancels_are_caused, delays_are_own_turns,
+    each_script_has_its_fate, each_test_has_its_fate, enabled_turns_can_be_taken, events_extend,
+    limits_hold, lines_are_broadcasts, reports_are_own_turns, scripts_are_told_as_read,
+    scripts_come_first, starts_are_planned, turns_are_timely,
 };

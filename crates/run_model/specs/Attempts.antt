@@ -4,11 +4,8 @@ use Rattle.std.specs.Prelude.{ℕ, ◌+◌, List, [], ◌∷◌, ◌++◌, lengt
 use Rattle.std.specs.Prelude.{if◌then◌else◌, Option, Some, None, option_to_list, is_some, unwrap_or}
 use Rattle.std.specs.Option.{option_or}
 use Rattle.run_clock.specs.Counted.{Timer, counted_time, is_due as is_timer_due}
-use Rattle.run_capture.specs.Output.{uncaptured}
 use Rattle.run_capture.specs.Heard.{is_stream}
 use Rattle.run_capture.specs.Captured.{read_error}
-use Rattle.run_capture.specs.declared.test_output.CaptureStrategy.{CaptureStrategy}
-use Rattle.run_capture.specs.declared.test_output.CaptureStrategy.TheVariants as strategies
 use Rattle.run_capture.specs.declared.test_output.Stream.{Stream}
 use Rattle.run_capture.specs.declared.test_output.Stream.TheVariants.{Stdout, Stderr, Combined}
 use Rattle.run_capture.specs.declared.test_output.ChildOutput.{ChildOutput}
@@ -25,18 +22,23 @@ use Rattle.run_events.specs.declared.result.ChildExecutionOutput.TheVariants.{Ou
 use Rattle.run_events.specs.declared.result.ExecuteStatus.{ExecuteStatus}
 use Rattle.run_events.specs.declared.result.ExecutionResult.{ExecutionResult}
 use Rattle.run_events.specs.declared.result.ExecutionResult.TheVariants.{ExecFail, Timeout}
+use Rattle.run_events.specs.declared.result.ScriptEnv.{ScriptEnv}
+use Rattle.run_events.specs.declared.result.ScriptEnv.TheVariants.{Unread, Fault}
 use Rattle.run_events.specs.declared.settings.Settings.{Settings}
 use Rattle.run_model.specs.declared.happening.Happening.{Happening}
 use Rattle.run_model.specs.declared.unit_turn.UnitTurn.{UnitTurn}
 use Rattle.run_model.specs.declared.unit_turn.UnitTurn.TheVariants.{StartFailed, Exit, WaitFailed}
-use Rattle.run_model.specs.declared.unit_turn.UnitTurn.TheVariants.{Piece, StreamEnd, ReadError, Decide}
+use Rattle.run_model.specs.declared.unit_turn.UnitTurn.TheVariants.{Piece, StreamEnd, ReadError, Env, Decide}
 use Rattle.run_model.specs.declared.unit_view.AttemptTerms.{AttemptTerms}
+use Rattle.run_model.specs.declared.unit_view.CapturedStreams.{CapturedStreams}
+use Rattle.run_model.specs.declared.unit_view.CapturedStreams.TheVariants as captured
 use Rattle.run_model.specs.Backoff.{retry_count, delay_by}
+use Rattle.run_model.specs.Env.{env_of}
 use Rattle.run_model.specs.Environment.{attempts_by}
 use Rattle.run_model.specs.Story.{OwnTurn, Attempt, cut, story_of, pieces, begins_attempt, decides, first_said, any_is}
 use Rattle.run_model.specs.Timing.{ends_wait, is_due_turn, slow_count, has_timed_out, has_leaked, timer_of}
 use Rattle.run_model.specs.Timing.{is_timer_due_at}
-use Rattle.run_model.specs.Admission.{unit_of_test, terms_at}
+use Rattle.run_model.specs.Admission.{unit_terms}
 
 -- when an attempt began
 abbrev pub moment_if : (UnitTurn → Bool) → OwnTurn → Option ℕ
@@ -80,12 +82,14 @@ abbrev pub bytes_of : Stream → List OwnTurn → List ℕ
 bytes_of stream [] = []
 bytes_of stream (t ∷ before) = bytes_of stream before ++ bytes_in stream t.turn
 
--- its output: of each stream that this strategy captures what its child wrote to it
-abbrev pub output_of : CaptureStrategy → List OwnTurn → ChildOutput
-output_of strategies.None piece = uncaptured
-output_of strategies.Split piece =
-    outputs.Split (record { stdout = Some (bytes_of Stdout piece); stderr = Some (bytes_of Stderr piece) })
-output_of strategies.Combined piece = outputs.Combined (bytes_of Combined piece)
+-- its output: of each captured stream what its child wrote to it
+abbrev pub bytes_where : Bool → Stream → List OwnTurn → Option (List ℕ)
+bytes_where captured stream piece = if captured then Some (bytes_of stream piece) else None
+
+abbrev pub output_of : CapturedStreams → List OwnTurn → ChildOutput
+output_of (captured.Apart stdout stderr) piece =
+    outputs.Split (record { stdout = bytes_where stdout Stdout piece; stderr = bytes_where stderr Stderr piece })
+output_of captured.Combined piece = outputs.Combined (bytes_of Combined piece)
 
 -- a stream is done where it ended or could not be read on
 abbrev pub ends_stream : Stream → UnitTurn → Bool
@@ -96,19 +100,57 @@ ends_stream stream _ = false
 abbrev pub is_stream_done : Stream → List OwnTurn → Bool
 is_stream_done stream piece = any_is (ends_stream stream) piece
 
--- whether each stream that this strategy captures is done
-abbrev pub are_streams_done : CaptureStrategy → List OwnTurn → Bool
-are_streams_done strategies.None piece = true
-are_streams_done strategies.Split piece = is_stream_done Stdout piece && is_stream_done Stderr piece
-are_streams_done strategies.Combined piece = is_stream_done Combined piece
+-- whether each captured stream is done
+abbrev pub are_streams_done : CapturedStreams → List OwnTurn → Bool
+are_streams_done (captured.Apart stdout stderr) piece =
+    (not stdout || is_stream_done Stdout piece) && (not stderr || is_stream_done Stderr piece)
+are_streams_done captured.Combined piece = is_stream_done Combined piece
 
--- an attempt has ended where its start was refused, or its child is waited for no more and its streams aren't waited
--- for, are done, or were waited for as long as they may be
-abbrev pub has_ended : AttemptTerms → List OwnTurn → Bool
-has_ended terms piece =
+-- what its child's end makes its result: it failed to run where its start was refused, and is a timeout where it has run
+-- out of time, whatever its exit and its errors; else it is as its child ended, by its errors and by whether it leaked
+abbrev pub result_by : AttemptTerms → List OwnTurn → Option (List ℕ) → ExecutionResult
+result_by terms piece (Some error) = ExecFail
+result_by terms piece None =
+    if has_timed_out terms.slow piece
+    then Timeout terms.slow.on_timeout
+    else execution_result (exit_of piece) (errors_of piece) (has_leaked piece) terms.leak.result
+
+-- what came of its environment file, if that was read or could not be
+abbrev pub env_in : UnitTurn → Option ScriptEnv
+env_in (Env input) = Some (env_of input)
+env_in _ = None
+
+abbrev pub env_read : List OwnTurn → Option ScriptEnv
+env_read piece = first_said (λ t. env_in t.turn) piece
+
+abbrev pub env_by : List OwnTurn → ScriptEnv
+env_by piece = unwrap_or (env_read piece) Unread
+
+abbrev pub is_fault : ScriptEnv → Bool
+is_fault (Fault fault) = true
+is_fault env = false
+
+-- its result: a fault of its environment file makes it a failure
+abbrev pub result_in : AttemptTerms → List OwnTurn → ExecutionResult
+result_in terms piece =
+    if is_fault (env_by piece) then ExecFail else result_by terms piece (start_error_of piece)
+
+-- its child is done with where its start was refused, or it is waited for no more and its streams aren't waited for, are
+-- done, or were waited for as long as they may be
+abbrev pub is_settled : AttemptTerms → List OwnTurn → Bool
+is_settled terms piece =
     is_some (start_error_of piece)
     || (any_is ends_wait piece
-    && (terms.skips_leak_detection || are_streams_done terms.strategy piece || has_leaked piece))
+    && (terms.skips_leak_detection || are_streams_done terms.streams piece || has_leaked piece))
+
+-- its environment file is to be read where it is that of a script whose child ended well, until that was done
+abbrev pub awaits_env_file : AttemptTerms → List OwnTurn → Bool
+awaits_env_file terms piece =
+    terms.reads_env && is_success (result_by terms piece (start_error_of piece)) && not (is_some (env_read piece))
+
+-- so it has ended
+abbrev pub has_ended : AttemptTerms → List OwnTurn → Bool
+has_ended terms piece = is_settled terms piece && not (awaits_env_file terms piece)
 
 -- when it ended, if it has: at the first turn after which it has ended
 abbrev pub end_of : AttemptTerms → List OwnTurn → Option ℕ
@@ -119,15 +161,6 @@ end_of terms (t ∷ before) =
 -- how long it took: the counted time from its start to its end, in which there is no pause yet
 abbrev pub time_of : AttemptTerms → List OwnTurn → ℕ
 time_of terms piece = counted_time (start_of piece) [] (unwrap_or (end_of terms piece) 0)
-
--- its result: it failed to run where its start was refused, and is a timeout where it has run out of time, whatever its
--- exit and its errors; else it is as its child ended, by its errors and by whether it leaked
-abbrev pub result_by : AttemptTerms → List OwnTurn → Option (List ℕ) → ExecutionResult
-result_by terms piece (Some error) = ExecFail
-result_by terms piece None =
-    if has_timed_out terms.slow piece
-    then Timeout terms.slow.on_timeout
-    else execution_result (exit_of piece) (errors_of piece) (has_leaked piece) terms.leak.result
 
 -- what came of its child
 abbrev pub output_by : Option (List ℕ) → ChildOutput → List ChildFdError → ChildExecutionOutput
@@ -141,8 +174,8 @@ status_of terms delay attempt piece = record {
   attempt = attempt;
   attempts = attempts_by terms.retries;
   delay = delay;
-  result = result_by terms piece (start_error_of piece);
-  output = output_by (start_error_of piece) (output_of terms.strategy piece) (errors_of piece);
+  result = result_in terms piece;
+  output = output_by (start_error_of piece) (output_of terms.streams piece) (errors_of piece);
   slow = nat_lt 0 (slow_count terms.slow piece);
   start = start_of piece;
   time = time_of terms piece;
@@ -185,7 +218,7 @@ start_in (cut piece after ∷ earlier) = start_of piece
 -- whether the attempt of this number is tried again on these terms: it failed, and a retry is left
 abbrev pub is_retried : AttemptTerms → ℕ → List OwnTurn → Bool
 is_retried terms attempt piece =
-    not (is_success (result_by terms piece (start_error_of piece))) && nat_le attempt (retry_count terms.retries)
+    not (is_success (result_in terms piece)) && nat_le attempt (retry_count terms.retries)
 
 -- a turn ends the delay before a retry where its timer is due, or a request that cancels the run is taken
 abbrev pub cancels : Option Request → Bool
@@ -208,12 +241,12 @@ delay_timer retries after attempts = record {
   past = [];
 }
 
--- whether the timer of an attempt is due at a moment, which goes on, or after which a delay passes: one that has ended has
--- none until it is decided that it is tried again
+-- whether the timer of an attempt is due at a moment, whose child isn't done with, or after which a delay passes: it has
+-- none from there until it is decided that it is tried again
 abbrev pub is_due_in : AttemptTerms → ℕ → List Attempt → Bool
 is_due_in terms now [] = false
 is_due_in terms now (cut piece [] ∷ earlier) =
-    not (has_ended terms piece) && is_timer_due_at now (timer_of terms piece)
+    not (is_settled terms piece) && is_timer_due_at now (timer_of terms piece)
 is_due_in terms now (cut piece (d ∷ after) ∷ earlier) =
     is_retried terms (length earlier + 1) piece && not (is_delay_over (d ∷ after))
     && is_timer_due (delay_timer terms.retries (d ∷ after) (cut piece (d ∷ after) ∷ earlier)) now
@@ -223,13 +256,13 @@ abbrev pub none_goes_on : AttemptTerms → List Attempt → Bool
 none_goes_on terms [] = true
 none_goes_on terms (cut piece after ∷ earlier) = has_ended terms piece
 
--- how many retries the test at a place of the plan has
-abbrev pub retries_at : Settings → ℕ → ℕ
-retries_at p j = retry_count (terms_at p j).retries
+-- how many retries a unit has
+abbrev pub retries_in : Settings → ℕ → ℕ
+retries_in p k = retry_count (unit_terms p k).retries
 
--- the attempts of the test at place j in a sub-run, and what came of those that have ended, by its own turns alone
-abbrev pub pieces_of : Settings → ℕ → List Happening → List Attempt
-pieces_of p j run = pieces (story_of (unit_of_test p j) run)
+-- the attempts of unit k in a sub-run, and what came of those that have ended, by its own turns alone
+abbrev pub pieces_of : ℕ → List Happening → List Attempt
+pieces_of k run = pieces (story_of k run)
 
 abbrev pub statuses_of : Settings → ℕ → List Happening → List ExecuteStatus
-statuses_of p j run = ended_statuses (terms_at p j) (pieces_of p j run)
+statuses_of p k run = ended_statuses (unit_terms p k) (pieces_of k run)

@@ -19,6 +19,7 @@ use Rattle.run_model.specs.declared.happening.Happening.{Happening}
 use Rattle.run_model.specs.declared.happening.UnitPart.{UnitPart}
 use Rattle.run_model.specs.declared.happening.UnitPart.TheVariants.{Joins, Acts}
 use Rattle.run_model.specs.declared.unit_view.UnitView.{UnitView}
+use Rattle.run_model.specs.Environment.{number}
 use Rattle.run_model.specs.Unit.{row, reached}
 use Rattle.run_model.specs.Words.{clock, ns_of, is_on, is_over, sub_run, heard, queue, units, tally, was_refused, armed}
 use Rattle.run_model.specs.Words.{is_by_signal, is_by_report, is_by_time, causes_of}
@@ -98,7 +99,7 @@ deed_events d = option_to_list d.told ++ option_to_list d.cancel
 -- the list of units after the part that one had in a turn
 abbrev pub units_after : ℕ → Option UnitPart → List (Option UnitView) → List (Option UnitView)
 units_after now None us = us
-units_after now (Some (Joins first)) us = slice_set us first.test.unit (Some first)
+units_after now (Some (Joins first)) us = slice_set us (number first) (Some first)
 units_after now (Some (Acts j turn)) us =
     slice_set us j (option_map (λ v. (row now turn v).next) (slice_index_or us j None))
 

@@ -2,12 +2,14 @@
 use Rattle.std.specs.Prelude.{ℕ, ◌==◌, nat_lt, nat_le, Bool, true, if◌then◌else◌, Option, Some, None}
 use Rattle.run_events.specs.Cancel.{rank}
 use Rattle.run_events.specs.Outcome.{failed_count}
+use Rattle.run_events.specs.Result.{is_success}
+use Rattle.run_events.specs.declared.result.ExecutionResult.{ExecutionResult}
 use Rattle.run_events.specs.declared.cancel.CancelReason.{CancelReason}
 use Rattle.run_events.specs.declared.cancel.CancelReason.TheVariants as reasons
 use Rattle.run_events.specs.declared.events.TestEventKind.{TestEventKind}
 use Rattle.run_events.specs.declared.events.TestEventKind.TheVariants.{RunBeginCancel, RunBeginKill}
 use Rattle.run_events.specs.declared.message.Message.{Message}
-use Rattle.run_events.specs.declared.message.Message.TheVariants.{Finish}
+use Rattle.run_events.specs.declared.message.Message.TheVariants.{ScriptFinish, Finish}
 use Rattle.run_events.specs.declared.request.Request.{Request}
 use Rattle.run_events.specs.declared.request.Request.TheVariants.{Shutdown, OtherCancel}
 use Rattle.run_events.specs.declared.request.ShutdownRequest.{ShutdownRequest}
@@ -47,8 +49,17 @@ failure_cause All stats = None
 failure_cause (Count most terminate) stats =
     if nat_le most (failed_count stats) then Some (too_many_failed terminate) else None
 
--- the cause that a delivered message is, with the counts after it: a finish may be the last failure
+-- a script ended with this result, and failed
+abbrev pub script_failed : Cause
+script_failed = record { reason = reasons.SetupScriptFailure; request = OtherCancel }
+
+abbrev pub script_cause : ExecutionResult → Option Cause
+script_cause result = if is_success result then None else Some script_failed
+
+-- the cause that a delivered message is, with the counts after it: the finish of a script that failed, and that of a test
+-- that may be the last failure
 abbrev pub cause_of : CancelRules → Tally → Message → Option Cause
+cause_of rules t (ScriptFinish finish) = script_cause finish.status.result
 cause_of rules t (Finish finish) = failure_cause rules.max_fail t.stats
 cause_of rules t _ = None
 
@@ -80,8 +91,9 @@ cancelled_for reason t = record t { stats = record t.stats { cancel_reason = Som
 
 abbrev pub cancel_event : CancelReason → Tally → TestEventKind
 cancel_event reasons.SecondSignal t =
-    RunBeginKill (record { running = t.running; scripts_running = 0; stats = t.stats })
-cancel_event reason t = RunBeginCancel (record { running = t.running; scripts_running = 0; stats = t.stats })
+    RunBeginKill (record { running = t.running; scripts_running = t.scripts_running; stats = t.stats })
+cancel_event reason t =
+    RunBeginCancel (record { running = t.running; scripts_running = t.scripts_running; stats = t.stats })
 
 -- what a deed does with a cause, by the counts after all else that it does: a cause whose reason isn't above the current
 -- one does nothing

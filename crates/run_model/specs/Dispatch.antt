@@ -1,13 +1,14 @@
 -- The dispatcher's table: which turns it takes, what each tells, and what it leaves.
 use Rattle.std.specs.Prelude.{⊤, ℕ, ◌≡◌, ◌+◌, ◌-◌, ◌<◌, ◌^◌, nat_lt, length, Bool, true, false, ◌&&◌, not, if◌then◌else◌, Option}
 use Rattle.std.specs.Prelude.{Some, None, is_none}
-use Rattle.run_events.specs.Stats.{AreBelow, FinishedTest, nothing, adds_of, plus}
+use Rattle.run_events.specs.Stats.{AreBelow, plus}
 use Rattle.run_events.specs.declared.settings.Settings.{Settings}
 use Rattle.run_events.specs.declared.turn.Turn.{Turn}
 use Rattle.run_events.specs.declared.turn.Turn.TheVariants.{Begin, Deliver, GlobalDue, ReportCancel, End}
 use Rattle.run_events.specs.declared.turn.Turn.TheVariants.{Signal as SignalCame}
 use Rattle.run_events.specs.declared.message.Message.{Message}
-use Rattle.run_events.specs.declared.message.Message.TheVariants.{Start, Slow, AttemptFailed, Retry, Skip, Finish}
+use Rattle.run_events.specs.declared.message.Message.TheVariants.{ScriptStart, ScriptSlow, ScriptFinish, Start, Slow}
+use Rattle.run_events.specs.declared.message.Message.TheVariants.{AttemptFailed, Retry, Skip, Finish}
 use Rattle.run_events.specs.declared.message.TestStart.{TestStart}
 use Rattle.run_events.specs.declared.message.TestFinish.{TestFinish}
 use Rattle.run_events.specs.declared.message.AttemptFailed.{AttemptFailed as Failure}
@@ -16,7 +17,8 @@ use Rattle.run_events.specs.declared.events.ReporterEvent.{ReporterEvent}
 use Rattle.run_events.specs.declared.events.ReporterEvent.TheVariants.{Test}
 use Rattle.run_events.specs.declared.events.RunStarted.{RunStarted}
 use Rattle.run_events.specs.declared.events.TestEventKind.{TestEventKind}
-use Rattle.run_events.specs.declared.events.TestEventKind.TheVariants.{TestStarted, TestSlow, TestFinished}
+use Rattle.run_events.specs.declared.events.TestEventKind.TheVariants.{SetupScriptStarted, SetupScriptSlow}
+use Rattle.run_events.specs.declared.events.TestEventKind.TheVariants.{SetupScriptFinished, TestStarted, TestSlow, TestFinished}
 use Rattle.run_events.specs.declared.events.TestEventKind.TheVariants.{TestSkipped, TestAttemptFailedWillRetry}
 use Rattle.run_events.specs.declared.events.TestEventKind.TheVariants.{TestRetryStarted}
 use Rattle.run_model.specs.declared.dispatcher_view.CancelRules.{CancelRules}
@@ -29,8 +31,8 @@ use Rattle.run_events.specs.declared.signal.Heard.TheVariants.{Shutdown}
 use Rattle.run_events.specs.declared.signal.Signal.{Signal}
 use Rattle.run_model.specs.declared.dispatcher_view.Tally.{Tally}
 use Rattle.run_model.specs.declared.dispatcher_view.Facts.{Facts}
-use Rattle.run_model.specs.Admission.{tests_in, matched_in}
-use Rattle.run_model.specs.Words.{finished_test, time_limit}
+use Rattle.run_model.specs.Admission.{tests_in}
+use Rattle.run_model.specs.Words.{FinishedUnit, a_script, a_test, adds_by, finished_test, initial_stats, time_limit}
 
 -- what is told of a run as it starts
 abbrev pub head_of : Settings → RunStarted
@@ -50,7 +52,7 @@ rules_of p = record {
   global_timeout = time_limit p;
 }
 
--- before the run begins: all tests that match are to run
+-- before the run begins: all scripts, and all tests that match, are to run
 abbrev pub unbegun : Settings → DispatcherView
 unbegun p = record {
   head = head_of p;
@@ -58,7 +60,7 @@ unbegun p = record {
   on = false;
   over = false;
   causes = record { signals = 0; reported = false; global = None };
-  tally = record { running = 0; stats = record nothing { initial_run_count = matched_in p } };
+  tally = record { running = 0; scripts_running = 0; stats = initial_stats p };
   latest = 0;
 }
 
@@ -93,16 +95,24 @@ may_go t = is_none t.stats.cancel_reason
 abbrev pub with_start : Tally → Tally
 with_start t = record t { running = t.running + 1 }
 
-abbrev pub with_finish : Tally → FinishedTest → Tally
-with_finish t test = record { running = t.running - 1; stats = plus t.stats (adds_of test) }
+abbrev pub with_script : Tally → Tally
+with_script t = record t { scripts_running = t.scripts_running + 1 }
+
+abbrev pub with_finish : Tally → FinishedUnit → Tally
+with_finish t (a_test test) =
+    record t { running = t.running - 1; stats = plus t.stats (adds_by (a_test test)) }
+with_finish t (a_script result) =
+    record t { scripts_running = t.scripts_running - 1; stats = plus t.stats (adds_by (a_script result)) }
 
 abbrev pub with_skip : Tally → Tally
 with_skip t = record t { stats = record t.stats { skipped = t.stats.skipped + 1 } }
 
 -- the counts after an event was told
 abbrev pub tallied : TestEventKind → Tally → Tally
+tallied (SetupScriptStarted event) t = with_script t
+tallied (SetupScriptFinished event) t = with_finish t (a_script event.status.result)
 tallied (TestStarted event) t = with_start t
-tallied (TestFinished event) t = with_finish t (finished_test event.finish)
+tallied (TestFinished event) t = with_finish t (a_test (finished_test event.finish))
 tallied (TestSkipped skip) t = with_skip t
 tallied _ t = t
 
@@ -127,29 +137,34 @@ retried_event retry t = TestRetryStarted (record { retry = retry; running = t.ru
 
 -- what the delivery of a message tells, with the counts after it
 abbrev pub told_of : Tally → Message → Option TestEventKind
+told_of t (ScriptStart start) = if may_go t then Some (SetupScriptStarted start) else None
+told_of t (ScriptSlow slow) = Some (SetupScriptSlow slow)
+told_of t (ScriptFinish finish) = Some (SetupScriptFinished finish)
 told_of t (Start start) = if may_go t then Some (started_event start (with_start t)) else None
 told_of t (Skip skip) = Some (TestSkipped skip)
 told_of t (Slow slow) = Some (TestSlow slow)
 told_of t (AttemptFailed failure) = Some (failed_event failure t)
 told_of t (Retry retry) = if may_go t then Some (retried_event retry t) else None
-told_of t (Finish finish) = Some (finished_event finish (with_finish t (finished_test finish)))
-told_of t _ = None
+told_of t (Finish finish) = Some (finished_event finish (with_finish t (a_test (finished_test finish))))
 
 -- the answer to a unit whose start, or retry, is delivered
 abbrev pub go_of : Tally → Message → Option Bool
+go_of t (ScriptStart start) = Some (may_go t)
 go_of t (Start start) = Some (may_go t)
 go_of t (Retry retry) = Some (may_go t)
 go_of t _ = None
 
--- what a message needs: room in the counts, and a finish is of a test that runs, after an attempt
+-- what a message needs: room in the counts, and a finish is of a script or a test that runs, of a test after an attempt
 abbrev pub Fits : Tally → Message → Type 0
+Fits t (ScriptStart start) = t.scripts_running + 1 < 2 ^ 32
+Fits t (ScriptSlow slow) = ⊤
+Fits t (ScriptFinish finish) = AreBelow (2 ^ 32) t.stats × (0 < t.scripts_running)
 Fits t (Start start) = t.running + 1 < 2 ^ 32
 Fits t (Skip skip) = t.stats.skipped < 2 ^ 32
 Fits t (Slow slow) = ⊤
 Fits t (AttemptFailed failure) = ⊤
 Fits t (Retry retry) = ⊤
 Fits t (Finish finish) = AreBelow (2 ^ 32) t.stats × (0 < length finish.statuses) × (0 < t.running)
-Fits t _ = ⊥
 
 -- when a message can be delivered
 abbrev pub CanDeliver : DispatcherView → Message → Type 0

@@ -1,43 +1,77 @@
--- What the child of a test is started with: its command, its variables and its streams.
-use Rattle.std.specs.Prelude.{ℕ, ◌+◌, List, [], ◌∷◌, ◌++◌, true, false, Option, Some, None, codes, decimal}
+-- What the child of a unit is started with: its command, its variables and its streams.
+use Rattle.std.specs.Prelude.{ℕ, ◌+◌, List, [], ◌∷◌, ◌++◌, Bool, if◌then◌else◌, Option, Some, None}
+use Rattle.std.specs.Prelude.{codes, decimal}
 use Rattle.uuid.specs.Text.{hyphenated_text, lower}
 use Rattle.run_capture.specs.declared.test_output.Stream.{Stream}
 use Rattle.run_capture.specs.declared.test_output.Stream.TheVariants as streams
-use Rattle.run_capture.specs.declared.test_output.CaptureStrategy.{CaptureStrategy}
-use Rattle.run_capture.specs.declared.test_output.CaptureStrategy.TheVariants as strategies
 use Rattle.run_events.specs.declared.ask.Ask.{Ask}
 use Rattle.run_events.specs.declared.ask.Ask.TheVariants.{Start as AskStart}
 use Rattle.run_events.specs.declared.plan.GroupSlot.{GroupSlot}
+use Rattle.run_events.specs.declared.message.ScriptStart.{ScriptStart}
 use Rattle.run_events.specs.declared.message.TestStart.{TestStart}
 use Rattle.run_events.specs.declared.retry_policy.RetryPolicy.{RetryPolicy}
 use Rattle.run_events.specs.declared.retry_policy.RunMode.{RunMode}
 use Rattle.run_events.specs.declared.retry_policy.RunMode.TheVariants as modes
+use Rattle.run_model.specs.declared.unit_view.CapturedStreams.{CapturedStreams}
+use Rattle.run_model.specs.declared.unit_view.CapturedStreams.TheVariants as captured
+use Rattle.run_model.specs.declared.unit_view.ScriptRole.{ScriptRole}
+use Rattle.run_model.specs.declared.unit_view.Surroundings.{Surroundings}
+use Rattle.run_model.specs.declared.unit_view.TestRole.{TestRole}
+use Rattle.run_model.specs.declared.unit_view.UnitRole.{UnitRole}
+use Rattle.run_model.specs.declared.unit_view.UnitRole.TheVariants as roles
 use Rattle.run_model.specs.declared.unit_view.UnitView.{UnitView}
 use Rattle.run_model.specs.Backoff.{retry_count}
 
--- how many attempts a test has at most
+-- the number of a unit
+abbrev pub number_of : UnitRole → ℕ
+number_of (roles.Test t) = t.test.unit
+number_of (roles.Script s) = s.script.unit
+
+abbrev pub number : UnitView → ℕ
+number u = number_of u.role
+
+-- how many attempts a unit has at most
 abbrev pub attempts_by : RetryPolicy → ℕ
 attempts_by retries = retry_count retries + 1
 
 abbrev pub attempts : UnitView → ℕ
 attempts u = attempts_by u.terms.retries
 
--- a test, as its starts tell it
-abbrev pub test_start : UnitView → TestStart
-test_start u = record { test = u.test; command = u.command; slot = u.slot }
+-- a test, and a script, as its starts tell it
+abbrev pub test_start : TestRole → UnitView → TestStart
+test_start t u = record { test = t.test; command = u.command; slot = t.slot }
+
+abbrev pub script_start : ScriptRole → UnitView → ScriptStart
+script_start s u = record { script = s.script; command = u.command }
 
 -- what the tests of a run are run as
 abbrev pub mode_name : RunMode → List ℕ
 mode_name modes.Test = codes "test"
 mode_name modes.Benchmark = codes "benchmark"
 
--- the variables that a test's child gets: who it is
-unfoldable pub identity_variables : UnitView → List (List ℕ × List ℕ)
-identity_variables u =
-    (codes "NEXTEST_RUN_ID", hyphenated_text lower u.around.run_id)
-    ∷ (codes "NEXTEST_RUN_MODE", mode_name u.around.mode)
-    ∷ (codes "NEXTEST_BINARY_ID", u.test.id.binary)
-    ∷ (codes "NEXTEST_TEST_NAME", u.test.id.name)
+-- a variable with its value
+abbrev pub Variable : Type 0
+Variable = List ℕ × List ℕ
+
+-- the variables of which run it is
+abbrev pub run_variables : Surroundings → List Variable
+run_variables around =
+    (codes "NEXTEST_RUN_ID", hyphenated_text lower around.run_id)
+    ∷ (codes "NEXTEST_RUN_MODE", mode_name around.mode)
+    ∷ []
+
+-- how much runs at a time, and in which folder
+abbrev pub shared_variables : Surroundings → List Variable
+shared_variables around =
+    (codes "NEXTEST_TEST_THREADS", decimal around.threads)
+    ∷ (codes "NEXTEST_WORKSPACE_ROOT", around.workspace_root)
+    ∷ []
+
+-- which attempt of which test it is
+unfoldable pub identity_variables : TestRole → UnitView → List Variable
+identity_variables t u =
+    (codes "NEXTEST_BINARY_ID", t.test.id.binary)
+    ∷ (codes "NEXTEST_TEST_NAME", t.test.id.name)
     ∷ (codes "NEXTEST_ATTEMPT", decimal u.attempt)
     ∷ (codes "NEXTEST_TOTAL_ATTEMPTS", decimal (attempts u))
     ∷ []
@@ -51,38 +85,55 @@ abbrev pub group_number : Option GroupSlot → List ℕ
 group_number (Some group) = decimal group.slot
 group_number None = codes "none"
 
--- where it runs
-unfoldable pub place_variables : UnitView → List (List ℕ × List ℕ)
-place_variables u =
+-- where it runs: no test runs under stress yet
+unfoldable pub place_variables : TestRole → List Variable
+place_variables t =
     (codes "NEXTEST_STRESS_CURRENT", codes "none")
     ∷ (codes "NEXTEST_STRESS_TOTAL", codes "none")
-    ∷ (codes "NEXTEST_TEST_GLOBAL_SLOT", decimal u.slot.global)
-    ∷ (codes "NEXTEST_TEST_GROUP", group_name u.slot.group)
-    ∷ (codes "NEXTEST_TEST_GROUP_SLOT", group_number u.slot.group)
-    ∷ (codes "NEXTEST_TEST_THREADS", decimal u.around.threads)
-    ∷ (codes "NEXTEST_WORKSPACE_ROOT", u.around.workspace_root)
+    ∷ (codes "NEXTEST_TEST_GLOBAL_SLOT", decimal t.slot.global)
+    ∷ (codes "NEXTEST_TEST_GROUP", group_name t.slot.group)
+    ∷ (codes "NEXTEST_TEST_GROUP_SLOT", group_number t.slot.group)
     ∷ []
 
--- all of them, in order: the versions come last
-unfoldable pub environment : UnitView → List (List ℕ × List ℕ)
-environment u = identity_variables u ++ (place_variables u ++ u.around.versions)
+-- the variables of a test's child, in order: last come the versions, and what its scripts handed on
+unfoldable pub test_variables : TestRole → UnitView → List Variable
+test_variables t u =
+    run_variables u.around ++ (identity_variables t u ++ (place_variables t ++ (shared_variables u.around
+    ++ (u.around.versions ++ t.handed))))
 
--- the streams that a strategy captures, in order
-abbrev pub streams_of : CaptureStrategy → List Stream
-streams_of strategies.None = []
-streams_of strategies.Split = streams.Stdout ∷ streams.Stderr ∷ []
-streams_of strategies.Combined = streams.Combined ∷ []
+-- those of a script's child: first comes the file where it writes what it hands on
+unfoldable pub script_variables : ScriptRole → UnitView → List Variable
+script_variables s u =
+    (codes "NEXTEST_ENV", s.env_path) ∷ run_variables u.around ++ (shared_variables u.around ++ u.around.versions)
 
--- the start of a test's child that is asked where its attempt is let go: the words of the interceptor stand before its
--- command
+abbrev pub environment_as : UnitRole → UnitView → List Variable
+environment_as (roles.Test t) u = test_variables t u
+environment_as (roles.Script s) u = script_variables s u
+
+-- where a script's child writes the variables that it hands on
+abbrev pub env_path_of : UnitRole → Option (List ℕ)
+env_path_of (roles.Test t) = None
+env_path_of (roles.Script s) = Some s.env_path
+
+-- the captured streams, in order
+abbrev pub split_streams : Bool → Bool → List Stream
+split_streams stdout stderr =
+    (if stdout then streams.Stdout ∷ [] else []) ++ (if stderr then streams.Stderr ∷ [] else [])
+
+abbrev pub streams_of : CapturedStreams → List Stream
+streams_of (captured.Apart stdout stderr) = split_streams stdout stderr
+streams_of captured.Combined = streams.Combined ∷ []
+
+-- the start of a unit's child that is asked where its attempt is let go: the words of the interceptor, which a script has
+-- none of, stand before its command
 unfoldable pub start_ask : UnitView → Ask
 start_ask u = AskStart (record {
-  unit = u.test.unit;
+  unit = number u;
   attempt = u.attempt;
   command = u.around.wrapper ++ u.command;
-  env = environment u;
+  env = environment_as u.role u;
   group = u.around.group;
   stdin = u.around.stdin;
-  streams = streams_of u.terms.strategy;
-  env_path = None;
+  streams = streams_of u.terms.streams;
+  env_path = env_path_of u.role;
 })

@@ -1,4 +1,4 @@
--- What becomes of a test in a sub-run that has ended, and what is told of it then.
+-- What becomes of a unit in a sub-run that has ended, and what is told of it then.
 use Rattle.std.specs.Prelude.{ℕ, ◌-◌, ◌≡◌, ◌⊎◌, ◌≤◌, ◌<◌, not, List, [], ◌∷◌, ◌++◌}
 use Rattle.std.specs.Prelude.{length, Bool, true, false, option_to_list}
 use Rattle.std.specs.List.{list_all}
@@ -6,8 +6,8 @@ use Rattle.run_events.specs.Result.{is_success}
 use Rattle.run_events.specs.declared.result.ExecuteStatus.{ExecuteStatus}
 use Rattle.run_events.specs.declared.settings.Settings.{Settings}
 use Rattle.run_model.specs.declared.happening.Happening.{Happening}
-use Rattle.run_model.specs.Admission.{tests_in, unit_of_test, terms_at}
-use Rattle.run_model.specs.Attempts.{none_goes_on, retries_at, pieces_of, statuses_of}
+use Rattle.run_model.specs.Admission.{units_in, unit_terms}
+use Rattle.run_model.specs.Attempts.{none_goes_on, retries_in, pieces_of, statuses_of}
 use Rattle.run_model.specs.Story.{never_started, was_left}
 use Rattle.run_model.specs.Unit.{last_status}
 use Rattle.run_model.specs.Words.{told}
@@ -25,7 +25,7 @@ failures [] = []
 failures (s ∷ []) = failed s ∷ []
 failures (s ∷ t ∷ ss) = failed s ∷ retried ∷ failures (t ∷ ss)
 
--- all that is told of a test: of one that doesn't match, that was never started, that was left, and of any other
+-- all that is told of a unit: of a test that doesn't match, of one that was never started, that was left, and of any other
 abbrev pub account : Bool → Bool → Bool → List ExecuteStatus → List News
 account true never left ss = skipped ∷ []
 account false true left ss = []
@@ -49,22 +49,18 @@ MeetsAttemptLaw n (s ∷ t ∷ ss) = (is_success s.result ≡ false) × (0 < n) 
 abbrev pub HasRetryLeft : ℕ → List ExecuteStatus → Type 0
 HasRetryLeft n ss = (list_all (λ s. not (is_success s.result)) ss ≡ true) × (length ss ≤ n) × (0 < length ss)
 
--- the test at place j of the plan, which is unit k, has its fate in a sub-run: what was told of it is its account, with
--- the attempts that its own turns made: they meet their law, they have ended, each that was let go has its status, and
--- they were told as they ended, each once
-pub record HasFateAs (p : Settings) (run : List Happening) (j k : ℕ) : Type 0 where
+-- unit k has its fate in a sub-run: what was told of it is its account, with the attempts that its own turns made: they meet
+-- their law, they have ended, each that was let go has its status, and they were told as they ended, each once
+pub record HasFate (p : Settings) (run : List Happening) (k : ℕ) : Type 0 where
   pub account : account_of k (told run)
-      ≡ account (is_mismatched p j) (never_started k run) (was_left k run) (statuses_of p j run)
-  pub finished : is_mismatched p j ≡ false → never_started k run ≡ false → was_left k run ≡ false
-      → MeetsAttemptLaw (retries_at p j) (statuses_of p j run)
-  pub left : is_mismatched p j ≡ false → was_left k run ≡ true → HasRetryLeft (retries_at p j) (statuses_of p j run)
-  pub ended : none_goes_on (terms_at p j) (pieces_of p j run) ≡ true
-  pub each : length (statuses_of p j run) ≡ length (pieces_of p j run)
-  pub once : told_ended (account_of k (told run)) ≡ statuses_of p j run
+      ≡ account (is_mismatched p k) (never_started k run) (was_left k run) (statuses_of p k run)
+  pub finished : is_mismatched p k ≡ false → never_started k run ≡ false → was_left k run ≡ false
+      → MeetsAttemptLaw (retries_in p k) (statuses_of p k run)
+  pub left : is_mismatched p k ≡ false → was_left k run ≡ true → HasRetryLeft (retries_in p k) (statuses_of p k run)
+  pub ended : none_goes_on (unit_terms p k) (pieces_of k run) ≡ true
+  pub each : length (statuses_of p k run) ≡ length (pieces_of k run)
+  pub once : told_ended (account_of k (told run)) ≡ statuses_of p k run
 
-abbrev pub HasFate : Settings → List Happening → ℕ → Type 0
-HasFate p run j = HasFateAs p run j (unit_of_test p j)
-
--- each test of the plan has its fate in a sub-run
+-- each script and each test of the plan has its fate in a sub-run
 abbrev pub HaveFates : Settings → List Happening → Type 0
-HaveFates p run = (j : ℕ) → j < tests_in p → HasFate p run j
+HaveFates p run = (k : ℕ) → k < units_in p → HasFate p run k

@@ -1,5 +1,6 @@
 pub mod Backoff
 pub mod Slow
+pub mod Env
 pub mod Environment
 pub mod Terminate
 pub mod Unit

@@ -107,7 +107,7 @@ abbrev pub newest_after : (OwnTurn → List OwnTurn → Bool) → List OwnTurn �
 newest_after is [] = 0
 newest_after is (t ∷ before) = if is t before then t.moment else newest_after is before
 
--- whether a turn delivered the start of test k, or its retry
+-- whether a turn delivered the start of unit k, or its retry
 abbrev pub lets_go : ℕ → Option UnitPart → Bool
 lets_go k (Some (Acts j (Answered go))) = j == k
 lets_go k _ = false
@@ -117,13 +117,13 @@ abbrev pub deliveries : ℕ → List Happening → ℕ
 deliveries k [] = 0
 deliveries k (x ∷ past) = deliveries k past + (if lets_go k x.part then 1 else 0)
 
--- test k was never started: a cause stands before the delivery of its start
+-- unit k was never started: a cause stands before the delivery of its start
 abbrev pub never_started : ℕ → List Happening → Bool
 never_started k [] = false
 never_started k (x ∷ past) =
     (lets_go k x.part && (deliveries k past == 0) && is_some (reason past)) || never_started k past
 
--- test k was left between two attempts: a cause stands before the delivery of a retry
+-- unit k was left between two attempts: a cause stands before the delivery of a retry
 abbrev pub was_left : ℕ → List Happening → Bool
 was_left k [] = false
 was_left k (x ∷ past) =

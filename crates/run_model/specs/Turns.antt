@@ -5,10 +5,11 @@ use Rattle.std.specs.List.{list_all}
 use Rattle.run_events.specs.declared.settings.Settings.{Settings}
 use Rattle.run_events.specs.declared.turn.Turn.{Turn}
 use Rattle.run_events.specs.declared.turn.Turn.TheVariants.{Begin, Admit, Deliver, Started, StartFailed, Exit}
-use Rattle.run_events.specs.declared.turn.Turn.TheVariants.{WaitFailed, Piece, StreamEnd, ReadError, Decide, Clock, End}
+use Rattle.run_events.specs.declared.turn.Turn.TheVariants.{WaitFailed, Piece, StreamEnd, ReadError, Env, Decide, Clock}
+use Rattle.run_events.specs.declared.turn.Turn.TheVariants.{End}
 use Rattle.run_events.specs.declared.turn.Turn.TheVariants.{UnitDue as TurnDue, Take, GlobalDue, Signal, ReportCancel}
 use Rattle.run_events.specs.declared.message.Message.{Message}
-use Rattle.run_events.specs.declared.message.Message.TheVariants.{Start, Retry}
+use Rattle.run_events.specs.declared.message.Message.TheVariants.{ScriptStart, Start, Retry}
 use Rattle.run_events.specs.declared.events.TestEventKind.{TestEventKind}
 use Rattle.run_events.specs.declared.events.TestEventKind.TheVariants.{RunStarted, RunFinished}
 use Rattle.run_events.specs.declared.events.RunFinishedStats.TheVariants.{Single}
@@ -23,7 +24,7 @@ use Rattle.run_model.specs.declared.unit_turn.UnitTurn.TheVariants.{StartFailed 
 use Rattle.run_model.specs.declared.unit_turn.UnitTurn.TheVariants.{WaitFailed as UnitWaitFailed, Piece as UnitPiece}
 use Rattle.run_model.specs.declared.unit_turn.UnitTurn.TheVariants.{StreamEnd as UnitStreamEnd}
 use Rattle.run_model.specs.declared.unit_turn.UnitTurn.TheVariants.{ReadError as UnitReadError, Decide as UnitDecide, Due as UnitDue}
-use Rattle.run_model.specs.declared.unit_turn.UnitTurn.TheVariants.{Take as UnitTake}
+use Rattle.run_model.specs.declared.unit_turn.UnitTurn.TheVariants.{Take as UnitTake, Env as UnitEnv}
 use Rattle.run_model.specs.declared.unit_view.UnitView.{UnitView}
 use Rattle.run_model.specs.Unit.{row, takes}
 use Rattle.run_model.specs.Admission.{is_done, Newcomer, newcomer}
@@ -43,12 +44,13 @@ turn_of_unit (WaitFailed unit error) = Some (unit, UnitWaitFailed error)
 turn_of_unit (Piece unit stream bytes) = Some (unit, UnitPiece stream bytes)
 turn_of_unit (StreamEnd unit stream) = Some (unit, UnitStreamEnd stream)
 turn_of_unit (ReadError unit stream error) = Some (unit, UnitReadError stream error)
+turn_of_unit (Env unit input) = Some (unit, UnitEnv input)
 turn_of_unit (TurnDue unit) = Some (unit, UnitDue)
 turn_of_unit (Take unit) = Some (unit, UnitTake)
 turn_of_unit (Decide unit word) = Some (unit, UnitDecide word)
 turn_of_unit _ = None
 
--- whether a unit takes a turn; a test that wasn't admitted takes none
+-- whether a unit takes a turn; one that wasn't admitted takes none
 abbrev pub unit_takes : ℕ → Option UnitView → UnitTurn → Bool
 unit_takes now None turn = false
 unit_takes now (Some u) turn = takes now u turn
@@ -112,6 +114,7 @@ admission (Some new) = record nothing_done { part = Some (Joins new.unit); sent 
 
 -- the unit whose start, or retry, a message is
 abbrev pub starting : Message → Option ℕ
+starting (ScriptStart start) = Some start.script.unit
 starting (Start start) = Some start.test.unit
 starting (Retry retry) = Some retry.start.test.unit
 starting _ = None

@@ -3,7 +3,9 @@ use Rattle.std.specs.Prelude.{ℕ, ◌+◌, ◌-◌, ◌==◌, List, [], ◌∷�
 use Rattle.std.specs.Prelude.{◌||◌, if◌then◌else◌, Option, Some, None, option_map}
 use Rattle.run_clock.specs.Stopwatch.{started_at, active_by}
 use Rattle.run_clock.specs.Sleep.{Sleep, set_at, fires_at}
-use Rattle.run_capture.specs.Output.{uncaptured, nothing_of}
+use Rattle.run_capture.specs.Output.{uncaptured, nothing_of_split}
+use Rattle.run_capture.specs.declared.test_output.ChildOutput.{ChildOutput}
+use Rattle.run_capture.specs.declared.test_output.ChildOutput.TheVariants as outputs
 use Rattle.run_capture.specs.Captured.{Captured, begun, takes as takes_stream, is_done, with_piece, with_end}
 use Rattle.run_capture.specs.Captured.{with_error, with_wait_error}
 use Rattle.run_capture.specs.declared.test_output.ChildFdError.{ChildFdError}
@@ -11,7 +13,8 @@ use Rattle.run_events.specs.Result.{execution_result, is_success}
 use Rattle.run_events.specs.declared.ask.Ask.{Ask}
 use Rattle.run_events.specs.declared.ask.Ask.TheVariants.{Signal as AskSignal}
 use Rattle.run_events.specs.declared.message.Message.{Message}
-use Rattle.run_events.specs.declared.message.Message.TheVariants.{Slow, AttemptFailed, Retry, Finish}
+use Rattle.run_events.specs.declared.message.Message.TheVariants.{ScriptSlow, ScriptFinish, Slow, AttemptFailed, Retry}
+use Rattle.run_events.specs.declared.message.Message.TheVariants.{Finish}
 use Rattle.run_events.specs.declared.request.ChildSignal.TheVariants.{End}
 use Rattle.run_events.specs.declared.request.Request.{Request}
 use Rattle.run_events.specs.declared.request.Request.TheVariants.{Shutdown, OtherCancel}
@@ -24,23 +27,33 @@ use Rattle.run_events.specs.declared.result.ChildExecutionOutput.TheVariants.{Ou
 use Rattle.run_events.specs.declared.result.ChildExit.{ChildExit}
 use Rattle.run_events.specs.declared.result.ExecutionResult.{ExecutionResult}
 use Rattle.run_events.specs.declared.result.ExecutionResult.TheVariants.{ExecFail, Timeout}
+use Rattle.run_events.specs.declared.result.ScriptEnv.{ScriptEnv}
+use Rattle.run_events.specs.declared.result.ScriptEnv.TheVariants.{Fault}
+use Rattle.run_events.specs.declared.result.SetupScriptExecuteStatus.{SetupScriptExecuteStatus}
 use Rattle.run_model.specs.declared.phase.Phase.{Phase}
 use Rattle.run_model.specs.declared.phase.Phase.TheVariants.{StartSent, Starting, Running, Grace, KillWait, Leak}
-use Rattle.run_model.specs.declared.phase.Phase.TheVariants.{Deciding, Delay, RetrySent, Over}
+use Rattle.run_model.specs.declared.phase.Phase.TheVariants.{EnvWait, Deciding, Delay, RetrySent, Over}
 use Rattle.run_model.specs.declared.unit_turn.UnitTurn.{UnitTurn}
 use Rattle.run_model.specs.declared.unit_turn.UnitTurn.TheVariants.{Answered, Started, StartFailed, Exit, WaitFailed}
-use Rattle.run_model.specs.declared.unit_turn.UnitTurn.TheVariants.{Piece, StreamEnd, ReadError, Due, Take, Decide}
+use Rattle.run_model.specs.declared.unit_turn.UnitTurn.TheVariants.{Piece, StreamEnd, ReadError, Env, Due, Take, Decide}
 use Rattle.run_model.specs.declared.unit_view.AttemptTerms.{AttemptTerms}
+use Rattle.run_model.specs.declared.unit_view.CapturedStreams.{CapturedStreams}
+use Rattle.run_model.specs.declared.unit_view.CapturedStreams.TheVariants as captured
+use Rattle.run_model.specs.declared.unit_view.ScriptRole.{ScriptRole}
+use Rattle.run_model.specs.declared.unit_view.TestRole.{TestRole}
 use Rattle.run_model.specs.declared.unit_view.Timers.{Timers}
+use Rattle.run_model.specs.declared.unit_view.UnitRole.{UnitRole}
+use Rattle.run_model.specs.declared.unit_view.UnitRole.TheVariants as roles
 use Rattle.run_model.specs.declared.unit_view.UnitView.{UnitView}
 use Rattle.run_model.specs.Slow.{one_more, is_out_of_time, slow_time}
 use Rattle.run_model.specs.Terminate.{terminate_method}
 use Rattle.run_model.specs.Backoff.{retry_count, delay_by}
-use Rattle.run_model.specs.Environment.{attempts, test_start, start_ask}
+use Rattle.run_model.specs.Env.{env_of}
+use Rattle.run_model.specs.Environment.{number, attempts, test_start, start_ask}
 
 -- a signal that is asked for its child, and for the group of its child's processes where it has one of its own
 abbrev pub signal_ask : TermSignal → UnitView → Ask
-signal_ask signal u = AskSignal (record { unit = u.test.unit; signal = End signal; group = u.around.group })
+signal_ask signal u = AskSignal (record { unit = number u; signal = End signal; group = u.around.group })
 
 -- whether its attempt has run out of time
 abbrev pub is_timed_out : UnitView → Bool
@@ -53,6 +66,11 @@ result_of exit errors leaked u =
     if is_timed_out u
     then Timeout u.terms.slow.on_timeout
     else execution_result exit errors leaked u.terms.leak.result
+
+-- a result with what came of its environment file: a fault makes it a failure
+abbrev pub result_with : ScriptEnv → ExecutionResult → ExecutionResult
+result_with (Fault fault) result = ExecFail
+result_with _ result = result
 
 -- the status of the current attempt where it ends at this moment with this result
 abbrev pub status_at : ℕ → ExecutionResult → ChildExecutionOutput → UnitView → ExecuteStatus
@@ -79,12 +97,30 @@ ended now result output u = record u {
   statuses = u.statuses ++ status_at now result output u ∷ [];
   capture = begun uncaptured;
   exit = None;
+  leaked = false;
 }
 
--- a unit whose attempt ends at this moment by how its child ended, what was captured of it, and whether it left a
--- stream open for longer than its streams are waited for
+-- a unit whose attempt ends at this moment by how its child ended, what was captured of it, whether it left a stream open
+-- for longer than its streams are waited for, and what came of its environment file
+abbrev pub ended_with : ℕ → ScriptEnv → Option ChildExit → Bool → Captured → UnitView → UnitView
+ended_with now env exit leaked c u =
+    ended now (result_with env (result_of exit c.errors leaked u)) (Output c.output c.errors) (record u { env = env })
+
+-- whether its environment file is to be read where its child ended with this result
+abbrev pub awaits_env : ExecutionResult → UnitView → Bool
+awaits_env result u = u.terms.reads_env && is_success result
+
+-- it waits for that, with how its child ended and what was captured of it
+abbrev pub awaiting_env : Option ChildExit → Bool → Captured → UnitView → UnitView
+awaiting_env exit leaked c u =
+    record u { phase = EnvWait; timers = silent u.timers; capture = c; exit = exit; leaked = leaked }
+
+-- a unit whose child is done with at this moment: its attempt ends, or its environment file is to be read
 abbrev pub exited : ℕ → Option ChildExit → Bool → Captured → UnitView → UnitView
-exited now exit leaked c u = ended now (result_of exit c.errors leaked u) (Output c.output c.errors) u
+exited now exit leaked c u =
+    if awaits_env (result_of exit c.errors leaked u) u
+    then awaiting_env exit leaked c u
+    else ended now (result_of exit c.errors leaked u) (Output c.output c.errors) u
 
 -- a unit whose child ended so at this moment, and that waits for its streams from then on
 abbrev pub leaking : ℕ → Option ChildExit → Captured → UnitView → UnitView
@@ -121,23 +157,41 @@ pub record Row : Type 0 where
   pub sent : Option Message
   pub asked : Option Ask
 
--- the message of a unit that is done
-abbrev pub finish_message : UnitView → Message
-finish_message u = Finish (record { test = u.test; statuses = u.statuses; flaky = u.flaky })
+-- the status of a script, from that of its one attempt and what came of its environment file
+abbrev pub script_status : ExecuteStatus → ScriptEnv → SetupScriptExecuteStatus
+script_status status env = record {
+  result = status.result;
+  output = status.output;
+  slow = status.slow;
+  start = status.start;
+  time = status.time;
+  env = env;
+}
 
 -- a row that sends and asks nothing
 abbrev pub quiet : UnitView → Row
 quiet u = record { next = u; sent = None; asked = None }
-
--- it decides that it is done: what waits in its line is taken no more
-abbrev pub decided : UnitView → Row
-decided u = record { next = record u { phase = Over; line = [] }; sent = Some (finish_message u); asked = None }
 
 -- the last status of some
 abbrev pub last_status : List ExecuteStatus → Option ExecuteStatus
 last_status [] = None
 last_status (s ∷ []) = Some s
 last_status (s ∷ t ∷ ss) = last_status (t ∷ ss)
+
+-- the message of a unit that is done: a script tells its one attempt
+abbrev pub test_finish : TestRole → UnitView → Message
+test_finish t u = Finish (record { test = t.test; statuses = u.statuses; flaky = t.flaky })
+
+abbrev pub script_finish : ScriptRole → UnitView → ExecuteStatus → Message
+script_finish s u status = ScriptFinish (record { script = s.script; status = script_status status u.env })
+
+abbrev pub finish_message : UnitRole → UnitView → Option Message
+finish_message (roles.Test t) u = Some (test_finish t u)
+finish_message (roles.Script s) u = option_map (script_finish s u) (last_status u.statuses)
+
+-- it decides that it is done: what waits in its line is taken no more
+abbrev pub decided : UnitView → Row
+decided u = record { next = record u { phase = Over; line = [] }; sent = finish_message u.role u; asked = None }
 
 -- whether an attempt with this status passed
 abbrev pub has_passed : Option ExecuteStatus → Bool
@@ -152,8 +206,13 @@ has_retry u = not (has_passed (last_status u.statuses)) && nat_le u.attempt (ret
 abbrev pub next_delay : ℕ → UnitView → ℕ
 next_delay word u = delay_by u.terms.retries (u.attempt - 1) word
 
-abbrev pub failed_message : ℕ → UnitView → ExecuteStatus → Message
-failed_message delay u status = AttemptFailed (record { test = u.test; status = status; delay_next = delay })
+abbrev pub failed_message : ℕ → TestRole → ExecuteStatus → Message
+failed_message delay t status = AttemptFailed (record { test = t.test; status = status; delay_next = delay })
+
+-- a script isn't tried again, and has no such message
+abbrev pub failure_message : UnitRole → ℕ → Option ExecuteStatus → Option Message
+failure_message (roles.Test t) delay status = option_map (failed_message delay t) status
+failure_message (roles.Script s) delay status = None
 
 -- it decides that it is tried again, after a delay
 abbrev pub delayed : ℕ → ℕ → UnitView → Row
@@ -163,7 +222,7 @@ delayed now delay u = record {
     timers = record u.timers { wait = Some (set_at now delay) };
     delay = delay;
   };
-  sent = option_map (failed_message delay u) (last_status u.statuses);
+  sent = failure_message u.role delay (last_status u.statuses);
   asked = None;
 }
 
@@ -171,22 +230,31 @@ abbrev pub decide_row : ℕ → ℕ → UnitView → Row
 decide_row now word u = if has_retry u then delayed now (next_delay word u) u else decided u
 
 -- the delay is over, or is passed over: it is to be let go for its next attempt
-abbrev pub retry_message : UnitView → Message
-retry_message u = Retry (record { start = test_start u; attempt = u.attempt + 1; attempts = attempts u })
+abbrev pub test_retry : TestRole → UnitView → Message
+test_retry t u = Retry (record { start = test_start t u; attempt = u.attempt + 1; attempts = attempts u })
+
+abbrev pub retry_message : UnitRole → UnitView → Option Message
+retry_message (roles.Test t) u = Some (test_retry t u)
+retry_message (roles.Script s) u = None
 
 abbrev pub retried : UnitView → Row
 retried u = record {
   next = record u { phase = RetrySent; timers = record u.timers { wait = None } };
-  sent = Some (retry_message u);
+  sent = retry_message u.role u;
   asked = None;
 }
+
+-- the output of a child before its first piece, of the streams that are captured
+abbrev pub nothing_of : CapturedStreams → ChildOutput
+nothing_of (captured.Apart stdout stderr) = nothing_of_split stdout stderr
+nothing_of captured.Combined = outputs.Combined []
 
 -- it is let go at this moment: its stopwatch starts, and all else of an attempt begins anew
 abbrev pub let_go : ℕ → UnitView → UnitView
 let_go now u = record u {
   phase = Starting;
   timers = record { stopwatch = started_at now; slow = None; wait = None; slow_count = 0 };
-  capture = begun (nothing_of u.terms.strategy);
+  capture = begun (nothing_of u.terms.streams);
 }
 
 -- it is let go at this moment and its start is asked, at first or for its next attempt
@@ -212,17 +280,28 @@ started now u = record u {
 }
 
 -- the message that its attempt was slow so often: none where it is given no time to end by itself
+abbrev pub test_slow : ℕ → TestRole → UnitView → Message
+test_slow n t u = Slow (record {
+  test = t.test;
+  attempt = u.attempt;
+  attempts = attempts u;
+  elapsed_slow = slow_time u.terms.slow n;
+  terminates = is_out_of_time u.terms.slow n;
+})
+
+abbrev pub script_slow : ℕ → ScriptRole → UnitView → Message
+script_slow n s u = ScriptSlow (record {
+  script = s.script;
+  elapsed_slow = slow_time u.terms.slow n;
+  terminates = is_out_of_time u.terms.slow n;
+})
+
+abbrev pub slow_report : ℕ → UnitRole → UnitView → Message
+slow_report n (roles.Test t) u = test_slow n t u
+slow_report n (roles.Script s) u = script_slow n s u
+
 abbrev pub slow_message : ℕ → UnitView → Option Message
-slow_message n u =
-    if u.terms.slow.grace == 0
-    then None
-    else Some (Slow (record {
-      test = u.test;
-      attempt = u.attempt;
-      attempts = attempts u;
-      elapsed_slow = slow_time u.terms.slow n;
-      terminates = is_out_of_time u.terms.slow n;
-    }))
+slow_message n u = if u.terms.slow.grace == 0 then None else Some (slow_report n u.role u)
 
 -- it was slow so often at this moment: it goes on and is timed again
 abbrev pub slow_again : ℕ → ℕ → UnitView → Row
@@ -307,6 +386,10 @@ abbrev pub waited_row : ℕ → UnitTurn → UnitView → Row
 waited_row now Due u = quiet (exited now u.exit true u.capture u)
 waited_row now turn u = quiet (heard_with now (having_heard u.capture turn) u)
 
+-- its environment file was read, or could not be
+abbrev pub env_row : ℕ → ScriptEnv → UnitView → Row
+env_row now env u = quiet (ended_with now env u.exit u.leaked u.capture u)
+
 -- the rows, at a moment of the run's clock; of a turn that isn't taken in a phase nothing is meant by them
 abbrev pub row_at : ℕ → Phase → UnitTurn → UnitView → Row
 row_at now StartSent (Answered true) u = begun_row now u
@@ -322,6 +405,7 @@ row_at now Grace turn u = running_row now turn u
 row_at now KillWait turn u = running_row now turn u
 row_at now Leak Take u = take_row now Leak u.line u
 row_at now Leak turn u = waited_row now turn u
+row_at now EnvWait (Env input) u = env_row now (env_of input) u
 row_at now Deciding (Decide word) u = decide_row now word u
 row_at now Delay Due u = retried u
 row_at now Delay Take u = take_row now Delay u.line u
@@ -367,6 +451,7 @@ takes_at now KillWait u (WaitFailed _) = true
 takes_at now Leak u Due = is_due now u.timers.wait
 takes_at now Leak u Take = has_request u.line
 takes_at now Leak u turn = hears u.capture turn
+takes_at now EnvWait u (Env _) = true
 takes_at now Deciding u (Decide _) = true
 takes_at now Delay u Due = is_due now u.timers.wait
 takes_at now Delay u Take = has_request u.line

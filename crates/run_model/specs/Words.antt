@@ -4,7 +4,7 @@ use Rattle.std.specs.Prelude.{if◌then◌else◌, Option, Some, None, option_ma
 use Rattle.std.specs.List.{range_with_len, list_any}
 use Rattle.run_clock.specs.Sleep.{Sleep, set_at}
 use Rattle.run_commands.specs.Interceptor.{disables_timeouts}
-use Rattle.run_events.specs.Stats.{FinishedTest, nothing, total, last_or}
+use Rattle.run_events.specs.Stats.{FinishedTest, nothing, adds_of, script_adds, total_by, last_or}
 use Rattle.run_events.specs.Cancel.{greater}
 use Rattle.run_events.specs.declared.stats.RunStats.{RunStats}
 use Rattle.run_events.specs.declared.settings.Settings.{Settings}
@@ -19,8 +19,10 @@ use Rattle.run_events.specs.declared.cancel.CancelReason.TheVariants.{SecondSign
 use Rattle.run_events.specs.declared.events.ReporterEvent.{ReporterEvent}
 use Rattle.run_events.specs.declared.events.ReporterEvent.TheVariants.{Test}
 use Rattle.run_events.specs.declared.events.TestEventKind.{TestEventKind}
+use Rattle.run_events.specs.declared.events.TestEventKind.TheVariants.{SetupScriptStarted, SetupScriptFinished}
 use Rattle.run_events.specs.declared.events.TestEventKind.TheVariants.{TestStarted, TestFinished, TestSkipped}
 use Rattle.run_events.specs.declared.result.ExecuteStatus.{ExecuteStatus}
+use Rattle.run_events.specs.declared.result.ExecutionResult.{ExecutionResult}
 use Rattle.run_model.specs.declared.happening.Happening.{Happening}
 use Rattle.run_model.specs.declared.happening.UnitPart.{UnitPart}
 use Rattle.run_model.specs.declared.happening.UnitPart.TheVariants.{Joins, Acts}
@@ -28,7 +30,8 @@ use Rattle.run_model.specs.declared.unit_view.UnitView.{UnitView}
 use Rattle.run_model.specs.declared.dispatcher_view.Tally.{Tally}
 use Rattle.run_model.specs.declared.dispatcher_view.Causes.{Causes}
 use Rattle.run_model.specs.Unit.{row, reach}
-use Rattle.run_model.specs.Admission.{units_in, matched_in}
+use Rattle.run_model.specs.Environment.{number}
+use Rattle.run_model.specs.Admission.{scripts_in, tests_in, units_in, matched_in}
 
 -- how far a turn moves the clock, in nanoseconds
 abbrev pub ns_of : Turn → ℕ
@@ -165,15 +168,15 @@ causes_of p past = record {
   global = global_timer p past;
 }
 
--- a unit after a turn in which one had this part: an admitted test begins, and a turn of the unit's own is a row of the
+-- a unit after a turn in which one had this part: an admitted unit begins, and a turn of the unit's own is a row of the
 -- unit table
 abbrev pub unit_after : ℕ → ℕ → Option UnitPart → Option UnitView → Option UnitView
 unit_after now k None u = u
-unit_after now k (Some (Joins first)) u = if first.test.unit == k then Some first else u
+unit_after now k (Some (Joins first)) u = if number first == k then Some first else u
 unit_after now k (Some (Acts j turn)) u = if j == k then option_map (λ v. (row now turn v).next) u else u
 
 -- a unit stands where the unit table leads along its own turns, and has the requests in its line that were broadcast;
--- None is a test that wasn't admitted
+-- None is a unit that wasn't admitted
 abbrev pub unit_of : ℕ → List Happening → Option UnitView
 unit_of k [] = None
 unit_of k (x ∷ past) = reach x.request (unit_after x.moment k x.part (unit_of k past))
@@ -194,16 +197,26 @@ finished_test finish = record {
   flaky = finish.flaky;
 }
 
-abbrev pub finish_in : TestEventKind → Option FinishedTest
-finish_in (TestFinished event) = Some (finished_test event.finish)
+-- a finished unit, as the statistics count it: a test, or a script by its result
+pub data FinishedUnit : Type 0 where
+  a_test : FinishedTest → FinishedUnit
+  a_script : ExecutionResult → FinishedUnit
+
+abbrev pub adds_by : FinishedUnit → RunStats
+adds_by (a_test test) = adds_of test
+adds_by (a_script result) = script_adds result
+
+abbrev pub finish_in : TestEventKind → Option FinishedUnit
+finish_in (TestFinished event) = Some (a_test (finished_test event.finish))
+finish_in (SetupScriptFinished event) = Some (a_script event.status.result)
 finish_in _ = None
 
-abbrev pub finish_of : ReporterEvent → Option FinishedTest
+abbrev pub finish_of : ReporterEvent → Option FinishedUnit
 finish_of (Test event) = finish_in event.kind
 finish_of _ = None
 
--- the tests told finished, in order
-abbrev pub finished : List Happening → List FinishedTest
+-- the scripts and tests told finished, in order
+abbrev pub finished : List Happening → List FinishedUnit
 finished past = filter_map finish_of (told past)
 
 -- whether an event tells a skipped test
@@ -219,18 +232,23 @@ skips _ = false
 abbrev pub skipped : List Happening → ℕ
 skipped past = count_by skips (told past)
 
--- the statistics after so many skips and these finishes: a count of each kind over them, beside the number of
--- tests to run and the reason
-abbrev pub stats_after : Settings → Option CancelReason → ℕ → List FinishedTest → RunStats
+-- the statistics before any skip and finish: the numbers of scripts and of tests to run
+abbrev pub initial_stats : Settings → RunStats
+initial_stats p = record nothing { initial_run_count = matched_in p; setup_scripts_initial_count = scripts_in p }
+
+-- the statistics after so many skips and these finishes: a count of each kind over them, beside the numbers of scripts and
+-- of tests to run and the reason
+abbrev pub stats_after : Settings → Option CancelReason → ℕ → List FinishedUnit → RunStats
 stats_after p why skips finishes =
-    total (record nothing { initial_run_count = matched_in p; skipped = skips; cancel_reason = why }) finishes
+    total_by adds_by (record (initial_stats p) { skipped = skips; cancel_reason = why }) finishes
 
 -- the statistics of a run
 abbrev pub stats : Settings → List Happening → RunStats
 stats p past = stats_after p (reason past) (skipped past) (finished past)
 
--- whether an event tells the start, or the finish, of a test
+-- whether an event tells the start, or the finish, of unit k
 abbrev pub starts_in : ℕ → TestEventKind → Bool
+starts_in k (SetupScriptStarted event) = event.script.unit == k
 starts_in k (TestStarted event) = event.start.test.unit == k
 starts_in k _ = false
 
@@ -239,6 +257,7 @@ starts k (Test event) = starts_in k event.kind
 starts k _ = false
 
 abbrev pub finishes_in : ℕ → TestEventKind → Bool
+finishes_in k (SetupScriptFinished event) = event.script.unit == k
 finishes_in k (TestFinished event) = event.finish.test.unit == k
 finishes_in k _ = false
 
@@ -246,14 +265,21 @@ abbrev pub finishes : ℕ → ReporterEvent → Bool
 finishes k (Test event) = finishes_in k event.kind
 finishes k _ = false
 
--- a test runs where it was told started and not told finished
+-- a unit runs where it was told started and not told finished
 abbrev pub is_running : List ReporterEvent → ℕ → Bool
 is_running events k = list_any (starts k) events && not (list_any (finishes k) events)
 
--- how many tests run
+-- how many scripts run, and how many tests: units are numbered scripts first
+abbrev pub scripts_running : Settings → List Happening → ℕ
+scripts_running p past = count_by (is_running (told past)) (range_with_len 0 (scripts_in p))
+
 abbrev pub running : Settings → List Happening → ℕ
-running p past = count_by (is_running (told past)) (range_with_len 0 (units_in p))
+running p past = count_by (is_running (told past)) (range_with_len (scripts_in p) (tests_in p))
 
 -- what a dispatcher counts
 abbrev pub tally : Settings → List Happening → Tally
-tally p past = record { running = running p past; stats = stats p past }
+tally p past = record {
+  running = running p past;
+  scripts_running = scripts_running p past;
+  stats = stats p past;
+}

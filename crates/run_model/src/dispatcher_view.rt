@@ -18,6 +18,8 @@ pub struct Facts {
 pub struct Tally {
     /// How many tests were told started and not told finished.
     pub running: u32,
+    /// How many setup scripts were told started and not told finished.
+    pub scripts_running: u32,
     /// The statistics, with the reason for which the run is cancelled.
     pub stats: RunStats,
 }

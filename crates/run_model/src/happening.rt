@@ -6,7 +6,7 @@ use run_events::{Ask, CancelReason, Message, ReporterEvent, Request, Turn};
 /// Whose turn it was, and as what.
 #[derive(Drop)]
 pub enum UnitPart {
-    /// A test was admitted, as this unit.
+    /// A script or a test was admitted, as this unit.
     Joins(UnitView),
     /// A unit took a turn.
     Acts { unit: u32, turn: UnitTurn },

@@ -18,4 +18,6 @@ pub use entry::Entry;
 pub use happening::{Happening, UnitPart};
 pub use phase::Phase;
 pub use unit_turn::UnitTurn;
-pub use unit_view::{AttemptTerms, Surroundings, Timers, UnitView};
+pub use unit_view::{
+    AttemptTerms, CapturedStreams, ScriptRole, Surroundings, TestRole, Timers, UnitRole, UnitView,
+};

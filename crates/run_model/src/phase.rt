@@ -15,6 +15,8 @@ pub enum Phase {
     KillWait,
     /// Its child has ended, or the wait for it failed, and a captured stream of it isn't done.
     Leak,
+    /// Its child ended well, and its environment file is to be read: a setup script alone.
+    EnvWait,
     /// Its attempt has ended.
     Deciding,
     /// Its attempt failed, and a delay passes before the next.

@@ -1,5 +1,6 @@
 // What can happen to a unit.
 use run_capture::{Blob, Duplicate, Mem, Stream, Text};
+use run_commands::EnvInput;
 use run_events::ChildExit;
 use std::alloc::Global;
 
@@ -22,6 +23,8 @@ pub enum UnitTurn {
     StreamEnd { stream: Stream },
     /// Reading a captured stream of its child failed.
     ReadError { stream: Stream, error: Text },
+    /// Its environment file was read, or could not be.
+    Env { input: EnvInput },
     /// The timer of its phase is due.
     Due,
     /// It takes the oldest request of its line.
@@ -50,6 +53,9 @@ impl Duplicate for UnitTurn {
             UnitTurn::ReadError { stream, error } => UnitTurn::ReadError {
                 stream: *stream,
                 error: error.copy(alloc)?,
+            },
+            UnitTurn::Env { input } => UnitTurn::Env {
+                input: input.copy(alloc)?,
             },
             UnitTurn::Due => UnitTurn::Due,
             UnitTurn::Take => UnitTurn::Take,

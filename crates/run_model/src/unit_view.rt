@@ -1,18 +1,26 @@
 // A unit as the tables see it.
 use crate::Phase;
-use run_capture::{CaptureStrategy, ChildAccumulator, List, Text};
+use run_capture::{ChildAccumulator, List, Text};
 use run_clock::{PausableSleep, StopwatchStart};
 use run_events::{
-    ChildExit, ExecuteStatus, FlakyResult, LeakTimeout, Request, RetryPolicy, RunMode, SlowTimeout,
-    TestSlotAssignment, TestUnit,
+    ChildExit, ExecuteStatus, FlakyResult, LeakTimeout, Request, RetryPolicy, RunMode, ScriptEnv,
+    ScriptUnit, SlowTimeout, TestSlotAssignment, TestUnit,
 };
 use uuid::Uuid;
 
-/// By which settings each attempt of a test runs.
+/// Which streams of a child are captured.
+#[derive(Clone, Copy, Drop)]
+pub enum CapturedStreams {
+    /// Each by itself, where it is.
+    Apart { stdout: bool, stderr: bool },
+    /// Both as one.
+    Combined,
+}
+
+/// By which settings each attempt of a unit runs.
 #[derive(Clone, Copy, Drop)]
 pub struct AttemptTerms {
-    /// How the output of its child is captured.
-    pub strategy: CaptureStrategy,
+    pub streams: CapturedStreams,
     /// When it is slow, and what comes of that.
     pub slow: SlowTimeout,
     /// How long the streams of its ended child are waited for.
@@ -21,11 +29,13 @@ pub struct AttemptTerms {
     pub disables_timeouts: bool,
     /// The streams of its ended child aren't waited for: it runs under an interceptor.
     pub skips_leak_detection: bool,
+    /// Its environment file is read after a good end of its child: it is that of a setup script.
+    pub reads_env: bool,
     /// How often it is tried again where it fails, and after which delays.
     pub retries: RetryPolicy,
 }
 
-/// What is the same for the children of all tests of a run.
+/// What is the same for the children of all tests of a run, or of all its setup scripts.
 #[derive(Drop)]
 pub struct Surroundings {
     pub run_id: Uuid,
@@ -57,15 +67,38 @@ pub struct Timers {
     pub slow_count: u32,
 }
 
-/// A test with its attempts, as the unit table sees it.
-pub struct UnitView {
-    /// Its number and its name.
+/// A test as a unit.
+#[derive(Drop)]
+pub struct TestRole {
     pub test: TestUnit,
-    /// The runner of its platform, where there is one, and then its own words.
-    pub command: List<Text>,
+    /// The slot that it holds until it is over.
     pub slot: TestSlotAssignment,
     /// What a pass after a failed attempt counts as.
     pub flaky: FlakyResult,
+    /// The variables that its setup scripts handed on, with their values.
+    pub handed: List<(Text, Text)>,
+}
+
+/// A setup script as a unit.
+#[derive(Drop)]
+pub struct ScriptRole {
+    pub script: ScriptUnit,
+    /// Where it writes the variables that it hands on.
+    pub env_path: Text,
+}
+
+/// What a unit is.
+#[derive(Drop)]
+pub enum UnitRole {
+    Test(TestRole),
+    Script(ScriptRole),
+}
+
+/// A setup script, or a test with its attempts, as the unit table sees it.
+pub struct UnitView {
+    pub role: UnitRole,
+    /// Of a test the runner of its platform, where there is one, and then its own words.
+    pub command: List<Text>,
     pub around: Surroundings,
     pub terms: AttemptTerms,
     pub phase: Phase,
@@ -81,8 +114,12 @@ pub struct UnitView {
     pub latest: u64,
     /// What was captured of its child so far.
     pub capture: ChildAccumulator,
-    /// How its child ended, while a captured stream of it isn't done; none where the wait for it failed.
+    /// How its child ended, while its attempt goes on after that; none where the wait for it failed.
     pub exit: Option<ChildExit>,
+    /// Whether it left a captured stream open for too long, while its environment file is to be read.
+    pub leaked: bool,
+    /// What came of its environment file: it is unread of a test.
+    pub env: ScriptEnv,
     /// The attempts that have ended, in order.
     pub statuses: List<ExecuteStatus>,
 }
@@ -91,10 +128,8 @@ pub struct UnitView {
 impl Drop for UnitView {
     fn drop(self) {
         let UnitView {
-            test: _,
+            role: _,
             command: _,
-            slot: _,
-            flaky: _,
             around: _,
             terms: _,
             phase: _,
@@ -105,6 +140,8 @@ impl Drop for UnitView {
             latest: _,
             capture: _,
             exit: _,
+            leaked: _,
+            env: _,
             statuses: _,
         } = self;
     }

@@ -2,3 +2,4 @@ mod Told
 mod Cuts
 mod DelayLemmas
 mod AdmissionLemmas
+mod OutcomeLemmas

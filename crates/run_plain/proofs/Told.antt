@@ -5,15 +5,16 @@ use Rattle.std.proofs.lemmas.List.{append-nil}
 use Rattle.std.proofs.lemmas.List.Elements.{filter_map-append}
 use Rattle.std.proofs.lemmas.List.Sums.{sum_by_push, count_by-le-length}
 use Rattle.std.specs.List.{sum_by, cons_option}
-use Rattle.run_events.specs.Stats.{total_by, FinishedTest, AreBelow, nothing, adds_of}
-use Rattle.run_events.proofs.StatsLemmas.{total_push, total_below}
+use Rattle.run_events.specs.Stats.{total_by, AreBelow, nothing}
+use Rattle.run_events.proofs.StatsLemmas.{total_by_push, total_by_below, adds_of_small, script_adds_small}
 use Rattle.run_events.specs.declared.settings.Settings.{Settings}
+use Rattle.run_events.specs.declared.stats.RunStats.{RunStats}
 use Rattle.run_events.specs.declared.cancel.CancelReason.{CancelReason}
 use Rattle.run_events.specs.declared.events.ReporterEvent.{ReporterEvent}
 use Rattle.run_model.specs.Accounts.{account_of, news_of}
-use Rattle.run_model.specs.Admission.{is_matched, matched_in, tests_in}
-use Rattle.run_model.specs.Words.{finish_of, skips, stats_after}
-use Rattle.run_plain.specs.Told.{stats_told, counted, with_finish, with_skip}
+use Rattle.run_model.specs.Admission.{is_matched, matched_in, scripts_in, tests_in}
+use Rattle.run_model.specs.Words.{FinishedUnit, a_script, a_test, adds_by, finish_of, initial_stats, skips, stats_after}
+use Rattle.run_plain.specs.Told.{AreSmall, stats_told, counted, with_finish, with_skip}
 
 -- what one more item gives
 given_last : {X Y : Type 0} (f : X → Option Y) (x : X) (o : Option Y) → f x ≡ o
@@ -31,19 +32,19 @@ pub account_more : (k : ℕ) (events : List ReporterEvent) (e : ReporterEvent)
 account_more k events e = given_more (news_of k) events e
 
 -- the statistics after one more event
-finish_more : (p : Settings) (why : Option CancelReason) (skips : ℕ) (finishes : List FinishedTest)
-    (o : Option FinishedTest)
+finish_more : (p : Settings) (why : Option CancelReason) (skips : ℕ) (finishes : List FinishedUnit)
+    (o : Option FinishedUnit)
     → stats_after p why skips (finishes ++ option_to_list o) ≡ with_finish o (stats_after p why skips finishes)
 finish_more p why skips finishes None = ap (stats_after p why skips) (append-nil finishes)
-finish_more p why skips finishes (Some test) = total_push _ finishes test
+finish_more p why skips finishes (Some unit) = total_by_push adds_by _ finishes unit
 
-skip_more : (p : Settings) (why : Option CancelReason) (n m : ℕ) (finishes : List FinishedTest) (b : Bool)
+skip_more : (p : Settings) (why : Option CancelReason) (n m : ℕ) (finishes : List FinishedUnit) (b : Bool)
     → m ≡ n + cond b 1 0 → stats_after p why m finishes ≡ with_skip b (stats_after p why n finishes)
 unfolding total_by
 skip_more p why n m finishes false is =
     let same : m ≡ n = omega arith in ap (λ k. stats_after p why k finishes) same
 skip_more p why n m finishes true is =
-    let further : ℕ = sum_by (λ x. (adds_of x).skipped) finishes in
+    let further : ℕ = sum_by (λ x. (adds_by x).skipped) finishes in
     let more : m + further ≡ n + further + 1 = omega arith in
     ap (λ k. record (stats_after p why n finishes) { skipped = k }) more
 
@@ -58,7 +59,9 @@ stats_more p why events e =
 
 -- before the first event
 pub stats_first : (p : Settings) (why : Option CancelReason)
-    → record nothing { initial_run_count = matched_in p; cancel_reason = why } ≡ stats_told p why []
+    → record nothing
+    { initial_run_count = matched_in p; setup_scripts_initial_count = scripts_in p; cancel_reason = why }
+    ≡ stats_told p why []
 unfolding total_by
 stats_first p why = simp add-zero refl
 
@@ -71,12 +74,47 @@ given_fewer : {X Y : Type 0} (f : X → Option Y) (xs : List X) → length (filt
 given_fewer f [] = omega arith
 given_fewer f (x ∷ xs) = let more = fewer_more (f x) (filter_map f xs) (length xs) (given_fewer f xs) in omega arith
 
-pub stats_below : (p : Settings) (why : Option CancelReason) (events : List ReporterEvent)
-    → tests_in p + length events < 2 ^ 31 → AreBelow (2 ^ 32) (stats_told p why events)
-stats_below p why events few =
+-- a finished unit adds at most 1 to each count
+adds_small : (unit : FinishedUnit) → AreBelow 2 (adds_by unit)
+adds_small (a_test test) = adds_of_small test
+adds_small (a_script result) = script_adds_small result
+
+-- the counts after so many finishes, apart from the number of scripts to run
+few_but_scripts : (limit most : ℕ) (start : RunStats) (units : List FinishedUnit)
+    → AreBelow most (record start { setup_scripts_initial_count = 0 }) → most + length units ≤ limit → 0 < limit
+    → AreBelow limit (record (total_by adds_by start units) { setup_scripts_initial_count = 0 })
+unfolding total_by
+few_but_scripts limit most start units below room some =
+    let all =
+    total_by_below adds_by adds_small limit most (record start { setup_scripts_initial_count = 0 }) units below room in
+    record {
+      initial_run_count = all.initial_run_count;
+      finished_count = all.finished_count;
+      setup_scripts_initial_count = some;
+      setup_scripts_finished_count = all.setup_scripts_finished_count;
+      setup_scripts_passed = all.setup_scripts_passed;
+      setup_scripts_failed = all.setup_scripts_failed;
+      setup_scripts_exec_failed = all.setup_scripts_exec_failed;
+      setup_scripts_timed_out = all.setup_scripts_timed_out;
+      passed = all.passed;
+      passed_slow = all.passed_slow;
+      passed_timed_out = all.passed_timed_out;
+      flaky = all.flaky;
+      failed = all.failed;
+      failed_slow = all.failed_slow;
+      failed_timed_out = all.failed_timed_out;
+      leaky = all.leaky;
+      leaky_failed = all.leaky_failed;
+      exec_failed = all.exec_failed;
+      skipped = all.skipped;
+    }
+
+pub stats_few : (p : Settings) (why : Option CancelReason) (events : List ReporterEvent)
+    → tests_in p + length events < 2 ^ 31 → AreSmall (stats_told p why events)
+stats_few p why events few =
     let matched : matched_in p ≤ tests_in p = count_by-le-length is_matched p.plan.tests in
     let skipped : count_by skips events ≤ length events = count_by-le-length skips events in
     let finished : length (filter_map finish_of events) ≤ length events = given_fewer finish_of events in
-    total_below (2 ^ 32) (tests_in p + length events + 1)
-    (record nothing { initial_run_count = matched_in p; skipped = count_by skips events; cancel_reason = why })
-    (filter_map finish_of events) (search (arith, matched, skipped)) (omega arith)
+    few_but_scripts (2 ^ 32) (tests_in p + length events + 1)
+    (record (initial_stats p) { skipped = count_by skips events; cancel_reason = why })
+    (filter_map finish_of events) (search (arith, matched, skipped)) (omega arith) (omega arith)

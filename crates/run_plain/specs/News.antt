@@ -1,4 +1,4 @@
--- What is told of a test, as the definitions say it.
+-- What is told of a unit, as the definitions say it.
 use Rattle.run_model.specs.Accounts.{News as Defined, started, failed, retried, finished, skipped}
 use Rattle.run_plain.specs.declared.accounts.News.{News}
 use Rattle.run_plain.specs.declared.accounts.News.TheVariants.{Started, Failed, Retried, Finished, Skipped}

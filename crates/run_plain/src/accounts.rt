@@ -1,13 +1,14 @@
-// What is told of one test.
-ghost use Rattle.std.specs.Prelude.{◌≡◌, ◌++◌, map, option_map, option_to_list, IfOk};
-ghost use Rattle.run_model.specs.Accounts.{account_of, news_in, news_of};
+// What is told of one unit.
+ghost use Rattle.std.specs.Prelude.{◌≡◌, ◌++◌, ◌∷◌, [], map, option_map, option_to_list, IfOk};
+ghost use Rattle.run_model.specs.Accounts.{account_of, attempt_of, finished, news_in, news_of};
 ghost use Rattle.run_plain.specs.News.{defined};
 
+use crate::front::ahead;
 use run_capture::{Duplicate, List, Mem};
-use run_events::{ExecuteStatus, ReporterEvent, TestEventKind};
+use run_events::{ExecuteStatus, ReporterEvent, SetupScriptExecuteStatus, TestEventKind};
 use std::alloc::Global;
 
-/// What is told of a test, apart from moments and counts.
+/// What is told of a unit, apart from moments and counts.
 #[derive(Drop)]
 pub enum News {
     Started,
@@ -20,11 +21,42 @@ pub enum News {
     Skipped,
 }
 
+// The status of a script, as that of the one attempt that it has.
+fn attempt_of(alloc: Global, status: &SetupScriptExecuteStatus) -> Mem<ExecuteStatus>
+    ensures { IfOk result (λ s. s ≡ attempt_of status.now) }
+{
+    let output = status.output.copy(alloc)?;
+    Ok(ExecuteStatus {
+        attempt: 1,
+        attempts: 1,
+        delay: 0,
+        result: status.result,
+        output,
+        slow: status.slow,
+        start: status.start,
+        time: status.time,
+    })
+}
+
+// What the finish of a script tells: it has one attempt.
+fn script_news(alloc: Global, status: &SetupScriptExecuteStatus) -> Mem<News>
+    ensures { IfOk result (λ n. defined n ≡ finished (attempt_of status.now ∷ [])) }
+{
+    let attempt = attempt_of(alloc, status)?;
+    Ok(News::Finished(ahead(alloc, attempt, List::new())?))
+}
+
 // What an event tells of unit k.
 fn news_in(alloc: Global, k: u32, kind: &TestEventKind) -> Mem<Option<News>>
     ensures { IfOk result (λ n. option_map defined n ≡ news_in k kind.now) }
 {
     match kind {
+        TestEventKind::SetupScriptStarted(event) if event.script.unit == k => {
+            Ok(Some(News::Started))
+        }
+        TestEventKind::SetupScriptFinished(event) if event.script.unit == k => {
+            Ok(Some(script_news(alloc, &event.status)?))
+        }
         TestEventKind::TestStarted(event) if event.start.test.unit == k => Ok(Some(News::Started)),
         TestEventKind::TestAttemptFailedWillRetry(event) if event.failed.test.unit == k => {
             Ok(Some(News::Failed(event.failed.status.copy(alloc)?)))

@@ -1,39 +1,22 @@
 // What came of each attempt of a unit, by its own turns.
-ghost use Rattle.std.specs.Prelude.{◌≡◌, ◌+◌, ◌<◌, ◌^◌, ◌∷◌, ◌++◌, [], length, if◌then◌else◌, is_some, IfOk};
-ghost use Rattle.run_capture.specs.Captured.{read_error};
-ghost use Rattle.run_events.specs.Result.{execution_result};
-ghost use Rattle.run_events.specs.declared.result.ExecutionResult.TheVariants.{Timeout};
-ghost use Rattle.run_model.specs.Attempts.{
-  end_of,
-  ended_statuses,
-  error_in,
-  errors_of,
-  exit_of,
-  has_ended,
-  is_due_in,
-  is_retried,
-  moment_if,
-  none_goes_on,
-  output_by,
-  output_of,
-  result_by,
-  start_error_of,
-  status_of,
-};
+ghost use Rattle.std.specs.Prelude.{◌≡◌, ◌+◌, ◌<◌, ◌^◌, ◌∷◌, ◌++◌, [], length, if◌then◌else◌, IfOk};
+ghost use Rattle.run_model.specs.Attempts.{awaits_env_file, end_of, ended_statuses, has_ended, is_due_in, is_retried};
+ghost use Rattle.run_model.specs.Attempts.{is_settled, moment_if, none_goes_on, result_in, status_of};
 ghost use Rattle.run_model.specs.Backoff.{retry_count};
 ghost use Rattle.run_model.specs.Story.{begins_attempt, first_said, pieces};
-ghost use Rattle.run_model.specs.Timing.{has_leaked, has_timed_out};
 
 use crate::OwnTurn;
 use crate::delays::{delay_after, is_delay_due, is_delay_over, retry_count};
-use crate::results::{execution_result, passes};
-use crate::standing::{has_timed_out, is_wait_over, slow_count};
+use crate::env::{has_env_fault, is_env_read};
+use crate::outcomes::{child_output, child_result, is_refused};
+use crate::results::passes;
+use crate::standing::{is_wait_over, slow_count};
 use crate::story::{begins_attempt, count_attempts, newest_attempt};
-use crate::streams::{are_streams_done, output_of};
+use crate::streams::are_streams_done;
 use crate::timing::{has_leaked, is_timer_due_at, timer_of};
-use run_capture::{ChildFdError, Duplicate, List, Mem, Stream, Text};
-use run_events::{ChildExecutionOutput, ChildExit, ExecuteStatus, ExecutionResult};
-use run_model::{AttemptTerms, UnitTurn};
+use run_capture::{List, Mem};
+use run_events::{ExecuteStatus, ExecutionResult};
+use run_model::AttemptTerms;
 use std::alloc::Global;
 
 // When an attempt began: at the first of its turns that begins an attempt.
@@ -46,25 +29,29 @@ fn begun_at(piece: &[OwnTurn]) -> Option<u64>
     begun_at(before).or(begins_attempt(&turn.turn).then_some(turn.moment))
 }
 
-// Whether the start of its child was refused.
-fn is_refused(piece: &[OwnTurn]) -> bool
-    ensures { result ≡ is_some (start_error_of piece.now) }
+// Whether its child is done with.
+fn is_settled(terms: AttemptTerms, piece: &[OwnTurn]) -> bool
+    ensures { result ≡ is_settled terms piece.now }
 {
-    let [turn, before @ ..] = piece else {
-        return false;
-    };
-    is_refused(before) || matches!(turn.turn, UnitTurn::StartFailed { .. })
+    is_refused(piece)
+        || is_wait_over(piece)
+            && (terms.skips_leak_detection
+                || are_streams_done(terms.streams, piece)
+                || has_leaked(piece))
+}
+
+// Whether its environment file is to be read.
+fn awaits_env_file(terms: AttemptTerms, piece: &[OwnTurn]) -> bool
+    ensures { result ≡ awaits_env_file terms piece.now }
+{
+    terms.reads_env && passes(child_result(terms, piece)) && !is_env_read(piece)
 }
 
 // Whether it has ended.
 fn has_ended(terms: AttemptTerms, piece: &[OwnTurn]) -> bool
     ensures { result ≡ has_ended terms piece.now }
 {
-    is_refused(piece)
-        || is_wait_over(piece)
-            && (terms.skips_leak_detection
-                || are_streams_done(terms.strategy, piece)
-                || has_leaked(piece))
+    is_settled(terms, piece) && !awaits_env_file(terms, piece)
 }
 
 // When it ended: at the first turn after which it has ended.
@@ -77,101 +64,15 @@ fn ended_at(terms: AttemptTerms, piece: &[OwnTurn]) -> Option<u64>
     ended_at(terms, before).or(has_ended(terms, piece).then_some(turn.moment))
 }
 
-// The error that refused the start of its child, if one did.
-fn refusal_of(alloc: Global, piece: &[OwnTurn]) -> Mem<Option<Text>>
-    ensures { IfOk result (λ o. o ≡ start_error_of piece.now) }
+// The result of an attempt: a fault of its environment file makes it a failure.
+fn result_in(alloc: Global, terms: AttemptTerms, piece: &[OwnTurn]) -> Mem<ExecutionResult>
+    ensures { IfOk result (λ r. r ≡ result_in terms piece.now) }
 {
-    let [turn, before @ ..] = piece else {
-        return Ok(None);
-    };
-    match (refusal_of(alloc, before)?, &turn.turn) {
-        (None, UnitTurn::StartFailed { error }) => Ok(Some(error.copy(alloc)?)),
-        (earlier, _) => Ok(earlier),
+    if has_env_fault(alloc, piece)? {
+        Ok(ExecutionResult::ExecFail)
+    } else {
+        Ok(child_result(terms, piece))
     }
-}
-
-// How its child ended, if it did.
-fn exit_of(piece: &[OwnTurn]) -> Option<ChildExit>
-    ensures { result ≡ exit_of piece.now }
-{
-    let [turn, before @ ..] = piece else {
-        return None;
-    };
-    match (exit_of(before), &turn.turn) {
-        (None, UnitTurn::Exit { exit }) => Some(*exit),
-        (earlier, _) => earlier,
-    }
-}
-
-// The error of reading a stream.
-fn read_error(stream: Stream, text: Text) -> ChildFdError
-    ensures { result ≡ read_error stream text }
-{
-    match stream {
-        Stream::Stdout => ChildFdError::ReadStdout(text),
-        Stream::Stderr => ChildFdError::ReadStderr(text),
-        Stream::Combined => ChildFdError::ReadCombined(text),
-    }
-}
-
-// The error that a turn is, of reading a stream or of the wait for its child.
-fn error_in(alloc: Global, turn: &UnitTurn) -> Mem<Option<ChildFdError>>
-    ensures { IfOk result (λ o. o ≡ error_in turn.now) }
-{
-    match turn {
-        UnitTurn::ReadError { stream, error } => Ok(Some(read_error(*stream, error.copy(alloc)?))),
-        UnitTurn::WaitFailed { error } => Ok(Some(ChildFdError::Wait(error.copy(alloc)?))),
-        _ => Ok(None),
-    }
-}
-
-// Its errors but that of its start, in order.
-fn errors_of(alloc: Global, piece: &[OwnTurn]) -> Mem<List<ChildFdError>>
-    ensures { IfOk result (λ l. l ≡ errors_of piece.now) }
-{
-    let [turn, before @ ..] = piece else {
-        return Ok(List::new());
-    };
-    let mut errors = errors_of(alloc, before)?;
-    if let Some(error) = error_in(alloc, &turn.turn)? {
-        errors.push(alloc, error)?;
-    }
-    Ok(errors)
-}
-
-// The result of an attempt whose start was not refused.
-fn result_of(terms: AttemptTerms, piece: &[OwnTurn], errors: &[ChildFdError]) -> ExecutionResult
-    ensures { result ≡ (if has_timed_out terms.slow piece.now then Timeout terms.slow.on_timeout
-        else execution_result (exit_of piece.now) errors.now (has_leaked piece.now) terms.leak.result) }
-{
-    if has_timed_out(terms.slow, piece) {
-        return ExecutionResult::Timeout {
-            result: terms.slow.on_timeout,
-        };
-    }
-    execution_result(exit_of(piece), errors, has_leaked(piece), terms.leak.result)
-}
-
-// The result of an attempt, and what came of its child.
-fn outcome_of(
-    alloc: Global,
-    terms: AttemptTerms,
-    piece: &[OwnTurn],
-) -> Mem<(ExecutionResult, ChildExecutionOutput)>
-    ensures result { IfOk result (λ pair. pair.0 ≡ result_by terms piece.now (start_error_of piece.now)) }
-    ensures output { IfOk result (λ pair. pair.1 ≡ output_by (start_error_of piece.now)
-        (output_of terms.strategy piece.now) (errors_of piece.now)) }
-{
-    if let Some(error) = refusal_of(alloc, piece)? {
-        return Ok((
-            ExecutionResult::ExecFail,
-            ChildExecutionOutput::StartError(error),
-        ));
-    }
-    let output = output_of(alloc, terms.strategy, piece)?;
-    let errors = errors_of(alloc, piece)?;
-    let outcome = result_of(terms, piece, errors.as_slice());
-    Ok((outcome, ChildExecutionOutput::Output { output, errors }))
 }
 
 // The status of an attempt of this number, after this delay.
@@ -185,7 +86,8 @@ fn status_of(
     requires few { retry_count terms.retries + 1 < 2 ^ 32 }
     ensures { IfOk result (λ s. s ≡ status_of terms delay attempt piece.now) }
 {
-    let (outcome, output) = outcome_of(alloc, terms, piece)?;
+    let outcome = result_in(alloc, terms, piece)?;
+    let output = child_output(alloc, terms.streams, piece)?;
     let start = begun_at(piece).unwrap_or(0);
     let end = ended_at(terms, piece).unwrap_or(0);
     Ok(ExecuteStatus {
@@ -245,12 +147,12 @@ pub fn statuses_of(
 fn is_retried(alloc: Global, terms: AttemptTerms, attempt: u32, piece: &[OwnTurn]) -> Mem<bool>
     ensures { IfOk result (λ retried. retried ≡ is_retried terms attempt piece.now) }
 {
-    let (outcome, _) = outcome_of(alloc, terms, piece)?;
+    let outcome = result_in(alloc, terms, piece)?;
     Ok(!passes(outcome) && attempt <= retry_count(terms.retries))
 }
 
 /// Whether the timer of a unit is due at a moment, by its story, the newest turn first: that of its attempt, or of the
-/// delay before the next. An attempt that has ended has none until it is decided that it is tried again.
+/// delay before the next. An attempt whose child is done with has none until it is decided that it is tried again.
 pub fn is_due(alloc: Global, terms: AttemptTerms, now: u64, story: &[OwnTurn]) -> Mem<bool>
     requires short { length story.now < 2 ^ 32 }
     ensures { IfOk result (λ due. due ≡ is_due_in terms now (pieces story.now)) }
@@ -260,7 +162,7 @@ pub fn is_due(alloc: Global, terms: AttemptTerms, now: u64, story: &[OwnTurn]) -
     };
     if newest.after.is_empty() {
         let timer = timer_of(terms, newest.piece);
-        return Ok(!has_ended(terms, newest.piece) && is_timer_due_at(now, timer));
+        return Ok(!is_settled(terms, newest.piece) && is_timer_due_at(now, timer));
     }
     let attempt = count_attempts(newest.before) as u32 + 1;
     let retried = is_retried(alloc, terms, attempt, newest.piece)?;

@@ -1,4 +1,4 @@
-// What becomes of a test in a run that is over.
+// What becomes of a unit in a run that is over.
 ghost use Rattle.std.specs.Prelude.{◌≡◌, ◌↔◌, ◌∷◌, ◌++◌, [], false, map, not, IfOk, IsTrue};
 ghost use Rattle.std.specs.List.{list_all};
 ghost use Rattle.run_events.specs.Result.{is_success};
@@ -52,7 +52,7 @@ fn failures(alloc: Global, statuses: &[ExecuteStatus]) -> Mem<List<News>>
     }
 }
 
-// What is told of attempts the last of which ended the test.
+// What is told of attempts the last of which ended the unit.
 fn finished(alloc: Global, statuses: &List<ExecuteStatus>) -> Mem<List<News>>
     ensures { IfOk result (λ l. map defined l ≡ retold statuses.now ++ finished statuses.now ∷ []) }
 {
@@ -61,7 +61,7 @@ fn finished(alloc: Global, statuses: &List<ExecuteStatus>) -> Mem<List<News>>
     with_retries(alloc, statuses.as_slice(), last)
 }
 
-// What is told of a test that was let go: it was left after its attempts, or it finished with them.
+// What is told of a unit that was let go: it was left after its attempts, or it finished with them.
 fn started(alloc: Global, was_left: bool, statuses: &List<ExecuteStatus>) -> Mem<List<News>>
     ensures { IfOk result (λ l. map defined l ≡ account false false was_left statuses.now) }
 {
@@ -73,7 +73,7 @@ fn started(alloc: Global, was_left: bool, statuses: &List<ExecuteStatus>) -> Mem
     ahead(alloc, News::Started, told)
 }
 
-/// The account of a test's fate: all that is told of it.
+/// The account of a unit's fate: all that is told of it.
 pub fn account(
     alloc: Global,
     mismatched: bool,

@@ -1,16 +1,18 @@
 //! Definitions of a run that a reader could doubt, as plain, slow functions over plain data: the statistics and the
 //! account that a list of told events comes to, a fate's account and the attempt law, the weights in use, the
 //! admission's candidate and its slots, and the attempts of a unit, with their timers, by its own turns. Each answers
-//! the defined value. None calls the code that it is compared with, so that tests and readers can run the definitions
-//! beside the engine.
+//! the defined value. None calls the code that it is compared with, but for the reading of an environment file, so that
+//! tests and readers can run the definitions beside the engine.
 #![tactic(auto)]
 
 mod accounts;
 mod admission;
 mod attempts;
 mod delays;
+mod env;
 mod fates;
 mod front;
+mod outcomes;
 mod results;
 mod slots;
 mod standing;

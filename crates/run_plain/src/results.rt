@@ -1,8 +1,8 @@
 // Results of attempts.
-ghost use Rattle.std.specs.Prelude.{◌≡◌};
+ghost use Rattle.std.specs.Prelude.{◌≡◌, [], if◌then◌else◌};
 ghost use Rattle.run_events.specs.Result.{execution_result, exit_result, is_success};
+ghost use Rattle.run_events.specs.declared.result.ExecutionResult.TheVariants.{ExecFail};
 
-use run_capture::ChildFdError;
 use run_events::{ChildExit, ExecutionResult, FailureStatus, LeakTimeoutResult, SlowTimeoutResult};
 
 // Whether an attempt with this result passed.
@@ -38,14 +38,14 @@ fn exit_result(exit: ChildExit, leaked: bool, leak: LeakTimeoutResult) -> Execut
 /// wasn't seen to end, and at an error; else it is as its child ended.
 pub fn execution_result(
     exit: Option<ChildExit>,
-    errors: &[ChildFdError],
+    has_errors: bool,
     leaked: bool,
     leak: LeakTimeoutResult,
 ) -> ExecutionResult
-    ensures { result ≡ execution_result exit errors.now leaked leak }
+    ensures { result ≡ (if has_errors then ExecFail else execution_result exit [] leaked leak) }
 {
-    match (exit, errors) {
-        (Some(exit), []) => exit_result(exit, leaked, leak),
+    match exit {
+        Some(exit) if !has_errors => exit_result(exit, leaked, leak),
         _ => ExecutionResult::ExecFail,
     }
 }

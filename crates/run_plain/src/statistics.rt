@@ -1,10 +1,11 @@
 // The statistics that a list of told events comes to.
 ghost use Rattle.std.specs.Prelude.{◌≡◌, ◌+◌, ◌<◌, ◌≤◌, ◌^◌, [], length, map, filter_map, count_by, true};
-ghost use Rattle.run_events.specs.Stats.{AreBelow, adds_of, failed_adds, last_adds, last_or, nothing, plus, test_adds};
+ghost use Rattle.run_events.specs.Stats.{AreBelow, adds_of, failed_adds, last_adds, last_or, nothing, plus};
+ghost use Rattle.run_events.specs.Stats.{script_adds, script_finished, test_adds};
 ghost use Rattle.run_events.specs.declared.result.ExecutionResult.TheVariants.{ExecFail, Pass};
 ghost use Rattle.run_model.specs.Admission.{is_matched, matched_in, tests_in};
-ghost use Rattle.run_model.specs.Words.{finished_test, last_slow, stats_after};
-ghost use Rattle.run_plain.specs.Told.{StatsAreOfToldEvents, counted, stats_told, with_skip};
+ghost use Rattle.run_model.specs.Words.{finished_test, last_slow};
+ghost use Rattle.run_plain.specs.Told.{AreSmall, StatsAreOfToldEvents, counted, stats_told, with_skip};
 
 use crate::results::passes;
 use run_events::{
@@ -48,6 +49,7 @@ fn failed_adds(slow: bool) -> RunStats
 fn last_adds(retried: bool, slow: bool, last: ExecutionResult) -> RunStats
     ensures counts { result ≡ last_adds retried slow last }
     ensures small { AreBelow 2 result }
+    ensures none { result.setup_scripts_initial_count ≡ 0 }
 {
     match last {
         ExecutionResult::Pass => passed_adds(retried, slow),
@@ -87,6 +89,7 @@ fn last_adds(retried: bool, slow: bool, last: ExecutionResult) -> RunStats
 fn test_adds(flaky: FlakyResult, retried: bool, slow: bool, last: ExecutionResult) -> RunStats
     ensures counts { result ≡ test_adds flaky retried slow last }
     ensures small { AreBelow 2 result }
+    ensures none { result.setup_scripts_initial_count ≡ 0 }
 {
     if matches!(flaky, FlakyResult::Fail) && retried && passes(last) {
         failed_adds(slow)
@@ -122,6 +125,7 @@ fn is_last_slow(statuses: &[ExecuteStatus]) -> bool
 fn adds_of(finish: &TestFinish) -> RunStats
     ensures counts { result ≡ adds_of (finished_test finish.now) }
     ensures small { AreBelow 2 result }
+    ensures none { result.setup_scripts_initial_count ≡ 0 }
 {
     let statuses = finish.statuses.as_slice();
     let retried = statuses.len() > 1;
@@ -129,11 +133,50 @@ fn adds_of(finish: &TestFinish) -> RunStats
     test_adds(finish.flaky, retried, is_last_slow(statuses), last)
 }
 
+// What each finished setup script adds.
+fn script_finished() -> RunStats
+    ensures { result ≡ script_finished }
+{
+    RunStats {
+        setup_scripts_finished_count: 1,
+        ..RunStats::nothing()
+    }
+}
+
+// What a finished setup script adds, by its result.
+fn script_adds(ended: ExecutionResult) -> RunStats
+    ensures counts { result ≡ script_adds ended }
+    ensures small { AreBelow 2 result }
+    ensures none { result.setup_scripts_initial_count ≡ 0 }
+{
+    match ended {
+        ExecutionResult::Timeout {
+            result: SlowTimeoutResult::Fail,
+        } => RunStats {
+            setup_scripts_timed_out: 1,
+            ..script_finished()
+        },
+        ExecutionResult::ExecFail => RunStats {
+            setup_scripts_exec_failed: 1,
+            ..script_finished()
+        },
+        _ if passes(ended) => RunStats {
+            setup_scripts_passed: 1,
+            ..script_finished()
+        },
+        _ => RunStats {
+            setup_scripts_failed: 1,
+            ..script_finished()
+        },
+    }
+}
+
 // The sum of statistics that are small, with the cancel reason of the first.
 #[tactic(auto, unfolding(run_events::specs::Stats::plus))]
 fn plus(a: RunStats, b: RunStats) -> RunStats
-    requires below { AreBelow (2 ^ 32) a }
+    requires few { AreSmall a }
     requires small { AreBelow 2 b }
+    requires none { b.setup_scripts_initial_count ≡ 0 }
     ensures { result ≡ plus a b }
 {
     RunStats {
@@ -163,7 +206,7 @@ fn plus(a: RunStats, b: RunStats) -> RunStats
 
 // The statistics after one more skip.
 fn with_skip(stats: RunStats) -> RunStats
-    requires { AreBelow (2 ^ 32) stats }
+    requires { AreSmall stats }
     ensures { result ≡ with_skip true stats }
 {
     RunStats {
@@ -174,11 +217,14 @@ fn with_skip(stats: RunStats) -> RunStats
 
 // The statistics after one more event.
 fn counted(stats: RunStats, event: &ReporterEvent) -> RunStats
-    requires { AreBelow (2 ^ 32) stats }
+    requires { AreSmall stats }
     ensures { result ≡ counted stats event.now }
 {
     match event {
         ReporterEvent::Test(event) => match &event.kind {
+            TestEventKind::SetupScriptFinished(event) => {
+                plus(stats, script_adds(event.status.result))
+            }
             TestEventKind::TestFinished(event) => plus(stats, adds_of(&event.finish)),
             TestEventKind::TestSkipped(_) => with_skip(stats),
             _ => stats,
@@ -207,6 +253,7 @@ fn stats_at_first(settings: &Settings, reason: Option<CancelReason>) -> RunStats
 {
     RunStats {
         initial_run_count: matched_in(settings) as u64,
+        setup_scripts_initial_count: settings.plan.scripts.len() as u64,
         cancel_reason: reason,
         ..RunStats::nothing()
     }

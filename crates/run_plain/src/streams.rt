@@ -1,14 +1,14 @@
 // What a unit's child wrote to its streams, by the turns of an attempt, the newest first.
 ghost use Rattle.std.specs.Prelude.{◌≡◌, ◌++◌, IfOk, OnOk};
 ghost use Rattle.run_capture.specs.Heard.{is_stream};
-ghost use Rattle.run_capture.specs.declared.test_output.CaptureStrategy.TheVariants as strategies;
 ghost use Rattle.run_capture.specs.declared.test_output.ChildOutput.TheVariants.{Split};
-ghost use Rattle.run_model.specs.Attempts.{are_streams_done, bytes_in, bytes_of, ends_stream, is_stream_done};
-ghost use Rattle.run_model.specs.Attempts.{output_of};
+ghost use Rattle.run_model.specs.Attempts.{are_streams_done, bytes_in, bytes_of, bytes_where, ends_stream};
+ghost use Rattle.run_model.specs.Attempts.{is_stream_done, output_of};
+ghost use Rattle.run_model.specs.declared.unit_view.CapturedStreams.TheVariants as captured;
 
 use crate::OwnTurn;
-use run_capture::{Blob, CaptureStrategy, ChildOutput, ChildSplitOutput, Mem, Stream};
-use run_model::UnitTurn;
+use run_capture::{Blob, ChildOutput, ChildSplitOutput, Mem, Stream};
+use run_model::{CapturedStreams, UnitTurn};
 use std::alloc::Global;
 
 // Whether two streams are one.
@@ -47,26 +47,40 @@ fn bytes_of(alloc: Global, stream: Stream, piece: &[OwnTurn]) -> Mem<Blob>
     Ok(bytes)
 }
 
-// What was written to both streams, each by itself.
-fn split_of(alloc: Global, piece: &[OwnTurn]) -> Mem<ChildSplitOutput>
-    ensures { IfOk result (λ split. Split split ≡ output_of strategies.Split piece.now) }
+// The same where that is captured.
+fn bytes_where(
+    alloc: Global,
+    is_captured: bool,
+    stream: Stream,
+    piece: &[OwnTurn],
+) -> Mem<Option<Blob>>
+    ensures { IfOk result (λ b. b ≡ bytes_where is_captured stream piece.now) }
 {
-    let stdout = bytes_of(alloc, Stream::Stdout, piece)?;
-    let stderr = bytes_of(alloc, Stream::Stderr, piece)?;
-    Ok(ChildSplitOutput {
-        stdout: Some(stdout),
-        stderr: Some(stderr),
-    })
+    if is_captured {
+        Ok(Some(bytes_of(alloc, stream, piece)?))
+    } else {
+        Ok(None)
+    }
 }
 
-/// The output of an attempt, of each stream that is captured by this strategy.
-pub fn output_of(alloc: Global, strategy: CaptureStrategy, piece: &[OwnTurn]) -> Mem<ChildOutput>
-    ensures { IfOk result (λ output. output ≡ output_of strategy piece.now) }
+// What was written to both streams, each by itself, where it is captured.
+fn split_of(alloc: Global, stdout: bool, stderr: bool, piece: &[OwnTurn]) -> Mem<ChildSplitOutput>
+    ensures { IfOk result (λ split. Split split ≡ output_of (captured.Apart stdout stderr) piece.now) }
 {
-    match strategy {
-        CaptureStrategy::None => Ok(ChildOutput::uncaptured()),
-        CaptureStrategy::Split => Ok(ChildOutput::Split(split_of(alloc, piece)?)),
-        CaptureStrategy::Combined => Ok(ChildOutput::Combined {
+    let stdout = bytes_where(alloc, stdout, Stream::Stdout, piece)?;
+    let stderr = bytes_where(alloc, stderr, Stream::Stderr, piece)?;
+    Ok(ChildSplitOutput { stdout, stderr })
+}
+
+/// The output of an attempt, of each captured stream.
+pub fn output_of(alloc: Global, streams: CapturedStreams, piece: &[OwnTurn]) -> Mem<ChildOutput>
+    ensures { IfOk result (λ output. output ≡ output_of streams piece.now) }
+{
+    match streams {
+        CapturedStreams::Apart { stdout, stderr } => {
+            Ok(ChildOutput::Split(split_of(alloc, stdout, stderr, piece)?))
+        }
+        CapturedStreams::Combined => Ok(ChildOutput::Combined {
             output: bytes_of(alloc, Stream::Combined, piece)?,
         }),
     }
@@ -93,15 +107,15 @@ fn is_stream_done(stream: Stream, piece: &[OwnTurn]) -> bool
     ends_stream(stream, &turn.turn) || is_stream_done(stream, before)
 }
 
-/// Whether each stream is done that is captured by this strategy.
-pub fn are_streams_done(strategy: CaptureStrategy, piece: &[OwnTurn]) -> bool
-    ensures { result ≡ are_streams_done strategy piece.now }
+/// Whether each captured stream is done.
+pub fn are_streams_done(streams: CapturedStreams, piece: &[OwnTurn]) -> bool
+    ensures { result ≡ are_streams_done streams piece.now }
 {
-    match strategy {
-        CaptureStrategy::None => true,
-        CaptureStrategy::Split => {
-            is_stream_done(Stream::Stdout, piece) && is_stream_done(Stream::Stderr, piece)
+    match streams {
+        CapturedStreams::Apart { stdout, stderr } => {
+            (!stdout || is_stream_done(Stream::Stdout, piece))
+                && (!stderr || is_stream_done(Stream::Stderr, piece))
         }
-        CaptureStrategy::Combined => is_stream_done(Stream::Combined, piece),
+        CapturedStreams::Combined => is_stream_done(Stream::Combined, piece),
     }
 }

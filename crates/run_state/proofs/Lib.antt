@@ -1,4 +1,6 @@
 pub mod CountedLemmas
 pub mod DeedLemmas
+pub mod PlaceLemmas
+pub mod ScriptLemmas
 pub mod SeatLemmas
 pub mod StartLemmas

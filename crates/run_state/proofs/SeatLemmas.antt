@@ -1,14 +1,15 @@
 -- What the tests hold of the limits, as the units change.
-use Rattle.std.proofs.Common.{◌≡◌, ℕ, ◌+◌, ◌-◌, ◌<◌, ◌≤◌, nat_le, List, length, get_or, set, map, drop, Bool, true}
-use Rattle.std.proofs.Common.{false}
+use Rattle.std.proofs.Common.{◌≡◌, ◌⊎◌, inl, inr, ℕ, ◌+◌, ◌-◌, ◌<◌, ◌≤◌, nat_le, List, length, get_or, set, map, drop}
+use Rattle.std.proofs.Common.{Bool, true, false}
 use Rattle.std.proofs.Common.{if◌then◌else◌, Option, Some, None, option_map, option_and_then, slice_get, is_none}
 use Rattle.std.proofs.Common.{is_some, refl, ap, sym}
 use Rattle.std.proofs.Common.{subst, ◌∙◌, arith}
-use Rattle.std.proofs.lemmas.Option.{same_Some, slice_get-map}
+use Rattle.std.proofs.lemmas.Option.{same_Some, slice_get-map, slice_get_cases, slice_get_within}
 use Rattle.std.proofs.lemmas.List.{drop-set-lt, drop-set-add, map-set, get_or-drop, get_or-map, length-drop}
 use Rattle.std.proofs.Math.Seq.{map-set_same}
 use Rattle.run_events.specs.declared.settings.Settings.{Settings}
 use Rattle.run_admission.specs.declared.seat.Seat.TheVariants.{InUse, Gone}
+use Rattle.run_events.specs.declared.plan.PlanScript.{PlanScript}
 use Rattle.run_events.specs.declared.plan.PlanTest.{PlanTest}
 use Rattle.run_admission.specs.declared.seat.Admitted.{Admitted}
 use Rattle.run_admission.specs.declared.seat.Admitted.TheVariants.{Skip as Skipped, Run}
@@ -16,12 +17,16 @@ use Rattle.run_admission.specs.declared.seat.Seat.{Seat}
 use Rattle.run_admission.specs.InUse.{is_in_use, is_test_in_use, admitted, seats_after, after_admission}
 use Rattle.run_admission.specs.InUse.{claim_of, group_of, free_group_slot}
 use Rattle.run_model.specs.declared.unit_turn.UnitTurn.{UnitTurn}
+use Rattle.run_model.specs.declared.unit_view.UnitRole.{UnitRole}
+use Rattle.run_model.specs.declared.unit_view.UnitRole.TheVariants as roles
 use Rattle.run_model.specs.declared.unit_view.UnitView.{UnitView}
 use Rattle.run_model.specs.declared.happening.UnitPart.TheVariants.{Acts}
 use Rattle.run_model.specs.Unit.{at_moment, row}
-use Rattle.run_model.specs.Admission.{is_last, scripts_in, seat_of, limits_of, newcomer_as, test_of, Newcomer}
+use Rattle.run_model.specs.Admission.{is_last, scripts_in, seat_as, seat_of, limits_of, newcomer_as, test_of, Newcomer}
 use Rattle.run_model.specs.Admission.{newcomer_skipped, skipped_newcomer, started_newcomer, skipped_view, first_view}
-use Rattle.run_model.specs.Admission.{slots_of, group_slot, unit_of_test, newcomer, scripts_over}
+use Rattle.run_model.specs.Admission.{slots_of, group_slot, handed_to, unit_of_test, newcomer, open_script, scripts_of}
+use Rattle.run_model.specs.Admission.{scripts_over, script_newcomer, script_view}
+use Rattle.run_model.specs.Environment.{number}
 use Rattle.run_model.specs.Board.{units_after}
 use Rattle.run_model.specs.Turns.{taken_by}
 use Rattle.run_laws.proofs.Newcomers.{becomes}
@@ -29,6 +34,8 @@ use Rattle.run_laws.proofs.Rows.{row_keeps}
 use Rattle.run_laws.proofs.BoardSeats.{seat_going}
 use Rattle.run_laws.proofs.Admitted.{HasFreeSlots, admitted_is}
 use Rattle.run_state.specs.Held.{given_back, units_with}
+use Rattle.run_state.specs.Placed.{is_test}
+use Rattle.run_state.proofs.ScriptLemmas.{open_first}
 
 -- the units after one took a turn
 pub acted : (now k : ℕ) (turn : UnitTurn) (us : List (Option UnitView)) (u : UnitView) → get_or us k None ≡ Some u
@@ -39,7 +46,7 @@ acted now k turn us u at =
 
 -- a unit that is over holds no slots
 pub seat_over : (u : UnitView) → is_last u.phase ≡ true → seat_of (Some u) ≡ Gone
-seat_over u e = ap (λ b. if b then Gone else InUse u.slot.global (option_map (λ g. g.slot) u.slot.group)) e
+seat_over u e = ap (λ b. if b then Gone else seat_as u.role) e
 
 -- the seats after a unit was set: that of a test is another, and a script has none
 pub seats-set : (p : Settings) (us : List (Option UnitView)) (j : ℕ) (v : Option UnitView)
@@ -79,9 +86,7 @@ pub limits-acted : (p : Settings) (us : List (Option UnitView)) (k now : ℕ) (t
 limits-acted p us k now turn u false at going ends =
     ap (λ seats. record (limits_of p us) { seats = seats }) (seats-going p us k u (row now turn u).next at
     (seat_going (row now turn u).next ends
-    ∙ ap (λ s. InUse s.global (option_map (λ g. g.slot) s.group))
-    (row_keeps now u.phase turn (at_moment now u) refl).slot
-    ∙ sym (seat_going u going)))
+    ∙ ap seat_as (row_keeps now u.phase turn (at_moment now u) refl).role ∙ sym (seat_going u going)))
 limits-acted p us k now turn u true at going ends = by_kind (nat_le (scripts_in p) k) refl
   where
     v : UnitView
@@ -103,15 +108,20 @@ limits-acted p us k now turn u true at going ends = by_kind (nat_le (scripts_in 
 
 -- a test that isn't over is in use
 pub test_in_use : (p : Settings) (us : List (Option UnitView)) (k : ℕ) (u : UnitView) → get_or us k None ≡ Some u
-    → is_last u.phase ≡ false → k < length us → scripts_in p ≤ k
+    → is_last u.phase ≡ false → is_test u.role ≡ true → k < length us → scripts_in p ≤ k
     → is_test_in_use (limits_of p us) (k - scripts_in p) ≡ true
-test_in_use p us k u at going inside le =
+test_in_use p us k u at going role inside le =
     let j : ℕ = k - scripts_in p in
     let here : scripts_in p + j ≡ k = omega arith in
     let within : j < length (drop (scripts_in p) us) = omega (arith, length-drop (scripts_in p) us) in
     ap is_in_use (get_or-map seat_of (drop (scripts_in p) us) j None Gone within
     ∙ ap seat_of (get_or-drop (scripts_in p) us j None ∙ ap (λ i. get_or us i None) here ∙ at)
     ∙ seat_going u going)
+    ∙ uses u.role role
+  where
+    uses : (role : UnitRole) → is_test role ≡ true → is_in_use (seat_as role) ≡ true
+    uses (roles.Test t) e = refl
+    uses (roles.Script s) e = cc
 
 -- a slot within a group is kept with the name of the group
 slot-kept : (slot : Option ℕ) (group : Option (List ℕ)) → (group ≡ None → slot ≡ None)
@@ -134,7 +144,7 @@ no_slot p us j test slot planned is none =
 
 -- what is held of the limits after a test was admitted
 pub limits-seated : (p : Settings) (us : List (Option UnitView)) (r : Admitted) (new : Newcomer)
-    → admitted (limits_of p us) ≡ Some r → newcomer_as p r (slice_get p.plan.tests (test_of r)) ≡ Some new
+    → admitted (limits_of p us) ≡ Some r → newcomer_as p us r (slice_get p.plan.tests (test_of r)) ≡ Some new
     → after_admission (limits_of p us) ≡ limits_of p (units_with p us (Some new))
 limits-seated p us r new e made =
     ap (λ o. record (limits_of p us) { seats = seats_after (map seat_of (drop (scripts_in p) us)) o }) e
@@ -149,48 +159,93 @@ limits-seated p us r new e made =
 
     skipped : (j : ℕ) (test : PlanTest) (skip : Option (List ℕ)) → newcomer_skipped p j test skip ≡ Some new
         → record (limits_of p us) { seats = set (map seat_of (drop (scripts_in p) us)) j Gone }
-        ≡ limits_of p (set us new.unit.test.unit (Some new.unit))
+        ≡ limits_of p (set us (number new.unit) (Some new.unit))
     skipped j test None e = cc
     skipped j test (Some reason) e =
-        let it : skipped_newcomer (skipped_view p (unit_of_test p j) test) reason ≡ new = same_Some _ _ e in
+        let it : skipped_newcomer p (unit_of_test p j) test reason ≡ new = same_Some _ _ e in
         subst (λ (n : Newcomer). record (limits_of p us) { seats = set (map seat_of (drop (scripts_in p) us)) j Gone }
-        ≡ limits_of p (set us n.unit.test.unit (Some n.unit))) it
+        ≡ limits_of p (set us (number n.unit) (Some n.unit))) it
         (at j (skipped_view p (unit_of_test p j) test) Gone refl)
 
     by_test : (o : Option PlanTest) (r : Admitted) → slice_get p.plan.tests (test_of r) ≡ o
-        → HasFreeSlots (limits_of p us) r → newcomer_as p r o ≡ Some new
+        → HasFreeSlots (limits_of p us) r → newcomer_as p us r o ≡ Some new
         → record (limits_of p us) { seats = seats_after (map seat_of (drop (scripts_in p) us)) (Some r) }
-        ≡ limits_of p (set us new.unit.test.unit (Some new.unit))
+        ≡ limits_of p (set us (number new.unit) (Some new.unit))
     by_test None r planned free made = cc
     by_test (Some test) (Skipped j) planned free made = skipped j test test.skip made
     by_test (Some test) (Run j global slot) planned free made =
-        let u : UnitView = first_view p (unit_of_test p j) (slots_of test global slot) test in
+        let u : UnitView =
+        first_view p (unit_of_test p j) (slots_of test global slot) (handed_to p us test) test in
         let it : started_newcomer u ≡ new = same_Some _ _ made in
         subst (λ (n : Newcomer).
         record (limits_of p us) { seats = set (map seat_of (drop (scripts_in p) us)) j (InUse global slot) }
-        ≡ limits_of p (set us n.unit.test.unit (Some n.unit))) it
+        ≡ limits_of p (set us (number n.unit) (Some n.unit))) it
         (at j u (InUse global slot)
         (ap (InUse global) (slot-kept slot test.group (no_slot p us j test slot planned free.1))))
 
--- the same for the newcomer
-pub limits-after : (p : Settings) (us : List (Option UnitView)) (r : Admitted) → is_some (newcomer p us) ≡ true
+-- the newcomer where all scripts are over
+newcomer-test : (p : Settings) (us : List (Option UnitView)) (r : Admitted) → scripts_over p us ≡ true
+    → admitted (limits_of p us) ≡ Some r → newcomer p us ≡ newcomer_as p us r (slice_get p.plan.tests (test_of r))
+newcomer-test p us r over e =
+    rw over (ap (option_and_then (λ a. newcomer_as p us a (slice_get p.plan.tests (test_of a)))) e)
+
+-- what is held of the limits after it
+pub limits-after : (p : Settings) (us : List (Option UnitView)) (r : Admitted) → scripts_over p us ≡ true
     → admitted (limits_of p us) ≡ Some r
     → after_admission (limits_of p us) ≡ limits_of p (units_with p us (newcomer p us))
-limits-after p us r is e = by_scripts (scripts_over p us) is
+limits-after p us r over e =
+    subst (λ o. after_admission (limits_of p us) ≡ limits_of p (units_with p us o)) (sym (newcomer-test p us r over e))
+    (by_new (newcomer_as p us r (slice_get p.plan.tests (test_of r))) refl (becomes p us r e))
   where
-    by_new : (o : Option Newcomer) → newcomer_as p r (slice_get p.plan.tests (test_of r)) ≡ o → is_some o ≡ true
+    by_new : (o : Option Newcomer) → newcomer_as p us r (slice_get p.plan.tests (test_of r)) ≡ o → is_some o ≡ true
         → after_admission (limits_of p us) ≡ limits_of p (units_with p us o)
     by_new None made h = cc
     by_new (Some new) made h = limits-seated p us r new e made
 
-    by_scripts : (b : Bool)
-        → is_some (if b then option_and_then (λ a. newcomer_as p a (slice_get p.plan.tests (test_of a)))
-        (admitted (limits_of p us)) else None) ≡ true
-        → after_admission (limits_of p us) ≡ limits_of p (units_with p us
-        (if b then option_and_then (λ a. newcomer_as p a (slice_get p.plan.tests (test_of a)))
-        (admitted (limits_of p us)) else None))
-    by_scripts false is = cc
-    by_scripts true is =
-        subst (λ o. after_admission (limits_of p us) ≡ limits_of p (units_with p us
-        (option_and_then (λ a. newcomer_as p a (slice_get p.plan.tests (test_of a))) o))) (sym e)
-        (by_new (newcomer_as p r (slice_get p.plan.tests (test_of r))) refl (becomes p us r e))
+-- a script of the plan stands at each of their places
+some_planned : (xs : List PlanScript) (i : ℕ) → i < length xs → slice_get xs i ≡ None → ⊥
+some_planned xs i within none = by_case (slice_get_cases xs i).1
+  where
+    by_case : ((x : PlanScript) × (i < length xs) × (slice_get xs i ≡ Some x) × (get_or xs i x ≡ x))
+        ⊎ ((length xs ≤ i) × (slice_get xs i ≡ None)) → ⊥
+    by_case (inl found) = let never = sym none ∙ found.2 in cc
+    by_case (inr past) = let le = past.0 in omega (arith, le, within)
+
+-- the newcomer where not all scripts are over
+newcomer-script : (p : Settings) (us : List (Option UnitView)) (i : ℕ) → scripts_over p us ≡ false
+    → open_script (scripts_of p us) ≡ Some i → newcomer p us ≡ script_newcomer p i (slice_get p.plan.scripts i)
+newcomer-script p us i before e =
+    rw before (ap (option_and_then (λ i. script_newcomer p i (slice_get p.plan.scripts i))) e)
+
+-- there is one where a script is the next
+pub opens : (p : Settings) (us : List (Option UnitView)) → scripts_over p us ≡ false
+    → is_some (open_script (scripts_of p us)) ≡ is_some (newcomer p us)
+opens p us before = by_open (open_script (scripts_of p us)) refl
+  where
+    of_script : (i : ℕ) (o : Option PlanScript) → slice_get p.plan.scripts i ≡ o → i < scripts_in p
+        → true ≡ is_some (script_newcomer p i o)
+    of_script i None planned within =
+        absurd (some_planned p.plan.scripts i within planned)
+    of_script i (Some script) planned within = refl
+
+    by_open : (o : Option ℕ) → open_script (scripts_of p us) ≡ o → is_some o ≡ is_some (newcomer p us)
+    by_open None e =
+        rw before
+        (ap (λ o. is_some (option_and_then (λ i. script_newcomer p i (slice_get p.plan.scripts i)) o)) (sym e))
+    by_open (Some i) e =
+        of_script i (slice_get p.plan.scripts i) refl (open_first (scripts_in p) us i e).0
+        ∙ sym (ap is_some (newcomer-script p us i before e))
+
+-- a script leaves what is held of the limits
+pub limits-script : (p : Settings) (us : List (Option UnitView)) (i : ℕ) → scripts_over p us ≡ false
+    → open_script (scripts_of p us) ≡ Some i → limits_of p us ≡ limits_of p (units_with p us (newcomer p us))
+limits-script p us i before e =
+    subst (λ o. limits_of p us ≡ limits_of p (units_with p us o)) (sym (newcomer-script p us i before e))
+    (by_script (slice_get p.plan.scripts i) refl)
+  where
+    by_script : (o : Option PlanScript) → slice_get p.plan.scripts i ≡ o
+        → limits_of p us ≡ limits_of p (units_with p us (script_newcomer p i o))
+    by_script None planned = refl
+    by_script (Some script) planned =
+        ap (λ seats. record (limits_of p us) { seats = seats })
+        (sym (seats-script p us i (Some (script_view p i script)) (slice_get_within p.plan.scripts i script planned)))

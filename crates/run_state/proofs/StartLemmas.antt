@@ -7,20 +7,20 @@ use Rattle.run_admission.specs.declared.seat.Seat.TheVariants.{Waiting}
 use Rattle.std.specs.List.{range_with_len}
 use Rattle.std.proofs.lemmas.List.FromFn.{fill_by_all}
 use Rattle.std.proofs.lemmas.List.Sums.{sum_by-cons}
-use Rattle.run_events.specs.Stats.{total_by, total}
+use Rattle.run_events.specs.Stats.{total_by}
 use Rattle.run_events.specs.declared.stats.RunStats.{RunStats}
 use Rattle.run_events.specs.declared.settings.Settings.{Settings}
 use Rattle.run_model.specs.declared.unit_view.UnitView.{UnitView}
 use Rattle.run_model.specs.Admission.{units_in, tests_in, scripts_in, seat_of}
 use Rattle.run_laws.proofs.OnBoard.{units-length, units-at}
-use Rattle.run_model.specs.Words.{units, unit_of, running, is_running}
+use Rattle.run_model.specs.Words.{units, unit_of, running, scripts_running, is_running, adds_by}
 
 -- no finish adds nothing
-pub total-nil : (start : RunStats) → total start [] ≡ start
+pub total-nil : (start : RunStats) → total_by adds_by start [] ≡ start
 unfolding total_by
 total-nil start = simp add-zero refl
 
--- no test counts
+-- no unit counts
 count-none : (f : ℕ → Bool) (n a : ℕ) → ((k : ℕ) → f k ≡ false) → count_by f (range_with_len a n) ≡ 0
 count-none f zero a none = refl
 count-none f (suc n) a none =
@@ -28,11 +28,14 @@ count-none f (suc n) a none =
     ∙ ap (λ b. cond b 1 0 + count_by f (range_with_len (a + 1) n)) (none a)
     ∙ ap (λ m. 0 + m) (count-none f n (a + 1) none)
 
--- no test runs
+-- no test runs, and no script
 pub running-nil : (p : Settings) → running p [] ≡ 0
-running-nil p = count-none (is_running []) (units_in p) 0 (λ k. refl)
+running-nil p = count-none (is_running []) (tests_in p) (scripts_in p) (λ k. refl)
 
--- no test was admitted
+pub scripts_running-nil : (p : Settings) → scripts_running p [] ≡ 0
+scripts_running-nil p = count-none (is_running []) (scripts_in p) 0 (λ k. refl)
+
+-- no unit was admitted
 pub units-nil : (p : Settings) (us : List (Option UnitView)) → length us ≡ units_in p
     → ((k : ℕ) → get_or us k None ≡ None) → us ≡ units p []
 units-nil p us whole none = fill_by_all (λ k. unit_of k []) us (units_in p) None whole (λ k h. none k)

@@ -1,10 +1,11 @@
 -- The state of a run, as its callers see it.
-use Rattle.std.specs.Prelude.{ℕ, ◌≡◌, ◌-◌, List, Option, Some, None, nat_le, if◌then◌else◌, slice_set, true}
+use Rattle.std.specs.Prelude.{ℕ, ◌≡◌, ◌-◌, List, Option, Some, None, nat_le, if◌then◌else◌, slice_set, true, false}
 use Rattle.run_events.specs.declared.settings.Settings.{Settings}
 use Rattle.run_admission.specs.declared.seat.Admitted.{Admitted}
 use Rattle.run_admission.specs.InUse.{Admissions, admitted, released}
 use Rattle.run_model.specs.declared.unit_view.UnitView.{UnitView}
-use Rattle.run_model.specs.Admission.{scripts_in, limits_of, scripts_over, Newcomer}
+use Rattle.run_model.specs.Admission.{scripts_in, limits_of, open_script, scripts_of, scripts_over, Newcomer}
+use Rattle.run_model.specs.Environment.{number}
 use Rattle.run_model.specs.Board.{Board}
 
 -- the board that turns read, and what is kept of what the tests hold of the limits
@@ -25,10 +26,15 @@ pub record Comes (p : Settings) (us : List (Option UnitView)) (next : Admitted) 
   pub scripts : scripts_over p us ≡ true
   pub is : admitted (limits_of p us) ≡ Some next
 
+-- a script comes next: not all scripts are over, and that at this place is the next one
+pub record Opens (p : Settings) (us : List (Option UnitView)) (place : ℕ) : Type 0 where
+  pub scripts : scripts_over p us ≡ false
+  pub is : open_script (scripts_of p us) ≡ Some place
+
 -- the units with one that was admitted
 abbrev pub units_with : Settings → List (Option UnitView) → Option Newcomer → List (Option UnitView)
 units_with p us None = us
-units_with p us (Some new) = slice_set us new.unit.test.unit (Some new.unit)
+units_with p us (Some new) = slice_set us (number new.unit) (Some new.unit)
 
 -- what is held of the limits after a unit is over: a test gives its part back, a script had none
 abbrev pub given_back : Settings → Admissions → ℕ → Admissions

@@ -1,3 +1,4 @@
 pub mod Counted
+pub mod Placed
 pub mod Held
 pub mod Cancelled

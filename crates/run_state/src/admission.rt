@@ -1,23 +1,33 @@
 // What an admission makes.
 ghost use Rattle.std.specs.Prelude.{◌≡◌, ◌<◌, length, IfOk, Some, option_map, is_some, slice_get, true};
 ghost use Rattle.run_admission.specs.InUse.{admitted};
-ghost use Rattle.run_model.specs.Admission.{first_view, group_slot, limits_of, newcomer, newcomer_as, scripts_over};
-ghost use Rattle.run_model.specs.Admission.{skip_message, skipped_view, slots_of, start_message, test_of, unit_of_test};
+ghost use Rattle.run_model.specs.Admission.{first_view, group_slot, handed_to, limits_of, newcomer, newcomer_as};
+ghost use Rattle.run_model.specs.Admission.{open_script, scripts_of, scripts_over, script_newcomer, skip_message};
+ghost use Rattle.run_model.specs.Admission.{skipped_view, slots_of, start_message, test_of, unit_of_test};
 ghost use Rattle.run_model.specs.Admission.{units_in, AreFew};
+ghost use Rattle.run_model.specs.Environment.{number};
 
 use crate::units::Units;
 use run_admission::{Admission, Admitted, Candidate};
-use run_capture::{Duplicate, Mem, Text};
+use run_capture::{Duplicate, List, Mem, Text};
 use run_events::{GroupSlot, Message, PlanTest, Settings, TestSlotAssignment};
-use run_unit::Unit;
+use run_unit::{Unit, skip_message};
 use std::alloc::Global;
 
-// Whether all setup scripts are over.
-fn are_scripts_over(settings: &Settings, units: &Units) -> bool
+/// Whether all setup scripts are over.
+pub fn are_scripts_over(settings: &Settings, units: &Units) -> bool
     requires { length units.now ≡ units_in settings.now }
     ensures { result ≡ scripts_over settings.now units.now }
 {
     units.are_first_over(settings.plan.scripts.len())
+}
+
+/// The place of the next script: the first that wasn't admitted, where each before it is over.
+pub fn next_script(settings: &Settings, units: &Units) -> Option<usize>
+    requires { length units.now ≡ units_in settings.now }
+    ensures { result ≡ open_script (scripts_of settings.now units.now) }
+{
+    units.open_script(settings.plan.scripts.len())
 }
 
 // Whether the candidate can be admitted.
@@ -32,13 +42,18 @@ fn comes_next(admission: &Admission) -> bool
     }
 }
 
-/// Whether a test can be admitted: all scripts are over, and the candidate isn't blocked.
+/// Whether a script or a test can be admitted: the next script where those before it are over, and once all scripts are
+/// over a candidate that isn't blocked.
 pub fn can_admit(settings: &Settings, units: &Units, admission: &Admission) -> bool
     requires whole { length units.now ≡ units_in settings.now }
     requires seated { admission.now ≡ limits_of settings.now units.now }
     ensures { result ≡ is_some (newcomer settings.now units.now) }
 {
-    are_scripts_over(settings, units) && comes_next(admission)
+    if are_scripts_over(settings, units) {
+        comes_next(admission)
+    } else {
+        next_script(settings, units).is_some()
+    }
 }
 
 /// What an admission makes: a unit, and the message that it sends.
@@ -48,16 +63,37 @@ pub struct Newcomer {
     pub sent: Message,
 }
 
-// A test that doesn't match, as it is skipped for this reason.
-fn skip_test(alloc: Global, settings: &Settings, test: u32, reason: &Text) -> Mem<Newcomer>
-    requires planned { test < length settings.now.plan.tests }
+/// What an admission makes of a script of the plan.
+pub fn script_of(alloc: Global, settings: &Settings, place: u32) -> Mem<Newcomer>
+    requires planned { place < length settings.now.plan.scripts }
     requires few { AreFew settings.now }
-    ensures unit { IfOk result (λ a. option_map (skipped_view settings.now (unit_of_test settings.now test))
-        (slice_get settings.now.plan.tests test) ≡ Some a.unit) }
-    ensures sent { IfOk result (λ a. a.sent ≡ skip_message a.unit reason.now) }
+    ensures made { IfOk result (λ a. script_newcomer settings.now place
+        (slice_get settings.now.plan.scripts place) ≡ Some (record { unit = a.unit; sent = a.sent })) }
+    ensures place { IfOk result (λ a. number a.unit ≡ place) }
+{
+    let unit = Unit::script(alloc, settings, place)?;
+    let sent = unit.start_message(alloc)?;
+    Ok(Newcomer { unit, sent })
+}
+
+// A test that doesn't match, as it is skipped for this reason.
+fn skip_test(
+    alloc: Global,
+    settings: &Settings,
+    test: u32,
+    planned: &PlanTest,
+    reason: &Text,
+) -> Mem<Newcomer>
+    requires planned { slice_get settings.now.plan.tests test ≡ Some planned.now }
+    requires few { AreFew settings.now }
+    ensures unit { IfOk result (λ a. a.unit
+        ≡ skipped_view settings.now (unit_of_test settings.now test) planned.now) }
+    ensures sent { IfOk result (λ a. a.sent
+        ≡ skip_message (unit_of_test settings.now test) planned.now reason.now) }
 {
     let unit = Unit::skipped(alloc, settings, test)?;
-    let sent = unit.skip_message(alloc, reason)?;
+    let number = settings.plan.scripts.len() as u32 + test;
+    let sent = skip_message(alloc, number, planned, reason)?;
     Ok(Newcomer { unit, sent })
 }
 
@@ -74,20 +110,22 @@ fn group_slot(alloc: Global, slot: Option<u32>, group: &Option<Text>) -> Mem<Opt
     }
 }
 
-// A test that matches, as it starts in its slots.
+// A test that matches, as it starts in its slots with what its scripts handed on.
 fn start_test(
     alloc: Global,
     settings: &Settings,
     test: u32,
     slots: TestSlotAssignment,
+    handed: List<(Text, Text)>,
 ) -> Mem<Newcomer>
     requires planned { test < length settings.now.plan.tests }
     requires few { AreFew settings.now }
-    ensures unit { IfOk result (λ a. option_map (first_view settings.now (unit_of_test settings.now test) slots)
+    ensures unit { IfOk result (λ a. option_map
+        (first_view settings.now (unit_of_test settings.now test) slots handed)
         (slice_get settings.now.plan.tests test) ≡ Some a.unit) }
-    ensures sent { IfOk result (λ a. a.sent ≡ start_message a.unit) }
+    ensures sent { IfOk result (λ a. a.sent ≡ start_message a.unit.role a.unit) }
 {
-    let unit = Unit::test(alloc, settings, test, slots)?;
+    let unit = Unit::test(alloc, settings, test, slots, handed)?;
     let sent = unit.start_message(alloc)?;
     Ok(Newcomer { unit, sent })
 }
@@ -105,6 +143,20 @@ fn slots_of(
     Ok(TestSlotAssignment { global, group })
 }
 
+// What the scripts of a test handed on to it.
+fn handed_to(
+    alloc: Global,
+    settings: &Settings,
+    units: &Units,
+    planned: &PlanTest,
+) -> Mem<List<(Text, Text)>>
+    requires { length units.now ≡ units_in settings.now }
+    ensures { IfOk result (λ handed. handed ≡ handed_to settings.now units.now planned.now) }
+{
+    let scripts = settings.plan.scripts.len();
+    units.handed(alloc, scripts, planned.scripts.as_slice())
+}
+
 /// The place in the plan of the test that is admitted.
 pub fn place_of(admitted: &Admitted) -> u32
     ensures { result ≡ test_of admitted.now }
@@ -116,18 +168,26 @@ pub fn place_of(admitted: &Admitted) -> u32
 }
 
 /// What an admission makes of a test of the plan.
-pub fn newcomer_of(alloc: Global, settings: &Settings, admitted: Admitted) -> Mem<Newcomer>
+pub fn newcomer_of(
+    alloc: Global,
+    settings: &Settings,
+    units: &Units,
+    admitted: Admitted,
+) -> Mem<Newcomer>
+    requires whole { length units.now ≡ units_in settings.now }
     requires planned { test_of admitted < length settings.now.plan.tests }
-    requires made { is_some (newcomer_as settings.now admitted
+    requires made { is_some (newcomer_as settings.now units.now admitted
         (slice_get settings.now.plan.tests (test_of admitted))) ≡ true }
     requires few { AreFew settings.now }
-    ensures made { IfOk result (λ a. newcomer_as settings.now admitted
+    ensures made { IfOk result (λ a. newcomer_as settings.now units.now admitted
         (slice_get settings.now.plan.tests (test_of admitted)) ≡ Some (record { unit = a.unit; sent = a.sent })) }
-    ensures place { IfOk result (λ a. a.unit.test.unit ≡ unit_of_test settings.now (test_of admitted)) }
+    ensures place { IfOk result (λ a. number a.unit ≡ unit_of_test settings.now (test_of admitted)) }
 {
     let planned = &settings.plan.tests.as_slice()[place_of(&admitted) as usize];
     match (admitted, &planned.skip) {
-        (Admitted::Skip { test }, Some(reason)) => skip_test(alloc, settings, test, reason),
+        (Admitted::Skip { test }, Some(reason)) => {
+            skip_test(alloc, settings, test, planned, reason)
+        }
         (Admitted::Skip { .. }, None) => unreachable!(),
         (
             Admitted::Run {
@@ -138,7 +198,8 @@ pub fn newcomer_of(alloc: Global, settings: &Settings, admitted: Admitted) -> Me
             _,
         ) => {
             let slots = slots_of(alloc, planned, global_slot, group_slot)?;
-            start_test(alloc, settings, test, slots)
+            let handed = handed_to(alloc, settings, units, planned)?;
+            start_test(alloc, settings, test, slots, handed)
         }
     }
 }

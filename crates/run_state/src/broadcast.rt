@@ -1,8 +1,9 @@
 // A request to each unit that was let go and isn't over.
-ghost use Rattle.std.specs.Prelude.{◌≡◌, IfOk, OnOk, OnErr, length, map, count_by, option_map};
+ghost use Rattle.std.specs.Prelude.{◌≡◌, OnOk, OnErr, length, map, count_by, option_map};
 ghost use Rattle.run_model.specs.Unit.{reached};
 ghost use Rattle.run_model.specs.Board.{reach_all};
 ghost use Rattle.run_state.specs.Counted.{is_left};
+ghost use Rattle.run_state.specs.Placed.{is_no_script};
 
 use crate::state::State;
 use run_capture::Mem;
@@ -24,6 +25,7 @@ fn reach(alloc: Global, unit: &mut Option<Unit>, request: Request) -> Mem<()>
 /// Each of some units is reached. After want of memory some of them were.
 pub fn reach_each(alloc: Global, units: &mut [Option<Unit>], request: Request) -> Mem<()>
     ensures ok { OnOk result (units.new ≡ map (option_map (reached request)) units.old) }
+    ensures scripts { map is_no_script units.new ≡ map is_no_script units.old }
     ensures left { count_by is_left units.new ≡ count_by is_left units.old }
     ensures count { length units.new ≡ length units.old }
 {

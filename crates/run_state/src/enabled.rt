@@ -5,10 +5,12 @@ ghost use Rattle.run_model.specs.Turns.{turn_of_unit, is_empty, facts, run_takes
 ghost use Rattle.run_laws.specs.Ready.{IsTimely};
 ghost use Rattle.run_state.specs.Held.{IsSeated};
 ghost use Rattle.run_events.specs.declared.turn.Turn.TheVariants.{StartFailed, WaitFailed, Piece, ReadError};
+ghost use Rattle.run_events.specs.declared.turn.Turn.TheVariants.{Env};
 
 use crate::admission::can_admit;
 use crate::state::State;
 use run_capture::{Blob, Duplicate, Mem, Stream, Text};
+use run_commands::EnvInput;
 use run_dispatch::DispatchState;
 use run_events::{Settings, Turn};
 use run_model::{Facts, UnitTurn};
@@ -36,6 +38,7 @@ pub fn turn_of_unit(alloc: Global, turn: &Turn) -> Mem<Option<(u32, UnitTurn)>>
             stream,
             error,
         } => read_error(alloc, *unit, *stream, error),
+        Turn::Env { unit, input } => env(alloc, *unit, input),
         Turn::Take { unit } => Ok(Some((*unit, UnitTurn::Take))),
         Turn::UnitDue { unit } => Ok(Some((*unit, UnitTurn::Due))),
         Turn::Decide { unit, word } => Ok(Some((*unit, UnitTurn::Decide { word: *word }))),
@@ -74,6 +77,13 @@ fn read_error(
 {
     let error = error.copy(alloc)?;
     Ok(Some((unit, UnitTurn::ReadError { stream, error })))
+}
+
+fn env(alloc: Global, unit: u32, input: &EnvInput) -> Mem<Option<(u32, UnitTurn)>>
+    ensures { IfOk result (λ named. named ≡ turn_of_unit (Env unit input.now)) }
+{
+    let input = input.copy(alloc)?;
+    Ok(Some((unit, UnitTurn::Env { input })))
 }
 
 // Whether no message waits.

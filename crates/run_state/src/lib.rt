@@ -5,6 +5,7 @@
 mod admission;
 mod broadcast;
 mod enabled;
+mod scripts;
 mod state;
 mod turns;
 mod units;

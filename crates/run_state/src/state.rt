@@ -16,10 +16,10 @@ use std::collections::VecDeque;
 use std::marker::Model;
 
 /// What a run keeps of its history. Contracts see it as the board that turns read, and what its tests hold of the
-/// limits.
+/// limits. Its last units are tests, one for each seat.
 #[derive(Drop)]
 pub struct State {
-    /// Each test of the plan, once it was admitted.
+    /// Each script and test of the plan, once it was admitted.
     pub(crate) units: Units,
     /// The messages that wait, the oldest first.
     pub(crate) queue: VecDeque<Message>,
@@ -34,6 +34,7 @@ pub struct State {
 
 impl Model for State {
     ghost use Rattle.run_state.specs.Held.{Held};
+    ghost use Rattle.run_state.specs.Placed.{AreTests};
 
     ghost Value = { Held };
 
@@ -47,6 +48,8 @@ impl Model for State {
       };
       limits = s.admission;
     } };
+
+    ghost invariant = { λ s. AreTests s.units s.admission };
 }
 
 // Whether one of these was refused.

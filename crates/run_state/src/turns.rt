@@ -1,10 +1,10 @@
 // The turns of a run: each does to the state what its row of the tables says.
-ghost use Rattle.std.specs.Prelude.{◌≡◌, ◌<◌, ◌≤◌, ◌-◌, ◌++◌, [], IfOk, OnOk, true, false, option_to_list};
-ghost use Rattle.std.specs.Prelude.{None, option_map, if◌then◌else◌};
+ghost use Rattle.std.specs.Prelude.{◌≡◌, ◌<◌, ◌≤◌, ◌-◌, ◌++◌, ◌∷◌, [], IfOk, OnOk, OnErr, true, false, option_to_list};
+ghost use Rattle.std.specs.Prelude.{None, Some, length, option_map, if◌then◌else◌, slice_index_or, slice_set};
 ghost use Rattle.std.specs.VecDeque.{deque_len, deque_capacity};
 ghost use Rattle.run_admission.specs.InUse.{is_test_in_use};
-ghost use Rattle.run_model.specs.Admission.{newcomer, scripts_in, AreFew};
-ghost use Rattle.run_state.specs.Held.{IsSeated, Comes, units_with, given_back};
+ghost use Rattle.run_model.specs.Admission.{newcomer, scripts_in, scripts_over, units_in, AreFew};
+ghost use Rattle.run_state.specs.Held.{IsSeated, Comes, Opens, units_with, given_back};
 ghost use Rattle.run_state.specs.Cancelled.{Cancels};
 ghost use Rattle.run_model.specs.Board.{unit_in, moved, step, deed_events, reach_all};
 ghost use Rattle.run_model.specs.Cancel.{signal_cause, time_is_up, event_refused};
@@ -13,14 +13,14 @@ ghost use Rattle.run_model.specs.Turns.{taken_by, admission, starting, answer_to
 ghost use Rattle.run_model.specs.Turns.{deed_on, turn_of_unit};
 ghost use Rattle.run_laws.specs.Ready.{CanAnswer, CanTake, CanAdmit, CanDeliverOldest, CanRun, CanAdvance};
 
-use crate::admission::{Newcomer, newcomer_of, place_of};
+use crate::admission::{Newcomer, are_scripts_over, newcomer_of, next_script, place_of, script_of};
 use crate::broadcast::broadcast;
 use crate::state::State;
 use crate::units::Units;
 use run_admission::{Admission, Admitted};
-use run_capture::{List, Mem};
+use run_capture::{List, Mem, OutOfMemory};
 use run_dispatch::DispatchEffects;
-use run_events::{Ask, Message, ReporterEvent, Settings, Signal, Turn};
+use run_events::{Ask, Message, ReporterEvent, Request, Settings, Signal, Turn};
 use run_model::UnitTurn;
 use run_unit::UnitEffects;
 use std::alloc::Global;
@@ -81,7 +81,10 @@ pub fn take_turn(
     ensures asked { IfOk result (λ asked. asked
         ≡ (taken_by state.old.board.clock unit turn (unit_in state.old.board unit)).asked) }
 {
-    state.queue.reserve(1)?;
+    let Ok(()) = state.queue.reserve(1) else {
+        drop(turn);
+        return Err(OutOfMemory);
+    };
     let now = state.clock;
     let UnitEffects { sent, asked, over } = state.units.step(alloc, unit as usize, turn, now)?;
     release(settings, &mut state.admission, unit, over);
@@ -89,9 +92,26 @@ pub fn take_turn(
     Ok(asked)
 }
 
-/// Admits the candidate.
+/// Admits the next script, or once all scripts are over the candidate.
 pub fn admit(alloc: Global, settings: &Settings, state: &mut State) -> Mem<()>
     requires can { CanAdmit settings.now state.old.board }
+    requires seated { IsSeated settings.now state.old }
+    requires few { AreFew settings.now }
+    ensures after { OnOk result (state.new.board
+        ≡ moved state.old.board (admission (newcomer settings.now state.old.board.units))) }
+    ensures seated { OnOk result (IsSeated settings.now state.new) }
+{
+    if are_scripts_over(settings, &state.units) {
+        admit_test(alloc, settings, state)
+    } else {
+        admit_script(alloc, settings, state)
+    }
+}
+
+// Admits the candidate.
+fn admit_test(alloc: Global, settings: &Settings, state: &mut State) -> Mem<()>
+    requires can { CanAdmit settings.now state.old.board }
+    requires over { scripts_over settings.now state.old.board.units ≡ true }
     requires seated { IsSeated settings.now state.old }
     requires few { AreFew settings.now }
     ensures after { OnOk result (state.new.board
@@ -113,6 +133,25 @@ pub fn admit(alloc: Global, settings: &Settings, state: &mut State) -> Mem<()>
     }
 }
 
+// Admits the next script, which holds nothing of the limits.
+fn admit_script(alloc: Global, settings: &Settings, state: &mut State) -> Mem<()>
+    requires can { CanAdmit settings.now state.old.board }
+    requires before { scripts_over settings.now state.old.board.units ≡ false }
+    requires seated { IsSeated settings.now state.old }
+    requires few { AreFew settings.now }
+    ensures after { OnOk result (state.new.board
+        ≡ moved state.old.board (admission (newcomer settings.now state.old.board.units))) }
+    ensures seated { OnOk result (IsSeated settings.now state.new) }
+{
+    match next_script(settings, &state.units) {
+        Some(place) => {
+            seat_script(alloc, settings, &mut state.units, &mut state.queue, place)?;
+            Ok(())
+        }
+        None => unreachable!(),
+    }
+}
+
 // The test that was admitted becomes a unit, and its first message is sent.
 fn seat(
     alloc: Global,
@@ -122,18 +161,55 @@ fn seat(
     admitted: Admitted,
 ) -> Mem<()>
     requires comes { Comes settings.now units.old admitted }
+    requires whole { length units.old ≡ units_in settings.now }
     requires few { AreFew settings.now }
     ensures units { OnOk result (units.new
         ≡ units_with settings.now units.old (newcomer settings.now units.old)) }
     ensures queue { OnOk result (queue.new.items
         ≡ queue.old.items ++ option_to_list (option_map (λ n. n.sent) (newcomer settings.now units.old))) }
+    ensures err { OnErr result (units.new ≡ units.old) }
 {
     queue.reserve(1)?;
     let place = settings.plan.scripts.len() + place_of(&admitted) as usize;
-    let Newcomer { unit, sent } = newcomer_of(alloc, settings, admitted)?;
+    let new = newcomer_of(alloc, settings, units, admitted)?;
+    join(units, queue, place, new);
+    Ok(())
+}
+
+// The script at this place, which is the next one, becomes a unit, and its first message is sent.
+fn seat_script(
+    alloc: Global,
+    settings: &Settings,
+    units: &mut Units,
+    queue: &mut VecDeque<Message>,
+    place: usize,
+) -> Mem<()>
+    requires opens { Opens settings.now units.old place }
+    requires whole { length units.old ≡ units_in settings.now }
+    requires few { AreFew settings.now }
+    ensures units { OnOk result (units.new
+        ≡ units_with settings.now units.old (newcomer settings.now units.old)) }
+    ensures queue { OnOk result (queue.new.items
+        ≡ queue.old.items ++ option_to_list (option_map (λ n. n.sent) (newcomer settings.now units.old))) }
+    ensures err { OnErr result (units.new ≡ units.old) }
+{
+    queue.reserve(1)?;
+    let new = script_of(alloc, settings, place as u32)?;
+    join(units, queue, place, new);
+    Ok(())
+}
+
+// A newcomer becomes the unit at a place, and its first message comes last in the queue, which has room for it.
+fn join(units: &mut Units, queue: &mut VecDeque<Message>, place: usize, new: Newcomer)
+    requires within { place < length units.old }
+    requires absent { slice_index_or units.old place None ≡ None }
+    requires room { deque_len queue.old < deque_capacity queue.old }
+    ensures units { units.new ≡ slice_set units.old place (Some new.unit) }
+    ensures queue { queue.new.items ≡ queue.old.items ++ new.sent ∷ [] }
+{
+    let Newcomer { unit, sent } = new;
     queue.push_back_reserved(sent);
     units.admit(place, unit);
-    Ok(())
 }
 
 // The unit whose start, or retry, a message is.
@@ -141,6 +217,7 @@ fn starting(message: &Message) -> Option<u32>
     ensures { result ≡ starting message.now }
 {
     match message {
+        Message::ScriptStart(start) => Some(start.script.unit),
         Message::Start(start) => Some(start.test.unit),
         Message::Retry(retry) => Some(retry.start.test.unit),
         _ => None,
@@ -173,6 +250,27 @@ fn answer(
     }
 }
 
+// Gives the answer, and then the request, if there is one, to each unit.
+fn heed(
+    alloc: Global,
+    settings: &Settings,
+    state: &mut State,
+    unit: Option<u32>,
+    go: Option<bool>,
+    request: Option<Request>,
+) -> Mem<Option<Ask>>
+    requires can { CanAnswer state.old.board unit go }
+    requires seated { IsSeated settings.now state.old }
+    ensures seated { OnOk result (IsSeated settings.now state.new) }
+    ensures after { OnOk result (state.new.board ≡ record (moved state.old.board (answer_to state.old.board unit go))
+        { units = reach_all request (moved state.old.board (answer_to state.old.board unit go)).units }) }
+    ensures asked { IfOk result (λ asked. asked ≡ (answer_to state.old.board unit go).asked) }
+{
+    let asked = answer(alloc, settings, state, unit, go)?;
+    broadcast(alloc, state, request)?;
+    Ok(asked)
+}
+
 /// Delivers the oldest message.
 pub fn deliver(alloc: Global, settings: &Settings, state: &mut State) -> Mem<Effects>
     requires can { CanDeliverOldest state.old.board state.old.board.queue }
@@ -195,8 +293,7 @@ pub fn deliver(alloc: Global, settings: &Settings, state: &mut State) -> Mem<Eff
                 request,
                 go,
             } = state.dispatcher.deliver(alloc, message, now)?;
-            let asked = answer(alloc, settings, state, unit, go)?;
-            broadcast(alloc, state, request)?;
+            let asked = heed(alloc, settings, state, unit, go, request)?;
             Ok(Effects { events, asked })
         }
         None => unreachable!(),

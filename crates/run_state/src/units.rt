@@ -1,23 +1,25 @@
 // The units of a run, with what is counted of them.
 ghost use Rattle.std.specs.Prelude.{◌≡◌, ◌<◌, ◌≤◌, ℕ, length, take, slice_index_or, slice_set, IfOk, OnOk, OnErr, Some};
-ghost use Rattle.std.specs.Prelude.{None, true, ◌-◌, cond, option_map};
+ghost use Rattle.std.specs.Prelude.{None, true, ◌-◌, cond, map, option_map};
 ghost use Rattle.std.specs.List.{list_all};
 ghost use Rattle.run_model.specs.declared.unit_view.UnitView.{UnitView};
-ghost use Rattle.run_model.specs.Admission.{is_done, is_last};
+ghost use Rattle.run_model.specs.Admission.{handed_from, is_done, is_last, open_script};
 ghost use Rattle.run_model.specs.Unit.{row, takes};
 ghost use Rattle.run_model.specs.Board.{reach_all, units_after};
 ghost use Rattle.run_model.specs.Turns.{unit_takes, taken_by};
+ghost use Rattle.run_state.specs.Placed.{is_no_script};
 
 use crate::broadcast::reach_each;
-use run_capture::Mem;
+use crate::scripts::{handed_from, open_script};
+use run_capture::{List, Mem, Text};
 use run_events::Request;
 use run_model::{Phase, UnitTurn};
 use run_unit::{Unit, UnitEffects};
 use std::alloc::Global;
 use std::marker::Model;
 
-/// Each unit of the plan, once it was admitted, with a count of those that aren't over, so that no turn looks at all.
-/// Contracts see the list of the units.
+/// Each script and test of the plan, once it was admitted, with a count of those that aren't over, so that no turn
+/// looks at all. Contracts see the list of the units.
 #[derive(Drop)]
 pub struct Units {
     items: Vec<Option<Unit>>,
@@ -91,6 +93,27 @@ impl Units {
         are_done(&self.items[..count])
     }
 
+    /// The place of the next script, where the first units, so many, are the scripts: the first that wasn't admitted,
+    /// where each before it is over.
+    pub fn open_script(&self, count: usize) -> Option<usize>
+        requires { count ≤ length self.now }
+        ensures { result ≡ open_script (take count self.now) }
+    {
+        open_script(&self.items[..count])
+    }
+
+    /// What the scripts of these numbers handed on, where the first units, so many, are the scripts. None is looked at
+    /// where there is no number.
+    pub fn handed(&self, alloc: Global, count: usize, numbers: &[u32]) -> Mem<List<(Text, Text)>>
+        requires { count ≤ length self.now }
+        ensures { IfOk result (λ handed. handed ≡ handed_from numbers.now 0 (take count self.now)) }
+    {
+        if numbers.is_empty() {
+            return Ok(List::new());
+        }
+        handed_from(alloc, numbers, &self.items[..count])
+    }
+
     /// A unit takes a turn.
     pub fn step(&mut self, alloc: Global, unit: usize, turn: UnitTurn, now: u64) -> Mem<UnitEffects>
         requires { (u : UnitView) × (slice_index_or self.old unit None ≡ Some u) × (takes now u turn ≡ true)
@@ -112,7 +135,8 @@ impl Units {
     /// A request reaches each unit that was let go and isn't over: it stands in its line. Each unit is looked at, but at
     /// most eight times in a sub-run, since the reason of each broadcast is above that of the one before.
     pub fn broadcast(&mut self, alloc: Global, request: Request) -> Mem<()>
-        ensures { OnOk result (self.new ≡ reach_all (Some request) self.old) }
+        ensures ok { OnOk result (self.new ≡ reach_all (Some request) self.old) }
+        ensures scripts { map is_no_script self.new ≡ map is_no_script self.old }
     {
         reach_each(alloc, self.items.as_mut_slice(), request)
     }

@@ -5,11 +5,11 @@ ghost use Rattle.run_model.specs.Backoff.{retry_count};
 use crate::made::{MEMORY, text};
 use crate::plan::{Tests, retries, retry_count};
 use crate::steps::Walk;
-use run_capture::{CaptureStrategy, ChildFdError, List, Text};
+use run_capture::{ChildFdError, List, Text};
 use run_events::{
     ChildExecutionOutput, ExecuteStatus, LeakTimeout, ReporterEvent, SlowTimeout, TestEventKind,
 };
-use run_model::{AttemptTerms, UnitTurn};
+use run_model::{AttemptTerms, CapturedStreams, UnitTurn};
 use run_plain::{
     News, OwnTurn, account, account_of, has_retry_left, meets_attempt_law, none_goes_on,
     statuses_of,
@@ -22,11 +22,15 @@ pub fn usual_terms(of: Tests) -> AttemptTerms
     ensures { retry_count result.retries ≤ 1 }
 {
     AttemptTerms {
-        strategy: CaptureStrategy::None,
+        streams: CapturedStreams::Apart {
+            stdout: false,
+            stderr: false,
+        },
         slow: SlowTimeout::usual(),
         leak: LeakTimeout::usual(),
         disables_timeouts: false,
         skips_leak_detection: false,
+        reads_env: false,
         retries: retries(of),
     }
 }

@@ -48,6 +48,16 @@ const TOO_LONG: &str =
     "{\"capture\":\"none\",\"run_id\":\"00000000-0000-4000-8000-000000000001\",\"tests\":[\
      {\"binary\":\"b\",\"command\":[\"true\"],\"leak\":{\"period\":18446744073709551616},\"name\":\"t\"}]}";
 
+// Scripts with all keys and with few, and a test that has some by number; one with no command, and too great a number.
+const SCRIPTED: &str =
+    r#"{"run_id":"00000000-0000-4000-8000-000000000001","scripts":[{"capture_stderr":false,"capture_stdout":true,"command":["s","x"],"env_path":"/e","id":"s","leak":{"period":0},"slow":{"grace":0,"period":1}},{"command":[],"id":""}],"tests":[{"binary":"b","command":["true"],"name":"t","scripts":[1,4294967295]}]}"#;
+
+const NO_COMMAND: &str =
+    r#"{"run_id":"00000000-0000-4000-8000-000000000001","scripts":[{"id":"s"}],"tests":[]}"#;
+
+const NO_NUMBER: &str =
+    r#"{"run_id":"00000000-0000-4000-8000-000000000001","tests":[{"binary":"b","command":["true"],"name":"t","scripts":[4294967296]}]}"#;
+
 // Two tests that match, and one that doesn't.
 const THREE: &str =
     "{\"capture\":\"none\",\"run_id\":\"00000000-0000-4000-8000-000000000001\",\"tests\":[\
@@ -241,6 +251,17 @@ fn time_outs_of_a_plan(rt: HostRuntime) {
     let last = "{\"fault\":\"line\",\"line\":1,\"status\":3}\n";
     check(&rt, alloc, &given(&["replay"], &[UNKNOWN_KEY]), 3, 1, last);
     check(&rt, alloc, &given(&["replay"], &[TOO_LONG]), 3, 1, last);
+}
+
+#[test]
+fn scripts_of_a_plan(rt: HostRuntime) {
+    let alloc = rt.alloc();
+    let last = "{\"fault\":\"unfinished\",\"status\":8}\n";
+    check(&rt, alloc, &given(&["replay"], &[SCRIPTED]), 8, 1, last);
+
+    let last = "{\"fault\":\"line\",\"line\":1,\"status\":3}\n";
+    check(&rt, alloc, &given(&["replay"], &[NO_COMMAND]), 3, 1, last);
+    check(&rt, alloc, &given(&["replay"], &[NO_NUMBER]), 3, 1, last);
 }
 
 #[test]

@@ -11,6 +11,8 @@
 #[cfg(test)]
 mod cancels;
 #[cfg(test)]
+mod dates;
+#[cfg(test)]
 mod fates;
 #[cfg(test)]
 mod inputs;
@@ -26,6 +28,8 @@ mod many;
 mod plan;
 #[cfg(test)]
 mod retries;
+#[cfg(test)]
+mod scripts;
 #[cfg(test)]
 mod statistics;
 #[cfg(test)]

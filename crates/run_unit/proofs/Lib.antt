@@ -1,3 +1,4 @@
 mod RetryLemmas
+mod SlowLemmas
 mod TimelyLemmas
 mod TriedLemmas

@@ -1,5 +1,5 @@
 -- A row leaves no timer that was given a later moment than that of the unit's latest turn.
-use Rattle.std.proofs.Common.{ℕ, ◌≤◌, ◌==◌, List, [], ◌∷◌, true, false, ◌||◌, if◌then◌else◌, Option, Some, None}
+use Rattle.std.proofs.Common.{ℕ, ◌≤◌, ◌==◌, List, [], ◌∷◌, Bool, true, false, ◌||◌, if◌then◌else◌, Option, Some, None}
 use Rattle.std.proofs.Common.{IfSome, arith}
 use Rattle.run_clock.specs.Sleep.{Sleep, set_at}
 use Rattle.run_capture.specs.Captured.{Captured, is_done, with_wait_error}
@@ -8,18 +8,20 @@ use Rattle.run_events.specs.declared.request.Request.TheVariants.{Shutdown, Othe
 use Rattle.run_events.specs.declared.request.TerminateReason.TheVariants.{Signal}
 use Rattle.run_events.specs.declared.request.TermSignal.{TermSignal}
 use Rattle.run_events.specs.declared.request.TermSignal.TheVariants.{Kill}
+use Rattle.run_events.specs.declared.result.ChildExecutionOutput.TheVariants.{Output}
 use Rattle.run_events.specs.declared.result.ChildExit.{ChildExit}
 use Rattle.run_model.specs.declared.phase.Phase.{Phase}
 use Rattle.run_model.specs.declared.phase.Phase.TheVariants.{StartSent, Starting, Running, Grace, KillWait, Leak}
-use Rattle.run_model.specs.declared.phase.Phase.TheVariants.{Deciding, Delay, RetrySent}
+use Rattle.run_model.specs.declared.phase.Phase.TheVariants.{EnvWait, Deciding, Delay, RetrySent}
 use Rattle.run_model.specs.declared.unit_turn.UnitTurn.{UnitTurn}
 use Rattle.run_model.specs.declared.unit_turn.UnitTurn.TheVariants.{Answered, Started, StartFailed, Exit, WaitFailed}
-use Rattle.run_model.specs.declared.unit_turn.UnitTurn.TheVariants.{Due, Take, Decide}
+use Rattle.run_model.specs.declared.unit_turn.UnitTurn.TheVariants.{Env, Due, Take, Decide}
 use Rattle.run_model.specs.declared.unit_view.AttemptTerms.{AttemptTerms}
 use Rattle.run_model.specs.declared.unit_view.Timers.{Timers}
 use Rattle.run_model.specs.declared.unit_view.UnitView.{UnitView}
 use Rattle.run_model.specs.Slow.{one_more, is_out_of_time}
 use Rattle.run_model.specs.Unit.{row_at, running_row, slow_row, slow_again, in_grace, out_of_time, settled, exited}
+use Rattle.run_model.specs.Unit.{result_of, awaits_env, awaiting_env, ended}
 use Rattle.run_model.specs.Unit.{leaking, heard_with, having_heard, at_moment, asked_to_end, requested, take_row}
 use Rattle.run_model.specs.Unit.{slow_timer_at, has_retry, next_delay, delayed, decided}
 use Rattle.run_model.specs.Terminate.{terminate_method}
@@ -41,19 +43,29 @@ timely_later t before now le h =
 pub at_moment_current : (now : ℕ) (u : UnitView) → u.latest ≤ now → IsCurrent u → IsCurrent (at_moment now u)
 at_moment_current now u le h = timely_later u.timers u.latest now le h
 
+-- a unit stays current where its child is done with
+exited_current : (now : ℕ) (exit : Option ChildExit) (leaked : Bool) (c : Captured) (u : UnitView) → IsCurrent u
+    → IsCurrent (exited now exit leaked c u)
+exited_current now exit leaked c u h =
+    elim (awaits_env (result_of exit c.errors leaked u) u) as
+    (λ b. IsCurrent (if b
+    then awaiting_env exit leaked c u
+    else ended now (result_of exit c.errors leaked u) (Output c.output c.errors) u))
+    [ true ↦ (h.0, tt, tt) | false ↦ (h.0, tt, tt) ]
+
 -- a unit stays current where its child ends
 settled_current : (now : ℕ) (exit : Option ChildExit) (c : Captured) (u : UnitView) → now ≤ u.latest → IsCurrent u
     → IsCurrent (settled now exit c u)
 settled_current now exit c u le h =
     elim (u.terms.skips_leak_detection || is_done c) as
     (λ b. IsCurrent (if b then exited now exit false c u else leaking now exit c u))
-    [ true ↦ (h.0, tt, tt) | false ↦ (h.0, tt, le) ]
+    [ true ↦ exited_current now exit false c u h | false ↦ (h.0, tt, le) ]
 
 -- a unit stays current where it hears a turn of a stream after its child ended
 heard_current : (now : ℕ) (c : Captured) (u : UnitView) → IsCurrent u → IsCurrent (heard_with now c u)
 heard_current now c u h =
     elim (is_done c) as (λ b. IsCurrent (if b then exited now u.exit false c u else record u { capture = c }))
-    [ true ↦ (h.0, tt, tt) | false ↦ h ]
+    [ true ↦ exited_current now u.exit false c u h | false ↦ h ]
 
 -- a unit stays current where it runs out of time
 out_of_time_current : (now n : ℕ) (u : UnitView) → now ≤ u.latest → IsCurrent u
@@ -128,9 +140,10 @@ row_current now Grace Due u le h = (h.0, h.1, tt)
 row_current now Grace Take u le h = take_current now Grace u.line u le h
 row_current now Grace turn u le h = running_current now turn u le h
 row_current now KillWait turn u le h = running_current now turn u le h
-row_current now Leak Due u le h = (h.0, tt, tt)
+row_current now Leak Due u le h = exited_current now u.exit true u.capture u h
 row_current now Leak Take u le h = take_current now Leak u.line u le h
 row_current now Leak turn u le h = heard_current now (having_heard u.capture turn) u h
+row_current now EnvWait (Env input) u le h = (h.0, tt, tt)
 row_current now Deciding (Decide word) u le h = decide_current now word u le h
 row_current now Delay Due u le h = (h.0, h.1, tt)
 row_current now Delay Take u le h = take_current now Delay u.line u le h

@@ -9,14 +9,15 @@ use Rattle.run_events.specs.declared.request.Request.TheVariants.{Shutdown, Othe
 use Rattle.run_events.specs.declared.request.TerminateReason.TheVariants.{Signal}
 use Rattle.run_events.specs.declared.request.TermSignal.{TermSignal}
 use Rattle.run_events.specs.declared.request.TermSignal.TheVariants.{Kill}
+use Rattle.run_events.specs.declared.result.ChildExecutionOutput.TheVariants.{Output}
 use Rattle.run_events.specs.declared.result.ChildExit.{ChildExit}
 use Rattle.run_events.specs.declared.settings.Settings.{Settings}
 use Rattle.run_model.specs.declared.phase.Phase.{Phase}
 use Rattle.run_model.specs.declared.phase.Phase.TheVariants.{StartSent, Starting, Running, Grace, KillWait, Leak}
-use Rattle.run_model.specs.declared.phase.Phase.TheVariants.{Deciding, Delay, RetrySent}
+use Rattle.run_model.specs.declared.phase.Phase.TheVariants.{EnvWait, Deciding, Delay, RetrySent}
 use Rattle.run_model.specs.declared.unit_turn.UnitTurn.{UnitTurn}
 use Rattle.run_model.specs.declared.unit_turn.UnitTurn.TheVariants.{Answered, Started, StartFailed, Exit, WaitFailed}
-use Rattle.run_model.specs.declared.unit_turn.UnitTurn.TheVariants.{Due, Take, Decide}
+use Rattle.run_model.specs.declared.unit_turn.UnitTurn.TheVariants.{Env, Due, Take, Decide}
 use Rattle.run_model.specs.declared.unit_view.UnitView.{UnitView}
 use Rattle.run_model.specs.Admission.{AreFew, retries_of, terms_if}
 use Rattle.run_model.specs.Backoff.{retry_count}
@@ -24,6 +25,7 @@ use Rattle.run_model.specs.Environment.{attempts}
 use Rattle.run_model.specs.Slow.{one_more, is_out_of_time}
 use Rattle.run_model.specs.Terminate.{terminate_method}
 use Rattle.run_model.specs.Unit.{row_at, running_row, slow_row, slow_again, in_grace, out_of_time, settled, exited}
+use Rattle.run_model.specs.Unit.{result_of, awaits_env, awaiting_env, ended}
 use Rattle.run_model.specs.Unit.{leaking, heard_with, having_heard, asked_to_end, requested, take_row}
 use Rattle.run_model.specs.Unit.{has_retry, next_delay, delayed, decided}
 use Rattle.run_unit.specs.Tried.{last_in, IsTried}
@@ -50,19 +52,29 @@ tried_in : (ph : Phase) (u : UnitView) → u.phase ≡ ph → IsTried u
 tried_in ph u is h =
     (h.0, h.1, subst (λ (ph : Phase). u.attempt ≤ last_in ph (retry_count u.terms.retries)) is h.2)
 
--- it is at one of its attempts where its child ends
+-- it is at one of its attempts where its child is done with
+exited_tried : (now : ℕ) (exit : Option ChildExit) (leaked : Bool) (c : Captured) (u : UnitView) → IsTried u
+    → IsTried (exited now exit leaked c u)
+exited_tried now exit leaked c u h =
+    elim (awaits_env (result_of exit c.errors leaked u) u) as
+    (λ b. IsTried (if b
+    then awaiting_env exit leaked c u
+    else ended now (result_of exit c.errors leaked u) (Output c.output c.errors) u))
+    [ true ↦ tried_on u h | false ↦ tried_on u h ]
+
+-- where its child ends
 settled_tried : (now : ℕ) (exit : Option ChildExit) (c : Captured) (u : UnitView) → IsTried u
     → IsTried (settled now exit c u)
 settled_tried now exit c u h =
     elim (u.terms.skips_leak_detection || is_done c) as
     (λ b. IsTried (if b then exited now exit false c u else leaking now exit c u))
-    [ true ↦ tried_on u h | false ↦ tried_on u h ]
+    [ true ↦ exited_tried now exit false c u h | false ↦ tried_on u h ]
 
 -- where it hears a turn of a stream after its child ended
 heard_tried : (now : ℕ) (c : Captured) (u : UnitView) → IsTried u → IsTried (heard_with now c u)
 heard_tried now c u h =
     elim (is_done c) as (λ b. IsTried (if b then exited now u.exit false c u else record u { capture = c }))
-    [ true ↦ tried_on u h | false ↦ h ]
+    [ true ↦ exited_tried now u.exit false c u h | false ↦ h ]
 
 -- where it runs out of time
 out_of_time_tried : (now n : ℕ) (u : UnitView) → IsTried u
@@ -136,9 +148,10 @@ row_tried now Grace Due u is h = tried_on u h
 row_tried now Grace Take u is h = take_tried now Grace u.line u is h
 row_tried now Grace turn u is h = running_tried now turn u h
 row_tried now KillWait turn u is h = running_tried now turn u h
-row_tried now Leak Due u is h = tried_on u h
+row_tried now Leak Due u is h = exited_tried now u.exit true u.capture u h
 row_tried now Leak Take u is h = take_tried now Leak u.line u is h
 row_tried now Leak turn u is h = heard_tried now (having_heard u.capture turn) u h
+row_tried now EnvWait (Env input) u is h = tried_on u h
 row_tried now Deciding (Decide word) u is h = decide_tried now word u (has_retry u) refl h
 row_tried now Delay Due u is h = tried_in Delay u is h
 row_tried now Delay Take u is h = take_tried now Delay u.line u is h

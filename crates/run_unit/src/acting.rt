@@ -10,11 +10,12 @@ ghost use Rattle.run_unit.specs.Tried.{IsTried};
 
 use crate::effects::{UnitEffects, quiet};
 use crate::ending::{end_child, end_wait, fail_start, hear_after, leave_streams};
-use crate::first::let_go;
+use crate::env::read_env;
 use crate::hearing::{hear, hears, is_heard};
 use crate::requests::{has_request, take};
 use crate::retry::{answer_retry, decide, retry};
 use crate::slow::{be_slow, kill};
+use crate::start::let_go;
 use crate::timing::{is_timer_due, slow_timer_at};
 use run_capture::Mem;
 use run_model::{Phase, UnitTurn, UnitView};
@@ -33,6 +34,7 @@ pub fn is_enabled(view: &UnitView, turn: &UnitTurn, now: u64) -> bool
         UnitTurn::Exit { .. } | UnitTurn::WaitFailed { .. } => {
             matches!(view.phase, Phase::Running | Phase::Grace | Phase::KillWait)
         }
+        UnitTurn::Env { .. } => matches!(view.phase, Phase::EnvWait),
         UnitTurn::Due => is_timer_due(view, now),
         UnitTurn::Take => {
             matches!(
@@ -97,6 +99,7 @@ fn act_itself(alloc: Global, view: &mut UnitView, turn: UnitTurn, now: u64) -> M
         UnitTurn::StartFailed { error } => fail_start(alloc, view, error, now),
         UnitTurn::Exit { exit } => end_child(alloc, view, exit, now),
         UnitTurn::WaitFailed { error } => end_wait(alloc, view, error, now),
+        UnitTurn::Env { input } => read_env(alloc, view, &input, now),
         UnitTurn::Due => be_due(alloc, view, now),
         UnitTurn::Take => take(alloc, view, now),
         UnitTurn::Decide { word } => decide(alloc, view, word, now),

@@ -1,8 +1,10 @@
 // The end of an attempt.
 ghost use Rattle.std.specs.Prelude.{◌≡◌, ◌≤◌, ◌<◌, ◌^◌, [], OnErr, IfOk, OnOk, false, true};
-ghost use Rattle.std.specs.Prelude.{Some, vec_len, vec_capacity};
+ghost use Rattle.std.specs.Prelude.{vec_len, vec_capacity};
 ghost use Rattle.run_model.specs.Environment.{attempts as attempts_of};
-ghost use Rattle.run_model.specs.Unit.{row_at, running_row, waited_row, exited, settled, hears, heard_with};
+ghost use Rattle.run_events.specs.declared.result.ChildExecutionOutput.TheVariants.{Output};
+ghost use Rattle.run_model.specs.Unit.{row_at, running_row, waited_row, ended, exited, awaits_env, awaiting_env};
+ghost use Rattle.run_model.specs.Unit.{settled, hears, heard_with};
 ghost use Rattle.run_model.specs.Unit.{having_heard, quiet as quiet_row};
 ghost use Rattle.run_model.specs.Admission.{is_last};
 ghost use Rattle.run_model.specs.declared.phase.Phase.TheVariants as phases;
@@ -11,7 +13,7 @@ ghost use Rattle.run_unit.specs.Effects.{IsRow};
 
 use crate::effects::{UnitEffects, quiet};
 use crate::hearing::hear;
-use crate::status::{close, exit_status, status_at};
+use crate::status::{close, result_of, status_at};
 use run_capture::{ChildAccumulator, List, Mem, OutOfMemory, Text};
 use run_clock::PausableSleep;
 use run_events::{ChildExecutionOutput, ChildExit, ExecuteStatus, ExecutionResult};
@@ -96,12 +98,12 @@ pub fn leave_streams(alloc: Global, view: &mut UnitView, now: u64) -> Mem<UnitEf
 {
     let attempts = make_room(alloc, &mut view.statuses)?;
     let exit = view.exit;
-    end_attempt(view, attempts, exit, true, now);
+    be_done(view, attempts, exit, true, now);
     Ok(quiet(false))
 }
 
-// Takes the attempts out, with room for one more.
-fn make_room(alloc: Global, statuses: &mut List<ExecuteStatus>) -> Mem<Vec<ExecuteStatus>>
+/// Takes the attempts out, with room for one more.
+pub fn make_room(alloc: Global, statuses: &mut List<ExecuteStatus>) -> Mem<Vec<ExecuteStatus>>
     ensures items { IfOk result (λ attempts. attempts.items ≡ statuses.old) }
     ensures room { IfOk result (λ attempts. vec_len attempts < vec_capacity attempts) }
     ensures ok { OnOk result (statuses.new ≡ []) }
@@ -120,10 +122,11 @@ fn settle(view: &mut UnitView, attempts: Vec<ExecuteStatus>, exit: Option<ChildE
     requires few { attempts_of view.old < 2 ^ 32 }
     requires early { view.old.timers.stopwatch.latest ≤ now }
     requires room { vec_len attempts < vec_capacity attempts }
-    ensures { view.new ≡ settled now exit view.old.capture (record view.old { statuses = attempts.items }) }
+    ensures settled { view.new ≡ settled now exit view.old.capture (record view.old { statuses = attempts.items }) }
+    ensures going { is_last view.new.phase ≡ false }
 {
     if view.terms.skips_leak_detection || view.capture.is_done() {
-        end_attempt(view, attempts, exit, false, now);
+        be_done(view, attempts, exit, false, now);
     } else {
         view.statuses = List::from_vec(attempts);
         view.phase = Phase::Leak;
@@ -144,14 +147,14 @@ fn go_on(view: &mut UnitView, attempts: Vec<ExecuteStatus>, now: u64)
 {
     if view.capture.is_done() {
         let exit = view.exit;
-        end_attempt(view, attempts, exit, false, now);
+        be_done(view, attempts, exit, false, now);
     } else {
         view.statuses = List::from_vec(attempts);
     }
 }
 
-// Its attempt ends, after these: what was captured moves into its status.
-fn end_attempt(
+// Its child is done with: its attempt ends, after these, or its environment file is to be read.
+fn be_done(
     view: &mut UnitView,
     attempts: Vec<ExecuteStatus>,
     exit: Option<ChildExit>,
@@ -161,11 +164,54 @@ fn end_attempt(
     requires few { attempts_of view.old < 2 ^ 32 }
     requires early { view.old.timers.stopwatch.latest ≤ now }
     requires room { vec_len attempts < vec_capacity attempts }
-    ensures { view.new ≡ exited now exit leaked view.old.capture (record view.old { statuses = attempts.items }) }
+    ensures done { view.new ≡ exited now exit leaked view.old.capture (record view.old { statuses = attempts.items }) }
+    ensures going { is_last view.new.phase ≡ false }
+{
+    let outcome = result_of(view, exit, view.capture.errors(), leaked);
+    if awaits_env(view, outcome) {
+        view.statuses = List::from_vec(attempts);
+        await_env(view, exit, leaked);
+    } else {
+        end_attempt(view, attempts, outcome, now);
+    }
+}
+
+// Whether its environment file is to be read where its child ended with this result.
+fn awaits_env(view: &UnitView, outcome: ExecutionResult) -> bool
+    ensures { result ≡ awaits_env outcome view.now }
+{
+    view.terms.reads_env && outcome.is_success()
+}
+
+// It waits for that, with how its child ended.
+fn await_env(view: &mut UnitView, exit: Option<ChildExit>, leaked: bool)
+    ensures { view.new ≡ awaiting_env exit leaked view.old.capture view.old }
+{
+    view.phase = Phase::EnvWait;
+    view.timers.slow = None;
+    view.timers.wait = None;
+    view.exit = exit;
+    view.leaked = leaked;
+}
+
+/// Its attempt ends, after these, with this result: what was captured moves into its status.
+pub fn end_attempt(
+    view: &mut UnitView,
+    attempts: Vec<ExecuteStatus>,
+    outcome: ExecutionResult,
+    now: u64,
+)
+    requires few { attempts_of view.old < 2 ^ 32 }
+    requires early { view.old.timers.stopwatch.latest ≤ now }
+    requires room { vec_len attempts < vec_capacity attempts }
+    ensures { view.new ≡ ended now outcome (Output view.old.capture.output view.old.capture.errors)
+        (record view.old { statuses = attempts.items }) }
 {
     let mut attempts = attempts;
     let capture = mem::replace(&mut view.capture, ChildAccumulator::uncaptured());
-    let status = exit_status(view, exit, leaked, capture, now);
+    let (output, errors) = capture.freeze();
+    let output = ChildExecutionOutput::Output { output, errors };
+    let status = status_at(view, outcome, output, now);
     attempts.push_reserved(status);
     view.statuses = List::from_vec(attempts);
     close(view);

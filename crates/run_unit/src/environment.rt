@@ -1,13 +1,14 @@
-// The start of a test's child: its command and its variables.
+// The variables of a unit's child.
 ghost use Rattle.std.specs.Prelude.{◌≡◌, ◌<◌, ◌^◌, ◌++◌, ◌∷◌, [], IfOk, decimal, codes};
 ghost use Rattle.uuid.specs.Text.{hyphenated_text, lower};
-ghost use Rattle.run_model.specs.Environment.{start_ask, environment, identity_variables, place_variables, mode_name};
-ghost use Rattle.run_model.specs.Environment.{attempts, group_name, group_number, streams_of};
+ghost use Rattle.run_model.specs.Environment.{attempts, mode_name, group_name, group_number, run_variables};
+ghost use Rattle.run_model.specs.Environment.{shared_variables, identity_variables, place_variables, test_variables};
+ghost use Rattle.run_model.specs.Environment.{script_variables, environment_as};
 
-use crate::retry::attempts;
-use run_capture::{CaptureStrategy, Duplicate, List, Mem, Stream, Text};
-use run_events::{Ask, GroupSlot, RunMode, StartAsk};
-use run_model::UnitView;
+use crate::messages::attempts;
+use run_capture::{Duplicate, List, Mem, Text};
+use run_events::{GroupSlot, RunMode};
+use run_model::{ScriptRole, Surroundings, TestRole, UnitRole, UnitView};
 use std::alloc::Global;
 use uuid::Uuid;
 
@@ -67,23 +68,39 @@ fn mode_name(mode: RunMode) -> &'static str
     }
 }
 
-#[tactic(auto, unfolding(run_model::specs::Environment::identity_variables))]
-fn identity_variables(alloc: Global, unit: &UnitView) -> Mem<Vec<(Text, Text)>>
-    requires { attempts unit.now < 2 ^ 32 }
-    ensures { IfOk result (λ v. v.items ≡ identity_variables unit.now) }
+// Which run it is.
+fn run_variables(alloc: Global, around: &Surroundings) -> Mem<Variables>
+    ensures { IfOk result (λ v. v.items ≡ run_variables around.now) }
 {
     let list = Vec::new(alloc);
-    let list = with_id(alloc, list, "NEXTEST_RUN_ID", unit.around.run_id)?;
-    let list = with_text(alloc, list, "NEXTEST_RUN_MODE", mode_name(unit.around.mode))?;
-    let list = with_text(
-        alloc,
-        list,
-        "NEXTEST_BINARY_ID",
-        unit.test.id.binary.as_str(),
-    )?;
-    let list = with_text(alloc, list, "NEXTEST_TEST_NAME", unit.test.id.name.as_str())?;
-    let list = with_number(alloc, list, "NEXTEST_ATTEMPT", unit.attempt)?;
-    let list = with_number(alloc, list, "NEXTEST_TOTAL_ATTEMPTS", attempts(unit))?;
+    let list = with_id(alloc, list, "NEXTEST_RUN_ID", around.run_id)?;
+    let list = with_text(alloc, list, "NEXTEST_RUN_MODE", mode_name(around.mode))?;
+    Ok(list)
+}
+
+// How much runs at a time, and in which folder.
+fn shared_variables(alloc: Global, around: &Surroundings) -> Mem<Variables>
+    ensures { IfOk result (λ v. v.items ≡ shared_variables around.now) }
+{
+    let list = Vec::new(alloc);
+    let list = with_number(alloc, list, "NEXTEST_TEST_THREADS", around.threads)?;
+    let root = around.workspace_root.as_str();
+    let list = with_text(alloc, list, "NEXTEST_WORKSPACE_ROOT", root)?;
+    Ok(list)
+}
+
+// Which attempt of which test it is.
+#[tactic(auto, unfolding(run_model::specs::Environment::identity_variables))]
+fn identity_variables(alloc: Global, role: &TestRole, view: &UnitView) -> Mem<Variables>
+    requires { attempts view.now < 2 ^ 32 }
+    ensures { IfOk result (λ v. v.items ≡ identity_variables role.now view.now) }
+{
+    let id = &role.test.id;
+    let list = Vec::new(alloc);
+    let list = with_text(alloc, list, "NEXTEST_BINARY_ID", id.binary.as_str())?;
+    let list = with_text(alloc, list, "NEXTEST_TEST_NAME", id.name.as_str())?;
+    let list = with_number(alloc, list, "NEXTEST_ATTEMPT", view.attempt)?;
+    let list = with_number(alloc, list, "NEXTEST_TOTAL_ATTEMPTS", attempts(view))?;
     Ok(list)
 }
 
@@ -115,83 +132,79 @@ fn with_group(alloc: Global, list: Variables, group: &Option<GroupSlot>) -> Mem<
     }
 }
 
+// Where it runs.
 #[tactic(auto, unfolding(run_model::specs::Environment::place_variables))]
-fn place_variables(alloc: Global, unit: &UnitView) -> Mem<Vec<(Text, Text)>>
-    ensures { IfOk result (λ v. v.items ≡ place_variables unit.now) }
+fn place_variables(alloc: Global, role: &TestRole) -> Mem<Variables>
+    ensures { IfOk result (λ v. v.items ≡ place_variables role.now) }
 {
     let list = stress_variables(alloc)?;
-    let list = with_number(alloc, list, "NEXTEST_TEST_GLOBAL_SLOT", unit.slot.global)?;
-    let list = with_group(alloc, list, &unit.slot.group)?;
-    let list = with_number(alloc, list, "NEXTEST_TEST_THREADS", unit.around.threads)?;
-    let list = with_text(
-        alloc,
-        list,
-        "NEXTEST_WORKSPACE_ROOT",
-        unit.around.workspace_root.as_str(),
-    )?;
+    let list = with_number(alloc, list, "NEXTEST_TEST_GLOBAL_SLOT", role.slot.global)?;
+    let list = with_group(alloc, list, &role.slot.group)?;
     Ok(list)
 }
 
-#[tactic(auto, unfolding(run_model::specs::Environment::environment))]
-fn environment(alloc: Global, unit: &UnitView) -> Mem<List<(Text, Text)>>
-    requires { attempts unit.now < 2 ^ 32 }
-    ensures { IfOk result (λ v. v ≡ environment unit.now) }
+// Some variables, and then others.
+fn followed_by(front: Variables, back: Variables) -> Mem<Variables>
+    ensures { IfOk result (λ v. v.items ≡ front.items ++ back.items) }
 {
-    let mut env = identity_variables(alloc, unit)?;
-    let mut place = place_variables(alloc, unit)?;
-    env.append(&mut place)?;
-    let mut versions = unit.around.versions.copy(alloc)?.into_vec(alloc);
-    env.append(&mut versions)?;
-    Ok(List::from_vec(env))
+    let mut front = front;
+    let mut back = back;
+    front.append(&mut back)?;
+    Ok(front)
 }
 
-// The streams that a strategy captures, in order.
-fn streams_of(alloc: Global, strategy: CaptureStrategy) -> Mem<List<Stream>>
-    ensures { IfOk result (λ streams. streams ≡ streams_of strategy) }
+// Those that all children have alike, and then these.
+fn shared_then(alloc: Global, around: &Surroundings, own: Variables) -> Mem<Variables>
+    ensures { IfOk result (λ v. v.items ≡ shared_variables around.now ++ (around.now.versions ++ own.items)) }
 {
-    let mut streams = List::new();
-    match strategy {
-        CaptureStrategy::None => Ok(streams),
-        CaptureStrategy::Split => {
-            streams.push(alloc, Stream::Stdout)?;
-            streams.push(alloc, Stream::Stderr)?;
-            Ok(streams)
-        }
-        CaptureStrategy::Combined => {
-            streams.push(alloc, Stream::Combined)?;
-            Ok(streams)
-        }
-    }
+    let shared = shared_variables(alloc, around)?;
+    let versions = around.versions.copy(alloc)?.into_vec(alloc);
+    let outside = followed_by(versions, own)?;
+    followed_by(shared, outside)
 }
 
-/// These words and then those of a command.
-pub fn followed_by(alloc: Global, words: List<Text>, command: &List<Text>) -> Mem<List<Text>>
-    ensures { IfOk result (λ all. all ≡ words ++ command.now) }
+// Where a test runs, and what comes after that.
+fn place_then(alloc: Global, role: &TestRole, around: &Surroundings) -> Mem<Variables>
+    ensures { IfOk result (λ v. v.items ≡ place_variables role.now
+        ++ (shared_variables around.now ++ (around.now.versions ++ role.now.handed))) }
 {
-    let mut words = words.into_vec(alloc);
-    let mut own = command.copy(alloc)?.into_vec(alloc);
-    words.append(&mut own)?;
-    Ok(List::from_vec(words))
+    let handed = role.handed.copy(alloc)?.into_vec(alloc);
+    let shared = shared_then(alloc, around, handed)?;
+    let place = place_variables(alloc, role)?;
+    followed_by(place, shared)
 }
 
-/// The start that is asked where an attempt is let go, of a test whose attempts fit in a `u32`.
-#[tactic(auto, unfolding(run_model::specs::Environment::start_ask))]
-pub fn start_of(alloc: Global, unit: &UnitView) -> Mem<Ask>
-    requires { attempts unit.now < 2 ^ 32 }
-    ensures { IfOk result (λ ask. ask ≡ start_ask unit.now) }
+// Those of a test's child.
+#[tactic(auto, unfolding(run_model::specs::Environment::test_variables))]
+fn test_variables(alloc: Global, role: &TestRole, view: &UnitView) -> Mem<Variables>
+    requires { attempts view.now < 2 ^ 32 }
+    ensures { IfOk result (λ v. v.items ≡ test_variables role.now view.now) }
 {
-    let wrapper = unit.around.wrapper.copy(alloc)?;
-    let command = followed_by(alloc, wrapper, &unit.command)?;
-    let streams = streams_of(alloc, unit.terms.strategy)?;
-    let env = environment(alloc, unit)?;
-    Ok(Ask::Start(StartAsk {
-        unit: unit.test.unit,
-        attempt: unit.attempt,
-        command,
-        env,
-        group: unit.around.group,
-        stdin: unit.around.stdin,
-        streams,
-        env_path: None,
-    }))
+    let place = place_then(alloc, role, &view.around)?;
+    let identity = followed_by(identity_variables(alloc, role, view)?, place)?;
+    followed_by(run_variables(alloc, &view.around)?, identity)
+}
+
+// Those of a script's child.
+#[tactic(auto, unfolding(run_model::specs::Environment::script_variables))]
+fn script_variables(alloc: Global, role: &ScriptRole, view: &UnitView) -> Mem<Variables>
+    ensures { IfOk result (λ v. v.items ≡ script_variables role.now view.now) }
+{
+    let path = role.env_path.as_str();
+    let list = with_text(alloc, Vec::new(alloc), "NEXTEST_ENV", path)?;
+    let list = followed_by(list, run_variables(alloc, &view.around)?)?;
+    let shared = shared_then(alloc, &view.around, Vec::new(alloc))?;
+    followed_by(list, shared)
+}
+
+/// The variables of a unit's child, in order.
+pub fn environment(alloc: Global, view: &UnitView) -> Mem<List<(Text, Text)>>
+    requires { attempts view.now < 2 ^ 32 }
+    ensures { IfOk result (λ v. v ≡ environment_as view.now.role view.now) }
+{
+    let list = match &view.role {
+        UnitRole::Test(role) => test_variables(alloc, role, view)?,
+        UnitRole::Script(role) => script_variables(alloc, role, view)?,
+    };
+    Ok(List::from_vec(list))
 }

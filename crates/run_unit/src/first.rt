@@ -1,19 +1,45 @@
-// A test as it begins, and an attempt of it that is let go.
-ghost use Rattle.std.specs.Prelude.{◌≡◌, ◌<◌, ◌^◌, ◌∷◌, ◌++◌, IfOk, OnErr};
+// A unit as it begins.
+ghost use Rattle.std.specs.Prelude.{◌≡◌, ◌∷◌, IfOk};
 ghost use Rattle.run_commands.specs.TargetRunner.{binary_of, args_of};
-ghost use Rattle.run_model.specs.Admission.{first_view, flaky_of, retries_of, terms_of, surroundings_of, command_of};
-ghost use Rattle.run_model.specs.Environment.{attempts};
-ghost use Rattle.run_model.specs.Unit.{begun_row};
-ghost use Rattle.run_unit.specs.Effects.{IsRow};
+ghost use Rattle.run_model.specs.Admission.{begun_view, flaky_of, retries_of, terms_of, surroundings_of, command_of};
+ghost use Rattle.run_model.specs.Admission.{streams_by, test_role, first_view};
 
-use crate::effects::UnitEffects;
-use crate::environment::{followed_by, start_of};
+use crate::messages::test_unit;
+use crate::start::followed_by;
 use crate::timing::timers_from;
-use run_capture::{ChildAccumulator, Duplicate, List, Mem, Text};
+use run_capture::{CaptureStrategy, ChildAccumulator, Duplicate, List, Mem, Text};
 use run_commands::PlatformRunner;
-use run_events::{FlakyResult, PlanTest, RetryPolicy, Settings, TestSlotAssignment, TestUnit};
-use run_model::{AttemptTerms, Phase, Surroundings, UnitView};
+use run_events::{FlakyResult, PlanTest, RetryPolicy, ScriptEnv, Settings, TestSlotAssignment};
+use run_model::{AttemptTerms, CapturedStreams, Phase, Surroundings, TestRole, UnitRole, UnitView};
 use std::alloc::Global;
+
+/// A unit as it begins, in this role, with this command, in these surroundings and on these terms.
+pub fn begun_view(
+    role: UnitRole,
+    command: List<Text>,
+    around: Surroundings,
+    terms: AttemptTerms,
+) -> UnitView
+    ensures { result ≡ begun_view role command around terms }
+{
+    UnitView {
+        role,
+        command,
+        around,
+        terms,
+        phase: Phase::StartSent,
+        attempt: 1,
+        delay: 0,
+        timers: timers_from(0),
+        line: List::new(),
+        latest: 0,
+        capture: ChildAccumulator::uncaptured(),
+        exit: None,
+        leaked: false,
+        env: ScriptEnv::Unread,
+        statuses: List::new(),
+    }
+}
 
 // What a pass after a failed attempt counts as: for all tests alike where that is set.
 fn flaky_of(settings: &Settings, test: &PlanTest) -> FlakyResult
@@ -35,23 +61,41 @@ fn retries_of(settings: &Settings, test: &PlanTest) -> RetryPolicy
     }
 }
 
+// The streams of a test's child that a strategy captures.
+fn streams_by(strategy: CaptureStrategy) -> CapturedStreams
+    ensures { result ≡ streams_by strategy }
+{
+    match strategy {
+        CaptureStrategy::None => CapturedStreams::Apart {
+            stdout: false,
+            stderr: false,
+        },
+        CaptureStrategy::Split => CapturedStreams::Apart {
+            stdout: true,
+            stderr: true,
+        },
+        CaptureStrategy::Combined => CapturedStreams::Combined,
+    }
+}
+
 // On which terms the attempts of a test run.
 fn terms_of(settings: &Settings, test: &PlanTest) -> AttemptTerms
     ensures { result ≡ terms_of settings.now test.now }
 {
     let interceptor = &settings.interceptor;
     AttemptTerms {
-        strategy: settings.capture,
+        streams: streams_by(settings.capture),
         slow: test.slow,
         leak: test.leak,
         disables_timeouts: interceptor.should_disable_timeouts(),
         skips_leak_detection: interceptor.should_skip_leak_detection(),
+        reads_env: false,
         retries: retries_of(settings, test),
     }
 }
 
-// What the children of a run have alike.
-fn surroundings_of(alloc: Global, settings: &Settings) -> Mem<Surroundings>
+/// What the children of tests have alike.
+pub fn surroundings_of(alloc: Global, settings: &Settings) -> Mem<Surroundings>
     ensures { IfOk result (λ around. around ≡ surroundings_of settings.now) }
 {
     let head = &settings.plan.head;
@@ -109,55 +153,39 @@ fn start_parts(
     Ok((command, around))
 }
 
-/// A planned test as the unit of this number.
+// A planned test as the unit of this number, in this slot, where its scripts handed these variables on.
+fn test_role(
+    alloc: Global,
+    settings: &Settings,
+    unit: u32,
+    slot: TestSlotAssignment,
+    handed: List<(Text, Text)>,
+    planned: &PlanTest,
+) -> Mem<UnitRole>
+    ensures { IfOk result (λ role. role ≡ test_role settings.now unit slot handed planned.now) }
+{
+    let test = test_unit(alloc, unit, planned)?;
+    Ok(UnitRole::Test(TestRole {
+        test,
+        slot,
+        flaky: flaky_of(settings, planned),
+        handed,
+    }))
+}
+
+/// A planned test as it begins: as the unit of this number, in this slot, where its scripts handed these variables on.
 pub fn first_view(
     alloc: Global,
     settings: &Settings,
     unit: u32,
     slot: TestSlotAssignment,
+    handed: List<(Text, Text)>,
     planned: &PlanTest,
 ) -> Mem<UnitView>
-    ensures { IfOk result (λ u. u ≡ first_view settings.now unit slot planned.now) }
+    ensures { IfOk result (λ u. u ≡ first_view settings.now unit slot handed planned.now) }
 {
-    let id = planned.id.copy(alloc)?;
+    let role = test_role(alloc, settings, unit, slot, handed, planned)?;
     let (command, around) = start_parts(alloc, settings, planned)?;
-    Ok(UnitView {
-        test: TestUnit {
-            unit,
-            id,
-            stress_index: None,
-        },
-        command,
-        slot,
-        flaky: flaky_of(settings, planned),
-        around,
-        terms: terms_of(settings, planned),
-        phase: Phase::StartSent,
-        attempt: 1,
-        delay: 0,
-        timers: timers_from(0),
-        line: List::new(),
-        latest: 0,
-        capture: ChildAccumulator::uncaptured(),
-        exit: None,
-        statuses: List::new(),
-    })
-}
-
-/// It is let go: its attempt begins now, and its start is asked.
-pub fn let_go(alloc: Global, view: &mut UnitView, now: u64) -> Mem<UnitEffects>
-    requires { attempts view.old < 2 ^ 32 }
-    ensures row { IfOk result (IsRow (begun_row now view.old) view.new) }
-    ensures err { OnErr result (view.new ≡ view.old) }
-{
-    let capture = ChildAccumulator::new(alloc, view.terms.strategy)?;
-    let ask = start_of(alloc, view)?;
-    view.phase = Phase::Starting;
-    view.timers = timers_from(now);
-    view.capture = capture;
-    Ok(UnitEffects {
-        sent: None,
-        asked: Some(ask),
-        over: false,
-    })
+    let terms = terms_of(settings, planned);
+    Ok(begun_view(role, command, around, terms))
 }

@@ -1,26 +1,32 @@
-//! A test with its attempts as a state: each step is one row of the unit table of `run_model`, with
-//! the message that it sends and what it asks. The engine uses these contracts and nothing else.
+//! A setup script, or a test with its attempts, as a state: each step is one row of the unit table of
+//! `run_model`, with the message that it sends and what it asks. The engine uses these contracts and
+//! nothing else.
 #![tactic(auto)]
 
 mod acting;
 mod effects;
 mod ending;
+mod env;
 mod environment;
 mod first;
 mod hearing;
+mod messages;
 mod requests;
 mod retry;
 mod same;
+mod script;
 mod slow;
+mod start;
 mod status;
 mod terminate;
 mod timing;
 mod unit;
 
 pub use effects::UnitEffects;
+pub use messages::skip_message;
 // `start_of` has the environment in its contract, and the next four are the given surface of a unit.
-pub use environment::start_of;
 pub use run_events::create_execution_result;
 pub use run_model::{BackoffIter, Phase, UnitTurn};
+pub use start::start_of;
 pub use terminate::terminate_method;
 pub use unit::Unit;

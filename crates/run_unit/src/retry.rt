@@ -1,9 +1,8 @@
 // The attempts after the first: whether an attempt is tried again, after which delay, and from when on.
-ghost use Rattle.std.specs.Prelude.{ℕ, ◌≡◌, ◌≤◌, ◌<◌, ◌^◌, OnErr, IfOk, option_map, true};
-ghost use Rattle.run_events.specs.declared.message.Message.TheVariants.{Finish};
+ghost use Rattle.std.specs.Prelude.{ℕ, ◌≡◌, ◌≤◌, ◌<◌, ◌^◌, OnErr, IfOk, true};
 ghost use Rattle.run_model.specs.Backoff.{retry_count};
-ghost use Rattle.run_model.specs.Environment.{attempts, test_start};
-ghost use Rattle.run_model.specs.Unit.{has_passed, has_retry, last_status, next_delay, failed_message, finish_message};
+ghost use Rattle.run_model.specs.Environment.{attempts};
+ghost use Rattle.run_model.specs.Unit.{has_passed, has_retry, last_status};
 ghost use Rattle.run_model.specs.Unit.{decide_row, decided, delayed, retried, has_request, take_row, row_at, begun_row, at_next};
 ghost use Rattle.run_model.specs.declared.phase.Phase.TheVariants as phases;
 ghost use Rattle.run_model.specs.declared.unit_turn.UnitTurn.TheVariants as turns;
@@ -11,37 +10,14 @@ ghost use Rattle.run_unit.specs.Effects.{IsRow};
 ghost use Rattle.run_unit.specs.Tried.{ends_delay};
 
 use crate::effects::{UnitEffects, quiet};
-use crate::first::let_go;
+use crate::messages::{failure_message, finish_message, retry_message};
 use crate::requests::take_oldest;
-use run_capture::{Duplicate, List, Mem};
+use crate::start::let_go;
+use run_capture::{List, Mem};
 use run_clock::PausableSleep;
-use run_events::{
-    AttemptFailed, ExecuteStatus, Message, Request, TestFinish, TestRetry, TestStart,
-};
+use run_events::{ExecuteStatus, Request};
 use run_model::{Phase, UnitView, delay_by, retry_count};
 use std::alloc::Global;
-
-/// How many attempts a test has at most.
-pub fn attempts(view: &UnitView) -> u32
-    requires { attempts view.now < 2 ^ 32 }
-    ensures { result ≡ attempts view.now }
-{
-    retry_count(&view.terms.retries) + 1
-}
-
-/// A test, as its starts tell it.
-pub fn test_start(alloc: Global, view: &UnitView) -> Mem<TestStart>
-    ensures { IfOk result (λ start. start ≡ test_start view.now) }
-{
-    let command = view.command.copy(alloc)?;
-    let slot = view.slot.copy(alloc)?;
-    let test = view.test.copy(alloc)?;
-    Ok(TestStart {
-        test,
-        command,
-        slot,
-    })
-}
 
 /// It decides: where its attempt failed and a retry is left, it is tried again after a delay, drawn with this word.
 pub fn decide(alloc: Global, view: &mut UnitView, word: u32, now: u64) -> Mem<UnitEffects>
@@ -80,26 +56,13 @@ fn finish(alloc: Global, view: &mut UnitView) -> Mem<UnitEffects>
     ensures row { IfOk result (IsRow (decided view.old) view.new) }
     ensures err { OnErr result (view.new ≡ view.old) }
 {
-    let finish = finish_of(alloc, view)?;
+    let sent = finish_message(alloc, view)?;
     view.phase = Phase::Over;
     view.line = List::new();
     Ok(UnitEffects {
-        sent: Some(Message::Finish(finish)),
+        sent,
         asked: None,
         over: true,
-    })
-}
-
-// What is told of a test that is done.
-fn finish_of(alloc: Global, view: &UnitView) -> Mem<TestFinish>
-    ensures { IfOk result (λ finish. Finish finish ≡ finish_message view.now) }
-{
-    let statuses = view.statuses.copy(alloc)?;
-    let test = view.test.copy(alloc)?;
-    Ok(TestFinish {
-        test,
-        statuses,
-        flaky: view.flaky,
     })
 }
 
@@ -108,7 +71,7 @@ fn wait_for_retry(alloc: Global, view: &mut UnitView, delay: u64, now: u64) -> M
     ensures row { IfOk result (IsRow (delayed now delay view.old) view.new) }
     ensures err { OnErr result (view.new ≡ view.old) }
 {
-    let sent = failed_message(alloc, view, delay)?;
+    let sent = failure_message(alloc, view, delay)?;
     view.phase = Phase::Delay;
     view.timers.wait = Some(PausableSleep::new(now, delay));
     view.delay = delay;
@@ -119,25 +82,6 @@ fn wait_for_retry(alloc: Global, view: &mut UnitView, delay: u64, now: u64) -> M
     })
 }
 
-// The message that its last attempt failed, and that the next comes after this delay.
-#[tactic(auto, using(crate::proofs::RetryLemmas::last_given))]
-fn failed_message(alloc: Global, view: &UnitView, delay: u64) -> Mem<Option<Message>>
-    ensures { IfOk result (λ sent. sent ≡ option_map (failed_message delay view.now) (last_status view.now.statuses)) }
-{
-    match view.statuses.as_slice().last() {
-        Some(status) => {
-            let test = view.test.copy(alloc)?;
-            let status = status.copy(alloc)?;
-            Ok(Some(Message::AttemptFailed(AttemptFailed {
-                test,
-                status,
-                delay_next: delay,
-            })))
-        }
-        None => Ok(None),
-    }
-}
-
 /// The delay before its next attempt is over: its retry is told, and it waits to be let go.
 pub fn retry(alloc: Global, view: &mut UnitView) -> Mem<UnitEffects>
     requires few { attempts view.old < 2 ^ 32 }
@@ -145,16 +89,11 @@ pub fn retry(alloc: Global, view: &mut UnitView) -> Mem<UnitEffects>
     ensures row { IfOk result (IsRow (retried view.old) view.new) }
     ensures err { OnErr result (view.new ≡ view.old) }
 {
-    let start = test_start(alloc, view)?;
-    let retry = TestRetry {
-        start,
-        attempt: view.attempt + 1,
-        attempts: attempts(view),
-    };
+    let sent = retry_message(alloc, view)?;
     view.phase = Phase::RetrySent;
     view.timers.wait = None;
     Ok(UnitEffects {
-        sent: Some(Message::Retry(retry)),
+        sent,
         asked: None,
         over: false,
     })

@@ -7,11 +7,11 @@ ghost use Rattle.run_model.specs.Unit.{signal_ask, slow_message, slow_row, kille
 ghost use Rattle.run_unit.specs.Effects.{IsRow};
 
 use crate::effects::UnitEffects;
-use crate::retry::attempts;
+use crate::messages::{number_of, slow_report};
 use crate::timing::slow_timer_at;
-use run_capture::{Duplicate, Mem};
+use run_capture::Mem;
 use run_clock::PausableSleep;
-use run_events::{Ask, ChildSignal, Message, SignalAsk, SlowTimeout, TermSignal, TestSlow};
+use run_events::{Ask, ChildSignal, Message, SignalAsk, SlowTimeout, TermSignal};
 use run_model::{Phase, UnitView};
 use std::alloc::Global;
 
@@ -26,6 +26,7 @@ pub fn is_out_of_time(slow: &SlowTimeout, count: u32) -> bool
 }
 
 /// Its timer is due while its child runs: it is slow once more.
+#[tactic(auto, using(crate::proofs::SlowLemmas::slow_sent))]
 pub fn be_slow(alloc: Global, view: &mut UnitView, now: u64) -> Mem<UnitEffects>
     requires few { attempts view.old < 2 ^ 32 }
     requires going { is_last view.old.phase ≡ false }
@@ -63,18 +64,12 @@ fn slow_message(alloc: Global, view: &UnitView, count: u32) -> Mem<Option<Messag
     if view.terms.slow.grace == 0 {
         return Ok(None);
     }
-    let test = view.test.copy(alloc)?;
-    Ok(Some(Message::Slow(TestSlow {
-        test,
-        attempt: view.attempt,
-        attempts: attempts(view),
-        elapsed_slow: slow_time(&view.terms.slow, count),
-        terminates: is_out_of_time(&view.terms.slow, count),
-    })))
+    let report = slow_report(alloc, view, count)?;
+    Ok(Some(report))
 }
 
-// The time that is reported where an attempt was slow so often.
-fn slow_time(slow: &SlowTimeout, count: u32) -> u64
+/// The time that is reported where an attempt was slow so often.
+pub fn slow_time(slow: &SlowTimeout, count: u32) -> u64
     ensures { result ≡ slow_time slow.now count }
 {
     u64::from(count).saturating_mul(slow.period)
@@ -85,7 +80,7 @@ pub fn signal_ask(view: &UnitView, signal: TermSignal) -> Ask
     ensures { result ≡ signal_ask signal view.now }
 {
     Ask::Signal(SignalAsk {
-        unit: view.test.unit,
+        unit: number_of(&view.role),
         signal: ChildSignal::End(signal),
         group: view.around.group,
     })

@@ -1,38 +1,18 @@
 // The status of an attempt that ends.
-ghost use Rattle.std.specs.Prelude.{◌≡◌, ◌≤◌, ◌<◌, ◌^◌, None};
+ghost use Rattle.std.specs.Prelude.{◌≡◌, ◌≤◌, ◌<◌, ◌^◌, None, false};
 ghost use Rattle.run_capture.specs.Output.{uncaptured};
 ghost use Rattle.run_capture.specs.Captured.{begun};
-ghost use Rattle.run_events.specs.declared.result.ChildExecutionOutput.TheVariants.{Output};
 ghost use Rattle.run_model.specs.Environment.{attempts};
 ghost use Rattle.run_model.specs.Unit.{result_of, status_at, silent};
 ghost use Rattle.run_model.specs.declared.phase.Phase.TheVariants as phases;
 
-use crate::retry::attempts;
+use crate::messages::attempts;
 use crate::slow::is_out_of_time;
 use run_capture::{ChildAccumulator, ChildFdError};
 use run_events::{
     ChildExecutionOutput, ChildExit, ExecuteStatus, ExecutionResult, create_execution_result,
 };
 use run_model::{Phase, UnitView};
-
-/// The status where its child ended so, or the wait for it failed, this was captured, and it leaked or not.
-pub fn exit_status(
-    view: &UnitView,
-    exit: Option<ChildExit>,
-    leaked: bool,
-    capture: ChildAccumulator,
-    now: u64,
-) -> ExecuteStatus
-    requires few { attempts view.now < 2 ^ 32 }
-    requires early { view.now.timers.stopwatch.latest ≤ now }
-    ensures { result ≡ status_at now (result_of exit capture.errors leaked view.now)
-        (Output capture.output capture.errors) view.now }
-{
-    let (output, errors) = capture.freeze();
-    let ended = result_of(view, exit, errors.as_slice(), leaked);
-    let output = ChildExecutionOutput::Output { output, errors };
-    status_at(view, ended, output, now)
-}
 
 /// The status of the current attempt, where it ends now with this result.
 pub fn status_at(
@@ -65,6 +45,7 @@ pub fn close(view: &mut UnitView)
       timers = silent view.old.timers;
       capture = begun uncaptured;
       exit = None;
+      leaked = false;
     } }
 {
     view.phase = Phase::Deciding;
@@ -72,10 +53,11 @@ pub fn close(view: &mut UnitView)
     view.timers.wait = None;
     view.capture = ChildAccumulator::uncaptured();
     view.exit = None;
+    view.leaked = false;
 }
 
-// The result of its attempt: one that has run out of time is a timeout whatever else is said of it.
-fn result_of(
+/// The result of its attempt: one that has run out of time is a timeout whatever else is said of it.
+pub fn result_of(
     view: &UnitView,
     exit: Option<ChildExit>,
     errors: &[ChildFdError],

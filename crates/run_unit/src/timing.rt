@@ -1,5 +1,5 @@
 // The timers of a unit.
-ghost use Rattle.std.specs.Prelude.{◌≡◌, ◌≤◌, IfSome, None, true};
+ghost use Rattle.std.specs.Prelude.{◌≡◌, ◌≤◌, IfSome, None};
 ghost use Rattle.run_clock.specs.Stopwatch.{started_at};
 ghost use Rattle.run_model.specs.Unit.{is_due, takes_at, slow_timer_at};
 ghost use Rattle.run_model.specs.declared.unit_turn.UnitTurn.TheVariants.{Due};

@@ -1,9 +1,8 @@
-// A unit: one test with its attempts.
+// A unit: a setup script, or one test with its attempts.
 ghost use Rattle.std.specs.Prelude.{◌≡◌, ◌≤◌, ◌<◌, length, IfOk, OnOk, OnErr, Some, option_map, slice_get, true};
 ghost use Rattle.std.specs.List.{list_any};
 ghost use Rattle.run_model.specs.Unit.{row, takes, is_live, reached};
-ghost use Rattle.run_model.specs.Admission.{first_view, skipped_view, start_message, skip_message, AreFew};
-ghost use Rattle.run_model.specs.Admission.{unit_of_test};
+ghost use Rattle.run_model.specs.Admission.{first_view, script_view, skipped_view, start_message, unit_of_test, AreFew};
 ghost use Rattle.run_model.specs.declared.phase.Phase.TheVariants as phases;
 ghost use Rattle.run_unit.specs.Effects.{IsRow};
 ghost use Rattle.run_unit.specs.Same.{is_request};
@@ -11,15 +10,16 @@ ghost use Rattle.run_unit.specs.Same.{is_request};
 use crate::acting::{act, is_enabled};
 use crate::effects::UnitEffects;
 use crate::first::first_view;
+use crate::messages::start_message;
 use crate::requests::{holds, is_live};
-use crate::retry::test_start;
-use run_capture::{Duplicate, Mem, Text};
-use run_events::{Message, Request, Settings, TestSkip, TestSlotAssignment};
+use crate::script::script_view;
+use run_capture::{List, Mem, Text};
+use run_events::{Message, Request, ScriptEnv, Settings, TestSlotAssignment};
 use run_model::{Phase, UnitTurn, UnitView};
 use std::alloc::Global;
 use std::marker::Model;
 
-/// One test with its attempts. Contracts see it as the unit table does.
+/// A setup script, or one test with its attempts. Contracts see it as the unit table does.
 #[derive(Drop)]
 pub struct Unit {
     view: UnitView,
@@ -38,22 +38,24 @@ impl Model for Unit {
 }
 
 impl Unit {
-    /// The test at this place of the plan, admitted in this slot.
+    /// The test at this place of the plan, admitted in this slot, where its scripts handed these variables on.
     pub fn test(
         alloc: Global,
         settings: &Settings,
         test: u32,
         slot: TestSlotAssignment,
+        handed: List<(Text, Text)>,
     ) -> Mem<Unit>
         requires planned { test < length settings.now.plan.tests }
         requires few { AreFew settings.now }
-        ensures view { IfOk result (λ u. option_map (first_view settings.now (unit_of_test settings.now test) slot)
+        ensures view { IfOk result (λ u. option_map
+            (first_view settings.now (unit_of_test settings.now test) slot handed)
             (slice_get settings.now.plan.tests test) ≡ Some u) }
         ensures phase { IfOk result (λ u. u.phase ≡ phases.StartSent) }
     {
         let planned = &settings.plan.tests.as_slice()[test as usize];
         let unit = settings.plan.scripts.len() as u32 + test;
-        let view = first_view(alloc, settings, unit, slot, planned)?;
+        let view = first_view(alloc, settings, unit, slot, handed, planned)?;
         Ok(Unit { view })
     }
 
@@ -69,26 +71,29 @@ impl Unit {
             global: 0,
             group: None,
         };
-        let mut unit = Unit::test(alloc, settings, test, slot)?;
+        let mut unit = Unit::test(alloc, settings, test, slot, List::new())?;
         unit.view.phase = Phase::Over;
         Ok(unit)
     }
 
-    /// The message that it sends when it is admitted.
-    pub fn start_message(&self, alloc: Global) -> Mem<Message>
-        ensures { IfOk result (λ m. m ≡ start_message self.now) }
+    /// The script at this place of the plan.
+    pub fn script(alloc: Global, settings: &Settings, script: u32) -> Mem<Unit>
+        requires planned { script < length settings.now.plan.scripts }
+        requires few { AreFew settings.now }
+        ensures view { IfOk result (λ u. option_map (script_view settings.now script)
+            (slice_get settings.now.plan.scripts script) ≡ Some u) }
+        ensures phase { IfOk result (λ u. u.phase ≡ phases.StartSent) }
     {
-        let start = test_start(alloc, &self.view)?;
-        Ok(Message::Start(start))
+        let planned = &settings.plan.scripts.as_slice()[script as usize];
+        let view = script_view(alloc, settings, script, planned)?;
+        Ok(Unit { view })
     }
 
-    /// The message that it sends when it is admitted and skipped, for this reason.
-    pub fn skip_message(&self, alloc: Global, reason: &Text) -> Mem<Message>
-        ensures { IfOk result (λ m. m ≡ skip_message self.now reason.now) }
+    /// The message that it sends when it is admitted.
+    pub fn start_message(&self, alloc: Global) -> Mem<Message>
+        ensures { IfOk result (λ m. m ≡ start_message self.now.role self.now) }
     {
-        let reason = reason.copy(alloc)?;
-        let test = self.view.test.copy(alloc)?;
-        Ok(Message::Skip(TestSkip { test, reason }))
+        start_message(alloc, &self.view)
     }
 
     pub fn phase(&self) -> Phase
@@ -97,11 +102,11 @@ impl Unit {
         self.view.phase
     }
 
-    /// The slot that it holds until it is over.
-    pub fn slot(&self) -> &TestSlotAssignment
-        ensures { result.now ≡ self.now.slot }
+    /// What came of its environment file.
+    pub fn env(&self) -> &ScriptEnv
+        ensures { result.now ≡ self.now.env }
     {
-        &self.view.slot
+        &self.view.env
     }
 
     /// Whether it was let go and isn't over, so that a request that is broadcast reaches it.

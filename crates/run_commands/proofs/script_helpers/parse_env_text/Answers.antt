@@ -7,7 +7,7 @@ lines-init c = read_nothing c.args.bytes.now c.new-map.result c.new-map.ensures.
 pub lines-preserved : goal.lines-preserved
 lines-preserved c =
     read_more _ c.lines.rest.now _ c.split_line.result.0.now _ _ _ _ _ c.lines.invariant c.split_line.ensures.lines
-    c.split_line.ensures.shorter c.in-Ok.ensures c.in_ok-put-in-Ok.ensures.ok
+    c.split_line.ensures.shorter c.in-Ok.ensures c.in_ok-put-in-Ok.ensures.ok c.in_ok-put-in-Ok.ensures.pairs
 
 pub returns-clause-ok : goal.returns-clause-ok
 returns-clause-ok c =

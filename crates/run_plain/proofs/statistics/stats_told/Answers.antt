@@ -1,15 +1,14 @@
 use Rattle.std.proofs.Common.{◌∙◌, ap, arith, take, sym, subst, [], ◌∷◌, ◌++◌}
 use Rattle.std.proofs.lemmas.List.{take_more, length-take}
-use Rattle.run_events.specs.Stats.{AreBelow}
-use Rattle.run_plain.specs.Told.{stats_told, counted}
-use Rattle.run_plain.proofs.Told.{stats_more, stats_below}
+use Rattle.run_plain.specs.Told.{AreSmall, stats_told, counted}
+use Rattle.run_plain.proofs.Told.{stats_more, stats_few}
 use Rattle.run_plain.proofs.statistics.stats_told.Goals as goal
 
 pub counted-stats-requires : goal.counted-stats-requires
 counted-stats-requires c =
     let events = take c.loop-event.event-index c.args.events.now in
-    subst (AreBelow 4294967296) (sym c.loop-event.invariant)
-    (stats_below c.args.settings.now c.args.reason events
+    subst AreSmall (sym c.loop-event.invariant)
+    (stats_few c.args.settings.now c.args.reason events
     (omega (arith, c.requires.few, length-take c.loop-event.event-index c.args.events.now)))
 
 pub loop-event-preserved : goal.loop-event-preserved

@@ -2,6 +2,7 @@ use Rattle.std.proofs.Common.{option_map}
 use Rattle.std.proofs.lemmas.List.Edits.{map_over_more}
 use Rattle.run_model.specs.Unit.{reached}
 use Rattle.run_state.proofs.CountedLemmas.{failed_left}
+use Rattle.run_state.proofs.PlaceLemmas.{kinds-failed, kinds-some}
 use Rattle.run_state.proofs.broadcast.reach_each.Goals as goal
 
 pub loop-unit-preserved : goal.loop-unit-preserved
@@ -13,3 +14,12 @@ pub returns-in_err-reach-clause-left : goal.returns-in_err-reach-clause-left
 returns-in_err-reach-clause-left c =
     failed_left c.args.request c.loop-unit.unit-index c.args.units.now c.loop-unit.units c.loop-unit.unit-index
     c.reach.new.unit c.unit-item.result c.loop-unit.invariant c.in_err-reach.ensures.err
+
+pub returns-in_err-reach-clause-scripts : goal.returns-in_err-reach-clause-scripts
+returns-in_err-reach-clause-scripts c =
+    kinds-failed c.args.request c.loop-unit.unit-index c.args.units.now c.loop-unit.units c.loop-unit.unit-index
+    c.reach.new.unit c.unit-item.result c.loop-unit.invariant c.in_err-reach.ensures.err
+
+pub returns-clause-scripts : goal.returns-clause-scripts
+returns-clause-scripts c =
+    kinds-some c.args.request c.loop-unit.unit-index c.args.units.now c.loop-unit.units c.loop-unit.invariant

@@ -1,17 +1,9 @@
-use Rattle.std.proofs.Common.{◌≡◌, ◌∷◌, ◌++◌, option_to_list, ap, sym, ◌∙◌}
-use Rattle.run_model.specs.Admission.{limits_of}
+use Rattle.std.proofs.Common.{◌≡◌, ◌∷◌, ◌++◌, option_to_list, refl, ap, ◌∙◌}
 use Rattle.run_model.specs.Board.{Board, moved, deed_events}
-use Rattle.run_model.specs.Turns.{delivery}
+use Rattle.run_model.specs.Turns.{answer_to, delivery}
 use Rattle.run_state.specs.Held.{Held}
-use Rattle.run_state.proofs.DeedLemmas.{delivered, delivery_tells, limits-reached}
+use Rattle.run_state.proofs.DeedLemmas.{delivered, delivery_tells}
 use Rattle.run_state.proofs.turns.deliver.Goals as goal
-
-pub returns-clause-seated : goal.returns-clause-seated
-returns-clause-seated c =
-    let p = c.args.settings.now in
-    c.in_ok-broadcast-in-Some.ensures.limits ∙ c.in_ok-asked-in-Some.ensures.seated
-    ∙ sym (limits-reached p c.in_ok-events-in-Some.field-0.request c.answer.new.state.board.units)
-    ∙ sym (ap (λ (b : Board). limits_of p b.units) c.in_ok-broadcast-in-Some.ensures.after)
 
 pub returns-clause-after : goal.returns-clause-after
 returns-clause-after c =
@@ -25,11 +17,13 @@ returns-clause-after c =
     let rest = c.pop_front.new.self.items in
     let waits : c.state.inside.queue.items ≡ c.in-Some.message ∷ rest =
     c.pop_front.ensures.items ∙ ap (λ m. option_to_list m ++ rest) c.in-Some.is in
-    delivered b _ c.answer.new.state.board c.broadcast.new.state.board c.in-Some.message rest
+    let x : Board = record b { queue = rest; dispatcher = c.deliver.new.self } in
+    delivered b x (moved x (answer_to x c.starting-unit.result c.in_ok-events-in-Some.field-0.go)) c.heed.new.state.board
+    c.in-Some.message rest
     c.starting-unit.result c.in_ok-events-in-Some.field-0.go c.in_ok-events-in-Some.field-0.request
     waits (ap (λ d. record b { queue = rest; dispatcher = d }) c.in_ok-events-in-Some.ensures.does.after)
     c.starting-unit.ensures c.in_ok-events-in-Some.ensures.does.go c.in_ok-events-in-Some.ensures.does.request
-    c.in_ok-asked-in-Some.ensures.after c.in_ok-broadcast-in-Some.ensures.after
+    refl c.in_ok-asked-in-Some.ensures.after
     ∙ ap (λ (h : Held). moved h.board (delivery h.board h.board.queue)) c.state.view_is
 
 pub returns-clause-told : goal.returns-clause-told

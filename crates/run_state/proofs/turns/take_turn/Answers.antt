@@ -1,9 +1,11 @@
-use Rattle.std.proofs.Common.{◌≡◌, get_or, Some, None, option_map, if◌then◌else◌, ap, sym, ◌∙◌}
+use Rattle.std.proofs.Common.{◌≡◌, map, length, get_or, Some, None, option_map, if◌then◌else◌, ap, sym, ◌∙◌}
 use Rattle.run_admission.specs.InUse.{Admissions}
 use Rattle.run_model.specs.Unit.{row}
 use Rattle.run_model.specs.Admission.{is_done, limits_of}
 use Rattle.run_state.specs.Held.{given_back}
+use Rattle.run_state.specs.Placed.{is_no_script}
 use Rattle.run_state.proofs.CountedLemmas.{not_last}
+use Rattle.run_state.proofs.PlaceLemmas.{is_placed, kinds-acted, seats-given, tests-kept}
 use Rattle.run_state.proofs.SeatLemmas.{acted, limits-acted, test_in_use}
 use Rattle.run_state.proofs.turns.take_turn.Goals as goal
 
@@ -13,9 +15,26 @@ release-requires c over le =
     let us = c.state.inside.units in
     let u = c.requires.can.unit in
     let at : get_or us c.args.unit None ≡ Some u = rw (sym c.state.view_is) at c.requires.can.is in
-    let seated = rw (sym c.state.view_is) at c.requires.seated in
-    rw seated (test_in_use p us c.args.unit u at (not_last c.state.inside.clock u c.args.turn (rw (sym c.state.view_is) at c.requires.can.takes))
+    let seated : c.state.inside.admission ≡ limits_of p us = rw (sym c.state.view_is) at c.requires.seated in
+    let role = is_placed p us c.state.inside.admission c.args.unit u c.state.invariant seated at le in
+    rw seated (test_in_use p us c.args.unit u at
+    (not_last c.state.inside.clock u c.args.turn (rw (sym c.state.view_is) at c.requires.can.takes)) role
     (rw (sym c.state.view_is) at c.requires.can.below) le)
+
+pub invariant_of-state-2 : goal.invariant_of-state-2
+invariant_of-state-2 c =
+    let p = c.args.settings.now in
+    let k = c.args.unit in
+    let us = c.state.inside.units in
+    let u = c.requires.can.unit in
+    let now = c.state.inside.clock in
+    let at : get_or us k None ≡ Some u = rw (sym c.state.view_is) at c.requires.can.is in
+    let kinds : map is_no_script c.step.new.self ≡ map is_no_script us =
+    ap (map is_no_script) (c.in_ok-sent.ensures.after ∙ acted now k c.args.turn us u at)
+    ∙ kinds-acted us k now c.args.turn u at in
+    tests-kept us c.step.new.self c.state.inside.admission c.release.new.admission c.state.invariant kinds
+    (ap (λ (a : Admissions). length a.seats) c.release.ensures
+    ∙ seats-given p c.state.inside.admission k c.in_ok-sent.field-0.over)
 
 pub returns-clause-seated : goal.returns-clause-seated
 returns-clause-seated c =

@@ -3,7 +3,7 @@ use Rattle.run_events.specs.declared.settings.Settings.{Settings}
 use Rattle.run_model.specs.Words.{units}
 use Rattle.run_admission.specs.InUse.{begun}
 use Rattle.run_model.specs.Admission.{limits_of}
-use Rattle.run_state.proofs.StartLemmas.{total-nil, running-nil, units-nil, seats-nil}
+use Rattle.run_state.proofs.StartLemmas.{total-nil, running-nil, scripts_running-nil, units-nil, seats-nil}
 use Rattle.run_state.proofs.state.State.new.Goals as goal
 
 pub returns : goal.returns
@@ -16,4 +16,4 @@ returns c =
     ∙ ap (λ groups. begun p.threads groups c.as_slice-tests.result.now) c.as_slice-groups.ensures
     ∙ ap (begun p.threads p.plan.groups) c.as_slice-tests.ensures
     ∙ ap (λ seats. record (limits_of p (units p [])) { seats = seats }) (seats-nil p) in
-    rw (all, limits) (grind (arith, running-nil p, total-nil))
+    rw (all, limits) (grind (arith, running-nil p, scripts_running-nil p, total-nil))

@@ -1,0 +1,103 @@
+-- The starts of children that are asked, and those of units that are told, as the plan says.
+use Rattle.std.specs.Prelude.{ℕ, zero, suc, ◌≡◌, ◌+◌, ◌-◌, ◌==◌, List, [], ◌∷◌, ◌++◌, map, length, if◌then◌else◌, Option}
+use Rattle.std.specs.Prelude.{Some, None, option_map, unwrap_or, slice_get, filter_map, IfSome}
+use Rattle.std.specs.List.{All, list_any, range_with_len}
+use Rattle.run_events.specs.declared.plan.PlanTest.{PlanTest}
+use Rattle.run_events.specs.declared.settings.Settings.{Settings}
+use Rattle.run_events.specs.declared.ask.Ask.{Ask}
+use Rattle.run_events.specs.declared.ask.Ask.TheVariants.{Start as StartAsked}
+use Rattle.run_events.specs.declared.message.Message.{Message}
+use Rattle.run_events.specs.declared.message.Message.TheVariants.{ScriptStart, Start}
+use Rattle.run_events.specs.declared.events.ReporterEvent.{ReporterEvent}
+use Rattle.run_events.specs.declared.events.ReporterEvent.TheVariants.{Test}
+use Rattle.run_events.specs.declared.events.TestEventKind.{TestEventKind}
+use Rattle.run_events.specs.declared.events.TestEventKind.TheVariants.{SetupScriptStarted, TestStarted}
+use Rattle.run_events.specs.declared.result.ScriptEnv.{ScriptEnv}
+use Rattle.run_events.specs.declared.result.ScriptEnv.TheVariants.{Unread}
+use Rattle.run_model.specs.declared.entry.Entry.{Entry}
+use Rattle.run_model.specs.declared.happening.Happening.{Happening}
+use Rattle.run_model.specs.declared.unit_view.UnitView.{UnitView}
+use Rattle.run_model.specs.Environment.{Variable, start_ask}
+use Rattle.run_model.specs.Admission.{is_script, scripts_in, global_slot, first_view, script_view, start_message, variables_of}
+use Rattle.run_model.specs.Unit.{has_passed, last_status}
+use Rattle.run_model.specs.Story.{OwnTurn, story_of}
+use Rattle.run_model.specs.Attempts.{env_in, pieces_of, statuses_of}
+use Rattle.run_model.specs.Words.{sub_run, told, asked}
+use Rattle.run_model.specs.Journal.{IsLegal, past_of}
+use Rattle.run_laws.specs.Limits.{slots_told}
+
+-- what came of the environment file of a unit, by its own turns: the newest one that says it
+abbrev pub env_said : List OwnTurn → ScriptEnv
+env_said [] = Unread
+env_said (t ∷ before) = unwrap_or (env_in t.turn) (env_said before)
+
+-- the variables that script k gives to tests: those of its environment file, where it passed
+abbrev pub given_by : Settings → ℕ → List Happening → List Variable
+given_by p k run =
+    if has_passed (last_status (statuses_of p k run)) then variables_of (env_said (story_of k run)) else []
+
+-- what each of n numbers from k on gives, where it is among these numbers: in order, each once
+abbrev pub given_from : (ℕ → List Variable) → List ℕ → ℕ → ℕ → List Variable
+given_from given numbers k zero = []
+given_from given numbers k (suc n) =
+    (if list_any (λ i. i == k) numbers then given k else []) ++ given_from given numbers (k + 1) n
+
+-- the variables that the scripts give to a test: those of the scripts that it lists
+abbrev pub given_to : Settings → List Happening → PlanTest → List Variable
+given_to p run test = given_from (λ k. given_by p k run) test.scripts 0 (scripts_in p)
+
+-- unit k by the plan, as it begins: a script, or a test in the slots with which it was told started, with what its scripts
+-- give to it
+abbrev pub planned_test : Settings → List Happening → ℕ → PlanTest → UnitView
+planned_test p run k test =
+    first_view p k (unwrap_or (slots_told k (told run)) (global_slot 0)) (given_to p run test) test
+
+abbrev pub planned_unit : Settings → List Happening → ℕ → Option UnitView
+planned_unit p run k =
+    if is_script p k
+    then option_map (script_view p k) (slice_get p.plan.scripts k)
+    else option_map (planned_test p run k) (slice_get p.plan.tests (k - scripts_in p))
+
+-- the start of its child for the attempt of this number, and those for the first n attempts
+abbrev pub start_at : UnitView → ℕ → Ask
+start_at u n = start_ask (record u { attempt = n })
+
+abbrev pub starts_by : Option UnitView → ℕ → List Ask
+starts_by None n = []
+starts_by (Some u) n = map (start_at u) (range_with_len 1 n)
+
+-- the starts that were asked for unit k
+abbrev pub start_for : ℕ → Ask → Option Ask
+start_for k (StartAsked ask) = if ask.unit == k then Some (StartAsked ask) else None
+start_for k _ = None
+
+abbrev pub starts_asked : ℕ → List Happening → List Ask
+starts_asked k run = filter_map (λ a. start_for k a.1) (asked run)
+
+-- the start of a unit that an event tells, as the message of that start
+abbrev pub start_told_in : TestEventKind → Option Message
+start_told_in (SetupScriptStarted start) = Some (ScriptStart start)
+start_told_in (TestStarted event) = Some (Start event.start)
+start_told_in _ = None
+
+abbrev pub start_told : ReporterEvent → Option Message
+start_told (Test event) = start_told_in event.kind
+start_told _ = None
+
+-- a start is that of a unit by the plan
+abbrev pub message_of : UnitView → Message
+message_of u = start_message u.role u
+
+abbrev pub IsPlannedStart : Settings → List Happening → Message → Type 0
+IsPlannedStart p run m = (k : ℕ) × (option_map message_of (planned_unit p run k) ≡ Some m)
+
+-- for each script and test one start is asked for each attempt that was let go, in order, with the command, the variables,
+-- the streams and all else that the plan says; and each start that is told is that of the plan
+pub record AreStartsPlanned (p : Settings) (run : List Happening) : Type 0 where
+  pub asked : (k : ℕ) → starts_asked k run ≡ starts_by (planned_unit p run k) (length (pieces_of k run))
+  pub told : All (λ e. IfSome (start_told e) (IsPlannedStart p run)) (told run)
+
+-- that holds in the newest sub-run after every legal journal
+abbrev pub StartsArePlanned : Type 0
+StartsArePlanned = (p : Settings) (journal : List Entry) → IsLegal p journal
+    → AreStartsPlanned p (sub_run (past_of p journal))
