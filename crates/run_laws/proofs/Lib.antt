@@ -40,6 +40,7 @@ pub mod FateLemmas
 pub mod FirstLemmas
 pub mod StartLemmas
 pub mod FileLemmas
+mod WordLemmas
 pub mod DelayLemmas
 pub mod Cancelled
 pub mod Ready

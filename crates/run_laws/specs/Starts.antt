@@ -1,8 +1,13 @@
 -- The starts of children that are asked, and those of units that are told, as the plan says.
 use Rattle.std.specs.Prelude.{ℕ, zero, suc, ◌≡◌, ◌+◌, ◌-◌, ◌==◌, List, [], ◌∷◌, ◌++◌, map, length, if◌then◌else◌, Option}
-use Rattle.std.specs.Prelude.{Some, None, option_map, unwrap_or, slice_get, filter_map, IfSome}
+use Rattle.std.specs.Prelude.{Some, None, option_map, unwrap_or, slice_get, filter_map, codes, IfSome}
 use Rattle.std.specs.List.{All, list_any, range_with_len}
+use Rattle.run_commands.specs.Interceptor.{interceptor_words}
+use Rattle.run_commands.specs.TargetRunner.{runner_for}
+use Rattle.run_commands.specs.VersionEnvVars.{version_pairs}
+use Rattle.run_events.specs.declared.plan.PlanScript.{PlanScript}
 use Rattle.run_events.specs.declared.plan.PlanTest.{PlanTest}
+use Rattle.run_events.specs.declared.plan.TestSlotAssignment.{TestSlotAssignment}
 use Rattle.run_events.specs.declared.settings.Settings.{Settings}
 use Rattle.run_events.specs.declared.ask.Ask.{Ask}
 use Rattle.run_events.specs.declared.ask.Ask.TheVariants.{Start as StartAsked}
@@ -18,7 +23,8 @@ use Rattle.run_model.specs.declared.entry.Entry.{Entry}
 use Rattle.run_model.specs.declared.happening.Happening.{Happening}
 use Rattle.run_model.specs.declared.unit_view.UnitView.{UnitView}
 use Rattle.run_model.specs.Environment.{Variable, start_ask}
-use Rattle.run_model.specs.Admission.{is_script, scripts_in, global_slot, first_view, script_view, start_message, variables_of}
+use Rattle.run_model.specs.Admission.{is_script, scripts_in, global_slot, first_view, runner_words, script_view}
+use Rattle.run_model.specs.Admission.{start_message, variables_of}
 use Rattle.run_model.specs.Unit.{has_passed, last_status}
 use Rattle.run_model.specs.Story.{OwnTurn, story_of}
 use Rattle.run_model.specs.Attempts.{env_in, pieces_of, statuses_of}
@@ -101,3 +107,42 @@ pub record AreStartsPlanned (p : Settings) (run : List Happening) : Type 0 where
 abbrev pub StartsArePlanned : Type 0
 StartsArePlanned = (p : Settings) (journal : List Entry) → IsLegal p journal
     → AreStartsPlanned p (sub_run (past_of p journal))
+
+-- the words of a start that is asked, and the names of its variables, in order
+abbrev pub command_asked : Ask → List (List ℕ)
+command_asked (StartAsked ask) = ask.command
+command_asked _ = []
+
+abbrev pub names_asked : Ask → List (List ℕ)
+names_asked (StartAsked ask) = map (λ v. v.0) ask.env
+names_asked _ = []
+
+-- the names of the variables of a test's child, and of a script's, before those of versions
+abbrev pub test_names : List (List ℕ)
+test_names =
+    codes "NEXTEST_RUN_ID" ∷ codes "NEXTEST_RUN_MODE" ∷ codes "NEXTEST_BINARY_ID" ∷ codes "NEXTEST_TEST_NAME"
+    ∷ codes "NEXTEST_ATTEMPT" ∷ codes "NEXTEST_TOTAL_ATTEMPTS" ∷ codes "NEXTEST_STRESS_CURRENT"
+    ∷ codes "NEXTEST_STRESS_TOTAL" ∷ codes "NEXTEST_TEST_GLOBAL_SLOT" ∷ codes "NEXTEST_TEST_GROUP"
+    ∷ codes "NEXTEST_TEST_GROUP_SLOT" ∷ codes "NEXTEST_TEST_THREADS" ∷ codes "NEXTEST_WORKSPACE_ROOT" ∷ []
+
+abbrev pub script_names : List (List ℕ)
+script_names =
+    codes "NEXTEST_ENV" ∷ codes "NEXTEST_RUN_ID" ∷ codes "NEXTEST_RUN_MODE" ∷ codes "NEXTEST_TEST_THREADS"
+    ∷ codes "NEXTEST_WORKSPACE_ROOT" ∷ []
+
+abbrev pub version_names : Settings → List (List ℕ)
+version_names p = map (λ v. v.0) (version_pairs p.plan.head.versions)
+
+-- a test's child is started with the words of the interceptor, then those of its platform's runner, then its own; a script's
+-- with its own alone. Their variables have these names, a test's last those that its scripts handed on
+pub record StartsHaveWords : Type 0 where
+  pub test : (p : Settings) (k : ℕ) (slot : TestSlotAssignment) (handed : List Variable) (test : PlanTest) (n : ℕ)
+      → command_asked (start_at (first_view p k slot handed test) n)
+      ≡ interceptor_words p.interceptor ++ (runner_words (runner_for p.plan.runners test.platform) ++ test.command)
+  pub test_variables : (p : Settings) (k : ℕ) (slot : TestSlotAssignment) (handed : List Variable) (test : PlanTest) (n : ℕ)
+      → names_asked (start_at (first_view p k slot handed test) n)
+      ≡ test_names ++ (version_names p ++ map (λ v. v.0) handed)
+  pub script : (p : Settings) (k : ℕ) (script : PlanScript) (n : ℕ)
+      → command_asked (start_at (script_view p k script) n) ≡ script.command
+  pub script_variables : (p : Settings) (k : ℕ) (script : PlanScript) (n : ℕ)
+      → names_asked (start_at (script_view p k script) n) ≡ script_names ++ version_names p

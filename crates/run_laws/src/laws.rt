@@ -5,7 +5,7 @@ ghost use Rattle.run_laws.specs.Limits.{LimitsHold};
 ghost use Rattle.run_laws.specs.Once.{AttemptsToldOnce};
 ghost use Rattle.run_laws.specs.Reports.{ReportsAreOwnTurns};
 ghost use Rattle.run_laws.specs.Scripts.{ScriptsComeFirst, ScriptsHaveFates, ScriptsToldAsRead};
-ghost use Rattle.run_laws.specs.Starts.{StartsArePlanned};
+ghost use Rattle.run_laws.specs.Starts.{StartsArePlanned, StartsHaveWords};
 ghost use Rattle.run_laws.specs.Delays.{DelaysAreOwnTurns};
 ghost use Rattle.run_laws.specs.Cancels.{CancelsAreCaused, LinesAreBroadcasts};
 ghost use Rattle.run_laws.specs.Course.{CoursesExclude, NoneRefused};
@@ -106,6 +106,13 @@ pub fn scripts_are_told_as_read()
 /// that is told is that of the plan too.
 pub fn starts_are_planned()
     ensures { StartsArePlanned }
+{}
+
+/// The start of a test that the plan gives has the words of the interceptor, then those of its platform's runner, then its
+/// own; that of a script its own alone. Their variables have the names of the rule, in order, a test's last those that its
+/// scripts handed on.
+pub fn starts_have_their_words()
+    ensures { StartsHaveWords }
 {}
 
 /// After each event that is told in the newest sub-run of a legal journal, the tests told started and not told finished

@@ -97,8 +97,8 @@ fn is_error(turn: &UnitTurn) -> bool
     )
 }
 
-#[tactic(auto, using(crate::proofs::OutcomeLemmas::any_more))]
 // Whether it has an error but that of its start.
+#[tactic(auto, using(crate::proofs::OutcomeLemmas::any_more))]
 fn has_errors(piece: &[OwnTurn]) -> bool
     ensures { result ≡ has_any (errors_of piece.now) }
 {
