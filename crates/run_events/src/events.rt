@@ -14,7 +14,6 @@ use std::alloc::Global;
 use uuid::Uuid;
 
 /// The run started.
-#[derive(Drop)]
 pub struct RunStarted {
     pub run_id: Uuid,
     /// How many tests the plan has.
@@ -24,6 +23,19 @@ pub struct RunStarted {
     pub profile: Text,
     /// In a stress run alone.
     pub stress: Option<StressCondition>,
+}
+
+// A call of its own, which keeps the proofs of all that hold a run's start small.
+impl Drop for RunStarted {
+    fn drop(self) {
+        let RunStarted {
+            run_id: _,
+            tests: _,
+            args: _,
+            profile: _,
+            stress: _,
+        } = self;
+    }
 }
 
 impl Duplicate for RunStarted {
@@ -129,11 +141,21 @@ pub struct InfoStarted {
 }
 
 /// A unit answered, as the one with this index, from 0, of so many.
-#[derive(Drop)]
 pub struct InfoAnswered {
     pub response: InfoResponse,
     pub index: u32,
     pub total: u32,
+}
+
+// A call of its own, which keeps the proofs of all that hold an answer small.
+impl Drop for InfoAnswered {
+    fn drop(self) {
+        let InfoAnswered {
+            response: _,
+            index: _,
+            total: _,
+        } = self;
+    }
 }
 
 impl Duplicate for InfoAnswered {

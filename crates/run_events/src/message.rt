@@ -57,10 +57,19 @@ impl Duplicate for ScriptUnit {
 }
 
 /// A script is about to start.
-#[derive(Drop)]
 pub struct ScriptStart {
     pub script: ScriptUnit,
     pub command: List<Text>,
+}
+
+// A call of its own, which keeps the proofs of all that hold a start small.
+impl Drop for ScriptStart {
+    fn drop(self) {
+        let ScriptStart {
+            script: _,
+            command: _,
+        } = self;
+    }
 }
 
 impl Duplicate for ScriptStart {
@@ -71,11 +80,21 @@ impl Duplicate for ScriptStart {
 }
 
 /// A script has run for so long, in nanoseconds, and is ended for it or not.
-#[derive(Drop)]
 pub struct ScriptSlow {
     pub script: ScriptUnit,
     pub elapsed_slow: u64,
     pub terminates: bool,
+}
+
+// A call of its own, which keeps the proofs of all that hold a report small.
+impl Drop for ScriptSlow {
+    fn drop(self) {
+        let ScriptSlow {
+            script: _,
+            elapsed_slow: _,
+            terminates: _,
+        } = self;
+    }
 }
 
 impl Duplicate for ScriptSlow {
@@ -90,10 +109,19 @@ impl Duplicate for ScriptSlow {
 }
 
 /// A script is done.
-#[derive(Drop)]
 pub struct ScriptFinish {
     pub script: ScriptUnit,
     pub status: SetupScriptExecuteStatus,
+}
+
+// A call of its own, which keeps the proofs of all that hold a finish small.
+impl Drop for ScriptFinish {
+    fn drop(self) {
+        let ScriptFinish {
+            script: _,
+            status: _,
+        } = self;
+    }
 }
 
 impl Duplicate for ScriptFinish {
@@ -104,11 +132,21 @@ impl Duplicate for ScriptFinish {
 }
 
 /// A test is about to start, in this slot.
-#[derive(Drop)]
 pub struct TestStart {
     pub test: TestUnit,
     pub command: List<Text>,
     pub slot: TestSlotAssignment,
+}
+
+// A call of its own, which keeps the proofs of all that hold a start small.
+impl Drop for TestStart {
+    fn drop(self) {
+        let TestStart {
+            test: _,
+            command: _,
+            slot: _,
+        } = self;
+    }
 }
 
 impl Duplicate for TestStart {
@@ -124,7 +162,6 @@ impl Duplicate for TestStart {
 }
 
 /// An attempt of a test has run for so long, in nanoseconds, and is ended for it or not.
-#[derive(Drop)]
 pub struct TestSlow {
     pub test: TestUnit,
     /// Which attempt, from 1.
@@ -133,6 +170,19 @@ pub struct TestSlow {
     pub attempts: u32,
     pub elapsed_slow: u64,
     pub terminates: bool,
+}
+
+// A call of its own, which keeps the proofs of all that hold a report small.
+impl Drop for TestSlow {
+    fn drop(self) {
+        let TestSlow {
+            test: _,
+            attempt: _,
+            attempts: _,
+            elapsed_slow: _,
+            terminates: _,
+        } = self;
+    }
 }
 
 impl Duplicate for TestSlow {
@@ -149,11 +199,21 @@ impl Duplicate for TestSlow {
 }
 
 /// An attempt of a test failed, and the next one comes after this delay, in nanoseconds.
-#[derive(Drop)]
 pub struct AttemptFailed {
     pub test: TestUnit,
     pub status: ExecuteStatus,
     pub delay_next: u64,
+}
+
+// A call of its own, which keeps the proofs of all that hold a failure small.
+impl Drop for AttemptFailed {
+    fn drop(self) {
+        let AttemptFailed {
+            test: _,
+            status: _,
+            delay_next: _,
+        } = self;
+    }
 }
 
 impl Duplicate for AttemptFailed {
@@ -168,11 +228,21 @@ impl Duplicate for AttemptFailed {
 }
 
 /// A further attempt of a test is about to start.
-#[derive(Drop)]
 pub struct TestRetry {
     pub start: TestStart,
     pub attempt: u32,
     pub attempts: u32,
+}
+
+// A call of its own, which keeps the proofs of all that hold a retry small.
+impl Drop for TestRetry {
+    fn drop(self) {
+        let TestRetry {
+            start: _,
+            attempt: _,
+            attempts: _,
+        } = self;
+    }
 }
 
 impl Duplicate for TestRetry {
@@ -187,11 +257,21 @@ impl Duplicate for TestRetry {
 }
 
 /// A test is done, after these attempts. What a pass after a failed attempt counts as isn't printed.
-#[derive(Drop)]
 pub struct TestFinish {
     pub test: TestUnit,
     pub statuses: List<ExecuteStatus>,
     pub flaky: FlakyResult,
+}
+
+// A call of its own, which keeps the proofs of all that hold a finish small.
+impl Drop for TestFinish {
+    fn drop(self) {
+        let TestFinish {
+            test: _,
+            statuses: _,
+            flaky: _,
+        } = self;
+    }
 }
 
 impl Duplicate for TestFinish {
@@ -206,10 +286,16 @@ impl Duplicate for TestFinish {
 }
 
 /// A test doesn't match, and is skipped for this reason.
-#[derive(Drop)]
 pub struct TestSkip {
     pub test: TestUnit,
     pub reason: Text,
+}
+
+// A call of its own, which keeps the proofs of all that hold a skip small.
+impl Drop for TestSkip {
+    fn drop(self) {
+        let TestSkip { test: _, reason: _ } = self;
+    }
 }
 
 impl Duplicate for TestSkip {

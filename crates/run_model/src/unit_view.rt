@@ -36,7 +36,6 @@ pub struct AttemptTerms {
 }
 
 /// What is the same for the children of all tests of a run, or of all its setup scripts.
-#[derive(Drop)]
 pub struct Surroundings {
     pub run_id: Uuid,
     pub mode: RunMode,
@@ -51,6 +50,22 @@ pub struct Surroundings {
     pub group: bool,
     /// Whether each child reads the program's own standard input.
     pub stdin: bool,
+}
+
+// A call of its own, which keeps the proofs of all that hold a unit small.
+impl Drop for Surroundings {
+    fn drop(self) {
+        let Surroundings {
+            run_id: _,
+            mode: _,
+            threads: _,
+            workspace_root: _,
+            versions: _,
+            wrapper: _,
+            group: _,
+            stdin: _,
+        } = self;
+    }
 }
 
 /// The time of the current attempt, by the run's clock.
@@ -88,10 +103,19 @@ pub struct ScriptRole {
 }
 
 /// What a unit is.
-#[derive(Drop)]
 pub enum UnitRole {
     Test(TestRole),
     Script(ScriptRole),
+}
+
+// A call of its own, which keeps the proofs of all that hold a unit small.
+impl Drop for UnitRole {
+    fn drop(self) {
+        match self {
+            UnitRole::Test(_) => {}
+            UnitRole::Script(_) => {}
+        }
+    }
 }
 
 /// A setup script, or a test with its attempts, as the unit table sees it.
