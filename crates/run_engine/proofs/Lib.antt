@@ -2,6 +2,10 @@ pub mod JournalLemmas
 pub mod CarryLemmas
 pub mod TakesLemmas
 pub mod TellLemmas
+pub mod StartsLemmas
+pub mod PartLemmas
+pub mod HeardLemmas
+pub mod SettlingLemmas
 pub mod CourseLemmas
 pub mod RepeatLemmas
 pub mod FewLemmas

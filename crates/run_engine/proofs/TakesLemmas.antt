@@ -65,7 +65,7 @@ tells_both tells a b c es fs first later f g xs t =
     )
 
 -- what was asked, and then more
-adds_both : {S X : Type 0} (holds : S → List X → Type 0) (a b c : S) (xs ys : List X) → Adds holds a b xs
+pub adds_both : {S X : Type 0} (holds : S → List X → Type 0) (a b c : S) (xs ys : List X) → Adds holds a b xs
     → Adds holds b c ys → Adds holds a c (xs ++ ys)
 adds_both holds a b c xs ys f g zs t = subst (holds c) (append_assoc zs xs ys) (g (zs ++ xs) (f zs t))
 

@@ -17,6 +17,7 @@ use Rattle.run_capture.specs.Faults.{Rose}
 use Rattle.run_laws.specs.Course.{turns_of, is_third, none_refused, AreAnswersOf, Stops, GoesOn, Ends}
 use Rattle.run_engine.specs.World.{Outside, TellsEvents, CountsErrors}
 use Rattle.run_engine.specs.Standing.{IsRunnable}
+use Rattle.run_engine.specs.Broken.{RunsOut}
 use Rattle.run_engine.specs.declared.runner.Stop.{Stop}
 use Rattle.run_engine.specs.declared.runner.Stop.TheVariants as stops
 use Rattle.run_engine.specs.declared.errors.TestRunnerExecuteErrors.{TestRunnerExecuteErrors}
@@ -110,7 +111,7 @@ abbrev pub StopsAt : {R E C : Type 0} → (R → List (ReporterEvent × Option E
     → Outside R C → Settings → List Turn → List Entry → Stop → Type 0
 StopsAt tells asks o p turns journal (stops.NotEnabled i) = StopsHere tells asks o p turns journal i false
 StopsAt tells asks o p turns journal (stops.ThirdSignal i) = StopsHere tells asks o p turns journal i true
-StopsAt tells asks o p turns journal stops.OutOfMemory = ⊤
+StopsAt tells asks o p turns journal stops.OutOfMemory = RunsOut tells asks o p turns journal
 
 -- what is answered at the end of all turns, by the run's outcome and the reporter's first error
 abbrev pub IsFinal : {E : Type 0} → Option RunOutcome → Option E → Result RunOutcome (TestRunnerExecuteErrors E)

@@ -1,5 +1,9 @@
 pub mod World
+pub mod Starts
 pub mod Standing
+pub mod Broken
+pub mod Settling
+pub mod Heard
 pub mod Refused
 pub mod Execution
 pub mod Builder

@@ -14,11 +14,13 @@ use Rattle.run_model.specs.Words.{events_in, is_over}
 use Rattle.run_model.specs.Turns.{enabled, happening}
 use Rattle.run_model.specs.Journal.{past_of}
 
--- a run: its settings with their plan, its journal, and whether want of memory broke it
+-- a run: its settings with their plan, its journal, whether want of memory broke it or it was given up, and how many of
+-- the starts that it asked were claimed
 pub record World : Type 0 where
   pub settings : Settings
   pub journal : List Entry
   pub broken : Bool
+  pub claimed : ℕ
 
 -- the history of a run
 abbrev pub history_of : World → List Happening

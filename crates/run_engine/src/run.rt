@@ -1,8 +1,9 @@
 // A run, turn by turn.
 ghost use Rattle.std.specs.Prelude.{◌≤◌, ◌≡◌, ◌<◌, ◌+◌, ◌^◌, ◌∷◌, ◌++◌, [], length, map, zip, not, is_none};
 ghost use Rattle.std.specs.Prelude.{option_to_list};
-ghost use Rattle.std.specs.Prelude.{vec_len, vec_capacity, IfOk, IfErr, OnOk, OnErr, IsErrOf, IsTrue, Option, Some};
-ghost use Rattle.std.specs.Prelude.{None, true, false};
+ghost use Rattle.std.specs.Prelude.{vec_len, vec_capacity, IfOk, IfErr, OnOk, OnErr, IsErrOf, IsTrue, Option, Some, option_map};
+ghost use Rattle.std.specs.Prelude.{ℕ, ◌||◌, nat_le, is_some, None, true, false, IsSome, IsNone, slice_get, if◌then◌else◌};
+ghost use Rattle.std.specs.VecDeque.{deque_len, deque_capacity};
 ghost use Rattle.std.specs.List.{list_all};
 ghost use Rattle.run_events.specs.Tell.{Adds};
 ghost use Rattle.run_laws.specs.Ready.{CanAdvance, IsTimely};
@@ -11,31 +12,42 @@ ghost use Rattle.run_model.specs.Admission.{AreFew, units_in};
 ghost use Rattle.run_model.specs.Turns.{enabled, enabled_on, turn_of_unit, deed_on};
 ghost use Rattle.run_model.specs.Words.{is_over};
 ghost use Rattle.run_model.specs.Board.{board, step, answered, deed_events};
+ghost use Rattle.run_engine.specs.Broken.{TellsPart, BreaksOff};
+ghost use Rattle.run_engine.specs.Starts.{start_in, starts_of};
+ghost use Rattle.run_engine.specs.Heard.{IsHeard};
+ghost use Rattle.run_engine.specs.Settling.{first_settled, Settles, IsUnsettled};
+ghost use Rattle.run_state.specs.Settle.{turn_by};
+ghost use Rattle.run_events.specs.declared.turn.Turn.{Turn};
 ghost use Rattle.run_engine.specs.World.{TakesTurn, TellsEvents, CountsErrors, IsUntouched, Breaks, outside};
 ghost use Rattle.run_engine.specs.World.{history_of};
 ghost use Rattle.run_state.specs.Held.{IsSeated, held};
-ghost use Rattle.run_engine.specs.Standing.{IsRunnable, sound};
+ghost use Rattle.run_engine.specs.Standing.{IsRunnable, unbroken, sound};
 ghost use Rattle.run_engine.specs.Refused.{IsRefused, IsNotNamed, IfNotMemory};
 
 use crate::errors::StepError;
-use crate::tell::{Told, ask, tell};
-use run_capture::{Mem, OutOfMemory, Whole};
-use run_events::{Children, Reporter, RunOutcome, Settings, Turn};
+use crate::tell::{Told, ask, keep_start, tell};
+use run_capture::{List, Mem, OutOfMemory, Whole};
+use run_events::{Children, Reporter, RunOutcome, Settings, StartAsk, Turn};
 use run_model::{Entry, UnitTurn};
-use run_state::{Effects, State, advance, is_enabled, turn_of_unit};
+use run_state::{Effects, Settled, State, advance, is_enabled, next_settled, turn_of_unit};
 use std::alloc::Global;
+use std::collections::VecDeque;
 use std::marker::Model;
 
 /// The most turns that a journal holds.
 pub const MOST_TURNS: usize = 4_294_967_295;
 
-/// A run: the settings that it goes by and its journal. Once memory was wanting it is broken.
+/// A run: the settings that it goes by, its journal, and how many of the starts that it asked were claimed. Once memory
+/// was wanting, or it was given up, it is broken.
 #[derive(Drop)]
 pub struct Run {
     settings: Whole<Settings>,
     journal: Vec<Entry>,
     state: State,
     broken: bool,
+    /// The starts that were asked and not claimed, the earliest first.
+    starts: VecDeque<StartAsk>,
+    claimed: u64,
 }
 
 impl Model for Run {
@@ -44,19 +56,30 @@ impl Model for Run {
 
     ghost Value = { World };
 
-    ghost view = { λ r. record { settings = r.settings; journal = r.journal.items; broken = r.broken } };
+    ghost view = { λ r. record {
+      settings = r.settings;
+      journal = r.journal.items;
+      broken = r.broken;
+      claimed = r.claimed;
+    } };
 
-    ghost invariant = { λ r. IsStanding r.settings r.journal.items r.state r.broken };
+    ghost invariant = { λ r. IsStanding r.settings r.journal.items r.state r.broken r.starts.items r.claimed };
 }
 
-// Asks what a turn asks, and tells its events.
+// Asks what a turn asks, tells its events, and keeps the start that it asked for who claims it.
 fn send<C: Children, R: Reporter>(
     alloc: Global,
     place: u64,
     effects: Effects,
+    starts: &mut VecDeque<StartAsk>,
     children: &mut C,
     report: &mut R,
 ) -> Mem<Told<R::Error>>
+    requires room { deque_len starts.old < deque_capacity starts.old }
+    ensures waits { OnOk result (starts.new.items ≡ starts.old.items ++ start_in effects.asked) }
+    ensures kept { OnErr result (starts.new.items ≡ starts.old.items) }
+    ensures part { OnErr result (TellsPart R.told C.asked
+        (outside R.faults report.old report.new children.old children.new) place effects.events effects.asked) }
     ensures asked { OnOk result (Adds C.asked children.old children.new
         (map (λ ask. (place, ask)) (option_to_list effects.asked))) }
     ensures answered { IfOk result (λ t. length t.refused ≡ length effects.events) }
@@ -66,19 +89,24 @@ fn send<C: Children, R: Reporter>(
     ensures faults { IfOk result (λ t. CountsErrors (R.faults report.old) (R.faults report.new) t.refusal) }
 {
     let Effects { events, asked } = effects;
-    ask(alloc, children, place, asked)?;
-    tell(alloc, report, events.as_slice())
+    ask(alloc, children, place, &asked)?;
+    let told = tell(alloc, report, events.as_slice())?;
+    keep_start(starts, asked);
+    Ok(told)
 }
 
-// Makes room for one more turn, and answers its place.
-fn make_room(journal: &mut Vec<Entry>) -> Mem<u64>
+// Makes room for one more turn and one more start, and answers the turn's place.
+fn make_room(journal: &mut Vec<Entry>, starts: &mut VecDeque<StartAsk>) -> Mem<u64>
     requires { length journal.old.items < 2 ^ 32 }
     ensures place { IfOk result (λ place. place ≡ length journal.old.items) }
     ensures same { journal.new.items ≡ journal.old.items }
     ensures room { OnOk result (vec_len journal.new < vec_capacity journal.new) }
+    ensures kept { starts.new.items ≡ starts.old.items }
+    ensures start_room { OnOk result (deque_len starts.new < deque_capacity starts.new) }
 {
     let place = journal.len() as u64;
     journal.reserve(1)?;
+    starts.reserve(1)?;
     Ok(place)
 }
 
@@ -89,6 +117,7 @@ fn act<C: Children, R: Reporter>(
     settings: &Settings,
     state: &mut State,
     journal: &mut Vec<Entry>,
+    starts: &mut VecDeque<StartAsk>,
     turn: &Turn,
     named: Option<(u32, UnitTurn)>,
     children: &mut C,
@@ -113,13 +142,20 @@ fn act<C: Children, R: Reporter>(
     ensures faults { IfOk result (λ t. CountsErrors (R.faults report.old) (R.faults report.new) t.refusal) }
     ensures same { journal.new.items ≡ journal.old.items }
     ensures room { OnOk result (vec_len journal.new < vec_capacity journal.new) }
+    ensures waits { OnOk result (starts.new.items
+        ≡ starts.old.items ++ start_in (deed_on settings.now state.old.board turn.now).asked) }
+    ensures kept { OnErr result (starts.new.items ≡ starts.old.items) }
+    ensures part { OnErr result (TellsPart R.told C.asked
+        (outside R.faults report.old report.new children.old children.new) (length journal.old.items)
+        (deed_events (deed_on settings.now state.old.board turn.now))
+        (deed_on settings.now state.old.board turn.now).asked) }
 {
-    let Ok(place) = make_room(journal) else {
+    let Ok(place) = make_room(journal, starts) else {
         drop(named);
         return Err(OutOfMemory);
     };
     let effects = advance(alloc, settings, state, turn, named)?;
-    let told = send(alloc, place, effects, children, report)?;
+    let told = send(alloc, place, effects, starts, children, report)?;
     state.hear_answers(told.refused.as_slice());
     Ok(told)
 }
@@ -131,6 +167,7 @@ fn carry_out<C: Children, R: Reporter>(
     settings: &Settings,
     state: &mut State,
     journal: &mut Vec<Entry>,
+    starts: &mut VecDeque<StartAsk>,
     turn: Turn,
     named: Option<(u32, UnitTurn)>,
     children: &mut C,
@@ -141,16 +178,21 @@ fn carry_out<C: Children, R: Reporter>(
     requires stands { state.old ≡ held settings.now (board settings.now (past_of settings.now journal.old.items)) }
     requires enabled { enabled settings.now (past_of settings.now journal.old.items) turn ≡ true }
     requires room { length journal.old.items + 1 < 2 ^ 32 }
-    ensures takes { IfOk result (TakesTurn R.told C.asked
+    ensures takes { IfOk result (λ refusal. (claimed : ℕ) → TakesTurn R.told C.asked
         (outside R.faults report.old report.new children.old children.new) turn
-        (sound settings.now journal.old.items) (sound settings.now journal.new.items)) }
+        (unbroken settings.now journal.old.items claimed) (unbroken settings.now journal.new.items claimed) refusal) }
     ensures runnable { OnOk result (IsRunnable settings.now journal.new.items) }
     ensures stands { OnOk result (state.new
         ≡ held settings.now (board settings.now (past_of settings.now journal.new.items))) }
+    ensures waits { OnOk result (starts.new.items
+        ≡ starts.old.items ++ start_in (deed_on settings.now state.old.board turn).asked) }
     ensures err { OnErr result (journal.new.items ≡ journal.old.items) }
+    ensures kept { OnErr result (starts.new.items ≡ starts.old.items) }
+    ensures part { OnErr result (BreaksOff R.told C.asked
+        (outside R.faults report.old report.new children.old children.new) settings.now journal.old.items turn) }
 {
     match act(
-        alloc, settings, state, journal, &turn, named, children, report,
+        alloc, settings, state, journal, starts, &turn, named, children, report,
     ) {
         Ok(Told { refused, refusal }) => {
             journal.push_reserved(Entry { turn, refused });
@@ -206,6 +248,8 @@ impl Run {
             journal: Vec::new(alloc),
             state,
             broken: false,
+            starts: VecDeque::new(alloc),
+            claimed: 0,
         }
     }
 
@@ -225,6 +269,13 @@ impl Run {
         ensures unchanged { IfErr result (λ e. IfNotMemory e (IsUntouched self.old self.new
             (outside R.faults report.old report.new children.old children.new))) }
         ensures broken { IsErrOf result StepError.OutOfMemory → Breaks self.old self.new }
+        ensures part { IsErrOf result StepError.OutOfMemory → BreaksOff R.told C.asked
+            (outside R.faults report.old report.new children.old children.new) self.old.settings self.old.journal
+            turn }
+        ensures idle { self.old.broken ≡ true → IsUntouched self.old self.new
+            (outside R.faults report.old report.new children.old children.new) }
+        ensures heard { IsHeard R.told C.asked report.old children.old self.old
+            → IsHeard R.told C.asked report.new children.new self.new }
     {
         match self.admit(alloc, &turn) {
             Ok(named) => self.take_named(alloc, turn, named, children, report),
@@ -246,6 +297,7 @@ impl Run {
         ensures unchanged { IfErr result (λ e. IfNotMemory e (self.new ≡ self.old)) }
         ensures broken { IsErrOf result StepError.OutOfMemory → Breaks self.old self.new }
         ensures stays_broken { self.old.broken ≡ true → IsErrOf result StepError.OutOfMemory }
+        ensures idle { self.old.broken ≡ true → self.new ≡ self.old }
     {
         if self.broken {
             return Err(StepError::OutOfMemory);
@@ -280,6 +332,9 @@ impl Run {
             (outside R.faults report.old report.new children.old children.new) turn self.old self.new) }
         ensures memory { IfErr result (λ e. e ≡ StepError.OutOfMemory) }
         ensures broken { IsErrOf result StepError.OutOfMemory → Breaks self.old self.new }
+        ensures part { OnErr result (BreaksOff R.told C.asked
+            (outside R.faults report.old report.new children.old children.new) self.old.settings self.old.journal
+            turn) }
     {
         let settings = self.settings.get();
         match carry_out(
@@ -287,6 +342,7 @@ impl Run {
             settings,
             &mut self.state,
             &mut self.journal,
+            &mut self.starts,
             turn,
             named,
             children,
@@ -320,12 +376,110 @@ impl Run {
             (outside R.faults report.old report.new children.old children.new))) }
 
         ensures broken { IsErrOf result StepError.OutOfMemory → Breaks self.old self.new }
+        ensures part { IsErrOf result StepError.OutOfMemory → BreaksOff R.told C.asked
+            (outside R.faults report.old report.new children.old children.new) self.old.settings self.old.journal
+            turn }
         ensures stays_broken { self.old.broken ≡ true → IsErrOf result StepError.OutOfMemory }
+        ensures idle { self.old.broken ≡ true → IsUntouched self.old self.new
+            (outside R.faults report.old report.new children.old children.new) }
+        ensures heard { IsHeard R.told C.asked report.old children.old self.old
+            → IsHeard R.told C.asked report.new children.new self.new }
     {
         let place = self.journal.len() as u64;
         match self.take(alloc, turn, children, report) {
             Ok(_) => Ok(place),
             Err(error) => Err(error),
+        }
+    }
+
+    // The first enabled turn of those that the run takes by itself.
+    fn next(&self, word: u32) -> Option<Settled>
+        requires { self.now.broken ≡ false }
+        ensures { option_map turn_by result ≡ first_settled self.now word }
+    {
+        next_settled(self.settings.get(), &self.state, word)
+    }
+
+    /// Takes the first enabled turn of these, always of the least unit: begin, report-cancel, deliver, take, decide with this
+    /// word, due of a unit, due of the global timer, admit, end. The answer is the turn that was taken, and none where none
+    /// of them is enabled.
+    pub fn settle<C: Children, R: Reporter>(
+        &mut self,
+        alloc: Global,
+        word: u32,
+        children: &mut C,
+        report: &mut R,
+    ) -> Result<Option<Turn>, StepError>
+        ensures first { IfOk result (λ turn. turn ≡ first_settled self.old word) }
+        ensures settles { IfOk result (Settles R.told C.asked
+            (outside R.faults report.old report.new children.old children.new) self.old self.new) }
+        ensures refused { IfErr result (IsUnsettled self.old word) }
+        ensures unchanged { IfErr result (λ e. IfNotMemory e (IsUntouched self.old self.new
+            (outside R.faults report.old report.new children.old children.new))) }
+        ensures broken { IsErrOf result StepError.OutOfMemory → Breaks self.old self.new }
+        ensures part { IsErrOf result StepError.OutOfMemory → self.old.broken ≡ false → (turn : Turn)
+            × (first_settled self.old word ≡ Some turn) × BreaksOff R.told C.asked
+            (outside R.faults report.old report.new children.old children.new) self.old.settings self.old.journal
+            turn }
+        ensures stays_broken { self.old.broken ≡ true → IsErrOf result StepError.OutOfMemory }
+        ensures idle { self.old.broken ≡ true → IsUntouched self.old self.new
+            (outside R.faults report.old report.new children.old children.new) }
+        ensures heard { IsHeard R.told C.asked report.old children.old self.old
+            → IsHeard R.told C.asked report.new children.new self.new }
+    {
+        if self.broken {
+            return Err(StepError::OutOfMemory);
+        }
+        let Some(settled) = self.next(word) else {
+            return Ok(None);
+        };
+        match self.step(alloc, settled.turn(), children, report) {
+            Ok(_) => Ok(Some(settled.turn())),
+            Err(error) => Err(error),
+        }
+    }
+
+    /// Claims the earliest start that was asked and that nobody has claimed, if there is one.
+    pub fn claim(&mut self) -> Option<StartAsk>
+        ensures start { result ≡ slice_get (starts_of self.old.settings self.old.journal) self.old.claimed }
+        ensures claimed { IsSome result → self.new ≡ record self.old { claimed = self.old.claimed + 1 } }
+        ensures none { IsNone result → self.new ≡ self.old }
+    {
+        match self.starts.pop_front() {
+            Some(start) => {
+                self.claimed += 1;
+                Some(start)
+            }
+            None => None,
+        }
+    }
+
+    /// Whether a start was asked that nobody has claimed.
+    pub fn has_start(&self) -> bool
+        ensures { result ≡ is_some (slice_get (starts_of self.now.settings self.now.journal) self.now.claimed) }
+    {
+        if self.starts.is_empty() {
+            return false;
+        }
+        true
+    }
+
+    /// Whether the run takes no turn any more: it is over, or broken, or its journal is full.
+    pub fn is_done(&self) -> bool
+        ensures { result ≡ (self.now.broken || is_over (history_of self.now)
+            || nat_le 4294967295 (length self.now.journal)) }
+    {
+        self.broken || self.is_over() || self.journal.len() >= MOST_TURNS
+    }
+
+    /// Gives the run up: it is broken as by want of memory, but that nothing is told or asked. One that is over stays as it
+    /// is.
+    pub fn give_up(&mut self)
+        ensures { self.new
+            ≡ (if is_over (history_of self.old) then self.old else record self.old { broken = true }) }
+    {
+        if !self.is_over() {
+            self.broken = true;
         }
     }
 
@@ -354,6 +508,15 @@ impl Run {
         ensures runnable { IsRunnable self.now.settings self.now.journal }
     {
         self.journal.as_slice()
+    }
+
+    /// The turns that it has taken, as `journal`, by value. Takes no memory.
+    pub fn into_journal(self) -> List<Entry>
+        ensures journal { result ≡ self.journal }
+        ensures runnable { IsRunnable self.settings self.journal }
+        ensures unfinished { self.broken ≡ true → is_over (history_of self) ≡ false }
+    {
+        List::from_vec(self.journal)
     }
 
     /// The settings that it goes by.

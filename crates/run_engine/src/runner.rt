@@ -1,5 +1,5 @@
 // A runner carries out the turns of a run.
-ghost use Rattle.std.specs.Prelude.{◌≡◌, ◌<◌, ◌^◌, ◌∷◌, [], length, map, take, slice_get, IfOk, IfErr, OnOk, Option};
+ghost use Rattle.std.specs.Prelude.{◌≡◌, ◌<◌, ◌^◌, ◌∷◌, [], length, map, take, slice_get, IfOk, IfErr, OnOk, IsErrOf, Option};
 ghost use Rattle.std.specs.Prelude.{Some, None, List, true, false, pos, IfSome};
 ghost use Rattle.run_events.specs.Tell.{Adds};
 ghost use Rattle.run_model.specs.declared.entry.Entry.{Entry};
@@ -10,6 +10,7 @@ ghost use Rattle.run_engine.specs.Refused.{IsRefused, IfNotMemory};
 ghost use Rattle.run_engine.specs.Standing.{sound};
 ghost use Rattle.run_engine.specs.Execution.{TakesTurns, Carries, Executes, AnswersCourse, UnlessMemory, StopsAt};
 ghost use Rattle.run_engine.specs.Execution.{IsFinal};
+ghost use Rattle.run_engine.specs.Broken.{BreaksOff, RunsOut};
 ghost use Rattle.run_capture.specs.Faults.{Rose};
 ghost use Rattle.run_laws.specs.Course.{turns_of, refuses_none};
 ghost use Rattle.run_model.specs.Journal.{outcome};
@@ -77,6 +78,9 @@ fn take_copy<C: Children, R: Reporter>(
     ensures refused { IfErr result (IsRefused run.old turn.now) }
     ensures unchanged { IfErr result (λ e. IfNotMemory e (IsUntouched run.old run.new
         (outside R.faults report.old report.new children.old children.new))) }
+    ensures same { IsErrOf result StepError.OutOfMemory → run.new.journal ≡ run.old.journal }
+    ensures part { IsErrOf result StepError.OutOfMemory → BreaksOff R.told C.asked
+        (outside R.faults report.old report.new children.old children.new) run.old.settings run.old.journal turn.now }
 {
     match turn.copy(alloc) {
         Ok(turn) => run.take(alloc, turn, children, report),
@@ -139,8 +143,11 @@ fn run_all<C: Children, R: Reporter>(
     requires fresh { run.old ≡ sound run.old.settings [] }
     requires units { AreFew run.old.settings }
     requires few { length turns.now < 2 ^ 32 }
-    ensures { UnlessMemory result (Carries R.told C.asked
+    ensures carries { UnlessMemory result (Carries R.told C.asked
         (outside R.faults report.old report.new children.old children.new) run.old.settings turns.now result) }
+    ensures memory { IsErrOf result TestRunnerExecuteErrors.OutOfMemory → (journal : List Entry)
+        × RunsOut R.told C.asked (outside R.faults report.old report.new children.old children.new) run.old.settings
+        turns.now journal }
 {
     match take_all(alloc, run, turns, children, report) {
         Ok(refusal) => answer(run, refusal),
@@ -210,11 +217,9 @@ impl TestRunner {
 
     /// Carries out the turns of a run, fewer than 2^32. The reporter is told each event, also after it refused one. The
     /// answer is the outcome of a run that is over; else the first turn that isn't enabled, as a third shutdown signal
-    /// where it is one, or that the run isn't over,
-    /// or
-    /// the reporter's first error in a run that is over. What was told and asked by then stands after each of these;
-    /// after
-    /// want of memory nothing is said of it.
+    /// where it is one, or that the run isn't over, or the reporter's first error in a run that is over. What was told and
+    /// asked by then stands after each of these. After want of memory what was told and asked is that of a journal of the
+    /// first turns, and a part of what the turn after them tells and asks.
     pub fn try_execute<C: Children, R: Reporter>(
         self,
         alloc: Global,
@@ -227,6 +232,9 @@ impl TestRunner {
             (outside R.faults report.old report.new children.old children.new) self turns.now result) }
         ensures course { ¬ Rose (R.faults report.old) (R.faults report.new) → AnswersCourse
             (outside R.faults report.old report.new children.old children.new) self turns.now refuses_none result }
+        ensures memory { IsErrOf result TestRunnerExecuteErrors.OutOfMemory → (journal : List Entry)
+            × RunsOut R.told C.asked (outside R.faults report.old report.new children.old children.new) self turns.now
+            journal }
     {
         self.carry_out(alloc, turns, children, report)
     }
@@ -240,9 +248,13 @@ impl TestRunner {
         report: &mut R,
     ) -> Result<RunOutcome, TestRunnerExecuteErrors<R::Error>>
         requires { length turns.now < 2 ^ 32 }
-        ensures { UnlessMemory result (Carries R.told C.asked
+        ensures carries { UnlessMemory result (Carries R.told C.asked
             (outside R.faults report.old report.new children.old children.new) self turns.now result) }
+        ensures memory { IsErrOf result TestRunnerExecuteErrors.OutOfMemory → (journal : List Entry)
+            × RunsOut R.told C.asked (outside R.faults report.old report.new children.old children.new) self turns.now
+            journal }
     {
+        let _settings = &self.settings;
         match self.into_run(alloc) {
             Ok(mut run) => {
                 let answer = run_all(alloc, &mut run, turns, children, report);
@@ -266,6 +278,9 @@ impl TestRunner {
             (outside (λ log. 0) log.old log.new children.old children.new) self turns.now result) }
         ensures course { AnswersCourse (outside (λ log. 0) log.old log.new children.old children.new) self turns.now
             refuses_none result }
+        ensures memory { IsErrOf result TestRunnerExecuteErrors.OutOfMemory → (journal : List Entry)
+            × RunsOut ⟦<EventLog as Reporter>⟧.told C.asked
+            (outside (λ log. 0) log.old log.new children.old children.new) self turns.now journal }
     {
         self.try_execute(alloc, turns, children, log)
     }

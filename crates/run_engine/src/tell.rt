@@ -1,13 +1,17 @@
 // How what a turn told and asked goes out.
-ghost use Rattle.std.specs.Prelude.{◌≡◌, ◌++◌, ◌∷◌, [], length, map, zip, is_some, is_none, not, IfOk, OnOk};
-ghost use Rattle.std.specs.Prelude.{option_to_list};
+ghost use Rattle.std.specs.Prelude.{◌≡◌, ◌<◌, ◌++◌, ◌∷◌, [], length, map, zip, is_some, is_none, not, IfOk, OnOk, OnErr};
+ghost use Rattle.std.specs.Prelude.{option_to_list, None};
+ghost use Rattle.std.specs.VecDeque.{deque_len, deque_capacity};
 ghost use Rattle.std.specs.List.{list_all};
 ghost use Rattle.run_events.specs.Tell.{Adds};
 ghost use Rattle.run_engine.specs.World.{TellsEvents, CountsErrors, earlier};
+ghost use Rattle.run_engine.specs.Broken.{TellsSome};
+ghost use Rattle.run_engine.specs.Starts.{start_in};
 
 use run_capture::{List, Mem, OutOfMemory};
-use run_events::{Ask, Children, ReportFault, Reporter, ReporterEvent};
+use run_events::{Ask, Children, ReportFault, Reporter, ReporterEvent, StartAsk};
 use std::alloc::Global;
+use std::collections::VecDeque;
 
 /// The reporter's answers to the events of a turn, and the first error with which it refused one.
 pub struct Told<E> {
@@ -24,6 +28,8 @@ fn tell_one<R: Reporter>(
     ensures told { IfOk result (λ refusal.
         TellsEvents R.told report.old report.new ((event.now, is_some refusal) ∷ []) refusal) }
     ensures faults { IfOk result (λ refusal. CountsErrors (R.faults report.old) (R.faults report.new) refusal) }
+    ensures none { OnErr result (TellsEvents R.told report.old report.new [] None) }
+    ensures still { OnErr result (R.faults report.new ≡ R.faults report.old) }
 {
     match report.report(alloc, event) {
         Ok(()) => Ok(None),
@@ -43,6 +49,8 @@ fn tell_marked<R: Reporter>(
     ensures told { IfOk result (λ refusal.
         TellsEvents R.told report.old report.new ((event.now, is_some refusal) ∷ []) refusal) }
     ensures faults { IfOk result (λ refusal. CountsErrors (R.faults report.old) (R.faults report.new) refusal) }
+    ensures part { OnErr result (TellsSome R.told report.old report.new (R.faults report.old) (R.faults report.new)
+        (event.now ∷ [])) }
 {
     let refusal = tell_one(alloc, report, event)?;
     refused.push(alloc, refusal.is_some())?;
@@ -69,6 +77,8 @@ pub fn tell<R: Reporter>(
     ensures marked { IfOk result (λ t. is_none t.refusal ≡ list_all not t.refused) }
     ensures told { IfOk result (λ t. TellsEvents R.told report.old report.new (zip events.now t.refused) t.refusal) }
     ensures faults { IfOk result (λ t. CountsErrors (R.faults report.old) (R.faults report.new) t.refusal) }
+    ensures part { OnErr result (TellsSome R.told report.old report.new (R.faults report.old) (R.faults report.new)
+        events.now) }
 {
     let mut refused = List::new();
     let mut refusal = None;
@@ -80,11 +90,26 @@ pub fn tell<R: Reporter>(
 }
 
 /// Asks what a turn asks, if it does.
-pub fn ask<C: Children>(alloc: Global, children: &mut C, turn: u64, asked: Option<Ask>) -> Mem<()>
-    ensures { OnOk result (Adds C.asked children.old children.new (map (λ ask. (turn, ask)) (option_to_list asked))) }
+pub fn ask<C: Children>(alloc: Global, children: &mut C, turn: u64, asked: &Option<Ask>) -> Mem<()>
+    ensures ok { OnOk result (Adds C.asked children.old children.new
+        (map (λ ask. (turn, ask)) (option_to_list asked.now))) }
+    ensures err { OnErr result (Adds C.asked children.old children.new []) }
 {
     match asked {
-        Some(asked) => children.ask(alloc, turn, &asked),
+        Some(asked) => children.ask(alloc, turn, asked),
         None => Ok(()),
+    }
+}
+
+/// Puts the start that a turn asked, if it did, at the end of those that nobody has claimed, which have room for it.
+pub fn keep_start(starts: &mut VecDeque<StartAsk>, asked: Option<Ask>)
+    requires { deque_len starts.old < deque_capacity starts.old }
+    ensures { starts.new.items ≡ starts.old.items ++ start_in asked }
+{
+    match asked {
+        Some(Ask::Start(start)) => starts.push_back_reserved(start),
+        Some(Ask::Signal(_)) => {}
+        Some(Ask::StopSelf) => {}
+        None => {}
     }
 }

@@ -3,4 +3,5 @@ pub mod DeedLemmas
 pub mod PlaceLemmas
 pub mod ScriptLemmas
 pub mod SeatLemmas
+pub mod SettleLemmas
 pub mod StartLemmas

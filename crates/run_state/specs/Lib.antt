@@ -2,3 +2,4 @@ pub mod Counted
 pub mod Placed
 pub mod Held
 pub mod Cancelled
+pub mod Settle

@@ -6,10 +6,12 @@ mod admission;
 mod broadcast;
 mod enabled;
 mod scripts;
+mod settle;
 mod state;
 mod turns;
 mod units;
 
 pub use enabled::{is_enabled, turn_of_unit};
+pub use settle::{Settled, next_settled};
 pub use state::State;
 pub use turns::{Effects, advance};

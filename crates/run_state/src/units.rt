@@ -1,5 +1,5 @@
 // The units of a run, with what is counted of them.
-ghost use Rattle.std.specs.Prelude.{◌≡◌, ◌<◌, ◌≤◌, ℕ, length, take, slice_index_or, slice_set, IfOk, OnOk, OnErr, Some};
+ghost use Rattle.std.specs.Prelude.{◌≡◌, ◌<◌, ◌≤◌, ◌^◌, ℕ, length, take, slice_index_or, slice_set, IfOk, OnOk, OnErr, Some};
 ghost use Rattle.std.specs.Prelude.{None, true, ◌-◌, cond, map, option_map};
 ghost use Rattle.std.specs.List.{list_all};
 ghost use Rattle.run_model.specs.declared.unit_view.UnitView.{UnitView};
@@ -75,6 +75,14 @@ impl Units {
             Some(Some(unit)) => unit.enabled(turn, now),
             _ => false,
         }
+    }
+
+    /// How many there are, fewer than 2^32.
+    pub fn count(&self) -> u32
+        requires { length self.now < 2 ^ 32 }
+        ensures { result ≡ length self.now }
+    {
+        self.items.len() as u32
     }
 
     /// Whether each was admitted and is over.

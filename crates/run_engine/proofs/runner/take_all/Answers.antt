@@ -1,9 +1,11 @@
-use Rattle.std.proofs.Common.{true, false, Some, ◌+◌, ◌<◌, ◌^◌, length, ap, sym, subst, ◌∙◌, arith}
+use Rattle.std.proofs.Common.{true, false, Some, Err, ◌+◌, ◌<◌, ◌^◌, length, ap, sym, subst, ◌∙◌, arith}
 use Rattle.std.proofs.lemmas.Option.{slice_get-get_or}
 use Rattle.run_engine.specs.World.{World, TakesTurn, outside}
 use Rattle.run_engine.specs.Standing.{sound}
 use Rattle.run_laws.specs.Course.{turns_of}
 use Rattle.run_engine.specs.Execution.{TakesTurns}
+use Rattle.run_engine.specs.Broken.{BreaksOff, RunsOut}
+use Rattle.run_engine.proofs.PartLemmas.{runs_out}
 use Rattle.run_engine.proofs.TakesLemmas.{takes-more, turns-push, stops_here}
 use Rattle.run_engine.proofs.runner.take_all.Goals as goal
 
@@ -63,3 +65,24 @@ returns-in-Err-ThirdSignal-clause-stopped g c =
     c.args.report.now was.report new.report c.args.children.now was.children new.children was.first was.place turn true
     was.invariant.takes was.invariant.all was.invariant.run
     (slice_get-get_or turns was.place turn inside ∙ ap Some (sym c.index-turns-place.is)) no.1 same
+
+pub returns-in-Err-OutOfMemory-clause-stopped : goal.returns-in-Err-OutOfMemory-clause-stopped
+returns-in-Err-OutOfMemory-clause-stopped g c =
+    let was = c.loop-place in
+    let p = c.args.run.now.settings in
+    let turns = c.args.turns.now in
+    let turn = c.index-turns-place.result in
+    let new = c.take_copy.new in
+    let told = g.R.Reporter.told in
+    let asked = g.C.Children.asked in
+    let faults = g.R.Reporter.faults in
+    let inside : was.place < length turns = omega arith in
+    let is = ap Err c.in-Err-OutOfMemory.field-0-is in
+    subst (λ j. RunsOut told asked (outside faults c.args.report.now new.report c.args.children.now new.children) p
+    turns j)
+    (sym (c.in-Err-OutOfMemory.ensures.same is))
+    (runs_out told asked faults p turns was.run.journal c.args.report.now was.report new.report c.args.children.now
+    was.children new.children was.first was.place turn was.invariant.takes was.invariant.all
+    (slice_get-get_or turns was.place turn inside ∙ ap Some (sym c.index-turns-place.is))
+    (subst (λ (w : World). BreaksOff told asked (outside faults was.report new.report was.children new.children)
+    w.settings w.journal turn) was.invariant.run (c.in-Err-OutOfMemory.ensures.part is)))

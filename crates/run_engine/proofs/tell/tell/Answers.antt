@@ -5,6 +5,7 @@ use Rattle.std.proofs.lemmas.List.Folds.{list_all-append}
 use Rattle.run_engine.specs.World.{TellsEvents, CountsErrors, earlier}
 use Rattle.run_engine.proofs.TakesLemmas.{tells_both, counts_both, none-earlier, marked_both}
 use Rattle.run_engine.proofs.TellLemmas.{zip-more}
+use Rattle.run_engine.proofs.PartLemmas.{on_err, some_more}
 use Rattle.run_engine.proofs.tell.tell.Goals as goal
 
 one-mark : {E : Type 0} (o : Option E) → is_none o ≡ list_all not (is_some o ∷ [])
@@ -43,3 +44,10 @@ loop-event-preserved g c =
           (g.R.Reporter.faults c.tell_marked.new.report)) (sym c.first_of-refusal.ensures)
           (counts_both _ _ _ c.loop-event.refusal error inv.faults c.in_ok-error.ensures.faults);
     }
+
+pub returns-in_err-error-clause-part : goal.returns-in_err-error-clause-part
+returns-in_err-error-clause-part g c =
+    let inv = c.loop-event.invariant in
+    on_err c.from_residual.result _ (some_more g.R.Reporter.told c.args.report.now c.loop-event.report c.tell_marked.new.report _ _ _ c.args.events.now
+    c.loop-event.event-index c.loop-event.refused c.loop-event.refusal c.event-item.result c.loop-event-test.true
+    inv.answered c.event-item.is inv.told inv.faults c.in_err-error.ensures.part)

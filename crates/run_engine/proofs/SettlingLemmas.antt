@@ -1,0 +1,48 @@
+-- The turn that a run takes by itself is enabled.
+use Rattle.std.proofs.Common.{◌≡◌, ℕ, ◌<◌, List, [], ◌∷◌, length, Bool, true, false, Option, Some, None, refl, ap, sym, subst, ◌∙◌}
+use Rattle.run_events.specs.declared.settings.Settings.{Settings}
+use Rattle.run_events.specs.declared.turn.Turn.{Turn}
+use Rattle.run_model.specs.Board.{Board, board}
+use Rattle.run_model.specs.Turns.{enabled_on, enabled}
+use Rattle.run_state.specs.Held.{Held, held}
+use Rattle.run_state.specs.Settle.{settling, first_enabled}
+use Rattle.run_engine.specs.World.{World, history_of}
+use Rattle.run_engine.specs.Refused.{IsRefused}
+use Rattle.run_engine.specs.Settling.{first_settled, IsUnsettled}
+use Rattle.run_engine.specs.declared.errors.StepError.{StepError}
+use Rattle.run_engine.specs.declared.errors.StepError.TheVariants.{NotEnabled, ThirdSignal, Full, OutOfMemory}
+
+-- the first enabled turn is enabled
+found_is : (p : Settings) (b : Board) (ts : List Turn) (t : Turn) → first_enabled p b ts ≡ Some t
+    → enabled_on p b t ≡ true
+found_is p b [] t e = cc
+found_is p b (u ∷ ts) t e = at (enabled_on p b u) refl (found_is p b ts t)
+  where
+    at : (on : Bool) → enabled_on p b u ≡ on → (first_enabled p b ts ≡ Some t → enabled_on p b t ≡ true)
+        → enabled_on p b t ≡ true
+    at true on later =
+        let is : Some u ≡ Some t = rw on at e in
+        let same : u ≡ t = cc in
+        subst (λ t. enabled_on p b t ≡ true) same on
+    at false on later = later (rw on at e)
+
+-- the first on the board of a state
+pub settled_on : (p q : Settings) (h : Held) (b : Board) (word : ℕ) → q ≡ p → h ≡ held p b
+    → first_enabled q h.board (settling q word) ≡ first_enabled p b (settling p word)
+settled_on p q h b word same st =
+    subst (λ q. first_enabled q h.board (settling q word) ≡ first_enabled p b (settling p word)) (sym same)
+    (ap (λ (h : Held). first_enabled p h.board (settling p word)) st)
+
+-- it is refused only by a journal that is full
+pub unsettled : (w : World) (word : ℕ) (t : Turn) (e : StepError) → first_settled w word ≡ Some t → IsRefused w t e
+    → IsUnsettled w word e
+unsettled w word t NotEnabled first why =
+    let on = found_is w.settings (board w.settings (history_of w)) (settling w.settings word) t first in
+    let off = why.1.0 in
+    cc
+unsettled w word t ThirdSignal first why =
+    let on = found_is w.settings (board w.settings (history_of w)) (settling w.settings word) t first in
+    let off = why.1.0 in
+    cc
+unsettled w word t Full first why = (why, (t, first))
+unsettled w word t OutOfMemory first why = tt

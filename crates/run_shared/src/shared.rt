@@ -1,0 +1,295 @@
+// A run that threads share.
+ghost use Rattle.std.specs.Prelude.{◌≡◌, ◌<◌, ◌+◌, [], IfOk, IfErr, OnOk, OnErr, IfSome, IsNone, length, vec_len, true};
+ghost use Rattle.std.specs.List.{All};
+ghost use Rattle.std.specs.List.{sum_by};
+ghost use Rattle.run_engine.specs.Standing.{sound, IsRunnable};
+ghost use Rattle.run_engine.specs.Heard.{IsHeard};
+ghost use Rattle.run_shared.specs.Receipts.{joined, Closes};
+ghost use Rattle.run_shared.specs.Closed.{IsLeft, IsOther, Refuses};
+
+use crate::closing::{CloseError, CloseKind};
+use crate::locked::Locked;
+use crate::receipts::check;
+use crate::same_plan::Same;
+use run_capture::{Duplicate, List, OutOfMemory, Whole};
+use run_engine::{Run, StepError, TestRunner};
+use run_events::{AskList, Reporter, RunOutcome, Settings, StartAsk, Turn};
+use run_model::Entry;
+use std::alloc::{AllocError, Global};
+use std::marker::Model;
+use std::sync::ledger::{Blank, Ledger, Share};
+use std::sync::{Condvar, Mutex, Wait};
+
+/// That a turn was taken: its place in the journal. Only a shared run makes one.
+#[derive(Drop)]
+pub struct Receipt {
+    number: u64,
+    turn: Turn,
+}
+
+impl Receipt {
+    /// The turn's place in the journal, counted from 0.
+    pub fn number(&self) -> u64
+        ensures { result ≡ self.now.number }
+    {
+        self.number
+    }
+
+    /// The turn.
+    pub fn turn(&self) -> &Turn
+        ensures { result.now ≡ self.now.turn }
+    {
+        &self.turn
+    }
+}
+
+/// What a shared run leaves: the run with its journal, what it asked, and its reporter.
+#[derive(Drop)]
+pub struct Finished<R: Reporter> {
+    pub run: Run,
+    pub asks: AskList,
+    pub report: R,
+}
+
+/// A run that was closed: its journal, the receipts as they were given, what it asked, its outcome if it is over, and its
+/// reporter.
+#[derive(Drop)]
+pub struct Closed<R: Reporter> {
+    pub journal: List<Entry>,
+    pub receipts: List<List<Receipt>>,
+    pub asks: AskList,
+    pub outcome: Option<RunOutcome>,
+    pub report: R,
+}
+
+/// A run that wasn't closed: why, with its journal, the receipts as they were given, and its reporter.
+#[derive(Drop)]
+pub struct Unclosed<R: Reporter> {
+    pub error: CloseError,
+    pub journal: List<Entry>,
+    pub receipts: List<List<Receipt>>,
+    pub report: R,
+}
+
+/// A run that threads share. Contracts see it as the settings that it was given.
+#[derive(Drop)]
+pub struct SharedRun<L: Ledger, R: Reporter> {
+    lock: Mutex<Locked<L, R>>,
+    /// Told of each change of the run.
+    moved: Condvar,
+    settings: Whole<Settings>,
+}
+
+impl<L: Ledger, R: Reporter> Model for SharedRun<L, R> {
+    ghost use Rattle.run_events.specs.declared.settings.Settings.{Settings};
+
+    ghost Value = { Settings };
+
+    ghost view = { λ s. s.settings };
+}
+
+// Cuts a share into as many as there are workers, each of one part.
+fn split<L: Ledger>(alloc: Global, all: Share<L>, workers: u64) -> Result<Vec<Share<L>>, AllocError>
+    requires parts { all.parts ≡ workers }
+    requires empty { all.amount ≡ 0 }
+    ensures count { IfOk result (λ shares. vec_len shares ≡ workers) }
+    ensures each { IfOk result (λ shares. All (λ (s : Share L). (s.parts ≡ 1) × (s.amount ≡ 0)) shares.items) }
+{
+    let mut rest = all;
+    let mut shares = Vec::with_capacity(alloc, workers as usize)?;
+    for _ in 0..workers {
+        shares.push(rest.split_off(1, 0))?;
+    }
+    Ok(shares)
+}
+
+// That a run has other settings than those given, with copies of both.
+fn other_settings(alloc: Global, given: &Settings, kept: &Settings) -> CloseKind
+    ensures { IsOther given.now kept.now result }
+{
+    let Ok(given) = given.copy(alloc) else {
+        return CloseKind::OutOfMemory;
+    };
+    let Ok(kept) = kept.copy(alloc) else {
+        drop(given);
+        return CloseKind::OutOfMemory;
+    };
+    CloseKind::OtherSettings { given, kept }
+}
+
+impl<L: Ledger, R: Reporter> SharedRun<L, R> {
+    /// A run that has taken no turn, and a share of one part for each worker. Where memory is wanting the reporter comes
+    /// back.
+    pub fn new(
+        alloc: Global,
+        runner: TestRunner,
+        report: R,
+        workers: u64,
+        blank: Blank,
+    ) -> Result<(Self, Vec<Share<L>>), (OutOfMemory, R)>
+        requires name { blank.name ≡ L.name }
+        requires parts { blank.parts ≡ L.parts }
+        requires workers { blank.parts ≡ workers }
+        requires report { R.told report [] }
+        ensures settings { IfOk result (λ r. r.0 ≡ runner) }
+        ensures count { IfOk result (λ r. vec_len r.1 ≡ workers) }
+        ensures each { IfOk result (λ r. All (λ (s : Share L). (s.parts ≡ 1) × (s.amount ≡ 0)) r.1.items) }
+        ensures err { IfErr result (λ e. e.1 ≡ report) }
+    {
+        let Ok(settings) = runner.settings().copy(alloc) else {
+            drop(runner);
+            return Err((OutOfMemory, report));
+        };
+        let Ok(run) = runner.into_run(alloc) else {
+            drop(settings);
+            return Err((OutOfMemory, report));
+        };
+        let (book, mut all) = blank.open::<L>();
+        let rest = all.empty();
+        let Ok(shares) = split(alloc, all, workers) else {
+            drop(settings);
+            drop(run);
+            return Err((OutOfMemory, report));
+        };
+        let shared = SharedRun {
+            lock: Mutex::new(Locked::new(run, report, book, rest)),
+            moved: Condvar::new(),
+            settings: Whole::new(settings),
+        };
+        Ok((shared, shares))
+    }
+
+    /// Takes a turn, which the share counts, and answers its receipt.
+    pub fn step(
+        &self,
+        rt: &impl Wait,
+        alloc: Global,
+        share: &mut Share<L>,
+        turn: Turn,
+    ) -> Result<Receipt, StepError>
+        requires { 0 < share.old.parts }
+        ensures turn { IfOk result (λ r. r.turn ≡ turn) }
+        ensures counted { OnOk result (share.new.amount ≡ share.old.amount + 1) }
+        ensures kept { OnErr result (share.new.amount ≡ share.old.amount) }
+        ensures parts { share.new.parts ≡ share.old.parts }
+    {
+        let Ok(copy) = turn.copy(alloc) else {
+            drop(turn);
+            self.give_up(rt);
+            return Err(StepError::OutOfMemory);
+        };
+        let number = self.lock.lock(rt).step(alloc, share, turn);
+        self.moved.notify_all();
+        Ok(Receipt {
+            number: number?,
+            turn: copy,
+        })
+    }
+
+    /// Takes the first enabled turn of those that a run takes by itself, which the share counts, and answers its receipt;
+    /// none where there is none.
+    pub fn settle(
+        &self,
+        rt: &impl Wait,
+        alloc: Global,
+        share: &mut Share<L>,
+        word: u32,
+    ) -> Result<Option<Receipt>, StepError>
+        requires { 0 < share.old.parts }
+        ensures counted { IfOk result (λ o. IfSome o (λ r. share.new.amount ≡ share.old.amount + 1)) }
+        ensures none { IfOk result (λ o. IsNone o → share.new.amount ≡ share.old.amount) }
+        ensures kept { OnErr result (share.new.amount ≡ share.old.amount) }
+        ensures parts { share.new.parts ≡ share.old.parts }
+    {
+        let settled = self.lock.lock(rt).settle(alloc, share, word);
+        self.moved.notify_all();
+        match settled? {
+            Some((number, turn)) => Ok(Some(Receipt { number, turn })),
+            None => Ok(None),
+        }
+    }
+
+    /// Waits until a start was asked that nobody has claimed, and claims the earliest; none where the run is over, given
+    /// up, broken or full.
+    pub fn next_start(&self, rt: &impl Wait) -> Option<StartAsk> {
+        let mut run = self
+            .moved
+            .wait_while(rt, self.lock.lock(rt), |run| run.must_wait());
+        if run.is_done() {
+            return None;
+        }
+        run.claim()
+    }
+
+    /// Gives the run up, unless it is over, and wakes all that wait.
+    pub fn give_up(&self, rt: &impl Wait) {
+        self.lock.lock(rt).give_up();
+        self.moved.notify_all();
+    }
+
+    /// Takes the run out of its lock. Its journal is legal for the settings that it goes by, its asks are those of the
+    /// journal and the reporter has told its events, where it isn't broken; and where all shares are given their amounts add
+    /// up to the length of the journal.
+    pub fn finish(self, shares: Vec<Share<L>>) -> Finished<R>
+        ensures legal { IsRunnable result.run.settings result.run.journal }
+        ensures heard { IsHeard R.told (λ list xs. list ≡ xs) result.report result.asks result.run }
+        ensures counted { sum_by (λ (s : Share L). s.parts) shares.items ≡ L.parts
+            → sum_by (λ (s : Share L). s.amount) shares.items ≡ length result.run.journal }
+    {
+        let SharedRun { lock, .. } = self;
+        let (run, asks, report) = lock.into_inner().into_parts(shares);
+        let _journal = run.journal();
+        Finished { run, asks, report }
+    }
+
+    /// Takes the run out of its lock, and looks whether the receipts are those of its journal: each stands in it, and no
+    /// number comes twice.
+    pub fn close(
+        self,
+        alloc: Global,
+        shares: Vec<Share<L>>,
+        receipts: List<List<Receipt>>,
+    ) -> Result<Closed<R>, Unclosed<R>>
+        ensures left { IfOk result (λ c. IsLeft R.told c.report c.asks self c.journal c.outcome) }
+        ensures receipts { IfOk result (λ c. Closes c.journal (joined receipts)) }
+        ensures counted { IfOk result (λ c. sum_by (λ (s : Share L). s.parts) shares.items ≡ L.parts
+            → sum_by (λ (s : Share L). s.amount) shares.items ≡ length c.journal) }
+        ensures back { IfOk result (λ c. c.receipts ≡ receipts) }
+        ensures refused { IfErr result (λ u. Refuses self u.journal (joined receipts) u.error.kind) }
+        ensures counted_too { IfErr result (λ u. sum_by (λ (s : Share L). s.parts) shares.items ≡ L.parts
+            → sum_by (λ (s : Share L). s.amount) shares.items ≡ length u.journal) }
+        ensures back_too { IfErr result (λ u. u.receipts ≡ receipts) }
+    {
+        let SharedRun { lock, settings, .. } = self;
+        let (run, asks, report) = lock.into_inner().into_parts(shares);
+        let outcome = run.outcome();
+        if !settings.get().same(run.settings()) {
+            let kind = other_settings(alloc, settings.get(), run.settings());
+            let journal = run.into_journal();
+            drop(asks);
+            return Err(Unclosed {
+                error: CloseError::new(kind),
+                journal,
+                receipts,
+                report,
+            });
+        }
+        let journal = run.into_journal();
+        if let Err(kind) = check(alloc, journal.as_slice(), &receipts) {
+            drop(asks);
+            return Err(Unclosed {
+                error: CloseError::new(kind),
+                journal,
+                receipts,
+                report,
+            });
+        }
+        Ok(Closed {
+            journal,
+            receipts,
+            asks,
+            outcome,
+            report,
+        })
+    }
+}

@@ -1,0 +1,5 @@
+//! Tests of a run that settles its turns, and of one that threads share.
+#![tactic(auto)]
+
+#[cfg(test)]
+mod rows;

@@ -1,0 +1,53 @@
+-- The turns that a run takes by itself, and the first of them that is enabled.
+use Rattle.std.specs.Prelude.{ℕ, ◌≡◌, ◌<◌, ◌≤◌, List, [], ◌∷◌, ◌++◌, map, length, Bool, true, false, if◌then◌else◌, Option, Some, None}
+use Rattle.std.specs.List.{range_with_len}
+use Rattle.run_events.specs.declared.settings.Settings.{Settings}
+use Rattle.run_events.specs.declared.turn.Turn.{Turn}
+use Rattle.run_events.specs.declared.turn.Turn.TheVariants as turns
+use Rattle.run_model.specs.declared.unit_turn.UnitTurn.{UnitTurn}
+use Rattle.run_model.specs.Admission.{units_in}
+use Rattle.run_model.specs.Board.{Board, unit_in}
+use Rattle.run_model.specs.Turns.{enabled_on, unit_takes}
+use Rattle.run_state.specs.declared.settle.Settled.{Settled}
+use Rattle.run_state.specs.declared.settle.Settled.TheVariants as settled
+
+-- the turn that is settled
+abbrev pub turn_by : Settled → Turn
+turn_by settled.Begin = turns.Begin
+turn_by settled.ReportCancel = turns.ReportCancel
+turn_by settled.Deliver = turns.Deliver
+turn_by (settled.Take unit) = turns.Take unit
+turn_by (settled.Decide unit word) = turns.Decide unit word
+turn_by (settled.UnitDue unit) = turns.UnitDue unit
+turn_by settled.GlobalDue = turns.GlobalDue
+turn_by settled.Admit = turns.Admit
+turn_by settled.End = turns.End
+
+-- a turn of each unit of a plan, by number
+abbrev pub of_each : Settings → (ℕ → Turn) → List Turn
+of_each p turn = map turn (range_with_len 0 (units_in p))
+
+-- the turns that a run takes by itself, in the order in which they are tried; units decide with this word
+abbrev pub first_turns : List Turn
+first_turns = turns.Begin ∷ turns.ReportCancel ∷ turns.Deliver ∷ []
+
+abbrev pub last_turns : List Turn
+last_turns = turns.GlobalDue ∷ turns.Admit ∷ turns.End ∷ []
+
+abbrev pub settling : Settings → ℕ → List Turn
+settling p word = first_turns ++ (of_each p turns.Take ++ (of_each p (λ unit. turns.Decide unit word)
+    ++ (of_each p turns.UnitDue ++ last_turns)))
+
+-- the first of some turns that is enabled on a board
+abbrev pub first_enabled : Settings → Board → List Turn → Option Turn
+first_enabled p b [] = None
+first_enabled p b (t ∷ ts) = if enabled_on p b t then Some t else first_enabled p b ts
+
+-- the unit of this number is the first that takes a turn; none takes it
+pub record IsFirst (b : Board) (turn : UnitTurn) (unit : ℕ) : Type 0 where
+  pub within : unit < length b.units
+  pub takes : unit_takes b.clock (unit_in b unit) turn ≡ true
+  pub before : (k : ℕ) → k < unit → unit_takes b.clock (unit_in b k) turn ≡ false
+
+abbrev pub NoneTakes : Board → UnitTurn → ℕ → Type 0
+NoneTakes b turn count = (k : ℕ) → k < count → unit_takes b.clock (unit_in b k) turn ≡ false
