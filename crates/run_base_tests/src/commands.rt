@@ -69,9 +69,9 @@ fn splits_commands(rt: HostRuntime) {
     splits(
         &rt,
         alloc,
-        "gdb -ex \"set print pretty on\" -a",
+        "gdb -ex \"set print pretty on\" --args",
         "gdb",
-        "-ex|set print pretty on|-a|",
+        "-ex|set print pretty on|--args|",
     );
     splits(&rt, alloc, "\t a  '' \"\"\n", "a", "||");
     splits(&rt, alloc, "# c 'x\na#b #d", "a#b", "");

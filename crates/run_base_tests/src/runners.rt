@@ -140,28 +140,33 @@ fn version(rt: &impl Abort, alloc: Global, text: &str) -> Version {
     Version::parse(alloc, text).expect(rt, text)
 }
 
-fn versions(rt: &impl Abort, alloc: Global) -> VersionEnvVars {
+// The versions of a plan that says which runs, and perhaps which is recommended.
+fn versions(rt: &impl Abort, alloc: Global, recommended: Option<Version>) -> VersionEnvVars {
     VersionEnvVars {
         current_version: version(rt, alloc, "1.2.3"),
         required_version: None,
-        recommended_version: Some(version(rt, alloc, "1.3.0-b.2+c")),
+        recommended_version: recommended,
     }
 }
 
-const TOLD: &str =
+const ONE: &str =
+    "NEXTEST_VERSION=1.2.3|NEXTEST_REQUIRED_VERSION=none|NEXTEST_RECOMMENDED_VERSION=none|";
+
+const TWO: &str =
     "NEXTEST_VERSION=1.2.3|NEXTEST_REQUIRED_VERSION=none|NEXTEST_RECOMMENDED_VERSION=1.3.0-b.2+c|";
 
-// The variables that versions tell.
-fn tells(rt: &impl Abort, alloc: Global, versions: &VersionEnvVars) -> bool {
+// A copy of these versions tells these variables.
+fn tells(rt: &impl Abort, alloc: Global, recommended: Option<Version>, told: &str) {
+    let versions = copied(rt, alloc, versions(rt, alloc, recommended));
     let pairs = versions.pairs(alloc).expect(rt, MEMORY);
-    are_pairs(rt, alloc, pairs.as_slice(), TOLD)
+    let same = are_pairs(rt, alloc, pairs.as_slice(), told);
+    holds(rt, told, same);
 }
 
-fn versions_are_told(rt: &impl Abort, alloc: Global) -> bool {
-    let versions = copied(rt, alloc, versions(rt, alloc));
-    let told = tells(rt, alloc, &versions);
-    drop(versions);
-    told
+fn versions_are_told(rt: &impl Abort, alloc: Global) {
+    tells(rt, alloc, None, ONE);
+    let recommended = version(rt, alloc, "1.3.0-b.2+c");
+    tells(rt, alloc, Some(recommended), TWO);
 }
 
 #[test]
@@ -174,5 +179,5 @@ fn prints_sources_and_versions(rt: HostRuntime) {
         "`target.cfg(unix).runner` specified by `--config`",
     );
     prints_file(&rt, alloc, "`target.cfg(unix).runner` within `p`");
-    holds(&rt, "versions", versions_are_told(&rt, alloc));
+    versions_are_told(&rt, alloc);
 }

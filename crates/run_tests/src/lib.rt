@@ -1,7 +1,6 @@
-//! Tests of the top call, and of the engine beside the plain functions of `run_plain`. Whole inputs go from memory
-//! into memory, with the status and the lines of each, and streams that fail. The engine and the plain functions are
-//! both proved to answer what is defined; these tests look at them as they run, over every list of turns up to a
-//! length. What is told and asked of all turns at once is what is told and asked turn by turn; the statistics told
+//! Tests of the engine beside the plain functions of `run_plain`, of a runner's answers, of delays, and of a run of many
+//! tests by the top call; whole inputs are the rows of `run_rows`. The engine and the plain functions are both proved to
+//! answer what is defined; these tests look at them as they run, over every list of turns up to a length. What is told and asked of all turns at once is what is told and asked turn by turn; the statistics told
 //! are those that the events come to; the attempts that a test failed and finished with are those of its own turns; its
 //! timer is due where they say so; and what was told of each test of a run that is over is the account of its fate,
 //! with attempts that meet their law. Where memory is wanting a test ends at once, so that no helper has a second way
@@ -9,15 +8,11 @@
 #![tactic(auto)]
 
 #[cfg(test)]
-mod cancels;
+mod built;
 #[cfg(test)]
-mod dates;
+mod delays;
 #[cfg(test)]
 mod fates;
-#[cfg(test)]
-mod inputs;
-#[cfg(test)]
-mod limits;
 #[cfg(test)]
 mod lines;
 #[cfg(test)]
@@ -27,17 +22,9 @@ mod many;
 #[cfg(test)]
 mod plan;
 #[cfg(test)]
-mod retries;
-#[cfg(test)]
-mod scripts;
-#[cfg(test)]
 mod statistics;
 #[cfg(test)]
 mod steps;
-#[cfg(test)]
-mod surroundings;
-#[cfg(test)]
-mod timeouts;
 #[cfg(test)]
 mod units;
 #[cfg(test)]
