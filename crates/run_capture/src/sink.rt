@@ -22,10 +22,10 @@ pub trait Sink {
         ensures fault { CountsFault (faults self.old) (faults self.new) result };
 }
 
-/// Writes a whole piece. After an error a front part of it went out.
+/// Writes a whole piece. After an error a front part of it went out, and not all.
 pub fn write_all<K: Sink>(sink: &mut K, piece: &[u8]) -> Result<(), Failed>
     ensures ok { OnOk result (Takes (K.taken sink.old) (K.taken sink.new) piece.now) }
-    ensures err { OnErr result ((n : ℕ) × (n ≤ length piece.now)
+    ensures err { OnErr result ((n : ℕ) × (n < length piece.now)
         × Takes (K.taken sink.old) (K.taken sink.new) (take n piece.now)) }
     ensures fault { CountsFault (K.faults sink.old) (K.faults sink.new) result }
 {

@@ -118,7 +118,7 @@ ended_gets c r o whole stayed =
     let p : Settings = settings_for r.keys r.plan in
     let one : HasOneCourse p r.turns (refuses_as_in r.journal) = one_course p r.turns (refuses_as_in r.journal) in
     let ends : Ends p r.turns (refuses_as_in r.journal) o =
-    (r.journal, journal_of p r.turns r.journal r.legal whole.all, whole.over) in
+    (r.journal, journal_of p r.turns r.journal r.legal whole.all, whole.finished.over) in
     record {
       refuses = refuses_as_in r.journal;
       tied = λ calm n. false_at (refusals r.journal) n (r.tied calm);
@@ -135,7 +135,7 @@ unreported_gets c r o whole rose =
     let p : Settings = settings_for r.keys r.plan in
     let one : HasOneCourse p r.turns (refuses_as_in r.journal) = one_course p r.turns (refuses_as_in r.journal) in
     let ends : Ends p r.turns (refuses_as_in r.journal) o =
-    (r.journal, journal_of p r.turns r.journal r.legal whole.all, whole.over) in
+    (r.journal, journal_of p r.turns r.journal r.legal whole.all, whole.finished.over) in
     record {
       refuses = refuses_as_in r.journal;
       tied = λ calm n. false_at (refusals r.journal) n (r.tied calm);

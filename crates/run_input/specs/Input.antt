@@ -1,5 +1,5 @@
 -- What the lines of an input say.
-use Rattle.std.specs.Prelude.{ℕ, ◌≡◌, ◌+◌, List, [], ◌∷◌, ◌++◌, length, Option, Some, None, option_and_then, IsSome}
+use Rattle.std.specs.Prelude.{ℕ, ◌≡◌, ◌<◌, ◌+◌, List, [], ◌∷◌, ◌++◌, length, Option, Some, None, option_and_then, IsSome}
 use Rattle.std.specs.Prelude.{MatchOption}
 use Rattle.run_input.specs.declared.plan_line.RunnerKeys.{RunnerKeys}
 use Rattle.run_events.specs.declared.plan.Plan.{Plan}
@@ -47,6 +47,12 @@ abbrev pub IsFirstBad : List (List ℕ) → ℕ → Type 0
 IsFirstBad [] number = number ≡ 1
 IsFirstBad (first ∷ others) number =
     MatchOption (plan_line_of first) (number ≡ 1) (λ _. IsFirstBadTurn others number)
+
+-- the same of lines of which only the first is to be there: it is no plan line, or there is a second
+abbrev pub IsFirstBadAlone : List (List ℕ) → ℕ → Type 0
+IsFirstBadAlone [] number = number ≡ 1
+IsFirstBadAlone (first ∷ others) number =
+    MatchOption (plan_line_of first) (number ≡ 1) (λ _. (0 < length others) × (number ≡ 2))
 
 -- an input that says something has no first bad line
 abbrev pub HasNoBadLine : Type 0

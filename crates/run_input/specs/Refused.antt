@@ -4,7 +4,7 @@ use Rattle.run_input.specs.declared.errors.LineError.{LineError}
 use Rattle.run_input.specs.declared.errors.LineError.TheVariants as line
 use Rattle.run_input.specs.declared.errors.InputError.{InputError}
 use Rattle.run_input.specs.declared.errors.InputError.TheVariants as input
-use Rattle.run_input.specs.Input.{IsFirstBad, IsFirstBadTurn}
+use Rattle.run_input.specs.Input.{IsFirstBad, IsFirstBadTurn, IsFirstBadAlone}
 
 -- the error of the line with this number
 abbrev pub error_at : ℕ → LineError → InputError
@@ -20,3 +20,8 @@ IsRefusedTurns others input.OutOfMemory = ⊤
 abbrev pub IsRefusedInput : List (List ℕ) → InputError → Type 0
 IsRefusedInput lines (input.Line number) = IsFirstBad lines number
 IsRefusedInput lines input.OutOfMemory = ⊤
+
+-- a plan line that is to stand alone is refused where it is none, for a second line, or for want of memory
+abbrev pub IsRefusedAlone : List (List ℕ) → InputError → Type 0
+IsRefusedAlone lines (input.Line number) = IsFirstBadAlone lines number
+IsRefusedAlone lines input.OutOfMemory = ⊤

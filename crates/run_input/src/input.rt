@@ -1,8 +1,8 @@
 // A whole input: a plan line, and a turn line for each turn.
-ghost use Rattle.std.specs.Prelude.{◌≡◌, Some, IfOk, IfErr};
+ghost use Rattle.std.specs.Prelude.{◌≡◌, [], Some, IfOk, IfErr};
 ghost use Rattle.run_input.specs.Lines.{lines_of};
 ghost use Rattle.run_input.specs.Input.{turns_of, IsInput, IsFirstBadTurn};
-ghost use Rattle.run_input.specs.Refused.{error_at, IsRefusedInput, IsRefusedTurns};
+ghost use Rattle.run_input.specs.Refused.{error_at, IsRefusedInput, IsRefusedTurns, IsRefusedAlone};
 
 use crate::both::both;
 use crate::lines::split_line;
@@ -49,6 +49,26 @@ fn read_turns(alloc: Global, bytes: &[u8]) -> Result<List<Turn>, InputError>
         number += 1;
     }
     Ok(turns)
+}
+
+/// Reads an input that is a plan line alone: a second line is a bad one, whatever it says.
+pub fn read_plan_alone(alloc: Global, bytes: &[u8]) -> Result<(RunnerKeys, Plan), InputError>
+    ensures ok { IfOk result (λ said. IsInput (lines_of bytes.now) said.0 said.1 []) }
+    ensures refused { IfErr result (IsRefusedAlone (lines_of bytes.now)) }
+{
+    if bytes.is_empty() {
+        return Err(InputError::Line { line: 1 });
+    }
+    let (line, after) = split_line(bytes);
+    let said = match read_plan_line(alloc, line) {
+        Ok(said) => said,
+        Err(e) => return Err(at_line(1, e)),
+    };
+    if after.is_empty() {
+        return Ok(said);
+    }
+    drop(said);
+    Err(InputError::Line { line: 2 })
 }
 
 /// Reads an input: its first line is the plan line, each later one a turn line.

@@ -26,7 +26,7 @@ mod turn_name;
 mod value;
 
 pub use errors::{InputError, LineError};
-pub use input::{Input, read_input};
+pub use input::{Input, read_input, read_plan_alone};
 pub use laws::an_input_has_no_bad_line;
 pub use plan_line::{RunnerKeys, read_plan_line};
 pub use reading::{INPUT_LIMIT, read_all};

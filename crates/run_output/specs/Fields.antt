@@ -1,7 +1,8 @@
 -- A line of output: an object of optional fields, as text with no space and with its keys in byte order.
-use Rattle.std.specs.Prelude.{ℕ, zero, suc, List, [], ◌∷◌, ◌++◌, Option, Some, None, map}
+use Rattle.std.specs.Prelude.{ℕ, ℤ, zero, suc, List, [], ◌∷◌, ◌++◌, Option, Some, None, map}
 use Rattle.std.specs.Borrow.{Bor}
 use Rattle.serde_json.specs.Data.{Data, unsigned, number, string, array, object, Members, no_members, put}
+use Rattle.serde_json.specs.Find.{of_integer}
 use Rattle.serde_json.specs.View.{items_of}
 use Rattle.serde_json.specs.Written.{compact_text}
 
@@ -30,6 +31,10 @@ rows printed fields = map (λ field. (field.0.now, printed field.1)) fields
 -- a number
 abbrev pub count : ℕ → Data
 count n = number (unsigned n)
+
+-- a number that may be below 0
+abbrev pub signed : ℤ → Data
+signed n = number (of_integer n)
 
 -- a number that is left out where it is 0
 unfoldable pub nonzero : ℕ → Option Data

@@ -3,9 +3,9 @@ use Rattle.std.specs.Prelude.{Option, Some, None, ◌++◌}
 use Rattle.serde_json.specs.Data.{Data, boolean, string}
 use Rattle.uuid.specs.Text.{hyphenated_text, lower}
 use Rattle.run_output.specs.declared.leaf.Leaf.{Leaf}
-use Rattle.run_output.specs.declared.leaf.Leaf.TheVariants.{Absent, Count, Number, Nonzero, Truth, Word, Text, Texts}
-use Rattle.run_output.specs.declared.leaf.Leaf.TheVariants.{Pairs, Hex, Id, Test, Tests, Result, Errors, Runs}
-use Rattle.run_output.specs.Fields.{count, nonzero, texts, pair, array_of}
+use Rattle.run_output.specs.declared.leaf.Leaf.TheVariants.{Absent, Count, Number, Nonzero, Signed, Truth, Word, Text}
+use Rattle.run_output.specs.declared.leaf.Leaf.TheVariants.{Texts, Pairs, Hex, Id, Test, Tests, Result, Errors, Runs}
+use Rattle.run_output.specs.Fields.{count, signed, nonzero, texts, pair, array_of}
 use Rattle.run_output.specs.Texts.{bytes_data, test_data, runs_text, result_text}
 use Rattle.run_output.specs.Errors.{child_errors, fault_errors, errors_data}
 
@@ -15,6 +15,7 @@ leaf_data Absent = None
 leaf_data (Count number) = Some (count number)
 leaf_data (Number number) = Some (count number)
 leaf_data (Nonzero number) = nonzero number
+leaf_data (Signed number) = Some (signed number)
 leaf_data (Truth truth) = Some (boolean truth)
 leaf_data (Word word) = Some (string word.now)
 leaf_data (Text text) = Some (string text.now)

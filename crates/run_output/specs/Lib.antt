@@ -20,4 +20,4 @@ pub mod Asks
 pub mod Outcomes
 pub mod Faults
 pub mod Told
-pub mod Refusals
+pub mod Turns

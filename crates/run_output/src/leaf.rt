@@ -24,6 +24,8 @@ pub(crate) enum Leaf<'a> {
     Number(u64),
     /// A number, left out where it is 0.
     Nonzero(u64),
+    /// A number that may be below 0.
+    Signed(i32),
     /// A truth value.
     Truth(bool),
     /// A text of this crate's own.
@@ -73,6 +75,7 @@ impl Printed for Leaf<'_> {
             Leaf::Count(number) => Ok(Some(Plain::number(number as u64))),
             Leaf::Number(number) => Ok(Some(Plain::number(number))),
             Leaf::Nonzero(number) => Ok(nonzero_plain(number)),
+            Leaf::Signed(number) => Ok(Some(Plain::signed(number))),
             Leaf::Truth(truth) => Ok(Some(Plain::truth(truth))),
             Leaf::Word(word) => Plain::text(alloc, word).map(Some),
             Leaf::Text(text) => Plain::text(alloc, text.as_str()).map(Some),

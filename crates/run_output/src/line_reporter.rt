@@ -2,7 +2,6 @@
 ghost use Rattle.std.specs.Prelude.{◌≡◌, [], ℕ, List, IfOk, Option};
 ghost use Rattle.run_events.specs.Tell.{answered, Adds};
 ghost use Rattle.run_events.specs.Counts.{CountsRefusal};
-ghost use Rattle.run_output.specs.Refusals.{CountsSince};
 
 use crate::events::whole_line;
 use run_capture::{Failed, Sink, write_all};
@@ -34,11 +33,10 @@ pub struct LineReporter<K: Sink, O: Origin> {
     sink: K,
     refusals: u64,
     origin: PhantomData<O>,
-    ghost counted: { CountsSince O.faults_before (K.faults sink) refusals },
 }
 
 impl<K: Sink, O: Origin> LineReporter<K, O> {
-    ghost use Rattle.run_output.specs.Told.{TookLines};
+    ghost use Rattle.run_output.specs.Told.{HasTold, some_refused};
 
     /// A reporter that has told nothing.
     pub fn new(sink: K) -> Self
@@ -54,12 +52,19 @@ impl<K: Sink, O: Origin> LineReporter<K, O> {
         }
     }
 
+    /// Whether it has refused an event.
+    pub fn has_refused(&self) -> bool
+        ensures { (answers : _) → ⟦<LineReporter<K, O> as Reporter>⟧.told self.now answers
+            → result ≡ some_refused answers }
+    {
+        self.refusals > 0
+    }
+
     /// Hands back the sink.
     pub fn into_sink(self) -> K
         ensures told { (answers : _) → ⟦<LineReporter<K, O> as Reporter>⟧.told self answers
-            → TookLines O.taken_before (K.taken result) answers }
-        ensures faults { CountsSince O.faults_before (K.faults result)
-            (⟦<LineReporter<K, O> as Reporter>⟧.faults self) }
+            → HasTold O.taken_before (K.taken result) O.faults_before (K.faults result)
+            (⟦<LineReporter<K, O> as Reporter>⟧.faults self) answers }
     {
         let LineReporter {
             sink,
@@ -73,15 +78,15 @@ impl<K: Sink, O: Origin> LineReporter<K, O> {
 impl<K: Sink, O: Origin> Reporter for LineReporter<K, O> {
     type Error = Failed;
 
-    ghost use Rattle.run_output.specs.Told.{TookLines};
+    ghost use Rattle.run_output.specs.Told.{HasTold};
 
-    ghost told = { λ r answers. TookLines O.taken_before (K.taken r.sink) answers };
+    ghost told = { λ r answers. HasTold O.taken_before (K.taken r.sink) O.faults_before (K.faults r.sink) r.refusals answers };
 
     ghost faults = { λ r. r.refusals };
 
     fn report(&mut self, alloc: Global, event: &ReporterEvent) -> Result<(), ReportFault<Failed>>
-        ensures told { Adds (λ r answers. TookLines O.taken_before (K.taken r.sink) answers)
-            self.old self.new (answered event.now result) }
+        ensures told { Adds (λ r answers. HasTold O.taken_before (K.taken r.sink) O.faults_before
+            (K.faults r.sink) r.refusals answers) self.old self.new (answered event.now result) }
         ensures fault { CountsRefusal self.old.refusals self.new.refusals result }
         // It refuses an event only where the sink failed.
         ensures cause { CountsRefusal (K.faults self.old.sink) (K.faults self.new.sink) result }

@@ -67,8 +67,7 @@ impl Object {
     pub(crate) fn text(self, alloc: Global) -> Mem<Text>
         ensures { IfOk result (λ t. t ≡ compact_text (object (members_of self))) }
     {
-        let value = self.done().into_value();
-        Ok(Text::from_string(value.to_string(alloc)?))
+        self.done().into_text(alloc)
     }
 
     /// The object of these fields.

@@ -3,7 +3,7 @@ ghost use Rattle.std.specs.Prelude.{◌≡◌, false, string_bytes, IfOk};
 ghost use Rattle.serde_json.specs.View.{view};
 ghost use Rattle.serde_json.specs.Written.{has_float};
 
-use run_capture::Mem;
+use run_capture::{Mem, Text};
 use serde_json::{Map, Value};
 use std::alloc::Global;
 
@@ -15,10 +15,10 @@ pub(crate) struct Plain {
 }
 
 impl Plain {
-    ghost use Rattle.serde_json.specs.Data.{boolean, string, array, object};
+    ghost use Rattle.serde_json.specs.Data.{boolean, string, array, object, null};
     ghost use Rattle.serde_json.specs.View.{items_view, members_view};
-    ghost use Rattle.serde_json.specs.Written.{items_have_float, members_have_float};
-    ghost use Rattle.run_output.specs.Fields.{count};
+    ghost use Rattle.serde_json.specs.Written.{compact_text, items_have_float, members_have_float};
+    ghost use Rattle.run_output.specs.Fields.{count, signed};
     ghost use Rattle.run_output.specs.Plain.{data_of};
 
     /// A number.
@@ -28,6 +28,22 @@ impl Plain {
         Plain {
             value: Value::from(number),
         }
+    }
+
+    /// A number that may be below 0.
+    pub(crate) fn signed(number: i32) -> Plain
+        ensures { data_of result ≡ signed number }
+    {
+        Plain {
+            value: Value::from(number),
+        }
+    }
+
+    /// Nothing, where a key needs a value.
+    pub(crate) fn null() -> Plain
+        ensures { data_of result ≡ null }
+    {
+        Plain { value: Value::Null }
     }
 
     /// A truth value.
@@ -74,6 +90,14 @@ impl Plain {
         Plain {
             value: Value::Object(members),
         }
+    }
+
+    /// Its text, with no space and with the keys of objects in byte order.
+    pub(crate) fn into_text(self, alloc: Global) -> Mem<Text>
+        ensures { IfOk result (λ t. t ≡ compact_text (data_of self)) }
+    {
+        let value = self.into_value();
+        Ok(Text::from_string(value.to_string(alloc)?))
     }
 
     /// The value itself.
