@@ -4,3 +4,5 @@ pub mod EndLemmas
 pub mod GivenLemmas
 pub mod StatusLemmas
 pub mod CauseLemmas
+pub mod LivedLemmas
+pub mod RunEndLemmas

@@ -1,6 +1,6 @@
 -- The lines that a reporter wrote are those of the events that the journal told.
-use Rattle.std.proofs.Common.{◌≡◌, ℕ, List, [], ◌∷◌, ◌++◌, length, map, zip, Option, Some, None, is_none}
-use Rattle.std.proofs.Common.{reverse, Result, IsSome, ◌<◌, refl, ap, sym, subst, ◌∙◌, arith}
+use Rattle.std.proofs.Common.{◌≡◌, ℕ, ◌||◌, List, [], ◌∷◌, ◌++◌, length, map, zip, Bool, true, false, Option, Some, None}
+use Rattle.std.proofs.Common.{is_none, is_some, reverse, Result, IsSome, refl, ap, sym, subst, ◌∙◌, arith}
 use Rattle.std.proofs.lemmas.List.{map-append}
 use Rattle.run_events.specs.declared.settings.Settings.{Settings}
 use Rattle.run_events.specs.declared.events.ReporterEvent.{ReporterEvent}
@@ -9,10 +9,11 @@ use Rattle.run_model.specs.declared.happening.Happening.{Happening}
 use Rattle.run_model.specs.Words.{told, asked, answers, events_in}
 use Rattle.run_model.specs.Turns.{happening}
 use Rattle.run_model.specs.Journal.{history, past_of, IsLegalBackward}
-use Rattle.run_engine.specs.World.{flagged, earlier, first_error, CountsErrors}
+use Rattle.run_capture.specs.Faults.{Rose, RoseExactlyIf}
+use Rattle.run_engine.specs.World.{flagged, earlier, first_error}
 use Rattle.run_output.specs.Fields.{line_of}
 use Rattle.run_output.specs.Events.{event_text}
-use Rattle.run_output.specs.Told.{IsLine, AreLines, TookLines}
+use Rattle.run_output.specs.Told.{IsLine, AreLines, TookLines, some_refused, HasTold}
 use Rattle.run_laws.specs.Course.{none_refused}
 use Rattle.run_cli.specs.Call.{Writing, HasTaken}
 use Rattle.run_cli.specs.Text.{event_lines}
@@ -24,7 +25,6 @@ use Rattle.run_events.specs.declared.outcome.RunOutcome.{RunOutcome}
 use Rattle.run_engine.specs.Standing.{IsRunnable}
 use Rattle.run_engine.specs.Execution.{IsAnswerOf}
 use Rattle.run_engine.specs.declared.errors.TestRunnerExecuteErrors.{TestRunnerExecuteErrors}
-use Rattle.run_output.specs.Refusals.{CountsSince}
 
 -- events beside as many answers are the events
 zip_first : {X Y : Type 0} (xs : List X) (ys : List Y) → length ys ≡ length xs → map (λ x. x.0) (zip xs ys) ≡ xs
@@ -64,37 +64,48 @@ flags_first : {X E : Type 0} (ys : List (X × Option E)) → map (λ x. x.0) (ma
 flags_first [] = refl
 flags_first (y ∷ ys) = ap (λ zs. y.0 ∷ zs) (flags_first ys)
 
--- a run whose events the sink took, from what the reporter told and counted
+-- an event among these was refused exactly where there is a first error
+pub first_refused : {E : Type 0} (ys : List (ReporterEvent × Option E)) → some_refused ys ≡ is_some (first_error ys)
+first_refused [] = refl
+first_refused (y ∷ ys) = by_error y.1 (first_refused ys)
+  where
+    by_error : (error : Option _) → some_refused ys ≡ is_some (first_error ys)
+        → (is_some error || some_refused ys) ≡ is_some (earlier error (first_error ys))
+    by_error None h = h
+    by_error (Some d) h = refl
+
+-- a run whose events the sink took, from what the reporter told
 pub executed_from : (p : Settings) (turns : List Turn) (w : Writing) (refusals : ℕ) (asks : List (ℕ × Ask))
     (answer : Result RunOutcome (TestRunnerExecuteErrors Failed)) (journal : List Entry) (refusal : Option Failed)
     (ys : List (ReporterEvent × Option Failed))
     → IsRunnable p journal → IsAnswerOf p turns journal refusal answer → is_none refusal ≡ none_refused journal
     → asks ≡ asked (past_of p journal)
-    → TookLines w.taken w.taken_after ys → map flagged ys ≡ answers (past_of p journal) → first_error ys ≡ refusal
-    → CountsErrors 0 refusals refusal → CountsSince w.faults w.faults_after refusals
-    → IsExecuted p turns w asks answer
-executed_from p turns w refusals asks answer journal refusal ys runnable says marked asked_is took flags first counted
-    since = record {
+    → HasTold w.taken w.taken_after w.faults w.faults_after refusals ys → map flagged ys ≡ answers (past_of p journal)
+    → first_error ys ≡ refusal → IsExecuted p turns w asks answer
+executed_from p turns w refusals asks answer journal refusal ys runnable says marked asked_is told flags first =
+    record {
       journal = journal;
       refusal = refusal;
       runnable = runnable;
       says = says;
       marked = marked;
       asked = asked_is;
-      took = (ys, flags, took);
+      took = (ys, flags, told.took);
       told = λ none. subst (HasTaken w)
-          (lines_whole ys took.0 (first ∙ none) took.1
+          (lines_whole ys told.took.0 (first ∙ none) told.took.1
           ∙ ap event_lines (sym (flags_first ys) ∙ ap (map (λ x. x.0)) flags
           ∙ answers-told p (reverse journal) runnable.legal))
-          took.2;
-      quiet = λ none. since.0 (quiet_count refusal none counted);
-      risen = λ some. since.1 (risen_count refusal some counted);
+          told.took.2;
+      quiet = λ none. quiet_count (some_refused ys) (first_refused ys ∙ ap is_some (first ∙ none)) told.counted;
+      risen = λ some. risen_count refusal some (some_refused ys) (first_refused ys ∙ ap is_some first) told.counted;
     }
   where
-    quiet_count : (o : Option Failed) → o ≡ None → CountsErrors 0 refusals o → refusals ≡ 0
-    quiet_count None e h = h
-    quiet_count (Some d) e h = cc
+    quiet_count : (b : Bool) → b ≡ false → RoseExactlyIf b w.faults w.faults_after → w.faults_after ≡ w.faults
+    quiet_count true e h = cc
+    quiet_count false e h = h
 
-    risen_count : (o : Option Failed) → IsSome o → CountsErrors 0 refusals o → 0 < refusals
-    risen_count None s h = cc
-    risen_count (Some d) s h = omega arith
+    risen_count : (o : Option Failed) → IsSome o → (b : Bool) → b ≡ is_some o
+        → RoseExactlyIf b w.faults w.faults_after → Rose w.faults w.faults_after
+    risen_count None s b e h = cc
+    risen_count (Some d) s true e h = h.1
+    risen_count (Some d) s false e h = cc

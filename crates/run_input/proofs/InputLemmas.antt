@@ -1,9 +1,10 @@
 -- The lines of an input that were read so far.
-use Rattle.std.proofs.Common.{◌≡◌, ℕ, ◌+◌, ◌≤◌, ◌<◌, List, [], ◌∷◌, ◌++◌, length, Option, Some, None, option_and_then}
+use Rattle.std.proofs.Common.{◌≡◌, ℕ, ◌+◌, ◌≤◌, ◌<◌, ◌==◌, List, [], ◌∷◌, ◌++◌, length, Option, Some, None}
+use Rattle.std.proofs.Common.{if◌then◌else◌, Bool, true, false, option_and_then}
 use Rattle.std.proofs.Common.{refl, ap, sym, ◌∙◌, arith, append_assoc, append-nil, length-append}
 use Rattle.std.proofs.lemmas.Option.{none-some, same_Some}
 use Rattle.run_events.specs.declared.turn.Turn.{Turn}
-use Rattle.run_input.specs.Lines.{lines_of}
+use Rattle.run_input.specs.Lines.{lines_of, at_front}
 use Rattle.run_input.specs.declared.plan_line.RunnerKeys.{RunnerKeys}
 use Rattle.run_events.specs.declared.plan.Plan.{Plan}
 use Rattle.run_input.specs.declared.errors.InputError.{InputError}
@@ -103,3 +104,16 @@ pub refused_after : (lines others : List (List ℕ)) (line : List ℕ) (first : 
     → lines ≡ line ∷ others → plan_line_of line ≡ Some first → IsRefusedTurns others e → IsRefusedInput lines e
 refused_after lines others line first (Line number) split says bad = rw (split, says) bad
 refused_after lines others line first OutOfMemory split says bad = tt
+
+-- bytes have a line
+front_some : (byte : ℕ) (lines : List (List ℕ)) → 0 < length (at_front byte lines)
+front_some byte [] = omega arith
+front_some byte (line ∷ lines) = omega arith
+
+pub lines_some : (bytes : List ℕ) → 0 < length bytes → 0 < length (lines_of bytes)
+lines_some [] some = absurd (omega arith)
+lines_some (byte ∷ bytes) some = by_end (byte == 10)
+  where
+    by_end : (b : Bool) → 0 < length (if b then [] ∷ lines_of bytes else at_front byte (lines_of bytes))
+    by_end true = omega arith
+    by_end false = front_some byte (lines_of bytes)

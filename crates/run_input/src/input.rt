@@ -52,6 +52,7 @@ fn read_turns(alloc: Global, bytes: &[u8]) -> Result<List<Turn>, InputError>
 }
 
 /// Reads an input that is a plan line alone: a second line is a bad one, whatever it says.
+#[tactic(auto, using(crate::proofs::InputLemmas::lines_some))]
 pub fn read_plan_alone(alloc: Global, bytes: &[u8]) -> Result<(RunnerKeys, Plan), InputError>
     ensures ok { IfOk result (λ said. IsInput (lines_of bytes.now) said.0 said.1 []) }
     ensures refused { IfErr result (IsRefusedAlone (lines_of bytes.now)) }

@@ -1,6 +1,6 @@
 use Rattle.std.proofs.Common.{[], subst}
-use Rattle.run_engine.specs.World.{CountsErrors}
 use Rattle.run_engine.proofs.CourseLemmas.{unless_weaker}
+use Rattle.run_output.specs.Told.{HasTold}
 use Rattle.run_cli.specs.Call.{writing}
 use Rattle.run_cli.proofs.ToldLines.{executed_from}
 use Rattle.run_cli.proofs.execution.execute_at.Goals as goal
@@ -9,12 +9,11 @@ pub returns : goal.returns
 returns g c = unless_weaker c.try_execute-answer.result _ _
     (λ x.
     let told = x.call.takes.told [] c.new-reporter.ensures.told in
-    executed_from c.args.runner c.args.turns.now (writing g.K.Sink.taken g.K.Sink.faults c.args.sink c.into_sink.result)
-    c.try_execute-answer.new.report.refusals c.try_execute-answer.new.children c.try_execute-answer.result
+    let w = writing g.K.Sink.taken g.K.Sink.faults c.args.sink c.into_sink.result in
+    let refusals = c.try_execute-answer.new.report.refusals in
+    executed_from c.args.runner c.args.turns.now w refusals c.try_execute-answer.new.children
+    c.try_execute-answer.result
     x.call.journal x.call.refusal told.0 x.call.takes.runnable x.call.says x.call.takes.marked
     (x.call.takes.asked [] c.new-asks.ensures)
-    (rw c.requires.taken at (c.into_sink.ensures.told told.0 told.1)) told.2 told.3
-    (subst (λ n. CountsErrors n c.try_execute-answer.new.report.refusals x.call.refusal) c.new-reporter.ensures.faults
-    x.call.takes.counted)
-    (rw c.requires.faults at c.into_sink.ensures.faults))
+    (rw c.requires.taken at (rw c.requires.faults at (c.into_sink.ensures told.0 told.1))) told.2 told.3)
     c.try_execute-answer.ensures.executes
