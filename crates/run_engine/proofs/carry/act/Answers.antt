@@ -1,5 +1,5 @@
 use Rattle.run_engine.proofs.PartLemmas.{on_err, part_none}
-use Rattle.run_engine.proofs.run.act.Goals as goal
+use Rattle.run_engine.proofs.carry.act.Goals as goal
 
 pub returns-in_default-clause-part : goal.returns-in_default-clause-part
 returns-in_default-clause-part g c =

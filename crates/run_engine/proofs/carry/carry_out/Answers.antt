@@ -7,7 +7,7 @@ use Rattle.run_engine.specs.World.{entry_of}
 use Rattle.run_engine.specs.Standing.{IsRunnable}
 use Rattle.run_engine.proofs.PartLemmas.{breaks_off}
 use Rattle.run_engine.proofs.CarryLemmas.{held-is, can_advance, stands_next, runnable_next, takes_from}
-use Rattle.run_engine.proofs.run.carry_out.Goals as goal
+use Rattle.run_engine.proofs.carry.carry_out.Goals as goal
 
 pub act-requires-clause-can : goal.act-requires-clause-can
 act-requires-clause-can g c =

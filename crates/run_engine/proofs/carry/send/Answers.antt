@@ -1,5 +1,5 @@
 use Rattle.run_engine.proofs.PartLemmas.{on_err, part_unasked, part_some}
-use Rattle.run_engine.proofs.run.send.Goals as goal
+use Rattle.run_engine.proofs.carry.send.Goals as goal
 
 pub returns-in_err-ask-clause-part : goal.returns-in_err-ask-clause-part
 returns-in_err-ask-clause-part g c =
