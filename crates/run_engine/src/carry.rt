@@ -33,6 +33,40 @@ use run_state::{Effects, State, advance, is_enabled, turn_of_unit};
 use std::alloc::Global;
 use std::collections::VecDeque;
 
+// Asks what a turn asks, and tells its events.
+fn say<C: Children, R: Reporter>(
+    alloc: Global,
+    place: u64,
+    effects: &Effects,
+    children: &mut C,
+    report: &mut R,
+) -> Mem<Told<R::Error>>
+    ensures part { OnErr result (TellsPart R.told C.asked
+        (outside R.faults report.old report.new children.old children.new) place effects.now.events
+        effects.now.asked) }
+    ensures asked { OnOk result (Adds C.asked children.old children.new
+        (map (λ ask. (place, ask)) (option_to_list effects.now.asked))) }
+    ensures answered { IfOk result (λ t. length t.refused ≡ length effects.now.events) }
+    ensures marked { IfOk result (λ t. is_none t.refusal ≡ list_all not t.refused) }
+    ensures told { IfOk result (λ t. TellsEvents R.told report.old report.new (zip effects.now.events t.refused)
+        t.refusal) }
+    ensures faults { IfOk result (λ t. CountsErrors (R.faults report.old) (R.faults report.new) t.refusal) }
+{
+    ask(alloc, children, place, &effects.asked)?;
+    let told = tell(alloc, report, effects.events.as_slice())?;
+    Ok(told)
+}
+
+// Keeps the start that a turn asked, for who claims it.
+fn keep(starts: &mut VecDeque<StartAsk>, effects: Effects)
+    requires { deque_len starts.old < deque_capacity starts.old }
+    ensures { starts.new.items ≡ starts.old.items ++ start_in effects.asked }
+{
+    let Effects { events, asked } = effects;
+    drop(events);
+    keep_start(starts, asked);
+}
+
 // Asks what a turn asks, tells its events, and keeps the start that it asked for who claims it.
 fn send<C: Children, R: Reporter>(
     alloc: Global,
@@ -55,11 +89,16 @@ fn send<C: Children, R: Reporter>(
         t.refusal) }
     ensures faults { IfOk result (λ t. CountsErrors (R.faults report.old) (R.faults report.new) t.refusal) }
 {
-    let Effects { events, asked } = effects;
-    ask(alloc, children, place, &asked)?;
-    let told = tell(alloc, report, events.as_slice())?;
-    keep_start(starts, asked);
-    Ok(told)
+    match say(alloc, place, &effects, children, report) {
+        Ok(told) => {
+            keep(starts, effects);
+            Ok(told)
+        }
+        Err(error) => {
+            drop(effects);
+            Err(error)
+        }
+    }
 }
 
 // Makes room for one more turn and one more start, and answers the turn's place.
