@@ -16,7 +16,7 @@ use run_events::{AskList, Reporter, RunOutcome, Settings, StartAsk, Turn};
 use run_model::Entry;
 use std::alloc::Global;
 use std::marker::Model;
-use std::sync::ledger::{Blank, Ledger, Share};
+use std::sync::ledger::{Blank, Book, Ledger, Share};
 use std::sync::{Condvar, Mutex, Wait};
 
 /// That a turn was taken: its place in the journal. Only a shared run makes one.
@@ -94,6 +94,16 @@ fn split<L: Ledger>(alloc: Global, all: Share<L>, workers: u64) -> Mem<Vec<Share
     Ok(shares)
 }
 
+// What a shared run begins with.
+#[derive(Drop)]
+struct Begun<L: Ledger> {
+    settings: Whole<Settings>,
+    run: Run,
+    book: Book<L>,
+    rest: Share<L>,
+    shares: Vec<Share<L>>,
+}
+
 // A run that has taken no turn, with a copy of its settings.
 fn run_of(alloc: Global, runner: TestRunner) -> Mem<(Whole<Settings>, Run)>
     ensures settings { IfOk result (λ r. r.0 ≡ runner) }
@@ -113,6 +123,37 @@ fn run_of(alloc: Global, runner: TestRunner) -> Mem<(Whole<Settings>, Run)>
             Err(error)
         }
     }
+}
+
+// What a run of this runner begins with, and a share of one part for each worker.
+fn begin<L: Ledger>(alloc: Global, runner: TestRunner, workers: u64, blank: Blank) -> Mem<Begun<L>>
+    requires name { blank.name ≡ L.name }
+    requires parts { blank.parts ≡ L.parts }
+    requires workers { blank.parts ≡ workers }
+    ensures settings { IfOk result (λ b. b.settings ≡ runner) }
+    ensures run { IfOk result (λ b. b.run ≡ sound runner []) }
+    ensures book { IfOk result (λ b. b.book.total ≡ 0) }
+    ensures rest { IfOk result (λ b. b.rest.parts ≡ 0) }
+    ensures count { IfOk result (λ b. vec_len b.shares ≡ workers) }
+    ensures each { IfOk result (λ b. All (λ (s : Share L). (s.parts ≡ 1) × (s.amount ≡ 0)) b.shares.items) }
+{
+    let (book, mut all) = blank.open::<L>();
+    let rest = all.empty();
+    let Ok(shares) = split(alloc, all, workers) else {
+        drop(runner);
+        return Err(OutOfMemory);
+    };
+    let Ok((settings, run)) = run_of(alloc, runner) else {
+        drop(shares);
+        return Err(OutOfMemory);
+    };
+    Ok(Begun {
+        settings,
+        run,
+        book,
+        rest,
+        shares,
+    })
 }
 
 // The receipt of a turn that was taken, at this place.
@@ -143,6 +184,29 @@ fn other_settings(alloc: Global, given: &Settings, kept: &Settings) -> CloseKind
     CloseKind::OtherSettings { given, kept }
 }
 
+// Whether a run is closed with these receipts: it has the settings that were given, and they are those of its journal.
+#[tactic(auto, using(crate::proofs::LeftLemmas::other_refused))]
+fn judge(
+    alloc: Global,
+    given: &Settings,
+    run: &Run,
+    receipts: &List<List<Receipt>>,
+) -> Result<(), CloseKind>
+    ensures same { OnOk result (given.now ≡ run.now.settings) }
+    ensures closes { OnOk result (Closes run.now.journal (joined receipts.now)) }
+    ensures refused { IfErr result (Refuses given.now run.now.journal (joined receipts.now)) }
+{
+    let journal = run.journal();
+    let kept = run.settings();
+    if !given.same(kept) {
+        return Err(other_settings(alloc, given, kept));
+    }
+    if let Err(kind) = check(alloc, journal, receipts) {
+        return Err(kind);
+    }
+    Ok(())
+}
+
 impl<L: Ledger, R: Reporter> SharedRun<L, R> {
     /// A run that has taken no turn, and a share of one part for each worker. Where memory is wanting the reporter comes
     /// back.
@@ -162,21 +226,19 @@ impl<L: Ledger, R: Reporter> SharedRun<L, R> {
         ensures each { IfOk result (λ r. All (λ (s : Share L). (s.parts ≡ 1) × (s.amount ≡ 0)) r.1.items) }
         ensures err { IfErr result (λ e. e.1 ≡ report) }
     {
-        let (book, mut all) = blank.open::<L>();
-        let rest = all.empty();
-        let Ok(shares) = split(alloc, all, workers) else {
-            drop(runner);
+        let Ok(begun) = begin::<L>(alloc, runner, workers, blank) else {
             return Err((OutOfMemory, report));
         };
-        let Ok((settings, run)) = run_of(alloc, runner) else {
-            drop(shares);
-            return Err((OutOfMemory, report));
-        };
-        let lock = Mutex::new(Locked::new(run, report, book, rest));
-        let moved = Condvar::new();
+        let Begun {
+            settings,
+            run,
+            book,
+            rest,
+            shares,
+        } = begun;
         let shared = SharedRun {
-            lock,
-            moved,
+            lock: Mutex::new(Locked::new(run, report, book, rest)),
+            moved: Condvar::new(),
             settings,
         };
         Ok((shared, shares))
@@ -282,34 +344,26 @@ impl<L: Ledger, R: Reporter> SharedRun<L, R> {
     {
         let SharedRun { lock, settings, .. } = self;
         let (run, asks, report) = lock.into_inner().into_parts(shares);
+        let judged = judge(alloc, settings.get(), &run, &receipts);
         let outcome = run.outcome();
-        if !settings.get().same(run.settings()) {
-            let kind = other_settings(alloc, settings.get(), run.settings());
-            let journal = run.into_journal();
-            drop(asks);
-            return Err(Unclosed {
-                error: CloseError::new(kind),
-                journal,
-                receipts,
-                report,
-            });
-        }
         let journal = run.into_journal();
-        if let Err(kind) = check(alloc, journal.as_slice(), &receipts) {
-            drop(asks);
-            return Err(Unclosed {
-                error: CloseError::new(kind),
+        match judged {
+            Ok(()) => Ok(Closed {
                 journal,
                 receipts,
+                asks,
+                outcome,
                 report,
-            });
+            }),
+            Err(kind) => {
+                drop(asks);
+                Err(Unclosed {
+                    error: CloseError::new(kind),
+                    journal,
+                    receipts,
+                    report,
+                })
+            }
         }
-        Ok(Closed {
-            journal,
-            receipts,
-            asks,
-            outcome,
-            report,
-        })
     }
 }
