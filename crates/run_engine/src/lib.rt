@@ -3,6 +3,7 @@
 #![tactic(auto)]
 
 mod builder;
+mod carry;
 mod errors;
 mod run;
 mod runner;

@@ -24,12 +24,12 @@ ghost use Rattle.run_state.specs.Held.{IsSeated, held};
 ghost use Rattle.run_engine.specs.Standing.{IsRunnable, unbroken, sound};
 ghost use Rattle.run_engine.specs.Refused.{IsRefused, IsNotNamed, IfNotMemory};
 
+use crate::carry::{carry_out, named_if_enabled};
 use crate::errors::StepError;
-use crate::tell::{Told, ask, keep_start, tell};
-use run_capture::{List, Mem, OutOfMemory, Whole};
+use run_capture::{List, Whole};
 use run_events::{Children, Reporter, RunOutcome, Settings, StartAsk, Turn};
 use run_model::{Entry, UnitTurn};
-use run_state::{Effects, Settled, State, advance, is_enabled, next_settled, turn_of_unit};
+use run_state::{Settled, State, next_settled};
 use std::alloc::Global;
 use std::collections::VecDeque;
 use std::marker::Model;
@@ -64,176 +64,6 @@ impl Model for Run {
     } };
 
     ghost invariant = { λ r. IsStanding r.settings r.journal.items r.state r.broken r.starts.items r.claimed };
-}
-
-// Asks what a turn asks, tells its events, and keeps the start that it asked for who claims it.
-fn send<C: Children, R: Reporter>(
-    alloc: Global,
-    place: u64,
-    effects: Effects,
-    starts: &mut VecDeque<StartAsk>,
-    children: &mut C,
-    report: &mut R,
-) -> Mem<Told<R::Error>>
-    requires room { deque_len starts.old < deque_capacity starts.old }
-    ensures waits { OnOk result (starts.new.items ≡ starts.old.items ++ start_in effects.asked) }
-    ensures kept { OnErr result (starts.new.items ≡ starts.old.items) }
-    ensures part { OnErr result (TellsPart R.told C.asked
-        (outside R.faults report.old report.new children.old children.new) place effects.events effects.asked) }
-    ensures asked { OnOk result (Adds C.asked children.old children.new
-        (map (λ ask. (place, ask)) (option_to_list effects.asked))) }
-    ensures answered { IfOk result (λ t. length t.refused ≡ length effects.events) }
-    ensures marked { IfOk result (λ t. is_none t.refusal ≡ list_all not t.refused) }
-    ensures told { IfOk result (λ t. TellsEvents R.told report.old report.new (zip effects.events t.refused)
-        t.refusal) }
-    ensures faults { IfOk result (λ t. CountsErrors (R.faults report.old) (R.faults report.new) t.refusal) }
-{
-    let Effects { events, asked } = effects;
-    ask(alloc, children, place, &asked)?;
-    let told = tell(alloc, report, events.as_slice())?;
-    keep_start(starts, asked);
-    Ok(told)
-}
-
-// Makes room for one more turn and one more start, and answers the turn's place.
-fn make_room(journal: &mut Vec<Entry>, starts: &mut VecDeque<StartAsk>) -> Mem<u64>
-    requires { length journal.old.items < 2 ^ 32 }
-    ensures place { IfOk result (λ place. place ≡ length journal.old.items) }
-    ensures same { journal.new.items ≡ journal.old.items }
-    ensures room { OnOk result (vec_len journal.new < vec_capacity journal.new) }
-    ensures kept { starts.new.items ≡ starts.old.items }
-    ensures start_room { OnOk result (deque_len starts.new < deque_capacity starts.new) }
-{
-    let place = journal.len() as u64;
-    journal.reserve(1)?;
-    starts.reserve(1)?;
-    Ok(place)
-}
-
-// Does what an enabled turn does to the state, the children and the reporter, whose answers the state hears, and makes
-// room for it in the journal.
-fn act<C: Children, R: Reporter>(
-    alloc: Global,
-    settings: &Settings,
-    state: &mut State,
-    journal: &mut Vec<Entry>,
-    starts: &mut VecDeque<StartAsk>,
-    turn: &Turn,
-    named: Option<(u32, UnitTurn)>,
-    children: &mut C,
-    report: &mut R,
-) -> Mem<Told<R::Error>>
-    requires named { named ≡ turn_of_unit turn.now }
-    requires can { CanAdvance settings.now state.old.board turn.now (turn_of_unit turn.now) }
-    requires seated { IsSeated settings.now state.old }
-    requires few { AreFew settings.now }
-    requires short { length journal.old.items < 2 ^ 32 }
-    ensures after { IfOk result (λ t. state.new.board
-        ≡ answered (step state.old.board turn.now (deed_on settings.now state.old.board turn.now)) t.refused) }
-    ensures seated { OnOk result (IsSeated settings.now state.new) }
-    ensures asked { OnOk result (Adds C.asked children.old children.new
-        (map (λ ask. (length journal.old.items, ask))
-        (option_to_list (deed_on settings.now state.old.board turn.now).asked))) }
-    ensures answered { IfOk result (λ t. length t.refused
-        ≡ length (deed_events (deed_on settings.now state.old.board turn.now))) }
-    ensures marked { IfOk result (λ t. is_none t.refusal ≡ list_all not t.refused) }
-    ensures told { IfOk result (λ t. TellsEvents R.told report.old report.new
-        (zip (deed_events (deed_on settings.now state.old.board turn.now)) t.refused) t.refusal) }
-    ensures faults { IfOk result (λ t. CountsErrors (R.faults report.old) (R.faults report.new) t.refusal) }
-    ensures same { journal.new.items ≡ journal.old.items }
-    ensures room { OnOk result (vec_len journal.new < vec_capacity journal.new) }
-    ensures waits { OnOk result (starts.new.items
-        ≡ starts.old.items ++ start_in (deed_on settings.now state.old.board turn.now).asked) }
-    ensures kept { OnErr result (starts.new.items ≡ starts.old.items) }
-    ensures part { OnErr result (TellsPart R.told C.asked
-        (outside R.faults report.old report.new children.old children.new) (length journal.old.items)
-        (deed_events (deed_on settings.now state.old.board turn.now))
-        (deed_on settings.now state.old.board turn.now).asked) }
-{
-    let Ok(place) = make_room(journal, starts) else {
-        drop(named);
-        return Err(OutOfMemory);
-    };
-    let effects = advance(alloc, settings, state, turn, named)?;
-    let told = send(alloc, place, effects, starts, children, report)?;
-    state.hear_answers(told.refused.as_slice());
-    Ok(told)
-}
-
-// Takes an enabled turn: the state moves, what it asks and tells goes out, and the journal grows. The answer is the
-// error of the reporter, where it refused the turn's event.
-fn carry_out<C: Children, R: Reporter>(
-    alloc: Global,
-    settings: &Settings,
-    state: &mut State,
-    journal: &mut Vec<Entry>,
-    starts: &mut VecDeque<StartAsk>,
-    turn: Turn,
-    named: Option<(u32, UnitTurn)>,
-    children: &mut C,
-    report: &mut R,
-) -> Mem<Option<R::Error>>
-    requires named { named ≡ turn_of_unit turn }
-    requires runnable { IsRunnable settings.now journal.old.items }
-    requires stands { state.old ≡ held settings.now (board settings.now (past_of settings.now journal.old.items)) }
-    requires enabled { enabled settings.now (past_of settings.now journal.old.items) turn ≡ true }
-    requires room { length journal.old.items + 1 < 2 ^ 32 }
-    ensures takes { IfOk result (λ refusal. (claimed : ℕ) → TakesTurn R.told C.asked
-        (outside R.faults report.old report.new children.old children.new) turn
-        (unbroken settings.now journal.old.items claimed) (unbroken settings.now journal.new.items claimed) refusal) }
-    ensures runnable { OnOk result (IsRunnable settings.now journal.new.items) }
-    ensures stands { OnOk result (state.new
-        ≡ held settings.now (board settings.now (past_of settings.now journal.new.items))) }
-    ensures waits { OnOk result (starts.new.items
-        ≡ starts.old.items ++ start_in (deed_on settings.now state.old.board turn).asked) }
-    ensures err { OnErr result (journal.new.items ≡ journal.old.items) }
-    ensures kept { OnErr result (starts.new.items ≡ starts.old.items) }
-    ensures part { OnErr result (BreaksOff R.told C.asked
-        (outside R.faults report.old report.new children.old children.new) settings.now journal.old.items turn) }
-{
-    match act(
-        alloc, settings, state, journal, starts, &turn, named, children, report,
-    ) {
-        Ok(Told { refused, refusal }) => {
-            journal.push_reserved(Entry { turn, refused });
-            Ok(refusal)
-        }
-        Err(error) => {
-            drop(turn);
-            Err(error)
-        }
-    }
-}
-
-// The unit that a turn names, with what the turn is to it, where the turn is enabled.
-fn named_if_enabled(
-    alloc: Global,
-    settings: &Settings,
-    state: &State,
-    turn: &Turn,
-) -> Result<Option<(u32, UnitTurn)>, StepError>
-    requires whole { length state.now.board.units ≡ units_in settings.now }
-    requires seated { IsSeated settings.now state.now }
-    requires timely { IsTimely state.now.board }
-    ensures named { IfOk result (λ named. named ≡ turn_of_unit turn.now) }
-    ensures enabled { OnOk result (enabled_on settings.now state.now.board turn.now ≡ true) }
-    ensures refused { IfErr result (IsNotNamed settings.now state.now.board turn.now) }
-{
-    if state.is_over() {
-        return Err(StepError::NotEnabled);
-    }
-    let Ok(named) = turn_of_unit(alloc, turn) else {
-        return Err(StepError::OutOfMemory);
-    };
-    if !is_enabled(settings, state, turn, &named) {
-        drop(named);
-        return Err(if state.is_third_signal(turn) {
-            StepError::ThirdSignal
-        } else {
-            StepError::NotEnabled
-        });
-    }
-    Ok(named)
 }
 
 impl Run {

@@ -128,11 +128,11 @@ all_true (true ∷ seen) zero all below = refl
 all_true (false ∷ seen) k all below =
     let few = count_by-le-length (λ (b : Bool). b) seen in
     let first : count_by (λ (b : Bool). b) (false ∷ seen) ≡ 0 + count_by (λ (b : Bool). b) seen =
-        sum_by-cons bit false seen in
+    sum_by-cons bit false seen in
     absurd (omega (arith, all, few, first))
 all_true (true ∷ seen) (suc k) all below =
     let first : count_by (λ (b : Bool). b) (true ∷ seen) ≡ 1 + count_by (λ (b : Bool). b) seen =
-        sum_by-cons bit true seen in
+    sum_by-cons bit true seen in
     all_true seen k (omega (arith, all, first)) (omega (arith, below))
 
 -- nothing is flagged at first

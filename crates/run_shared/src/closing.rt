@@ -7,7 +7,10 @@ use run_events::{Settings, Turn};
 #[derive(Drop)]
 pub enum CloseKind {
     /// The run has other settings than the runner that it was made of.
-    OtherSettings { given: Settings, kept: Settings },
+    OtherSettings {
+        given: Settings,
+        kept: Settings,
+    },
     /// A receipt has this number and this turn, and the journal has another turn there, or none.
     Mismatch {
         number: u64,
@@ -15,7 +18,9 @@ pub enum CloseKind {
         journal: Option<Turn>,
     },
     /// Two receipts have this number.
-    Repeated { number: u64 },
+    Repeated {
+        number: u64,
+    },
     OutOfMemory,
 }
 

@@ -6,12 +6,15 @@ mod closing;
 mod locked;
 mod receipts;
 mod same;
+mod same_commands;
 mod same_plan;
+mod same_settings;
 mod shared;
+mod turns;
 
 pub use closing::{CloseError, CloseKind};
 pub use locked::Locked;
 pub use receipts::check;
-pub use same::same_turn;
-pub use same_plan::Same;
-pub use shared::{Closed, Finished, Receipt, SharedRun, Unclosed};
+pub use same::Same;
+pub use shared::{Closed, Receipt, SharedRun, Unclosed};
+pub use turns::same_turn;

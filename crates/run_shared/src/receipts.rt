@@ -4,8 +4,8 @@ ghost use Rattle.std.specs.Prelude.{IsTrue, Some, None, replicate, false};
 ghost use Rattle.run_shared.specs.Receipts.{joined, turn_at, StandsIn, IsFault, HasFault, Looked, Closes};
 
 use crate::closing::CloseKind;
-use crate::same::same_turn;
 use crate::shared::Receipt;
+use crate::turns::same_turn;
 use run_capture::{Duplicate, List, Mem};
 use run_events::Turn;
 use run_model::Entry;

@@ -1,24 +1,23 @@
 // A run that threads share.
-ghost use Rattle.std.specs.Prelude.{◌≡◌, ◌<◌, ◌+◌, [], IfOk, IfErr, OnOk, OnErr, IfSome, IsNone, length, vec_len, true};
+ghost use Rattle.std.specs.Prelude.{◌≡◌, ◌<◌, ◌+◌, [], Ok, Err, IfOk, IfErr, OnOk, OnErr, IfSome, IsNone, length, vec_len, true};
 ghost use Rattle.run_shared.specs.Settled.{is_settled_turn};
 ghost use Rattle.std.specs.List.{All};
 ghost use Rattle.std.specs.List.{sum_by};
-ghost use Rattle.run_engine.specs.Standing.{sound, IsRunnable};
-ghost use Rattle.run_engine.specs.Heard.{IsHeard};
+ghost use Rattle.run_engine.specs.Standing.{sound};
 ghost use Rattle.run_shared.specs.Receipts.{joined, Closes};
 ghost use Rattle.run_shared.specs.Closed.{IsLeft, IsOther, Refuses};
 
 use crate::closing::{CloseError, CloseKind};
 use crate::locked::Locked;
 use crate::receipts::check;
-use crate::same_plan::Same;
-use run_capture::{Duplicate, List, OutOfMemory, Whole};
+use crate::same::Same;
+use run_capture::{Duplicate, List, Mem, OutOfMemory, Whole};
 use run_engine::{Run, StepError, TestRunner};
 use run_events::{AskList, Reporter, RunOutcome, Settings, StartAsk, Turn};
 use run_model::Entry;
-use std::alloc::{AllocError, Global};
+use std::alloc::Global;
 use std::marker::Model;
-use std::sync::ledger::{Blank, Ledger, Share};
+use std::sync::ledger::{Blank, Book, Ledger, Share};
 use std::sync::{Condvar, Mutex, Wait};
 
 /// That a turn was taken: its place in the journal. Only a shared run makes one.
@@ -42,14 +41,6 @@ impl Receipt {
     {
         &self.turn
     }
-}
-
-/// What a shared run leaves: the run with its journal, what it asked, and its reporter.
-#[derive(Drop)]
-pub struct Finished<R: Reporter> {
-    pub run: Run,
-    pub asks: AskList,
-    pub report: R,
 }
 
 /// A run that was closed: its journal, the receipts as they were given, what it asked, its outcome if it is over, and its
@@ -90,7 +81,7 @@ impl<L: Ledger, R: Reporter> Model for SharedRun<L, R> {
 }
 
 // Cuts a share into as many as there are workers, each of one part.
-fn split<L: Ledger>(alloc: Global, all: Share<L>, workers: u64) -> Result<Vec<Share<L>>, AllocError>
+fn split<L: Ledger>(alloc: Global, all: Share<L>, workers: u64) -> Mem<Vec<Share<L>>>
     requires parts { all.parts ≡ workers }
     requires empty { all.amount ≡ 0 }
     ensures count { IfOk result (λ shares. vec_len shares ≡ workers) }
@@ -102,6 +93,82 @@ fn split<L: Ledger>(alloc: Global, all: Share<L>, workers: u64) -> Result<Vec<Sh
         shares.push(rest.split_off(1, 0))?;
     }
     Ok(shares)
+}
+
+// What a shared run begins with.
+#[derive(Drop)]
+struct Begun<L: Ledger> {
+    settings: Whole<Settings>,
+    run: Run,
+    book: Book<L>,
+    rest: Share<L>,
+    shares: Vec<Share<L>>,
+}
+
+// A run that has taken no turn, with a copy of its settings.
+fn run_of(alloc: Global, runner: TestRunner) -> Mem<(Whole<Settings>, Run)>
+    ensures settings { IfOk result (λ r. r.0 ≡ runner) }
+    ensures run { IfOk result (λ r. r.1 ≡ sound runner []) }
+{
+    let settings = match runner.settings().copy(alloc) {
+        Ok(settings) => Whole::new(settings),
+        Err(error) => {
+            drop(runner);
+            return Err(error);
+        }
+    };
+    match runner.into_run(alloc) {
+        Ok(run) => Ok((settings, run)),
+        Err(error) => {
+            drop(settings);
+            Err(error)
+        }
+    }
+}
+
+// What a run of this runner begins with, and a share of one part for each worker.
+fn begin<L: Ledger>(alloc: Global, runner: TestRunner, workers: u64, blank: Blank) -> Mem<Begun<L>>
+    requires name { blank.name ≡ L.name }
+    requires parts { blank.parts ≡ L.parts }
+    requires workers { blank.parts ≡ workers }
+    ensures settings { IfOk result (λ b. b.settings ≡ runner) }
+    ensures run { IfOk result (λ b. b.run ≡ sound runner []) }
+    ensures book { IfOk result (λ b. b.book.total ≡ 0) }
+    ensures rest { IfOk result (λ b. b.rest.parts ≡ 0) }
+    ensures count { IfOk result (λ b. vec_len b.shares ≡ workers) }
+    ensures each { IfOk result (λ b. All (λ (s : Share L). (s.parts ≡ 1) × (s.amount ≡ 0)) b.shares.items) }
+{
+    let (book, mut all) = blank.open::<L>();
+    let rest = all.empty();
+    let Ok(shares) = split(alloc, all, workers) else {
+        drop(runner);
+        return Err(OutOfMemory);
+    };
+    let Ok((settings, run)) = run_of(alloc, runner) else {
+        drop(shares);
+        return Err(OutOfMemory);
+    };
+    Ok(Begun {
+        settings,
+        run,
+        book,
+        rest,
+        shares,
+    })
+}
+
+// The receipt of a turn that was taken, at this place.
+fn receipt_at(place: Result<u64, StepError>, turn: Turn) -> Result<Receipt, StepError>
+    ensures ok { IfOk result (λ r. (r.turn ≡ turn) × (place ≡ Ok r.number)) }
+    ensures err { IfErr result (λ e. place ≡ Err e) }
+{
+    match place {
+        Ok(number) => Ok(Receipt { number, turn }),
+        Err(error) => {
+            drop(turn);
+            Err(error)
+        }
+    }
 }
 
 // That a run has other settings than those given, with copies of both.
@@ -116,6 +183,29 @@ fn other_settings(alloc: Global, given: &Settings, kept: &Settings) -> CloseKind
         return CloseKind::OutOfMemory;
     };
     CloseKind::OtherSettings { given, kept }
+}
+
+// Whether a run is closed with these receipts: it has the settings that were given, and they are those of its journal.
+#[tactic(auto, using(crate::proofs::LeftLemmas::other_refused))]
+fn judge(
+    alloc: Global,
+    given: &Settings,
+    run: &Run,
+    receipts: &List<List<Receipt>>,
+) -> Result<(), CloseKind>
+    ensures same { OnOk result (given.now ≡ run.now.settings) }
+    ensures closes { OnOk result (Closes run.now.journal (joined receipts.now)) }
+    ensures refused { IfErr result (Refuses given.now run.now.journal (joined receipts.now)) }
+{
+    let journal = run.journal();
+    let kept = run.settings();
+    if !given.same(kept) {
+        return Err(other_settings(alloc, given, kept));
+    }
+    if let Err(kind) = check(alloc, journal, receipts) {
+        return Err(kind);
+    }
+    Ok(())
 }
 
 impl<L: Ledger, R: Reporter> SharedRun<L, R> {
@@ -137,25 +227,20 @@ impl<L: Ledger, R: Reporter> SharedRun<L, R> {
         ensures each { IfOk result (λ r. All (λ (s : Share L). (s.parts ≡ 1) × (s.amount ≡ 0)) r.1.items) }
         ensures err { IfErr result (λ e. e.1 ≡ report) }
     {
-        let Ok(settings) = runner.settings().copy(alloc) else {
-            drop(runner);
+        let Ok(begun) = begin::<L>(alloc, runner, workers, blank) else {
             return Err((OutOfMemory, report));
         };
-        let Ok(run) = runner.into_run(alloc) else {
-            drop(settings);
-            return Err((OutOfMemory, report));
-        };
-        let (book, mut all) = blank.open::<L>();
-        let rest = all.empty();
-        let Ok(shares) = split(alloc, all, workers) else {
-            drop(settings);
-            drop(run);
-            return Err((OutOfMemory, report));
-        };
+        let Begun {
+            settings,
+            run,
+            book,
+            rest,
+            shares,
+        } = begun;
         let shared = SharedRun {
             lock: Mutex::new(Locked::new(run, report, book, rest)),
             moved: Condvar::new(),
-            settings: Whole::new(settings),
+            settings,
         };
         Ok((shared, shares))
     }
@@ -174,17 +259,28 @@ impl<L: Ledger, R: Reporter> SharedRun<L, R> {
         ensures kept { OnErr result (share.new.amount ≡ share.old.amount) }
         ensures parts { share.new.parts ≡ share.old.parts }
     {
+        match self.copy_of(rt, alloc, &turn) {
+            Ok(copy) => {
+                let place = self.lock.lock(rt).step(alloc, share, turn);
+                self.moved.notify_all();
+                receipt_at(place, copy)
+            }
+            Err(error) => {
+                drop(turn);
+                Err(error)
+            }
+        }
+    }
+
+    // A copy of a turn; where memory is wanting the run is given up.
+    fn copy_of(&self, rt: &impl Wait, alloc: Global, turn: &Turn) -> Result<Turn, StepError>
+        ensures { IfOk result (λ copy. copy ≡ turn.now) }
+    {
         let Ok(copy) = turn.copy(alloc) else {
-            drop(turn);
             self.give_up(rt);
             return Err(StepError::OutOfMemory);
         };
-        let number = self.lock.lock(rt).step(alloc, share, turn);
-        self.moved.notify_all();
-        Ok(Receipt {
-            number: number?,
-            turn: copy,
-        })
+        Ok(copy)
     }
 
     /// Takes the first enabled turn of those that a run takes by itself, which the share counts, and answers its receipt;
@@ -205,9 +301,10 @@ impl<L: Ledger, R: Reporter> SharedRun<L, R> {
     {
         let settled = self.lock.lock(rt).settle(alloc, share, word);
         self.moved.notify_all();
-        match settled? {
-            Some((number, turn)) => Ok(Some(Receipt { number, turn })),
-            None => Ok(None),
+        match settled {
+            Ok(Some((number, turn))) => Ok(Some(Receipt { number, turn })),
+            Ok(None) => Ok(None),
+            Err(error) => Err(error),
         }
     }
 
@@ -227,21 +324,6 @@ impl<L: Ledger, R: Reporter> SharedRun<L, R> {
     pub fn give_up(&self, rt: &impl Wait) {
         self.lock.lock(rt).give_up();
         self.moved.notify_all();
-    }
-
-    /// Takes the run out of its lock. Its journal is legal for the settings that it goes by, its asks are those of the
-    /// journal and the reporter has told its events, where it isn't broken; and where all shares are given their amounts add
-    /// up to the length of the journal.
-    pub fn finish(self, shares: Vec<Share<L>>) -> Finished<R>
-        ensures legal { IsRunnable result.run.settings result.run.journal }
-        ensures heard { IsHeard R.told (λ list xs. list ≡ xs) result.report result.asks result.run }
-        ensures counted { sum_by (λ (s : Share L). s.parts) shares.items ≡ L.parts
-            → sum_by (λ (s : Share L). s.amount) shares.items ≡ length result.run.journal }
-    {
-        let SharedRun { lock, .. } = self;
-        let (run, asks, report) = lock.into_inner().into_parts(shares);
-        let _journal = run.journal();
-        Finished { run, asks, report }
     }
 
     /// Takes the run out of its lock, and looks whether the receipts are those of its journal: each stands in it, and no
@@ -264,34 +346,26 @@ impl<L: Ledger, R: Reporter> SharedRun<L, R> {
     {
         let SharedRun { lock, settings, .. } = self;
         let (run, asks, report) = lock.into_inner().into_parts(shares);
+        let judged = judge(alloc, settings.get(), &run, &receipts);
         let outcome = run.outcome();
-        if !settings.get().same(run.settings()) {
-            let kind = other_settings(alloc, settings.get(), run.settings());
-            let journal = run.into_journal();
-            drop(asks);
-            return Err(Unclosed {
-                error: CloseError::new(kind),
-                journal,
-                receipts,
-                report,
-            });
-        }
         let journal = run.into_journal();
-        if let Err(kind) = check(alloc, journal.as_slice(), &receipts) {
-            drop(asks);
-            return Err(Unclosed {
-                error: CloseError::new(kind),
+        match judged {
+            Ok(()) => Ok(Closed {
                 journal,
                 receipts,
+                asks,
+                outcome,
                 report,
-            });
+            }),
+            Err(kind) => {
+                drop(asks);
+                Err(Unclosed {
+                    error: CloseError::new(kind),
+                    journal,
+                    receipts,
+                    report,
+                })
+            }
         }
-        Ok(Closed {
-            journal,
-            receipts,
-            asks,
-            outcome,
-            report,
-        })
     }
 }

@@ -2,4 +2,10 @@
 #![tactic(auto)]
 
 #[cfg(test)]
+mod plans;
+#[cfg(test)]
+mod receipts;
+#[cfg(test)]
 mod rows;
+#[cfg(test)]
+mod threads;

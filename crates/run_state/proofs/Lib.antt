@@ -5,3 +5,4 @@ pub mod ScriptLemmas
 pub mod SeatLemmas
 pub mod SettleLemmas
 pub mod StartLemmas
+pub mod WorkingLemmas

@@ -1,8 +1,7 @@
 -- The first turn that is enabled of those that a run takes by itself.
-use Rattle.std.proofs.Common.{◌≡◌, ◌⊎◌, ℕ, ◌+◌, ◌<◌, ◌≤◌, inl, inr, List, [], ◌∷◌, ◌++◌, map, length, Bool, true, false, not, ◌&&◌}
-use Rattle.std.proofs.Common.{suc, zero, if◌then◌else◌, Option, Some, None, refl, ap, sym, subst, ◌∙◌, arith}
+use Rattle.std.proofs.Common.{◌≡◌, ℕ, ◌+◌, ◌<◌, ◌≤◌, List, [], ◌∷◌, ◌++◌, map, length, Bool, true, false}
+use Rattle.std.proofs.Common.{suc, zero, Some, None, refl, ap, sym, subst, ◌∙◌, arith}
 use Rattle.std.specs.List.{range_with_len}
-use Rattle.std.proofs.lemmas.Bool.{cases_lt}
 use Rattle.run_events.specs.declared.settings.Settings.{Settings}
 use Rattle.run_events.specs.declared.turn.Turn.{Turn}
 use Rattle.run_model.specs.declared.unit_turn.UnitTurn.{UnitTurn}
@@ -70,14 +69,3 @@ pub over_none : (p : Settings) (b : Board) (ts : List Turn) → b.dispatcher.ove
     → first_enabled p b ts ≡ None
 over_none p b [] over = refl
 over_none p b (t ∷ ts) over = passed p b t ts (rw over refl) ∙ over_none p b ts over
-
--- one more unit doesn't take a turn
-pub none_more : (b : Board) (turn : UnitTurn) (n : ℕ) → NoneTakes b turn n
-    → unit_takes b.clock (unit_in b n) turn ≡ false → NoneTakes b turn (n + 1)
-none_more b turn n none here k below = at (cases_lt k n)
-  where
-    at : (k < n) ⊎ (n ≤ k) → unit_takes b.clock (unit_in b k) turn ≡ false
-    at (inl less) = none k less
-    at (inr from) =
-        let same : n ≡ k = omega arith in
-        subst (λ k. unit_takes b.clock (unit_in b k) turn ≡ false) same here

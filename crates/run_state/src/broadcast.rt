@@ -2,7 +2,7 @@
 ghost use Rattle.std.specs.Prelude.{◌≡◌, OnOk, OnErr, length, map, count_by, option_map};
 ghost use Rattle.run_model.specs.Unit.{reached};
 ghost use Rattle.run_model.specs.Board.{reach_all};
-ghost use Rattle.run_state.specs.Counted.{is_left};
+ghost use Rattle.run_state.specs.Counted.{is_left, is_working};
 ghost use Rattle.run_state.specs.Placed.{is_no_script};
 
 use crate::state::State;
@@ -27,6 +27,7 @@ pub fn reach_each(alloc: Global, units: &mut [Option<Unit>], request: Request) -
     ensures ok { OnOk result (units.new ≡ map (option_map (reached request)) units.old) }
     ensures scripts { map is_no_script units.new ≡ map is_no_script units.old }
     ensures left { count_by is_left units.new ≡ count_by is_left units.old }
+    ensures working { map is_working units.new ≡ map is_working units.old }
     ensures count { length units.new ≡ length units.old }
 {
     for unit in units.iter_mut() {

@@ -10,6 +10,7 @@ mod settle;
 mod state;
 mod turns;
 mod units;
+mod working;
 
 pub use enabled::{is_enabled, turn_of_unit};
 pub use settle::{Settled, next_settled};

@@ -65,10 +65,9 @@ fn first_unit(state: &State, turn: &UnitTurn) -> Option<u32>
     ensures first { IfSome result (IsFirst state.now.board turn.now) }
     ensures none { IsNone result → NoneTakes state.now.board turn.now (length state.now.board.units) }
 {
-    let count = state.units.count();
-    for unit in 0..count {
-        if state.units.takes(unit, turn, state.clock) {
-            return Some(unit);
+    for unit in state.units.working() {
+        if state.units.takes(*unit, turn, state.clock) {
+            return Some(*unit);
         }
     }
     None

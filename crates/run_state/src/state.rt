@@ -74,7 +74,7 @@ impl State {
         let tests = settings.plan.tests.as_slice();
         let admission = Admission::new(alloc, settings.threads, groups, tests)?;
         Ok(State {
-            units: Units::new(units),
+            units: Units::new(alloc, units),
             queue: VecDeque::new(alloc),
             dispatcher,
             clock: 0,

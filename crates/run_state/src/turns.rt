@@ -86,7 +86,7 @@ pub fn take_turn(
         return Err(OutOfMemory);
     };
     let now = state.clock;
-    let UnitEffects { sent, asked, over } = state.units.step(alloc, unit as usize, turn, now)?;
+    let UnitEffects { sent, asked, over } = state.units.step(alloc, unit, turn, now)?;
     release(settings, &mut state.admission, unit, over);
     send(&mut state.queue, sent);
     Ok(asked)
@@ -170,10 +170,9 @@ fn seat(
     ensures err { OnErr result (units.new ≡ units.old) }
 {
     queue.reserve(1)?;
-    let place = settings.plan.scripts.len() + place_of(&admitted) as usize;
+    let place = settings.plan.scripts.len() as u32 + place_of(&admitted);
     let new = newcomer_of(alloc, settings, units, admitted)?;
-    join(units, queue, place, new);
-    Ok(())
+    join(units, queue, place, new)
 }
 
 // The script at this place, which is the next one, becomes a unit, and its first message is sent.
@@ -194,22 +193,27 @@ fn seat_script(
     ensures err { OnErr result (units.new ≡ units.old) }
 {
     queue.reserve(1)?;
-    let new = script_of(alloc, settings, place as u32)?;
-    join(units, queue, place, new);
-    Ok(())
+    let place = place as u32;
+    let new = script_of(alloc, settings, place)?;
+    join(units, queue, place, new)
 }
 
 // A newcomer becomes the unit at a place, and its first message comes last in the queue, which has room for it.
-fn join(units: &mut Units, queue: &mut VecDeque<Message>, place: usize, new: Newcomer)
+fn join(units: &mut Units, queue: &mut VecDeque<Message>, place: u32, new: Newcomer) -> Mem<()>
     requires within { place < length units.old }
     requires absent { slice_index_or units.old place None ≡ None }
     requires room { deque_len queue.old < deque_capacity queue.old }
-    ensures units { units.new ≡ slice_set units.old place (Some new.unit) }
-    ensures queue { queue.new.items ≡ queue.old.items ++ new.sent ∷ [] }
+    ensures units { OnOk result (units.new ≡ slice_set units.old place (Some new.unit)) }
+    ensures queue { OnOk result (queue.new.items ≡ queue.old.items ++ new.sent ∷ []) }
+    ensures err { OnErr result (units.new ≡ units.old) }
 {
     let Newcomer { unit, sent } = new;
+    let Ok(()) = units.admit(place, unit) else {
+        drop(sent);
+        return Err(OutOfMemory);
+    };
     queue.push_back_reserved(sent);
-    units.admit(place, unit);
+    Ok(())
 }
 
 // The unit whose start, or retry, a message is.

@@ -7,36 +7,41 @@ ghost use Rattle.run_model.specs.Admission.{handed_from, is_done, is_last, open_
 ghost use Rattle.run_model.specs.Unit.{row, takes};
 ghost use Rattle.run_model.specs.Board.{reach_all, units_after};
 ghost use Rattle.run_model.specs.Turns.{unit_takes, taken_by};
+ghost use Rattle.run_state.specs.Counted.{is_working, working_in};
 ghost use Rattle.run_state.specs.Placed.{is_no_script};
 
 use crate::broadcast::reach_each;
 use crate::scripts::{handed_from, open_script};
-use run_capture::{List, Mem, Text};
+use crate::working::{admit, leave};
+use run_capture::{List, Mem, OutOfMemory, Text};
 use run_events::Request;
 use run_model::{Phase, UnitTurn};
 use run_unit::{Unit, UnitEffects};
 use std::alloc::Global;
 use std::marker::Model;
 
-/// Each script and test of the plan, once it was admitted, with a count of those that aren't over, so that no turn
-/// looks at all. Contracts see the list of the units.
+/// Each script and test of the plan, once it was admitted, with a count of those that aren't over and the numbers of
+/// those that were admitted and aren't over, so that no turn looks at all. Contracts see the list of the units.
 #[derive(Drop)]
 pub struct Units {
     items: Vec<Option<Unit>>,
     /// How many aren't over.
     left: usize,
+    /// The numbers of those that were admitted and aren't over, in ascending order.
+    working: Vec<u32>,
 }
 
 impl Model for Units {
     ghost use Rattle.std.specs.Prelude.{◌≡◌, List, Option, count_by};
     ghost use Rattle.run_model.specs.declared.unit_view.UnitView.{UnitView};
-    ghost use Rattle.run_state.specs.Counted.{is_left};
+    ghost use Rattle.run_state.specs.Counted.{is_left, working_in};
 
     ghost Value = { List (Option UnitView) };
 
     ghost view = { λ u. u.items.items };
 
-    ghost invariant = { λ u. u.left ≡ count_by is_left u.items.items };
+    ghost invariant = { λ u. (u.left ≡ count_by is_left u.items.items)
+        × (u.working.items ≡ working_in u.items.items) };
 }
 
 fn unit_is_done(unit: &Option<Unit>) -> bool
@@ -57,12 +62,16 @@ fn are_done(units: &[Option<Unit>]) -> bool
 
 impl Units {
     /// Units none of which was admitted.
-    pub fn new(items: Vec<Option<Unit>>) -> Units
+    pub fn new(alloc: Global, items: Vec<Option<Unit>>) -> Units
         requires { (k : ℕ) → slice_index_or items.items k None ≡ None }
         ensures { result ≡ items.items }
     {
         let left = items.len();
-        Units { items, left }
+        Units {
+            items,
+            left,
+            working: Vec::new(alloc),
+        }
     }
 
     /// Whether a unit takes a turn at a moment of the run's clock, no earlier than its latest turn; a number of no
@@ -77,12 +86,12 @@ impl Units {
         }
     }
 
-    /// How many there are, fewer than 2^32.
-    pub fn count(&self) -> u32
-        requires { length self.now < 2 ^ 32 }
-        ensures { result ≡ length self.now }
+    /// The numbers of those that were admitted and aren't over, in ascending order.
+    pub fn working(&self) -> &[u32]
+        ensures { result.now ≡ working_in self.now }
     {
-        self.items.len() as u32
+        let _ = &self.items;
+        self.working.as_slice()
     }
 
     /// Whether each was admitted and is over.
@@ -123,7 +132,7 @@ impl Units {
     }
 
     /// A unit takes a turn.
-    pub fn step(&mut self, alloc: Global, unit: usize, turn: UnitTurn, now: u64) -> Mem<UnitEffects>
+    pub fn step(&mut self, alloc: Global, unit: u32, turn: UnitTurn, now: u64) -> Mem<UnitEffects>
         requires { (u : UnitView) × (slice_index_or self.old unit None ≡ Some u) × (takes now u turn ≡ true)
             × (u.latest ≤ now) }
         ensures after { OnOk result (self.new
@@ -135,8 +144,9 @@ impl Units {
             ≡ is_done (option_map (λ u. (row now turn u).next) (slice_index_or self.old unit None))) }
         ensures err { OnErr result (self.new ≡ self.old) }
     {
-        let effects = step_at(&mut self.items, alloc, unit, turn, now)?;
+        let effects = step_at(&mut self.items, alloc, unit as usize, turn, now)?;
         self.left = left_after(self.left, effects.over);
+        leave(&mut self.working, unit, effects.over);
         Ok(effects)
     }
 
@@ -150,13 +160,20 @@ impl Units {
     }
 
     /// A unit that wasn't admitted is.
-    pub fn admit(&mut self, place: usize, unit: Unit)
+    pub fn admit(&mut self, place: u32, unit: Unit) -> Mem<()>
         requires within { place < length self.old }
         requires absent { slice_index_or self.old place None ≡ None }
-        ensures { self.new ≡ slice_set self.old place (Some unit) }
+        ensures ok { OnOk result (self.new ≡ slice_set self.old place (Some unit)) }
+        ensures err { OnErr result (self.new ≡ self.old) }
     {
-        self.left = left_after(self.left, is_over(&unit));
-        put(&mut self.items, place, unit);
+        let over = is_over(&unit);
+        let Ok(()) = admit(&mut self.working, place, over) else {
+            drop(unit);
+            return Err(OutOfMemory);
+        };
+        self.left = left_after(self.left, over);
+        put(&mut self.items, place as usize, unit);
+        Ok(())
     }
 }
 

@@ -3,6 +3,7 @@ use Rattle.std.proofs.lemmas.List.Edits.{map_over_more}
 use Rattle.run_model.specs.Unit.{reached}
 use Rattle.run_state.proofs.CountedLemmas.{failed_left}
 use Rattle.run_state.proofs.PlaceLemmas.{kinds-failed, kinds-some}
+use Rattle.run_state.proofs.WorkingLemmas.{working-failed, working-some}
 use Rattle.run_state.proofs.broadcast.reach_each.Goals as goal
 
 pub loop-unit-preserved : goal.loop-unit-preserved
@@ -23,3 +24,12 @@ returns-in_err-reach-clause-scripts c =
 pub returns-clause-scripts : goal.returns-clause-scripts
 returns-clause-scripts c =
     kinds-some c.args.request c.loop-unit.unit-index c.args.units.now c.loop-unit.units c.loop-unit.invariant
+
+pub returns-in_err-reach-clause-working : goal.returns-in_err-reach-clause-working
+returns-in_err-reach-clause-working c =
+    working-failed c.args.request c.loop-unit.unit-index c.args.units.now c.loop-unit.units c.loop-unit.unit-index
+    c.reach.new.unit c.unit-item.result c.loop-unit.invariant c.in_err-reach.ensures.err
+
+pub returns-clause-working : goal.returns-clause-working
+returns-clause-working c =
+    working-some c.args.request c.loop-unit.unit-index c.args.units.now c.loop-unit.units c.loop-unit.invariant

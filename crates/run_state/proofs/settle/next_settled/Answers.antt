@@ -1,4 +1,4 @@
-use Rattle.std.proofs.Common.{sym, ◌∙◌}
+use Rattle.std.proofs.Common.{sym}
 use Rattle.run_state.specs.Settle.{settling}
 use Rattle.run_state.proofs.SettleLemmas.{over_none}
 use Rattle.run_state.proofs.settle.next_settled.Goals as goal
