@@ -1,8 +1,0 @@
-//! Stub.
-#![tactic(auto)]
-
-mod lived;
-mod running;
-
-pub use lived::{Live, Lived};
-pub use running::live;
