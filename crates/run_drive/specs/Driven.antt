@@ -4,6 +4,7 @@ use Rattle.std.specs.List.{All, filter}
 use Rattle.run_events.specs.declared.turn.Turn.{Turn}
 use Rattle.run_events.specs.declared.turn.Turn.TheVariants as turns
 use Rattle.run_shared.specs.declared.shared.Receipt.{Receipt}
+use Rattle.run_shared.specs.Settled.{is_settled_turn}
 use Rattle.run_drive.specs.declared.spawner.Heard.{Heard}
 use Rattle.run_drive.specs.Heard.{turns_from}
 
@@ -18,19 +19,6 @@ is_child_turn (turns.Exit unit exit) = true
 is_child_turn (turns.WaitFailed unit error) = true
 is_child_turn (turns.Env unit input) = true
 is_child_turn _ = false
-
--- a turn that a run takes by itself
-abbrev pub is_settled_turn : Turn → Bool
-is_settled_turn turns.Begin = true
-is_settled_turn turns.ReportCancel = true
-is_settled_turn turns.Deliver = true
-is_settled_turn (turns.Take unit) = true
-is_settled_turn (turns.Decide unit word) = true
-is_settled_turn (turns.UnitDue unit) = true
-is_settled_turn turns.GlobalDue = true
-is_settled_turn turns.Admit = true
-is_settled_turn turns.End = true
-is_settled_turn _ = false
 
 -- a turn that tells how time goes by
 abbrev pub is_clock_turn : Turn → Bool

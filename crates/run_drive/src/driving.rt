@@ -1,9 +1,10 @@
 // What a worker does.
-ghost use Rattle.std.specs.Prelude.{◌≡◌, ◌<◌, ◌+◌, length, IfOk};
-ghost use Rattle.std.specs.List.{All};
-ghost use Rattle.run_drive.specs.Driven.{Drives, OfTicker};
+ghost use Rattle.std.specs.Prelude.{◌≡◌, ◌<◌, ◌+◌, length, IfOk, OnOk};
+ghost use Rattle.run_drive.specs.Driven.{Drives};
+ghost use Rattle.run_drive.specs.Worked.{Works};
 
 use crate::Spawner;
+use crate::listening::attend;
 use run_capture::{List, Mem, OutOfMemory};
 use run_events::Reporter;
 use run_shared::{Receipt, SharedRun};
@@ -11,9 +12,36 @@ use std::alloc::Global;
 use std::sync::Wait;
 use std::sync::ledger::{Ledger, Share};
 
+// Takes starts until none comes any more, and attends to each.
+#[tactic(auto, using(crate::proofs::WorkedLemmas::works_none, crate::proofs::WorkedLemmas::works_more))]
+fn work<W: Spawner, L: Ledger, R: Reporter>(
+    rt: &impl Wait,
+    alloc: Global,
+    shared: &SharedRun<L, R>,
+    worker: &mut W,
+    share: &mut Share<L>,
+    word: u32,
+    receipts: &mut List<Receipt>,
+) -> Mem<()>
+    requires { 0 < share.old.parts }
+    ensures works { OnOk result (Works W.has_said worker.old worker.new receipts.old receipts.new) }
+    ensures counted { OnOk result
+        (share.new.amount + length receipts.old ≡ share.old.amount + length receipts.new) }
+    ensures parts { share.new.parts ≡ share.old.parts }
+{
+    for _ in rt.forever() {
+        let Some(start) = shared.next_start(rt) else {
+            return Ok(());
+        };
+        attend(rt, alloc, shared, worker, share, word, &start, receipts)?;
+    }
+    unreachable!()
+}
+
 /// Works on a run until no start comes any more: takes a start, asks the spawner for it, steps with each thing that the
 /// spawner says of it, and settles. Units decide with the word. Answers the receipts in their order. Where memory is
 /// wanting it gives the run up.
+#[tactic(auto, using(crate::proofs::WorkedLemmas::drives_all))]
 pub fn drive<W: Spawner, L: Ledger, R: Reporter>(
     rt: &impl Wait,
     alloc: Global,
@@ -27,23 +55,11 @@ pub fn drive<W: Spawner, L: Ledger, R: Reporter>(
     ensures counted { IfOk result (λ rs. share.new.amount ≡ share.old.amount + length rs) }
     ensures parts { share.new.parts ≡ share.old.parts }
 {
-    shared.give_up(rt);
-    Err(OutOfMemory)
-}
-
-/// Settles until nothing is ready. Units decide with the word. Where memory is wanting it gives the run up.
-pub fn wind<L: Ledger, R: Reporter>(
-    rt: &impl Wait,
-    alloc: Global,
-    shared: &SharedRun<L, R>,
-    share: &mut Share<L>,
-    word: u32,
-) -> Mem<List<Receipt>>
-    requires { 0 < share.old.parts }
-    ensures kinds { IfOk result (λ rs. All OfTicker rs) }
-    ensures counted { IfOk result (λ rs. share.new.amount ≡ share.old.amount + length rs) }
-    ensures parts { share.new.parts ≡ share.old.parts }
-{
-    shared.give_up(rt);
-    Err(OutOfMemory)
+    let mut receipts = List::new();
+    let Ok(()) = work(rt, alloc, shared, worker, share, word, &mut receipts) else {
+        drop(receipts);
+        shared.give_up(rt);
+        return Err(OutOfMemory);
+    };
+    Ok(receipts)
 }

@@ -12,6 +12,7 @@ pub trait Ticker {
 /// A host: it makes a spawner for each worker, and a ticker.
 pub trait Host {
     type Worker: Spawner + Send + Drop;
+
     type Tick: Ticker + Send + Drop;
 
     /// A spawner that was asked for nothing and has said nothing.

@@ -5,11 +5,19 @@
 #![tactic(auto)]
 
 mod driving;
+mod given;
 mod host;
+mod listening;
+mod memory_host;
+mod memory_spawner;
+mod settling;
 mod spawner;
 mod ticking;
 
-pub use driving::{drive, wind};
+pub use driving::drive;
 pub use host::{Host, Ticker};
+pub use memory_host::{MemoryHost, MemoryTicker};
+pub use memory_spawner::MemorySpawner;
+pub use settling::wind;
 pub use spawner::{Begun, Heard, Said, Spawner};
 pub use ticking::tick;

@@ -1,0 +1,124 @@
+// Turns that are taken, each with those that the run takes by itself after it.
+ghost use Rattle.std.specs.Prelude.{◌≡◌, ◌<◌, ◌+◌, length, IfOk, OnOk};
+ghost use Rattle.std.specs.List.{All};
+ghost use Rattle.run_drive.specs.Driven.{OfTicker};
+ghost use Rattle.run_drive.specs.Added.{Settles, Enters};
+
+use run_capture::{List, Mem, OutOfMemory};
+use run_engine::StepError;
+use run_events::{Reporter, Turn};
+use run_shared::{Receipt, SharedRun};
+use std::alloc::Global;
+use std::sync::Wait;
+use std::sync::ledger::{Ledger, Share};
+
+/// How a run answered a turn.
+#[derive(Clone, Copy, Drop)]
+pub(crate) enum Answer {
+    Taken,
+    NotEnabled,
+    /// It takes no turn any more.
+    NoMore,
+}
+
+// Settles until nothing is ready, and adds the receipts. Answers whether the run may take further turns.
+#[tactic(auto, using(crate::proofs::AddedLemmas::settles_none, crate::proofs::AddedLemmas::settles_more))]
+pub(crate) fn settle_all<L: Ledger, R: Reporter>(
+    rt: &impl Wait,
+    alloc: Global,
+    shared: &SharedRun<L, R>,
+    share: &mut Share<L>,
+    word: u32,
+    receipts: &mut List<Receipt>,
+) -> Mem<bool>
+    requires { 0 < share.old.parts }
+    ensures settles { OnOk result (Settles receipts.old receipts.new) }
+    ensures counted { OnOk result
+        (share.new.amount + length receipts.old ≡ share.old.amount + length receipts.new) }
+    ensures parts { share.new.parts ≡ share.old.parts }
+{
+    for _ in rt.forever() {
+        match shared.settle(rt, alloc, share, word) {
+            Ok(Some(receipt)) => receipts.push(alloc, receipt)?,
+            Ok(None) => return Ok(true),
+            Err(StepError::OutOfMemory) => return Err(OutOfMemory),
+            Err(_) => return Ok(false),
+        }
+    }
+    unreachable!()
+}
+
+// Takes a turn, and adds its receipt; none where it is refused.
+#[tactic(auto, using(crate::proofs::AddedLemmas::enters_none, crate::proofs::AddedLemmas::enters_one))]
+fn take_turn<L: Ledger, R: Reporter>(
+    rt: &impl Wait,
+    alloc: Global,
+    shared: &SharedRun<L, R>,
+    share: &mut Share<L>,
+    turn: Turn,
+    receipts: &mut List<Receipt>,
+) -> Mem<Answer>
+    requires { 0 < share.old.parts }
+    ensures enters { OnOk result (Enters receipts.old turn receipts.new) }
+    ensures counted { OnOk result
+        (share.new.amount + length receipts.old ≡ share.old.amount + length receipts.new) }
+    ensures parts { share.new.parts ≡ share.old.parts }
+{
+    match shared.step(rt, alloc, share, turn) {
+        Ok(receipt) => {
+            receipts.push(alloc, receipt)?;
+            Ok(Answer::Taken)
+        }
+        Err(StepError::NotEnabled) => Ok(Answer::NotEnabled),
+        Err(StepError::OutOfMemory) => Err(OutOfMemory),
+        Err(_) => Ok(Answer::NoMore),
+    }
+}
+
+// Takes a turn, settles until nothing is ready, and adds the receipts.
+#[tactic(auto, using(crate::proofs::AddedLemmas::enters_more))]
+pub(crate) fn enter<L: Ledger, R: Reporter>(
+    rt: &impl Wait,
+    alloc: Global,
+    shared: &SharedRun<L, R>,
+    share: &mut Share<L>,
+    word: u32,
+    turn: Turn,
+    receipts: &mut List<Receipt>,
+) -> Mem<Answer>
+    requires { 0 < share.old.parts }
+    ensures enters { OnOk result (Enters receipts.old turn receipts.new) }
+    ensures counted { OnOk result
+        (share.new.amount + length receipts.old ≡ share.old.amount + length receipts.new) }
+    ensures parts { share.new.parts ≡ share.old.parts }
+{
+    let answer = take_turn(rt, alloc, shared, share, turn, receipts)?;
+    if settle_all(rt, alloc, shared, share, word, receipts)? {
+        Ok(answer)
+    } else {
+        Ok(Answer::NoMore)
+    }
+}
+
+/// Settles until nothing is ready. Units decide with the word. Where memory is wanting it gives the run up.
+#[tactic(auto, using(crate::proofs::AddedLemmas::ticks_settled))]
+pub fn wind<L: Ledger, R: Reporter>(
+    rt: &impl Wait,
+    alloc: Global,
+    shared: &SharedRun<L, R>,
+    share: &mut Share<L>,
+    word: u32,
+) -> Mem<List<Receipt>>
+    requires { 0 < share.old.parts }
+    ensures kinds { IfOk result (λ rs. All OfTicker rs) }
+    ensures counted { IfOk result (λ rs. share.new.amount ≡ share.old.amount + length rs) }
+    ensures parts { share.new.parts ≡ share.old.parts }
+{
+    let mut receipts = List::new();
+    let Ok(_) = settle_all(rt, alloc, shared, share, word, &mut receipts) else {
+        drop(receipts);
+        shared.give_up(rt);
+        return Err(OutOfMemory);
+    };
+    Ok(receipts)
+}

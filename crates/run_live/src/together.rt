@@ -1,0 +1,180 @@
+// The threads of a run, and their end.
+ghost use Rattle.std.specs.Prelude.{◌≡◌, [], IfOk, IfErr, Result, vec_len};
+ghost use Rattle.std.specs.List.{All};
+ghost use Rattle.run_live.specs.Work.{IsOneEmpty, IsWork, IsWound, IsTicked};
+
+use crate::both::both;
+use crate::jobs::{Job, TickJob};
+use crate::ticker_thread::{Ticked, end_ticker, start_ticker};
+use crate::worker_thread::{Done, OwnWork, start};
+use run_capture::{Mem, OutOfMemory};
+use run_drive::{Spawner, Ticker};
+use run_events::Reporter;
+use run_shared::SharedRun;
+use std::alloc::Global;
+use std::sync::Wait;
+use std::sync::ledger::Ledger;
+use std::thread;
+use std::thread::{PromisedHandle, Scope, Threads};
+
+// A worker on its thread, or what it left where no thread could be made.
+type Running<L, W> = Result<PromisedHandle<Done<L, W>, OwnWork>, Done<L, W>>;
+
+// Starts a thread for each job.
+fn start_all<
+    's,
+    E,
+    W: Spawner + Send + Drop + 's,
+    L: Ledger + Send + Sync + 's,
+    R: Reporter + Send + 's,
+    X: Threads + Wait + Sync,
+>(
+    scope: &Scope<'s, E>,
+    rt: &'s X,
+    alloc: Global,
+    shared: &'s SharedRun<L, R>,
+    jobs: Vec<Job<L, W>>,
+) -> Mem<Vec<Running<L, W>>>
+where
+    R::Error: Send,
+    requires { All (λ (j : Job L W). W.has_said j.worker [] × IsOneEmpty j.share.parts j.share.amount) jobs.items }
+    ensures count { IfOk result (λ all. vec_len all ≡ vec_len jobs) }
+    ensures each { IfOk result (λ all. All (λ r. IfErr r (λ (d : Done L W). IsWork W.has_said d.worker d.share.parts d.share.amount d.receipts)) all.items) }
+{
+    let Ok(mut all) = Vec::with_capacity(alloc, jobs.len()) else {
+        drop(jobs);
+        return Err(OutOfMemory);
+    };
+    for job in jobs {
+        all.push_reserved(start(scope, rt, alloc, shared, job));
+    }
+    Ok(all)
+}
+
+// What a worker leaves, once its thread has ended.
+fn join_one<W: Spawner + Drop, L: Ledger>(rt: &impl Threads, running: Running<L, W>) -> Done<L, W>
+    requires { IfErr running (λ d. IsWork W.has_said d.worker d.share.parts d.share.amount d.receipts) }
+    ensures { IsWork W.has_said result.worker result.share.parts result.share.amount result.receipts }
+{
+    match running {
+        Ok(handle) => handle.join(rt),
+        Err(ended) => ended,
+    }
+}
+
+// What each worker leaves, in order.
+fn join_all<W: Spawner + Drop, L: Ledger>(
+    rt: &impl Threads,
+    alloc: Global,
+    running: Vec<Running<L, W>>,
+) -> Mem<Vec<Done<L, W>>>
+    requires { All (λ r. IfErr r (λ (d : Done L W). IsWork W.has_said d.worker d.share.parts d.share.amount d.receipts)) running.items }
+    ensures count { IfOk result (λ all. vec_len all ≡ vec_len running) }
+    ensures each { IfOk result (λ all. All (λ (d : Done L W). IsWork W.has_said d.worker d.share.parts d.share.amount d.receipts) all.items) }
+{
+    let Ok(mut all) = Vec::with_capacity(alloc, running.len()) else {
+        drop(running);
+        return Err(OutOfMemory);
+    };
+    for one in running {
+        all.push_reserved(join_one(rt, one));
+    }
+    Ok(all)
+}
+
+// Starts the workers and waits for them. Where memory is wanting the run is given up, so that each thread ends.
+fn run_workers<
+    's,
+    E,
+    W: Spawner + Send + Drop + 's,
+    L: Ledger + Send + Sync + 's,
+    R: Reporter + Send + 's,
+    X: Threads + Wait + Sync,
+>(
+    scope: &Scope<'s, E>,
+    rt: &'s X,
+    alloc: Global,
+    shared: &'s SharedRun<L, R>,
+    jobs: Vec<Job<L, W>>,
+) -> Mem<Vec<Done<L, W>>>
+where
+    R::Error: Send,
+    requires { All (λ (j : Job L W). W.has_said j.worker [] × IsOneEmpty j.share.parts j.share.amount) jobs.items }
+    ensures count { IfOk result (λ all. vec_len all ≡ vec_len jobs) }
+    ensures each { IfOk result (λ all. All (λ (d : Done L W). IsWork W.has_said d.worker d.share.parts d.share.amount d.receipts) all.items) }
+{
+    let Ok(running) = start_all(scope, rt, alloc, shared, jobs) else {
+        shared.give_up(rt);
+        return Err(OutOfMemory);
+    };
+    let Ok(done) = join_all(rt, alloc, running) else {
+        shared.give_up(rt);
+        return Err(OutOfMemory);
+    };
+    Ok(done)
+}
+
+// Starts the ticker and the workers, and waits for the workers and then for the ticker.
+fn in_scope<
+    's,
+    E,
+    W: Spawner + Send + Drop + 's,
+    T: Ticker + Send + Drop + 's,
+    L: Ledger + Send + Sync + 's,
+    R: Reporter + Send + 's,
+    X: Threads + Wait + Sync,
+>(
+    scope: &Scope<'s, E>,
+    rt: &'s X,
+    alloc: Global,
+    shared: &'s SharedRun<L, R>,
+    jobs: Vec<Job<L, W>>,
+    clock: TickJob<L, T>,
+) -> Mem<(Vec<Done<L, W>>, Ticked<L>)>
+where
+    R::Error: Send,
+    requires jobs { All (λ (j : Job L W). W.has_said j.worker [] × IsOneEmpty j.share.parts j.share.amount) jobs.items }
+    requires clock { IsWound clock.share.parts clock.share.amount clock.first }
+    ensures count { IfOk result (λ r. vec_len r.0 ≡ vec_len jobs) }
+    ensures each { IfOk result (λ r. All (λ (d : Done L W). IsWork W.has_said d.worker d.share.parts d.share.amount d.receipts) r.0.items) }
+    ensures clock { IfOk result (λ r. IsTicked r.1.share.parts r.1.share.amount r.1.receipts) }
+{
+    let ticking = start_ticker(scope, rt, alloc, shared, clock);
+    let done = run_workers(scope, rt, alloc, shared, jobs);
+    both(done, Ok(end_ticker(rt, ticking)))
+}
+
+// Runs each job and the ticker on a thread of its own, and answers once all have ended.
+pub(crate) fn together<
+    W: Spawner + Send + Drop,
+    T: Ticker + Send + Drop,
+    L: Ledger + Send + Sync,
+    R: Reporter + Send,
+    X: Threads + Wait + Sync,
+>(
+    rt: &X,
+    alloc: Global,
+    shared: &SharedRun<L, R>,
+    jobs: Vec<Job<L, W>>,
+    clock: TickJob<L, T>,
+) -> Mem<(Vec<Done<L, W>>, Ticked<L>)>
+where
+    R::Error: Send,
+    requires jobs { All (λ (j : Job L W). W.has_said j.worker [] × IsOneEmpty j.share.parts j.share.amount) jobs.items }
+    requires clock { IsWound clock.share.parts clock.share.amount clock.first }
+    ensures count { IfOk result (λ r. vec_len r.0 ≡ vec_len jobs) }
+    ensures each { IfOk result (λ r. All (λ (d : Done L W). IsWork W.has_said d.worker d.share.parts d.share.amount d.receipts) r.0.items) }
+    ensures clock { IfOk result (λ r. IsTicked r.1.share.parts r.1.share.amount r.1.receipts) }
+{
+    thread::scope(
+        thread::scope_env(),
+        rt,
+        move |scope| -> Mem<(Vec<Done<L, W>>, Ticked<L>)>
+            requires { All (λ (j : Job L W). W.has_said j.worker [] × IsOneEmpty j.share.parts j.share.amount) jobs.items
+                × IsWound clock.share.parts clock.share.amount clock.first }
+            ensures { IfOk result (λ r. vec_len r.0 ≡ vec_len jobs)
+                × IfOk result (λ r. All (λ (d : Done L W). IsWork W.has_said d.worker d.share.parts d.share.amount d.receipts) r.0.items)
+                × IfOk result (λ r. IsTicked r.1.share.parts r.1.share.amount r.1.receipts) }
+        { in_scope(scope, rt, alloc, shared, jobs, clock) },
+    )
+}

@@ -1,0 +1,93 @@
+// A worker on a thread of its own.
+ghost use Rattle.std.specs.Prelude.{[], IfErr};
+ghost use Rattle.run_live.specs.Work.{IsOneEmpty, IsWork};
+
+use crate::jobs::Job;
+use run_capture::List;
+use run_drive::{Spawner, drive};
+use run_events::Reporter;
+use run_shared::{Receipt, SharedRun};
+use std::alloc::Global;
+use std::sync::Wait;
+use std::sync::ledger::{Ledger, Share};
+use std::thread::{Promise, PromisedHandle, Scope, Threads};
+
+// What a worker's thread leaves: its spawner, its share, and its receipts, or none where memory was wanting.
+#[derive(Drop)]
+pub(crate) struct Done<L: Ledger, W> {
+    pub(crate) worker: W,
+    pub(crate) share: Share<L>,
+    pub(crate) receipts: Option<List<Receipt>>,
+}
+
+// That the receipts are those that the share counts, and tell what the spawner said.
+#[derive(Clone, Copy)]
+pub(crate) struct OwnWork;
+
+impl<L: Ledger, W: Spawner> Promise<Done<L, W>> for OwnWork {
+    ghost kept_by = { λ p d. IsWork W.has_said d.worker d.share.parts d.share.amount d.receipts };
+}
+
+// Drives the run until the worker is done.
+fn work<W: Spawner, L: Ledger, R: Reporter>(
+    rt: &impl Wait,
+    alloc: Global,
+    shared: &SharedRun<L, R>,
+    job: Job<L, W>,
+) -> Done<L, W>
+    requires worker { W.has_said job.worker [] }
+    requires share { IsOneEmpty job.share.parts job.share.amount }
+    ensures { IsWork W.has_said result.worker result.share.parts result.share.amount result.receipts }
+{
+    let Job {
+        mut worker,
+        mut share,
+        word,
+    } = job;
+    match drive(rt, alloc, shared, &mut worker, &mut share, word) {
+        Ok(receipts) => Done {
+            worker,
+            share,
+            receipts: Some(receipts),
+        },
+        Err(_) => Done {
+            worker,
+            share,
+            receipts: None,
+        },
+    }
+}
+
+// Starts a worker's thread. Where none can be made the run is given up, so that the worker ends here at once.
+pub(crate) fn start<
+    's,
+    E,
+    W: Spawner + Send + Drop + 's,
+    L: Ledger + Send + Sync + 's,
+    R: Reporter + Send + 's,
+    X: Threads + Wait + Sync,
+>(
+    scope: &Scope<'s, E>,
+    rt: &'s X,
+    alloc: Global,
+    shared: &'s SharedRun<L, R>,
+    job: Job<L, W>,
+) -> Result<PromisedHandle<Done<L, W>, OwnWork>, Done<L, W>>
+where
+    R::Error: Send,
+    requires worker { W.has_said job.worker [] }
+    requires share { IsOneEmpty job.share.parts job.share.amount }
+    ensures { IfErr result (λ d. IsWork W.has_said d.worker d.share.parts d.share.amount d.receipts) }
+{
+    let run = move || -> Done<L, W>
+        requires { W.has_said job.worker [] × IsOneEmpty job.share.parts job.share.amount }
+        ensures { IsWork W.has_said result.worker result.share.parts result.share.amount result.receipts }
+    { work(rt, alloc, shared, job) };
+    match scope.spawn_with(OwnWork, run) {
+        Ok(handle) => Ok(handle),
+        Err(refused) => {
+            shared.give_up(rt);
+            Err((refused.value)())
+        }
+    }
+}
