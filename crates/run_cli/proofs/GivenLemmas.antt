@@ -63,7 +63,7 @@ then_some None f y e = cc
 then_some (Some x) f y e = (x, refl, e)
 
 -- as many turns as lines
-turns_length : (lines : List (List ℕ)) (turns : List Turn) → turns_of lines ≡ Some turns → length turns ≡ length lines
+pub turns_length : (lines : List (List ℕ)) (turns : List Turn) → turns_of lines ≡ Some turns → length turns ≡ length lines
 turns_length [] turns e = cc
 turns_length (line ∷ lines) turns e =
     let one = then_some (turn_line_of line) (λ turn. option_and_then (λ turns. Some (turn ∷ turns)) (turns_of lines))

@@ -6,3 +6,5 @@ pub mod StatusLemmas
 pub mod CauseLemmas
 pub mod LivedLemmas
 pub mod RunEndLemmas
+pub mod LiveLemmas
+pub mod LiveCauses

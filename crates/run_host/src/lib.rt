@@ -1,0 +1,13 @@
+//! Real children, the clock, and random words: what a run of real children stands on outside. A spawner starts one process
+//! at a time and reads what it writes as it comes; a ticker tells how time goes by. They tell nothing of what they gave:
+//! each counts its failures, and is tested.
+#![tactic(auto)]
+
+mod clock_ticker;
+mod process_spawner;
+mod running;
+mod std_host;
+
+pub use clock_ticker::ClockTicker;
+pub use process_spawner::ProcessSpawner;
+pub use std_host::StdHost;
