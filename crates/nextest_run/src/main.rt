@@ -87,7 +87,8 @@ const READ: &str = "a read of standard input failed, and no turn was taken";
 
 const MEMORY: &str = "memory was wanting, and nothing is claimed of what was written";
 
-const RECEIPT: &str = "the turns that the workers took are not those of the run's journal, so that nothing is \
+const RECEIPT: &str =
+    "the turns that the workers took are not those of the run's journal, so that nothing is \
     claimed of what was written: this is a fault of the program";
 
 const TOO_LONG: &str = "the input has more than 16,777,216 bytes (16 MiB), and no turn was taken";

@@ -26,7 +26,7 @@ use Rattle.run_cli.specs.Executed.{IsExecuted}
 use Rattle.run_cli.specs.Ending.{IsFinished}
 use Rattle.run_cli.specs.Finish.{EndsAtFault, EndsAtOutcome}
 use Rattle.run_cli.specs.Live.{IsClosed, IsRunEnd}
-use Rattle.run_cli.specs.Lived.{IsOver, ending_of, kept_by}
+use Rattle.run_cli.specs.Lived.{IsOver, EndsOver, IsOpenFault, ending_of, kept_by}
 use Rattle.run_cli.proofs.EndLemmas.{rose_then, some_is, whole_text, took_parts, report_of}
 use Rattle.run_cli.proofs.GivenLemmas.{finished}
 use Rattle.run_cli.proofs.ToldLines.{executed_from}
@@ -47,9 +47,10 @@ calm_ends said p w v n l asks o (Ok e) on from closed x h =
 calm_ends said p w v n l asks o (Err Report) on from closed x h =
     let run : IsExecuted p (turns_of l.journal) w asks (Ok o) = executed_calm p w n l.journal asks o x in
     let parts = report_of p (turns_of l.journal) w v asks (Ok o) run o true refl
-    (took_parts p (turns_of l.journal) w v asks (Ok o) (line_of (outcome_text o)) on run h.1) in
-    ((closed, o, finished p l.journal o closed.legal x.over, parts),
-      subst (λ n. Rose n v.faults_after) (from ∙ run.quiet refl) h.0)
+    (took_parts p (turns_of l.journal) w v asks (Ok o) (line_of (outcome_text o)) on run h.1) in (
+      (closed, o, finished p l.journal o closed.legal x.over, parts),
+      subst (λ n. Rose n v.faults_after) (from ∙ run.quiet refl) h.0,
+    )
 calm_ends said p w v n l asks o (Err Memory) on from closed x h = refl
 calm_ends said p w v n l asks o (Err Words) on from closed x h = absurd h
 calm_ends said p w v n l asks o (Err (Line k)) on from closed x h = absurd h
@@ -119,3 +120,24 @@ pub memory_ends : {W : Type 0} (said : W → List Heard → Type 0) (p : Setting
     (asks : List (ℕ × Ask)) (ending : Result RunOutcome Fault)
     → EndsAtFault v asks Memory ending → IsRunEnd said p w (kept_by ending l) (ending_of ending)
 memory_ends said p w v l asks ending h = fault_or_memory said p w v l asks Memory ending (λ le writes. refl) h
+
+-- so a run that is over ends, by whether an event was refused
+pub over_ends : {W : Type 0} (said : W → List Heard → Type 0) (p : Settings) (w v : Writing) (n : ℕ) (l : Live W)
+    (asks : List (ℕ × Ask)) (o : RunOutcome) (refused : Bool) (ending : Result RunOutcome Fault)
+    → v.taken ≡ w.taken_after → v.faults ≡ w.faults_after → IsClosed said p l
+    → IsOver p w n l.journal asks o refused → EndsOver v asks o refused ending
+    → IsRunEnd said p (joined w v) (kept_by ending l) (ending_of ending)
+over_ends said p w v n l asks o true ending on from closed x h =
+    rough_ends said p w v n l asks o ending on from closed x h
+over_ends said p w v n l asks o false ending on from closed x h =
+    calm_ends said p w v n l asks o ending on from closed x h
+
+-- and one that isn't over
+pub open_ends : {W : Type 0} (said : W → List Heard → Type 0) (p : Settings) (w v : Writing) (l : Live W)
+    (asks : List (ℕ × Ask)) (fault : Fault) (ending : Result RunOutcome Fault) → IsClosed said p l
+    → outcome p (past_of p l.journal) ≡ None → IsOpenFault (length l.journal) fault
+    → EndsAtFault v asks fault ending → IsRunEnd said p w (kept_by ending l) (ending_of ending)
+open_ends said p w v l asks fault ending closed none (inl full) h =
+    full_ends said p w v l asks ending closed full.1 none (subst (λ f. EndsAtFault v asks f ending) full.0 h)
+open_ends said p w v l asks fault ending closed none (inr memory) h =
+    memory_ends said p w v l asks ending (subst (λ f. EndsAtFault v asks f ending) memory h)

@@ -1,5 +1,6 @@
 -- What is left of a run whose workers have ended, before its last lines are written.
-use Rattle.std.specs.Prelude.{ℕ, ◌≡◌, ◌⊎◌, ◌<◌, List, map, length, Bool, Option, Some, None, Result, Ok, Err}
+use Rattle.std.specs.Prelude.{ℕ, ◌≡◌, ◌⊎◌, ◌<◌, List, map, length, Bool, true, false}
+use Rattle.std.specs.Prelude.{Option, Some, None, Result, Ok, Err}
 use Rattle.run_capture.specs.declared.source.Failed.{Failed}
 use Rattle.run_events.specs.declared.settings.Settings.{Settings}
 use Rattle.run_events.specs.declared.ask.Ask.{Ask}
@@ -12,7 +13,7 @@ use Rattle.run_engine.specs.Standing.{IsRunnable}
 use Rattle.run_engine.specs.World.{flagged}
 use Rattle.run_output.specs.Told.{HasTold, some_refused}
 use Rattle.run_output.specs.declared.fault.Fault.{Fault}
-use Rattle.run_output.specs.declared.fault.Fault.TheVariants.{Memory}
+use Rattle.run_output.specs.declared.fault.Fault.TheVariants.{Unfinished, Report, Memory}
 use Rattle.run_live.specs.declared.lived.Live.{Live}
 use Rattle.run_live.specs.declared.lived.Lived.{Lived}
 use Rattle.run_cli.specs.declared.live.LiveEnding.{LiveEnding}
@@ -24,6 +25,7 @@ use Rattle.run_shared.specs.Closed.{IsLeft, Refuses}
 use Rattle.run_drive.specs.declared.spawner.Heard.{Heard}
 use Rattle.run_live.specs.Own.{IsLive}
 use Rattle.run_cli.specs.Call.{Writing, Writes}
+use Rattle.run_cli.specs.Finish.{EndsAtFault, EndsAtOutcome}
 use Rattle.run_cli.specs.Live.{workers_in}
 use Rattle.run_cli.specs.Text.{fault_only}
 
@@ -64,3 +66,12 @@ pub record IsLeftOver {W R : Type 0} (has_said : W → List Heard → Type 0)
 abbrev pub IsFaultEnd : Writing → Fault → LiveEnding → Type 0
 IsFaultEnd w fault ending =
     (ending ≡ ends.Fault Memory) ⊎ ((ending ≡ ends.Fault fault) × Writes w (fault_only fault))
+
+-- the last lines of a run that is over were written: its asks and its outcome, or where an event was refused the fault
+abbrev pub EndsOver : Writing → List (ℕ × Ask) → RunOutcome → Bool → Result RunOutcome Fault → Type 0
+EndsOver w asks o true ending = EndsAtFault w asks Report ending
+EndsOver w asks o false ending = EndsAtOutcome w asks o ending
+
+-- why a run with a journal of this length isn't over: it is full, or memory was wanting
+abbrev pub IsOpenFault : ℕ → Fault → Type 0
+IsOpenFault len fault = ((fault ≡ Unfinished) × (len ≡ 4294967295)) ⊎ (fault ≡ Memory)

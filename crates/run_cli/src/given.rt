@@ -6,7 +6,9 @@ ghost use Rattle.run_cli.specs.LiveGiven.{IsLiveWord, IsLineFault};
 
 use run_capture::{Blob, Source};
 use run_events::Plan;
-use run_input::{Input, InputError, ReadAllError, RunnerKeys, read_all, read_input, read_plan_alone};
+use run_input::{
+    Input, InputError, ReadAllError, RunnerKeys, read_all, read_input, read_plan_alone,
+};
 use run_output::Fault;
 use std::alloc::Global;
 

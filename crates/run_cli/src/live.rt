@@ -1,20 +1,20 @@
 // The command `live`: the run of a plan by workers, and its last lines.
-ghost use Rattle.std.specs.Prelude.{◌≡◌, ℕ, None, Some};
+ghost use Rattle.std.specs.Prelude.{◌≡◌, ℕ, length, None, Some};
 ghost use Rattle.run_events.specs.declared.settings.Settings.{Settings};
 ghost use Rattle.run_model.specs.Journal.{past_of, outcome};
-ghost use Rattle.run_engine.specs.Standing.{IsRunnable};
 ghost use Rattle.run_cli.specs.Call.{Writing, writing, joined};
 ghost use Rattle.run_cli.specs.Live.{IsClosed, IsRunEnd, live_status, workers_in};
-ghost use Rattle.run_cli.specs.Lived.{IsOver, IsLeftOver, IsFaultEnd, ending_of, kept_by};
+ghost use Rattle.run_cli.specs.Lived.{IsOver, IsLeftOver, IsFaultEnd, EndsOver, IsOpenFault, ending_of, kept_by};
 ghost use Rattle.run_cli.specs.declared.live.LiveEnding.TheVariants as ends;
 
 use crate::ended::{Ended, end_at_fault, end_at_outcome, status_of_outcome};
 use crate::receipts::write_receipt;
-use run_capture::Sink;
+use run_capture::{List, Sink};
 use run_drive::{Host, Spawner};
 use run_engine::TestRunner;
-use run_events::{AskList, Reporter, RunOutcome};
+use run_events::{Ask, AskList, Reporter, RunOutcome};
 use run_live::{Live, Lived, live};
+use run_model::Entry;
 use run_output::{Fault, LineReporter, Origin};
 use std::alloc::Global;
 use std::marker::Brand;
@@ -94,7 +94,24 @@ fn with_live<K, W: Drop>(ended: Ended<K>, live: Live<W>) -> LiveEnded<K, W>
     }
 }
 
-// Writes what is left to write of a run that is over: its asks, and then its outcome, or that an event was refused.
+// Writes the last lines of a run that is over: its asks, and then its outcome, or that an event was refused.
+fn last_lines<K: Sink>(
+    alloc: Global,
+    sink: K,
+    asks: &[(u64, Ask)],
+    outcome: RunOutcome,
+    refused: bool,
+) -> Ended<K>
+    ensures { EndsOver (writing K.taken K.faults sink result.sink) asks.now outcome refused result.ending }
+{
+    if refused {
+        end_at_fault(alloc, sink, asks, Fault::Report)
+    } else {
+        end_at_outcome(alloc, sink, asks, outcome)
+    }
+}
+
+// The same, with what is left of the run.
 fn end_over<K: Sink, W: Spawner + Drop>(
     alloc: Global,
     sink: K,
@@ -107,13 +124,20 @@ fn end_over<K: Sink, W: Spawner + Drop>(
         → IsClosed W.has_said p live → IsOver p w n live.journal asks outcome refused
         → IsRunEnd W.has_said p (joined w (writing K.taken K.faults sink result.sink)) result.live result.ending }
 {
-    let ended = if refused {
-        end_at_fault(alloc, sink, asks.asks(), Fault::Report)
-    } else {
-        end_at_outcome(alloc, sink, asks.asks(), outcome)
-    };
+    let ended = last_lines(alloc, sink, asks.asks(), outcome, refused);
     drop(asks);
     with_live(ended, live)
+}
+
+// Why a run of this journal isn't over: the journal is full, or memory was wanting.
+fn open_fault(journal: &List<Entry>) -> Fault
+    ensures { IsOpenFault (length journal.now) result }
+{
+    if journal.len() == MOST {
+        Fault::Unfinished
+    } else {
+        Fault::Memory
+    }
 }
 
 // Ends a run that isn't over: its journal is full, or memory was wanting.
@@ -123,16 +147,11 @@ fn end_open<K: Sink, W: Spawner + Drop>(
     asks: AskList,
     live: Live<W>,
 ) -> LiveEnded<K, W>
-    ensures { (p : Settings) (w : Writing) → IsClosed W.has_said p live → IsRunnable p live.journal
+    ensures { (p : Settings) (w : Writing) → IsClosed W.has_said p live
         → outcome p (past_of p live.journal) ≡ None
         → IsRunEnd W.has_said p w result.live result.ending }
 {
-    let fault = if live.journal.len() == MOST {
-        Fault::Unfinished
-    } else {
-        Fault::Memory
-    };
-    let ended = end_at_fault(alloc, sink, asks.asks(), fault);
+    let ended = end_at_fault(alloc, sink, asks.asks(), open_fault(&live.journal));
     drop(asks);
     with_live(ended, live)
 }
@@ -165,8 +184,12 @@ fn finish<K: Sink, O: Origin, W: Spawner + Drop>(
     lived: Lived<W, LineReporter<K, O>>,
 ) -> LiveEnded<K, W>
     ensures { (p : Settings) → IsLeftOver W.has_said ⟦<LineReporter<K, O> as Reporter>⟧.told p lived
-        → IsRunEnd W.has_said p (record { taken = O.taken_before; taken_after = K.taken result.sink;
-            faults = O.faults_before; faults_after = K.faults result.sink }) result.live result.ending }
+        → IsRunEnd W.has_said p (record {
+          taken = O.taken_before;
+          taken_after = K.taken result.sink;
+          faults = O.faults_before;
+          faults_after = K.faults result.sink;
+        }) result.live result.ending }
 {
     let Lived {
         live,

@@ -160,12 +160,7 @@ fn live_to_end<S: Source, K: Sink + Send, H: Host, X: Threads + Wait + Sync>(
 }
 
 // Carries out recorded turns.
-fn replayed<S: Source, K: Sink>(
-    alloc: Global,
-    words: &[String],
-    source: &mut S,
-    sink: K,
-) -> Ran<K>
+fn replayed<S: Source, K: Sink>(alloc: Global, words: &[String], source: &mut S, sink: K) -> Ran<K>
     ensures { Answers (call_of (map (λ w. string_bytes w) words.now) (reading S.left S.faults source.old source.new)
         (writing K.taken K.faults sink result.sink)) result.status }
 {

@@ -6,10 +6,9 @@ use run_capture::{Duplicate, Mem, OutOfMemory, Stream, Text};
 use run_drive::{Begun, Said, Spawner};
 use run_events::StartAsk;
 use std::alloc::{AllocError, Global};
-use std::fs;
-use std::io;
 use std::process::{Command, Processes, Stdio};
 use std::rt::Files;
+use std::{fs, io};
 
 /// Starts processes, one at a time: in the program's own folder, with the asked variables beside the program's own, an
 /// empty standard input, and no process group. Its standard output is read where it is captured, as the combined stream

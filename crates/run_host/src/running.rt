@@ -4,12 +4,11 @@ use run_commands::EnvInput;
 use run_drive::Said;
 use run_events::ChildExit;
 use std::alloc::{AllocError, Global};
-use std::fs;
-use std::io;
 use std::io::Read;
 use std::os::unix::process::ExitStatusExt;
 use std::process::{Child, ExitStatus, OpenProcess};
 use std::rt::Files;
+use std::{fs, io};
 
 /// What is to be said of a child.
 #[derive(Clone, Copy)]

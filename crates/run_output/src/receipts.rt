@@ -47,12 +47,7 @@ fn found_plain(alloc: Global, found: &Option<Turn>) -> Mem<Plain>
 }
 
 /// The line of a receipt with this number and turn where a journal has another turn, or none, without its line feed.
-pub fn mismatch_line(
-    alloc: Global,
-    number: u64,
-    receipt: &Turn,
-    found: &Option<Turn>,
-) -> Mem<Text>
+pub fn mismatch_line(alloc: Global, number: u64, receipt: &Turn, found: &Option<Turn>) -> Mem<Text>
     ensures { IfOk result (λ t. t ≡ mismatch_text number receipt.now found.now) }
 {
     let found = found_plain(alloc, found)?;
