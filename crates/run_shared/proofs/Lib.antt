@@ -4,3 +4,4 @@ pub mod LeftLemmas
 pub mod Items
 pub mod Leaves
 pub mod Counts
+pub mod SettledLemmas

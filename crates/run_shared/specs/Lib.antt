@@ -1,3 +1,4 @@
 pub mod Adds
 pub mod Receipts
 pub mod Closed
+pub mod Settled

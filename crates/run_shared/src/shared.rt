@@ -1,5 +1,6 @@
 // A run that threads share.
 ghost use Rattle.std.specs.Prelude.{◌≡◌, ◌<◌, ◌+◌, [], Ok, Err, IfOk, IfErr, OnOk, OnErr, IfSome, IsNone, length, vec_len, true};
+ghost use Rattle.run_shared.specs.Settled.{is_settled_turn};
 ghost use Rattle.std.specs.List.{All};
 ghost use Rattle.std.specs.List.{sum_by};
 ghost use Rattle.run_engine.specs.Standing.{sound};
@@ -294,6 +295,7 @@ impl<L: Ledger, R: Reporter> SharedRun<L, R> {
         requires { 0 < share.old.parts }
         ensures counted { IfOk result (λ o. IfSome o (λ r. share.new.amount ≡ share.old.amount + 1)) }
         ensures none { IfOk result (λ o. IsNone o → share.new.amount ≡ share.old.amount) }
+        ensures kind { IfOk result (λ o. IfSome o (λ r. is_settled_turn r.turn ≡ true)) }
         ensures kept { OnErr result (share.new.amount ≡ share.old.amount) }
         ensures parts { share.new.parts ≡ share.old.parts }
     {

@@ -1,0 +1,5 @@
+mod Sublists
+mod KindLemmas
+mod AddedLemmas
+mod WorkedLemmas
+mod InMemoryLemmas
