@@ -15,11 +15,15 @@ use Rattle.run_drive.proofs.KindLemmas.{settled_quiet, settled_of_ticker, ticker
 pub settles_none : (old : List Receipt) → Settles old old
 settles_none old = record { mine = []; added = sym (append-nil old); kinds = All-nil IsSettled }
 
-pub settles_more : (old now : List Receipt) (r : Receipt) → Settles old now → IsSettled r → Settles old (now ++ r ∷ [])
-settles_more old now r s settled = record {
-  mine = s.mine ++ r ∷ [];
-  added = ap (λ (rs : List Receipt). rs ++ r ∷ []) s.added ∙ append_assoc old s.mine (r ∷ []);
-  kinds = All-push IsSettled s.mine r s.kinds settled;
+pub settles_one : (old : List Receipt) (r : Receipt) → IsSettled r → Settles old (old ++ r ∷ [])
+settles_one old r settled =
+    record { mine = r ∷ []; added = refl; kinds = All-cons IsSettled r [] settled (All-nil IsSettled) }
+
+pub settles_more : (old now new : List Receipt) → Settles old now → Settles now new → Settles old new
+settles_more old now new a b = record {
+  mine = a.mine ++ b.mine;
+  added = b.added ∙ ap (λ (rs : List Receipt). rs ++ b.mine) a.added ∙ append_assoc old a.mine b.mine;
+  kinds = All-append IsSettled a.mine b.mine a.kinds b.kinds;
 }
 
 -- no receipt of a turn, its receipt, and those of settled turns behind it

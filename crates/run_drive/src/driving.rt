@@ -5,6 +5,7 @@ ghost use Rattle.run_drive.specs.Worked.{Works};
 
 use crate::Spawner;
 use crate::listening::attend;
+use crate::settling::Access;
 use run_capture::{List, Mem, OutOfMemory};
 use run_events::Reporter;
 use run_shared::{Receipt, SharedRun};
@@ -14,13 +15,10 @@ use std::sync::ledger::{Ledger, Share};
 
 // Takes starts until none comes any more, and attends to each.
 #[tactic(auto, using(crate::proofs::WorkedLemmas::works_none, crate::proofs::WorkedLemmas::works_more))]
-fn work<W: Spawner, L: Ledger, R: Reporter>(
-    rt: &impl Wait,
-    alloc: Global,
-    shared: &SharedRun<L, R>,
+fn work<W: Spawner, X: Wait, L: Ledger, R: Reporter>(
+    run: &Access<X, L, R>,
     worker: &mut W,
     share: &mut Share<L>,
-    word: u32,
     receipts: &mut List<Receipt>,
 ) -> Mem<()>
     requires { 0 < share.old.parts }
@@ -29,11 +27,11 @@ fn work<W: Spawner, L: Ledger, R: Reporter>(
         (share.new.amount + length receipts.old ≡ share.old.amount + length receipts.new) }
     ensures parts { share.new.parts ≡ share.old.parts }
 {
-    for _ in rt.forever() {
-        let Some(start) = shared.next_start(rt) else {
+    for _ in run.rt.forever() {
+        let Some(start) = run.shared.next_start(run.rt) else {
             return Ok(());
         };
-        attend(rt, alloc, shared, worker, share, word, &start, receipts)?;
+        attend(run, worker, share, &start, receipts)?;
     }
     unreachable!()
 }
@@ -55,8 +53,14 @@ pub fn drive<W: Spawner, L: Ledger, R: Reporter>(
     ensures counted { IfOk result (λ rs. share.new.amount ≡ share.old.amount + length rs) }
     ensures parts { share.new.parts ≡ share.old.parts }
 {
+    let run = Access {
+        rt,
+        alloc,
+        shared,
+        word,
+    };
     let mut receipts = List::new();
-    let Ok(()) = work(rt, alloc, shared, worker, share, word, &mut receipts) else {
+    let Ok(()) = work(&run, worker, share, &mut receipts) else {
         drop(receipts);
         shared.give_up(rt);
         return Err(OutOfMemory);

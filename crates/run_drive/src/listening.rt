@@ -2,12 +2,11 @@
 ghost use Rattle.std.specs.Prelude.{◌≡◌, ◌<◌, ◌+◌, length, OnOk};
 ghost use Rattle.run_drive.specs.Worked.{Begins, Listens, Works};
 
-use crate::settling::{Answer, enter};
+use crate::settling::{Access, Answer, enter};
 use crate::{Begun, Said, Spawner};
 use run_capture::{List, Mem};
 use run_events::{ChildExit, Reporter, StartAsk};
-use run_shared::{Receipt, SharedRun};
-use std::alloc::Global;
+use run_shared::Receipt;
 use std::sync::Wait;
 use std::sync::ledger::{Ledger, Share};
 
@@ -33,13 +32,10 @@ fn after_word(start: &StartAsk, said: &Said) -> After {
 
 // Steps with the next word of a child.
 #[tactic(auto, using(crate::proofs::WorkedLemmas::listens_one))]
-fn hear<W: Spawner, L: Ledger, R: Reporter>(
-    rt: &impl Wait,
-    alloc: Global,
-    shared: &SharedRun<L, R>,
+fn hear<W: Spawner, X: Wait, L: Ledger, R: Reporter>(
+    run: &Access<X, L, R>,
     worker: &mut W,
     share: &mut Share<L>,
-    word: u32,
     start: &StartAsk,
     receipts: &mut List<Receipt>,
 ) -> Mem<After>
@@ -50,10 +46,10 @@ fn hear<W: Spawner, L: Ledger, R: Reporter>(
         (share.new.amount + length receipts.old ≡ share.old.amount + length receipts.new) }
     ensures parts { share.new.parts ≡ share.old.parts }
 {
-    let said = worker.next(alloc)?;
+    let said = worker.next(run.alloc)?;
     let after = after_word(start, &said);
     let turn = said.into_turn(start.unit);
-    match enter(rt, alloc, shared, share, word, turn, receipts)? {
+    match enter(run, share, turn, receipts)? {
         Answer::NoMore => Ok(After::Leave),
         _ => Ok(after),
     }
@@ -61,13 +57,10 @@ fn hear<W: Spawner, L: Ledger, R: Reporter>(
 
 // Takes the next word of a script that succeeded, and steps with it where it is the environment file.
 #[tactic(auto, using(crate::proofs::WorkedLemmas::listens_one))]
-fn hear_env<W: Spawner, L: Ledger, R: Reporter>(
-    rt: &impl Wait,
-    alloc: Global,
-    shared: &SharedRun<L, R>,
+fn hear_env<W: Spawner, X: Wait, L: Ledger, R: Reporter>(
+    run: &Access<X, L, R>,
     worker: &mut W,
     share: &mut Share<L>,
-    word: u32,
     unit: u32,
     receipts: &mut List<Receipt>,
 ) -> Mem<()>
@@ -78,23 +71,20 @@ fn hear_env<W: Spawner, L: Ledger, R: Reporter>(
         (share.new.amount + length receipts.old ≡ share.old.amount + length receipts.new) }
     ensures parts { share.new.parts ≡ share.old.parts }
 {
-    let said = worker.next(alloc)?;
+    let said = worker.next(run.alloc)?;
     if matches!(said, Said::Env { .. }) {
         let turn = said.into_turn(unit);
-        enter(rt, alloc, shared, share, word, turn, receipts)?;
+        enter(run, share, turn, receipts)?;
     }
     Ok(())
 }
 
 // Steps with each word of a child, until the child is left.
 #[tactic(auto, using(crate::proofs::WorkedLemmas::listens_none, crate::proofs::WorkedLemmas::listens_more))]
-fn listen<W: Spawner, L: Ledger, R: Reporter>(
-    rt: &impl Wait,
-    alloc: Global,
-    shared: &SharedRun<L, R>,
+fn listen<W: Spawner, X: Wait, L: Ledger, R: Reporter>(
+    run: &Access<X, L, R>,
     worker: &mut W,
     share: &mut Share<L>,
-    word: u32,
     start: &StartAsk,
     receipts: &mut List<Receipt>,
 ) -> Mem<()>
@@ -105,12 +95,12 @@ fn listen<W: Spawner, L: Ledger, R: Reporter>(
         (share.new.amount + length receipts.old ≡ share.old.amount + length receipts.new) }
     ensures parts { share.new.parts ≡ share.old.parts }
 {
-    for _ in rt.forever() {
-        match hear(rt, alloc, shared, worker, share, word, start, receipts)? {
+    for _ in run.rt.forever() {
+        match hear(run, worker, share, start, receipts)? {
             After::Listen => {}
             After::Leave => return Ok(()),
             After::HearEnv => {
-                hear_env(rt, alloc, shared, worker, share, word, start.unit, receipts)?;
+                hear_env(run, worker, share, start.unit, receipts)?;
                 return Ok(());
             }
         }
@@ -120,13 +110,10 @@ fn listen<W: Spawner, L: Ledger, R: Reporter>(
 
 // Asks for a start, and steps with the answer. Answers whether the child is to be listened to.
 #[tactic(auto, using(crate::proofs::WorkedLemmas::begins_one))]
-fn begin<W: Spawner, L: Ledger, R: Reporter>(
-    rt: &impl Wait,
-    alloc: Global,
-    shared: &SharedRun<L, R>,
+fn begin<W: Spawner, X: Wait, L: Ledger, R: Reporter>(
+    run: &Access<X, L, R>,
     worker: &mut W,
     share: &mut Share<L>,
-    word: u32,
     start: &StartAsk,
     receipts: &mut List<Receipt>,
 ) -> Mem<bool>
@@ -137,10 +124,10 @@ fn begin<W: Spawner, L: Ledger, R: Reporter>(
         (share.new.amount + length receipts.old ≡ share.old.amount + length receipts.new) }
     ensures parts { share.new.parts ≡ share.old.parts }
 {
-    let begun = worker.start(alloc, start)?;
+    let begun = worker.start(run.alloc, start)?;
     let runs = matches!(begun, Begun::Started { .. });
     let turn = begun.into_turn(start.unit);
-    match enter(rt, alloc, shared, share, word, turn, receipts)? {
+    match enter(run, share, turn, receipts)? {
         Answer::NoMore => Ok(false),
         _ => Ok(runs),
     }
@@ -148,13 +135,10 @@ fn begin<W: Spawner, L: Ledger, R: Reporter>(
 
 // Starts a child, and steps with each of its words, until it is left.
 #[tactic(auto, using(crate::proofs::WorkedLemmas::works_begun, crate::proofs::WorkedLemmas::works_heard))]
-pub(crate) fn attend<W: Spawner, L: Ledger, R: Reporter>(
-    rt: &impl Wait,
-    alloc: Global,
-    shared: &SharedRun<L, R>,
+pub(crate) fn attend<W: Spawner, X: Wait, L: Ledger, R: Reporter>(
+    run: &Access<X, L, R>,
     worker: &mut W,
     share: &mut Share<L>,
-    word: u32,
     start: &StartAsk,
     receipts: &mut List<Receipt>,
 ) -> Mem<()>
@@ -164,8 +148,8 @@ pub(crate) fn attend<W: Spawner, L: Ledger, R: Reporter>(
         (share.new.amount + length receipts.old ≡ share.old.amount + length receipts.new) }
     ensures parts { share.new.parts ≡ share.old.parts }
 {
-    if begin(rt, alloc, shared, worker, share, word, start, receipts)? {
-        listen(rt, alloc, shared, worker, share, word, start, receipts)
+    if begin(run, worker, share, start, receipts)? {
+        listen(run, worker, share, start, receipts)
     } else {
         Ok(())
     }

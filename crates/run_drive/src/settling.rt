@@ -12,6 +12,26 @@ use std::alloc::Global;
 use std::sync::Wait;
 use std::sync::ledger::{Ledger, Share};
 
+/// What a thread reaches a run by.
+pub(crate) struct Access<'a, X: Wait, L: Ledger, R: Reporter> {
+    pub rt: &'a X,
+    pub alloc: Global,
+    pub shared: &'a SharedRun<L, R>,
+    /// By which units decide.
+    pub word: u32,
+}
+
+impl<'a, X: Wait, L: Ledger, R: Reporter> Drop for Access<'a, X, L, R> {
+    fn drop(self) {
+        let Access {
+            rt: _,
+            alloc: _,
+            shared: _,
+            word: _,
+        } = self;
+    }
+}
+
 /// How a run answered a turn.
 #[derive(Clone, Copy, Drop)]
 pub(crate) enum Answer {
@@ -21,14 +41,35 @@ pub(crate) enum Answer {
     NoMore,
 }
 
+// Settles one turn, and adds its receipt; none where nothing is ready.
+#[tactic(auto, using(crate::proofs::AddedLemmas::settles_none, crate::proofs::AddedLemmas::settles_one))]
+fn settle_one<X: Wait, L: Ledger, R: Reporter>(
+    run: &Access<X, L, R>,
+    share: &mut Share<L>,
+    receipts: &mut List<Receipt>,
+) -> Mem<Answer>
+    requires { 0 < share.old.parts }
+    ensures settles { OnOk result (Settles receipts.old receipts.new) }
+    ensures counted { OnOk result
+        (share.new.amount + length receipts.old ≡ share.old.amount + length receipts.new) }
+    ensures parts { share.new.parts ≡ share.old.parts }
+{
+    match run.shared.settle(run.rt, run.alloc, share, run.word) {
+        Ok(Some(receipt)) => {
+            receipts.push(run.alloc, receipt)?;
+            Ok(Answer::Taken)
+        }
+        Ok(None) => Ok(Answer::NotEnabled),
+        Err(StepError::OutOfMemory) => Err(OutOfMemory),
+        Err(_) => Ok(Answer::NoMore),
+    }
+}
+
 // Settles until nothing is ready, and adds the receipts. Answers whether the run may take further turns.
 #[tactic(auto, using(crate::proofs::AddedLemmas::settles_none, crate::proofs::AddedLemmas::settles_more))]
-pub(crate) fn settle_all<L: Ledger, R: Reporter>(
-    rt: &impl Wait,
-    alloc: Global,
-    shared: &SharedRun<L, R>,
+fn settle_all<X: Wait, L: Ledger, R: Reporter>(
+    run: &Access<X, L, R>,
     share: &mut Share<L>,
-    word: u32,
     receipts: &mut List<Receipt>,
 ) -> Mem<bool>
     requires { 0 < share.old.parts }
@@ -37,12 +78,11 @@ pub(crate) fn settle_all<L: Ledger, R: Reporter>(
         (share.new.amount + length receipts.old ≡ share.old.amount + length receipts.new) }
     ensures parts { share.new.parts ≡ share.old.parts }
 {
-    for _ in rt.forever() {
-        match shared.settle(rt, alloc, share, word) {
-            Ok(Some(receipt)) => receipts.push(alloc, receipt)?,
-            Ok(None) => return Ok(true),
-            Err(StepError::OutOfMemory) => return Err(OutOfMemory),
-            Err(_) => return Ok(false),
+    for _ in run.rt.forever() {
+        match settle_one(run, share, receipts)? {
+            Answer::Taken => {}
+            Answer::NotEnabled => return Ok(true),
+            Answer::NoMore => return Ok(false),
         }
     }
     unreachable!()
@@ -50,10 +90,8 @@ pub(crate) fn settle_all<L: Ledger, R: Reporter>(
 
 // Takes a turn, and adds its receipt; none where it is refused.
 #[tactic(auto, using(crate::proofs::AddedLemmas::enters_none, crate::proofs::AddedLemmas::enters_one))]
-fn take_turn<L: Ledger, R: Reporter>(
-    rt: &impl Wait,
-    alloc: Global,
-    shared: &SharedRun<L, R>,
+fn take_turn<X: Wait, L: Ledger, R: Reporter>(
+    run: &Access<X, L, R>,
     share: &mut Share<L>,
     turn: Turn,
     receipts: &mut List<Receipt>,
@@ -64,9 +102,9 @@ fn take_turn<L: Ledger, R: Reporter>(
         (share.new.amount + length receipts.old ≡ share.old.amount + length receipts.new) }
     ensures parts { share.new.parts ≡ share.old.parts }
 {
-    match shared.step(rt, alloc, share, turn) {
+    match run.shared.step(run.rt, run.alloc, share, turn) {
         Ok(receipt) => {
-            receipts.push(alloc, receipt)?;
+            receipts.push(run.alloc, receipt)?;
             Ok(Answer::Taken)
         }
         Err(StepError::NotEnabled) => Ok(Answer::NotEnabled),
@@ -77,12 +115,9 @@ fn take_turn<L: Ledger, R: Reporter>(
 
 // Takes a turn, settles until nothing is ready, and adds the receipts.
 #[tactic(auto, using(crate::proofs::AddedLemmas::enters_more))]
-pub(crate) fn enter<L: Ledger, R: Reporter>(
-    rt: &impl Wait,
-    alloc: Global,
-    shared: &SharedRun<L, R>,
+pub(crate) fn enter<X: Wait, L: Ledger, R: Reporter>(
+    run: &Access<X, L, R>,
     share: &mut Share<L>,
-    word: u32,
     turn: Turn,
     receipts: &mut List<Receipt>,
 ) -> Mem<Answer>
@@ -92,8 +127,8 @@ pub(crate) fn enter<L: Ledger, R: Reporter>(
         (share.new.amount + length receipts.old ≡ share.old.amount + length receipts.new) }
     ensures parts { share.new.parts ≡ share.old.parts }
 {
-    let answer = take_turn(rt, alloc, shared, share, turn, receipts)?;
-    if settle_all(rt, alloc, shared, share, word, receipts)? {
+    let answer = take_turn(run, share, turn, receipts)?;
+    if settle_all(run, share, receipts)? {
         Ok(answer)
     } else {
         Ok(Answer::NoMore)
@@ -114,8 +149,14 @@ pub fn wind<L: Ledger, R: Reporter>(
     ensures counted { IfOk result (λ rs. share.new.amount ≡ share.old.amount + length rs) }
     ensures parts { share.new.parts ≡ share.old.parts }
 {
+    let run = Access {
+        rt,
+        alloc,
+        shared,
+        word,
+    };
     let mut receipts = List::new();
-    let Ok(_) = settle_all(rt, alloc, shared, share, word, &mut receipts) else {
+    let Ok(_) = settle_all(&run, share, &mut receipts) else {
         drop(receipts);
         shared.give_up(rt);
         return Err(OutOfMemory);

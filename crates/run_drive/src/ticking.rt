@@ -4,7 +4,7 @@ ghost use Rattle.std.specs.List.{All};
 ghost use Rattle.run_drive.specs.Driven.{OfTicker};
 
 use crate::Ticker;
-use crate::settling::{Answer, enter};
+use crate::settling::{Access, Answer, enter};
 use run_capture::{List, Mem, OutOfMemory};
 use run_events::{Reporter, Turn};
 use run_shared::{Receipt, SharedRun};
@@ -14,13 +14,10 @@ use std::sync::ledger::{Ledger, Share};
 
 // Steps with each answer of the ticker, until a step is refused.
 #[tactic(auto, using(crate::proofs::AddedLemmas::ticks_more))]
-fn tick_all<T: Ticker, L: Ledger, R: Reporter>(
-    rt: &impl Wait,
-    alloc: Global,
-    shared: &SharedRun<L, R>,
+fn tick_all<T: Ticker, X: Wait, L: Ledger, R: Reporter>(
+    run: &Access<X, L, R>,
     ticker: &mut T,
     share: &mut Share<L>,
-    word: u32,
     receipts: &mut List<Receipt>,
 ) -> Mem<()>
     requires { 0 < share.old.parts }
@@ -29,9 +26,9 @@ fn tick_all<T: Ticker, L: Ledger, R: Reporter>(
         (share.new.amount + length receipts.old ≡ share.old.amount + length receipts.new) }
     ensures parts { share.new.parts ≡ share.old.parts }
 {
-    for _ in rt.forever() {
+    for _ in run.rt.forever() {
         let turn = Turn::Clock { ns: ticker.next() };
-        match enter(rt, alloc, shared, share, word, turn, receipts)? {
+        match enter(run, share, turn, receipts)? {
             Answer::Taken => {}
             _ => return Ok(()),
         }
@@ -56,8 +53,14 @@ pub fn tick<T: Ticker, L: Ledger, R: Reporter>(
         (λ rs. share.new.amount + length first ≡ share.old.amount + length rs) }
     ensures parts { share.new.parts ≡ share.old.parts }
 {
+    let run = Access {
+        rt,
+        alloc,
+        shared,
+        word,
+    };
     let mut receipts = first;
-    let Ok(()) = tick_all(rt, alloc, shared, ticker, share, word, &mut receipts) else {
+    let Ok(()) = tick_all(&run, ticker, share, &mut receipts) else {
         drop(receipts);
         shared.give_up(rt);
         return Err(OutOfMemory);

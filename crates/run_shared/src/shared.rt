@@ -3,6 +3,7 @@ ghost use Rattle.std.specs.Prelude.{◌≡◌, ◌<◌, ◌+◌, [], Ok, Err, If
 ghost use Rattle.run_shared.specs.Settled.{is_settled_turn};
 ghost use Rattle.std.specs.List.{All};
 ghost use Rattle.std.specs.List.{sum_by};
+ghost use Rattle.run_engine.specs.Heard.{IsHeard};
 ghost use Rattle.run_engine.specs.Standing.{sound};
 ghost use Rattle.run_shared.specs.Receipts.{joined, Closes};
 ghost use Rattle.run_shared.specs.Closed.{IsLeft, IsOther, Refuses};
@@ -189,7 +190,7 @@ fn other_settings(alloc: Global, given: &Settings, kept: &Settings) -> CloseKind
 #[tactic(auto, using(crate::proofs::LeftLemmas::other_refused))]
 fn judge(
     alloc: Global,
-    given: &Settings,
+    given: &Whole<Settings>,
     run: &Run,
     receipts: &List<List<Receipt>>,
 ) -> Result<(), CloseKind>
@@ -197,6 +198,7 @@ fn judge(
     ensures closes { OnOk result (Closes run.now.journal (joined receipts.now)) }
     ensures refused { IfErr result (Refuses given.now run.now.journal (joined receipts.now)) }
 {
+    let given = given.get();
     let journal = run.journal();
     let kept = run.settings();
     if !given.same(kept) {
@@ -206,6 +208,50 @@ fn judge(
         return Err(kind);
     }
     Ok(())
+}
+
+// What a run leaves that was closed.
+fn closed_of<R: Reporter>(
+    run: Run,
+    asks: AskList,
+    report: R,
+    receipts: List<List<Receipt>>,
+) -> Closed<R>
+    ensures left { IsHeard R.told (λ list xs. list ≡ xs) report asks run
+        → IsLeft R.told result.report result.asks run.settings result.journal result.outcome }
+    ensures journal { result.journal ≡ run.journal }
+    ensures back { result.receipts ≡ receipts }
+{
+    let outcome = run.outcome();
+    let journal = run.into_journal();
+    Closed {
+        journal,
+        receipts,
+        asks,
+        outcome,
+        report,
+    }
+}
+
+// What a run leaves that wasn't closed, for this reason.
+fn unclosed_of<R: Reporter>(
+    kind: CloseKind,
+    run: Run,
+    asks: AskList,
+    report: R,
+    receipts: List<List<Receipt>>,
+) -> Unclosed<R>
+    ensures kind { result.error.kind ≡ kind }
+    ensures journal { result.journal ≡ run.journal }
+    ensures back { result.receipts ≡ receipts }
+{
+    drop(asks);
+    Unclosed {
+        error: CloseError::new(kind),
+        journal: run.into_journal(),
+        receipts,
+        report,
+    }
 }
 
 impl<L: Ledger, R: Reporter> SharedRun<L, R> {
@@ -346,26 +392,9 @@ impl<L: Ledger, R: Reporter> SharedRun<L, R> {
     {
         let SharedRun { lock, settings, .. } = self;
         let (run, asks, report) = lock.into_inner().into_parts(shares);
-        let judged = judge(alloc, settings.get(), &run, &receipts);
-        let outcome = run.outcome();
-        let journal = run.into_journal();
-        match judged {
-            Ok(()) => Ok(Closed {
-                journal,
-                receipts,
-                asks,
-                outcome,
-                report,
-            }),
-            Err(kind) => {
-                drop(asks);
-                Err(Unclosed {
-                    error: CloseError::new(kind),
-                    journal,
-                    receipts,
-                    report,
-                })
-            }
+        match judge(alloc, &settings, &run, &receipts) {
+            Ok(()) => Ok(closed_of(run, asks, report, receipts)),
+            Err(kind) => Err(unclosed_of(kind, run, asks, report, receipts)),
         }
     }
 }
