@@ -1,5 +1,5 @@
 -- Receipts that are put together.
-use Rattle.std.proofs.Common.{◌≡◌, ℕ, ◌+◌, ◌<◌, ◌≤◌, ◌⊎◌, inl, inr, List, [], ◌∷◌, ◌++◌, length, slice_index_or, refl, ap, sym, subst, ◌∙◌, arith, length-append}
+use Rattle.std.proofs.Common.{◌≡◌, ℕ, suc, ◌+◌, ◌<◌, ◌≤◌, ◌⊎◌, inl, inr, List, [], ◌∷◌, ◌++◌, length, slice_index_or, refl, ap, sym, subst, ◌∙◌, arith, length-append}
 use Rattle.std.proofs.lemmas.List.{append_assoc, append-nil, get_or_append_left, length_push}
 use Rattle.std.proofs.Math.Seq.{get_or-append_seam}
 use Rattle.std.proofs.lemmas.Bool.{cases_lt}
@@ -98,3 +98,7 @@ pub whole_push : {W S : Type 0} (has_said : W → List Heard → Type 0) (parts_
 whole_push has_said parts_of amount_of ws rss ss rs s one rose g ticks =
     rw (sum_by_push parts_of ss s, sum_by_push amount_of ss s, one, rose)
     (whole_of has_said ws rss (sum_by parts_of ss) (sum_by amount_of ss) rs g ticks)
+
+-- what holds of each item holds of those behind the first
+pub all_after : {X : Type 0} (P : X → Type 0) (xs ys : List X) (x : X) → xs ≡ x ∷ ys → All P xs → All P ys
+all_after P xs ys x e h = λ k d below. subst (All P) e h (suc k) d (omega arith)

@@ -4,17 +4,17 @@ ghost use Rattle.std.specs.List.{All, sum_by};
 ghost use Rattle.run_shared.specs.Receipts.{joined, numbers_of, times, StandsIn};
 ghost use Rattle.run_shared.specs.Closed.{IsLeft, Refuses};
 ghost use Rattle.run_live.specs.Own.{IsLive};
-ghost use Rattle.run_live.specs.Work.{IsOneEmpty, IsWhole};
+ghost use Rattle.run_live.specs.Work.{IsOneEmpty, IsWound, IsWhole};
 
 use crate::both::both;
 use crate::ending::{finish, report_of};
 use crate::gathering::{Gathered, gather_all};
-use crate::jobs::make_jobs;
+use crate::jobs::{Job, TickJob, make_jobs};
 use crate::lived::Lived;
 use crate::ticker_thread::begin;
 use crate::together::together;
-use run_capture::{Mem, OutOfMemory};
-use run_drive::Host;
+use run_capture::Mem;
+use run_drive::{Host, Spawner, Ticker};
 use run_engine::TestRunner;
 use run_events::Reporter;
 use run_shared::{CloseKind, SharedRun};
@@ -23,6 +23,53 @@ use std::marker::Brand;
 use std::sync::Wait;
 use std::sync::ledger::{Blank, Ledger, Share};
 use std::thread::Threads;
+
+// What the threads of a run begin with: a worker for each share but the last, and the ticker with that.
+fn make_all<H: Host, L: Ledger, R: Reporter>(
+    rt: &impl Wait,
+    alloc: Global,
+    shared: &SharedRun<L, R>,
+    host: &mut H,
+    shares: Vec<Share<L>>,
+    share: Share<L>,
+) -> Mem<(Vec<Job<L, H::Worker>>, TickJob<L, H::Tick>)>
+    requires each { All (λ (s : Share L). IsOneEmpty s.parts s.amount) shares.items }
+    requires share { IsOneEmpty share.parts share.amount }
+    ensures count { IfOk result (λ r. length r.0.items ≡ length shares.items) }
+    ensures jobs { IfOk result (λ r. All (λ (j : Job L H.Worker). H.Worker.has_said j.worker [] × IsOneEmpty j.share.parts j.share.amount) r.0.items) }
+    ensures clock { IfOk result (λ r. IsWound r.1.share.parts r.1.share.amount r.1.first) }
+{
+    let jobs = make_jobs(alloc, host, shares);
+    let ticker = host.ticker();
+    let clock = begin(rt, alloc, shared, ticker, share, host.word());
+    both(jobs, clock)
+}
+
+// Runs these threads, and answers what they leave.
+fn run_jobs<
+    W: Spawner + Send + Drop,
+    T: Ticker + Send + Drop,
+    L: Ledger + Send + Sync,
+    R: Reporter + Send,
+    X: Threads + Wait + Sync,
+>(
+    rt: &X,
+    alloc: Global,
+    shared: &SharedRun<L, R>,
+    jobs: Vec<Job<L, W>>,
+    clock: TickJob<L, T>,
+) -> Mem<Gathered<L, W>>
+where
+    R::Error: Send,
+    requires jobs { All (λ (j : Job L W). W.has_said j.worker [] × IsOneEmpty j.share.parts j.share.amount) jobs.items }
+    requires clock { IsWound clock.share.parts clock.share.amount clock.first }
+    ensures count { IfOk result (λ g. length g.workers.items ≡ length jobs.items) }
+    ensures whole { IfOk result (λ g. IsWhole W.has_said g.workers.items g.receipts
+        (sum_by (λ (s : Share L). s.parts) g.shares.items) (sum_by (λ (s : Share L). s.amount) g.shares.items)) }
+{
+    let (done, ticked) = together(rt, alloc, shared, jobs, clock)?;
+    gather_all(alloc, done, ticked)
+}
 
 // Runs the threads of a run: a worker for each share but the last, and the ticker with that. Answers what they leave.
 fn run_threads<H: Host, L: Ledger + Send + Sync, R: Reporter + Send, X: Threads + Wait + Sync>(
@@ -41,12 +88,8 @@ where
     ensures whole { IfOk result (λ g. IsWhole H.Worker.has_said g.workers.items g.receipts
         (sum_by (λ (s : Share L). s.parts) g.shares.items) (sum_by (λ (s : Share L). s.amount) g.shares.items)) }
 {
-    let jobs = make_jobs(alloc, host, shares);
-    let ticker = host.ticker();
-    let clock = begin(rt, alloc, shared, ticker, share, host.word());
-    let (jobs, clock) = both(jobs, clock)?;
-    let (done, ticked) = together(rt, alloc, shared, jobs, clock)?;
-    gather_all(alloc, done, ticked)
+    let (jobs, clock) = make_all(rt, alloc, shared, host, shares, share)?;
+    run_jobs(rt, alloc, shared, jobs, clock)
 }
 
 // The same, of shares of which the last is the ticker's.

@@ -1,5 +1,5 @@
 // The threads of a run, and their end.
-ghost use Rattle.std.specs.Prelude.{◌≡◌, [], IfOk, IfErr, Result, vec_len};
+ghost use Rattle.std.specs.Prelude.{◌≡◌, [], IfOk, IfErr, Result, ◌≤◌, vec_len, vec_capacity};
 ghost use Rattle.std.specs.List.{All};
 ghost use Rattle.run_live.specs.Work.{IsOneEmpty, IsWork, IsWound, IsTicked};
 
@@ -19,6 +19,37 @@ use std::thread::{PromisedHandle, Scope, Threads};
 
 // A worker on its thread, or what it left where no thread could be made.
 type Running<L, W> = Result<PromisedHandle<Done<L, W>, OwnWork>, Done<L, W>>;
+
+// Starts a thread for each job, and puts them in this list.
+fn start_each<
+    's,
+    E,
+    W: Spawner + Send + Drop + 's,
+    L: Ledger + Send + Sync + 's,
+    R: Reporter + Send + 's,
+    X: Threads + Wait + Sync,
+>(
+    scope: &Scope<'s, E>,
+    rt: &'s X,
+    alloc: Global,
+    shared: &'s SharedRun<L, R>,
+    jobs: Vec<Job<L, W>>,
+    all: Vec<Running<L, W>>,
+) -> Vec<Running<L, W>>
+where
+    R::Error: Send,
+    requires jobs { All (λ (j : Job L W). W.has_said j.worker [] × IsOneEmpty j.share.parts j.share.amount) jobs.items }
+    requires empty { all.items ≡ [] }
+    requires room { vec_len jobs ≤ vec_capacity all }
+    ensures count { vec_len result ≡ vec_len jobs }
+    ensures each { All (λ r. IfErr r (λ (d : Done L W). IsWork W.has_said d.worker d.share.parts d.share.amount d.receipts)) result.items }
+{
+    let mut all = all;
+    for job in jobs {
+        all.push_reserved(start(scope, rt, alloc, shared, job));
+    }
+    all
+}
 
 // Starts a thread for each job.
 fn start_all<
@@ -41,14 +72,11 @@ where
     ensures count { IfOk result (λ all. vec_len all ≡ vec_len jobs) }
     ensures each { IfOk result (λ all. All (λ r. IfErr r (λ (d : Done L W). IsWork W.has_said d.worker d.share.parts d.share.amount d.receipts)) all.items) }
 {
-    let Ok(mut all) = Vec::with_capacity(alloc, jobs.len()) else {
+    let Ok(all) = Vec::with_capacity(alloc, jobs.len()) else {
         drop(jobs);
         return Err(OutOfMemory);
     };
-    for job in jobs {
-        all.push_reserved(start(scope, rt, alloc, shared, job));
-    }
-    Ok(all)
+    Ok(start_each(scope, rt, alloc, shared, jobs, all))
 }
 
 // What a worker leaves, once its thread has ended.

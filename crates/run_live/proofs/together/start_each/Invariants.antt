@@ -3,7 +3,7 @@ use Rattle.std.specs.Result.{IfErr}
 use Rattle.std.specs.List.{All}
 use Rattle.std.specs.Vec.Iter.{into_iter_items, into_iter_len}
 use Rattle.run_live.specs.Work.{IsOneEmpty, IsWork}
-use Rattle.run_live.proofs.together.start_all.Given as goal
+use Rattle.run_live.proofs.together.start_each.Given as goal
 
 abbrev pub invariant-loop-job : goal.invariant-loop-job
 invariant-loop-job g l =
