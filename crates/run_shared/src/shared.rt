@@ -1,8 +1,7 @@
 // A run that threads share.
 ghost use Rattle.std.specs.Prelude.{◌≡◌, ◌<◌, ◌+◌, [], Ok, Err, IfOk, IfErr, OnOk, OnErr, IfSome, IsNone, length, vec_len, true};
 ghost use Rattle.run_shared.specs.Settled.{is_settled_turn};
-ghost use Rattle.std.specs.List.{All};
-ghost use Rattle.std.specs.List.{sum_by};
+ghost use Rattle.std.specs.List.{All, sum_by};
 ghost use Rattle.run_engine.specs.Heard.{IsHeard};
 ghost use Rattle.run_engine.specs.Standing.{sound};
 ghost use Rattle.run_shared.specs.Receipts.{joined, Closes};
