@@ -7,9 +7,9 @@ use run_drive::{Begun, Said, Spawner};
 use run_events::StartAsk;
 use std::alloc::{AllocError, Global};
 use std::fs;
+use std::fs::Files;
 use std::io;
 use std::process::{Command, Processes, Stdio};
-use std::rt::Files;
 
 /// Starts processes, one at a time: in the program's own folder, with the asked variables beside the program's own, an
 /// empty standard input, and no process group. Its standard output is read where it is captured, as the combined stream
@@ -24,7 +24,9 @@ pub struct ProcessSpawner<P: Processes + Files + Drop> {
 
 impl<P: Processes + Files + Drop> ProcessSpawner<P> {
     /// A spawner that has started nothing.
-    pub fn new(outside: P) -> Self {
+    pub fn new(outside: P) -> Self
+        ensures { result.faults ≡ 0 }
+    {
         ProcessSpawner {
             outside,
             running: None,

@@ -1,15 +1,19 @@
 // A child that runs, and what it says next.
+ghost use Rattle.std.specs.Prelude.{◌≡◌, IfSome, IfNone};
+ghost use Rattle.std.specs.Process.{exit_code, exit_signal};
+ghost use Rattle.run_events.specs.declared.result.ChildExit.TheVariants.{Code, Signal};
+
 use run_capture::{Blob, Mem, OutOfMemory, Stream, Text};
 use run_commands::EnvInput;
 use run_drive::Said;
 use run_events::ChildExit;
 use std::alloc::{AllocError, Global};
 use std::fs;
+use std::fs::Files;
 use std::io;
 use std::io::Read;
 use std::os::unix::process::ExitStatusExt;
 use std::process::{Child, ExitStatus, OpenProcess};
-use std::rt::Files;
 
 /// What is to be said of a child.
 #[derive(Clone, Copy)]
@@ -44,7 +48,10 @@ pub fn error_text(alloc: Global, error: &io::Error) -> Mem<Text> {
 }
 
 // How a child ended.
-fn exit_of(status: &ExitStatus) -> ChildExit {
+fn exit_of(status: &ExitStatus) -> ChildExit
+    ensures code { IfSome (exit_code status.now) (λ code. result ≡ Code code) }
+    ensures signal { IfNone (exit_code status.now) (IfSome (exit_signal status.now) (λ signal. result ≡ Signal signal)) }
+{
     match (status.code(), status.signal()) {
         (Some(code), _) => ChildExit::Code(code),
         (None, Some(signal)) => ChildExit::Signal(signal),
@@ -80,15 +87,21 @@ impl<C: OpenProcess + Drop> Running<C> {
                 Ok(Said::Piece { stream, bytes })
             }
             Ok(_) => {
-                self.step = Step::Exit;
+                self.close_output();
                 Ok(Said::End { stream })
             }
             Err(error) => {
-                self.step = Step::Exit;
+                self.close_output();
                 let error = error_text(alloc, &error)?;
                 Ok(Said::ReadError { stream, error })
             }
         }
+    }
+
+    // Nothing more is read of the output, so that a child that writes on doesn't wait for a reader.
+    fn close_output(&mut self) {
+        self.child.stdout = None;
+        self.step = Step::Exit;
     }
 
     // Waits for the child's end.
