@@ -6,10 +6,9 @@ use run_capture::{Duplicate, Mem, OutOfMemory, Stream, Text};
 use run_drive::{Begun, Said, Spawner};
 use run_events::StartAsk;
 use std::alloc::{AllocError, Global};
-use std::fs;
 use std::fs::Files;
-use std::io;
 use std::process::{Child, Command, Processes, Stdio};
+use std::{fs, io};
 
 /// Starts processes, one at a time: in the program's own folder, with the asked variables beside the program's own, an
 /// empty standard input, and no process group. Its standard output is read where it is captured, as the combined stream
@@ -137,17 +136,35 @@ fn is_refused(begun: &Mem<Begun>) -> bool {
 
 // Whether a child could not be read or waited for.
 fn is_fault(said: &Mem<Said>) -> bool {
-    matches!(
-        said,
-        Ok(Said::ReadError { .. } | Said::WaitFailed { .. })
-    )
+    matches!(said, Ok(Said::ReadError { .. } | Said::WaitFailed { .. }))
 }
 
+// A command is needed no more. A call of its own, which keeps the proofs small.
+fn put_away(_command: Command) {}
+
 impl<P: Processes + Files + Drop> ProcessSpawner<P> {
-    // Starts a command that is prepared, with the script's environment file made empty.
-    fn run(&self, command: &mut Command, env_path: &Option<Text>) -> io::Result<Child<P::Started>> {
-        clear(&self.outside, env_path)?;
+    // Prepares a command, and starts it with the script's environment file made empty.
+    fn run(
+        &self,
+        command: &mut Command,
+        words: &[Text],
+        ask: &StartAsk,
+    ) -> io::Result<Child<P::Started>> {
+        prepare(command, words, ask)?;
+        clear(&self.outside, &ask.env_path)?;
         command.spawn(&self.outside)
+    }
+
+    // The same of a command that is needed no more.
+    fn run_once(
+        &self,
+        mut command: Command,
+        words: &[Text],
+        ask: &StartAsk,
+    ) -> io::Result<Child<P::Started>> {
+        let child = self.run(&mut command, words, ask);
+        put_away(command);
+        child
     }
 
     // Starts a child.
@@ -158,11 +175,22 @@ impl<P: Processes + Files + Drop> ProcessSpawner<P> {
         words: &[Text],
         ask: &StartAsk,
     ) -> io::Result<Child<P::Started>> {
-        let mut command = Command::new(alloc, program.as_str())?;
-        match prepare(&mut command, words, ask) {
-            Ok(()) => self.run(&mut command, &ask.env_path),
+        match Command::new(alloc, program.as_str()) {
+            Ok(command) => self.run_once(command, words, ask),
             Err(error) => Err(io::Error::from(error)),
         }
+    }
+
+    // Forgets the child before.
+    fn forget(&mut self) {
+        self.running = None;
+        self.env_path = None;
+    }
+
+    // Notes the path of a script's environment file.
+    fn note_path(&mut self, alloc: Global, path: &Option<Text>) -> Mem<()> {
+        self.env_path = path.copy(alloc)?;
+        Ok(())
     }
 
     // Keeps a child that runs.
@@ -201,8 +229,8 @@ impl<P: Processes + Files + Drop> Spawner for ProcessSpawner<P> {
     ghost has_said = { λ _ _. Unit {0} };
 
     fn start(&mut self, alloc: Global, ask: &StartAsk) -> Mem<Begun> {
-        self.running = None;
-        self.env_path = ask.env_path.copy(alloc)?;
+        self.forget();
+        self.note_path(alloc, &ask.env_path)?;
         let begun = self.launch(alloc, ask);
         if is_refused(&begun) {
             self.count();

@@ -3,19 +3,16 @@ ghost use Rattle.std.specs.Prelude.{◌≡◌, IfSome, IfNone};
 ghost use Rattle.std.specs.Process.{exit_code, exit_signal};
 ghost use Rattle.run_events.specs.declared.result.ChildExit.TheVariants.{Code, Signal};
 
-use run_capture::{
-    Blob, Mem, OutOfMemory, ReadError, StdSource, Stream, Text, read_to_end,
-};
+use run_capture::{Blob, Mem, OutOfMemory, ReadError, StdSource, Stream, Text, read_to_end};
 use run_commands::EnvInput;
 use run_drive::Said;
 use run_events::ChildExit;
 use std::alloc::Global;
-use std::fs;
 use std::fs::Files;
-use std::io;
 use std::io::Read;
 use std::os::unix::process::ExitStatusExt;
 use std::process::{Child, ExitStatus, OpenProcess};
+use std::{fs, io};
 
 /// What is to be said of a child.
 #[derive(Clone, Copy)]

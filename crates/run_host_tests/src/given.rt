@@ -24,7 +24,9 @@ pub fn text(rt: &impl Abort, alloc: Global, text: &str) -> Text {
 pub fn ask(rt: &impl Abort, alloc: Global, words: &[&str]) -> StartAsk {
     let mut command = List::new();
     for word in words {
-        command.push(alloc, text(rt, alloc, word)).expect(rt, MEMORY);
+        command
+            .push(alloc, text(rt, alloc, word))
+            .expect(rt, MEMORY);
     }
     let mut streams = List::new();
     streams.push(alloc, Stream::Stdout).expect(rt, MEMORY);
