@@ -1,4 +1,6 @@
 // How time goes by, by the clock of the machine.
+ghost use Rattle.std.specs.Prelude.{◌≡◌};
+
 use run_drive::Ticker;
 use std::thread;
 use std::time::{Clock, Duration, Instant};
@@ -13,7 +15,9 @@ pub struct ClockTicker<C: Clock + Drop> {
 
 impl<C: Clock + Drop> ClockTicker<C> {
     /// A ticker whose time begins now.
-    pub fn new(clock: C) -> Self {
+    pub fn new(clock: C) -> Self
+        ensures { result.faults ≡ 0 }
+    {
         let last = Instant::now(&clock).ok();
         ClockTicker {
             clock,

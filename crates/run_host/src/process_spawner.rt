@@ -1,13 +1,13 @@
 // The spawner of real children.
 ghost use Rattle.std.specs.Prelude.{◌≡◌};
 
-use crate::running::{Running, Step, error_text, room};
+use crate::running::{Running, Step, error_text, nothing_more};
 use run_capture::{Duplicate, Mem, OutOfMemory, Stream, Text};
 use run_drive::{Begun, Said, Spawner};
 use run_events::StartAsk;
 use std::alloc::{AllocError, Global};
-use std::process::{Command, Processes, Stdio};
-use std::rt::Files;
+use std::fs::Files;
+use std::process::{Child, Command, Processes, Stdio};
 use std::{fs, io};
 
 /// Starts processes, one at a time: in the program's own folder, with the asked variables beside the program's own, an
@@ -18,15 +18,19 @@ use std::{fs, io};
 pub struct ProcessSpawner<P: Processes + Files + Drop> {
     outside: P,
     running: Option<Running<P::Started>>,
+    env_path: Option<Text>,
     faults: u64,
 }
 
 impl<P: Processes + Files + Drop> ProcessSpawner<P> {
     /// A spawner that has started nothing.
-    pub fn new(outside: P) -> Self {
+    pub fn new(outside: P) -> Self
+        ensures { result.faults ≡ 0 }
+    {
         ProcessSpawner {
             outside,
             running: None,
+            env_path: None,
             faults: 0,
         }
     }
@@ -71,19 +75,35 @@ fn stdout_of(streams: &[Stream]) -> Stdio {
     }
 }
 
-// The command of a start, with its variables and its streams. There is a program.
-fn command_of(alloc: Global, program: &Text, ask: &StartAsk) -> Result<Command, AllocError> {
-    let mut command = Command::new(alloc, program.as_str())?;
-    for arg in ask.command.as_slice().iter().skip(1) {
-        command.arg(arg.as_str())?;
+// Gives a command its arguments.
+fn add_arguments(command: &mut Command, words: &[Text]) -> Result<(), AllocError> {
+    for word in words {
+        command.arg(word.as_str())?;
     }
-    for (key, value) in ask.env.as_slice() {
+    Ok(())
+}
+
+// Gives a command its variables.
+fn add_variables(command: &mut Command, variables: &[(Text, Text)]) -> Result<(), AllocError> {
+    for (key, value) in variables {
         command.env(key.as_str(), value.as_str())?;
     }
+    Ok(())
+}
+
+// Gives a command its streams.
+fn add_streams(command: &mut Command, streams: &[Stream]) {
     command.stdin(Stdio::null());
-    command.stdout(stdout_of(ask.streams.as_slice()));
+    command.stdout(stdout_of(streams));
     command.stderr(Stdio::inherit());
-    Ok(command)
+}
+
+// Gives a command what was asked. The first word is its program.
+fn prepare(command: &mut Command, words: &[Text], ask: &StartAsk) -> Result<(), AllocError> {
+    add_arguments(command, words)?;
+    add_variables(command, ask.env.as_slice())?;
+    add_streams(command, ask.streams.as_slice());
+    Ok(())
 }
 
 // Makes a script's environment file empty, where it has one.
@@ -94,23 +114,109 @@ fn clear(files: &impl Files, path: &Option<Text>) -> io::Result<()> {
     }
 }
 
-// Memory was wanting.
-fn wanting(_: OutOfMemory) -> io::Error {
-    io::Error::from(AllocError)
+// There is no command to start.
+fn no_command(alloc: Global) -> Mem<Begun> {
+    let error = Text::from_str(alloc, "there is no command")?;
+    Ok(Begun::Refused { error })
 }
 
+// A start failed. Want of memory is no refusal.
+fn refused(alloc: Global, error: &io::Error) -> Mem<Begun> {
+    if error.kind() == io::ErrorKind::OutOfMemory {
+        return Err(OutOfMemory);
+    }
+    let error = error_text(alloc, error)?;
+    Ok(Begun::Refused { error })
+}
+
+// Whether a start was refused.
+fn is_refused(begun: &Mem<Begun>) -> bool {
+    matches!(begun, Ok(Begun::Refused { .. }))
+}
+
+// Whether a child could not be read or waited for.
+fn is_fault(said: &Mem<Said>) -> bool {
+    matches!(said, Ok(Said::ReadError { .. } | Said::WaitFailed { .. }))
+}
+
+// A command is needed no more. A call of its own, which keeps the proofs small.
+fn put_away(_command: Command) {}
+
 impl<P: Processes + Files + Drop> ProcessSpawner<P> {
-    // Starts a child. What can be wanting is there before.
-    fn launch(&mut self, alloc: Global, program: &Text, ask: &StartAsk) -> io::Result<u32> {
-        let buffer = room(alloc)?;
-        let env_path = ask.env_path.copy(alloc).map_err(wanting)?;
-        let mut command = command_of(alloc, program, ask)?;
+    // Prepares a command, and starts it with the script's environment file made empty.
+    fn run(
+        &self,
+        command: &mut Command,
+        words: &[Text],
+        ask: &StartAsk,
+    ) -> io::Result<Child<P::Started>> {
+        prepare(command, words, ask)?;
         clear(&self.outside, &ask.env_path)?;
-        let child = command.spawn(&self.outside)?;
+        command.spawn(&self.outside)
+    }
+
+    // The same of a command that is needed no more.
+    fn run_once(
+        &self,
+        mut command: Command,
+        words: &[Text],
+        ask: &StartAsk,
+    ) -> io::Result<Child<P::Started>> {
+        let child = self.run(&mut command, words, ask);
+        put_away(command);
+        child
+    }
+
+    // Starts a child.
+    fn spawn(
+        &self,
+        alloc: Global,
+        program: &Text,
+        words: &[Text],
+        ask: &StartAsk,
+    ) -> io::Result<Child<P::Started>> {
+        match Command::new(alloc, program.as_str()) {
+            Ok(command) => self.run_once(command, words, ask),
+            Err(error) => Err(io::Error::from(error)),
+        }
+    }
+
+    // Forgets the child before.
+    fn forget(&mut self) {
+        self.running = None;
+        self.env_path = None;
+    }
+
+    // Notes the path of a script's environment file.
+    fn note_path(&mut self, alloc: Global, path: &Option<Text>) -> Mem<()> {
+        self.env_path = path.copy(alloc)?;
+        Ok(())
+    }
+
+    // Keeps a child that runs.
+    fn keep(&mut self, child: Child<P::Started>, step: Step) -> Begun {
         let pid = child.id();
-        let step = first_step(ask.streams.as_slice());
-        self.running = Some(Running::new(child, step, env_path, buffer));
-        Ok(pid)
+        self.running = Some(Running::new(child, step));
+        Begun::Started { pid }
+    }
+
+    // Starts a child, and keeps it.
+    fn launch(&mut self, alloc: Global, ask: &StartAsk) -> Mem<Begun> {
+        let Some((program, words)) = ask.command.as_slice().split_first() else {
+            return no_command(alloc);
+        };
+        match self.spawn(alloc, program, words, ask) {
+            Ok(child) => Ok(self.keep(child, first_step(ask.streams.as_slice()))),
+            Err(error) => refused(alloc, &error),
+        }
+    }
+
+    // What the child that runs says next.
+    fn speak(&mut self, alloc: Global) -> Mem<Said> {
+        match &mut self.running {
+            Some(running) => running.next(&self.outside, alloc, &self.env_path),
+            None => nothing_more(alloc),
+        }
     }
 
     // Counts a failure.
@@ -123,32 +229,20 @@ impl<P: Processes + Files + Drop> Spawner for ProcessSpawner<P> {
     ghost has_said = { λ _ _. Unit {0} };
 
     fn start(&mut self, alloc: Global, ask: &StartAsk) -> Mem<Begun> {
-        self.running = None;
-        let Some(program) = ask.command.as_slice().first() else {
-            let error = Text::from_str(alloc, "there is no command")?;
-            return Ok(Begun::Refused { error });
-        };
-        match self.launch(alloc, program, ask) {
-            Ok(pid) => Ok(Begun::Started { pid }),
-            Err(error) if error.kind() == io::ErrorKind::OutOfMemory => Err(OutOfMemory),
-            Err(error) => {
-                self.count();
-                let error = error_text(alloc, &error)?;
-                Ok(Begun::Refused { error })
-            }
+        self.forget();
+        self.note_path(alloc, &ask.env_path)?;
+        let begun = self.launch(alloc, ask);
+        if is_refused(&begun) {
+            self.count();
         }
+        begun
     }
 
     fn next(&mut self, alloc: Global) -> Mem<Said> {
-        let said = match &mut self.running {
-            Some(running) => running.next(&self.outside, alloc)?,
-            None => Said::WaitFailed {
-                error: Text::from_str(alloc, "end")?,
-            },
-        };
-        if matches!(said, Said::ReadError { .. } | Said::WaitFailed { .. }) {
+        let said = self.speak(alloc);
+        if is_fault(&said) {
             self.count();
         }
-        Ok(said)
+        said
     }
 }

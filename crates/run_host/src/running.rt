@@ -1,13 +1,17 @@
 // A child that runs, and what it says next.
-use run_capture::{Blob, Mem, OutOfMemory, Stream, Text};
+ghost use Rattle.std.specs.Prelude.{◌≡◌, IfSome, IfNone};
+ghost use Rattle.std.specs.Process.{exit_code, exit_signal};
+ghost use Rattle.run_events.specs.declared.result.ChildExit.TheVariants.{Code, Signal};
+
+use run_capture::{Blob, Mem, OutOfMemory, ReadError, StdSource, Stream, Text, read_to_end};
 use run_commands::EnvInput;
 use run_drive::Said;
 use run_events::ChildExit;
-use std::alloc::{AllocError, Global};
+use std::alloc::Global;
+use std::fs::Files;
 use std::io::Read;
 use std::os::unix::process::ExitStatusExt;
 use std::process::{Child, ExitStatus, OpenProcess};
-use std::rt::Files;
 use std::{fs, io};
 
 /// What is to be said of a child.
@@ -30,12 +34,10 @@ pub enum Step {
 pub struct Running<C: OpenProcess + Drop> {
     child: Child<C>,
     step: Step,
-    env_path: Option<Text>,
-    buffer: Vec<u8>,
 }
 
 // How many bytes one read moves at most.
-const PIECE: usize = 65536;
+const PIECE: usize = 8192;
 
 /// The text of an error.
 pub fn error_text(alloc: Global, error: &io::Error) -> Mem<Text> {
@@ -43,7 +45,10 @@ pub fn error_text(alloc: Global, error: &io::Error) -> Mem<Text> {
 }
 
 // How a child ended.
-fn exit_of(status: &ExitStatus) -> ChildExit {
+fn exit_of(status: &ExitStatus) -> ChildExit
+    ensures code { IfSome (exit_code status.now) (λ code. result ≡ Code code) }
+    ensures signal { IfNone (exit_code status.now) (IfSome (exit_signal status.now) (λ signal. result ≡ Signal signal)) }
+{
     match (status.code(), status.signal()) {
         (Some(code), _) => ChildExit::Code(code),
         (None, Some(signal)) => ChildExit::Signal(signal),
@@ -51,104 +56,135 @@ fn exit_of(status: &ExitStatus) -> ChildExit {
     }
 }
 
-/// Room for a piece of output.
-pub fn room(alloc: Global) -> Result<Vec<u8>, AllocError> {
-    vec![in alloc; 0u8; PIECE]
+// A piece of output.
+fn piece(alloc: Global, stream: Stream, bytes: &[u8]) -> Mem<Said> {
+    let bytes = Blob::from_slice(alloc, bytes)?;
+    Ok(Said::Piece { stream, bytes })
+}
+
+// Reading a stream failed.
+fn unread(alloc: Global, stream: Stream, error: &io::Error) -> Mem<Said> {
+    let error = error_text(alloc, error)?;
+    Ok(Said::ReadError { stream, error })
+}
+
+// The wait for a child failed.
+fn unwaited(alloc: Global, error: &io::Error) -> Mem<Said> {
+    let error = error_text(alloc, error)?;
+    Ok(Said::WaitFailed { error })
+}
+
+/// There is nothing more to say.
+pub fn nothing_more(alloc: Global) -> Mem<Said> {
+    let error = Text::from_str(alloc, "end")?;
+    Ok(Said::WaitFailed { error })
 }
 
 impl<C: OpenProcess + Drop> Running<C> {
-    /// A child of which this is said first, whose environment file stands at this path, with room for its output.
-    pub fn new(child: Child<C>, step: Step, env_path: Option<Text>, buffer: Vec<u8>) -> Self {
-        Running {
-            child,
-            step,
-            env_path,
-            buffer,
+    /// A child of which this is said first.
+    pub fn new(child: Child<C>, step: Step) -> Self {
+        Running { child, step }
+    }
+
+    // Reads the output into a buffer.
+    fn read(&mut self, buffer: &mut [u8]) -> io::Result<usize> {
+        match &mut self.child.stdout {
+            Some(output) => output.read(buffer),
+            None => Ok(0),
         }
     }
 
     // The next piece of the output, or how that ended.
     fn read_output(&mut self, alloc: Global, stream: Stream) -> Mem<Said> {
-        let read = match &mut self.child.stdout {
-            Some(output) => output.read(self.buffer.as_mut_slice()),
-            None => Ok(0),
-        };
-        match read {
-            Ok(count) if count > 0 && count <= self.buffer.len() => {
-                let bytes = Blob::from_slice(alloc, &self.buffer[..count])?;
-                Ok(Said::Piece { stream, bytes })
-            }
+        let mut buffer = [0u8; PIECE];
+        match self.read(&mut buffer) {
+            Ok(count) if count > 0 && count <= PIECE => piece(alloc, stream, &buffer[..count]),
             Ok(_) => {
-                self.step = Step::Exit;
+                self.close_output();
                 Ok(Said::End { stream })
             }
             Err(error) => {
-                self.step = Step::Exit;
-                let error = error_text(alloc, &error)?;
-                Ok(Said::ReadError { stream, error })
+                self.close_output();
+                unread(alloc, stream, &error)
             }
         }
     }
 
-    // Waits for the child's end.
-    fn wait(&mut self, alloc: Global) -> Mem<Said> {
+    // Nothing more is read of the output, so that a child that writes on doesn't wait for a reader.
+    fn close_output(&mut self) {
+        self.child.stdout = None;
+        self.step = Step::Exit;
+    }
+
+    // Waits for the child's end. A script's environment file comes after an exit with code 0.
+    fn wait(&mut self, alloc: Global, is_script: bool) -> Mem<Said> {
         self.step = Step::Done;
         match self.child.wait() {
             Ok(status) => {
-                if status.success() && self.env_path.is_some() {
+                if status.success() && is_script {
                     self.step = Step::Env;
                 }
-                Ok(Said::Exit {
-                    exit: exit_of(&status),
-                })
+                let exit = exit_of(&status);
+                Ok(Said::Exit { exit })
             }
-            Err(error) => {
-                let error = error_text(alloc, &error)?;
-                Ok(Said::WaitFailed { error })
-            }
+            Err(error) => unwaited(alloc, &error),
         }
     }
 
-    /// What the child says next. Reading its output and waiting for its end take as long as the child does.
-    pub fn next(&mut self, files: &impl Files, alloc: Global) -> Mem<Said> {
+    // Standard error, which isn't read, ended.
+    fn end_stderr(&mut self, output: Option<Stream>) -> Mem<Said> {
+        self.step = match output {
+            Some(stream) => Step::Output(stream),
+            None => Step::Exit,
+        };
+        Ok(Said::End {
+            stream: Stream::Stderr,
+        })
+    }
+
+    /// What the child says next; a script has a path of its environment file. Reading its output and waiting for its end
+    /// take as long as the child does.
+    pub fn next(
+        &mut self,
+        files: &impl Files,
+        alloc: Global,
+        env_path: &Option<Text>,
+    ) -> Mem<Said> {
         match self.step {
-            Step::Stderr(output) => {
-                self.step = match output {
-                    Some(stream) => Step::Output(stream),
-                    None => Step::Exit,
-                };
-                Ok(Said::End {
-                    stream: Stream::Stderr,
-                })
-            }
+            Step::Stderr(output) => self.end_stderr(output),
             Step::Output(stream) => self.read_output(alloc, stream),
-            Step::Exit => self.wait(alloc),
+            Step::Exit => self.wait(alloc, env_path.is_some()),
             Step::Env => {
                 self.step = Step::Done;
-                Ok(Said::Env {
-                    input: env_input(files, alloc, &self.env_path)?,
-                })
+                env_said(files, alloc, env_path)
             }
-            Step::Done => Ok(Said::WaitFailed {
-                error: Text::from_str(alloc, "end")?,
-            }),
+            Step::Done => nothing_more(alloc),
         }
     }
 }
 
-// What stands in an environment file, with no bytes where there is none.
-fn env_input(files: &impl Files, alloc: Global, path: &Option<Text>) -> Mem<EnvInput> {
-    let path = match path {
-        Some(path) if !path.is_empty() => path,
-        _ => return Ok(EnvInput::Bytes(Blob::new(alloc))),
-    };
-    let Ok(mut file) = fs::open(files, path.as_str()) else {
-        return Ok(EnvInput::OpenFailed);
-    };
-    let mut bytes = Vec::new(alloc);
-    match file.read_to_end(&mut bytes) {
-        Ok(_) => Ok(EnvInput::Bytes(Blob::from_slice(alloc, bytes.as_slice())?)),
-        Err(error) if error.kind() == io::ErrorKind::OutOfMemory => Err(OutOfMemory),
+// What stands in a file.
+fn file_input<F: Read + Drop>(alloc: Global, file: F) -> Mem<EnvInput> {
+    match read_to_end(alloc, &mut StdSource::new(file), usize::MAX) {
+        Ok(bytes) => Ok(EnvInput::Bytes(bytes)),
+        Err(ReadError::OutOfMemory) => Err(OutOfMemory),
         Err(_) => Ok(EnvInput::ReadFailed),
     }
+}
+
+// What stands in an environment file, with no bytes where the path is empty.
+fn env_input(files: &impl Files, alloc: Global, path: &Option<Text>) -> Mem<EnvInput> {
+    match path {
+        Some(path) if !path.is_empty() => match fs::open(files, path.as_str()) {
+            Ok(file) => file_input(alloc, file),
+            Err(_) => Ok(EnvInput::OpenFailed),
+        },
+        _ => Ok(EnvInput::Bytes(Blob::new(alloc))),
+    }
+}
+
+// The word of a script's environment file.
+fn env_said(files: &impl Files, alloc: Global, path: &Option<Text>) -> Mem<Said> {
+    let input = env_input(files, alloc, path)?;
+    Ok(Said::Env { input })
 }

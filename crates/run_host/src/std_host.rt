@@ -1,8 +1,8 @@
 // The host of real children.
 use crate::{ClockTicker, ProcessSpawner};
 use run_drive::Host;
+use std::fs::Files;
 use std::process::{OpenProcess, Processes};
-use std::rt::Files;
 use std::time::{Clock, SystemTime};
 
 /// Makes spawners of processes and tickers by the clock of the machine. Its words are the low 32 bits of the nanoseconds of
