@@ -15,5 +15,5 @@ returns g c = unless_weaker c.try_execute-answer.result _ _
     c.try_execute-answer.result
     x.call.journal x.call.refusal told.0 x.call.takes.runnable x.call.says x.call.takes.marked
     (x.call.takes.asked [] c.new-asks.ensures)
-    (rw c.requires.taken at (rw c.requires.faults at (c.into_sink.ensures told.0 told.1))) told.2 told.3)
+    (rw c.requires.taken at (rw c.requires.faults at (c.into_sink.ensures.told told.0 told.1))) told.2 told.3)
     c.try_execute-answer.ensures.executes
