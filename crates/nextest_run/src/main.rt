@@ -1,8 +1,10 @@
-//! The program: carries out the run that its standard input tells, and writes the lines of it, by the top call
-//! of the library below. It answers `--help` and `--version` itself, and says on standard error what a fault means.
+//! The program: runs a plan with real children, or carries out the run that its standard input tells, and writes the
+//! lines of it, by the top call of the library below. It answers `--help` and `--version` itself, and says on standard
+//! error what a fault means.
 #![tactic(auto)]
 
 use run_cli::{Ran, StdSink, StdSource, run};
+use run_host::StdHost;
 use std::process::ExitCode;
 use std::{env, io};
 
@@ -10,15 +12,23 @@ const VERSION: &str = "nextest_run 0.0.0";
 
 const HELP: &str = "nextest_run: the execution engine of a test runner
 
+  nextest_run live < PLAN      runs the tests of PLAN, each as a process of its own
   nextest_run replay < INPUT   carries out the run that INPUT tells
   nextest_run --help           prints this
   nextest_run --version        prints the version
 
-INPUT says what happened in the run. The program starts no child: that a child is to be started is a line of
-its output, and that one started or ended is a line of INPUT.
+PLAN is one line, a JSON object: each of its tests has a command. So many run side by side as its \"threads\" say.
+Two tests, of which the second fails:
 
-INPUT has at most 16 MiB (16,777,216 bytes). Each line is a JSON object: the first is the plan, each later
-one a turn. A sample, a run of one test that passes:
+  {\"run_id\":\"00000000-0000-4000-8000-000000000001\",\"threads\":2,\"tests\":[\
+    {\"binary\":\"b\",\"name\":\"says\",\"command\":[\"echo\",\"hi\"]},\
+    {\"binary\":\"b\",\"name\":\"fails\",\"command\":[\"sh\",\"-c\",\"exit 3\"]}]}
+
+INPUT says what happened in a run: replay starts no child. That a child is to be started is a line of its
+output, and that one started or ended is a line of INPUT.
+
+Either has at most 16 MiB (16,777,216 bytes). Each line of INPUT is a JSON object: the first is the plan, each
+later one a turn. A sample, a run of one test that passes:
 
   {\"capture\":\"none\",\"run_id\":\"00000000-0000-4000-8000-000000000001\",\
     \"tests\":[{\"binary\":\"b\",\"command\":[\"true\"],\"name\":\"t\"}]}
@@ -39,15 +49,16 @@ sample gives four events, one ask, and
 The status is 0 for success, 4 where no test was run, 100 for a failed or cancelled run, 105 for one that
 a setup script ended, and else the fault's: 2 for bad words, 3 for a bad line, 5 for a plan that breaks
 a rule, 6 for a turn that is not enabled, 7 for a third shutdown signal, 8 for a run that is not over, 9
-for a failed write, 10 for a failed read, 11 for want of memory, 12 for an input that is too long. Of each
-fault one sentence on standard error says what it means.
+for a failed write, 10 for a failed read, 11 for want of memory, 12 for an input that is too long, 13 for
+receipts of workers that the journal does not bear out. Of each fault one sentence on standard error says what
+it means.
 
 The repository describes the formats of all lines in docs/FORMATS.md.";
 
 const MEMORY_LINE: &str = "{\"fault\":\"memory\",\"status\":11}";
 
-const WORDS: &str = "the words after the program's name are not the one word replay \
-    (usage: nextest_run replay < INPUT, or nextest_run --help or --version)";
+const WORDS: &str = "the words after the program's name are not the one word live or replay \
+    (usage: nextest_run live < PLAN, nextest_run replay < INPUT, or nextest_run --help or --version)";
 
 const LINE: &str = "a line of the input is not as docs/FORMATS.md says, and no turn was taken: \
     the fault's \"line\" is the number of the first such line, counted from 1, so that the plan \
@@ -76,6 +87,10 @@ const READ: &str = "a read of standard input failed, and no turn was taken";
 
 const MEMORY: &str = "memory was wanting, and nothing is claimed of what was written";
 
+const RECEIPT: &str =
+    "the turns that the workers took are not those of the run's journal, so that nothing is \
+    claimed of what was written: this is a fault of the program";
+
 const TOO_LONG: &str = "the input has more than 16,777,216 bytes (16 MiB), and no turn was taken";
 
 // What a status that is a fault means, and how the number in the fault's line is counted.
@@ -91,6 +106,7 @@ fn meaning(status: u8) -> Option<&'static str> {
         10 => Some(READ),
         11 => Some(MEMORY),
         12 => Some(TOO_LONG),
+        13 => Some(RECEIPT),
         _ => None,
     }
 }
@@ -102,11 +118,14 @@ fn explain(rt: &HostRuntime, status: u8) {
     }
 }
 
-// Carries out a run from the standard input to the standard output, and answers its status.
-fn replay(rt: &HostRuntime, words: &[String]) -> u8 {
+// Carries out or runs what the standard input says, writes to the standard output, and answers the status.
+fn run_words(rt: &HostRuntime, words: &[String]) -> u8 {
     let mut source = StdSource::new(rt.stdin());
     let sink = StdSink::new(rt.stdout());
-    let Ran { status, sink: _ } = run(rt.alloc(), words, &mut source, sink);
+    let mut host = StdHost::new(*rt);
+    let (ran, live) = run(rt, rt.alloc(), words, &mut source, sink, &mut host);
+    drop(live);
+    let Ran { status, sink: _ } = ran;
     status
 }
 
@@ -122,7 +141,7 @@ fn status_of_words(rt: &HostRuntime, words: &[String]) -> u8 {
     match words {
         [word] if word.as_str() == "--help" => print(rt, HELP),
         [word] if word.as_str() == "--version" => print(rt, VERSION),
-        _ => replay(rt, words),
+        _ => run_words(rt, words),
     }
 }
 
@@ -138,7 +157,7 @@ fn words_given(rt: &HostRuntime) -> io::Result<Vec<String>> {
 // Words that could not be copied for want of memory end the program as that; others are no text, and bad words.
 fn without_words(rt: &HostRuntime, error: &io::Error) -> u8 {
     if error.kind() != io::ErrorKind::OutOfMemory {
-        return replay(rt, &[]);
+        return run_words(rt, &[]);
     }
     let _ = println!(rt; "{MEMORY_LINE}");
     11

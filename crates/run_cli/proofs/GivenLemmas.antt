@@ -12,7 +12,9 @@ use Rattle.run_events.specs.declared.plan.RunHead.{RunHead}
 use Rattle.run_events.specs.declared.signal.SignalHandlerKind.{SignalHandlerKind}
 use Rattle.run_events.specs.declared.turn.Turn.{Turn}
 use Rattle.run_events.specs.declared.outcome.RunOutcome.{RunOutcome}
-use Rattle.run_model.specs.Journal.{past_of, outcome}
+use Rattle.run_events.specs.declared.settings.Settings.{Settings}
+use Rattle.run_model.specs.declared.entry.Entry.{Entry}
+use Rattle.run_model.specs.Journal.{past_of, IsLegal, outcome}
 use Rattle.run_laws.specs.Course.{turns_of as journal_turns}
 use Rattle.run_laws.proofs.FateLemmas.{ended_fates, over_ended}
 use Rattle.run_laws.proofs.Outcomes.{over_is}
@@ -37,7 +39,7 @@ use Rattle.run_cli.specs.Call.{Call, Reading, Writing, Writes}
 use Rattle.run_cli.specs.Plans.{builder_of, settings_for, refusal_for, fault_of_plan}
 use Rattle.run_cli.specs.Text.{fault_only}
 use Rattle.run_cli.specs.Given.{IsReplay, IsGiven, IsGivenFault, CountsRead, CountsReadAtEnd}
-use Rattle.run_cli.specs.Ending.{Replays, IsWhole, StopsBefore, IsEnding}
+use Rattle.run_cli.specs.Ending.{Replays, IsFinished, IsWhole, StopsBefore, IsEnding}
 use Rattle.run_cli.specs.Finish.{EndsAtFault, IsReplayed, IsReplayEnding, IsInputEnding}
 
 -- no more lines than bytes
@@ -61,7 +63,7 @@ then_some None f y e = cc
 then_some (Some x) f y e = (x, refl, e)
 
 -- as many turns as lines
-turns_length : (lines : List (List ℕ)) (turns : List Turn) → turns_of lines ≡ Some turns → length turns ≡ length lines
+pub turns_length : (lines : List (List ℕ)) (turns : List Turn) → turns_of lines ≡ Some turns → length turns ≡ length lines
 turns_length [] turns e = cc
 turns_length (line ∷ lines) turns e =
     let one = then_some (turn_line_of line) (λ turn. option_and_then (λ turns. Some (turn ∷ turns)) (turns_of lines))
@@ -146,16 +148,19 @@ given_few r keys plan turns g = by_lines (lines_of g.bytes) refl g.says
         let same : length (lines_of g.bytes) ≡ length (first ∷ others) = ap length e in
         (few, omega (arith, lines_length g.bytes, g.within))
 
+-- a run that has an outcome is finished
+pub finished : (p : Settings) (journal : List Entry) (o : RunOutcome) → IsLegal p journal
+    → outcome p (past_of p journal) ≡ Some o → IsFinished p journal o
+finished p journal o legal e = record {
+  over = e;
+  accounts = ended_fates p (reverse journal) legal;
+  ended = over_ended p (reverse journal) legal (over_is p (past_of p journal) o e);
+}
+
 -- a run that took every turn and has an outcome is whole
 whole : (c : Call) (r : Replays c) (o : RunOutcome) → journal_turns r.journal ≡ r.turns
     → outcome (settings_for r.keys r.plan) (past_of (settings_for r.keys r.plan) r.journal) ≡ Some o → IsWhole r o
-whole c r o all e = record {
-  all = all;
-  over = e;
-  accounts = ended_fates (settings_for r.keys r.plan) (reverse r.journal) r.legal;
-  ended = over_ended (settings_for r.keys r.plan) (reverse r.journal) r.legal
-      (over_is (settings_for r.keys r.plan) (past_of (settings_for r.keys r.plan) r.journal) o e);
-}
+whole c r o all e = record { all = all; finished = finished (settings_for r.keys r.plan) r.journal o r.legal e }
 
 -- the call whose input was good, with what its run has taken
 replays : (c : Call) (keys : RunnerKeys) (plan : Plan) (turns : List Turn) → IsReplay c.words

@@ -4,3 +4,7 @@ pub mod EndLemmas
 pub mod GivenLemmas
 pub mod StatusLemmas
 pub mod CauseLemmas
+pub mod LivedLemmas
+pub mod RunEndLemmas
+pub mod LiveLemmas
+pub mod LiveCauses

@@ -51,7 +51,7 @@ one_whole event None later bytes line rest others none is same e =
 one_whole event (Some d) later bytes line rest others none is same e = cc
 
 -- where no event was refused, the lines are whole
-lines_whole : {E : Type 0} (ys : List (ReporterEvent × Option E)) (bytes : List ℕ) → first_error ys ≡ None
+pub lines_whole : {E : Type 0} (ys : List (ReporterEvent × Option E)) (bytes : List ℕ) → first_error ys ≡ None
     → AreLines ys bytes
     → bytes ≡ event_lines (map (λ y. y.0) ys)
 lines_whole [] bytes none lines = lines
@@ -60,7 +60,7 @@ lines_whole (y ∷ ys) bytes none lines =
     (λ none. lines_whole ys lines.1 none lines.3) lines.4
 
 -- the marks of events leave the events
-flags_first : {X E : Type 0} (ys : List (X × Option E)) → map (λ x. x.0) (map flagged ys) ≡ map (λ y. y.0) ys
+pub flags_first : {X E : Type 0} (ys : List (X × Option E)) → map (λ x. x.0) (map flagged ys) ≡ map (λ y. y.0) ys
 flags_first [] = refl
 flags_first (y ∷ ys) = ap (λ zs. y.0 ∷ zs) (flags_first ys)
 
@@ -75,7 +75,7 @@ first_refused (y ∷ ys) = by_error y.1 (first_refused ys)
     by_error (Some d) h = refl
 
 -- a run whose events the sink took, from what the reporter told
-pub executed_from : (p : Settings) (turns : List Turn) (w : Writing) (refusals : ℕ) (asks : List (ℕ × Ask))
+unfoldable pub executed_from : (p : Settings) (turns : List Turn) (w : Writing) (refusals : ℕ) (asks : List (ℕ × Ask))
     (answer : Result RunOutcome (TestRunnerExecuteErrors Failed)) (journal : List Entry) (refusal : Option Failed)
     (ys : List (ReporterEvent × Option Failed))
     → IsRunnable p journal → IsAnswerOf p turns journal refusal answer → is_none refusal ≡ none_refused journal

@@ -43,15 +43,19 @@ settings_in r = settings_for r.keys r.plan
 abbrev pub history_in : {c : Call} → Replays c → List Happening
 history_in r = past_of (settings_for r.keys r.plan) r.journal
 
--- the run took every turn of the input and is over with this outcome, and each script and each test of the plan has its
--- fate in each sub-run that has ended, the newest among them: a test that doesn't match was skipped once; any other, and
--- any script, was started and finished once, by its own turns' results, or, exactly where a cause came first, was never
--- started or was left there
+-- a run of this journal is over with this outcome, and each script and each test of the plan has its fate in each sub-run
+-- that has ended, the newest among them: a test that doesn't match was skipped once; any other, and any script, was
+-- started and finished once, by its own turns' results, or, exactly where a cause came first, was never started or was
+-- left there
+pub record IsFinished (p : Settings) (journal : List Entry) (o : RunOutcome) : Type 0 where
+  pub over : outcome p (past_of p journal) ≡ Some o
+  pub accounts : All (HaveFates p) (ended_runs (past_of p journal))
+  pub ended : Contains (ended_runs (past_of p journal)) (sub_run (past_of p journal))
+
+-- the run took every turn of the input and is finished so
 pub record IsWhole {c : Call} (r : Replays c) (o : RunOutcome) : Type 0 where
   pub all : turns_of r.journal ≡ r.turns
-  pub over : outcome (settings_in r) (history_in r) ≡ Some o
-  pub accounts : All (HaveFates (settings_in r)) (ended_runs (history_in r))
-  pub ended : Contains (ended_runs (history_in r)) (sub_run (history_in r))
+  pub finished : IsFinished (settings_in r) r.journal o
 
 -- the sink, which failed, took the lines of the told events, each whole or a front part of it, and a front part of the
 -- rest: the lines of asks and of the outcome, or where an event was refused of the fault

@@ -1,5 +1,5 @@
 -- What the words and the source give.
-use Rattle.std.specs.Prelude.{ℕ, ◌≡◌, ◌≤◌, ◌<◌, List, [], ◌∷◌, length, Result, Ok, Err, codes}
+use Rattle.std.specs.Prelude.{ℕ, ◌≡◌, ◌≤◌, ◌<◌, List, [], ◌∷◌, length, Result, Ok, Err, codes, ⊤}
 use Rattle.run_capture.specs.Bytes.{AtEnd}
 use Rattle.run_input.specs.declared.plan_line.RunnerKeys.{RunnerKeys}
 use Rattle.run_events.specs.declared.plan.Plan.{Plan}
@@ -17,6 +17,12 @@ IsReplay words = words ≡ codes "replay" ∷ []
 -- the most bytes that an input may have
 abbrev pub input_limit : ℕ
 input_limit = 16777216
+
+-- the source was read to its end, and these are its bytes
+pub record IsAllOf (r : Reading) (bytes : List ℕ) : Type 0 where
+  pub given : HasGiven r bytes
+  pub end : AtEnd r.left_after
+  pub within : length bytes ≤ input_limit
 
 -- the source was read to its end, and its lines say a plan and its turns
 pub record IsGiven (r : Reading) (keys : RunnerKeys) (plan : Plan) (turns : List Turn) : Type 0 where
@@ -38,6 +44,13 @@ abbrev pub HasBadLine : Reading → ℕ → Type 0
 HasBadLine r number =
     (bytes : List ℕ) × HasGiven r bytes × AtEnd r.left_after × (length bytes ≤ input_limit)
     × IsFirstBad (lines_of bytes) number
+
+-- why a source was not read to its end
+abbrev pub IsUnread : Reading → Fault → Type 0
+IsUnread r Read = IsWithin r
+IsUnread r TooLong = IsTooLong r
+IsUnread r Memory = ⊤
+IsUnread r _ = ⊥
 
 -- what each fault before the run says of the words and the source
 abbrev pub IsGivenFault : List (List ℕ) → Reading → Fault → Type 0

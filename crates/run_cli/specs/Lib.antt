@@ -8,3 +8,7 @@ pub mod Ending
 pub mod Finish
 pub mod Status
 pub mod Cause
+pub mod LiveGiven
+pub mod Live
+pub mod Lived
+pub mod Receipts

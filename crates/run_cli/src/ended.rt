@@ -5,13 +5,14 @@ ghost use Rattle.run_events.specs.declared.turn.Turn.{Turn};
 ghost use Rattle.run_engine.specs.Execution.{UnlessMemory};
 ghost use Rattle.run_cli.specs.Call.{Writing, writing, joined};
 ghost use Rattle.run_cli.specs.Executed.{IsExecuted};
+ghost use Rattle.run_cli.specs.Text.{outcome_status};
 ghost use Rattle.run_cli.specs.Finish.{fault_of_error, EndsAtFault, EndsAtOutcome, IsReplayEnding};
 
 use crate::execution::{Executed, execute};
 use crate::write::{WriteError, write_fault, write_outcome};
-use run_capture::{Failed, Sink};
+use run_capture::{Failed, Sink, write_all};
 use run_engine::{TestRunner, TestRunnerExecuteErrors};
-use run_events::{Ask, RunOutcome, Turn};
+use run_events::{Ask, RunOutcome, RunStep, Turn};
 use run_output::Fault;
 use std::alloc::Global;
 
@@ -19,6 +20,38 @@ use std::alloc::Global;
 pub struct Ended<K> {
     pub ending: Result<RunOutcome, Fault>,
     pub sink: K,
+}
+
+/// The status of an outcome.
+pub fn status_of_outcome(outcome: RunOutcome) -> u8
+    ensures { result ≡ outcome_status outcome }
+{
+    match outcome {
+        RunOutcome::Success => 0,
+        RunOutcome::NoTestsRun => 4,
+        RunOutcome::Failed {
+            step: RunStep::Test,
+        }
+        | RunOutcome::Cancelled {
+            step: RunStep::Test,
+        } => 100,
+        RunOutcome::Failed {
+            step: RunStep::SetupScript,
+        }
+        | RunOutcome::Cancelled {
+            step: RunStep::SetupScript,
+        } => 105,
+    }
+}
+
+// The line of want of memory, which takes none.
+const MEMORY_LINE: &[u8] = b"{\"fault\":\"memory\",\"status\":11}\n";
+
+// Says that memory was wanting, where the sink takes that.
+fn end_for_memory<K: Sink>(sink: &mut K)
+    ensures { K.faults sink.old ≤ K.faults sink.new }
+{
+    let _ = write_all(sink, MEMORY_LINE);
 }
 
 /// Writes asks and a fault. A write that fails leaves the fault as it is.
@@ -29,13 +62,16 @@ pub fn end_at_fault<K: Sink>(alloc: Global, sink: K, asks: &[(u64, Ask)], fault:
     let ending = match write_fault(alloc, &mut sink, asks, fault) {
         Ok(()) => Err(fault),
         Err(WriteError::Failed) => Err(fault),
-        Err(WriteError::OutOfMemory) => Err(Fault::Memory),
+        Err(WriteError::OutOfMemory) => {
+            end_for_memory(&mut sink);
+            Err(Fault::Memory)
+        }
     };
     Ended { ending, sink }
 }
 
 /// Writes asks and an outcome. A write that fails makes the outcome a fault.
-fn end_at_outcome<K: Sink>(
+pub fn end_at_outcome<K: Sink>(
     alloc: Global,
     sink: K,
     asks: &[(u64, Ask)],
@@ -48,7 +84,10 @@ fn end_at_outcome<K: Sink>(
     let ending = match write_outcome(alloc, &mut sink, asks, outcome) {
         Ok(()) => Ok(outcome),
         Err(WriteError::Failed) => Err(Fault::Report),
-        Err(WriteError::OutOfMemory) => Err(Fault::Memory),
+        Err(WriteError::OutOfMemory) => {
+            end_for_memory(&mut sink);
+            Err(Fault::Memory)
+        }
     };
     Ended { ending, sink }
 }

@@ -1,20 +1,45 @@
 // What the words and the source give.
 ghost use Rattle.std.specs.Prelude.{◌≡◌, ◌↔◌, ◌∷◌, [], map, IfOk, IfErr, IsTrue, string_bytes};
 ghost use Rattle.run_cli.specs.Call.{reading};
-ghost use Rattle.run_cli.specs.Given.{IsReplay, IsGiven, IsGivenFault, CountsRead};
+ghost use Rattle.run_cli.specs.Given.{IsReplay, IsGiven, IsAllOf, IsUnread, IsGivenFault, CountsRead};
+ghost use Rattle.run_cli.specs.LiveGiven.{IsLiveWord, IsLineFault};
 
-use run_capture::Source;
-use run_input::{Input, InputError, ReadAllError, read_all, read_input};
+use run_capture::{Blob, Source};
+use run_events::Plan;
+use run_input::{
+    Input, InputError, ReadAllError, RunnerKeys, read_all, read_input, read_plan_alone,
+};
 use run_output::Fault;
 use std::alloc::Global;
 
-// Whether the words are the one that names the command.
-fn is_replay(words: &[String]) -> bool
-    ensures { IsTrue result ↔ IsReplay (map (λ w. string_bytes w) words.now) }
+// Whether the words are this one.
+fn is_word(words: &[String], name: &str) -> bool
+    ensures { IsTrue result ↔ (map (λ w. string_bytes w) words.now ≡ name.now ∷ []) }
 {
     match words {
-        [word] => word.as_str() == "replay",
+        [word] => word.as_str() == name,
         _ => false,
+    }
+}
+
+/// Whether the words are the one that names the command `live`.
+pub fn is_live(words: &[String]) -> bool
+    ensures { IsTrue result ↔ IsLiveWord (map (λ w. string_bytes w) words.now) }
+{
+    is_word(words, "live")
+}
+
+// The bytes of a source, or why there are none.
+fn read_bytes<S: Source>(alloc: Global, source: &mut S) -> Result<Blob, Fault>
+    ensures ok { IfOk result (λ bytes. IsAllOf (reading S.left S.faults source.old source.new) bytes) }
+    ensures refused { IfErr result (IsUnread (reading S.left S.faults source.old source.new)) }
+    ensures counted { CountsRead (reading S.left S.faults source.old source.new) result }
+{
+    match read_all(alloc, source) {
+        Ok(bytes) => Ok(bytes),
+        Err(ReadAllError::Failed) => Err(Fault::Read),
+        Err(ReadAllError::TooLong) => Err(Fault::TooLong),
+        Err(ReadAllError::OutOfMemory) => Err(Fault::Memory),
     }
 }
 
@@ -31,17 +56,33 @@ pub fn read_given<S: Source>(
         (reading S.left S.faults source.old source.new)) }
     ensures counted { CountsRead (reading S.left S.faults source.old source.new) result }
 {
-    if !is_replay(words) {
+    if !is_word(words, "replay") {
         return Err(Fault::Words);
     }
-    let bytes = match read_all(alloc, source) {
+    let bytes = match read_bytes(alloc, source) {
         Ok(bytes) => bytes,
-        Err(ReadAllError::Failed) => return Err(Fault::Read),
-        Err(ReadAllError::TooLong) => return Err(Fault::TooLong),
-        Err(ReadAllError::OutOfMemory) => return Err(Fault::Memory),
+        Err(fault) => return Err(fault),
     };
     match read_input(alloc, bytes.as_slice()) {
         Ok(input) => Ok(input),
+        Err(InputError::Line { line }) => Err(Fault::Line { line }),
+        Err(InputError::OutOfMemory) => Err(Fault::Memory),
+    }
+}
+
+/// The plan that the source's one line says, or why there is none.
+pub fn read_plan<S: Source>(alloc: Global, source: &mut S) -> Result<(RunnerKeys, Plan), Fault>
+    ensures given { IfOk result (λ said. IsGiven (reading S.left S.faults source.old source.new) said.0 said.1
+        []) }
+    ensures refused { IfErr result (IsLineFault (reading S.left S.faults source.old source.new)) }
+    ensures counted { CountsRead (reading S.left S.faults source.old source.new) result }
+{
+    let bytes = match read_bytes(alloc, source) {
+        Ok(bytes) => bytes,
+        Err(fault) => return Err(fault),
+    };
+    match read_plan_alone(alloc, bytes.as_slice()) {
+        Ok(said) => Ok(said),
         Err(InputError::Line { line }) => Err(Fault::Line { line }),
         Err(InputError::OutOfMemory) => Err(Fault::Memory),
     }

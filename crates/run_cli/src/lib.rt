@@ -6,13 +6,22 @@
 mod ended;
 mod execution;
 mod given;
+mod live;
 mod plan_line;
+mod receipts;
 mod top;
 mod write;
 
+pub use live::LiveEnding;
 pub use plan_line::read_plan_line;
 // The rest of the given surface stands in the crates below.
 pub use run_capture::{StdSink, StdSource};
+pub use run_drive::{
+    Begun, Host, MemoryHost, MemorySpawner, MemoryTicker, Said, Spawner, Ticker, drive,
+};
 pub use run_input::{InputError, LineError, read_turn_line};
-pub use run_output::{Fault, LineReporter, ask_line, event_line, fault_line, outcome_line};
+pub use run_live::Live;
+pub use run_output::{
+    Fault, LineReporter, ask_line, event_line, fault_line, outcome_line, turn_line,
+};
 pub use top::{Ran, run};

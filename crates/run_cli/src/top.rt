@@ -1,5 +1,5 @@
 // The top call: all that the program does.
-ghost use Rattle.std.specs.Prelude.{◌≡◌, ◌+◌, ◌<◌, ◌^◌, map, length, string_bytes};
+ghost use Rattle.std.specs.Prelude.{◌≡◌, ◌+◌, ◌<◌, ◌^◌, ℕ, List, map, length, string_bytes, None};
 ghost use Rattle.run_cli.specs.Call.{reading, writing, call_of};
 ghost use Rattle.run_cli.specs.Plans.{fault_of_plan};
 ghost use Rattle.run_cli.specs.Given.{CountsReadAtEnd};
@@ -7,42 +7,28 @@ ghost use Rattle.run_cli.specs.Finish.{IsInputEnding};
 ghost use Rattle.run_cli.specs.Ending.{IsEnding};
 ghost use Rattle.run_cli.specs.Text.{status_of, outcome_status};
 ghost use Rattle.run_cli.specs.Status.{Answers};
+ghost use Rattle.run_cli.specs.LiveGiven.{IsLiveWord};
+ghost use Rattle.run_cli.specs.Live.{unheard, IsPlanEnd, IsLiveEnd, CountsLive, AnswersLive};
 
-use crate::ended::{Ended, end_at_fault, replay};
-use crate::given::read_given;
+use crate::ended::{Ended, end_at_fault, replay, status_of_outcome};
+use crate::given::{is_live, read_given, read_plan};
+use crate::live::{LiveEnded, end_without_run, run_live};
 use crate::plan_line::builder_of;
 use run_capture::{Sink, Source};
+use run_drive::Host;
 use run_engine::TestRunnerBuildError;
-use run_events::{RunOutcome, RunStep};
-use run_input::Input;
+use run_events::{InputHandlerKind, Plan, RunOutcome, SignalHandlerKind};
+use run_input::{Input, RunnerKeys};
+use run_live::Live;
 use run_output::{Fault, PlanFault};
 use std::alloc::Global;
+use std::sync::Wait;
+use std::thread::Threads;
 
 /// What the program ends with: its status, and the sink that it wrote to.
 pub struct Ran<K> {
     pub status: u8,
     pub sink: K,
-}
-
-fn status_of_outcome(outcome: RunOutcome) -> u8
-    ensures { result ≡ outcome_status outcome }
-{
-    match outcome {
-        RunOutcome::Success => 0,
-        RunOutcome::NoTestsRun => 4,
-        RunOutcome::Failed {
-            step: RunStep::Test,
-        }
-        | RunOutcome::Cancelled {
-            step: RunStep::Test,
-        } => 100,
-        RunOutcome::Failed {
-            step: RunStep::SetupScript,
-        }
-        | RunOutcome::Cancelled {
-            step: RunStep::SetupScript,
-        } => 105,
-    }
 }
 
 fn status_of_ending(ending: Result<RunOutcome, Fault>) -> u8
@@ -106,12 +92,56 @@ fn run_to_end<S: Source, K: Sink>(
     }
 }
 
-/// Does all that the program does: reads the words and the source, builds the run of its plan, carries out the turns,
-/// writes the lines to the sink, and answers the status. Lines come as events are told, then the asks, then the outcome
-/// or the fault. What each status says and what status each cause gives stands in `Answers`, the headline first: where
-/// the status is that of an outcome, each setup script and each test of the plan has its fate. Want of memory may come
-/// at any point, and is status 11.
-pub fn run<S: Source, K: Sink>(alloc: Global, words: &[String], source: &mut S, sink: K) -> Ran<K>
+// The plan of a run that hears no signal and no key, since none reaches it.
+fn unheard(plan: Plan) -> Plan
+    ensures { result ≡ unheard plan }
+{
+    let mut plan = plan;
+    plan.hearing.signals = SignalHandlerKind::Noop;
+    plan.hearing.input = InputHandlerKind::Noop;
+    plan
+}
+
+// Runs a plan by workers.
+fn live_plan<K: Sink + Send, H: Host, X: Threads + Wait + Sync>(
+    rt: &X,
+    alloc: Global,
+    said: (RunnerKeys, Plan),
+    sink: K,
+    host: &mut H,
+) -> LiveEnded<K, H::Worker>
+    requires { length said.1.scripts + length said.1.tests < 2 ^ 32 }
+    ensures { IsPlanEnd H.Worker.has_said said.0 said.1 (writing K.taken K.faults sink result.sink) result.live
+        result.ending }
+{
+    let (keys, plan) = said;
+    match builder_of(keys).build(alloc, unheard(plan)) {
+        Ok(runner) => run_live(rt, alloc, runner, sink, host),
+        Err(error) => end_without_run(alloc, sink, fault_of_plan(error)),
+    }
+}
+
+// Does all that the program does for `live`, and answers how it ended.
+fn live_to_end<S: Source, K: Sink + Send, H: Host, X: Threads + Wait + Sync>(
+    rt: &X,
+    alloc: Global,
+    source: &mut S,
+    sink: K,
+    host: &mut H,
+) -> LiveEnded<K, H::Worker>
+    ensures says { (words : List (List ℕ)) → IsLiveWord words → IsLiveEnd H.Worker.has_said
+        (call_of words (reading S.left S.faults source.old source.new) (writing K.taken K.faults sink result.sink))
+        result.live result.ending }
+    ensures counted { CountsLive (reading S.left S.faults source.old source.new) result.ending }
+{
+    match read_plan(alloc, source) {
+        Ok(said) => live_plan(rt, alloc, said, sink, host),
+        Err(fault) => end_without_run(alloc, sink, fault),
+    }
+}
+
+// Carries out recorded turns.
+fn replayed<S: Source, K: Sink>(alloc: Global, words: &[String], source: &mut S, sink: K) -> Ran<K>
     ensures { Answers (call_of (map (λ w. string_bytes w) words.now) (reading S.left S.faults source.old source.new)
         (writing K.taken K.faults sink result.sink)) result.status }
 {
@@ -119,5 +149,53 @@ pub fn run<S: Source, K: Sink>(alloc: Global, words: &[String], source: &mut S, 
     Ran {
         status: status_of_ending(ending),
         sink,
+    }
+}
+
+// Runs a plan by workers, and answers with what is left of the run.
+fn lived<S: Source, K: Sink + Send, H: Host, X: Threads + Wait + Sync>(
+    rt: &X,
+    alloc: Global,
+    source: &mut S,
+    sink: K,
+    host: &mut H,
+) -> (Ran<K>, Option<Live<H::Worker>>)
+    ensures { (words : List (List ℕ)) → IsLiveWord words → AnswersLive H.Worker.has_said
+        (call_of words (reading S.left S.faults source.old source.new) (writing K.taken K.faults sink result.0.sink))
+        result.1 result.0.status }
+{
+    let LiveEnded { ending, sink, live } = live_to_end(rt, alloc, source, sink, host);
+    let ran = Ran {
+        status: ending.status(),
+        sink,
+    };
+    (ran, live)
+}
+
+/// Does all that the program does. It answers the status with the sink, and after `live` what is left of the run, but
+/// where none was made or memory was wanting. Lines go to the sink as events are told, then the asks, then the outcome or
+/// the fault. What each status says and what status each cause gives stands in `Answers`, the headline first: where the
+/// status is that of an outcome, each setup script and each test of the plan has its fate. `AnswersLive` has the same of
+/// `live`, whose turns are those of the journal that is handed back. Want of memory may come at any point, and is status
+/// 11.
+pub fn run<S: Source, K: Sink + Send, H: Host, X: Threads + Wait + Sync>(
+    rt: &X,
+    alloc: Global,
+    words: &[String],
+    source: &mut S,
+    sink: K,
+    host: &mut H,
+) -> (Ran<K>, Option<Live<H::Worker>>)
+    ensures replay { ¬ IsLiveWord (map (λ w. string_bytes w) words.now) →
+        Answers (call_of (map (λ w. string_bytes w) words.now) (reading S.left S.faults source.old source.new)
+        (writing K.taken K.faults sink result.0.sink)) result.0.status × (result.1 ≡ None) }
+    ensures live { IsLiveWord (map (λ w. string_bytes w) words.now) → AnswersLive H.Worker.has_said
+        (call_of (map (λ w. string_bytes w) words.now) (reading S.left S.faults source.old source.new)
+        (writing K.taken K.faults sink result.0.sink)) result.1 result.0.status }
+{
+    if is_live(words) {
+        lived(rt, alloc, source, sink, host)
+    } else {
+        (replayed(alloc, words, source, sink), None)
     }
 }

@@ -44,8 +44,8 @@ impl From<Failed> for WriteError {
     }
 }
 
-// Writes a line.
-fn write_line<K: Sink>(alloc: Global, sink: &mut K, line: Text) -> Result<(), WriteError>
+/// Writes a line.
+pub fn write_line<K: Sink>(alloc: Global, sink: &mut K, line: Text) -> Result<(), WriteError>
     ensures ok { OnOk result (Takes (K.taken sink.old) (K.taken sink.new) (line_of line)) }
     ensures front { OnErr result (TakesFront (K.taken sink.old) (K.taken sink.new) (line_of line)) }
     ensures counted { CountsWrite (K.faults sink.old) (K.faults sink.new) result }

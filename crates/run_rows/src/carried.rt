@@ -2,6 +2,7 @@
 use crate::table::{Row, Streams};
 use run_capture::{Blob, List, MemorySink, MemorySource, OutOfMemory};
 use run_cli::{Ran, run};
+use run_drive::{MemoryHost, MemoryTicker};
 use std::alloc::{AllocError, Global};
 use std::{fs, io};
 
@@ -80,7 +81,10 @@ pub fn answer_of(rt: &HostRuntime, row: &Row, wanted: usize) -> io::Result<Answe
     let words = words_of(alloc, row)?;
     let mut source = source_of(alloc, input.as_slice(), row.streams).map_err(wanting)?;
     let sink = sink_of(alloc, wanted.saturating_add(4096), row.streams).map_err(wanting)?;
-    let Ran { status, sink } = run(alloc, words.as_slice(), &mut source, sink);
+    let mut host = MemoryHost::new(List::new(), MemoryTicker::new(List::new()), 0);
+    let (ran, live) = run(rt, alloc, words.as_slice(), &mut source, sink, &mut host);
+    drop(live);
+    let Ran { status, sink } = ran;
     let mut written = Vec::new(alloc);
     written.extend_from_slice(sink.bytes())?;
     Ok(Answer { status, written })

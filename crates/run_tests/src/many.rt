@@ -1,6 +1,7 @@
 // A run of many tests, one after another.
 use run_capture::{Blob, List, Mem, MemorySink, MemorySource};
 use run_cli::{Ran, run};
+use run_drive::{MemoryHost, MemoryTicker};
 use std::alloc::Global;
 
 const TESTS: u32 = 20_000;
@@ -56,11 +57,15 @@ fn words(alloc: Global) -> Mem<Vec<String>> {
 }
 
 // Whether all of them pass, with two events and an ask each, the run's two events and the outcome.
-fn all_pass(alloc: Global) -> Mem<bool> {
+fn all_pass(rt: &HostRuntime) -> Mem<bool> {
+    let alloc = rt.alloc();
     let words = words(alloc)?;
     let mut source = MemorySource::new(input(alloc)?, 65_536, List::new());
     let sink = MemorySink::new(alloc, 32_000_000, 65_536, List::new())?;
-    let Ran { status, sink } = run(alloc, words.as_slice(), &mut source, sink);
+    let mut host = MemoryHost::new(List::new(), MemoryTicker::new(List::new()), 0);
+    let (ran, live) = run(rt, alloc, words.as_slice(), &mut source, sink, &mut host);
+    drop(live);
+    let Ran { status, sink } = ran;
     let written = sink.bytes();
     let count = written.iter().filter(|byte| **byte == b'\n').count();
     Ok(status == 0 && count == 60_003 && written.ends_with(b"{\"outcome\":\"success\"}\n"))
@@ -68,5 +73,5 @@ fn all_pass(alloc: Global) -> Mem<bool> {
 
 #[test]
 fn twenty_thousand_tests(rt: HostRuntime) {
-    assert!(rt; all_pass(rt.alloc()).unwrap_or(false));
+    assert!(rt; all_pass(&rt).unwrap_or(false));
 }

@@ -1,7 +1,7 @@
 use Rattle.std.proofs.Common.{sym, subst}
 use Rattle.run_cli.specs.Status.{Answers}
 use Rattle.run_cli.proofs.StatusLemmas.{answers}
-use Rattle.run_cli.proofs.top.run.Goals as goal
+use Rattle.run_cli.proofs.top.replayed.Goals as goal
 
 pub returns : goal.returns
 returns g c =

@@ -1,0 +1,145 @@
+-- The last lines of a run of workers.
+use Rattle.std.proofs.Common.{◌≡◌, ℕ, ◌<◌, ◌≤◌, ◌^◌, inl, inr, List, ◌++◌, length, Bool, true, false, if◌then◌else◌}
+use Rattle.std.proofs.Common.{Option, Some, None, is_none, IsSome, Result, Ok, Err, refl, ap, sym, subst, ◌∙◌, arith}
+use Rattle.std.specs.Option.{IsNone, IfSome, IsSomeAnd}
+use Rattle.run_capture.specs.Faults.{Rose}
+use Rattle.run_events.specs.declared.settings.Settings.{Settings}
+use Rattle.run_events.specs.declared.ask.Ask.{Ask}
+use Rattle.run_events.specs.declared.outcome.RunOutcome.{RunOutcome}
+use Rattle.run_model.specs.Words.{is_over}
+use Rattle.run_model.specs.Journal.{past_of, outcome}
+use Rattle.run_laws.specs.Course.{turns_of}
+use Rattle.run_laws.proofs.Outcomes.{over_outcome}
+use Rattle.run_engine.specs.Standing.{IsRunnable}
+use Rattle.run_engine.specs.World.{first_error}
+use Rattle.run_engine.specs.declared.errors.TestRunnerExecuteErrors.TheVariants as engine
+use Rattle.run_output.specs.declared.fault.Fault.{Fault}
+use Rattle.run_output.specs.declared.fault.Fault.TheVariants.{Words, Line, Plan as BadPlan, NotEnabled, ThirdSignal}
+use Rattle.run_output.specs.declared.fault.Fault.TheVariants.{Unfinished, Report, Read, Memory, TooLong}
+use Rattle.run_output.specs.Fields.{line_of}
+use Rattle.run_output.specs.Outcomes.{outcome_text}
+use Rattle.run_drive.specs.declared.spawner.Heard.{Heard}
+use Rattle.run_live.specs.declared.lived.Live.{Live}
+use Rattle.run_cli.specs.Call.{Writing, joined, HasTaken, Writes}
+use Rattle.run_cli.specs.Text.{ask_lines, fault_only}
+use Rattle.run_cli.specs.Executed.{IsExecuted}
+use Rattle.run_cli.specs.Ending.{IsFinished}
+use Rattle.run_cli.specs.Finish.{EndsAtFault, EndsAtOutcome}
+use Rattle.run_cli.specs.Live.{IsClosed, IsRunEnd}
+use Rattle.run_cli.specs.Lived.{IsOver, EndsOver, IsOpenFault, ending_of, kept_by}
+use Rattle.run_cli.proofs.EndLemmas.{rose_then, some_is, whole_text, took_parts, report_of}
+use Rattle.run_cli.proofs.GivenLemmas.{finished}
+use Rattle.run_cli.proofs.ToldLines.{executed_from}
+use Rattle.run_cli.proofs.LivedLemmas.{executed_calm, executed_rough, rough_error}
+
+-- a run that is over and had no event refused, after its outcome
+pub calm_ends : {W : Type 0} (said : W → List Heard → Type 0) (p : Settings) (w v : Writing) (n : ℕ) (l : Live W)
+    (asks : List (ℕ × Ask)) (o : RunOutcome) (ending : Result RunOutcome Fault) → v.taken ≡ w.taken_after
+    → v.faults ≡ w.faults_after → IsClosed said p l → IsOver p w n l.journal asks o false
+    → EndsAtOutcome v asks o ending → IsRunEnd said p (joined w v) (kept_by ending l) (ending_of ending)
+unfolding executed_calm executed_from
+calm_ends said p w v n l asks o (Ok e) on from closed x h =
+    let run : IsExecuted p (turns_of l.journal) w asks (Ok o) = executed_calm p w n l.journal asks o x in
+    let text = whole_text p (turns_of l.journal) w v asks (Ok o) (line_of (outcome_text e)) on run refl
+    (subst (λ u. HasTaken v (ask_lines asks ++ line_of (outcome_text u))) (sym h.0) h.1) in
+    let over : outcome p (past_of p l.journal) ≡ Some e = x.over ∙ ap Some (sym h.0) in
+    ((closed, finished p l.journal e closed.legal over, text), h.2 ∙ from ∙ run.quiet refl)
+calm_ends said p w v n l asks o (Err Report) on from closed x h =
+    let run : IsExecuted p (turns_of l.journal) w asks (Ok o) = executed_calm p w n l.journal asks o x in
+    let parts = report_of p (turns_of l.journal) w v asks (Ok o) run o true refl
+    (took_parts p (turns_of l.journal) w v asks (Ok o) (line_of (outcome_text o)) on run h.1) in (
+      (closed, (o, finished p l.journal o closed.legal x.over, parts)),
+      subst (λ n. Rose n v.faults_after) (from ∙ run.quiet refl) h.0,
+    )
+calm_ends said p w v n l asks o (Err Memory) on from closed x h = refl
+calm_ends said p w v n l asks o (Err Words) on from closed x h = absurd h
+calm_ends said p w v n l asks o (Err (Line k)) on from closed x h = absurd h
+calm_ends said p w v n l asks o (Err (BadPlan f)) on from closed x h = absurd h
+calm_ends said p w v n l asks o (Err (NotEnabled k)) on from closed x h = absurd h
+calm_ends said p w v n l asks o (Err (ThirdSignal k)) on from closed x h = absurd h
+calm_ends said p w v n l asks o (Err Unfinished) on from closed x h = absurd h
+calm_ends said p w v n l asks o (Err Read) on from closed x h = absurd h
+calm_ends said p w v n l asks o (Err TooLong) on from closed x h = absurd h
+
+-- an end at a fault is this fault or want of memory
+pub fault_or_memory : {W : Type 0} (said : W → List Heard → Type 0) (p : Settings) (w v : Writing) (l : Live W)
+    (asks : List (ℕ × Ask)) (fault : Fault) (ending : Result RunOutcome Fault)
+    → (v.faults ≤ v.faults_after → Writes v (ask_lines asks ++ fault_only fault)
+    → IsRunEnd said p w (kept_by (Err fault) l) (ending_of (Err fault)))
+    → EndsAtFault v asks fault ending → IsRunEnd said p w (kept_by ending l) (ending_of ending)
+fault_or_memory said p w v l asks fault (Ok o) says h = absurd h
+fault_or_memory said p w v l asks fault (Err e) says (inl m) =
+    subst (λ f. IsRunEnd said p w (kept_by (Err f) l) (ending_of (Err f))) (sym m) refl
+fault_or_memory said p w v l asks fault (Err e) says (inr h) =
+    subst (λ f. IsRunEnd said p w (kept_by (Err f) l) (ending_of (Err f))) (sym h.0) (says h.1 h.2)
+
+-- one that had an event refused, after that fault
+pub rough_ends : {W : Type 0} (said : W → List Heard → Type 0) (p : Settings) (w v : Writing) (n : ℕ) (l : Live W)
+    (asks : List (ℕ × Ask)) (o : RunOutcome) (ending : Result RunOutcome Fault) → v.taken ≡ w.taken_after
+    → v.faults ≡ w.faults_after → IsClosed said p l → IsOver p w n l.journal asks o true
+    → EndsAtFault v asks Report ending → IsRunEnd said p (joined w v) (kept_by ending l) (ending_of ending)
+unfolding executed_rough executed_from
+rough_ends said p w v n l asks o ending on from closed x h =
+    let first = rough_error p w n l.journal asks o x in
+    let answer = Err (engine.Report first.0) in
+    let run : IsExecuted p (turns_of l.journal) w asks answer =
+    executed_rough p w n l.journal asks o first.0 x first.1 in
+    fault_or_memory said p (joined w v) v l asks Report ending
+    (λ le writes. (
+      (
+        closed,
+        (
+          o,
+          finished p l.journal o closed.legal x.over,
+          report_of p (turns_of l.journal) w v asks answer run o false refl
+              (took_parts p (turns_of l.journal) w v asks answer (fault_only Report) on run writes.front),
+        ),
+      ),
+      rose_then w.faults w.faults_after v.faults_after (run.risen refl) (omega arith),
+    )) h
+
+-- a run that has no outcome isn't over
+no_outcome : (p : Settings) (journal : List _) → outcome p (past_of p journal) ≡ None
+    → is_over (past_of p journal) ≡ false
+no_outcome p journal none = by_over (is_over (past_of p journal)) refl
+  where
+    by_over : (b : Bool) → is_over (past_of p journal) ≡ b → b ≡ false
+    by_over false e = refl
+    by_over true e =
+        let some = over_outcome p (past_of p journal) e in
+        let both : None ≡ Some _ = sym none ∙ some in cc
+
+-- a run whose journal is full and that isn't over, after that fault; and want of memory
+pub full_ends : {W : Type 0} (said : W → List Heard → Type 0) (p : Settings) (w v : Writing) (l : Live W)
+    (asks : List (ℕ × Ask)) (ending : Result RunOutcome Fault) → IsClosed said p l
+    → length l.journal ≡ 4294967295 → outcome p (past_of p l.journal) ≡ None
+    → EndsAtFault v asks Unfinished ending → IsRunEnd said p w (kept_by ending l) (ending_of ending)
+full_ends said p w v l asks ending closed full none h =
+    fault_or_memory said p w v l asks Unfinished ending
+    (λ le writes. (closed, full, no_outcome p l.journal none)) h
+
+pub memory_ends : {W : Type 0} (said : W → List Heard → Type 0) (p : Settings) (w v : Writing) (l : Live W)
+    (asks : List (ℕ × Ask)) (ending : Result RunOutcome Fault)
+    → EndsAtFault v asks Memory ending → IsRunEnd said p w (kept_by ending l) (ending_of ending)
+memory_ends said p w v l asks ending h = fault_or_memory said p w v l asks Memory ending (λ le writes. refl) h
+
+-- so a run that is over ends, by whether an event was refused
+pub over_ends : {W : Type 0} (said : W → List Heard → Type 0) (p : Settings) (w v : Writing) (n : ℕ) (l : Live W)
+    (asks : List (ℕ × Ask)) (o : RunOutcome) (refused : Bool) (ending : Result RunOutcome Fault)
+    → v.taken ≡ w.taken_after → v.faults ≡ w.faults_after → IsClosed said p l
+    → IsOver p w n l.journal asks o refused → EndsOver v asks o refused ending
+    → IsRunEnd said p (joined w v) (kept_by ending l) (ending_of ending)
+over_ends said p w v n l asks o true ending on from closed x h =
+    rough_ends said p w v n l asks o ending on from closed x h
+over_ends said p w v n l asks o false ending on from closed x h =
+    calm_ends said p w v n l asks o ending on from closed x h
+
+-- and one that isn't over
+pub open_ends : {W : Type 0} (said : W → List Heard → Type 0) (p : Settings) (w v : Writing) (l : Live W)
+    (asks : List (ℕ × Ask)) (fault : Fault) (ending : Result RunOutcome Fault) → IsClosed said p l
+    → outcome p (past_of p l.journal) ≡ None → IsOpenFault (length l.journal) fault
+    → EndsAtFault v asks fault ending → IsRunEnd said p w (kept_by ending l) (ending_of ending)
+open_ends said p w v l asks fault ending closed none (inl full) h =
+    full_ends said p w v l asks ending closed full.1 none (subst (λ f. EndsAtFault v asks f ending) full.0 h)
+open_ends said p w v l asks fault ending closed none (inr memory) h =
+    memory_ends said p w v l asks ending (subst (λ f. EndsAtFault v asks f ending) memory h)

@@ -1,0 +1,35 @@
+use Rattle.std.proofs.Common.{rules, ◌≡◌, refl, sym, ◌∙◌, None, Some}
+use Rattle.std.specs.Option.{IsNone}
+use Rattle.run_model.specs.Journal.{past_of, outcome}
+use Rattle.run_cli.specs.Call.{Writing}
+use Rattle.run_cli.proofs.LivedLemmas.{closed_from, over_from}
+use Rattle.run_cli.proofs.live.finish.Goals as goal
+
+pub returns-in-Some : goal.returns-in-Some
+returns-in-Some g c = λ p x.
+    let lived = c.args.lived in
+    let none : IsNone lived.live.error = search rules in
+    let w : Writing = record {
+      taken = g.O.Origin.taken_before;
+      taken_after = g.K.Sink.taken c.into_sink-sink.result;
+      faults = g.O.Origin.faults_before;
+      faults_after = g.K.Sink.faults c.into_sink-sink.result;
+    } in
+    let left = rw c.in-Some.is at (x.left none) in
+    c.end_over.ensures p w lived.report.refusals refl refl (closed_from g.W.Spawner.has_said _ p lived x none)
+    (over_from _ p w lived.report.refusals lived.report lived.live.journal lived.asks c.in-Some.outcome
+    c.has_refused-refused.result (λ ys told. c.into_sink-sink.ensures.told ys told)
+    (λ ys told. c.has_refused-refused.ensures ys told) left)
+
+pub returns-in-None : goal.returns-in-None
+returns-in-None g c = λ p x.
+    let lived = c.args.lived in
+    let none : IsNone lived.live.error = search rules in
+    let w : Writing = record {
+      taken = g.O.Origin.taken_before;
+      taken_after = g.K.Sink.taken c.end_open.result.sink;
+      faults = g.O.Origin.faults_before;
+      faults_after = g.K.Sink.faults c.end_open.result.sink;
+    } in
+    let unended : outcome p (past_of p lived.live.journal) ≡ None = sym (x.left none).ended ∙ c.in-None.is in
+    c.end_open.ensures p w (closed_from g.W.Spawner.has_said _ p lived x none) unended

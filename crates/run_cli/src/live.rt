@@ -1,0 +1,262 @@
+// The command `live`: the run of a plan by workers, and its last lines.
+ghost use Rattle.std.specs.Prelude.{◌≡◌, ℕ, length, None, Some};
+ghost use Rattle.run_events.specs.declared.settings.Settings.{Settings};
+ghost use Rattle.run_model.specs.Journal.{past_of, outcome};
+ghost use Rattle.run_cli.specs.Call.{Writing, writing, joined};
+ghost use Rattle.run_cli.specs.Live.{IsClosed, IsRunEnd, live_status, workers_in};
+ghost use Rattle.run_cli.specs.Lived.{IsOver, IsLeftOver, IsFaultEnd, EndsOver, IsOpenFault, ending_of, kept_by};
+ghost use Rattle.run_cli.specs.declared.live.LiveEnding.TheVariants as ends;
+
+use crate::ended::{Ended, end_at_fault, end_at_outcome, status_of_outcome};
+use crate::receipts::write_receipt;
+use run_capture::{List, Sink};
+use run_drive::{Host, Spawner};
+use run_engine::TestRunner;
+use run_events::{Ask, AskList, Reporter, RunOutcome};
+use run_live::{Live, Lived, live};
+use run_model::Entry;
+use run_output::{Fault, LineReporter, Origin};
+use std::alloc::Global;
+use std::marker::Brand;
+use std::sync::Wait;
+use std::thread::Threads;
+
+/// How `live` ended.
+#[derive(Clone, Copy, Drop)]
+pub enum LiveEnding {
+    /// The run is over, with this outcome.
+    Outcome(RunOutcome),
+    /// A fault ended the program.
+    Fault(Fault),
+    /// The receipts of the workers aren't those of the journal.
+    Receipt,
+}
+
+impl LiveEnding {
+    /// The exit status of the program.
+    pub fn status(self) -> u8
+        ensures { result ≡ live_status self }
+    {
+        match self {
+            LiveEnding::Outcome(outcome) => status_of_outcome(outcome),
+            LiveEnding::Fault(fault) => fault.status(),
+            LiveEnding::Receipt => 13,
+        }
+    }
+}
+
+/// How `live` ended, its sink, and what is handed back of the run.
+pub struct LiveEnded<K, W> {
+    pub ending: LiveEnding,
+    pub sink: K,
+    pub live: Option<Live<W>>,
+}
+
+// The greatest length of a journal.
+const MOST: usize = 4_294_967_295;
+
+// How many workers run the plan of a runner.
+fn workers_of(runner: &TestRunner) -> u32
+    ensures { result ≡ workers_in runner.now }
+{
+    let settings = runner.settings();
+    let scripts = settings.plan.scripts.len();
+    let units = scripts.saturating_add(settings.plan.tests.len());
+    let most = settings.threads as usize;
+    most.min(units).max(1) as u32
+}
+
+// What is left of a run whose last lines were written so: nothing where memory was wanting.
+fn with_live<K, W: Drop>(ended: Ended<K>, live: Live<W>) -> LiveEnded<K, W>
+    ensures ending { result.ending ≡ ending_of ended.ending }
+    ensures live { result.live ≡ kept_by ended.ending live }
+    ensures sink { result.sink ≡ ended.sink }
+{
+    let Ended { ending, sink } = ended;
+    match ending {
+        Ok(outcome) => LiveEnded {
+            ending: LiveEnding::Outcome(outcome),
+            sink,
+            live: Some(live),
+        },
+        Err(Fault::Memory) => {
+            drop(live);
+            LiveEnded {
+                ending: LiveEnding::Fault(Fault::Memory),
+                sink,
+                live: None,
+            }
+        }
+        Err(fault) => LiveEnded {
+            ending: LiveEnding::Fault(fault),
+            sink,
+            live: Some(live),
+        },
+    }
+}
+
+// Writes the last lines of a run that is over: its asks, and then its outcome, or that an event was refused.
+fn last_lines<K: Sink>(
+    alloc: Global,
+    sink: K,
+    asks: &[(u64, Ask)],
+    outcome: RunOutcome,
+    refused: bool,
+) -> Ended<K>
+    ensures { EndsOver (writing K.taken K.faults sink result.sink) asks.now outcome refused result.ending }
+{
+    if refused {
+        end_at_fault(alloc, sink, asks, Fault::Report)
+    } else {
+        end_at_outcome(alloc, sink, asks, outcome)
+    }
+}
+
+// The same, with what is left of the run.
+fn end_over<K: Sink, W: Spawner + Drop>(
+    alloc: Global,
+    sink: K,
+    asks: AskList,
+    outcome: RunOutcome,
+    refused: bool,
+    live: Live<W>,
+) -> LiveEnded<K, W>
+    ensures { (p : Settings) (w : Writing) (n : ℕ) → K.taken sink ≡ w.taken_after → K.faults sink ≡ w.faults_after
+        → IsClosed W.has_said p live → IsOver p w n live.journal asks outcome refused
+        → IsRunEnd W.has_said p (joined w (writing K.taken K.faults sink result.sink)) result.live result.ending }
+{
+    let ended = last_lines(alloc, sink, asks.asks(), outcome, refused);
+    drop(asks);
+    with_live(ended, live)
+}
+
+// Why a run of this journal isn't over: the journal is full, or memory was wanting.
+fn open_fault(journal: &List<Entry>) -> Fault
+    ensures { IsOpenFault (length journal.now) result }
+{
+    if journal.len() == MOST {
+        Fault::Unfinished
+    } else {
+        Fault::Memory
+    }
+}
+
+// Ends a run that isn't over: its journal is full, or memory was wanting.
+fn end_open<K: Sink, W: Spawner + Drop>(
+    alloc: Global,
+    sink: K,
+    asks: AskList,
+    live: Live<W>,
+) -> LiveEnded<K, W>
+    ensures { (p : Settings) (w : Writing) → IsClosed W.has_said p live
+        → outcome p (past_of p live.journal) ≡ None
+        → IsRunEnd W.has_said p w result.live result.ending }
+{
+    let ended = end_at_fault(alloc, sink, asks.asks(), open_fault(&live.journal));
+    drop(asks);
+    with_live(ended, live)
+}
+
+// Ends a run whose receipts are refused: says why, where the sink takes that.
+fn end_refused<K: Sink, W: Spawner + Drop>(
+    alloc: Global,
+    sink: K,
+    asks: AskList,
+    live: Live<W>,
+) -> LiveEnded<K, W>
+    ensures ending { result.ending ≡ ends.Receipt }
+    ensures live { result.live ≡ Some live }
+{
+    drop(asks);
+    let mut sink = sink;
+    if let Some(error) = &live.error {
+        write_receipt(alloc, &mut sink, error.kind());
+    }
+    LiveEnded {
+        ending: LiveEnding::Receipt,
+        sink,
+        live: Some(live),
+    }
+}
+
+// Ends a run whose threads have ended, by what they left.
+fn finish<K: Sink, O: Origin, W: Spawner + Drop>(
+    alloc: Global,
+    lived: Lived<W, LineReporter<K, O>>,
+) -> LiveEnded<K, W>
+    ensures { (p : Settings) → IsLeftOver W.has_said ⟦<LineReporter<K, O> as Reporter>⟧.told p lived
+        → IsRunEnd W.has_said p (record {
+          taken = O.taken_before;
+          taken_after = K.taken result.sink;
+          faults = O.faults_before;
+          faults_after = K.faults result.sink;
+        }) result.live result.ending }
+{
+    let Lived {
+        live,
+        asks,
+        outcome,
+        report,
+    } = lived;
+    let refused = report.has_refused();
+    let sink = report.into_sink();
+    if live.error.is_some() {
+        return end_refused(alloc, sink, asks, live);
+    }
+    match outcome {
+        Some(outcome) => end_over(alloc, sink, asks, outcome, refused, live),
+        None => end_open(alloc, sink, asks, live),
+    }
+}
+
+/// Writes a fault, where there is no run: nothing of one is handed back.
+pub fn end_without_run<K: Sink, W>(alloc: Global, sink: K, fault: Fault) -> LiveEnded<K, W>
+    ensures ending { IsFaultEnd (writing K.taken K.faults sink result.sink) fault result.ending }
+    ensures live { result.live ≡ None }
+{
+    let Ended { ending, sink } = end_at_fault(alloc, sink, &[], fault);
+    let ending = match ending {
+        Ok(outcome) => LiveEnding::Outcome(outcome),
+        Err(fault) => LiveEnding::Fault(fault),
+    };
+    LiveEnded {
+        ending,
+        sink,
+        live: None,
+    }
+}
+
+// Runs the plan of a runner, with the sink's state at the beginning as the type's.
+fn run_at<K: Sink + Send, H: Host, O: Origin + Send, X: Threads + Wait + Sync>(
+    rt: &X,
+    alloc: Global,
+    runner: TestRunner,
+    sink: K,
+    host: &mut H,
+) -> LiveEnded<K, H::Worker>
+    requires taken { O.taken_before ≡ K.taken sink }
+    requires faults { O.faults_before ≡ K.faults sink }
+    ensures { IsRunEnd H.Worker.has_said runner (writing K.taken K.faults sink result.sink) result.live
+        result.ending }
+{
+    let workers = workers_of(&runner);
+    let report = LineReporter::<K, O>::new(sink);
+    match live(rt, alloc, runner, workers, host, report) {
+        Ok(lived) => finish(alloc, lived),
+        Err(report) => end_without_run(alloc, report.into_sink(), Fault::Memory),
+    }
+}
+
+/// Runs the plan of a runner by workers, and writes all its lines.
+pub fn run_live<K: Sink + Send, H: Host, X: Threads + Wait + Sync>(
+    rt: &X,
+    alloc: Global,
+    runner: TestRunner,
+    sink: K,
+    host: &mut H,
+) -> LiveEnded<K, H::Worker>
+    ensures { IsRunEnd H.Worker.has_said runner (writing K.taken K.faults sink result.sink) result.live
+        result.ending }
+{
+    run_at::<K, H, Brand, X>(rt, alloc, runner, sink, host)
+}
