@@ -4,8 +4,13 @@
 #![tactic(auto)]
 
 use run_cli::{Ran, StdSink, StdSource, run};
+use run_drive::Host;
 use run_host::StdHost;
+use std::alloc::Global;
+use std::io::{Read, Write};
 use std::process::ExitCode;
+use std::sync::Wait;
+use std::thread::Threads;
 use std::{env, io};
 
 const VERSION: &str = "nextest_run 0.0.0";
@@ -118,12 +123,25 @@ fn explain(rt: &HostRuntime, status: u8) {
     }
 }
 
-// Carries out or runs what the standard input says, writes to the standard output, and answers the status.
-fn run_words(rt: &HostRuntime, words: &[String]) -> u8 {
-    let mut source = StdSource::new(rt.stdin());
-    let sink = StdSink::new(rt.stdout());
-    let mut host = StdHost::new(*rt);
-    let (ran, live) = run(rt, rt.alloc(), words, &mut source, sink, &mut host);
+// Carries out or runs what a source says, writes to a sink, and answers the status.
+fn run_words<R: Read + Drop, W: Write + Send + Drop, H: Host + Drop, X: Threads + Wait + Sync>(
+    rt: &X,
+    alloc: Global,
+    words: &[String],
+    input: R,
+    output: W,
+    host: H,
+) -> u8 {
+    let mut source = StdSource::new(input);
+    let mut host = host;
+    let (ran, live) = run(
+        rt,
+        alloc,
+        words,
+        &mut source,
+        StdSink::new(output),
+        &mut host,
+    );
     drop(live);
     let Ran { status, sink: _ } = ran;
     status
@@ -137,12 +155,13 @@ fn print(rt: &HostRuntime, text: &str) -> u8 {
     }
 }
 
-fn status_of_words(rt: &HostRuntime, words: &[String]) -> u8 {
-    match words {
-        [word] if word.as_str() == "--help" => print(rt, HELP),
-        [word] if word.as_str() == "--version" => print(rt, VERSION),
-        _ => run_words(rt, words),
-    }
+// What the program is asked for.
+enum Asked {
+    Help,
+    Version,
+    Run(Vec<String>),
+    /// The words could not be copied for want of memory.
+    NoMemory,
 }
 
 // The words after the program's name.
@@ -154,19 +173,35 @@ fn words_given(rt: &HostRuntime) -> io::Result<Vec<String>> {
     Ok(words)
 }
 
-// Words that could not be copied for want of memory end the program as that; others are no text, and bad words.
-fn without_words(rt: &HostRuntime, error: &io::Error) -> u8 {
-    if error.kind() != io::ErrorKind::OutOfMemory {
-        return run_words(rt, &[]);
+// Words that are no text are bad words, as none are.
+fn asked(rt: &HostRuntime) -> Asked {
+    match words_given(rt) {
+        Ok(words) => match words.as_slice() {
+            [word] if word.as_str() == "--help" => Asked::Help,
+            [word] if word.as_str() == "--version" => Asked::Version,
+            _ => Asked::Run(words),
+        },
+        Err(error) if error.kind() == io::ErrorKind::OutOfMemory => Asked::NoMemory,
+        Err(_) => Asked::Run(Vec::new(rt.alloc())),
     }
-    let _ = println!(rt; "{MEMORY_LINE}");
-    11
 }
 
 fn main(rt: HostRuntime) -> ExitCode {
-    let status = match words_given(&rt) {
-        Ok(words) => status_of_words(&rt, words.as_slice()),
-        Err(error) => without_words(&rt, &error),
+    let status = match asked(&rt) {
+        Asked::Help => print(&rt, HELP),
+        Asked::Version => print(&rt, VERSION),
+        Asked::Run(words) => run_words(
+            &rt,
+            rt.alloc(),
+            words.as_slice(),
+            rt.stdin(),
+            rt.stdout(),
+            StdHost::new(rt),
+        ),
+        Asked::NoMemory => {
+            let _ = println!(rt; "{MEMORY_LINE}");
+            11
+        }
     };
     explain(&rt, status);
     ExitCode::from(status)

@@ -4,6 +4,9 @@ use run_capture::{Blob, List, MemorySink, MemorySource, OutOfMemory};
 use run_cli::{Ran, run};
 use run_drive::{MemoryHost, MemoryTicker};
 use std::alloc::{AllocError, Global};
+use std::fs::Files;
+use std::sync::Wait;
+use std::thread::Threads;
 use std::{fs, io};
 
 /// A status, and what was written.
@@ -34,7 +37,7 @@ fn filled(alloc: Global, bytes: &[u8], len: usize) -> Result<Vec<u8>, AllocError
 }
 
 // The input of a row.
-fn input_of(rt: &HostRuntime, row: &Row) -> io::Result<Vec<u8>> {
+fn input_of<X: AllocGlobal + Files>(rt: &X, row: &Row) -> io::Result<Vec<u8>> {
     if row.input == "-" {
         return Ok(Vec::new(rt.alloc()));
     }
@@ -75,13 +78,17 @@ fn sink_of(alloc: Global, room: usize, streams: Streams) -> Result<MemorySink, O
 }
 
 /// What the top call answers to a row, with room for somewhat more than the bytes that are wanted.
-pub fn answer_of(rt: &HostRuntime, row: &Row, wanted: usize) -> io::Result<Answer> {
+pub fn answer_of<X: AllocGlobal + Files + Threads + Wait + Sync>(
+    rt: &X,
+    row: &Row,
+    wanted: usize,
+) -> io::Result<Answer> {
     let alloc = rt.alloc();
     let input = input_of(rt, row)?;
     let words = words_of(alloc, row)?;
     let mut source = source_of(alloc, input.as_slice(), row.streams).map_err(wanting)?;
     let sink = sink_of(alloc, wanted.saturating_add(4096), row.streams).map_err(wanting)?;
-    let mut host = MemoryHost::new(List::new(), MemoryTicker::new(List::new()), 0);
+    let mut host = MemoryHost::new(alloc, List::new(), MemoryTicker::new(List::new()), 0);
     let (ran, live) = run(rt, alloc, words.as_slice(), &mut source, sink, &mut host);
     drop(live);
     let Ran { status, sink } = ran;

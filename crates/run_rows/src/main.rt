@@ -7,13 +7,19 @@ mod carried;
 mod table;
 
 use carried::{Answer, answer_of};
+use std::fs::Files;
 use std::io::Write;
 use std::process::ExitCode;
+use std::sync::Wait;
+use std::thread::Threads;
 use std::{fs, io};
 use table::{Row, row_of};
 
 // Whether a row was answered as it is to be. Prints that, and of a row that wasn't the answer.
-fn is_met(rt: &HostRuntime, row: &Row) -> io::Result<bool> {
+fn is_met<X: AllocGlobal + Files + Print + Threads + Wait + Sync>(
+    rt: &X,
+    row: &Row,
+) -> io::Result<bool> {
     let wanted = fs::read(rt, format!(in rt.alloc(); "{}.out", row.name)?)?;
     let Answer { status, written } = answer_of(rt, row, wanted.len())?;
     if status == row.status && written.as_slice() == wanted.as_slice() {
@@ -29,7 +35,10 @@ fn is_met(rt: &HostRuntime, row: &Row) -> io::Result<bool> {
 }
 
 // Whether a line of the table is met: a row, or one that says nothing.
-fn is_line_met(rt: &HostRuntime, line: &str) -> io::Result<bool> {
+fn is_line_met<X: AllocGlobal + Files + Print + Threads + Wait + Sync>(
+    rt: &X,
+    line: &str,
+) -> io::Result<bool> {
     if line.is_empty() || line.starts_with('#') {
         return Ok(true);
     }
@@ -43,7 +52,10 @@ fn is_line_met(rt: &HostRuntime, line: &str) -> io::Result<bool> {
 }
 
 // How many lines of the table aren't met.
-fn unmet(rt: &HostRuntime, table: &str) -> io::Result<u64> {
+fn unmet<X: AllocGlobal + Files + Print + Threads + Wait + Sync>(
+    rt: &X,
+    table: &str,
+) -> io::Result<u64> {
     let mut count = 0u64;
     for line in table.lines() {
         if !is_line_met(rt, line)? {

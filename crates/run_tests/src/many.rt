@@ -3,6 +3,8 @@ use run_capture::{Blob, List, Mem, MemorySink, MemorySource};
 use run_cli::{Ran, run};
 use run_drive::{MemoryHost, MemoryTicker};
 use std::alloc::Global;
+use std::sync::Wait;
+use std::thread::Threads;
 
 const TESTS: u32 = 20_000;
 
@@ -57,12 +59,11 @@ fn words(alloc: Global) -> Mem<Vec<String>> {
 }
 
 // Whether all of them pass, with two events and an ask each, the run's two events and the outcome.
-fn all_pass(rt: &HostRuntime) -> Mem<bool> {
-    let alloc = rt.alloc();
+fn all_pass<X: Threads + Wait + Sync>(rt: &X, alloc: Global) -> Mem<bool> {
     let words = words(alloc)?;
     let mut source = MemorySource::new(input(alloc)?, 65_536, List::new());
     let sink = MemorySink::new(alloc, 32_000_000, 65_536, List::new())?;
-    let mut host = MemoryHost::new(List::new(), MemoryTicker::new(List::new()), 0);
+    let mut host = MemoryHost::new(alloc, List::new(), MemoryTicker::new(List::new()), 0);
     let (ran, live) = run(rt, alloc, words.as_slice(), &mut source, sink, &mut host);
     drop(live);
     let Ran { status, sink } = ran;
@@ -73,5 +74,5 @@ fn all_pass(rt: &HostRuntime) -> Mem<bool> {
 
 #[test]
 fn twenty_thousand_tests(rt: HostRuntime) {
-    assert!(rt; all_pass(&rt).unwrap_or(false));
+    assert!(rt; all_pass(&rt, rt.alloc()).unwrap_or(false));
 }
