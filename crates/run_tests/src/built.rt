@@ -40,6 +40,7 @@ const CAPTURED: &str =
 
 fn threads(rt: &impl Abort, alloc: Global, line: &str) -> u32 {
     let (builder, plan) = read_plan_line(alloc, line.as_bytes()).expect(rt, "a plan line");
+    assert!(rt; plan.scripts.len() == 0 && plan.tests.len() == 0, "no test");
     builder.build(alloc, plan).expect(rt, MEMORY).test_threads()
 }
 
