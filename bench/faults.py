@@ -33,6 +33,7 @@ SHIM = r"""
 #include <stdio.h>
 #include <stdlib.h>
 #include <string.h>
+#include <sys/syscall.h>
 #include <unistd.h>
 static atomic_long mallocs, reads, writes;
 static long fail_malloc, fail_read, fail_write, short_read, short_write;
@@ -65,10 +66,12 @@ ssize_t write(int f, const void *b, size_t n) {
   if (f == 1) { long k = ++writes; if (k == fail_write) { errno = EIO; return -1; } if (k == short_write && n > 1) n = 1; }
   return real_write(f, b, n);
 }
-__attribute__((destructor)) static void end(void) {
+static void end(void) {
   const char *path = getenv("COUNTS");
   if (path) { FILE *f = fopen(path, "w"); if (f) { fprintf(f, "%ld %ld %ld\n", (long)mallocs, (long)reads, (long)writes); fclose(f); } }
 }
+__attribute__((destructor)) static void at_end(void) { end(); }
+void _exit(int status) { end(); syscall(SYS_exit_group, status); __builtin_unreachable(); }
 """
 
 
