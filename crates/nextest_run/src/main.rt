@@ -156,7 +156,7 @@ fn print(rt: &HostRuntime, text: &str) -> u8 {
 }
 
 // What the program is asked for.
-enum Asked {
+enum Request {
     Help,
     Version,
     Run(Vec<String>),
@@ -174,23 +174,23 @@ fn words_given(rt: &HostRuntime) -> io::Result<Vec<String>> {
 }
 
 // Words that are no text are bad words, as none are.
-fn asked(rt: &HostRuntime) -> Asked {
+fn request_of(rt: &HostRuntime) -> Request {
     match words_given(rt) {
         Ok(words) => match words.as_slice() {
-            [word] if word.as_str() == "--help" => Asked::Help,
-            [word] if word.as_str() == "--version" => Asked::Version,
-            _ => Asked::Run(words),
+            [word] if word.as_str() == "--help" => Request::Help,
+            [word] if word.as_str() == "--version" => Request::Version,
+            _ => Request::Run(words),
         },
-        Err(error) if error.kind() == io::ErrorKind::OutOfMemory => Asked::NoMemory,
-        Err(_) => Asked::Run(Vec::new(rt.alloc())),
+        Err(error) if error.kind() == io::ErrorKind::OutOfMemory => Request::NoMemory,
+        Err(_) => Request::Run(Vec::new(rt.alloc())),
     }
 }
 
 fn main(rt: HostRuntime) -> ExitCode {
-    let status = match asked(&rt) {
-        Asked::Help => print(&rt, HELP),
-        Asked::Version => print(&rt, VERSION),
-        Asked::Run(words) => run_words(
+    let status = match request_of(&rt) {
+        Request::Help => print(&rt, HELP),
+        Request::Version => print(&rt, VERSION),
+        Request::Run(words) => run_words(
             &rt,
             rt.alloc(),
             words.as_slice(),
@@ -198,7 +198,7 @@ fn main(rt: HostRuntime) -> ExitCode {
             rt.stdout(),
             StdHost::new(rt),
         ),
-        Asked::NoMemory => {
+        Request::NoMemory => {
             let _ = println!(rt; "{MEMORY_LINE}");
             11
         }
