@@ -8,13 +8,15 @@ as it is, and its calls of malloc, read and write are counted; then once for eac
 made short (one byte). It prints, for each kind, how often each status came, and each answer that is not one of these:
 
 - memory: the row's own status and text; or 11, with the line of that fault last;
-- a read that fails: 10, with the line of that fault alone; a write that fails: 9, with each other line whole;
+- a read that fails: 10, with the line of that fault alone; a write that fails: 9, with each line whole, and (but of
+  `live`, whose clock differs) one of the row's or that fault's;
 - a read or a write of one byte: the row's own status and text.
 
 The calls are refused by a library that this script compiles into a temporary folder and preloads (gcc).
 """
 import argparse
 import collections
+import json
 import os
 import subprocess
 import sys
@@ -86,6 +88,14 @@ def last(out):
     return lines[-2] if len(lines) > 1 else b""
 
 
+def are_whole(out, wanted):
+    """Whether each line is whole: one of those that are wanted, where they are known, or a fault's."""
+    *lines, rest = out.split(b"\n")
+    faults = [b'{"fault":"report","status":9}', b'{"fault":"write","status":9}']
+    known = None if wanted is None else wanted.split(b"\n") + faults
+    return rest == b"" and all(isinstance(json.loads(l), dict) if known is None else l in known for l in lines)
+
+
 def main():
     a = argparse.ArgumentParser()
     a.add_argument("program")
@@ -114,7 +124,7 @@ def main():
                     same = s == status and (live or o == out)
                     memory = s == 11 and last(o) == b'{"fault":"memory","status":11}'
                     ok = {"FAIL_MALLOC": same or memory, "FAIL_READ": s == 10 and o == b'{"fault":"read","status":10}\n',
-                          "FAIL_WRITE": s == 9, "SHORT_READ": same, "SHORT_WRITE": same}[kind]
+                          "FAIL_WRITE": s == 9 and are_whole(o, None if live else out), "SHORT_READ": same, "SHORT_WRITE": same}[kind]
                     seen[s] += 1
                     if not ok:
                         bad += 1
