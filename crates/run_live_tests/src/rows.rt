@@ -1,9 +1,9 @@
 // Runs of two tests under two workers.
 use crate::gate::{GateHost, GateSpawner};
-use run_capture::{CaptureStrategy, List, Text};
-use run_drive::{Begun, MemoryHost, MemorySpawner, MemoryTicker};
+use run_capture::{Blob, CaptureStrategy, List, Stream, Text};
+use run_drive::{Begun, MemoryHost, MemorySpawner, MemoryTicker, Said};
 use run_engine::{TestRunner, TestRunnerBuilder};
-use run_events::{EventLog, Plan, PlanTest, RunOutcome, TestInstanceId, TestThreads};
+use run_events::{ChildExit, EventLog, Plan, PlanTest, RunOutcome, TestInstanceId, TestThreads};
 use run_live::{Lived, live};
 use std::alloc::Global;
 use std::process::Abort;
@@ -117,12 +117,42 @@ fn silent(rt: &impl Abort, alloc: Global) -> MemorySpawner {
     MemorySpawner::new(begun, List::new())
 }
 
-// Whether a run with these spawners in memory failed.
-fn fails<X: Abort + Threads + Wait + Sync>(
+// What a child says that ends its standard output before it writes to it, and exits with 0.
+fn say_late(rt: &impl Abort, alloc: Global, said: &mut List<Said>) {
+    let mut bytes = Blob::new(alloc);
+    bytes.extend_from_slice(alloc, b"a").expect(rt, MEMORY);
+    let stream = Stream::Stdout;
+    said.push(alloc, Said::End { stream }).expect(rt, MEMORY);
+    said.push(alloc, Said::Piece { stream, bytes })
+        .expect(rt, MEMORY);
+    let stream = Stream::Stderr;
+    said.push(alloc, Said::End { stream }).expect(rt, MEMORY);
+    let exit = ChildExit::Code(0);
+    said.push(alloc, Said::Exit { exit }).expect(rt, MEMORY);
+}
+
+// A spawner of as many such children as there are tests.
+fn late(rt: &impl Abort, alloc: Global) -> MemorySpawner {
+    let mut begun = List::new();
+    begun
+        .push(alloc, Begun::Started { pid: 100 })
+        .expect(rt, MEMORY);
+    begun
+        .push(alloc, Begun::Started { pid: 101 })
+        .expect(rt, MEMORY);
+    let mut said = List::new();
+    say_late(rt, alloc, &mut said);
+    say_late(rt, alloc, &mut said);
+    MemorySpawner::new(begun, said)
+}
+
+// Whether a run with these spawners in memory ends with this success.
+fn ends<X: Abort + Threads + Wait + Sync>(
     rt: &X,
     alloc: Global,
     first: MemorySpawner,
     second: MemorySpawner,
+    success: bool,
 ) -> bool {
     let mut spawners = List::new();
     spawners.push(alloc, first).expect(rt, MEMORY);
@@ -130,7 +160,13 @@ fn fails<X: Abort + Threads + Wait + Sync>(
     let ticker = MemoryTicker::new(List::new());
     let mut host = MemoryHost::new(alloc, spawners, ticker, 7);
     match live(rt, alloc, runner(rt, alloc), 2, &mut host, EventLog::new()) {
-        Ok(lived) => is_failure(&lived),
+        Ok(lived) => {
+            if success {
+                is_success(&lived)
+            } else {
+                is_failure(&lived)
+            }
+        }
         Err(_) => false,
     }
 }
@@ -139,12 +175,19 @@ fn fails<X: Abort + Threads + Wait + Sync>(
 fn a_refused_start_fails_its_test(rt: HostRuntime) {
     let alloc = rt.alloc();
     let (first, second) = (refusing(&rt, alloc), refusing(&rt, alloc));
-    assert!(rt; fails(&rt, alloc, first, second));
+    assert!(rt; ends(&rt, alloc, first, second, false));
 }
 
 #[test]
 fn a_silent_child_fails_its_test(rt: HostRuntime) {
     let alloc = rt.alloc();
     let (first, second) = (silent(&rt, alloc), silent(&rt, alloc));
-    assert!(rt; fails(&rt, alloc, first, second));
+    assert!(rt; ends(&rt, alloc, first, second, false));
+}
+
+#[test]
+fn a_piece_after_the_end_of_its_stream_is_dropped(rt: HostRuntime) {
+    let alloc = rt.alloc();
+    let (first, second) = (late(&rt, alloc), late(&rt, alloc));
+    assert!(rt; ends(&rt, alloc, first, second, true));
 }
