@@ -1,12 +1,13 @@
 // What the top call answers to a row.
+use crate::host::host_of;
 use crate::table::{Row, Streams};
 use run_capture::{Blob, List, MemorySink, MemorySource, OutOfMemory};
 use run_cli::{Ran, run};
-use run_drive::{MemoryHost, MemoryTicker};
 use std::alloc::{AllocError, Global};
 use std::fs::Files;
 use std::sync::Wait;
 use std::thread::Threads;
+use std::time::Clock;
 use std::{fs, io};
 
 /// A status, and what was written.
@@ -78,7 +79,7 @@ fn sink_of(alloc: Global, room: usize, streams: Streams) -> Result<MemorySink, O
 }
 
 /// What the top call answers to a row, with room for somewhat more than the bytes that are wanted.
-pub fn answer_of<X: AllocGlobal + Files + Threads + Wait + Sync>(
+pub fn answer_of<X: AllocGlobal + Files + Threads + Wait + Clock + Copy + Send + Sync>(
     rt: &X,
     row: &Row,
     wanted: usize,
@@ -88,7 +89,7 @@ pub fn answer_of<X: AllocGlobal + Files + Threads + Wait + Sync>(
     let words = words_of(alloc, row)?;
     let mut source = source_of(alloc, input.as_slice(), row.streams).map_err(wanting)?;
     let sink = sink_of(alloc, wanted.saturating_add(4096), row.streams).map_err(wanting)?;
-    let mut host = MemoryHost::new(alloc, List::new(), MemoryTicker::new(List::new()), 0);
+    let mut host = host_of(alloc, *rt, row.child).map_err(wanting)?;
     let (ran, live) = run(rt, alloc, words.as_slice(), &mut source, sink, &mut host);
     drop(live);
     let Ran { status, sink } = ran;

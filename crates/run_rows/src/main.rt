@@ -4,6 +4,7 @@
 #![tactic(auto)]
 
 mod carried;
+mod host;
 mod table;
 
 use carried::{Answer, answer_of};
@@ -12,11 +13,12 @@ use std::io::Write;
 use std::process::ExitCode;
 use std::sync::Wait;
 use std::thread::Threads;
+use std::time::Clock;
 use std::{fs, io};
 use table::{Row, row_of};
 
 // Whether a row was answered as it is to be. Prints that, and of a row that wasn't the answer.
-fn is_met<X: AllocGlobal + Files + Print + Threads + Wait + Sync>(
+fn is_met<X: AllocGlobal + Files + Print + Threads + Wait + Clock + Copy + Send + Sync>(
     rt: &X,
     row: &Row,
 ) -> io::Result<bool> {
@@ -35,7 +37,7 @@ fn is_met<X: AllocGlobal + Files + Print + Threads + Wait + Sync>(
 }
 
 // Whether a line of the table is met: a row, or one that says nothing.
-fn is_line_met<X: AllocGlobal + Files + Print + Threads + Wait + Sync>(
+fn is_line_met<X: AllocGlobal + Files + Print + Threads + Wait + Clock + Copy + Send + Sync>(
     rt: &X,
     line: &str,
 ) -> io::Result<bool> {
@@ -52,7 +54,7 @@ fn is_line_met<X: AllocGlobal + Files + Print + Threads + Wait + Sync>(
 }
 
 // How many lines of the table aren't met.
-fn unmet<X: AllocGlobal + Files + Print + Threads + Wait + Sync>(
+fn unmet<X: AllocGlobal + Files + Print + Threads + Wait + Clock + Copy + Send + Sync>(
     rt: &X,
     table: &str,
 ) -> io::Result<u64> {

@@ -50,6 +50,28 @@ impl Streams {
     }
 }
 
+/// What the child of a row's one test does, where the row runs live.
+#[derive(Clone, Copy)]
+pub enum Child {
+    None,
+    /// It is refused with `x`.
+    Refused,
+    /// It ends its standard output, writes `a` to it, ends its standard error and exits with 0.
+    Mixed,
+    /// It starts, and nothing is said of it.
+    Silent,
+}
+
+// The child that a setting says, as `child=silent`; none where it says none.
+fn child_of(setting: &str) -> Option<Child> {
+    match setting {
+        "child=refused" => Some(Child::Refused),
+        "child=mixed" => Some(Child::Mixed),
+        "child=silent" => Some(Child::Silent),
+        _ => None,
+    }
+}
+
 /// What the top call is given, and the status that it is to answer.
 #[derive(Drop)]
 pub struct Row<'a> {
@@ -60,6 +82,7 @@ pub struct Row<'a> {
     pub words: &'a str,
     pub status: u8,
     pub streams: Streams,
+    pub child: Child,
 }
 
 /// The row that a line of the table says, if it says one.
@@ -70,8 +93,12 @@ pub fn row_of(line: &str) -> Option<Row<'_>> {
     let words = fields.next()?;
     let status = fields.next()?.parse::<u8>().ok()?;
     let mut streams = Streams::sound();
+    let mut child = Child::None;
     for setting in fields {
-        streams = streams.with(setting)?;
+        match child_of(setting) {
+            Some(said) => child = said,
+            None => streams = streams.with(setting)?,
+        }
     }
     Some(Row {
         name,
@@ -79,5 +106,6 @@ pub fn row_of(line: &str) -> Option<Row<'_>> {
         words,
         status,
         streams,
+        child,
     })
 }
