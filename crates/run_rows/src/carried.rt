@@ -3,6 +3,7 @@ use crate::host::host_of;
 use crate::table::{Row, Streams};
 use run_capture::{Blob, List, MemorySink, MemorySource, OutOfMemory};
 use run_cli::{Ran, run};
+use run_hints::{KeptSource, LastLine, explain};
 use std::alloc::{AllocError, Global};
 use std::fs::Files;
 use std::sync::Wait;
@@ -10,11 +11,12 @@ use std::thread::Threads;
 use std::time::Clock;
 use std::{fs, io};
 
-/// A status, and what was written.
+/// A status, what was written, and what standard error is to say.
 #[derive(Drop)]
 pub struct Answer {
     pub status: u8,
     pub written: Vec<u8>,
+    pub said: String,
 }
 
 // Memory was wanting.
@@ -87,13 +89,20 @@ pub fn answer_of<X: AllocGlobal + Files + Threads + Wait + Clock + Copy + Send +
     let alloc = rt.alloc();
     let input = input_of(rt, row)?;
     let words = words_of(alloc, row)?;
-    let mut source = source_of(alloc, input.as_slice(), row.streams).map_err(wanting)?;
+    let source = source_of(alloc, input.as_slice(), row.streams).map_err(wanting)?;
+    let mut source = KeptSource::new(alloc, source);
     let sink = sink_of(alloc, wanted.saturating_add(4096), row.streams).map_err(wanting)?;
+    let sink = LastLine::new(alloc, sink);
     let mut host = host_of(alloc, *rt, row.child).map_err(wanting)?;
     let (ran, live) = run(rt, alloc, words.as_slice(), &mut source, sink, &mut host);
     drop(live);
     let Ran { status, sink } = ran;
+    let said = explain(alloc, words.as_slice(), status, source.bytes(), sink.line())?;
     let mut written = Vec::new(alloc);
-    written.extend_from_slice(sink.bytes())?;
-    Ok(Answer { status, written })
+    written.extend_from_slice(sink.into_sink().bytes())?;
+    Ok(Answer {
+        status,
+        written,
+        said,
+    })
 }

@@ -79,7 +79,11 @@ impl<C: Clock + Copy + Send> Host for StillHost<C> {
 }
 
 /// The host of a row.
-pub fn host_of<C: Drop>(alloc: Global, clock: C, child: Child) -> Result<StillHost<C>, OutOfMemory> {
+pub fn host_of<C: Drop>(
+    alloc: Global,
+    clock: C,
+    child: Child,
+) -> Result<StillHost<C>, OutOfMemory> {
     let mut spawners = List::new();
     spawners.push(alloc, spawner_of(alloc, child)?)?;
     let memory = MemoryHost::new(alloc, spawners, MemoryTicker::new(List::new()), 0);

@@ -83,6 +83,8 @@ pub struct Row<'a> {
     pub status: u8,
     pub streams: Streams,
     pub child: Child,
+    /// Whether what standard error is to say is compared.
+    pub says: bool,
 }
 
 /// The row that a line of the table says, if it says one.
@@ -94,9 +96,11 @@ pub fn row_of(line: &str) -> Option<Row<'_>> {
     let status = fields.next()?.parse::<u8>().ok()?;
     let mut streams = Streams::sound();
     let mut child = Child::None;
+    let mut says = false;
     for setting in fields {
         match child_of(setting) {
-            Some(said) => child = said,
+            Some(does) => child = does,
+            None if setting == "says" => says = true,
             None => streams = streams.with(setting)?,
         }
     }
@@ -107,5 +111,6 @@ pub fn row_of(line: &str) -> Option<Row<'_>> {
         status,
         streams,
         child,
+        says,
     })
 }

@@ -1,0 +1,17 @@
+//! What the program says on standard error: one line of what is wrong and where, and one that helps. It is said after the
+//! run, from the words, the status, the input and the last line that was written, which a source and a sink of this crate
+//! remember. The lines are tested and not proved; the top call knows nothing of them.
+#![tactic(auto)]
+
+mod explain;
+mod kept_source;
+mod last_line;
+mod line_fault;
+mod misfit;
+mod plan_fault;
+mod shape;
+mod tables;
+
+pub use explain::explain;
+pub use kept_source::KeptSource;
+pub use last_line::LastLine;

@@ -1,0 +1,155 @@
+// The first thing that is wrong with a plan line.
+use crate::misfit::{Misfit, Wrong};
+use crate::shape::Shape;
+use crate::tables::Table;
+use serde_json::{Map, Value};
+use std::alloc::{AllocError, Global};
+
+// A key that an object of a table must have and doesn't.
+fn missing(table: Table, members: &Map<String, Value>) -> Option<&'static str> {
+    for key in table.required() {
+        if members.get(*key).is_none() {
+            return Some(*key);
+        }
+    }
+    None
+}
+
+// What is wrong with the keys of an object.
+fn key_misfit(
+    alloc: Global,
+    table: Table,
+    members: &Map<String, Value>,
+) -> Result<Option<Misfit>, AllocError> {
+    for (key, _) in members.iter() {
+        if table.shape_at(key.as_str()).is_none() {
+            return Ok(Some(Misfit::at(alloc, key.as_str(), Wrong::UnknownKey)?));
+        }
+    }
+    match missing(table, members) {
+        Some(key) => Ok(Some(Misfit::at(alloc, key, Wrong::MissingKey)?)),
+        None => Ok(None),
+    }
+}
+
+// What is wrong with the value at a key, apart from what stands in it.
+fn value_misfit(
+    alloc: Global,
+    key: &str,
+    shape: Shape,
+    value: &Value,
+) -> Result<Option<Misfit>, AllocError> {
+    if shape.has(alloc, value) {
+        Ok(None)
+    } else {
+        Ok(Some(Misfit::at(alloc, key, Wrong::Not(shape))?))
+    }
+}
+
+// What is wrong with an object that has no object in it.
+fn flat_misfit(alloc: Global, table: Table, value: &Value) -> Result<Option<Misfit>, AllocError> {
+    let Some(members) = value.as_object() else {
+        return Ok(None);
+    };
+    if let Some(misfit) = key_misfit(alloc, table, members)? {
+        return Ok(Some(misfit));
+    }
+    for (key, value) in members.iter() {
+        if let Some(shape) = table.shape_at(key.as_str()) {
+            if let Some(misfit) = value_misfit(alloc, key.as_str(), shape, value)? {
+                return Ok(Some(misfit));
+            }
+        }
+    }
+    Ok(None)
+}
+
+// What is wrong with the value at a key, and in it, where it is an object with no object in it.
+fn member_misfit(
+    alloc: Global,
+    key: &str,
+    shape: Shape,
+    value: &Value,
+) -> Result<Option<Misfit>, AllocError> {
+    if let Some(misfit) = value_misfit(alloc, key, shape, value)? {
+        return Ok(Some(misfit));
+    }
+    let Shape::Object(table) = shape else {
+        return Ok(None);
+    };
+    match flat_misfit(alloc, table, value)? {
+        Some(misfit) => Ok(Some(misfit.under(alloc, key)?)),
+        None => Ok(None),
+    }
+}
+
+// What is wrong with an item of a list of objects.
+fn item_misfit(alloc: Global, table: Table, value: &Value) -> Result<Option<Misfit>, AllocError> {
+    let Some(members) = value.as_object() else {
+        return Ok(None);
+    };
+    if let Some(misfit) = key_misfit(alloc, table, members)? {
+        return Ok(Some(misfit));
+    }
+    for (key, value) in members.iter() {
+        if let Some(shape) = table.shape_at(key.as_str()) {
+            if let Some(misfit) = member_misfit(alloc, key.as_str(), shape, value)? {
+                return Ok(Some(misfit));
+            }
+        }
+    }
+    Ok(None)
+}
+
+// What is wrong with the list of objects at a key.
+fn list_misfit(
+    alloc: Global,
+    key: &str,
+    table: Table,
+    items: &[Value],
+) -> Result<Option<Misfit>, AllocError> {
+    for (number, item) in items.iter().enumerate() {
+        if item.as_object().is_none() {
+            let place = format!(in alloc; "{key}[{number}]")?;
+            let wrong = Wrong::Not(Shape::Object(table));
+            return Ok(Some(Misfit { place, wrong }));
+        }
+        if let Some(misfit) = item_misfit(alloc, table, item)? {
+            return Ok(Some(misfit.in_item(alloc, key, number)?));
+        }
+    }
+    Ok(None)
+}
+
+// What is wrong with the value at a key of a plan.
+fn plan_member_misfit(
+    alloc: Global,
+    key: &str,
+    shape: Shape,
+    value: &Value,
+) -> Result<Option<Misfit>, AllocError> {
+    if let Shape::Objects(table) = shape {
+        if let Some(items) = value.as_array() {
+            return list_misfit(alloc, key, table, items.as_slice());
+        }
+    }
+    member_misfit(alloc, key, shape, value)
+}
+
+/// The first thing that is wrong with the object of a plan: its keys, and then the values at them.
+pub(crate) fn plan_misfit(
+    alloc: Global,
+    members: &Map<String, Value>,
+) -> Result<Option<Misfit>, AllocError> {
+    if let Some(misfit) = key_misfit(alloc, Table::Plan, members)? {
+        return Ok(Some(misfit));
+    }
+    for (key, value) in members.iter() {
+        if let Some(shape) = Table::Plan.shape_at(key.as_str()) {
+            if let Some(misfit) = plan_member_misfit(alloc, key.as_str(), shape, value)? {
+                return Ok(Some(misfit));
+            }
+        }
+    }
+    Ok(None)
+}

@@ -1,0 +1,203 @@
+// The tables of input lines: the keys of each object, and what stands at each.
+use crate::shape::{Names, Shape};
+
+/// The objects of a plan line.
+#[derive(Clone, Copy, Drop)]
+pub(crate) enum Table {
+    Plan,
+    Test,
+    Script,
+    Group,
+    Interceptor,
+    MaxFail,
+    Runners,
+    Slow,
+    Leak,
+    Retries,
+}
+
+impl Table {
+    /// What stands at a key; none where the object has no such key.
+    pub(crate) fn shape_at(self, key: &str) -> Option<Shape> {
+        match self {
+            Table::Plan => plan_shape(key),
+            Table::Test => test_shape(key),
+            Table::Script => script_shape(key),
+            Table::Group => group_shape(key),
+            Table::Interceptor => interceptor_shape(key),
+            Table::MaxFail => max_fail_shape(key),
+            Table::Runners => runners_shape(key),
+            Table::Slow => slow_shape(key),
+            Table::Leak => leak_shape(key),
+            Table::Retries => retries_shape(key),
+        }
+    }
+
+    /// The keys that it must have.
+    pub(crate) fn required(self) -> &'static [&'static str] {
+        match self {
+            Table::Plan => &["run_id", "tests"],
+            Table::Test => &["binary", "name", "command"],
+            Table::Script => &["id", "command"],
+            Table::Group => &["name", "limit"],
+            Table::Interceptor => &["kind", "command"],
+            Table::MaxFail => &["count", "mode"],
+            Table::Retries => &["count"],
+            Table::Runners | Table::Slow | Table::Leak => &[],
+        }
+    }
+}
+
+fn plan_shape(key: &str) -> Option<Shape> {
+    match key {
+        "args" => Some(Shape::Texts),
+        "capture" => Some(Shape::Named(Names::Captures)),
+        "flaky_result" => Some(Shape::Named(Names::Results)),
+        "global_timeout" => Some(Shape::U64),
+        "groups" => Some(Shape::Objects(Table::Group)),
+        "interceptor" => Some(Shape::Object(Table::Interceptor)),
+        "max_fail" => Some(Shape::Object(Table::MaxFail)),
+        "mode" => Some(Shape::Named(Names::Modes)),
+        "nextest_version" | "recommended_version" | "required_version" => Some(Shape::Version),
+        "profile" | "workspace_root" => Some(Shape::Text),
+        "retries" => Some(Shape::Object(Table::Retries)),
+        "run_id" => Some(Shape::Uuid),
+        "runners" => Some(Shape::Object(Table::Runners)),
+        "scripts" => Some(Shape::Objects(Table::Script)),
+        "signals" => Some(Shape::Named(Names::Handlers)),
+        "started_at" => Some(Shape::Moment),
+        "tests" => Some(Shape::Objects(Table::Test)),
+        "threads" => Some(Shape::U32),
+        _ => None,
+    }
+}
+
+fn test_shape(key: &str) -> Option<Shape> {
+    match key {
+        "binary" | "name" | "skip" | "group" => Some(Shape::Text),
+        "command" => Some(Shape::Texts),
+        "flaky" => Some(Shape::Named(Names::Results)),
+        "leak" => Some(Shape::Object(Table::Leak)),
+        "platform" => Some(Shape::Named(Names::Platforms)),
+        "retries" => Some(Shape::Object(Table::Retries)),
+        "scripts" => Some(Shape::Numbers),
+        "slow" => Some(Shape::Object(Table::Slow)),
+        "weight" => Some(Shape::U32),
+        _ => None,
+    }
+}
+
+fn script_shape(key: &str) -> Option<Shape> {
+    match key {
+        "id" | "env_path" => Some(Shape::Text),
+        "command" => Some(Shape::Texts),
+        "slow" => Some(Shape::Object(Table::Slow)),
+        "leak" => Some(Shape::Object(Table::Leak)),
+        "capture_stdout" | "capture_stderr" => Some(Shape::Truth),
+        _ => None,
+    }
+}
+
+fn group_shape(key: &str) -> Option<Shape> {
+    match key {
+        "name" => Some(Shape::Text),
+        "limit" => Some(Shape::U32),
+        _ => None,
+    }
+}
+
+fn interceptor_shape(key: &str) -> Option<Shape> {
+    match key {
+        "kind" => Some(Shape::Named(Names::Interceptors)),
+        "command" => Some(Shape::Words),
+        _ => None,
+    }
+}
+
+fn max_fail_shape(key: &str) -> Option<Shape> {
+    match key {
+        "count" => Some(Shape::U32),
+        "mode" => Some(Shape::Named(Names::Terminations)),
+        _ => None,
+    }
+}
+
+fn runners_shape(key: &str) -> Option<Shape> {
+    match key {
+        "host" | "target" => Some(Shape::Program),
+        _ => None,
+    }
+}
+
+fn slow_shape(key: &str) -> Option<Shape> {
+    match key {
+        "period" | "grace" => Some(Shape::U64),
+        "terminate_after" => Some(Shape::U32),
+        "on_timeout" => Some(Shape::Named(Names::Results)),
+        _ => None,
+    }
+}
+
+fn leak_shape(key: &str) -> Option<Shape> {
+    match key {
+        "period" => Some(Shape::U64),
+        "result" => Some(Shape::Named(Names::Results)),
+        _ => None,
+    }
+}
+
+fn retries_shape(key: &str) -> Option<Shape> {
+    match key {
+        "count" => Some(Shape::U32),
+        "delay" | "max_delay" => Some(Shape::U64),
+        "jitter" => Some(Shape::Truth),
+        "backoff" => Some(Shape::Named(Names::Backoffs)),
+        _ => None,
+    }
+}
+
+/// The keys of a turn beside its name: those that it must have, and those of which it must have exactly one.
+#[derive(Clone, Copy, Drop)]
+pub(crate) struct TurnKeys {
+    pub(crate) all: &'static [&'static str],
+    pub(crate) one: &'static [&'static str],
+}
+
+/// The keys of the turn of a name; none where no turn has it.
+pub(crate) fn turn_keys(name: &str) -> Option<TurnKeys> {
+    let (all, one): (&'static [&'static str], &'static [&'static str]) = match name {
+        "begin" | "admit" | "deliver" | "answer" | "tick" | "report-cancel" | "end" => (&[], &[]),
+        "started" => (&["unit", "pid"], &[]),
+        "start-failed" | "wait-failed" => (&["unit", "text"], &[]),
+        "exit" => (&["unit"], &["code", "signal"]),
+        "decide" => (&["unit", "word"], &[]),
+        "piece" => (&["unit", "stream", "hex"], &[]),
+        "stream-end" => (&["unit", "stream"], &[]),
+        "read-error" => (&["unit", "stream", "text"], &[]),
+        "env" => (&["unit"], &["hex", "failed"]),
+        "take" => (&["unit"], &[]),
+        "due" => (&[], &["unit", "timer"]),
+        "clock" => (&["ns"], &[]),
+        "signal" => (&["name"], &[]),
+        "key" => (&["code", "modified", "press"], &[]),
+        _ => return None,
+    };
+    Some(TurnKeys { all, one })
+}
+
+/// What stands at a key of a turn.
+pub(crate) fn turn_shape(turn: &str, key: &str) -> Shape {
+    match key {
+        "unit" | "pid" | "word" => Shape::U32,
+        "ns" => Shape::U64,
+        "code" if turn == "key" => Shape::KeyCode,
+        "code" | "signal" => Shape::I32,
+        "stream" => Shape::Named(Names::Streams),
+        "hex" => Shape::Hex,
+        "failed" => Shape::Named(Names::EnvFailures),
+        "timer" => Shape::Named(Names::Timers),
+        "name" => Shape::Named(Names::Signals),
+        "modified" | "press" => Shape::Truth,
+        _ => Shape::Text,
+    }
+}
