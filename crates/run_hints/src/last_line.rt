@@ -5,53 +5,62 @@ use std::alloc::Global;
 /// A longer line is remembered as far as this.
 const MOST: usize = 256;
 
+// A line as it goes by: its front part where it is long.
+#[derive(Drop)]
+struct Line {
+    bytes: Vec<u8>,
+    is_ended: bool,
+}
+
+impl Line {
+    // Takes one byte more: the first of a line begins it.
+    fn take(&mut self, byte: u8) {
+        if self.is_ended {
+            self.bytes.clear();
+            self.is_ended = false;
+        }
+        if byte == b'\n' {
+            self.is_ended = true;
+        } else if self.bytes.len() < MOST {
+            let _ = self.bytes.push(byte);
+        }
+    }
+
+    fn take_all(&mut self, bytes: &[u8]) {
+        for byte in bytes {
+            self.take(*byte);
+        }
+    }
+}
+
 /// A sink that hands on what it takes, and remembers the last line of it: its front part where it is long.
 #[derive(Drop)]
 pub struct LastLine<K> {
     sink: K,
-    line: Vec<u8>,
-    is_ended: bool,
+    line: Line,
 }
 
 impl<K: Sink> LastLine<K> {
     pub fn new(alloc: Global, sink: K) -> LastLine<K> {
+        let bytes = Vec::new(alloc);
         LastLine {
             sink,
-            line: Vec::new(alloc),
-            is_ended: false,
+            line: Line {
+                bytes,
+                is_ended: false,
+            },
         }
     }
 
     /// The last line, without its line feed.
     pub fn line(&self) -> &[u8] {
-        self.line.as_slice()
+        self.line.bytes.as_slice()
     }
 
     /// The sink beneath.
-    pub fn into_sink(self) -> K
-        ensures { result ≡ self.sink }
-    {
-        let LastLine {
-            sink,
-            line: _,
-            is_ended: _,
-        } = self;
+    pub fn into_sink(self) -> K {
+        let LastLine { sink, line: _ } = self;
         sink
-    }
-
-    // Remembers one byte more.
-    fn remember(&mut self, byte: u8)
-        ensures { self.new.sink ≡ self.old.sink }
-    {
-        if self.is_ended {
-            self.line.clear();
-            self.is_ended = false;
-        }
-        if byte == b'\n' {
-            self.is_ended = true;
-        } else if self.line.len() < MOST {
-            let _ = self.line.push(byte);
-        }
     }
 }
 
@@ -62,9 +71,7 @@ impl<K: Sink> Sink for LastLine<K> {
 
     fn write(&mut self, piece: &[u8]) -> Result<usize, Failed> {
         let count = self.sink.write(piece)?;
-        for byte in &piece[..count] {
-            self.remember(*byte);
-        }
+        self.line.take_all(&piece[..count]);
         Ok(count)
     }
 }

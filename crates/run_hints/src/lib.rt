@@ -3,15 +3,15 @@
 //! remember. The lines are tested and not proved; the top call knows nothing of them.
 #![tactic(auto)]
 
-mod explain;
 mod kept_source;
 mod last_line;
 mod line_fault;
 mod misfit;
 mod plan_fault;
+mod saying;
 mod shape;
 mod tables;
 
-pub use explain::explain;
 pub use kept_source::KeptSource;
 pub use last_line::LastLine;
+pub use saying::explain;

@@ -1,8 +1,7 @@
 // Why a line of input is no plan or no turn.
 use crate::misfit::{Misfit, Wrong};
 use crate::plan_fault::plan_misfit;
-use crate::shape::Shape;
-use crate::tables::{TurnKeys, turn_keys, turn_shape};
+use crate::tables::{either_key, turn_keys, turn_shape};
 use serde_json::{Map, Value};
 use std::alloc::{AllocError, Global};
 
@@ -18,54 +17,60 @@ pub(crate) fn line_at(bytes: &[u8], number: u64) -> Option<&[u8]> {
     None
 }
 
-// Whether a turn has a key of this name.
-fn has_key(keys: TurnKeys, key: &str) -> bool {
-    key == "turn"
-        || keys.all.iter().any(|name| *name == key)
-        || keys.one.iter().any(|name| *name == key)
+// Whether the turn of a name has this key.
+fn has_key(name: &str, keys: &[&str], key: &str) -> bool {
+    let is_either = either_key(name).is_some_and(|(first, second)| key == first || key == second);
+    key == "turn" || is_either || keys.iter().any(|other| *other == key)
 }
 
-// How many of some keys an object has.
-fn count_of(members: &Map<String, Value>, keys: &[&str]) -> usize {
-    keys.iter()
-        .filter(|key| members.get(**key).is_some())
-        .count()
+// What is wrong with the two keys of which a turn must have one.
+fn either_wrong(name: &str, members: &Map<String, Value>) -> Option<(&'static str, Wrong)> {
+    let (first, second) = either_key(name)?;
+    if members.get(first).is_some() == members.get(second).is_some() {
+        Some((first, Wrong::NotOne(second)))
+    } else {
+        None
+    }
 }
 
-// What is wrong with the keys of a turn.
+// A key that a turn must have and doesn't, or the first of two of which it doesn't have one.
+fn missing(
+    name: &str,
+    keys: &'static [&'static str],
+    members: &Map<String, Value>,
+) -> Option<(&'static str, Wrong)> {
+    for key in keys {
+        if members.get(*key).is_none() {
+            return Some((*key, Wrong::MissingKey));
+        }
+    }
+    either_wrong(name, members)
+}
+
+// What is wrong with the keys of the turn of a name.
 fn turn_key_misfit(
     alloc: Global,
-    keys: TurnKeys,
+    name: &str,
+    keys: &'static [&'static str],
     members: &Map<String, Value>,
 ) -> Result<Option<Misfit>, AllocError> {
     for (key, _) in members.iter() {
-        if !has_key(keys, key.as_str()) {
+        if !has_key(name, keys, key.as_str()) {
             return Ok(Some(Misfit::at(alloc, key.as_str(), Wrong::UnknownKey)?));
         }
     }
-    for key in keys.all {
-        if members.get(*key).is_none() {
-            return Ok(Some(Misfit::at(alloc, *key, Wrong::MissingKey)?));
-        }
-    }
-    match keys.one {
-        [first, second] if count_of(members, keys.one) != 1 => {
-            Ok(Some(Misfit::at(alloc, *first, Wrong::NotOne(*second))?))
-        }
-        _ => Ok(None),
+    match missing(name, keys, members) {
+        Some((key, wrong)) => Ok(Some(Misfit::at(alloc, key, wrong)?)),
+        None => Ok(None),
     }
 }
 
-// What is wrong with the turn of a name.
-fn turn_misfit(
+// What is wrong with the values of the turn of a name.
+fn turn_value_misfit(
     alloc: Global,
     name: &str,
-    keys: TurnKeys,
     members: &Map<String, Value>,
 ) -> Result<Option<Misfit>, AllocError> {
-    if let Some(misfit) = turn_key_misfit(alloc, keys, members)? {
-        return Ok(Some(misfit));
-    }
     for (key, value) in members.iter() {
         let shape = turn_shape(name, key.as_str());
         if !shape.has(alloc, value) {
@@ -75,29 +80,53 @@ fn turn_misfit(
     Ok(None)
 }
 
-// Why an object is no turn.
-fn turn_fault(alloc: Global, members: &Map<String, Value>) -> Result<Option<String>, AllocError> {
-    let Some(turn) = members.get("turn") else {
-        return Ok(Some(Misfit::at(alloc, "turn", Wrong::MissingKey)?.text(alloc)?));
-    };
-    let Some(name) = turn.as_str() else {
-        return Ok(Some(Misfit::at(alloc, "turn", Wrong::Not(Shape::Text))?.text(alloc)?));
-    };
-    let Some(keys) = turn_keys(name) else {
-        return Ok(Some(format!(in alloc; "unknown turn \"{name}\"")?));
-    };
-    match turn_misfit(alloc, name, keys, members)? {
+// What is wrong with the turn of a name that has these keys.
+fn turn_misfit(
+    alloc: Global,
+    name: &str,
+    keys: &'static [&'static str],
+    members: &Map<String, Value>,
+) -> Result<Option<Misfit>, AllocError> {
+    match turn_key_misfit(alloc, name, keys, members)? {
+        Some(misfit) => Ok(Some(misfit)),
+        None => turn_value_misfit(alloc, name, members),
+    }
+}
+
+// What is wrong, as words.
+fn words_of(alloc: Global, misfit: Option<Misfit>) -> Result<Option<String>, AllocError> {
+    match misfit {
         Some(misfit) => Ok(Some(misfit.text(alloc)?)),
         None => Ok(None),
     }
 }
 
+// Why an object with this name of a turn is none.
+fn named_turn_fault(
+    alloc: Global,
+    name: &str,
+    members: &Map<String, Value>,
+) -> Result<Option<String>, AllocError> {
+    match turn_keys(name) {
+        Some(keys) => words_of(alloc, turn_misfit(alloc, name, keys, members)?),
+        None => Ok(Some(format!(in alloc; "unknown turn \"{name}\"")?)),
+    }
+}
+
+// Why an object is no turn.
+fn turn_fault(alloc: Global, members: &Map<String, Value>) -> Result<Option<String>, AllocError> {
+    match members.get("turn") {
+        Some(turn) => match turn.as_str() {
+            Some(name) => named_turn_fault(alloc, name, members),
+            None => Ok(Some(String::from_str(alloc, "\"turn\" is not a text")?)),
+        },
+        None => Ok(Some(String::from_str(alloc, "missing key \"turn\"")?)),
+    }
+}
+
 // Why an object is no plan.
 fn plan_fault(alloc: Global, members: &Map<String, Value>) -> Result<Option<String>, AllocError> {
-    match plan_misfit(alloc, members)? {
-        Some(misfit) => Ok(Some(misfit.text(alloc)?)),
-        None => Ok(None),
-    }
+    words_of(alloc, plan_misfit(alloc, members)?)
 }
 
 // Why a value is no plan, or no turn.

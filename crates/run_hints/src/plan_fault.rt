@@ -101,6 +101,18 @@ fn item_misfit(alloc: Global, table: Table, value: &Value) -> Result<Option<Misf
     Ok(None)
 }
 
+// An item of a list is no object.
+fn no_object(
+    alloc: Global,
+    key: &str,
+    table: Table,
+    number: usize,
+) -> Result<Option<Misfit>, AllocError> {
+    let place = format!(in alloc; "{key}[{number}]")?;
+    let wrong = Wrong::Not(Shape::Object(table));
+    Ok(Some(Misfit { place, wrong }))
+}
+
 // What is wrong with the list of objects at a key.
 fn list_misfit(
     alloc: Global,
@@ -110,9 +122,7 @@ fn list_misfit(
 ) -> Result<Option<Misfit>, AllocError> {
     for (number, item) in items.iter().enumerate() {
         if item.as_object().is_none() {
-            let place = format!(in alloc; "{key}[{number}]")?;
-            let wrong = Wrong::Not(Shape::Object(table));
-            return Ok(Some(Misfit { place, wrong }));
+            return no_object(alloc, key, table, number);
         }
         if let Some(misfit) = item_misfit(alloc, table, item)? {
             return Ok(Some(misfit.in_item(alloc, key, number)?));

@@ -1,6 +1,5 @@
 // What a value of an input line is to be.
 use crate::tables::Table;
-use hex::FromHexError;
 use jiff::Timestamp;
 use run_commands::{DebuggerCommand, DebuggerCommandParseError};
 use semver::Version;
@@ -70,25 +69,27 @@ impl Names {
         }
     }
 
-    // Whether a text is one of the names.
-    fn has(self, text: &str) -> bool {
+    // The texts.
+    fn texts(self) -> &'static [&'static str] {
         match self {
-            Names::Captures => matches!(text, "none" | "split" | "combined"),
-            Names::Results => matches!(text, "pass" | "fail"),
-            Names::Modes => matches!(text, "test" | "benchmark"),
-            Names::Signals => matches!(
-                text,
-                "int" | "hup" | "term" | "quit" | "tstp" | "cont" | "usr1"
-            ),
-            Names::Handlers => matches!(text, "standard" | "debugger" | "noop"),
-            Names::Terminations => matches!(text, "wait" | "immediate"),
-            Names::Interceptors => matches!(text, "debugger" | "tracer"),
-            Names::Platforms => matches!(text, "target" | "host"),
-            Names::Backoffs => matches!(text, "fixed" | "exponential"),
-            Names::Streams => matches!(text, "stdout" | "stderr" | "combined"),
-            Names::EnvFailures => matches!(text, "open" | "read"),
-            Names::Timers => matches!(text, "global" | "stop" | "info"),
+            Names::Captures => &["none", "split", "combined"],
+            Names::Results => &["pass", "fail"],
+            Names::Modes => &["test", "benchmark"],
+            Names::Signals => &["int", "hup", "term", "quit", "tstp", "cont", "usr1"],
+            Names::Handlers => &["standard", "debugger", "noop"],
+            Names::Terminations => &["wait", "immediate"],
+            Names::Interceptors => &["debugger", "tracer"],
+            Names::Platforms => &["target", "host"],
+            Names::Backoffs => &["fixed", "exponential"],
+            Names::Streams => &["stdout", "stderr", "combined"],
+            Names::EnvFailures => &["open", "read"],
+            Names::Timers => &["global", "stop", "info"],
         }
+    }
+
+    // Whether a text is one of them.
+    fn has(self, text: &str) -> bool {
+        self.texts().iter().any(|name| *name == text)
     }
 }
 
@@ -143,21 +144,28 @@ impl Shape {
             Shape::Uuid => Uuid::parse_str(text).is_ok(),
             Shape::Version => Version::parse(alloc, text).is_ok(),
             Shape::Moment => text.parse::<Timestamp>().is_ok(),
-            Shape::Words => !matches!(
-                DebuggerCommand::from_str(alloc, text),
-                Err(
-                    DebuggerCommandParseError::EmptyCommand
-                        | DebuggerCommandParseError::ShellWordsParse { .. }
-                )
-            ),
-            Shape::Hex => !matches!(
-                hex::decode(alloc, text),
-                Err(FromHexError::OddLength | FromHexError::InvalidHexCharacter { .. })
-            ),
+            Shape::Words => are_words(alloc, text),
+            Shape::Hex => is_hex(text),
             Shape::KeyCode => text == "enter" || text.chars().count() == 1,
             _ => true,
         }
     }
+}
+
+// Whether a text is one word or more, as a shell splits them.
+fn are_words(alloc: Global, text: &str) -> bool {
+    !matches!(
+        DebuggerCommand::from_str(alloc, text),
+        Err(
+            DebuggerCommandParseError::EmptyCommand
+                | DebuggerCommandParseError::ShellWordsParse { .. }
+        )
+    )
+}
+
+// Whether a text is two hexadecimal digits a byte.
+fn is_hex(text: &str) -> bool {
+    text.len() % 2 == 0 && text.bytes().all(|byte| byte.is_ascii_hexdigit())
 }
 
 // Whether a value is a list of nothing.

@@ -48,26 +48,41 @@ impl Table {
     }
 }
 
+// What stands at a key of a plan.
 fn plan_shape(key: &str) -> Option<Shape> {
     match key {
         "args" => Some(Shape::Texts),
-        "capture" => Some(Shape::Named(Names::Captures)),
-        "flaky_result" => Some(Shape::Named(Names::Results)),
-        "global_timeout" => Some(Shape::U64),
         "groups" => Some(Shape::Objects(Table::Group)),
         "interceptor" => Some(Shape::Object(Table::Interceptor)),
         "max_fail" => Some(Shape::Object(Table::MaxFail)),
-        "mode" => Some(Shape::Named(Names::Modes)),
-        "nextest_version" | "recommended_version" | "required_version" => Some(Shape::Version),
-        "profile" | "workspace_root" => Some(Shape::Text),
         "retries" => Some(Shape::Object(Table::Retries)),
-        "run_id" => Some(Shape::Uuid),
         "runners" => Some(Shape::Object(Table::Runners)),
         "scripts" => Some(Shape::Objects(Table::Script)),
-        "signals" => Some(Shape::Named(Names::Handlers)),
-        "started_at" => Some(Shape::Moment),
         "tests" => Some(Shape::Objects(Table::Test)),
+        _ => plan_leaf(key),
+    }
+}
+
+// The same of a key at which no object stands.
+fn plan_leaf(key: &str) -> Option<Shape> {
+    match key {
+        "global_timeout" => Some(Shape::U64),
+        "nextest_version" | "recommended_version" | "required_version" => Some(Shape::Version),
+        "profile" | "workspace_root" => Some(Shape::Text),
+        "run_id" => Some(Shape::Uuid),
+        "started_at" => Some(Shape::Moment),
         "threads" => Some(Shape::U32),
+        _ => plan_choice(key),
+    }
+}
+
+// The same of a key at which a name stands.
+fn plan_choice(key: &str) -> Option<Shape> {
+    match key {
+        "capture" => Some(Shape::Named(Names::Captures)),
+        "flaky_result" => Some(Shape::Named(Names::Results)),
+        "mode" => Some(Shape::Named(Names::Modes)),
+        "signals" => Some(Shape::Named(Names::Handlers)),
         _ => None,
     }
 }
@@ -156,33 +171,41 @@ fn retries_shape(key: &str) -> Option<Shape> {
     }
 }
 
-/// The keys of a turn beside its name: those that it must have, and those of which it must have exactly one.
-#[derive(Clone, Copy, Drop)]
-pub(crate) struct TurnKeys {
-    pub(crate) all: &'static [&'static str],
-    pub(crate) one: &'static [&'static str],
+// The keys that the turn of a unit must have beside its name; none where no such turn has it.
+fn unit_turn_keys(name: &str) -> Option<&'static [&'static str]> {
+    match name {
+        "started" => Some(&["unit", "pid"]),
+        "start-failed" | "wait-failed" => Some(&["unit", "text"]),
+        "exit" | "env" | "take" => Some(&["unit"]),
+        "decide" => Some(&["unit", "word"]),
+        "piece" => Some(&["unit", "stream", "hex"]),
+        "stream-end" => Some(&["unit", "stream"]),
+        "read-error" => Some(&["unit", "stream", "text"]),
+        _ => None,
+    }
 }
 
-/// The keys of the turn of a name; none where no turn has it.
-pub(crate) fn turn_keys(name: &str) -> Option<TurnKeys> {
-    let (all, one): (&'static [&'static str], &'static [&'static str]) = match name {
-        "begin" | "admit" | "deliver" | "answer" | "tick" | "report-cancel" | "end" => (&[], &[]),
-        "started" => (&["unit", "pid"], &[]),
-        "start-failed" | "wait-failed" => (&["unit", "text"], &[]),
-        "exit" => (&["unit"], &["code", "signal"]),
-        "decide" => (&["unit", "word"], &[]),
-        "piece" => (&["unit", "stream", "hex"], &[]),
-        "stream-end" => (&["unit", "stream"], &[]),
-        "read-error" => (&["unit", "stream", "text"], &[]),
-        "env" => (&["unit"], &["hex", "failed"]),
-        "take" => (&["unit"], &[]),
-        "due" => (&[], &["unit", "timer"]),
-        "clock" => (&["ns"], &[]),
-        "signal" => (&["name"], &[]),
-        "key" => (&["code", "modified", "press"], &[]),
-        _ => return None,
-    };
-    Some(TurnKeys { all, one })
+/// The keys that a turn must have beside its name; none where no turn has it.
+pub(crate) fn turn_keys(name: &str) -> Option<&'static [&'static str]> {
+    match name {
+        "begin" | "admit" | "deliver" | "answer" | "tick" | "report-cancel" | "end" | "due" => {
+            Some(&[])
+        }
+        "clock" => Some(&["ns"]),
+        "signal" => Some(&["name"]),
+        "key" => Some(&["code", "modified", "press"]),
+        _ => unit_turn_keys(name),
+    }
+}
+
+/// The two keys of which a turn must have exactly one, if there are such.
+pub(crate) fn either_key(name: &str) -> Option<(&'static str, &'static str)> {
+    match name {
+        "exit" => Some(("code", "signal")),
+        "env" => Some(("hex", "failed")),
+        "due" => Some(("unit", "timer")),
+        _ => None,
+    }
 }
 
 /// What stands at a key of a turn.
@@ -192,12 +215,19 @@ pub(crate) fn turn_shape(turn: &str, key: &str) -> Shape {
         "ns" => Shape::U64,
         "code" if turn == "key" => Shape::KeyCode,
         "code" | "signal" => Shape::I32,
-        "stream" => Shape::Named(Names::Streams),
         "hex" => Shape::Hex,
+        "modified" | "press" => Shape::Truth,
+        _ => turn_choice(key),
+    }
+}
+
+// The same of a key at which a text stands.
+fn turn_choice(key: &str) -> Shape {
+    match key {
+        "stream" => Shape::Named(Names::Streams),
         "failed" => Shape::Named(Names::EnvFailures),
         "timer" => Shape::Named(Names::Timers),
         "name" => Shape::Named(Names::Signals),
-        "modified" | "press" => Shape::Truth,
         _ => Shape::Text,
     }
 }

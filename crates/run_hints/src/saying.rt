@@ -6,30 +6,50 @@ use std::alloc::{AllocError, Global};
 const USAGE: &str =
     "usage: nextest_run live < PLAN, or nextest_run replay < INPUT; nextest_run --help says more";
 
+const PLAN_HINT: &str =
+    "a plan is a JSON object on one line, with \"run_id\" and \"tests\": nextest_run --help has one";
+
+const TURN_HINT: &str =
+    "a turn is a JSON object on one line, as {\"turn\":\"begin\"}: nextest_run --help has an input";
+
+const LIVE_HINT: &str = "live takes a plan alone, on one line: jq -c puts a plan on one";
+
 // What is wrong, and what helps.
 #[derive(Drop)]
-struct Said {
+struct Message {
     error: String,
     hint: &'static str,
 }
 
-fn plain(alloc: Global, error: &str, hint: &'static str) -> Result<Said, AllocError> {
-    Ok(Said {
-        error: String::from_str(alloc, error)?,
+// What is wrong, where memory is there, and what helps.
+fn message_of(
+    error: Result<String, AllocError>,
+    hint: &'static str,
+) -> Result<Message, AllocError> {
+    Ok(Message {
+        error: error?,
         hint,
     })
 }
 
-// Of words that are no command.
-fn of_words(alloc: Global, words: &[String]) -> Result<Said, AllocError> {
-    let error = match words {
-        [] => String::from_str(alloc, "no command is given")?,
-        [command, word, ..] if command.as_str() == "live" || command.as_str() == "replay" => {
-            format!(in alloc; "unexpected word \"{word}\" after \"{command}\"")?
+fn plain(alloc: Global, error: &str, hint: &'static str) -> Result<Message, AllocError> {
+    message_of(String::from_str(alloc, error), hint)
+}
+
+// Whether a word is a command.
+fn is_command(word: &str) -> bool {
+    word == "live" || word == "replay"
+}
+
+// What is wrong with words that are no command.
+fn words_fault(alloc: Global, words: &[String]) -> Result<String, AllocError> {
+    match words {
+        [] => String::from_str(alloc, "no command is given"),
+        [command, word, ..] if is_command(command.as_str()) => {
+            format!(in alloc; "unexpected word \"{word}\" after \"{command}\"")
         }
-        [word, ..] => format!(in alloc; "unknown command \"{word}\"")?,
-    };
-    Ok(Said { error, hint: USAGE })
+        [word, ..] => format!(in alloc; "unknown command \"{word}\""),
+    }
 }
 
 // Whether the words are the command that takes a plan line alone.
@@ -40,78 +60,84 @@ fn is_live(words: &[String]) -> bool {
     }
 }
 
-// Of a line that is no plan or no turn.
-fn of_line(alloc: Global, words: &[String], input: &[u8], number: u64) -> Result<Said, AllocError> {
-    if number > 1 && is_live(words) {
-        return plain(
-            alloc,
-            "input line 2 is one too many",
-            "live takes a plan alone, on one line: jq -c puts a plan on one",
-        );
+// What is wrong with a line that is no plan, or no turn.
+fn line_text(
+    alloc: Global,
+    is_plan: bool,
+    input: &[u8],
+    number: u64,
+) -> Result<String, AllocError> {
+    let noun = if is_plan { "plan" } else { "turn" };
+    let line = line_at(input, number).unwrap_or(&[]);
+    match line_fault(alloc, is_plan, line)? {
+        Some(fault) => format!(in alloc; "input line {number} is not a {noun}: {fault}"),
+        None => format!(in alloc; "input line {number} is not a {noun}"),
     }
-    let is_plan = number <= 1;
-    let (noun, hint) = if is_plan {
-        (
-            "plan",
-            "a plan is a JSON object on one line, with \"run_id\" and \"tests\": nextest_run --help has one",
-        )
-    } else {
-        (
-            "turn",
-            "a turn is a JSON object on one line, as {\"turn\":\"begin\"}: nextest_run --help has an input",
-        )
-    };
-    if input.is_empty() {
-        return Ok(Said {
-            error: format!(in alloc; "the input is empty")?,
-            hint,
-        });
-    }
-    let cause = match line_at(input, number) {
-        Some(line) => line_fault(alloc, is_plan, line)?,
-        None => None,
-    };
-    let error = match cause {
-        Some(cause) => format!(in alloc; "input line {number} is not a {noun}: {cause}")?,
-        None => format!(in alloc; "input line {number} is not a {noun}")?,
-    };
-    Ok(Said { error, hint })
 }
 
-// Of a plan that breaks a rule.
-fn of_plan(alloc: Global, fault: &Value) -> Result<Said, AllocError> {
-    let test = number_at(fault, "test");
-    let group = number_at(fault, "group");
-    match fault.get("kind").and_then(Value::as_str) {
-        Some("duplicate-test") => Ok(Said {
-            error: format!(in alloc;
-                "the plan is refused: tests[{test}] has the binary and name of an earlier test"
-            )?,
-            hint: "each test has a binary and a name that no other test has",
-        }),
-        Some("unknown-group") => Ok(Said {
-            error: format!(in alloc;
-                "the plan is refused: tests[{test}] names a group that is not in \"groups\""
-            )?,
-            hint: "\"groups\" lists each group with its limit",
-        }),
-        Some("zero-weight") => Ok(Said {
-            error: format!(in alloc; "the plan is refused: tests[{test}] has a weight of 0")?,
-            hint: "a weight is 1 or more",
-        }),
-        Some("too-many-retries") => Ok(Said {
-            error: format!(in alloc; "the plan is refused: tests[{test}] has 4294967295 retries")?,
-            hint: "a test has fewer retries than 4294967295",
-        }),
-        _ if fault.get("group").is_some() => Ok(Said {
-            error: format!(in alloc; "the plan is refused: groups[{group}] has a limit of 0")?,
-            hint: "a limit is 1 or more",
-        }),
-        _ => plain(
+// Of a line that is no plan or no turn.
+fn of_line(
+    alloc: Global,
+    words: &[String],
+    input: &[u8],
+    number: u64,
+) -> Result<Message, AllocError> {
+    if input.is_empty() {
+        plain(alloc, "the input is empty", PLAN_HINT)
+    } else if number <= 1 {
+        message_of(line_text(alloc, true, input, number), PLAN_HINT)
+    } else if is_live(words) {
+        plain(alloc, "input line 2 is one too many", LIVE_HINT)
+    } else {
+        message_of(line_text(alloc, false, input, number), TURN_HINT)
+    }
+}
+
+// What is wrong with a test of a plan, by the kind of its fault, and what helps.
+fn test_fault(kind: &str) -> Option<(&'static str, &'static str)> {
+    match kind {
+        "duplicate-test" => Some((
+            "has the binary and name of an earlier test",
+            "each test has a binary and a name that no other test has",
+        )),
+        "unknown-group" => Some((
+            "names a group that is not in \"groups\"",
+            "\"groups\" lists each group with its limit",
+        )),
+        "zero-weight" => Some(("has a weight of 0", "a weight is 1 or more")),
+        "too-many-retries" => Some((
+            "has 4294967295 retries",
+            "a test has fewer retries than 4294967295",
+        )),
+        _ => None,
+    }
+}
+
+// Of a plan whose limit is 0: that of a group, or that on all tests.
+fn of_limit(alloc: Global, fault: &Value) -> Result<Message, AllocError> {
+    match fault.get("group").and_then(Value::as_u64) {
+        Some(group) => message_of(
+            format!(in alloc; "the plan is refused: groups[{group}] has a limit of 0"),
+            "a limit is 1 or more",
+        ),
+        None => plain(
             alloc,
             "the plan is refused: \"threads\" is 0",
             "threads are 1 or more",
         ),
+    }
+}
+
+// Of a plan that breaks a rule.
+fn of_plan(alloc: Global, fault: &Value) -> Result<Message, AllocError> {
+    let kind = fault.get("kind").and_then(Value::as_str).unwrap_or("");
+    let test = number_at(fault, "test");
+    match test_fault(kind) {
+        Some((what, hint)) => message_of(
+            format!(in alloc; "the plan is refused: tests[{test}] {what}"),
+            hint,
+        ),
+        None => of_limit(alloc, fault),
     }
 }
 
@@ -149,17 +175,17 @@ fn of_turn(
     fault: &Value,
     what: &str,
     hint: &'static str,
-) -> Result<Said, AllocError> {
+) -> Result<Message, AllocError> {
     let number = number_at(fault, "turn").saturating_add(2);
     let turn = turn_text(alloc, input, number)?;
-    Ok(Said {
-        error: format!(in alloc; "input line {number} {what}: {turn}")?,
+    message_of(
+        format!(in alloc; "input line {number} {what}: {turn}"),
         hint,
-    })
+    )
 }
 
 // Of a fault that says no place.
-fn of_fault(alloc: Global, status: u8) -> Result<Said, AllocError> {
+fn of_fault(alloc: Global, status: u8) -> Result<Message, AllocError> {
     let (error, hint) = match status {
         8 => (
             "the run is not over after the last line of the input",
@@ -209,9 +235,9 @@ fn said_of(
     status: u8,
     input: &[u8],
     last: &Value,
-) -> Result<Said, AllocError> {
+) -> Result<Message, AllocError> {
     match status {
-        2 => of_words(alloc, words),
+        2 => message_of(words_fault(alloc, words), USAGE),
         3 => of_line(alloc, words, input, number_at(last, "line")),
         5 => of_plan(alloc, last),
         6 => of_turn(
@@ -232,6 +258,18 @@ fn said_of(
     }
 }
 
+// The same, as lines.
+fn fault_text(
+    alloc: Global,
+    words: &[String],
+    status: u8,
+    input: &[u8],
+    last: &Value,
+) -> Result<String, AllocError> {
+    let Message { error, hint } = said_of(alloc, words, status, input, last)?;
+    format!(in alloc; "nextest_run: error: {error}\nhint: {hint}\n")
+}
+
 /// What standard error is to say of a run that these words asked for and that ended with this status, by the bytes of its
 /// input and the last line that was written: nothing of a success; of another outcome one line; of a fault one line that
 /// says what is wrong and where, and one that helps.
@@ -246,9 +284,8 @@ pub fn explain(
         return Ok(String::new(alloc));
     }
     let last = Value::from_slice(alloc, last).unwrap_or(Value::Null);
-    if let Some(error) = of_outcome(status, &last) {
-        return format!(in alloc; "nextest_run: error: {error}\n");
+    match of_outcome(status, &last) {
+        Some(error) => format!(in alloc; "nextest_run: error: {error}\n"),
+        None => fault_text(alloc, words, status, input, &last),
     }
-    let Said { error, hint } = said_of(alloc, words, status, input, &last)?;
-    format!(in alloc; "nextest_run: error: {error}\nhint: {hint}\n")
 }
