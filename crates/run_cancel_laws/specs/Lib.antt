@@ -1,0 +1,5 @@
+pub mod Requests
+pub mod Enabled
+pub mod Reach
+pub mod Groups
+pub mod Scripts
