@@ -1,0 +1,192 @@
+-- Which turns tell that the run starts.
+use Rattle.std.proofs.Common.{◌≡◌, ℕ, ◌||◌, List, [], ◌∷◌, ◌++◌, Bool, true, false, not, if◌then◌else◌, Option, Some}
+use Rattle.std.proofs.Common.{None, is_some, option_map, option_and_then, option_to_list, reverse, refl, ap, sym, subst}
+use Rattle.std.proofs.Common.{◌∙◌}
+use Rattle.std.specs.Prelude.{IfSome}
+use Rattle.std.specs.Cmp.{second_so}
+use Rattle.std.specs.List.{All, list_any}
+use Rattle.std.proofs.lemmas.List.{reverse-append}
+use Rattle.std.proofs.lemmas.List.Elements.{All-nil, All-cons, All-append}
+use Rattle.std.proofs.lemmas.List.Folds.{list_any-append}
+use Rattle.run_events.specs.declared.settings.Settings.{Settings}
+use Rattle.run_events.specs.declared.turn.Turn.{Turn}
+use Rattle.run_events.specs.declared.turn.Turn.TheVariants.{Admit, Deliver}
+use Rattle.run_events.specs.declared.message.Message.{Message}
+use Rattle.run_events.specs.declared.message.Message.TheVariants.{ScriptStart, Start, Retry}
+use Rattle.run_events.specs.declared.events.ReporterEvent.{ReporterEvent}
+use Rattle.run_events.specs.declared.events.ReporterEvent.TheVariants.{Tick, Test}
+use Rattle.run_events.specs.declared.events.RunStarted.{RunStarted}
+use Rattle.run_events.specs.declared.events.TestEventKind.{TestEventKind}
+use Rattle.run_events.specs.declared.events.TestEventKind.TheVariants.{RunBeginCancel, RunBeginKill, SetupScriptStarted}
+use Rattle.run_model.specs.declared.dispatcher_view.Tally.{Tally}
+use Rattle.run_model.specs.declared.entry.Entry.{Entry}
+use Rattle.run_model.specs.declared.happening.Happening.{Happening}
+use Rattle.run_model.specs.Words.{clock, is_over, sub_run, tally}
+use Rattle.run_model.specs.Admission.{Newcomer, newcomer}
+use Rattle.run_model.specs.Dispatch.{event, head_of, may_go, having_told, told_of, go_of, started_event, retried_event}
+use Rattle.run_model.specs.Dispatch.{with_start}
+use Rattle.run_model.specs.Board.{Board, Deed, board}
+use Rattle.run_model.specs.Cancel.{Cause, cause_of, caused}
+use Rattle.run_model.specs.Turns.{enabled_on, takes_turn, turn_of_unit, admission, starting, answer_to, event_of}
+use Rattle.run_model.specs.Turns.{tally_with, delivered_as, delivery, done_by, deed_on, happening}
+use Rattle.run_model.specs.Journal.{past_of, IsLegal, IsLegalBackward}
+use Rattle.run_laws.proofs.ByTurn.{by_turn}
+use Rattle.run_laws.proofs.Cancels.{IsCancel, IsCancelKind, cancel_is}
+use Rattle.run_laws.proofs.Deeds.{Does}
+use Rattle.run_laws.proofs.Kept.{does_after, holds}
+use Rattle.run_count_laws.specs.RunStart.{run_start_in, run_start, is_begin, IsStartOf, TellsRunStart}
+
+-- the start of a run that an event tells, of none or one
+abbrev start_of : Option ReporterEvent → Option RunStarted
+start_of o = option_and_then run_start o
+
+-- a deed tells that the run starts exactly where a sub-run begins with it, with the head
+abbrev TellsStart : RunStarted → Deed → Type 0
+TellsStart head d = start_of d.told ≡ (if d.begins then Some head else None)
+
+-- the delivery of a message tells no such thing
+if_going : (now : ℕ) (go : Bool) (kind : TestEventKind) → run_start_in kind ≡ None
+    → start_of (option_map (event now) (if go then Some kind else None)) ≡ None
+if_going now true kind h = h
+if_going now false kind h = refl
+
+message_starts : (now : ℕ) (t : Tally) (m : Message) → start_of (option_map (event now) (told_of t m)) ≡ None
+message_starts now t (ScriptStart start) = if_going now (may_go t) (SetupScriptStarted start) refl
+message_starts now t (Start start) = if_going now (may_go t) (started_event start (with_start t)) refl
+message_starts now t (Retry retry) = if_going now (may_go t) (retried_event retry t) refl
+message_starts now t m = refl
+
+caused_starts : (head : RunStarted) (now : ℕ) (t : Tally) (o : Option Cause) (d : Deed) → TellsStart head d
+    → TellsStart head (caused now t o d)
+caused_starts head now t None d h = h
+caused_starts head now t (Some cause) d h = h
+
+delivery_starts : (b : Board) (q : List Message) → TellsStart b.dispatcher.head (delivery b q)
+delivery_starts b [] = refl
+delivery_starts b (m ∷ rest) =
+    let tells : Option ReporterEvent = event_of b m in
+    caused_starts b.dispatcher.head b.clock (tally_with b tells) (cause_of b.dispatcher.rules (tally_with b tells) m)
+    (delivered_as b m (answer_to b (starting m) (go_of b.dispatcher.tally m)))
+    (message_starts b.clock b.dispatcher.tally m)
+
+admission_starts : (b : Board) (o : Option Newcomer) → TellsStart b.dispatcher.head (admission o)
+admission_starts b None = refl
+admission_starts b (Some new) = refl
+
+starts_run : (p : Settings) (b : Board) (turn : Turn) → enabled_on p b turn ≡ true
+    → TellsStart b.dispatcher.head (deed_on p b turn)
+starts_run p b turn en =
+    by_turn (λ turn named. takes_turn p b turn named ≡ true → TellsStart b.dispatcher.head (done_by p b turn named))
+    (record {
+      begin = λ en. refl;
+      admit = λ en. admission_starts b (newcomer p b.units);
+      deliver = λ en. delivery_starts b b.queue;
+      named = λ turn k to other en. refl;
+      clock = λ ns en. refl;
+      signal = λ signal en. refl;
+      global_due = λ en. refl;
+      report_cancel = λ en. refl;
+      end = λ en. refl;
+      unbuilt = λ turn never en. let no_turn : false ≡ true = sym (never p b) ∙ en in cc;
+    })
+    turn (second_so (not b.dispatcher.over) (takes_turn p b turn (turn_of_unit turn)) en)
+
+-- a sub-run begins with a begin
+caused_begins : (now : ℕ) (t : Tally) (o : Option Cause) (d : Deed) → (caused now t o d).begins ≡ d.begins
+caused_begins now t None d = refl
+caused_begins now t (Some cause) d = refl
+
+delivery_begins : (b : Board) (q : List Message) → (delivery b q).begins ≡ false
+delivery_begins b [] = refl
+delivery_begins b (m ∷ rest) =
+    let tells : Option ReporterEvent = event_of b m in
+    caused_begins b.clock (tally_with b tells) (cause_of b.dispatcher.rules (tally_with b tells) m)
+    (delivered_as b m (answer_to b (starting m) (go_of b.dispatcher.tally m)))
+
+admission_begins : (o : Option Newcomer) → (admission o).begins ≡ false
+admission_begins None = refl
+admission_begins (Some new) = refl
+
+begins-is : (p : Settings) (b : Board) (turn : Turn) → (deed_on p b turn).begins ≡ is_begin turn
+begins-is p b Admit = admission_begins (newcomer p b.units)
+begins-is p b Deliver = delivery_begins b b.queue
+begins-is p b turn = refl
+
+-- the event of a cause tells no such thing
+cancel_starts : (o : Option ReporterEvent) → IsCancel o → start_of o ≡ None
+cancel_starts None h = refl
+cancel_starts (Some Tick) h = absurd h
+cancel_starts (Some (Test event)) h = by_kind event.kind h
+  where
+    by_kind : (kind : TestEventKind) → IsCancelKind kind → run_start_in kind ≡ None
+    by_kind (RunBeginCancel event) h = refl
+    by_kind (RunBeginKill event) h = refl
+    by_kind kind h = absurd h
+
+-- what a turn tells, as a list
+any_start : (o : Option ReporterEvent)
+    → list_any (λ event. is_some (run_start event)) (option_to_list o) ≡ is_some (start_of o)
+any_start None = refl
+any_start (Some event) = or_false (is_some (run_start event))
+  where
+    or_false : (b : Bool) → (b || false) ≡ b
+    or_false true = refl
+    or_false false = refl
+
+each_start : (p : Settings) (o : Option ReporterEvent) → IfSome (start_of o) (IsStartOf p)
+    → All (λ event. IfSome (run_start event) (IsStartOf p)) (option_to_list o)
+each_start p None h = All-nil (λ event. IfSome (run_start event) (IsStartOf p))
+each_start p (Some event) h =
+    All-cons (λ event. IfSome (run_start event) (IsStartOf p)) event [] h
+    (All-nil (λ event. IfSome (run_start event) (IsStartOf p)))
+
+head_starts : (p : Settings) (b : Bool) → IfSome (if b then Some (head_of p) else None) (IsStartOf p)
+head_starts p true = record { run_id = refl; tests = refl; args = refl; profile = refl; stress = refl }
+head_starts p false = tt
+
+some_if : (head : RunStarted) (b : Bool) → is_some (if b then Some head else None) ≡ b
+some_if head true = refl
+some_if head false = refl
+
+-- so each turn of a legal journal tells that the run starts exactly where it begins it
+pub run_starts : (p : Settings) (journal : List Entry) (e : Entry) → IsLegal p (journal ++ e ∷ [])
+    → TellsRunStart p (sub_run (past_of p journal)) (happening p (past_of p journal) e)
+run_starts p journal e legal = record {
+  exactly = list_any-append (λ event. is_some (run_start event)) (option_to_list d.told) (option_to_list d.cancel)
+      ∙ ap (λ b. list_any (λ event. is_some (run_start event)) (option_to_list d.told) || b)
+      (any_start d.cancel ∙ ap is_some none)
+      ∙ or_false (list_any (λ event. is_some (run_start event)) (option_to_list d.told))
+      ∙ any_start d.told ∙ ap is_some own ∙ some_if (head_of p) d.begins ∙ begins;
+  first = λ is. does.marks.begins (begins ∙ is);
+  of_plan = All-append (λ event. IfSome (run_start event) (IsStartOf p)) (option_to_list d.told)
+      (option_to_list d.cancel)
+      (each_start p d.told (subst (λ o. IfSome o (IsStartOf p)) (sym own) (head_starts p d.begins)))
+      (each_start p d.cancel (subst (λ o. IfSome o (IsStartOf p)) (sym none) tt));
+}
+  where
+    backward : IsLegalBackward p (e ∷ reverse journal)
+    backward = subst (IsLegalBackward p) (reverse-append journal (e ∷ [])) legal
+
+    past : List Happening
+    past = past_of p journal
+
+    d : Deed
+    d = deed_on p (board p past) e.turn
+
+    does : Does p (is_over past) (clock past) (sub_run past) d
+    does = does_after p past e (holds p (reverse journal) backward.2) backward.0
+
+    own : start_of d.told ≡ (if d.begins then Some (head_of p) else None)
+    own = starts_run p (board p past) e.turn backward.0
+
+    begins : d.begins ≡ is_begin e.turn
+    begins = begins-is p (board p past) e.turn
+
+    none : start_of d.cancel ≡ None
+    none = cancel_starts d.cancel
+        (subst IsCancel (sym does.marks.cancel)
+        (cancel_is (clock past) (having_told (tally p (sub_run past)) d.told) d.cause))
+
+    or_false : (b : Bool) → (b || false) ≡ b
+    or_false true = refl
+    or_false false = refl

@@ -1,0 +1,11 @@
+pub mod OwnEvents
+pub mod CauseEvents
+pub mod CountLemmas
+pub mod SlotLemmas
+pub mod StartedLemmas
+pub mod SlotsTold
+pub mod PlanLemmas
+pub mod WithinLemmas
+pub mod BeginLemmas
+pub mod IdleLemmas
+pub mod IdleBoards

@@ -1,0 +1,113 @@
+-- What the own event of each turn says of the board: its moment, and the counts with that event.
+use Rattle.std.proofs.Common.{◌≡◌, ℕ, List, [], ◌∷◌, Bool, true, false, not, if◌then◌else◌, Option, Some, None}
+use Rattle.std.proofs.Common.{option_map, refl, sym, ◌∙◌}
+use Rattle.std.specs.Prelude.{IfSome}
+use Rattle.std.specs.Cmp.{second_so}
+use Rattle.run_events.specs.declared.settings.Settings.{Settings}
+use Rattle.run_events.specs.declared.turn.Turn.{Turn}
+use Rattle.run_events.specs.declared.message.Message.{Message}
+use Rattle.run_events.specs.declared.message.Message.TheVariants.{ScriptStart, ScriptSlow, ScriptFinish, Start, Slow}
+use Rattle.run_events.specs.declared.message.Message.TheVariants.{AttemptFailed, Retry, Skip, Finish}
+use Rattle.run_events.specs.declared.events.ReporterEvent.{ReporterEvent}
+use Rattle.run_events.specs.declared.events.RunFinishedStats.TheVariants.{Single}
+use Rattle.run_events.specs.declared.events.TestEventKind.{TestEventKind}
+use Rattle.run_events.specs.declared.events.TestEventKind.TheVariants.{SetupScriptStarted}
+use Rattle.run_model.specs.declared.dispatcher_view.Tally.{Tally}
+use Rattle.run_model.specs.Admission.{Newcomer, newcomer}
+use Rattle.run_model.specs.Dispatch.{event, may_go, tallied, having_told, told_of, go_of, started_event, retried_event}
+use Rattle.run_model.specs.Dispatch.{with_start}
+use Rattle.run_model.specs.Board.{Board, Deed}
+use Rattle.run_model.specs.Cancel.{Cause, cause_of, caused}
+use Rattle.run_model.specs.Turns.{enabled_on, takes_turn, turn_of_unit, admission, starting, answer_to, event_of}
+use Rattle.run_model.specs.Turns.{tally_with, delivered_as, delivery, done_by, deed_on}
+use Rattle.run_laws.proofs.ByTurn.{by_turn}
+use Rattle.run_count_laws.specs.Moments.{SaysMoment}
+use Rattle.run_count_laws.specs.Counts.{running_said_in, running_said, scripts_said_in, scripts_said, stats_said_in}
+use Rattle.run_count_laws.specs.Counts.{stats_said}
+
+-- an event says what these counts are
+pub record SaysTally (t : Tally) (e : ReporterEvent) : Type 0 where
+  pub running : IfSome (running_said e) (λ n. n ≡ t.running)
+  pub scripts : IfSome (scripts_said e) (λ n. n ≡ t.scripts_running)
+  pub stats : IfSome (stats_said e) (λ s. s ≡ Single t.stats)
+
+-- what is told by a board says its moment, and the counts with that event
+pub record TellsBoard (b : Board) (o : Option ReporterEvent) : Type 0 where
+  pub moment : IfSome o (SaysMoment b.clock)
+  pub counts : IfSome o (SaysTally (having_told b.dispatcher.tally o))
+
+-- nothing says nothing
+silent : (b : Board) → TellsBoard b None
+silent b = record { moment = tt; counts = tt }
+
+-- an event of this kind says the counts with it
+record CountsItself (t : Tally) (kind : TestEventKind) : Type 0 where
+  running : IfSome (running_said_in kind) (λ n. n ≡ (tallied kind t).running)
+  scripts : IfSome (scripts_said_in kind) (λ n. n ≡ (tallied kind t).scripts_running)
+  stats : IfSome (stats_said_in kind) (λ s. s ≡ Single (tallied kind t).stats)
+
+of_kind : (b : Board) (o : Option TestEventKind) → IfSome o (CountsItself b.dispatcher.tally)
+    → TellsBoard b (option_map (event b.clock) o)
+of_kind b None h = silent b
+of_kind b (Some kind) h = record {
+  moment = (refl, refl);
+  counts = record { running = h.running; scripts = h.scripts; stats = h.stats };
+}
+
+-- what is told where a unit is let go
+if_going : (t : Tally) (go : Bool) (kind : TestEventKind) → CountsItself t kind
+    → IfSome (if go then Some kind else None) (CountsItself t)
+if_going t true kind h = h
+if_going t false kind h = tt
+
+-- what the delivery of each message tells
+message_counts : (t : Tally) (m : Message) → IfSome (told_of t m) (CountsItself t)
+message_counts t (ScriptStart start) =
+    if_going t (may_go t) (SetupScriptStarted start) (record { running = tt; scripts = tt; stats = tt })
+message_counts t (ScriptSlow slow) = record { running = tt; scripts = tt; stats = tt }
+message_counts t (ScriptFinish finish) = record { running = tt; scripts = tt; stats = tt }
+message_counts t (Start start) =
+    if_going t (may_go t) (started_event start (with_start t)) (record { running = refl; scripts = tt; stats = refl })
+message_counts t (Skip skip) = record { running = tt; scripts = tt; stats = tt }
+message_counts t (Slow slow) = record { running = tt; scripts = tt; stats = tt }
+message_counts t (AttemptFailed failure) = record { running = refl; scripts = tt; stats = tt }
+message_counts t (Retry retry) =
+    if_going t (may_go t) (retried_event retry t) (record { running = refl; scripts = tt; stats = tt })
+message_counts t (Finish finish) = record { running = refl; scripts = tt; stats = refl }
+
+-- a cause leaves the own event of a deed
+caused_tells : (b : Board) (now : ℕ) (t : Tally) (o : Option Cause) (d : Deed) → TellsBoard b d.told
+    → TellsBoard b (caused now t o d).told
+caused_tells b now t None d h = h
+caused_tells b now t (Some cause) d h = h
+
+delivery_tells : (b : Board) (q : List Message) → TellsBoard b (delivery b q).told
+delivery_tells b [] = silent b
+delivery_tells b (m ∷ rest) =
+    let tells : Option ReporterEvent = event_of b m in
+    caused_tells b b.clock (tally_with b tells) (cause_of b.dispatcher.rules (tally_with b tells) m)
+    (delivered_as b m (answer_to b (starting m) (go_of b.dispatcher.tally m)))
+    (of_kind b (told_of b.dispatcher.tally m) (message_counts b.dispatcher.tally m))
+
+admission_tells : (b : Board) (o : Option Newcomer) → TellsBoard b (admission o).told
+admission_tells b None = silent b
+admission_tells b (Some new) = silent b
+
+-- so the own event of each enabled turn
+pub own_tells : (p : Settings) (b : Board) (turn : Turn) → enabled_on p b turn ≡ true
+    → TellsBoard b (deed_on p b turn).told
+own_tells p b turn en =
+    by_turn (λ turn named. takes_turn p b turn named ≡ true → TellsBoard b (done_by p b turn named).told)
+    (record {
+      begin = λ en. record { moment = (refl, refl); counts = record { running = tt; scripts = tt; stats = tt } };
+      admit = λ en. admission_tells b (newcomer p b.units);
+      deliver = λ en. delivery_tells b b.queue;
+      named = λ turn k to other en. silent b;
+      clock = λ ns en. silent b;
+      signal = λ signal en. silent b;
+      global_due = λ en. silent b;
+      report_cancel = λ en. silent b;
+      end = λ en. record { moment = (refl, refl); counts = record { running = tt; scripts = tt; stats = refl } };
+      unbuilt = λ turn never en. let no_turn : false ≡ true = sym (never p b) ∙ en in cc;
+    })
+    turn (second_so (not b.dispatcher.over) (takes_turn p b turn (turn_of_unit turn)) en)

@@ -1,0 +1,195 @@
+-- The starts that are told have the slots that the plan gives.
+use Rattle.std.proofs.Common.{◌≡◌, ◌⊎◌, inl, inr, ℕ, ◌<◌, List, [], ◌∷◌, ◌++◌, Bool, true, false, not, Option, Some}
+use Rattle.std.proofs.Common.{None, option_and_then, option_to_list, refl, ap, sym, subst, ◌∙◌}
+use Rattle.std.specs.Prelude.{⊤, IfSome}
+use Rattle.std.specs.Cmp.{second_so}
+use Rattle.std.specs.List.{All}
+use Rattle.std.proofs.lemmas.List.Elements.{All-nil, All-cons, All-append, All-drop, All-head}
+use Rattle.run_events.specs.declared.settings.Settings.{Settings}
+use Rattle.run_events.specs.declared.turn.Turn.{Turn}
+use Rattle.run_events.specs.declared.message.Message.{Message}
+use Rattle.run_events.specs.declared.message.Message.TheVariants.{Start}
+use Rattle.run_events.specs.declared.events.ReporterEvent.{ReporterEvent}
+use Rattle.run_events.specs.declared.events.ReporterEvent.TheVariants.{Tick, Test}
+use Rattle.run_events.specs.declared.events.TestEventKind.{TestEventKind}
+use Rattle.run_events.specs.declared.events.TestEventKind.TheVariants.{SetupScriptStarted, TestStarted, RunBeginCancel}
+use Rattle.run_events.specs.declared.events.TestEventKind.TheVariants.{RunBeginKill}
+use Rattle.run_model.specs.declared.dispatcher_view.Tally.{Tally}
+use Rattle.run_model.specs.declared.entry.Entry.{Entry}
+use Rattle.run_model.specs.declared.happening.Happening.{Happening}
+use Rattle.run_model.specs.declared.happening.UnitPart.{UnitPart}
+use Rattle.run_model.specs.declared.happening.UnitPart.TheVariants.{Joins, Acts}
+use Rattle.run_model.specs.declared.unit_turn.UnitTurn.{UnitTurn}
+use Rattle.run_model.specs.declared.unit_turn.UnitTurn.TheVariants.{Answered}
+use Rattle.run_model.specs.declared.unit_view.UnitView.{UnitView}
+use Rattle.run_model.specs.Unit.{at_moment, row}
+use Rattle.run_model.specs.Words.{clock, delivered, is_over, queue, sent, sub_run, told, tally}
+use Rattle.run_model.specs.Admission.{scripts_in, Newcomer, newcomer}
+use Rattle.run_model.specs.Dispatch.{having_told, go_of}
+use Rattle.run_model.specs.Board.{Board, Deed, board, said, unit_in}
+use Rattle.run_model.specs.Cancel.{Cause, cause_of, caused}
+use Rattle.run_model.specs.Turns.{enabled_on, takes_turn, turn_of_unit, admission, starting, answer_to, event_of}
+use Rattle.run_model.specs.Turns.{tally_with, taken_by, delivered_as, delivery, done_by, deed_on}
+use Rattle.run_model.specs.Journal.{history, IsLegalBackward}
+use Rattle.run_laws.proofs.ByTurn.{by_turn}
+use Rattle.run_laws.proofs.Cancels.{IsCancel, IsCancelKind, cancel_is}
+use Rattle.run_laws.proofs.Deeds.{ToldFits, ToldFitsIn, IsInOrder, PartFits, IsSentAs, Does}
+use Rattle.run_laws.proofs.FaceLemmas.{said_in, SendsNoStart, row_sends_none}
+use Rattle.run_laws.proofs.Kept.{HoldsAfter, does_after, IsOfRun, IsBeforeRuns, where_joins, holds}
+use Rattle.run_laws.proofs.Rows.{takes_moment}
+use Rattle.run_count_laws.proofs.SlotLemmas.{StartFits, MessageFits, newcomer_fits}
+
+-- the message of a unit that joins fits
+JoinsFit : Settings → Deed → Type 0
+JoinsFit p d = (first : UnitView) → d.part ≡ Some (Joins first) → IfSome d.sent (MessageFits p)
+
+caused_joins : (p : Settings) (now : ℕ) (t : Tally) (o : Option Cause) (d : Deed) → JoinsFit p d
+    → JoinsFit p (caused now t o d)
+unfolding JoinsFit
+caused_joins p now t None d h = h
+caused_joins p now t (Some cause) d h = h
+
+admission_joins : (p : Settings) (b : Board) (o : Option Newcomer) → newcomer p b.units ≡ o → JoinsFit p (admission o)
+unfolding JoinsFit
+admission_joins p b None is = λ first e. cc
+admission_joins p b (Some new) is = λ first e. newcomer_fits p b.units new is
+
+taken_joins : (p : Settings) (now k : ℕ) (turn : UnitTurn) (v : Option UnitView) → JoinsFit p (taken_by now k turn v)
+unfolding JoinsFit
+taken_joins p now k turn None = λ first e. cc
+taken_joins p now k turn (Some u) = λ first e. cc
+
+answer_joins : (p : Settings) (b : Board) (m : Message) (o : Option ℕ) (go : Option Bool)
+    → JoinsFit p (delivered_as b m (answer_to b o go))
+unfolding JoinsFit
+answer_joins p b m (Some k) (Some go) = taken_joins p b.clock k (Answered go) (unit_in b k)
+answer_joins p b m (Some k) None = λ first e. cc
+answer_joins p b m None go = λ first e. cc
+
+delivery_joins : (p : Settings) (b : Board) (q : List Message) → JoinsFit p (delivery b q)
+unfolding JoinsFit
+delivery_joins p b [] = λ first e. cc
+delivery_joins p b (m ∷ rest) =
+    let tells : Option ReporterEvent = event_of b m in
+    caused_joins p b.clock (tally_with b tells) (cause_of b.dispatcher.rules (tally_with b tells) m)
+    (delivered_as b m (answer_to b (starting m) (go_of b.dispatcher.tally m)))
+    (answer_joins p b m (starting m) (go_of b.dispatcher.tally m))
+
+joins_fit : (p : Settings) (b : Board) (turn : Turn) → enabled_on p b turn ≡ true → JoinsFit p (deed_on p b turn)
+unfolding JoinsFit
+joins_fit p b turn en =
+    by_turn (λ turn named. takes_turn p b turn named ≡ true → JoinsFit p (done_by p b turn named))
+    (record {
+      begin = λ en first e. cc;
+      admit = λ en. admission_joins p b (newcomer p b.units) refl;
+      deliver = λ en. delivery_joins p b b.queue;
+      named = λ turn k to other en. taken_joins p b.clock k to (unit_in b k);
+      clock = λ ns en first e. cc;
+      signal = λ signal en first e. cc;
+      global_due = λ en first e. cc;
+      report_cancel = λ en first e. cc;
+      end = λ en first e. cc;
+      unbuilt = λ turn never en. let no_turn : false ≡ true = sym (never p b) ∙ en in cc;
+    })
+    turn (second_so (not b.dispatcher.over) (takes_turn p b turn (turn_of_unit turn)) en)
+
+-- so each message that is sent fits: a unit's own turn sends no start
+no_start_fits : (p : Settings) (o : Option Message) → SendsNoStart o → IfSome o (MessageFits p)
+no_start_fits p None h = tt
+no_start_fits p (Some (Start start)) h = cc
+no_start_fits p (Some m) h = tt
+
+sent_fits : (p : Settings) (now : ℕ) (run : List Happening) (d : Deed) (part : Option UnitPart) → d.part ≡ part
+    → PartFits p now run part → IsSentAs now run part d.sent → JoinsFit p d → IfSome d.sent (MessageFits p)
+unfolding JoinsFit
+sent_fits p now run d None is fits from joins = subst (λ o. IfSome o (MessageFits p)) (sym from) tt
+sent_fits p now run d (Some (Joins first)) is fits from joins = joins first is
+sent_fits p now run d (Some (Acts j turn)) is taken from joins =
+    let u : UnitView = taken.unit in
+    let sends : d.sent ≡ (row now turn u).sent =
+    from ∙ ap (option_and_then (λ v. (row now turn v).sent)) taken.is in
+    subst (λ o. IfSome o (MessageFits p)) (sym sends)
+    (no_start_fits p (row now turn u).sent
+    (row_sends_none now u.phase turn (at_moment now u) refl (takes_moment now u.phase u turn taken.takes)))
+
+-- a start that is told fits: that of a script has the number of one, and that of a test the slots of the plan
+abbrev pub KindFits : Settings → TestEventKind → Type 0
+KindFits p (SetupScriptStarted event) = event.script.unit < scripts_in p
+KindFits p (TestStarted event) = StartFits p event.start
+KindFits p _ = ⊤
+
+abbrev pub EventFits : Settings → ReporterEvent → Type 0
+EventFits p (Test event) = KindFits p event.kind
+EventFits p _ = ⊤
+
+own_fits : (p : Settings) (run : List Happening) (event : ReporterEvent) → All (MessageFits p) (sent run)
+    → ToldFits p (told run) (Some event) → IsInOrder p run event → EventFits p event
+own_fits p run Tick sends fits order = tt
+own_fits p run (Test event) sends fits order = by_kind event.kind fits order.said
+  where
+    by_kind : (kind : TestEventKind) → ToldFitsIn p (told run) kind
+        → ((m : Message) → said_in kind ≡ Some m → (rest : List Message) × (queue run ≡ m ∷ rest)) → KindFits p kind
+    by_kind (SetupScriptStarted event) fits said = fits.0
+    by_kind (TestStarted event) fits said =
+        let oldest = said (Start event.start) refl in
+        All-head (MessageFits p) (Start event.start) oldest.0
+        (subst (All (MessageFits p)) oldest.1 (All-drop (MessageFits p) (delivered run) (sent run) sends))
+    by_kind kind fits said = tt
+
+cancel_fits : (p : Settings) (event : ReporterEvent) → IsCancel (Some event) → EventFits p event
+cancel_fits p Tick h = tt
+cancel_fits p (Test event) h = by_kind event.kind h
+  where
+    by_kind : (kind : TestEventKind) → IsCancelKind kind → KindFits p kind
+    by_kind (RunBeginCancel event) h = tt
+    by_kind (RunBeginKill event) h = tt
+    by_kind kind h = absurd h
+
+-- what holds of the messages sent and the events told
+record AreFit (p : Settings) (run : List Happening) : Type 0 where
+  sends : All (MessageFits p) (sent run)
+  tells : All (EventFits p) (told run)
+
+each : {X : Type 0} (P : X → Type 0) (o : Option X) → ((x : X) → o ≡ Some x → P x) → All P (option_to_list o)
+each P None h = All-nil P
+each P (Some x) h = All-cons P x [] (h x refl) (All-nil P)
+
+fit-cons : (p : Settings) (over : Bool) (now : ℕ) (run : List Happening) (e : Entry) (d : Deed) → Does p over now run d
+    → JoinsFit p d → AreFit p run → AreFit p (said now e d ∷ run)
+fit-cons p over now run e d does joins was = record {
+  sends = All-append (MessageFits p) (sent run) (option_to_list d.sent) was.sends
+      (each (MessageFits p) d.sent (λ m is. subst (λ o. IfSome o (MessageFits p)) is
+      (sent_fits p now run d d.part refl does.part does.sent_as joins)));
+  tells = All-append (EventFits p) (told run) (option_to_list d.told ++ option_to_list d.cancel) was.tells
+      (All-append (EventFits p) (option_to_list d.told) (option_to_list d.cancel)
+      (each (EventFits p) d.told (λ event is. own_fits p run event was.sends
+      (subst (ToldFits p (told run)) is does.tells) (subst (λ o. IfSome o (IsInOrder p run)) is does.order)))
+      (each (EventFits p) d.cancel (λ event is. cancel_fits p event (subst IsCancel is cancels))));
+}
+  where
+    cancels : IsCancel d.cancel
+    cancels = subst IsCancel (sym does.marks.cancel) (cancel_is now (having_told (tally p run) d.told) d.cause)
+
+fit-nil : (p : Settings) → AreFit p []
+fit-nil p = record { sends = All-nil (MessageFits p); tells = All-nil (EventFits p) }
+
+-- in the newest sub-run after every legal journal
+are_fit : (p : Settings) (backward : List Entry) → IsLegalBackward p backward → AreFit p (sub_run (history p backward))
+are_fit p [] legal = fit-nil p
+are_fit p (e ∷ before) legal = one_more (are_fit p before legal.2) (holds p before legal.2)
+  where
+    past : List Happening
+    past = history p before
+
+    one_more : AreFit p (sub_run past) → HoldsAfter p past → AreFit p (sub_run (history p (e ∷ before)))
+    one_more was h = by_run (where_joins p past e h legal.0)
+      where
+        by_run : IsOfRun p past e ⊎ IsBeforeRuns p past e → AreFit p (sub_run (history p (e ∷ before)))
+        by_run (inl of) = subst (AreFit p) (sym of.joins)
+            (fit-cons p (is_over past) (clock past) (sub_run past) e (deed_on p (board p past) e.turn)
+            (does_after p past e h legal.0) (joins_fit p (board p past) e.turn legal.0) was)
+        by_run (inr none) = subst (AreFit p) (sym none.still) (fit-nil p)
+
+pub told_fit : (p : Settings) (backward : List Entry) → IsLegalBackward p backward
+    → All (EventFits p) (told (sub_run (history p backward)))
+told_fit p backward legal = (are_fit p backward legal).tells

@@ -1,0 +1,5 @@
+pub mod Moments
+pub mod Counts
+pub mod PlanLimits
+pub mod RunStart
+pub mod Idle
