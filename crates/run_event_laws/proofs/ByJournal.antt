@@ -1,0 +1,38 @@
+-- What holds of the newest sub-run after every legal journal, by one turn more.
+use Rattle.std.proofs.Common.{◌≡◌, ◌⊎◌, inl, inr, ℕ, List, [], ◌∷◌, Bool, true, sym, subst}
+use Rattle.run_events.specs.declared.settings.Settings.{Settings}
+use Rattle.run_model.specs.declared.entry.Entry.{Entry}
+use Rattle.run_model.specs.declared.happening.Happening.{Happening}
+use Rattle.run_model.specs.Board.{said}
+use Rattle.run_model.specs.Journal.{history, IsLegalBackward}
+use Rattle.run_model.specs.Turns.{enabled_on, deed_on}
+use Rattle.run_model.specs.Words.{clock, is_over, sub_run, was_refused}
+use Rattle.run_laws.proofs.Deeds.{Does}
+use Rattle.run_laws.proofs.Holds.{Holds}
+use Rattle.run_laws.proofs.Kept.{HoldsAfter, does_after, IsOfRun, IsBeforeRuns, where_joins, holds}
+use Rattle.run_laws.proofs.OnBoard.{board_with}
+
+-- it is kept by each enabled turn
+abbrev pub IsKept : Settings → (List Happening → Type 0) → Type 0
+IsKept p P = (over refused : Bool) (now : ℕ) (run : List Happening) (e : Entry) → Holds p over now run
+    → enabled_on p (board_with p refused over now run) e.turn ≡ true
+    → Does p over now run (deed_on p (board_with p refused over now run) e.turn)
+    → P run → P (said now e (deed_on p (board_with p refused over now run) e.turn) ∷ run)
+
+pub by_journal : (p : Settings) (P : List Happening → Type 0) → P [] → IsKept p P → (backward : List Entry)
+    → IsLegalBackward p backward → P (sub_run (history p backward))
+by_journal p P none kept [] legal = none
+by_journal p P none kept (e ∷ before) legal =
+    one_more (by_journal p P none kept before legal.2) (holds p before legal.2)
+  where
+    past : List Happening
+    past = history p before
+
+    one_more : P (sub_run past) → HoldsAfter p past → P (sub_run (history p (e ∷ before)))
+    one_more was h = by_run (where_joins p past e h legal.0)
+      where
+        by_run : IsOfRun p past e ⊎ IsBeforeRuns p past e → P (sub_run (history p (e ∷ before)))
+        by_run (inl of) = subst P (sym of.joins)
+            (kept (is_over past) (was_refused past) (clock past) (sub_run past) e h legal.0
+            (does_after p past e h legal.0) was)
+        by_run (inr before_runs) = subst P (sym before_runs.still) none

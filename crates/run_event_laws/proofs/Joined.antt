@@ -1,0 +1,88 @@
+-- A unit that joins is what an admission makes.
+use Rattle.std.proofs.Common.{◌≡◌, ℕ, List, [], ◌∷◌, Bool, true, false, not, Option, Some, None, refl, sym, ◌∙◌}
+use Rattle.std.specs.Cmp.{second_so}
+use Rattle.run_events.specs.declared.settings.Settings.{Settings}
+use Rattle.run_events.specs.declared.message.Message.{Message}
+use Rattle.run_events.specs.declared.message.Message.TheVariants.{ScriptStart, ScriptFinish, Start, Retry, Finish}
+use Rattle.run_events.specs.declared.turn.Turn.{Turn}
+use Rattle.run_model.specs.declared.dispatcher_view.Tally.{Tally}
+use Rattle.run_model.specs.declared.happening.Happening.{Happening}
+use Rattle.run_model.specs.declared.happening.UnitPart.TheVariants.{Joins}
+use Rattle.run_model.specs.declared.unit_turn.UnitTurn.{UnitTurn}
+use Rattle.run_model.specs.declared.unit_view.UnitView.{UnitView}
+use Rattle.run_model.specs.Admission.{Newcomer, newcomer}
+use Rattle.run_model.specs.Board.{Board, Deed}
+use Rattle.run_model.specs.Cancel.{Cause, cause_of, caused}
+use Rattle.run_model.specs.Turns.{admission, deed_on, delivered_as, delivery, done_by, enabled_on, event_of}
+use Rattle.run_model.specs.Turns.{nothing_done, takes_turn, tally_with, taken_by, turn_of_unit}
+use Rattle.run_model.specs.Words.{queue, units}
+use Rattle.run_laws.proofs.ByTurn.{by_turn}
+use Rattle.run_laws.proofs.OnBoard.{board_of, board_with}
+
+-- the unit that a deed lets join, and what it sends, are those of an admission
+abbrev pub IsAdmission : Option Newcomer → Deed → Type 0
+IsAdmission o d = (first : UnitView) → d.part ≡ Some (Joins first)
+    → (new : Newcomer) × ((o ≡ Some new) × (first ≡ new.unit) × (d.sent ≡ Some new.sent))
+
+admits : (o : Option Newcomer) → IsAdmission o (admission o)
+admits None first is = cc
+admits (Some new) first is = let same : new.unit ≡ first = cc in (new, (refl, sym same, refl))
+
+acts_only : (o : Option Newcomer) (now k : ℕ) (turn : UnitTurn) (v : Option UnitView)
+    → IsAdmission o (taken_by now k turn v)
+acts_only o now k turn None first is = cc
+acts_only o now k turn (Some u) first is = cc
+
+caused_part : (now : ℕ) (t : Tally) (o : Option Cause) (d : Deed) → (caused now t o d).part ≡ d.part
+caused_part now t None d = refl
+caused_part now t (Some c) d = refl
+
+answered_only : (now k : ℕ) (turn : UnitTurn) (v : Option UnitView) (first : UnitView)
+    → (taken_by now k turn v).part ≡ Some (Joins first) → ⊥
+answered_only now k turn None first is = cc
+answered_only now k turn (Some u) first is = cc
+
+delivers : (p : Settings) (over : Bool) (now : ℕ) (run : List Happening) (o : Option Newcomer) (q : List Message)
+    → IsAdmission o (delivery (board_of p over now run) q)
+delivers p over now run o [] first is = cc
+delivers p over now run o (ScriptStart start ∷ rest) first is = absurd (answered_only now _ _ _ first is)
+delivers p over now run o (Start start ∷ rest) first is = absurd (answered_only now _ _ _ first is)
+delivers p over now run o (Retry retry ∷ rest) first is = absurd (answered_only now _ _ _ first is)
+delivers p over now run o (Finish finish ∷ rest) first is =
+    let b : Board = board_of p over now run in
+    let part = caused_part now (tally_with b (event_of b (Finish finish)))
+    (cause_of b.dispatcher.rules (tally_with b (event_of b (Finish finish))) (Finish finish))
+    (delivered_as b (Finish finish) nothing_done) in
+    let never : None ≡ Some (Joins first) = sym part ∙ is in cc
+delivers p over now run o (ScriptFinish finish ∷ rest) first is =
+    let b : Board = board_of p over now run in
+    let part = caused_part now (tally_with b (event_of b (ScriptFinish finish)))
+    (cause_of b.dispatcher.rules (tally_with b (event_of b (ScriptFinish finish))) (ScriptFinish finish))
+    (delivered_as b (ScriptFinish finish) nothing_done) in
+    let never : None ≡ Some (Joins first) = sym part ∙ is in cc
+delivers p over now run o (m ∷ rest) first is = cc
+
+pub joins_new : (p : Settings) (over refused : Bool) (now : ℕ) (run : List Happening) (turn : Turn)
+    → enabled_on p (board_with p refused over now run) turn ≡ true
+    → IsAdmission (newcomer p (units p run)) (deed_on p (board_with p refused over now run) turn)
+joins_new p over refused now run turn en =
+    by_turn (λ turn named. takes_turn p b turn named ≡ true → IsAdmission new (done_by p b turn named))
+    (record {
+      begin = λ en first is. cc;
+      admit = λ en. admits new;
+      deliver = λ en. delivers p over now run new (queue run);
+      named = λ turn k to other en. acts_only new now k to _;
+      clock = λ ns en first is. cc;
+      signal = λ signal en first is. cc;
+      global_due = λ en first is. cc;
+      report_cancel = λ en first is. cc;
+      end = λ en first is. cc;
+      unbuilt = λ turn never en first is. let no_turn : false ≡ true = sym (never p b) ∙ en in cc;
+    })
+    turn (second_so (not over) (takes_turn p b turn (turn_of_unit turn)) en)
+  where
+    b : Board
+    b = board_with p refused over now run
+
+    new : Option Newcomer
+    new = newcomer p (units p run)

@@ -1,0 +1,3 @@
+pub mod Names
+pub mod Retries
+pub mod Slots
