@@ -55,6 +55,7 @@ pub fn read_given<S: Source>(
     ensures refused { IfErr result (IsGivenFault (map (λ w. string_bytes w) words.now)
         (reading S.left S.faults source.old source.new)) }
     ensures counted { CountsRead (reading S.left S.faults source.old source.new) result }
+    ensures untouched { ¬ IsReplay (map (λ w. string_bytes w) words.now) → source.new ≡ source.old }
 {
     if !is_word(words, "replay") {
         return Err(Fault::Words);

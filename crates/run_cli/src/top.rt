@@ -2,7 +2,7 @@
 ghost use Rattle.std.specs.Prelude.{◌≡◌, ◌+◌, ◌<◌, ◌^◌, ℕ, List, map, length, string_bytes, None};
 ghost use Rattle.run_cli.specs.Call.{reading, writing, call_of};
 ghost use Rattle.run_cli.specs.Plans.{fault_of_plan};
-ghost use Rattle.run_cli.specs.Given.{CountsReadAtEnd};
+ghost use Rattle.run_cli.specs.Given.{CountsReadAtEnd, IsReplay};
 ghost use Rattle.run_cli.specs.Finish.{IsInputEnding};
 ghost use Rattle.run_cli.specs.Ending.{IsEnding};
 ghost use Rattle.run_cli.specs.Text.{status_of, outcome_status};
@@ -85,6 +85,7 @@ fn run_to_end<S: Source, K: Sink>(
         (reading S.left S.faults source.old source.new)
         (writing K.taken K.faults sink result.sink)) result.ending }
     ensures counted { CountsReadAtEnd (reading S.left S.faults source.old source.new) result.ending }
+    ensures untouched { ¬ IsReplay (map (λ w. string_bytes w) words.now) → source.new ≡ source.old }
 {
     match read_given(alloc, words, source) {
         Ok(input) => replay_input(alloc, input, sink),
@@ -142,8 +143,10 @@ fn live_to_end<S: Source, K: Sink + Send, H: Host, X: Threads + Wait + Sync>(
 
 // Carries out recorded turns.
 fn replayed<S: Source, K: Sink>(alloc: Global, words: &[String], source: &mut S, sink: K) -> Ran<K>
-    ensures { Answers (call_of (map (λ w. string_bytes w) words.now) (reading S.left S.faults source.old source.new)
+    ensures says { Answers
+        (call_of (map (λ w. string_bytes w) words.now) (reading S.left S.faults source.old source.new)
         (writing K.taken K.faults sink result.sink)) result.status }
+    ensures untouched { ¬ IsReplay (map (λ w. string_bytes w) words.now) → source.new ≡ source.old }
 {
     let Ended { ending, sink } = run_to_end(alloc, words, source, sink);
     Ran {
@@ -192,6 +195,8 @@ pub fn run<S: Source, K: Sink + Send, H: Host, X: Threads + Wait + Sync>(
     ensures live { IsLiveWord (map (λ w. string_bytes w) words.now) → AnswersLive H.Worker.has_said
         (call_of (map (λ w. string_bytes w) words.now) (reading S.left S.faults source.old source.new)
         (writing K.taken K.faults sink result.0.sink)) result.1 result.0.status }
+    ensures untouched { ¬ IsLiveWord (map (λ w. string_bytes w) words.now)
+        → ¬ IsReplay (map (λ w. string_bytes w) words.now) → source.new ≡ source.old }
 {
     if is_live(words) {
         lived(rt, alloc, source, sink, host)
