@@ -1,0 +1,155 @@
+-- How often each unit is told started, finished and skipped, over every legal journal.
+use Rattle.std.proofs.Common.{◌≡◌, ℕ, ◌-◌, ◌≤◌, ◌<◌, nat_lt, List, [], Bool, true, false, not, ◌&&◌}
+use Rattle.std.proofs.Common.{count_by, Option, Some, None, slice_get, refl, ap, sym, subst, ◌∙◌, arith}
+use Rattle.std.specs.List.{list_any}
+use Rattle.std.proofs.lemmas.Bool.Decides.{nat_tests}
+use Rattle.std.proofs.lemmas.Option.{slice_get_past}
+use Rattle.run_events.specs.Stats.{one_if}
+use Rattle.run_events.specs.declared.events.ReporterEvent.{ReporterEvent}
+use Rattle.run_events.specs.declared.settings.Settings.{Settings}
+use Rattle.run_model.specs.declared.entry.Entry.{Entry}
+use Rattle.run_model.specs.declared.happening.Happening.{Happening}
+use Rattle.run_model.specs.declared.unit_view.UnitView.{UnitView}
+use Rattle.run_model.specs.Accounts.{HasAccount, News, account_of, is_mismatched, is_skip, pending_of}
+use Rattle.run_model.specs.Admission.{is_script, scripts_in, units_in}
+use Rattle.run_model.specs.Attempts.{statuses_of}
+use Rattle.run_model.specs.Fates.{HasFate}
+use Rattle.run_model.specs.Journal.{IsLegalBackward, history}
+use Rattle.run_model.specs.Story.{never_started, was_left}
+use Rattle.run_model.specs.Words.{clock, is_over, queue, sub_run, told, unit_of}
+use Rattle.run_laws.proofs.FateLemmas.{fates}
+use Rattle.run_laws.proofs.Holds.{Holds}
+use Rattle.run_laws.proofs.Kept.{holds}
+use Rattle.run_laws.proofs.Running.{is_finish, is_start}
+use Rattle.run_call_laws.specs.Counts.{IsToldAtMostOnce, IsToldByItsFate, IsToldOnce, finishes_told, is_to_run}
+use Rattle.run_call_laws.specs.Counts.{skips_told, starts_told}
+use Rattle.run_call_laws.specs.Stops.{IsUnstopped, tells_cancel}
+use Rattle.run_call_laws.proofs.BoundLemmas.{IsBounded, bounded_at}
+use Rattle.run_call_laws.proofs.NewsLemmas.{account_finishes, account_skips, account_starts, finishes-news}
+use Rattle.run_call_laws.proofs.NewsLemmas.{is_skip_news, skips-news, starts-news}
+use Rattle.run_call_laws.proofs.ToldLemmas.{unstopped_by}
+use Rattle.run_call_laws.proofs.WholeLemmas.{one_run}
+
+-- a number of the plan, and one beyond it
+below : (p : Settings) (k : ℕ) → k < units_in p → nat_lt k (units_in p) ≡ true
+below p k h = grind (arith, nat_tests)
+
+beyond : (p : Settings) (k : ℕ) → nat_lt k (units_in p) ≡ false → units_in p ≤ k
+beyond p k h = grind (arith, nat_tests)
+
+within : (p : Settings) (k : ℕ) → nat_lt k (units_in p) ≡ true → k < units_in p
+within p k h = grind (arith, nat_tests)
+
+-- what is told of a unit, by its account
+bounds : (p : Settings) (over : Bool) (now : ℕ) (run : List Happening) (k : ℕ) → Holds p over now run
+    → IsToldAtMostOnce p (told run) k
+bounds p over now run k h = by_unit (unit_of k run) refl (h.accounts k)
+  where
+    t : List News
+    t = account_of k (told run)
+
+    none : t ≡ [] → IsToldAtMostOnce p (told run) k
+    none is =
+        let starts : starts_told k (told run) ≡ 0 = starts-news k (told run) ∙ ap (count_by is_start) is in
+        let finishes : finishes_told k (told run) ≡ 0 = finishes-news k (told run) ∙ ap (count_by is_finish) is in
+        let skips : skips_told k (told run) ≡ 0 = skips-news k (told run) ∙ ap (count_by is_skip_news) is in
+        record {
+          starts = omega (arith, starts);
+          finishes = omega (arith, starts, finishes);
+          skips = omega (arith, skips);
+        }
+
+    some : nat_lt k (units_in p) ≡ true → IsBounded (is_mismatched p k) t → IsToldAtMostOnce p (told run) k
+    some inside bounded = record {
+      starts = rw (starts-news k (told run), inside) bounded.starts;
+      finishes = rw (starts-news k (told run), finishes-news k (told run)) bounded.finishes;
+      skips = rw (skips-news k (told run)) bounded.skips;
+    }
+
+    by_unit : (v : Option UnitView) → unit_of k run ≡ v
+        → HasAccount (is_mismatched p k) (was_left k run) v t (pending_of k (queue run))
+        → IsToldAtMostOnce p (told run) k
+    by_unit None is has = none has.0
+    by_unit (Some u) is has =
+        some (below p k (h.named k u is).1)
+        (bounded_at (is_mismatched p k) (was_left k run) u.phase u.statuses t (pending_of k (queue run)) has)
+
+pub at_most : (p : Settings) (backward : List Entry) → IsLegalBackward p backward → (k : ℕ)
+    → IsToldAtMostOnce p (told (history p backward)) k
+at_most p backward legal k =
+    subst (λ events. IsToldAtMostOnce p events k) (sym (one_run p backward legal).same.told)
+    (bounds p (is_over (history p backward)) (clock (history p backward)) (sub_run (history p backward)) k
+    (holds p backward legal))
+
+-- beyond the plan no unit is mismatched
+matches_beyond : (p : Settings) (k : ℕ) → units_in p ≤ k → is_mismatched p k ≡ false
+matches_beyond p k h = by_script (is_script p k)
+  where
+    none : slice_get p.plan.tests (k - scripts_in p) ≡ None
+    none = slice_get_past p.plan.tests (k - scripts_in p) (omega (arith, h))
+
+    by_script : (b : Bool) → (not b && is_skip (slice_get p.plan.tests (k - scripts_in p))) ≡ false
+    by_script true = refl
+    by_script false = ap is_skip none
+
+-- so where the run is over, by its fate
+by_fate : (p : Settings) (run : List Happening) (k : ℕ) → nat_lt k (units_in p) ≡ true → HasFate p run k
+    → IsToldByItsFate p (told run) run k
+by_fate p run k inside fate = record {
+  starts = rw inside (starts-news k (told run) ∙ ap (count_by is_start) fate.account
+      ∙ account_starts (is_mismatched p k) (never_started k run) (was_left k run) (statuses_of p k run));
+  finishes = rw inside (finishes-news k (told run) ∙ ap (count_by is_finish) fate.account
+      ∙ account_finishes (is_mismatched p k) (never_started k run) (was_left k run) (statuses_of p k run));
+  skips = skips-news k (told run) ∙ ap (count_by is_skip_news) fate.account
+      ∙ account_skips (is_mismatched p k) (never_started k run) (was_left k run) (statuses_of p k run);
+}
+
+no_more : (n : ℕ) → n ≤ 0 → n ≡ 0
+no_more n h = omega arith
+
+by_none : (p : Settings) (run : List Happening) (k : ℕ) → nat_lt k (units_in p) ≡ false
+    → IsToldAtMostOnce p (told run) k → IsToldByItsFate p (told run) run k
+by_none p run k outside most =
+    let mm : is_mismatched p k ≡ false = matches_beyond p k (beyond p k outside) in
+    let starts : starts_told k (told run) ≡ 0 = no_more _ (rw outside at most.starts) in
+    let finishes : finishes_told k (told run) ≡ 0 = no_more _ (rw starts at most.finishes) in
+    let skips : skips_told k (told run) ≡ 0 = no_more _ (rw mm at most.skips) in
+    record { starts = rw outside starts; finishes = rw outside finishes; skips = rw mm skips }
+
+pub at_end : (p : Settings) (backward : List Entry) → IsLegalBackward p backward → is_over (history p backward) ≡ true
+    → (k : ℕ) → IsToldByItsFate p (told (history p backward)) (sub_run (history p backward)) k
+at_end p backward legal over k =
+    subst (λ events. IsToldByItsFate p events run k) (sym (one_run p backward legal).same.told)
+    (by_plan (nat_lt k (units_in p)) refl)
+  where
+    run : List Happening
+    run = sub_run (history p backward)
+
+    by_plan : (b : Bool) → nat_lt k (units_in p) ≡ b → IsToldByItsFate p (told run) run k
+    by_plan true inside = by_fate p run k inside (fates p backward legal over k (within p k inside))
+    by_plan false outside =
+        by_none p run k outside
+        (bounds p (is_over (history p backward)) (clock (history p backward)) run k (holds p backward legal))
+
+-- and where nothing stopped it
+and_true : (b : Bool) → (b && true) ≡ b
+and_true true = refl
+and_true false = refl
+
+unstopped_once : (p : Settings) (events : List ReporterEvent) (run : List Happening) (k : ℕ)
+    → IsToldByItsFate p events run k → IsUnstopped run k → IsToldOnce p events k
+unstopped_once p events run k is free = record {
+  starts = is.starts ∙ ap (λ b. one_if (is_to_run p k && not b)) free.started ∙ ap one_if (and_true (is_to_run p k));
+  finishes = is.finishes
+      ∙ ap (λ b. one_if (is_to_run p k && not b && not (was_left k run))) free.started
+      ∙ ap (λ b. one_if (is_to_run p k && true && not b)) free.stayed
+      ∙ ap one_if (and_true (is_to_run p k && true) ∙ and_true (is_to_run p k));
+  skips = is.skips;
+}
+
+pub each_once : (p : Settings) (backward : List Entry) → IsLegalBackward p backward
+    → is_over (history p backward) ≡ true → list_any tells_cancel (told (history p backward)) ≡ false → (k : ℕ)
+    → IsToldOnce p (told (history p backward)) k
+each_once p backward legal over calm k =
+    unstopped_once p (told (history p backward)) (sub_run (history p backward)) k (at_end p backward legal over k)
+    (unstopped_by p backward legal calm k)

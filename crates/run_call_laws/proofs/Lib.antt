@@ -1,0 +1,16 @@
+mod WholeLemmas
+mod OwnLemmas
+mod StopLemmas
+mod ToldLemmas
+mod NumberLemmas
+mod NewsLemmas
+mod BoundLemmas
+mod CountLemmas
+mod OutcomeLemmas
+mod RangeLemmas
+mod WeighLemmas
+mod FinishCounts
+mod AnyLemmas
+mod SummaryLemmas
+mod ScriptLemmas
+mod SuccessLemmas

@@ -1,0 +1,176 @@
+-- A script that failed is a cause, so that an event tells that the run is cancelled.
+use Rattle.std.proofs.Common.{◌≡◌, ℕ, ◌||◌, List, [], ◌∷◌, ◌++◌, Bool, true, false, not, if◌then◌else◌, Option, Some}
+use Rattle.std.proofs.Common.{None, is_some, option_map, option_to_list, refl, ap, sym, subst, ◌∙◌}
+use Rattle.std.specs.Prelude.{IfSome}
+use Rattle.std.specs.Cmp.{second_so}
+use Rattle.std.specs.List.{list_any}
+use Rattle.std.proofs.lemmas.List.Folds.{list_any-append}
+use Rattle.run_events.specs.Result.{is_success}
+use Rattle.run_events.specs.declared.cancel.CancelReason.{CancelReason}
+use Rattle.run_events.specs.declared.events.ReporterEvent.{ReporterEvent}
+use Rattle.run_events.specs.declared.events.ReporterEvent.TheVariants.{Tick, Test}
+use Rattle.run_events.specs.declared.events.TestEventKind.{TestEventKind}
+use Rattle.run_events.specs.declared.events.TestEventKind.TheVariants.{RunBeginCancel, RunBeginKill}
+use Rattle.run_events.specs.declared.message.Message.{Message}
+use Rattle.run_events.specs.declared.message.Message.TheVariants.{ScriptStart, ScriptSlow, ScriptFinish, Start, Slow}
+use Rattle.run_events.specs.declared.message.Message.TheVariants.{AttemptFailed, Retry, Skip, Finish}
+use Rattle.run_events.specs.declared.result.ExecutionResult.{ExecutionResult}
+use Rattle.run_events.specs.declared.settings.Settings.{Settings}
+use Rattle.run_events.specs.declared.turn.Turn.{Turn}
+use Rattle.run_model.specs.declared.dispatcher_view.CancelRules.{CancelRules}
+use Rattle.run_model.specs.declared.dispatcher_view.Tally.{Tally}
+use Rattle.run_model.specs.declared.entry.Entry.{Entry}
+use Rattle.run_model.specs.declared.happening.Happening.{Happening}
+use Rattle.run_model.specs.Admission.{Newcomer, newcomer}
+use Rattle.run_model.specs.Board.{Board, Deed, board}
+use Rattle.run_model.specs.Cancel.{cause_of, caused, script_cause, script_failed}
+use Rattle.run_model.specs.Dispatch.{event, go_of, may_go, told_of}
+use Rattle.run_model.specs.Journal.{IsLegalBackward, history}
+use Rattle.run_model.specs.Turns.{admission, answer_to, deed_on, delivered_as, delivery, done_by, enabled, event_of}
+use Rattle.run_model.specs.Turns.{happening, starting, takes_turn, tally_with, turn_of_unit}
+use Rattle.run_model.specs.Words.{is_over, reason, sub_run, told}
+use Rattle.run_laws.proofs.ByTurn.{by_turn}
+use Rattle.run_laws.proofs.Cancels.{IsCancel, IsCancelKind}
+use Rattle.run_call_laws.specs.Stops.{tells_cancel}
+use Rattle.run_call_laws.specs.Success.{fails_script, fails_script_in}
+use Rattle.run_laws.specs.Cancels.{rises}
+use Rattle.run_call_laws.proofs.OwnLemmas.{cancel_tells, told_is}
+use Rattle.run_call_laws.proofs.ToldLemmas.{causes_told, tells}
+use Rattle.run_call_laws.proofs.WholeLemmas.{one_run}
+
+-- what is told fails no script, or is told with a cause
+abbrev IsCausing : Option CancelReason → Option ReporterEvent → Type 0
+IsCausing cause o = IfSome o (λ e. fails_script e ≡ true → is_some cause ≡ true)
+
+when : (now : ℕ) (cause : Option CancelReason) (go : Bool) (kind : TestEventKind) → fails_script_in kind ≡ false
+    → IsCausing cause (option_map (event now) (if go then Some kind else None))
+when now cause true kind passes = λ fails. let never : false ≡ true = sym passes ∙ fails in cc
+when now cause false kind passes = tt
+
+script_causes : (now : ℕ) (t : Tally) (result : ExecutionResult) (d : Deed) → not (is_success result) ≡ true
+    → is_some (caused now t (script_cause result) d).cause ≡ true
+script_causes now t result d fails = by_success (is_success result) fails
+  where
+    by_success : (b : Bool) → not b ≡ true
+        → is_some (caused now t (if b then None else Some script_failed) d).cause ≡ true
+    by_success true fails = cc
+    by_success false fails = refl
+
+message_causes : (now : ℕ) (rules : CancelRules) (t u : Tally) (m : Message) (d : Deed)
+    → IsCausing (caused now u (cause_of rules u m) d).cause (option_map (event now) (told_of t m))
+message_causes now rules t u (ScriptStart start) d = when now _ (may_go t) _ refl
+message_causes now rules t u (ScriptSlow slow) d = λ fails. cc
+message_causes now rules t u (ScriptFinish finish) d = λ fails. script_causes now u finish.status.result d fails
+message_causes now rules t u (Start start) d = when now _ (may_go t) _ refl
+message_causes now rules t u (Slow slow) d = λ fails. cc
+message_causes now rules t u (AttemptFailed failure) d = λ fails. cc
+message_causes now rules t u (Retry retry) d = when now _ (may_go t) _ refl
+message_causes now rules t u (Skip skip) d = λ fails. cc
+message_causes now rules t u (Finish finish) d = λ fails. cc
+
+delivery_causes : (b : Board) (q : List Message) → IsCausing (delivery b q).cause (delivery b q).told
+delivery_causes b [] = tt
+delivery_causes b (m ∷ rest) =
+    let u : Tally = tally_with b (event_of b m) in
+    let d : Deed = delivered_as b m (answer_to b (starting m) (go_of b.dispatcher.tally m)) in
+    subst (IsCausing (delivery b (m ∷ rest)).cause)
+    (sym (told_is b.clock u (cause_of b.dispatcher.rules u m) d))
+    (message_causes b.clock b.dispatcher.rules b.dispatcher.tally u m d)
+
+admission_causes : (o : Option Newcomer) → IsCausing (admission o).cause (admission o).told
+admission_causes None = tt
+admission_causes (Some new) = tt
+
+causes : (p : Settings) (past : List Happening) (turn : Turn) → enabled p past turn ≡ true
+    → IsCausing (deed_on p (board p past) turn).cause (deed_on p (board p past) turn).told
+causes p past turn en =
+    by_turn (λ turn named. takes_turn p b turn named ≡ true
+    → IsCausing (done_by p b turn named).cause (done_by p b turn named).told)
+    (record {
+      begin = λ en fails. cc;
+      admit = λ en. admission_causes (newcomer p b.units);
+      deliver = λ en. delivery_causes b b.queue;
+      named = λ turn k to other en. tt;
+      clock = λ ns en. tt;
+      signal = λ signal en. tt;
+      global_due = λ en. tt;
+      report_cancel = λ en. tt;
+      end = λ en fails. cc;
+      unbuilt = λ turn never en. let no_turn : false ≡ true = sym (never p b) ∙ en in cc;
+    })
+    turn (second_so (not (is_over past)) (takes_turn p b turn (turn_of_unit turn)) en)
+  where
+    b : Board
+    b = board p past
+
+-- the event of a cause fails none
+cancel_passes : (o : Option ReporterEvent) → IsCancel o → list_any fails_script (option_to_list o) ≡ false
+cancel_passes None h = refl
+cancel_passes (Some Tick) h = absurd h
+cancel_passes (Some (Test e)) h = rw (by_kind e.kind h) refl
+  where
+    by_kind : (kind : TestEventKind) → IsCancelKind kind → fails_script_in kind ≡ false
+    by_kind (RunBeginCancel e) h = refl
+    by_kind (RunBeginKill e) h = refl
+    by_kind kind h = absurd h
+
+-- where no cause came, what is told fails none
+own_passes : (cause : Option CancelReason) (o : Option ReporterEvent) → IsCausing cause o → is_some cause ≡ false
+    → list_any fails_script (option_to_list o) ≡ false
+own_passes cause None causing none = refl
+own_passes cause (Some e) causing none = by_fail (fails_script e) refl
+  where
+    by_fail : (b : Bool) → fails_script e ≡ b → (b || false) ≡ false
+    by_fail false is = refl
+    by_fail true is = let never : false ≡ true = sym none ∙ causing is in cc
+
+no_cancel : (p : Settings) (o : Option ReporterEvent) → IsCancel o → list_any tells_cancel (option_to_list o) ≡ false
+    → is_some o ≡ false
+no_cancel p None is calm = refl
+no_cancel p (Some e) is calm =
+    let never : true ≡ false = sym (ap (λ b. b || false) (cancel_tells p e is)) ∙ calm in cc
+
+no_cause : (before cause : Option CancelReason) → is_some before ≡ false → rises before cause ≡ false
+    → is_some cause ≡ false
+no_cause None None none flat = refl
+no_cause None (Some c) none flat = cc
+no_cause (Some b) cause none flat = cc
+
+both_false : (a b : Bool) → (a || b) ≡ false → (a ≡ false) × (b ≡ false)
+both_false true b e = cc
+both_false false b e = (refl, e)
+
+apart : (f : ReporterEvent → Bool) (xs ys : List ReporterEvent) → list_any f (xs ++ ys) ≡ false
+    → (list_any f xs ≡ false) × (list_any f ys ≡ false)
+apart f xs ys none = both_false (list_any f xs) (list_any f ys) (sym (list_any-append f xs ys) ∙ none)
+
+together : (f : ReporterEvent → Bool) (xs ys : List ReporterEvent) → list_any f xs ≡ false → list_any f ys ≡ false
+    → list_any f (xs ++ ys) ≡ false
+together f xs ys first second =
+    list_any-append f xs ys ∙ ap (λ b. b || list_any f ys) first ∙ second
+
+-- so no script is told to fail where no event tells that the run is cancelled
+pub no_script_fails : (p : Settings) (backward : List Entry) → IsLegalBackward p backward
+    → list_any tells_cancel (told (history p backward)) ≡ false
+    → list_any fails_script (told (history p backward)) ≡ false
+no_script_fails p [] legal calm = refl
+no_script_fails p (e ∷ before) legal calm =
+    let own : List ReporterEvent = option_to_list x.told in
+    let cancel : List ReporterEvent = option_to_list x.cancel in
+    let parts = apart tells_cancel (told past) (own ++ cancel) calm in
+    let calm_cancel : list_any tells_cancel cancel ≡ false = (apart tells_cancel own cancel parts.1).1 in
+    let t = tells p e before legal in
+    let none : is_some (reason (sub_run past)) ≡ false =
+    (causes_told p before legal.2 (one_run p before legal.2).same.told).any ∙ parts.0 in
+    let flat : rises (reason (sub_run past)) x.cause ≡ false =
+    sym t.caused.exactly ∙ no_cancel p x.cancel t.cancel calm_cancel in
+    together fails_script (told past) (own ++ cancel) (no_script_fails p before legal.2 parts.0)
+    (together fails_script own cancel
+    (own_passes x.cause x.told (causes p past e.turn legal.0) (no_cause (reason (sub_run past)) x.cause none flat))
+    (cancel_passes x.cancel t.cancel))
+  where
+    past : List Happening
+    past = history p before
+
+    x : Happening
+    x = happening p past e

@@ -1,0 +1,6 @@
+pub mod Whole
+pub mod Numbers
+pub mod Stops
+pub mod Counts
+pub mod Outcomes
+pub mod Success
