@@ -155,8 +155,12 @@ adds_more u us a b c d m n f g w h = record {
     h.scripts_bad,
   );
   initial = omega (arith, sum_by-cons (λ u. (adds_by u).initial_run_count) u us, w.initial, h.initial);
-  scripts_initial = omega (arith, sum_by-cons (λ u. (adds_by u).setup_scripts_initial_count) u us, w.scripts_initial,
-      h.scripts_initial);
+  scripts_initial = omega (
+    arith,
+    sum_by-cons (λ u. (adds_by u).setup_scripts_initial_count) u us,
+    w.scripts_initial,
+    h.scripts_initial,
+  );
 }
 
 adds_same : (us : List FinishedUnit) (a b c d m n f g : ℕ) → AddUp us a b c d → m ≡ a → n ≡ b → f ≡ c → g ≡ d
@@ -189,7 +193,12 @@ pub events_add : (es : List ReporterEvent)
     → AddUp (filter_map finish_of es) (count_by finishes_test es) (count_by finishes_script es) (count_by fails_test es)
     (count_by fails_script es)
 events_add [] = record {
-  tests = refl; scripts = refl; bad = refl; scripts_bad = refl; initial = refl; scripts_initial = refl;
+  tests = refl;
+  scripts = refl;
+  bad = refl;
+  scripts_bad = refl;
+  initial = refl;
+  scripts_initial = refl;
 }
 events_add (e ∷ es) =
     adds_same (filter_map finish_of (e ∷ es)) _ _ _ _ (count_by finishes_test (e ∷ es))

@@ -87,7 +87,13 @@ alike_still now e past h = record {
 alike_none : Alike [] []
 alike_none = record {
   same = record {
-    told = refl; asked = refl; sent = refl; causes = refl; reason = refl; never = λ k. refl; left = λ k. refl;
+    told = refl;
+    asked = refl;
+    sent = refl;
+    causes = refl;
+    reason = refl;
+    never = λ k. refl;
+    left = λ k. refl;
   };
   deliveries = λ k. refl;
 }
