@@ -8,7 +8,7 @@ use Rattle.run_model.specs.declared.phase.Phase.TheVariants.{StartSent, Starting
 use Rattle.run_model.specs.declared.phase.Phase.TheVariants.{EnvWait, Deciding, Delay, RetrySent, Over}
 use Rattle.run_model.specs.Accounts.{HasAccountAt, HasAccountIn, HasSkipIn, IsDone, News, failed, finished, skipped}
 use Rattle.run_model.specs.Accounts.{started, tried}
-use Rattle.run_laws.proofs.Running.{is_finish, is_start}
+use Rattle.run_laws.proofs.told.Running.{is_finish, is_start}
 use Rattle.run_call_laws.proofs.NewsLemmas.{count-cons, count-last, count-tried}
 use Rattle.run_call_laws.proofs.NewsLemmas.{finishes_these, is_skip_news, skips_these, starts_these}
 

@@ -15,13 +15,13 @@ use Rattle.run_model.specs.Admission.{is_script, scripts_in, units_in}
 use Rattle.run_model.specs.Attempts.{statuses_of}
 use Rattle.run_model.specs.Fates.{HasFate}
 use Rattle.run_model.specs.Journal.{IsLegalBackward, history}
-use Rattle.run_model.specs.Story.{never_started, was_left}
+use Rattle.run_model.specs.Story.{stopped_at, was_left}
 use Rattle.run_model.specs.Words.{clock, is_over, queue, sub_run, told, unit_of}
-use Rattle.run_laws.proofs.FateLemmas.{fates}
-use Rattle.run_laws.proofs.Holds.{Holds}
-use Rattle.run_laws.proofs.Kept.{holds}
-use Rattle.run_laws.proofs.Running.{is_finish, is_start}
-use Rattle.run_call_laws.specs.Counts.{IsToldAtMostOnce, IsToldByItsFate, IsToldOnce, finishes_told, is_to_run}
+use Rattle.run_laws.proofs.told.FateLemmas.{fates}
+use Rattle.run_laws.proofs.board.Holds.{Holds}
+use Rattle.run_laws.proofs.board.Kept.{holds}
+use Rattle.run_laws.proofs.told.Running.{is_finish, is_start}
+use Rattle.run_call_laws.specs.Counts.{IsToldAtMostOnce, IsToldByItsFate, IsToldJustOnce, finishes_told, is_to_run}
 use Rattle.run_call_laws.specs.Counts.{skips_told, starts_told}
 use Rattle.run_call_laws.specs.Stops.{IsUnstopped, tells_cancel}
 use Rattle.run_call_laws.proofs.BoundLemmas.{IsBounded, bounded_at}
@@ -97,11 +97,11 @@ by_fate : (p : Settings) (run : List Happening) (k : ℕ) → nat_lt k (units_in
     → IsToldByItsFate p (told run) run k
 by_fate p run k inside fate = record {
   starts = rw inside (starts-news k (told run) ∙ ap (count_by is_start) fate.account
-      ∙ account_starts (is_mismatched p k) (never_started k run) (was_left k run) (statuses_of p k run));
+      ∙ account_starts (is_mismatched p k) (stopped_at k run) (statuses_of p k run));
   finishes = rw inside (finishes-news k (told run) ∙ ap (count_by is_finish) fate.account
-      ∙ account_finishes (is_mismatched p k) (never_started k run) (was_left k run) (statuses_of p k run));
+      ∙ account_finishes (is_mismatched p k) (stopped_at k run) (statuses_of p k run));
   skips = skips-news k (told run) ∙ ap (count_by is_skip_news) fate.account
-      ∙ account_skips (is_mismatched p k) (never_started k run) (was_left k run) (statuses_of p k run);
+      ∙ account_skips (is_mismatched p k) (stopped_at k run) (statuses_of p k run);
 }
 
 no_more : (n : ℕ) → n ≤ 0 → n ≡ 0
@@ -137,7 +137,7 @@ and_true true = refl
 and_true false = refl
 
 unstopped_once : (p : Settings) (events : List ReporterEvent) (run : List Happening) (k : ℕ)
-    → IsToldByItsFate p events run k → IsUnstopped run k → IsToldOnce p events k
+    → IsToldByItsFate p events run k → IsUnstopped run k → IsToldJustOnce p events k
 unstopped_once p events run k is free = record {
   starts = is.starts ∙ ap (λ b. one_if (is_to_run p k && not b)) free.started ∙ ap one_if (and_true (is_to_run p k));
   finishes = is.finishes
@@ -149,7 +149,7 @@ unstopped_once p events run k is free = record {
 
 pub each_once : (p : Settings) (backward : List Entry) → IsLegalBackward p backward
     → is_over (history p backward) ≡ true → list_any tells_cancel (told (history p backward)) ≡ false → (k : ℕ)
-    → IsToldOnce p (told (history p backward)) k
+    → IsToldJustOnce p (told (history p backward)) k
 each_once p backward legal over calm k =
     unstopped_once p (told (history p backward)) (sub_run (history p backward)) k (at_end p backward legal over k)
     (unstopped_by p backward legal calm k)

@@ -18,14 +18,14 @@ use Rattle.run_model.specs.Accounts.{is_skip}
 use Rattle.run_model.specs.Admission.{is_matched, is_script, matched_in, scripts_in, tests_in, units_in}
 use Rattle.run_model.specs.Words.{finishes, finishes_in}
 use Rattle.run_call_laws.specs.Counts.{finishes_told, is_to_run}
-use Rattle.run_call_laws.specs.Numbers.{HasNumber, script_in, test_in}
+use Rattle.run_call_laws.specs.Numbers.{HasNumber, script_number_in, test_number_in}
 use Rattle.run_call_laws.specs.Success.{finishes_test, finishes_test_in}
 use Rattle.run_call_laws.proofs.RangeLemmas.{sum-none, sum-one, sum-plus, sum-same, sum_from}
 use Rattle.run_call_laws.proofs.WeighLemmas.{finishes_script, finishes_script_in}
 
 -- one event is the finish of one unit, or of none
-kind_tests : (p : Settings) (kind : TestEventKind) → IfSome (script_in kind) (λ k. k < scripts_in p)
-    → IfSome (test_in kind) (λ k. (scripts_in p ≤ k) × (k < units_in p))
+kind_tests : (p : Settings) (kind : TestEventKind) → IfSome (script_number_in kind) (λ k. k < scripts_in p)
+    → IfSome (test_number_in kind) (λ k. (scripts_in p ≤ k) × (k < units_in p))
     → sum_from (λ k. cond (finishes_in k kind) 1 0) (scripts_in p) (tests_in p)
     ≡ cond {A = ℕ} (finishes_test_in kind) 1 0
 kind_tests p (TestFinished event) script test =
@@ -38,8 +38,8 @@ kind_tests p (SetupScriptFinished event) script test =
     differ i k below above = grind arith
 kind_tests p kind script test = sum-none (λ k. 0) (tests_in p) (scripts_in p) (λ k low high. refl)
 
-kind_scripts : (p : Settings) (kind : TestEventKind) → IfSome (script_in kind) (λ k. k < scripts_in p)
-    → IfSome (test_in kind) (λ k. (scripts_in p ≤ k) × (k < units_in p))
+kind_scripts : (p : Settings) (kind : TestEventKind) → IfSome (script_number_in kind) (λ k. k < scripts_in p)
+    → IfSome (test_number_in kind) (λ k. (scripts_in p ≤ k) × (k < units_in p))
     → sum_from (λ k. cond (finishes_in k kind) 1 0) 0 (scripts_in p) ≡ cond {A = ℕ} (finishes_script_in kind) 1 0
 kind_scripts p (SetupScriptFinished event) script test =
     sum-one event.script.unit (scripts_in p) 0 (omega arith) (omega (arith, script))

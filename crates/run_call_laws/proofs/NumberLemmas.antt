@@ -22,11 +22,11 @@ use Rattle.run_model.specs.Journal.{IsLegalBackward, history}
 use Rattle.run_model.specs.Story.{pieces, story_of, was_left}
 use Rattle.run_model.specs.Words.{clock, is_over, queue, sub_run, told, unit_of}
 use Rattle.run_laws.specs.Reports.{report_of, report_of_kind, reports_by, reports_told, reports_waiting}
-use Rattle.run_laws.proofs.AttemptLemmas.{IsMadeIf}
-use Rattle.run_laws.proofs.Facts.{itself}
-use Rattle.run_laws.proofs.Holds.{Holds}
-use Rattle.run_laws.proofs.Kept.{holds}
-use Rattle.run_call_laws.specs.Numbers.{HasNumber, script_of, test_in, test_of}
+use Rattle.run_laws.proofs.units.AttemptLemmas.{IsMadeIf}
+use Rattle.run_laws.proofs.board.Facts.{itself}
+use Rattle.run_laws.proofs.board.Holds.{Holds}
+use Rattle.run_laws.proofs.board.Kept.{holds}
+use Rattle.run_call_laws.specs.Numbers.{HasNumber, script_number, test_number_in, test_number}
 use Rattle.run_call_laws.proofs.OwnLemmas.{HasKind}
 use Rattle.run_call_laws.proofs.ToldLemmas.{kinds}
 use Rattle.run_call_laws.proofs.WholeLemmas.{one_run}
@@ -92,7 +92,7 @@ clash k y e = let never : Some y ≡ None = sym (ap (λ b. if b then Some y else
 
 kind_inside : (p : Settings) (kind : TestEventKind)
     → ((k : ℕ) → units_in p ≤ k → (news_in k kind ≡ None) × (report_of_kind k kind ≡ None))
-    → IfSome (test_in kind) (λ k. k < units_in p)
+    → IfSome (test_number_in kind) (λ k. k < units_in p)
 kind_inside p (TestStarted e) h = inside p e.start.test.unit (λ out. clash _ _ (h e.start.test.unit out).0)
 kind_inside p (TestSlow e) h = inside p e.test.unit (λ out. clash _ _ (h e.test.unit out).1)
 kind_inside p (TestAttemptFailedWillRetry e) h =
@@ -103,7 +103,7 @@ kind_inside p (TestFinished e) h = inside p e.finish.test.unit (λ out. clash _ 
 kind_inside p (TestSkipped e) h = inside p e.test.unit (λ out. clash _ _ (h e.test.unit out).0)
 kind_inside p kind h = tt
 
-test_inside : (p : Settings) (e : ReporterEvent) → IsInside p e → IfSome (test_of e) (λ k. k < units_in p)
+test_inside : (p : Settings) (e : ReporterEvent) → IsInside p e → IfSome (test_number e) (λ k. k < units_in p)
 test_inside p Tick h = tt
 test_inside p (Test e) h = kind_inside p e.kind h
 
@@ -131,20 +131,20 @@ numbered p backward legal =
     number : (e : ReporterEvent) → HasKind p e → IsInside p e → HasNumber p e
     number e kind plan = record {
       script = kind.script;
-      test = both_hold (test_of e) (λ k. scripts_in p ≤ k) (λ k. k < units_in p) kind.test (test_inside p e plan);
+      test = both_hold (test_number e) (λ k. scripts_in p ≤ k) (λ k. k < units_in p) kind.test (test_inside p e plan);
     }
 
 -- so none is of a script where there is none
-none_of : (p : Settings) (e : ReporterEvent) → scripts_in p ≡ 0 → HasNumber p e → is_some (script_of e) ≡ false
-none_of p e none has = by_script (script_of e) has.script
+none_of : (p : Settings) (e : ReporterEvent) → scripts_in p ≡ 0 → HasNumber p e → is_some (script_number e) ≡ false
+none_of p e none has = by_script (script_number e) has.script
   where
     by_script : (o : Option ℕ) → IfSome o (λ k. k < scripts_in p) → is_some o ≡ false
     by_script None below = refl
     by_script (Some k) below = absurd (omega (arith, none))
 
 pub none_of_scripts : (p : Settings) (backward : List Entry) → IsLegalBackward p backward → scripts_in p ≡ 0
-    → list_any (λ e. is_some (script_of e)) (told (history p backward)) ≡ false
+    → list_any (λ e. is_some (script_number e)) (told (history p backward)) ≡ false
 none_of_scripts p backward legal none =
-    list_any_none (λ e. is_some (script_of e)) (told (history p backward))
-    (All-weaker (HasNumber p) (λ e. is_some (script_of e) ≡ false) (λ e has. none_of p e none has)
+    list_any_none (λ e. is_some (script_number e)) (told (history p backward))
+    (All-weaker (HasNumber p) (λ e. is_some (script_number e) ≡ false) (λ e has. none_of p e none has)
     (told (history p backward)) (numbered p backward legal))

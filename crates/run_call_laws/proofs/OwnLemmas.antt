@@ -24,18 +24,18 @@ use Rattle.run_model.specs.Dispatch.{event, go_of, may_go, told_of}
 use Rattle.run_model.specs.Turns.{admission, answer_to, deed_on, delivered_as, delivery, done_by, enabled, event_of}
 use Rattle.run_model.specs.Turns.{starting, takes_turn, tally_with, turn_of_unit}
 use Rattle.run_model.specs.Words.{delivered, is_over, sent, sub_run}
-use Rattle.run_laws.proofs.ByTurn.{by_turn}
-use Rattle.run_laws.proofs.Cancels.{IsCancel, IsCancelKind}
-use Rattle.run_laws.proofs.Holds.{IsOfKind}
-use Rattle.run_laws.proofs.Kept.{HoldsAfter}
-use Rattle.run_laws.proofs.Ordered.{number_below}
-use Rattle.run_call_laws.specs.Numbers.{script_of, test_of}
+use Rattle.run_laws.proofs.board.ByTurn.{by_turn}
+use Rattle.run_laws.proofs.told.Cancels.{IsCancel, IsCancelKind}
+use Rattle.run_laws.proofs.board.Holds.{IsOfKind}
+use Rattle.run_laws.proofs.board.Kept.{HoldsAfter}
+use Rattle.run_laws.proofs.board.Ordered.{number_below}
+use Rattle.run_call_laws.specs.Numbers.{script_number, test_number}
 use Rattle.run_call_laws.specs.Stops.{tells_cancel}
 
 -- an event of a script has the number of one, and one of a test has not
 pub record HasKind (p : Settings) (e : ReporterEvent) : Type 0 where
-  pub script : IfSome (script_of e) (λ k. k < scripts_in p)
-  pub test : IfSome (test_of e) (λ k. scripts_in p ≤ k)
+  pub script : IfSome (script_number e) (λ k. k < scripts_in p)
+  pub test : IfSome (test_number e) (λ k. scripts_in p ≤ k)
 
 -- an event that tells of no cause, and of a unit by its number
 pub record IsOwn (p : Settings) (e : ReporterEvent) : Type 0 where

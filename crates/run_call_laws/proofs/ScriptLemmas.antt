@@ -29,8 +29,8 @@ use Rattle.run_model.specs.Journal.{IsLegalBackward, history}
 use Rattle.run_model.specs.Turns.{admission, answer_to, deed_on, delivered_as, delivery, done_by, enabled, event_of}
 use Rattle.run_model.specs.Turns.{happening, starting, takes_turn, tally_with, turn_of_unit}
 use Rattle.run_model.specs.Words.{is_over, reason, sub_run, told}
-use Rattle.run_laws.proofs.ByTurn.{by_turn}
-use Rattle.run_laws.proofs.Cancels.{IsCancel, IsCancelKind}
+use Rattle.run_laws.proofs.board.ByTurn.{by_turn}
+use Rattle.run_laws.proofs.told.Cancels.{IsCancel, IsCancelKind}
 use Rattle.run_call_laws.specs.Stops.{tells_cancel}
 use Rattle.run_call_laws.specs.Success.{fails_script, fails_script_in}
 use Rattle.run_laws.specs.Cancels.{rises}

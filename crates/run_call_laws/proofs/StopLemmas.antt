@@ -1,10 +1,10 @@
 -- Where no cause came, no unit is never started, and none is left.
-use Rattle.std.proofs.Common.{◌≡◌, ℕ, ◌&&◌, ◌||◌, ◌==◌, nat_lt, List, [], ◌∷◌, Bool, true, false, if◌then◌else◌}
-use Rattle.std.proofs.Common.{Option, Some, None, is_some, refl}
+use Rattle.std.proofs.Common.{◌≡◌, ℕ, ◌&&◌, nat_lt, List, [], ◌∷◌, Bool, true, false, if◌then◌else◌}
+use Rattle.std.proofs.Common.{Option, Some, None, is_some, refl, ap}
 use Rattle.run_events.specs.Cancel.{greater, rank}
 use Rattle.run_events.specs.declared.cancel.CancelReason.{CancelReason}
 use Rattle.run_model.specs.declared.happening.Happening.{Happening}
-use Rattle.run_model.specs.Story.{deliveries, lets_go, never_started, was_left}
+use Rattle.run_model.specs.Story.{deliveries, is_at_retry, is_at_start, lets_go, stopped_at}
 use Rattle.run_model.specs.Words.{reason}
 use Rattle.run_call_laws.specs.Stops.{IsUnstopped}
 
@@ -17,19 +17,18 @@ earlier_none (Some r) (Some c) h = by_rank (nat_lt (rank r) (rank c)) h
     by_rank true h = cc
     by_rank false h = cc
 
-shut : (a b c rest : Bool) → c ≡ false → rest ≡ false → ((a && b && c) || rest) ≡ false
-shut true true c rest h none = rw (h, none) refl
-shut true false c rest h none = none
-shut false b c rest h none = none
+shut : (a b : Bool) (n : ℕ) → b ≡ false → (if a && b then Some n else None) ≡ None
+shut true b n h = rw h refl
+shut false b n h = refl
+
+stopped_none : (k : ℕ) (run : List Happening) → is_some (reason run) ≡ false → stopped_at k run ≡ None
+stopped_none k [] calm = refl
+stopped_none k (x ∷ past) calm =
+    let before : is_some (reason past) ≡ false = earlier_none (reason past) x.cause calm in
+    rw (stopped_none k past before) (shut (lets_go k x.part) (is_some (reason past)) (deliveries k past) before)
 
 pub unstopped : (k : ℕ) (run : List Happening) → is_some (reason run) ≡ false → IsUnstopped run k
-unstopped k [] calm = record { started = refl; stayed = refl }
-unstopped k (x ∷ past) calm =
-    let before : is_some (reason past) ≡ false = earlier_none (reason past) x.cause calm in
-    let earlier : IsUnstopped past k = unstopped k past before in
-    record {
-      started = shut (lets_go k x.part) (deliveries k past == 0) (is_some (reason past)) (never_started k past) before
-          earlier.started;
-      stayed = shut (lets_go k x.part) (nat_lt 0 (deliveries k past)) (is_some (reason past)) (was_left k past) before
-          earlier.stayed;
-    }
+unstopped k run calm = record {
+  started = ap is_at_start (stopped_none k run calm);
+  stayed = ap is_at_retry (stopped_none k run calm);
+}

@@ -19,9 +19,9 @@ use Rattle.run_model.specs.Journal.{IsLegalBackward, history}
 use Rattle.run_model.specs.Turns.{deed_on, happening}
 use Rattle.run_model.specs.Words.{clock, reason, sub_run, tally, told}
 use Rattle.run_laws.specs.Cancels.{IsCancelled, reason_told, rises}
-use Rattle.run_laws.proofs.Cancelled.{cancels}
-use Rattle.run_laws.proofs.Cancels.{IsCancel, cancel_is}
-use Rattle.run_laws.proofs.Kept.{IsBeforeRuns, IsOfRun, does_after, holds, where_joins}
+use Rattle.run_laws.proofs.told.Cancelled.{cancels}
+use Rattle.run_laws.proofs.told.Cancels.{IsCancel, cancel_is}
+use Rattle.run_laws.proofs.board.Kept.{IsBeforeRuns, IsOfRun, does_after, holds, where_joins}
 use Rattle.run_call_laws.specs.Stops.{AreCausesTold, IsUnstopped, latest_reason, tells_cancel}
 use Rattle.run_call_laws.proofs.StopLemmas.{unstopped}
 use Rattle.run_call_laws.proofs.WholeLemmas.{one_run}

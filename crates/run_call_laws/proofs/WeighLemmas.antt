@@ -22,7 +22,7 @@ use Rattle.run_events.specs.declared.result.SlowTimeoutResult.TheVariants as tim
 use Rattle.run_events.specs.declared.stats.RunStats.{RunStats}
 use Rattle.run_model.specs.Words.{FinishedUnit, a_script, a_test, adds_by, finish_in, finish_of, finished_test}
 use Rattle.run_call_laws.specs.Success.{finishes_test, finishes_test_in, fails_script, fails_script_in, fails_test}
-use Rattle.run_call_laws.specs.Success.{fails_test_in, has_failed, is_strict}
+use Rattle.run_call_laws.specs.Success.{fails_test_in, is_failure, is_strict}
 
 -- whether an event tells the finish of a script
 abbrev pub finishes_script_in : TestEventKind → Bool
@@ -107,7 +107,7 @@ last-is r [] = refl
 last-is r (s ∷ ss) = last-is s.result ss
 
 finish_weighs : (finish : TestFinish)
-    → Weigh (adds_by (a_test (finished_test finish))) 1 0 (cond (has_failed finish) 1 0) 0
+    → Weigh (adds_by (a_test (finished_test finish))) 1 0 (cond (is_failure finish) 1 0) 0
 unfolding adds_of
 finish_weighs finish =
     subst (λ passed. Weigh (adds_by (a_test t)) 1 0
@@ -176,7 +176,7 @@ kind_adds : (kind : TestEventKind) (us : List FinishedUnit) (m n f g : ℕ) → 
     → AddUp (cons_option (finish_in kind) us) (cond (finishes_test_in kind) 1 0 + m)
     (cond (finishes_script_in kind) 1 0 + n) (cond (fails_test_in kind) 1 0 + f) (cond (fails_script_in kind) 1 0 + g)
 kind_adds (TestFinished event) us m n f g h =
-    adds_more (a_test (finished_test event.finish)) us 1 0 (cond (has_failed event.finish) 1 0) 0 m n f g
+    adds_more (a_test (finished_test event.finish)) us 1 0 (cond (is_failure event.finish) 1 0) 0 m n f g
     (finish_weighs event.finish) h
 kind_adds (SetupScriptFinished event) us m n f g h =
     adds_more (a_script event.status.result) us 0 1 0 (cond (not (is_success event.status.result)) 1 0) m n f g

@@ -12,10 +12,10 @@ use Rattle.run_model.specs.declared.entry.Entry.{Entry}
 use Rattle.run_model.specs.declared.happening.Happening.{Happening}
 use Rattle.run_model.specs.Board.{board, said}
 use Rattle.run_model.specs.Journal.{IsLegalBackward, history, past_of}
-use Rattle.run_model.specs.Story.{deliveries}
+use Rattle.run_model.specs.Story.{deliveries, is_at_retry, is_at_start, stopped_at}
 use Rattle.run_model.specs.Turns.{happening, nothing_done, takes_turn, turn_of_unit}
 use Rattle.run_model.specs.Words.{asked, clock, ended_runs, events_in, is_over, sub_run, told}
-use Rattle.run_laws.proofs.Kept.{IsBeforeRuns, IsOfRun, does_after, holds, where_joins}
+use Rattle.run_laws.proofs.board.Kept.{IsBeforeRuns, IsOfRun, does_after, holds, where_joins}
 use Rattle.run_call_laws.specs.Whole.{AddsOne, IsOneRun, SayTheSame, asks_of}
 
 -- one more entry is one more happening
@@ -45,6 +45,7 @@ adds_one p journal e = record {
 record Alike (past run : List Happening) : Type 0 where
   same : SayTheSame past run
   deliveries : (k : ℕ) → deliveries k past ≡ deliveries k run
+  stopped : (k : ℕ) → stopped_at k past ≡ stopped_at k run
 
 asks-one : (n : ℕ) (o : Option Ask)
     → map (λ (a : ℕ × Ask). a.1) (map (λ ask. (n, ask)) (option_to_list o)) ≡ option_to_list o
@@ -64,11 +65,15 @@ alike_more x past run h = record {
     sent = ap (λ ms. ms ++ option_to_list x.sent) h.same.sent;
     causes = ap (λ rs. cons_option x.cause rs) h.same.causes;
     reason = ap (λ why. greater why x.cause) h.same.reason;
-    never = λ k. rw (h.deliveries k, h.same.reason, h.same.never k) refl;
-    left = λ k. rw (h.deliveries k, h.same.reason, h.same.left k) refl;
+    never = λ k. ap is_at_start (stops k);
+    left = λ k. ap is_at_retry (stops k);
   };
   deliveries = λ k. rw (h.deliveries k) refl;
+  stopped = stops;
 }
+  where
+    stops : (k : ℕ) → stopped_at k (x ∷ past) ≡ stopped_at k (x ∷ run)
+    stops k = rw (h.deliveries k, h.same.reason, h.stopped k) refl
 
 alike_still : (now : ℕ) (e : Entry) (past : List Happening) → Alike past [] → Alike (said now e nothing_done ∷ past) []
 alike_still now e past h = record {
@@ -78,11 +83,15 @@ alike_still now e past h = record {
     sent = ap (λ ms. ms ++ []) h.same.sent;
     causes = h.same.causes;
     reason = ap (λ why. greater why None) h.same.reason;
-    never = h.same.never;
-    left = h.same.left;
+    never = λ k. ap is_at_start (stops k);
+    left = λ k. ap is_at_retry (stops k);
   };
   deliveries = λ k. rw (h.deliveries k) refl;
+  stopped = stops;
 }
+  where
+    stops : (k : ℕ) → stopped_at k (said now e nothing_done ∷ past) ≡ None
+    stops k = rw (h.stopped k) refl
 
 alike_none : Alike [] []
 alike_none = record {
@@ -96,6 +105,7 @@ alike_none = record {
     left = λ k. refl;
   };
   deliveries = λ k. refl;
+  stopped = λ k. refl;
 }
 
 -- so a history and its newest sub-run

@@ -65,7 +65,7 @@ EachByItsFate = (p : Settings) (journal : List Entry) → IsLegal p journal → 
     → IsToldByItsFate p (told (past_of p journal)) (sub_run (past_of p journal)) k
 
 -- a unit that is to run is told started and finished just once, and a test that doesn't match skipped just once
-pub record IsToldOnce (p : Settings) (events : List ReporterEvent) (k : ℕ) : Type 0 where
+pub record IsToldJustOnce (p : Settings) (events : List ReporterEvent) (k : ℕ) : Type 0 where
   pub starts : starts_told k events ≡ one_if (is_to_run p k)
   pub finishes : finishes_told k events ≡ one_if (is_to_run p k)
   pub skips : skips_told k events ≡ one_if (is_mismatched p k)
@@ -73,4 +73,4 @@ pub record IsToldOnce (p : Settings) (events : List ReporterEvent) (k : ℕ) : T
 -- that holds of each number where the run is over, and no event of a legal journal told that the run is cancelled
 abbrev pub EachOnce : Type 0
 EachOnce = (p : Settings) (journal : List Entry) → IsLegal p journal → is_over (past_of p journal) ≡ true
-    → list_any tells_cancel (told (past_of p journal)) ≡ false → (k : ℕ) → IsToldOnce p (told (past_of p journal)) k
+    → list_any tells_cancel (told (past_of p journal)) ≡ false → (k : ℕ) → IsToldJustOnce p (told (past_of p journal)) k

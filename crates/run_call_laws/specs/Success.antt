@@ -32,8 +32,8 @@ abbrev pub has_last_passed : List ExecuteStatus → Bool
 has_last_passed statuses = last_or false (map (λ s. is_success s.result) statuses)
 
 -- whether a finished test failed: its last attempt did, or it was not its first where that is to be a failure
-abbrev pub has_failed : TestFinish → Bool
-has_failed finish =
+abbrev pub is_failure : TestFinish → Bool
+is_failure finish =
     not (has_last_passed finish.statuses) || (is_strict finish.flaky && nat_lt 1 (length finish.statuses))
 
 -- whether an event tells that a script finished and failed, and whether a test did
@@ -46,7 +46,7 @@ fails_script (Test event) = fails_script_in event.kind
 fails_script _ = false
 
 abbrev pub fails_test_in : TestEventKind → Bool
-fails_test_in (TestFinished event) = has_failed event.finish
+fails_test_in (TestFinished event) = is_failure event.finish
 fails_test_in _ = false
 
 abbrev pub fails_test : ReporterEvent → Bool

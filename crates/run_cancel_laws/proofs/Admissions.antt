@@ -25,10 +25,10 @@ use Rattle.run_model.specs.Turns.{admission, answer_to, deed_on, delivered_as, d
 use Rattle.run_model.specs.Turns.{taken_by, takes_turn, tally_with, turn_of_unit}
 use Rattle.run_model.specs.Unit.{reach, row}
 use Rattle.run_model.specs.Words.{unit_after, unit_of, units}
-use Rattle.run_laws.proofs.ByTurn.{by_turn}
-use Rattle.run_laws.proofs.Deeds.{PartFits}
-use Rattle.run_laws.proofs.OnBoard.{units-at}
-use Rattle.run_laws.proofs.Ordered.{board_over, done_reach, over_kept}
+use Rattle.run_laws.proofs.board.ByTurn.{by_turn}
+use Rattle.run_laws.proofs.board.DeedFits.{PartFits}
+use Rattle.run_laws.proofs.board.OnBoard.{units-at}
+use Rattle.run_laws.proofs.board.Ordered.{board_over, done_reach, over_kept}
 
 -- each script before the one that is admitted is over
 open_before : (us : List (Option UnitView)) (i j : ℕ) → open_script us ≡ Some i → j < i

@@ -24,11 +24,12 @@ use Rattle.run_model.specs.Environment.{number, number_of}
 use Rattle.run_model.specs.Unit.{Row, at_moment, failure_message, finish_message, last_status, next_delay}
 use Rattle.run_model.specs.Unit.{retry_message, row, row_at, script_finish, takes, takes_at}
 use Rattle.run_model.specs.Words.{unit_of}
-use Rattle.run_laws.proofs.AccountLemmas.{IsFirst}
-use Rattle.run_laws.proofs.Deeds.{IsSentAs, PartFits}
-use Rattle.run_laws.proofs.Holds.{Holds}
-use Rattle.run_laws.proofs.Rows.{IsReport, StaysOrGoes, Takes, again, answers, continues, decide_cases, decides, opens}
-use Rattle.run_laws.proofs.Rows.{passes, row_moves, row_passes, row_takes, takes_moment}
+use Rattle.run_laws.proofs.units.AccountLemmas.{IsFirst}
+use Rattle.run_laws.proofs.board.DeedFits.{IsSentAs, PartFits}
+use Rattle.run_laws.proofs.board.Holds.{Holds}
+use Rattle.run_laws.proofs.units.OpenRows.{IsReport}
+use Rattle.run_laws.proofs.units.Rows.{StaysOrGoes, Takes, again, answers, continues, decide_cases, decides, opens}
+use Rattle.run_laws.proofs.units.Rows.{passes, row_moves, row_passes, row_takes, takes_moment}
 
 -- whether a message is one that unit k's account waits for
 abbrev pub is_news_of : ℕ → Message → Bool

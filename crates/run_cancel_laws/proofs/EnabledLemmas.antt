@@ -31,17 +31,17 @@ use Rattle.run_model.specs.declared.happening.Happening.{Happening}
 use Rattle.run_model.specs.Board.{Board, Deed, board}
 use Rattle.run_model.specs.Journal.{history, IsLegalBackward}
 use Rattle.run_model.specs.Turns.{deed_on, enabled, happening}
-use Rattle.run_model.specs.Unit.{is_due}
+use Rattle.run_clock.specs.Sleep.{fires_now}
 use Rattle.run_model.specs.Dispatch.{is_shutdown}
 use Rattle.run_model.specs.Words.{is_by_signal, signals_heard, armed, clock, global_timer, is_by_report, is_by_time}
 use Rattle.run_model.specs.Words.{is_on, is_over, ns_of, sub_run, time_limit, was_refused, was_reported}
 use Rattle.run_laws.specs.Cancels.{cause_by, delivery_reason, failure_reason, finish_reason, first_signal}
 use Rattle.run_laws.specs.Cancels.{signal_reason}
-use Rattle.run_laws.proofs.CauseLemmas.{cause_is}
-use Rattle.run_laws.proofs.Deeds.{Does}
-use Rattle.run_laws.proofs.Kept.{HoldsAfter, does_after, holds, IsOfRun, IsBeforeRuns, where_joins}
+use Rattle.run_laws.proofs.told.CauseLemmas.{cause_is}
+use Rattle.run_laws.proofs.board.DeedFits.{Does}
+use Rattle.run_laws.proofs.board.Kept.{HoldsAfter, does_after, holds, IsOfRun, IsBeforeRuns, where_joins}
 use Rattle.run_cancel_laws.specs.Enabled.{goes_on, is_global_due, is_report_cancel, is_signal, limit_under, reaches}
-use Rattle.run_cancel_laws.specs.Enabled.{shuts_run_down, signals_in, was_any}
+use Rattle.run_cancel_laws.specs.Enabled.{shuts_run_down, signals_before, was_any}
 
 -- a test of reasons that answers so for each of a signal, and that passes none of a delivery
 record AnswersSignals (f : Option CancelReason → Bool) (answer : Bool) : Type 0 where
@@ -131,7 +131,7 @@ signal_is p run turn told = refl
 
 -- as many causes of a sub-run as turns are signals, after one more
 counts_so : (x : Happening) (run : List Happening) → is_by_signal x.cause ≡ is_signal x.turn
-    → signals_heard run ≡ signals_in run → signals_heard (x ∷ run) ≡ signals_in (x ∷ run)
+    → signals_heard run ≡ signals_before run → signals_heard (x ∷ run) ≡ signals_before (x ∷ run)
 counts_so x run is was =
     sum_by-cons (λ (x : Happening). cond (is_by_signal x.cause) 1 0) x run
     ∙ ap (λ b. cond b 1 0 + signals_heard run) is ∙ ap (λ n. cond (is_signal x.turn) 1 0 + n) was
@@ -150,7 +150,7 @@ record IsSet (p : Settings) (now : ℕ) (run : List Happening) : Type 0 where
 
 record IsTimed (p : Settings) (now : ℕ) (run : List Happening) : Type 0 where
   reported : was_reported run ≡ was_any is_report_cancel run
-  heard : signals_heard run ≡ signals_in run
+  heard : signals_heard run ≡ signals_before run
   set : (run ≡ []) ⊎ IsSet p now run
 
 timed_none : (p : Settings) (now : ℕ) → IsTimed p now []
@@ -240,7 +240,7 @@ reached : (moment limit time now : ℕ) → moment + time ≡ now → nat_le (mo
 reached moment limit time now passed = grind arith
 
 due_is : (limit : Option ℕ) (moment time now : ℕ) (was : Bool) → moment + time ≡ now
-    → is_due now (if was then None else armed moment limit) ≡ (reaches limit time && not was)
+    → fires_now now (if was then None else armed moment limit) ≡ (reaches limit time && not was)
 due_is None moment time now true passed = refl
 due_is None moment time now false passed = refl
 due_is (Some limit) moment time now true passed = both (nat_le limit time)
@@ -282,7 +282,7 @@ counted p backward legal = by_set (timed p backward legal).set
     off false b c = refl
 
     by_set : (run ≡ []) ⊎ IsSet p (clock past) run
-        → (not (is_over past) && (is_on run && is_due (clock past) (global_timer p run)))
+        → (not (is_over past) && (is_on run && fires_now (clock past) (global_timer p run)))
         ≡ (not (is_over past) && is_on run && reaches limit (clock run) && not (was_any is_global_due run))
     by_set (inl none) = rw none (off2 (not (is_over past)) (reaches limit 0))
       where
@@ -290,7 +290,7 @@ counted p backward legal = by_set (timed p backward legal).set
         off2 true c = refl
         off2 false c = refl
     by_set (inr set) =
-        ap (λ timer. not (is_over past) && (is_on run && is_due (clock past) timer))
+        ap (λ timer. not (is_over past) && (is_on run && fires_now (clock past) timer))
         (set.timer ∙ ap (λ limit. if was_any is_global_due run then None else armed set.moment limit) (limit_is p))
         ∙ ap (λ b. not (is_over past) && (is_on run && b))
         (due_is limit set.moment (clock run) (clock past) (was_any is_global_due run) set.passed)
@@ -337,7 +337,7 @@ shuts_so handlers.Noop info signal = refl
 pub heard_twice : (p : Settings) (backward : List Entry) (signal : SignalKind) → IsLegalBackward p backward
     → enabled p (history p backward) (Signal signal)
     ≡ (goes_on (history p backward) && shuts_run_down p.plan.hearing.signals p.plan.hearing.quit_is_info signal
-    && nat_lt (signals_in (sub_run (history p backward))) 2)
+    && nat_lt (signals_before (sub_run (history p backward))) 2)
 heard_twice p backward signal legal =
     ap (λ b. not (is_over past) && (is_on run && b && nat_lt (signals_heard run) 2))
     (shuts_so p.plan.hearing.signals p.plan.hearing.quit_is_info signal)

@@ -38,14 +38,14 @@ use Rattle.run_model.specs.Unit.{Row, asked_to_end, at_moment, decide_row, delay
 use Rattle.run_model.specs.Unit.{out_of_time, next_delay, requested, row, row_at, slow_again, slow_row, take_row, takes}
 use Rattle.run_model.specs.Unit.{takes_at}
 use Rattle.run_model.specs.Words.{asked, clock, is_over, queue, sub_run, told, units}
-use Rattle.run_laws.proofs.Deeds.{Does, PartFits, asked_by}
-use Rattle.run_laws.proofs.FaceLemmas.{face}
-use Rattle.run_laws.proofs.Holds.{Holds}
-use Rattle.run_laws.proofs.Kept.{HoldsAfter, does_after, holds, IsOfRun, IsBeforeRuns, where_joins}
-use Rattle.run_laws.proofs.Newcomers.{IsPlanned}
-use Rattle.run_laws.proofs.Planned.{HasStarts, IsPlannedIf}
-use Rattle.run_laws.proofs.Rows.{takes_moment}
-use Rattle.run_laws.proofs.StartLemmas.{has_starts}
+use Rattle.run_laws.proofs.board.DeedFits.{Does, PartFits, asked_by}
+use Rattle.run_laws.proofs.units.FaceLemmas.{face}
+use Rattle.run_laws.proofs.board.Holds.{Holds}
+use Rattle.run_laws.proofs.board.Kept.{HoldsAfter, does_after, holds, IsOfRun, IsBeforeRuns, where_joins}
+use Rattle.run_laws.proofs.board.Newcomers.{IsPlanned}
+use Rattle.run_laws.proofs.told.PlannedTurns.{HasStarts, IsPlannedIf}
+use Rattle.run_laws.proofs.units.Rows.{takes_moment}
+use Rattle.run_laws.proofs.told.StartLemmas.{has_starts}
 use Rattle.run_cancel_laws.specs.Groups.{group_asked, group_by, IsOfItsGroup, test_group}
 
 -- a row asks for its own unit, and for the group that this has

@@ -1,7 +1,7 @@
 -- Which units a request reaches, by their own turns.
 use Rattle.std.proofs.Common.{◌≡◌, ◌⊎◌, inl, inr, ℕ, ◌+◌, ◌-◌, List, [], ◌∷◌, ◌++◌, length, Bool, true, false, not}
 use Rattle.std.proofs.Common.{◌&&◌, nat_le, if◌then◌else◌, Option, Some, None, option_map, option_to_list, drop, refl}
-use Rattle.std.proofs.Common.{ap, sym, subst, ◌∙◌, arith, length-append}
+use Rattle.std.proofs.Common.{zero, suc, ap, sym, subst, ◌∙◌, arith, length-append}
 use Rattle.run_events.specs.Result.{is_success}
 use Rattle.run_events.specs.declared.request.Request.{Request}
 use Rattle.run_events.specs.declared.result.ExecuteStatus.{ExecuteStatus}
@@ -20,27 +20,28 @@ use Rattle.run_model.specs.Backoff.{retry_count}
 use Rattle.run_model.specs.Fates.{MeetsAttemptLaw}
 use Rattle.run_model.specs.Journal.{history, IsLegalBackward}
 use Rattle.run_model.specs.Story.{OwnTurn, Attempt, cut, broadcast_to, is_live_unit, line_of, pieces, story_of}
-use Rattle.run_model.specs.Story.{taken_by, was_left}
+use Rattle.run_model.specs.Story.{is_at_retry, taken_by, was_left}
 use Rattle.run_model.specs.Turns.{happening}
 use Rattle.run_model.specs.Unit.{is_live, reach}
 use Rattle.run_model.specs.Words.{clock, is_over, queue, sub_run, told, unit_after, unit_of}
-use Rattle.run_laws.proofs.AttemptLemmas.{HasPieces, IsMade, IsMadeIf}
-use Rattle.run_laws.proofs.GoingLemmas.{ended_statuses-past, next_status}
-use Rattle.run_laws.proofs.Holds.{HasEndedAs, HasLine, HasLineIn, Holds, IsOnWay, IsOnWayAt, IsOnWayIn, IsOverWith, Way}
-use Rattle.run_laws.proofs.Holds.{way_of}
-use Rattle.run_laws.proofs.Kept.{holds, IsOfRun, IsBeforeRuns, where_joins}
-use Rattle.run_laws.proofs.MadeLemmas.{IsOver}
+use Rattle.run_laws.proofs.units.AttemptLemmas.{HasPieces, IsMade, IsMadeIf}
+use Rattle.run_laws.proofs.units.GoingLemmas.{ended_statuses-past, next_status}
+use Rattle.run_laws.proofs.board.Holds.{HasEndedAs, HasLine, HasLineIn, Holds, IsOnWay, IsOnWayAt, IsOnWayIn, IsOverWith, Way}
+use Rattle.run_laws.proofs.board.Holds.{way_of}
+use Rattle.run_laws.proofs.board.Kept.{holds, IsOfRun, IsBeforeRuns, where_joins}
+use Rattle.run_laws.proofs.units.MadeLemmas.{IsOver}
 use Rattle.run_cancel_laws.specs.Reach.{IsReached, broadcast_by, is_finished, is_live_by, was_let_go}
 
 -- a unit that isn't over wasn't left
-not_left : (mm : Bool) (u : UnitView) (w : Way) → is_last u.phase ≡ false → IsOnWayAt mm u w → w.left ≡ false
-not_left true u w on h = h.2
+not_left : (mm : Bool) (u : UnitView) (w : Way) → is_last u.phase ≡ false → IsOnWayAt mm u w
+    → is_at_retry w.stopped ≡ false
+not_left true u w on h = ap is_at_retry h.1
 not_left false u w on h = by_phase u.phase on h
   where
     by_phase : (ph : Phase) → is_last ph ≡ false → IsOnWayIn (retry_count u.terms.retries) ph u.attempt u.statuses w
-        → w.left ≡ false
+        → is_at_retry w.stopped ≡ false
     by_phase Over on h = cc
-    by_phase ph on h = h.0.2
+    by_phase ph on h = ap is_at_retry h.0.1
 
 -- the last of some attempts passed, or was the last that there could be
 last_law : (n : ℕ) (early : List ExecuteStatus) (s : ExecuteStatus) → MeetsAttemptLaw n (early ++ s ∷ [])
@@ -60,14 +61,20 @@ last_law n (x ∷ y ∷ early) s (failed, some, h) = by_last (last_law (n - 1) (
 
 -- so one that is over after its attempts, and wasn't left, isn't tried again
 over_law : (n attempt : ℕ) (ss early : List ExecuteStatus) (s : ExecuteStatus) (w : Way) → ss ≡ early ++ s ∷ []
-    → w.left ≡ false → IsOverWith n attempt ss w
+    → is_at_retry w.stopped ≡ false → IsOverWith n attempt ss w
     → ((is_success s.result ≡ true) ⊎ (n ≡ length early)) × (attempt ≡ length early + 1)
 over_law n attempt [] [] s w is left h = cc
 over_law n attempt [] (x ∷ early) s w is left h = cc
-over_law n attempt (x ∷ ss) early s w is left (never, at, ended) = (
-  last_law n early s (subst (MeetsAttemptLaw n) is (subst (λ b. HasEndedAs b n (x ∷ ss)) left ended)),
+over_law n attempt (x ∷ ss) early s w is left (at, ended) = (
+  last_law n early s (subst (MeetsAttemptLaw n) is (by_stop w.stopped left ended)),
   at ∙ ap length is ∙ length-append early (s ∷ []),
 )
+  where
+    by_stop : (stopped : Option ℕ) → is_at_retry stopped ≡ false → HasEndedAs stopped n (x ∷ ss)
+        → MeetsAttemptLaw n (x ∷ ss)
+    by_stop None left ended = ended
+    by_stop (Some zero) left ended = let none : length (x ∷ ss) ≡ 0 = ended.1 in absurd (omega arith)
+    by_stop (Some (suc m)) left ended = cc
 
 not_retried : (terms : AttemptTerms) (piece : List OwnTurn) (attempt n m : ℕ) → n ≡ retry_count terms.retries
     → (is_success (result_in terms piece) ≡ true) ⊎ (n ≡ m) → attempt ≡ m + 1 → is_retried terms attempt piece ≡ false
@@ -83,11 +90,11 @@ not_retried terms piece attempt n m is (inr none) at = either (is_success (resul
 
 -- a unit is live exactly where its attempts say so
 live_is : (mm : Bool) (terms : AttemptTerms) (u : UnitView) (ps : List Attempt) (w : Way) (t q : List News)
-    → IsMade terms u ps → IsOnWayAt mm u w → HasAccountAt mm w.left u.phase u.statuses t q
-    → is_live u.phase ≡ (was_let_go ps && not (is_finished terms ps) && not w.left)
+    → IsMade terms u ps → IsOnWayAt mm u w → HasAccountAt mm (is_at_retry w.stopped) u.phase u.statuses t q
+    → is_live u.phase ≡ (was_let_go ps && not (is_finished terms ps) && not (is_at_retry w.stopped))
 live_is mm terms u ps w t q made way account = by_phase u.phase ps refl made.attempt made.has
   where
-    left : (ph : Phase) → u.phase ≡ ph → is_last ph ≡ false → w.left ≡ false
+    left : (ph : Phase) → u.phase ≡ ph → is_last ph ≡ false → is_at_retry w.stopped ≡ false
     left ph is on = not_left mm u w (ap is_last is ∙ on) way
 
     ended : (b : Bool) → false ≡ (not (not b) && false)
@@ -95,11 +102,12 @@ live_is mm terms u ps w t q made way account = by_phase u.phase ps refl made.att
     ended false = refl
 
     over : (piece d_after : List OwnTurn) (earlier : List Attempt) → u.phase ≡ Over → u.attempt ≡ length earlier + 1
-        → u.statuses ≡ ended_statuses terms earlier ++ next_status terms piece earlier ∷ [] → w.left ≡ false
+        → u.statuses ≡ ended_statuses terms earlier ++ next_status terms piece earlier ∷ []
+        → is_at_retry w.stopped ≡ false
         → (m : Bool) → mm ≡ m → is_retried terms (length earlier + 1) piece ≡ false
     over piece after earlier is at ss unleft true kind =
         absurd (skips u.phase u.statuses ss
-        (subst (λ mm. HasAccountAt mm w.left u.phase u.statuses t q) kind account))
+        (subst (λ mm. HasAccountAt mm (is_at_retry w.stopped) u.phase u.statuses t q) kind account))
       where
         skips : (ph : Phase) (s : List ExecuteStatus)
             → s ≡ ended_statuses terms earlier ++ next_status terms piece earlier ∷ [] → HasSkipIn ph s t q → ⊥
@@ -122,14 +130,15 @@ live_is mm terms u ps w t q made way account = by_phase u.phase ps refl made.att
         (ap (λ (terms : AttemptTerms). retry_count terms.retries) made.terms) law.0 same
 
     by_left : (piece : List OwnTurn) (d : OwnTurn) (after : List OwnTurn) (earlier : List Attempt) (b : Bool)
-        → u.phase ≡ Over → u.attempt ≡ length earlier + 1 → IsOver terms u piece (d ∷ after) earlier → w.left ≡ b
+        → u.phase ≡ Over → u.attempt ≡ length earlier + 1 → IsOver terms u piece (d ∷ after) earlier
+        → is_at_retry w.stopped ≡ b
         → false ≡ (not (not (is_retried terms (length earlier + 1) piece)) && not b)
     by_left piece d after earlier true is at h e = ended (is_retried terms (length earlier + 1) piece)
     by_left piece d after earlier false is at h e =
         rw (over piece after earlier is at (h.0.1 ∙ ended_statuses-past terms piece earlier h.0.0) e mm refl) refl
 
     by_phase : (ph : Phase) (ps : List Attempt) → u.phase ≡ ph → u.attempt ≡ attempt_in ps → HasPieces terms ph u ps
-        → is_live ph ≡ (was_let_go ps && not (is_finished terms ps) && not w.left)
+        → is_live ph ≡ (was_let_go ps && not (is_finished terms ps) && not (is_at_retry w.stopped))
     by_phase StartSent [] is at h = refl
     by_phase Starting (cut piece [] ∷ earlier) is at h = rw (left Starting is refl) refl
     by_phase Running (cut piece [] ∷ earlier) is at h = rw (left Running is refl) refl
@@ -142,7 +151,7 @@ live_is mm terms u ps w t q made way account = by_phase u.phase ps refl made.att
     by_phase RetrySent (cut piece (d ∷ after) ∷ earlier) is at h = rw (h.0.1, left RetrySent is refl) refl
     by_phase Over [] is at h = refl
     by_phase Over (cut piece (d ∷ after) ∷ earlier) is at h =
-        by_left piece d after earlier w.left is at h refl
+        by_left piece d after earlier (is_at_retry w.stopped) is at h refl
     by_phase ph ps is at h = absurd h
 
 live_so : (p : Settings) (over : Bool) (now : ℕ) (run : List Happening) (k : ℕ) → Holds p over now run

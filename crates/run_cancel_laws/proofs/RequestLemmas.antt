@@ -39,11 +39,11 @@ use Rattle.run_model.specs.Turns.{nothing_done, starting, tally_with}
 use Rattle.run_model.specs.Words.{clock, is_on, is_over, queue, reason, signals_heard, sub_run, tally, told, units}
 use Rattle.run_model.specs.Words.{was_refused}
 use Rattle.run_laws.specs.Cancels.{rises}
-use Rattle.run_laws.proofs.Boards.{counts-more}
-use Rattle.run_laws.proofs.Deeds.{Does}
-use Rattle.run_laws.proofs.Facts.{stats-reason}
-use Rattle.run_laws.proofs.Kept.{HoldsAfter, does_after, holds}
-use Rattle.run_laws.proofs.OnBoard.{board_with}
+use Rattle.run_laws.proofs.board.Boards.{counts-more}
+use Rattle.run_laws.proofs.board.DeedFits.{Does}
+use Rattle.run_laws.proofs.board.Facts.{stats-reason}
+use Rattle.run_laws.proofs.board.Kept.{HoldsAfter, does_after, holds}
+use Rattle.run_laws.proofs.board.OnBoard.{board_with}
 use Rattle.run_cancel_laws.specs.Requests.{AsksForItsCause, request_for}
 
 -- what is asked for a cause with this reason as the one that stands

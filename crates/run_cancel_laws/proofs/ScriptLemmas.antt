@@ -31,21 +31,21 @@ use Rattle.run_model.specs.Board.{Deed, board, deed_events, said}
 use Rattle.run_model.specs.Dispatch.{having_told}
 use Rattle.run_model.specs.Environment.{number}
 use Rattle.run_model.specs.Journal.{history, IsLegalBackward}
-use Rattle.run_model.specs.Story.{Attempt, cut, pieces, story_of, was_left}
+use Rattle.run_model.specs.Story.{Attempt, cut, pieces, story_of, is_at_start, is_at_retry, was_left}
 use Rattle.run_model.specs.Attempts.{result_in}
 use Rattle.run_events.specs.Result.{is_success}
 use Rattle.run_model.specs.Turns.{deed_on, enabled, takes_turn, turn_of_unit}
 use Rattle.run_model.specs.Words.{clock, finishes, is_over, queue, starts, starts_in, sub_run, tally, told, unit_after}
 use Rattle.run_model.specs.Words.{unit_of}
-use Rattle.run_laws.proofs.AttemptLemmas.{HasPieces, IsMade, IsMadeIf}
-use Rattle.run_laws.proofs.Cancels.{IsCancel, cancel_apart, cancel_is}
-use Rattle.run_laws.proofs.Deeds.{Does, IsInOrder, ToldFits, ToldFitsIn}
-use Rattle.run_laws.proofs.Facts.{Waits, itself, start_waits}
-use Rattle.run_laws.proofs.Holds.{Holds, HasEndedAs, IsOnWay, IsOnWayIn, IsOverWith, Way, way_of}
-use Rattle.run_laws.proofs.Kept.{HoldsAfter, does_after, holds, IsOfRun, IsBeforeRuns, where_joins}
-use Rattle.run_laws.proofs.Newcomers.{script_number}
-use Rattle.run_laws.proofs.Queue.{queue-cons}
-use Rattle.run_laws.proofs.Running.{finishes-account, is_finish, is_start, starts-account}
+use Rattle.run_laws.proofs.units.AttemptLemmas.{HasPieces, IsMade, IsMadeIf}
+use Rattle.run_laws.proofs.told.Cancels.{IsCancel, cancel_apart, cancel_is}
+use Rattle.run_laws.proofs.board.DeedFits.{Does, IsInOrder, ToldFits, ToldFitsIn}
+use Rattle.run_laws.proofs.board.Facts.{Waits, itself, start_waits}
+use Rattle.run_laws.proofs.board.Holds.{Holds, HasEndedAs, IsOnWay, IsOnWayIn, IsOverWith, Way, way_of}
+use Rattle.run_laws.proofs.board.Kept.{HoldsAfter, does_after, holds, IsOfRun, IsBeforeRuns, where_joins}
+use Rattle.run_laws.proofs.board.Newcomers.{script_number}
+use Rattle.run_laws.proofs.board.Queue.{queue-cons}
+use Rattle.run_laws.proofs.told.Running.{finishes-account, is_finish, is_start, starts-account}
 use Rattle.run_cancel_laws.proofs.Admissions.{comes_after, each_over, joins_is, over_after, some_before}
 use Rattle.run_cancel_laws.proofs.Behind.{IsBehind, behind-drop, behind-more, is_news_of, none_waits, sends_none_of}
 use Rattle.run_cancel_laws.proofs.Behind.{some-drop}
@@ -104,13 +104,13 @@ finished_so Over (x ∷ ss) t last (early, (s, (e, inr (told, waits)))) some =
 finished_so ph ss t last h some = cc
 
 script_unleft : (ph : Phase) (attempt : ℕ) (ss : List ExecuteStatus) (w : Way) → is_last ph ≡ true
-    → IsOnWayIn 0 ph attempt ss w → w.left ≡ false
-script_unleft Over attempt [] w last h = h.1
-script_unleft Over attempt (s ∷ ss) w last (never, at, way) = by_left w.left refl way
+    → IsOnWayIn 0 ph attempt ss w → is_at_retry w.stopped ≡ false
+script_unleft Over attempt [] w last h = ap is_at_retry h
+script_unleft Over attempt (s ∷ ss) w last (at, way) = by_stop w.stopped way
   where
-    by_left : (b : Bool) → w.left ≡ b → HasEndedAs b 0 (s ∷ ss) → w.left ≡ false
-    by_left false e h = e
-    by_left true e h = let few : length (s ∷ ss) ≤ 0 = h.1 in absurd (omega arith)
+    by_stop : (stopped : Option ℕ) → HasEndedAs stopped 0 (s ∷ ss) → is_at_retry stopped ≡ false
+    by_stop None h = refl
+    by_stop (Some n) h = let few : length (s ∷ ss) ≤ 0 = h.0.1 in absurd (omega arith)
 script_unleft ph attempt ss w last h = cc
 
 -- a script matches, and is on its way with no retry
@@ -342,11 +342,11 @@ in_turn p (e ∷ before) legal =
 -- a script that is over is done with by its own turns
 over_done : (terms : AttemptTerms) (u : UnitView) (ps : List Attempt) (w : Way) → retry_count terms.retries ≡ 0
     → u.phase ≡ Over → IsMade terms u ps → IsOnWayIn 0 Over u.attempt u.statuses w
-    → (w.never || is_finished terms ps) ≡ true
+    → (is_at_start w.stopped || is_finished terms ps) ≡ true
 over_done terms u ps w none over made way = by_pieces ps (subst (λ ph. HasPieces terms ph u ps) over made.has)
   where
-    never : IsOverWith 0 u.attempt [] w → (w.never || false) ≡ true
-    never h = rw h.0 refl
+    never : IsOverWith 0 u.attempt [] w → (is_at_start w.stopped || false) ≡ true
+    never h = rw h refl
 
     once : (attempt : ℕ) (passed : Bool) → 0 < attempt
         → not (not passed && nat_le attempt (retry_count terms.retries)) ≡ true
@@ -358,10 +358,10 @@ over_done terms u ps w none over made way = by_pieces ps (subst (λ ph. HasPiece
     either true b e = refl
     either false b e = e
 
-    by_pieces : (ps : List Attempt) → HasPieces terms Over u ps → (w.never || is_finished terms ps) ≡ true
+    by_pieces : (ps : List Attempt) → HasPieces terms Over u ps → (is_at_start w.stopped || is_finished terms ps) ≡ true
     by_pieces [] h = never (subst (λ ss. IsOverWith 0 u.attempt ss w) h way)
     by_pieces (cut piece (d ∷ after) ∷ earlier) h =
-        either w.never _ (once (length earlier + 1) (is_success (result_in terms piece)) (omega arith))
+        either (is_at_start w.stopped) _ (once (length earlier + 1) (is_success (result_in terms piece)) (omega arith))
     by_pieces (cut piece [] ∷ earlier) h = absurd h
 
 done_so : (p : Settings) (over : Bool) (now : ℕ) (run : List Happening) (k : ℕ) → Holds p over now run

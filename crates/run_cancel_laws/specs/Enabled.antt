@@ -55,8 +55,8 @@ abbrev pub was_any : (Turn → Bool) → List Happening → Bool
 was_any is run = list_any (λ x. is x.turn) run
 
 -- how many turns of a sub-run were signals
-abbrev pub signals_in : List Happening → ℕ
-signals_in run = count_by (λ x. is_signal x.turn) run
+abbrev pub signals_before : List Happening → ℕ
+signals_before run = count_by (λ x. is_signal x.turn) run
 
 -- whether a sub-run goes on: it is on, and the run isn't over
 abbrev pub goes_on : List Happening → Bool
@@ -85,4 +85,4 @@ abbrev pub SignalsAreHeardTwice : Type 0
 SignalsAreHeardTwice = (p : Settings) (journal : List Entry) (signal : SignalKind) → IsLegal p journal
     → enabled p (past_of p journal) (Signal signal)
     ≡ (goes_on (past_of p journal) && shuts_run_down p.plan.hearing.signals p.plan.hearing.quit_is_info signal
-    && nat_lt (signals_in (sub_run (past_of p journal))) 2)
+    && nat_lt (signals_before (sub_run (past_of p journal))) 2)

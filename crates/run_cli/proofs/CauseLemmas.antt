@@ -14,7 +14,7 @@ use Rattle.run_model.specs.declared.entry.Entry.{Entry}
 use Rattle.run_model.specs.Journal.{IsLegal}
 use Rattle.run_laws.specs.Course.{turns_of, refusals, refuses_none, refuses_as_in, IsJournalOf, Stops, GoesOn, Ends}
 use Rattle.run_laws.specs.Course.{HasOneCourse}
-use Rattle.run_laws.proofs.Courses.{one_course}
+use Rattle.run_laws.proofs.board.Courses.{one_course}
 use Rattle.run_engine.specs.declared.errors.TestRunnerBuildError.{TestRunnerBuildError}
 use Rattle.run_input.specs.Lines.{lines_of}
 use Rattle.run_input.specs.Input.{IsInput, IsFirstBad}
@@ -23,10 +23,10 @@ use Rattle.run_output.specs.declared.fault.Fault.{Fault}
 use Rattle.run_output.specs.declared.fault.Fault.TheVariants.{Words, Line, Plan as BadPlan, NotEnabled, ThirdSignal}
 use Rattle.run_output.specs.declared.fault.Fault.TheVariants.{Unfinished, Report, Read, Memory, TooLong}
 use Rattle.run_cli.specs.Call.{Call, Reading, Writing, HasGiven, HasReadFault, HasWriteFault}
-use Rattle.run_cli.specs.Plans.{settings_for, refusal_for}
-use Rattle.run_cli.specs.Text.{outcome_status, status_of}
-use Rattle.run_cli.specs.Given.{IsReplay, IsGiven, IsTooLong, HasBadLine, CountsReadAtEnd}
-use Rattle.run_cli.specs.Ending.{Replays, IsWhole, StopsBefore, IsUnfinished, IsEnding}
+use Rattle.run_cli.specs.Plans.{settings_for, plan_refusal}
+use Rattle.run_cli.specs.Text.{outcome_status, ending_status}
+use Rattle.run_cli.specs.Given.{IsReplay, SaysInput, IsTooLong, HasBadLine, CountsReadAtEnd}
+use Rattle.run_cli.specs.Ending.{Replays, IsWholeRun, StopsBefore, IsUnfinished, IsEnding}
 use Rattle.run_cli.specs.Cause.{Gets, HasInput, HasBadInput, HasTooMuch, GetsByCourse, stop_status}
 
 -- what a source that is at its end has given is all that it had
@@ -64,7 +64,7 @@ one_input (first ∷ others) c d p q ts us i j =
 
 -- so what was read is what the source had
 pub same_input : (r : Reading) (c d : RunnerKeys) (p q : Plan) (ts us : List Turn)
-    → HasInput r.left c p ts → IsGiven r d q us → (d ≡ c) × (q ≡ p) × (us ≡ ts)
+    → HasInput r.left c p ts → SaysInput r d q us → (d ≡ c) × (q ≡ p) × (us ≡ ts)
 same_input r c d p q ts us has given =
     let same : has.bytes ≡ given.bytes =
     all_given r.left r.left_after has.bytes given.bytes has.told given.given given.end in
@@ -112,7 +112,7 @@ journal_of : (p : Settings) (ts : List Turn) (journal : List Entry) → IsLegal 
 journal_of p ts journal legal takes = record { legal = legal; takes = takes; answers = λ n below. refl }
 
 -- what each ending of an accepted plan gets
-ended_gets : (c : Call) (r : Replays c) (o : RunOutcome) → IsWhole r o → c.sink.faults_after ≡ c.sink.faults
+ended_gets : (c : Call) (r : Replays c) (o : RunOutcome) → IsWholeRun r o → c.sink.faults_after ≡ c.sink.faults
     → GetsByCourse r.keys r.plan r.turns c.sink (outcome_status o)
 ended_gets c r o whole stayed =
     let p : Settings = settings_for r.keys r.plan in
@@ -122,14 +122,14 @@ ended_gets c r o whole stayed =
     record {
       refuses = refuses_as_in r.journal;
       tied = λ calm n. false_at (refusals r.journal) n (r.tied calm);
-      refused = λ e x. never_refused (refusal_for r.keys r.plan) e r.accepted x;
+      refused = λ e x. never_refused (plan_refusal r.keys r.plan) e r.accepted x;
       stops = λ a k third s. absurd (one.stop_or_end k third o s ends);
       unfinished = λ a g. absurd (one.unfinished_or_end o g ends);
       ended = λ a u e calm. inl (ap outcome_status (one.one_end o u ends e));
       unreported = λ a u e lt. absurd (omega arith);
     }
 
-unreported_gets : (c : Call) (r : Replays c) (o : RunOutcome) → IsWhole r o → HasWriteFault c.sink
+unreported_gets : (c : Call) (r : Replays c) (o : RunOutcome) → IsWholeRun r o → HasWriteFault c.sink
     → GetsByCourse r.keys r.plan r.turns c.sink 9
 unreported_gets c r o whole rose =
     let p : Settings = settings_for r.keys r.plan in
@@ -139,7 +139,7 @@ unreported_gets c r o whole rose =
     record {
       refuses = refuses_as_in r.journal;
       tied = λ calm n. false_at (refusals r.journal) n (r.tied calm);
-      refused = λ e x. never_refused (refusal_for r.keys r.plan) e r.accepted x;
+      refused = λ e x. never_refused (plan_refusal r.keys r.plan) e r.accepted x;
       stops = λ a k third s. absurd (one.stop_or_end k third o s ends);
       unfinished = λ a g. absurd (one.unfinished_or_end o g ends);
       ended = λ a u e calm. absurd (calm rose);
@@ -159,7 +159,7 @@ stopped_gets c r place third before =
     record {
       refuses = refuses_as_in r.journal;
       tied = λ calm n. false_at (refusals r.journal) n (r.tied calm);
-      refused = λ e x. never_refused (refusal_for r.keys r.plan) e r.accepted x;
+      refused = λ e x. never_refused (plan_refusal r.keys r.plan) e r.accepted x;
       stops = λ a k t s.
           let same : (place ≡ k) × (third ≡ t) = one.one_stop place k third t stops s in
           inl (ap stop_status same.1);
@@ -177,7 +177,7 @@ unfinished_gets c r still =
     record {
       refuses = refuses_as_in r.journal;
       tied = λ calm n. false_at (refusals r.journal) n (r.tied calm);
-      refused = λ e x. never_refused (refusal_for r.keys r.plan) e r.accepted x;
+      refused = λ e x. never_refused (plan_refusal r.keys r.plan) e r.accepted x;
       stops = λ a k third s. absurd (one.stop_or_unfinished k third s goes);
       unfinished = λ a g. inl refl;
       ended = λ a u e calm. absurd (one.unfinished_or_end u goes e);
@@ -185,15 +185,15 @@ unfinished_gets c r still =
     }
 
 refused_gets : (c : RunnerKeys) (p : Plan) (ts : List Turn) (w : Writing) (error : TestRunnerBuildError)
-    → refusal_for c p ≡ Some error → GetsByCourse c p ts w 5
+    → plan_refusal c p ≡ Some error → GetsByCourse c p ts w 5
 refused_gets c p ts w error refused = record {
   refuses = refuses_none;
   tied = λ calm n. refl;
   refused = λ e x. inl refl;
-  stops = λ a k third s. never_refused (refusal_for c p) error a refused;
-  unfinished = λ a g. never_refused (refusal_for c p) error a refused;
-  ended = λ a u e calm. never_refused (refusal_for c p) error a refused;
-  unreported = λ a u e lt. never_refused (refusal_for c p) error a refused;
+  stops = λ a k third s. never_refused (plan_refusal c p) error a refused;
+  unfinished = λ a g. never_refused (plan_refusal c p) error a refused;
+  ended = λ a u e calm. never_refused (plan_refusal c p) error a refused;
+  unreported = λ a u e lt. never_refused (plan_refusal c p) error a refused;
 }
 
 -- the same of the input that the source had
@@ -208,7 +208,7 @@ moved c d p q ts us w status same gets =
 pub course_gets : (c : Call) (ending : Result RunOutcome Fault) → IsEnding c ending → CountsReadAtEnd c.source ending
     → IsReplay c.words
     → ¬ HasReadFault c.source → (b : RunnerKeys) (p : Plan) (ts : List Turn) → HasInput c.source.left b p ts
-    → GetsByCourse b p ts c.sink (status_of ending)
+    → GetsByCourse b p ts c.sink (ending_status ending)
 course_gets c (Ok o) h n replay calm b p ts has =
     moved b h.0.keys p h.0.plan ts h.0.turns c.sink (outcome_status o)
     (same_input c.source b h.0.keys p h.0.plan ts h.0.turns has h.0.given) (ended_gets c h.0 o h.1 h.3)
@@ -237,7 +237,7 @@ course_gets c (Err (Line number)) h n replay calm b p ts has = absurd (no_bad_li
 
 -- an input with a bad line says nothing else
 bad_excludes : (r : Reading) (c : RunnerKeys) (p : Plan) (ts : List Turn) (n : ℕ) → HasBadInput r.left n
-    → IsGiven r c p ts → ⊥
+    → SaysInput r c p ts → ⊥
 bad_excludes r c p ts n has given =
     let same : has.bytes ≡ given.bytes =
     all_given r.left r.left_after has.bytes given.bytes has.told given.given given.end in
@@ -247,7 +247,7 @@ bad_excludes r c p ts n has given =
 -- 3
 pub bad_line_gets : (c : Call) (ending : Result RunOutcome Fault) → IsEnding c ending → CountsReadAtEnd c.source ending
     → IsReplay c.words
-    → ¬ HasReadFault c.source → (number : ℕ) → HasBadInput c.source.left number → Gets (status_of ending) 3
+    → ¬ HasReadFault c.source → (number : ℕ) → HasBadInput c.source.left number → Gets (ending_status ending) 3
 bad_line_gets c (Ok o) h n replay calm number has = absurd (bad_excludes c.source _ _ _ number has h.0.given)
 bad_line_gets c (Err Report) h n replay calm number has = absurd (bad_excludes c.source _ _ _ number has h.0.given)
 bad_line_gets c (Err (NotEnabled place)) h n replay calm number has =
@@ -272,14 +272,14 @@ too_much_excludes r bytes has given end within =
     let above : 16777216 < length has.bytes = has.above in
     omega arith
 
-pub given_excludes : (r : Reading) (c : RunnerKeys) (p : Plan) (ts : List Turn) → HasTooMuch r.left → IsGiven r c p ts
+pub given_excludes : (r : Reading) (c : RunnerKeys) (p : Plan) (ts : List Turn) → HasTooMuch r.left → SaysInput r c p ts
     → ⊥
 given_excludes r c p ts has given = too_much_excludes r given.bytes has given.given given.end given.within
 
 -- 12
 pub too_much_gets : (c : Call) (ending : Result RunOutcome Fault) → IsEnding c ending → CountsReadAtEnd c.source ending
     → IsReplay c.words
-    → ¬ HasReadFault c.source → HasTooMuch c.source.left → Gets (status_of ending) 12
+    → ¬ HasReadFault c.source → HasTooMuch c.source.left → Gets (ending_status ending) 12
 too_much_gets c (Ok o) h n replay calm has = absurd (given_excludes c.source _ _ _ has h.0.given)
 too_much_gets c (Err Report) h n replay calm has = absurd (given_excludes c.source _ _ _ has h.0.given)
 too_much_gets c (Err (NotEnabled place)) h n replay calm has = absurd (given_excludes c.source _ _ _ has h.0.given)
@@ -295,7 +295,7 @@ too_much_gets c (Err (ThirdSignal m)) h n replay calm has = absurd (given_exclud
 -- 10
 pub unread_gets : (r : Reading) (ending : Result RunOutcome Fault) → CountsReadAtEnd r ending
     → r.faults < r.faults_after
-    → Gets (status_of ending) 10
+    → Gets (ending_status ending) 10
 unread_gets r (Ok o) n lt = absurd (omega arith)
 unread_gets r (Err Report) n lt = absurd (omega arith)
 unread_gets r (Err (NotEnabled place)) n lt = absurd (omega arith)

@@ -12,16 +12,16 @@ use Rattle.run_events.specs.declared.outcome.RunOutcome.{RunOutcome}
 use Rattle.run_model.specs.declared.happening.Happening.{Happening}
 use Rattle.run_model.specs.Words.{told, asked}
 use Rattle.run_model.specs.Journal.{past_of, outcome}
-use Rattle.run_laws.proofs.Outcomes.{over_outcome}
+use Rattle.run_laws.proofs.told.Outcomes.{over_outcome}
 use Rattle.run_engine.specs.Execution.{UnlessMemory}
 use Rattle.run_engine.specs.declared.errors.TestRunnerExecuteErrors.{TestRunnerExecuteErrors}
 use Rattle.run_engine.specs.declared.errors.TestRunnerExecuteErrors.TheVariants as engine
 use Rattle.run_output.specs.declared.fault.Fault.{Fault}
 use Rattle.run_output.specs.declared.fault.Fault.TheVariants.{Words, Line, Plan as BadPlan, NotEnabled, ThirdSignal}
 use Rattle.run_output.specs.declared.fault.Fault.TheVariants.{Unfinished, Report, Read, Memory, TooLong}
-use Rattle.run_output.specs.Fields.{line_of}
+use Rattle.run_output.specs.Fields.{line_bytes}
 use Rattle.run_output.specs.Outcomes.{outcome_text}
-use Rattle.run_cli.specs.Call.{Writing, joined, TakesFront, HasTaken, HasTakenFront, HasWriteFault, Writes}
+use Rattle.run_cli.specs.Call.{Writing, then_writing, TakesFront, HasTaken, HasTakenFront, HasWriteFault, Writes}
 use Rattle.run_cli.specs.Text.{event_lines, ask_lines, fault_only, rest_text}
 use Rattle.run_cli.specs.Executed.{IsExecuted, TookParts, WritesRun, report_ending}
 use Rattle.run_cli.specs.Finish.{fault_of_error, EndsAtFault, EndsAtOutcome, IsReplayed, IsReplayEnding}
@@ -40,7 +40,7 @@ some_is (Some x) d e = refl
 pub whole_text : (p : Settings) (turns : List Turn) (w v : Writing) (asks : List (ℕ × Ask))
     (answer : Result RunOutcome (TestRunnerExecuteErrors Failed)) (last : List ℕ) → v.taken ≡ w.taken_after
     → (x : IsExecuted p turns w asks answer) → x.refusal ≡ None → HasTaken v (ask_lines asks ++ last)
-    → HasTaken (joined w v)
+    → HasTaken (then_writing w v)
     (event_lines (told (past_of p x.journal)) ++ (ask_lines (asked (past_of p x.journal)) ++ last))
 whole_text p turns w v asks answer last on x none rest =
     let past : List Happening = past_of p x.journal in
@@ -53,7 +53,7 @@ whole_text p turns w v asks answer last on x none rest =
 pub took_parts : (p : Settings) (turns : List Turn) (w v : Writing) (asks : List (ℕ × Ask))
     (answer : Result RunOutcome (TestRunnerExecuteErrors Failed)) (last : List ℕ) → v.taken ≡ w.taken_after
     → (x : IsExecuted p turns w asks answer) → HasTakenFront v (ask_lines asks ++ last)
-    → TookParts (past_of p x.journal) (ask_lines (asked (past_of p x.journal)) ++ last) (joined w v)
+    → TookParts (past_of p x.journal) (ask_lines (asked (past_of p x.journal)) ++ last) (then_writing w v)
 took_parts p turns w v asks answer last on x front = record {
   between = w.taken_after;
   events = x.took;
@@ -64,7 +64,7 @@ took_parts p turns w v asks answer last on x front = record {
 -- where the sink failed neither in the run nor after it, no event was refused
 calm_run : (p : Settings) (turns : List Turn) (w v : Writing) (asks : List (ℕ × Ask))
     (answer : Result RunOutcome (TestRunnerExecuteErrors Failed)) → w.faults_after ≤ v.faults_after
-    → (x : IsExecuted p turns w asks answer) → ¬ HasWriteFault (joined w v) → x.refusal ≡ None
+    → (x : IsExecuted p turns w asks answer) → ¬ HasWriteFault (then_writing w v) → x.refusal ≡ None
 calm_run p turns w v asks answer le x calm = by_refusal x.refusal refl
   where
     by_refusal : (o : Option Failed) → x.refusal ≡ o → o ≡ None
@@ -75,7 +75,7 @@ calm_run p turns w v asks answer le x calm = by_refusal x.refusal refl
 -- the run so far: its journal is legal, and tied to the sink
 replayed : (p : Settings) (turns : List Turn) (w v : Writing) (asks : List (ℕ × Ask))
     (answer : Result RunOutcome (TestRunnerExecuteErrors Failed)) → w.faults_after ≤ v.faults_after
-    → IsExecuted p turns w asks answer → IsReplayed p (joined w v)
+    → IsExecuted p turns w asks answer → IsReplayed p (then_writing w v)
 replayed p turns w v asks answer le x = record {
   journal = x.journal;
   legal = x.runnable.legal;
@@ -86,7 +86,7 @@ replayed p turns w v asks answer le x = record {
 fault_writes : (p : Settings) (turns : List Turn) (w v : Writing) (asks : List (ℕ × Ask))
     (answer : Result RunOutcome (TestRunnerExecuteErrors Failed)) (fault : Fault) → v.taken ≡ w.taken_after
     → v.faults ≡ w.faults_after → (x : IsExecuted p turns w asks answer) → v.faults ≤ v.faults_after
-    → Writes v (ask_lines asks ++ fault_only fault) → WritesRun (past_of p x.journal) (Err fault) (joined w v)
+    → Writes v (ask_lines asks ++ fault_only fault) → WritesRun (past_of p x.journal) (Err fault) (then_writing w v)
 fault_writes p turns w v asks answer fault on from x le writes = record {
   whole = λ calm.
       let none = calm_run p turns w v asks answer (omega arith) x calm in
@@ -101,25 +101,25 @@ pub report_of : (p : Settings) (turns : List Turn) (w v : Writing) (asks : List 
     (answer : Result RunOutcome (TestRunnerExecuteErrors Failed)) (x : IsExecuted p turns w asks answer)
     (o : RunOutcome) (b : Bool)
     → is_none x.refusal ≡ b
-    → TookParts (past_of p x.journal) (rest_text (past_of p x.journal) (if b then Ok o else Err Report)) (joined w v)
-    → TookParts (past_of p x.journal) (rest_text (past_of p x.journal) (report_ending x.journal o)) (joined w v)
+    → TookParts (past_of p x.journal) (rest_text (past_of p x.journal) (if b then Ok o else Err Report)) (then_writing w v)
+    → TookParts (past_of p x.journal) (rest_text (past_of p x.journal) (report_ending x.journal o)) (then_writing w v)
 report_of p turns w v asks answer x o b is parts =
     subst (λ b. TookParts (past_of p x.journal)
-    (rest_text (past_of p x.journal) (if b then Ok o else Err Report)) (joined w v))
+    (rest_text (past_of p x.journal) (if b then Ok o else Err Report)) (then_writing w v))
     (sym is ∙ x.marked) parts
 
 -- after an outcome
 pub outcome_ends : (p : Settings) (turns : List Turn) (w v : Writing) (asks : List (ℕ × Ask)) (o : RunOutcome)
     (ending : Result RunOutcome Fault) → v.taken ≡ w.taken_after → v.faults ≡ w.faults_after
     → IsExecuted p turns w asks (Ok o) → EndsAtOutcome v asks o ending → v.faults ≤ v.faults_after
-    → IsReplayEnding p turns (joined w v) ending
+    → IsReplayEnding p turns (then_writing w v) ending
 unfolding replayed
 outcome_ends p turns w v asks o (Ok e) on from x h le = (
   replayed p turns w v asks (Ok o) (omega arith) x,
   x.says.0,
   x.says.1 ∙ ap Some (sym h.0),
-  whole_text p turns w v asks (Ok o) (line_of (outcome_text e)) on x x.says.2
-      (subst (λ u. HasTaken v (ask_lines asks ++ line_of (outcome_text u))) (sym h.0) h.1),
+  whole_text p turns w v asks (Ok o) (line_bytes (outcome_text e)) on x x.says.2
+      (subst (λ u. HasTaken v (ask_lines asks ++ line_bytes (outcome_text u))) (sym h.0) h.1),
   h.2 ∙ from ∙ x.quiet x.says.2,
 )
 outcome_ends p turns w v asks o (Err Report) on from x h le = (
@@ -129,7 +129,7 @@ outcome_ends p turns w v asks o (Err Report) on from x h le = (
     o,
     x.says.1,
     report_of p turns w v asks (Ok o) x o true (ap is_none x.says.2)
-        (took_parts p turns w v asks (Ok o) (line_of (outcome_text o)) on x h.1),
+        (took_parts p turns w v asks (Ok o) (line_bytes (outcome_text o)) on x h.1),
   ),
   subst (λ n. Rose n v.faults_after) (from ∙ x.quiet x.says.2) h.0,
 )
@@ -147,19 +147,19 @@ outcome_ends p turns w v asks o (Err TooLong) on from x h le = absurd h
 fault_ends : (p : Settings) (turns : List Turn) (w v : Writing) (asks : List (ℕ × Ask)) (fault : Fault)
     (ending : Result RunOutcome Fault)
     → (v.faults ≤ v.faults_after → Writes v (ask_lines asks ++ fault_only fault)
-    → IsReplayEnding p turns (joined w v) (Err fault))
-    → EndsAtFault v asks fault ending → IsReplayEnding p turns (joined w v) ending
+    → IsReplayEnding p turns (then_writing w v) (Err fault))
+    → EndsAtFault v asks fault ending → IsReplayEnding p turns (then_writing w v) ending
 fault_ends p turns w v asks fault (Ok o) says h = absurd h
 fault_ends p turns w v asks fault (Err e) says (inl m) =
-    subst (λ f. IsReplayEnding p turns (joined w v) (Err f)) (sym m) tt
+    subst (λ f. IsReplayEnding p turns (then_writing w v) (Err f)) (sym m) tt
 fault_ends p turns w v asks fault (Err e) says (inr h) =
-    subst (λ f. IsReplayEnding p turns (joined w v) (Err f)) (sym h.0) (says h.1 h.2)
+    subst (λ f. IsReplayEnding p turns (then_writing w v) (Err f)) (sym h.0) (says h.1 h.2)
 
 -- after an error of the engine
 pub error_ends : (p : Settings) (turns : List Turn) (w v : Writing) (asks : List (ℕ × Ask))
     (error : TestRunnerExecuteErrors Failed) (ending : Result RunOutcome Fault) → v.taken ≡ w.taken_after
     → v.faults ≡ w.faults_after → UnlessMemory (Err error) (IsExecuted p turns w asks (Err error))
-    → EndsAtFault v asks (fault_of_error error) ending → IsReplayEnding p turns (joined w v) ending
+    → EndsAtFault v asks (fault_of_error error) ending → IsReplayEnding p turns (then_writing w v) ending
 unfolding replayed
 error_ends p turns w v asks (engine.Report d) ending on from x h =
     let end : (o : RunOutcome) × (outcome p (past_of p x.journal) ≡ Some o) =

@@ -16,30 +16,30 @@ use Rattle.run_events.specs.declared.settings.Settings.{Settings}
 use Rattle.run_model.specs.declared.entry.Entry.{Entry}
 use Rattle.run_model.specs.Journal.{past_of, IsLegal, outcome}
 use Rattle.run_laws.specs.Course.{turns_of as journal_turns}
-use Rattle.run_laws.proofs.FateLemmas.{ended_fates, over_ended}
-use Rattle.run_laws.proofs.Outcomes.{over_is}
+use Rattle.run_laws.proofs.told.FateLemmas.{ended_fates, over_ended}
+use Rattle.run_laws.proofs.told.Outcomes.{over_is}
 use Rattle.run_engine.specs.Builder.{IsBuilt}
 use Rattle.run_engine.specs.Execution.{IsRefusedAt}
 use Rattle.run_engine.specs.declared.errors.TestRunnerBuildError.{TestRunnerBuildError}
 use Rattle.run_engine.specs.declared.errors.TestRunnerBuildError.TheVariants as build
 use Rattle.std.proofs.lemmas.Option.{same_Some}
 use Rattle.run_input.specs.Lines.{lines_of, at_front}
-use Rattle.run_input.specs.Input.{IsInput, turns_of, turn_line_of}
+use Rattle.run_input.specs.Input.{IsInput, turns_said, turn_line_of}
 use Rattle.run_input.specs.PlanHead.{frame_of}
-use Rattle.run_input.specs.PlanLine.{keys_of, rules_of, plan_scripts_of, plan_tests_of, plan_groups_of, lists_of}
+use Rattle.run_input.specs.PlanLine.{keys_of, rules_from, plan_scripts_of, plan_tests_of, plan_groups_of, lists_of}
 use Rattle.run_input.specs.PlanLine.{plan_names, plan_with, plan_alone_of, plan_of}
 use Rattle.run_input.specs.Fields.{when, is_object_of}
-use Rattle.run_input.specs.ValueOf.{value_of}
+use Rattle.run_input.specs.ValueOf.{json_value}
 use Rattle.serde_json.specs.Data.{Data}
 use Rattle.serde_json.specs.Find.{get}
 use Rattle.run_output.specs.declared.fault.Fault.{Fault}
 use Rattle.run_output.specs.declared.fault.Fault.TheVariants.{Words, Line, Plan as BadPlan, NotEnabled, ThirdSignal}
 use Rattle.run_output.specs.declared.fault.Fault.TheVariants.{Unfinished, Report, Read, Memory, TooLong}
 use Rattle.run_cli.specs.Call.{Call, Reading, Writing, Writes}
-use Rattle.run_cli.specs.Plans.{builder_of, settings_for, refusal_for, fault_of_plan}
+use Rattle.run_cli.specs.Plans.{builder_of, settings_for, plan_refusal, fault_of_plan}
 use Rattle.run_cli.specs.Text.{fault_only}
-use Rattle.run_cli.specs.Given.{IsReplay, IsGiven, IsGivenFault, CountsRead, CountsReadAtEnd}
-use Rattle.run_cli.specs.Ending.{Replays, IsFinished, IsWhole, StopsBefore, IsEnding}
+use Rattle.run_cli.specs.Given.{IsReplay, SaysInput, IsGivenFault, CountsRead, CountsReadAtEnd}
+use Rattle.run_cli.specs.Ending.{Replays, IsFinished, IsWholeRun, StopsBefore, IsEnding}
 use Rattle.run_cli.specs.Finish.{EndsAtFault, IsReplayed, IsReplayEnding, IsInputEnding}
 
 -- no more lines than bytes
@@ -63,12 +63,12 @@ then_some None f y e = cc
 then_some (Some x) f y e = (x, refl, e)
 
 -- as many turns as lines
-pub turns_length : (lines : List (List ℕ)) (turns : List Turn) → turns_of lines ≡ Some turns → length turns ≡ length lines
+pub turns_length : (lines : List (List ℕ)) (turns : List Turn) → turns_said lines ≡ Some turns → length turns ≡ length lines
 turns_length [] turns e = cc
 turns_length (line ∷ lines) turns e =
-    let one = then_some (turn_line_of line) (λ turn. option_and_then (λ turns. Some (turn ∷ turns)) (turns_of lines))
+    let one = then_some (turn_line_of line) (λ turn. option_and_then (λ turns. Some (turn ∷ turns)) (turns_said lines))
     turns e in
-    let rest = then_some (turns_of lines) (λ turns. Some (one.0 ∷ turns)) turns one.2 in
+    let rest = then_some (turns_said lines) (λ turns. Some (one.0 ∷ turns)) turns one.2 in
     let more : length rest.0 ≡ length lines = turns_length lines rest.0 rest.1 in
     let same : one.0 ∷ rest.0 ≡ turns = cc in
     sym (ap length same) ∙ ap (λ n. suc n) more
@@ -115,7 +115,7 @@ few_as k l p q e few = subst IsFew (ap (λ (x : RunnerKeys × Plan). x.1) e) few
 
 few_alone : (d : Data) (plan : Plan) → plan_alone_of d ≡ Some plan → IsFew plan
 few_alone d plan e =
-    let r = then_some (rules_of d)
+    let r = then_some (rules_from d)
     (λ r. option_and_then (λ f. option_and_then (λ l. Some (plan_with r f l)) (lists_of d)) (frame_of d)) plan e in
     let f = then_some (frame_of d) (λ f. option_and_then (λ l. Some (plan_with r.0 f l)) (lists_of d)) plan r.2 in
     let l = then_some (lists_of d) (λ l. Some (plan_with r.0 f.0 l)) plan f.2 in
@@ -134,7 +134,7 @@ few_line d keys plan e =
 
 -- an input has few units and few turns
 pub given_few : (r : Reading) (keys : RunnerKeys) (plan : Plan) (turns : List Turn)
-    → IsGiven r keys plan turns
+    → SaysInput r keys plan turns
     → IsFew plan × (length turns < 2 ^ 32)
 given_few r keys plan turns g = by_lines (lines_of g.bytes) refl g.says
   where
@@ -142,7 +142,7 @@ given_few r keys plan turns g = by_lines (lines_of g.bytes) refl g.says
         → IsFew plan × (length turns < 2 ^ 32)
     by_lines [] e i = absurd i
     by_lines (first ∷ others) e i =
-        let read = then_some (value_of first) plan_of (keys, plan) i.0 in
+        let read = then_some (json_value first) plan_of (keys, plan) i.0 in
         let few : IsFew plan = few_line read.0 keys plan read.2 in
         let many : length turns ≡ length others = turns_length others turns i.1 in
         let same : length (lines_of g.bytes) ≡ length (first ∷ others) = ap length e in
@@ -159,13 +159,13 @@ finished p journal o legal e = record {
 
 -- a run that took every turn and has an outcome is whole
 whole : (c : Call) (r : Replays c) (o : RunOutcome) → journal_turns r.journal ≡ r.turns
-    → outcome (settings_for r.keys r.plan) (past_of (settings_for r.keys r.plan) r.journal) ≡ Some o → IsWhole r o
+    → outcome (settings_for r.keys r.plan) (past_of (settings_for r.keys r.plan) r.journal) ≡ Some o → IsWholeRun r o
 whole c r o all e = record { all = all; finished = finished (settings_for r.keys r.plan) r.journal o r.legal e }
 
 -- the call whose input was good, with what its run has taken
 replays : (c : Call) (keys : RunnerKeys) (plan : Plan) (turns : List Turn) → IsReplay c.words
-    → IsGiven c.source keys plan turns
-    → refusal_for keys plan ≡ None → IsReplayed (settings_for keys plan) c.sink → Replays c
+    → SaysInput c.source keys plan turns
+    → plan_refusal keys plan ≡ None → IsReplayed (settings_for keys plan) c.sink → Replays c
 replays c keys plan turns replay given accepted r = record {
   replay = replay;
   keys = keys;
@@ -186,7 +186,7 @@ stops_before c r place third h =
 -- how a program ends whose input was good
 pub given_says : (c : Call) (keys : RunnerKeys) (plan : Plan) (turns : List Turn)
     (ending : Result RunOutcome Fault)
-    → IsReplay c.words → IsGiven c.source keys plan turns → IsInputEnding keys plan turns c.sink ending
+    → IsReplay c.words → SaysInput c.source keys plan turns → IsInputEnding keys plan turns c.sink ending
     → IsEnding c ending
 unfolding replays
 given_says c keys plan turns (Ok o) replay given (accepted, h) =
@@ -221,7 +221,7 @@ given_says c keys plan turns (Err TooLong) replay given h = absurd h.1
 -- the end of the turns of a plan that was accepted
 pub accepted_ends : (keys : RunnerKeys) (plan : Plan) (turns : List Turn) (w : Writing)
     (ending : Result RunOutcome Fault)
-    → refusal_for keys plan ≡ None → IsReplayEnding (settings_for keys plan) turns w ending
+    → plan_refusal keys plan ≡ None → IsReplayEnding (settings_for keys plan) turns w ending
     → IsInputEnding keys plan turns w ending
 accepted_ends keys plan turns w (Ok o) accepted h = (accepted, h)
 accepted_ends keys plan turns w (Err Report) accepted h = (accepted, h)

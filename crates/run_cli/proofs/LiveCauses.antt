@@ -3,7 +3,7 @@ use Rattle.std.proofs.Common.{◌≡◌, ℕ, ◌<◌, ◌≤◌, ◌⊎◌, inl
 use Rattle.std.proofs.Common.{refl, sym, subst, ◌∙◌, ap, arith, MatchOption}
 use Rattle.run_input.specs.declared.plan_line.RunnerKeys.{RunnerKeys}
 use Rattle.run_input.specs.Lines.{lines_of}
-use Rattle.run_input.specs.Input.{IsInput, IsFirstBadAlone, plan_line_of, turns_of}
+use Rattle.run_input.specs.Input.{IsInput, IsFirstBadAlone, plan_line_of, turns_said}
 use Rattle.run_events.specs.declared.plan.Plan.{Plan}
 use Rattle.run_engine.specs.declared.errors.TestRunnerBuildError.{TestRunnerBuildError}
 use Rattle.run_output.specs.declared.fault.Fault.{Fault}
@@ -15,7 +15,7 @@ use Rattle.run_cli.specs.declared.live.LiveEnding.{LiveEnding}
 use Rattle.run_cli.specs.declared.live.LiveEnding.TheVariants as ends
 use Rattle.run_cli.specs.Call.{Call, Reading, HasReadFault}
 use Rattle.run_cli.specs.Cause.{Gets, HasInput, HasTooMuch}
-use Rattle.run_cli.specs.Given.{IsGiven}
+use Rattle.run_cli.specs.Given.{SaysInput}
 use Rattle.run_cli.specs.LiveGiven.{HasBadPlanLine}
 use Rattle.run_cli.specs.Live.{live_refusal, IsLiveEnd, HasBadPlanInput, CountsLive, GetsLive, IsRunStatus, live_status}
 use Rattle.run_cli.specs.Live.{AnswersLive}
@@ -34,7 +34,7 @@ alone_good (first ∷ others) keys plan number says bad =
     omega (arith, more.0, none)
 
 bad_excludes_alone : (r : Reading) (keys : RunnerKeys) (plan : Plan) (number : ℕ) → HasBadPlanInput r.left number
-    → IsGiven r keys plan [] → ⊥
+    → SaysInput r keys plan [] → ⊥
 bad_excludes_alone r keys plan number has given =
     let same = all_given r.left r.left_after has.bytes given.bytes has.told given.given given.end in
     alone_good (lines_of given.bytes) keys plan number given.says
@@ -101,7 +101,7 @@ live_bad_line said c live (ends.Fault (NotEnabled m)) h calm n has = absurd h
 live_bad_line said c live (ends.Fault (ThirdSignal m)) h calm n has = absurd h
 
 -- the plan that was read is the one that the source has
-same_refusal : (r : Reading) (k l : RunnerKeys) (p q : Plan) → HasInput r.left k p [] → IsGiven r l q []
+same_refusal : (r : Reading) (k l : RunnerKeys) (p q : Plan) → HasInput r.left k p [] → SaysInput r l q []
     → live_refusal l q ≡ live_refusal k p
 same_refusal r k l p q has given =
     let same = same_input r k l p q [] [] has given in

@@ -4,7 +4,7 @@ use Rattle.std.proofs.Common.{refl, sym, subst, ◌∙◌, ap, arith, MatchOptio
 use Rattle.std.specs.Option.{IsNone, IfSome, IsSome, IsSomeAnd}
 use Rattle.run_input.specs.declared.plan_line.RunnerKeys.{RunnerKeys}
 use Rattle.run_input.specs.Lines.{lines_of}
-use Rattle.run_input.specs.Input.{IsInput, IsFirstBadAlone, plan_line_of, turns_of}
+use Rattle.run_input.specs.Input.{IsInput, IsFirstBadAlone, plan_line_of, turns_said}
 use Rattle.run_events.specs.declared.plan.Plan.{Plan}
 use Rattle.run_events.specs.declared.settings.Settings.{Settings}
 use Rattle.run_events.specs.declared.outcome.RunOutcome.{RunOutcome}
@@ -21,7 +21,7 @@ use Rattle.run_cli.specs.declared.live.LiveEnding.{LiveEnding}
 use Rattle.run_cli.specs.declared.live.LiveEnding.TheVariants as ends
 use Rattle.run_cli.specs.Call.{Call, Reading, Writing, HasGiven, HasReadFault, Writes}
 use Rattle.run_cli.specs.Cause.{Gets, HasInput, HasTooMuch}
-use Rattle.run_cli.specs.Given.{IsGiven, IsTooLong, IsWithin, CountsRead}
+use Rattle.run_cli.specs.Given.{SaysInput, IsTooLong, IsWithin, CountsRead}
 use Rattle.run_cli.specs.LiveGiven.{IsLiveWord, HasBadPlanLine, IsLineFault}
 use Rattle.run_cli.specs.Live.{live_settings, live_refusal, unheard, IsRunEnd, IsPlanEnd, IsLiveEnd, HasLivePlan}
 use Rattle.run_cli.specs.Live.{HasRefusedPlan, HasBadPlanInput, CountsLive, GetsLive, IsRunStatus, live_status}
@@ -78,7 +78,7 @@ refused_end said keys plan w live ending (build.TooManyRetries k) h (inr e) none
 
 -- the end of a call whose source gave a plan alone
 pub plan_says : {W : Type 0} (said : W → List Heard → Type 0) (c : Call) (keys : RunnerKeys) (plan : Plan)
-    (live : Option (Live W)) (ending : LiveEnding) → IsLiveWord c.words → IsGiven c.source keys plan []
+    (live : Option (Live W)) (ending : LiveEnding) → IsLiveWord c.words → SaysInput c.source keys plan []
     → IsPlanEnd said keys plan c.sink live ending → IsLiveEnd said c live ending
 plan_says said c keys plan live (ends.Outcome o) word given h =
     (record { word = word; keys = keys; plan = plan; given = given; accepted = h.0 }, h.1)

@@ -18,8 +18,8 @@ use Rattle.run_model.specs.Words.{answers, asked, events_in, is_over}
 use Rattle.run_model.specs.Turns.{happening}
 use Rattle.run_model.specs.Journal.{history, past_of, outcome, IsLegalBackward}
 use Rattle.run_laws.specs.Course.{turns_of, refusals, none_refused}
-use Rattle.run_laws.proofs.Courses.{refusals-append}
-use Rattle.run_laws.proofs.Outcomes.{over_is}
+use Rattle.run_laws.proofs.board.Courses.{refusals-append}
+use Rattle.run_laws.proofs.told.Outcomes.{over_is}
 use Rattle.run_engine.specs.Standing.{IsRunnable}
 use Rattle.run_engine.specs.World.{flagged, earlier, first_error}
 use Rattle.run_engine.specs.Execution.{IsAnswerOf}

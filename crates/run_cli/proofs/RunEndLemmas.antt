@@ -9,18 +9,18 @@ use Rattle.run_events.specs.declared.outcome.RunOutcome.{RunOutcome}
 use Rattle.run_model.specs.Words.{is_over}
 use Rattle.run_model.specs.Journal.{past_of, outcome}
 use Rattle.run_laws.specs.Course.{turns_of}
-use Rattle.run_laws.proofs.Outcomes.{over_outcome}
+use Rattle.run_laws.proofs.told.Outcomes.{over_outcome}
 use Rattle.run_engine.specs.Standing.{IsRunnable}
 use Rattle.run_engine.specs.World.{first_error}
 use Rattle.run_engine.specs.declared.errors.TestRunnerExecuteErrors.TheVariants as engine
 use Rattle.run_output.specs.declared.fault.Fault.{Fault}
 use Rattle.run_output.specs.declared.fault.Fault.TheVariants.{Words, Line, Plan as BadPlan, NotEnabled, ThirdSignal}
 use Rattle.run_output.specs.declared.fault.Fault.TheVariants.{Unfinished, Report, Read, Memory, TooLong}
-use Rattle.run_output.specs.Fields.{line_of}
+use Rattle.run_output.specs.Fields.{line_bytes}
 use Rattle.run_output.specs.Outcomes.{outcome_text}
 use Rattle.run_drive.specs.declared.spawner.Heard.{Heard}
 use Rattle.run_live.specs.declared.lived.Live.{Live}
-use Rattle.run_cli.specs.Call.{Writing, joined, HasTaken, Writes}
+use Rattle.run_cli.specs.Call.{Writing, then_writing, HasTaken, Writes}
 use Rattle.run_cli.specs.Text.{ask_lines, fault_only}
 use Rattle.run_cli.specs.Executed.{IsExecuted}
 use Rattle.run_cli.specs.Ending.{IsFinished}
@@ -36,18 +36,18 @@ use Rattle.run_cli.proofs.LivedLemmas.{executed_calm, executed_rough, rough_erro
 pub calm_ends : {W : Type 0} (said : W → List Heard → Type 0) (p : Settings) (w v : Writing) (n : ℕ) (l : Live W)
     (asks : List (ℕ × Ask)) (o : RunOutcome) (ending : Result RunOutcome Fault) → v.taken ≡ w.taken_after
     → v.faults ≡ w.faults_after → IsClosed said p l → IsOver p w n l.journal asks o false
-    → EndsAtOutcome v asks o ending → IsRunEnd said p (joined w v) (kept_by ending l) (ending_of ending)
+    → EndsAtOutcome v asks o ending → IsRunEnd said p (then_writing w v) (kept_by ending l) (ending_of ending)
 unfolding executed_calm executed_from
 calm_ends said p w v n l asks o (Ok e) on from closed x h =
     let run : IsExecuted p (turns_of l.journal) w asks (Ok o) = executed_calm p w n l.journal asks o x in
-    let text = whole_text p (turns_of l.journal) w v asks (Ok o) (line_of (outcome_text e)) on run refl
-    (subst (λ u. HasTaken v (ask_lines asks ++ line_of (outcome_text u))) (sym h.0) h.1) in
+    let text = whole_text p (turns_of l.journal) w v asks (Ok o) (line_bytes (outcome_text e)) on run refl
+    (subst (λ u. HasTaken v (ask_lines asks ++ line_bytes (outcome_text u))) (sym h.0) h.1) in
     let over : outcome p (past_of p l.journal) ≡ Some e = x.over ∙ ap Some (sym h.0) in
     ((closed, finished p l.journal e closed.legal over, text), h.2 ∙ from ∙ run.quiet refl)
 calm_ends said p w v n l asks o (Err Report) on from closed x h =
     let run : IsExecuted p (turns_of l.journal) w asks (Ok o) = executed_calm p w n l.journal asks o x in
     let parts = report_of p (turns_of l.journal) w v asks (Ok o) run o true refl
-    (took_parts p (turns_of l.journal) w v asks (Ok o) (line_of (outcome_text o)) on run h.1) in (
+    (took_parts p (turns_of l.journal) w v asks (Ok o) (line_bytes (outcome_text o)) on run h.1) in (
       (closed, (o, finished p l.journal o closed.legal x.over, parts)),
       subst (λ n. Rose n v.faults_after) (from ∙ run.quiet refl) h.0,
     )
@@ -77,14 +77,14 @@ fault_or_memory said p w v l asks fault (Err e) says (inr h) =
 pub rough_ends : {W : Type 0} (said : W → List Heard → Type 0) (p : Settings) (w v : Writing) (n : ℕ) (l : Live W)
     (asks : List (ℕ × Ask)) (o : RunOutcome) (ending : Result RunOutcome Fault) → v.taken ≡ w.taken_after
     → v.faults ≡ w.faults_after → IsClosed said p l → IsOver p w n l.journal asks o true
-    → EndsAtFault v asks Report ending → IsRunEnd said p (joined w v) (kept_by ending l) (ending_of ending)
+    → EndsAtFault v asks Report ending → IsRunEnd said p (then_writing w v) (kept_by ending l) (ending_of ending)
 unfolding executed_rough executed_from
 rough_ends said p w v n l asks o ending on from closed x h =
     let first = rough_error p w n l.journal asks o x in
     let answer = Err (engine.Report first.0) in
     let run : IsExecuted p (turns_of l.journal) w asks answer =
     executed_rough p w n l.journal asks o first.0 x first.1 in
-    fault_or_memory said p (joined w v) v l asks Report ending
+    fault_or_memory said p (then_writing w v) v l asks Report ending
     (λ le writes. (
       (
         closed,
@@ -128,7 +128,7 @@ pub over_ends : {W : Type 0} (said : W → List Heard → Type 0) (p : Settings)
     (asks : List (ℕ × Ask)) (o : RunOutcome) (refused : Bool) (ending : Result RunOutcome Fault)
     → v.taken ≡ w.taken_after → v.faults ≡ w.faults_after → IsClosed said p l
     → IsOver p w n l.journal asks o refused → EndsOver v asks o refused ending
-    → IsRunEnd said p (joined w v) (kept_by ending l) (ending_of ending)
+    → IsRunEnd said p (then_writing w v) (kept_by ending l) (ending_of ending)
 over_ends said p w v n l asks o true ending on from closed x h =
     rough_ends said p w v n l asks o ending on from closed x h
 over_ends said p w v n l asks o false ending on from closed x h =

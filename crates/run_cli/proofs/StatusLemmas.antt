@@ -8,7 +8,7 @@ use Rattle.run_output.specs.declared.fault.Fault.{Fault}
 use Rattle.run_output.specs.declared.fault.Fault.TheVariants.{Words, Line, Plan as BadPlan, NotEnabled, ThirdSignal}
 use Rattle.run_output.specs.declared.fault.Fault.TheVariants.{Unfinished, Report, Read, Memory, TooLong}
 use Rattle.run_cli.specs.Call.{Call, Reading, HasReadFault, Writes}
-use Rattle.run_cli.specs.Text.{fault_only, outcome_status, status_of}
+use Rattle.run_cli.specs.Text.{fault_only, outcome_status, ending_status}
 use Rattle.run_cli.specs.Given.{IsReplay, IsTooLong, IsWithin, CountsReadAtEnd}
 use Rattle.run_cli.specs.Ending.{IsEnding}
 use Rattle.run_cli.specs.Status.{IsOutcomeStatus, is_status, Headline, SaysBadLine, SaysBadPlan, SaysNotEnabled}
@@ -42,7 +42,7 @@ no_outcome_above n (inr (inr (inr a))) low high = omega arith
 
 -- every status is one of those known
 pub status_known : (c : Call) (ending : Result RunOutcome Fault) → IsEnding c ending
-    → is_status (status_of ending) ≡ true
+    → is_status (ending_status ending) ≡ true
 status_known c (Ok outcomes.Success) h = refl
 status_known c (Ok outcomes.NoTestsRun) h = refl
 status_known c (Ok (outcomes.Failed steps.Test)) h = refl
@@ -62,8 +62,8 @@ status_known c (Err (ThirdSignal n)) h = refl
 
 -- an outcome's status comes from an outcome
 pub headline_says : (c : Call) (ending : Result RunOutcome Fault)
-    → IsEnding c ending → IsOutcomeStatus (status_of ending)
-    → Headline c (status_of ending) × (c.sink.faults_after ≡ c.sink.faults)
+    → IsEnding c ending → IsOutcomeStatus (ending_status ending)
+    → Headline c (ending_status ending) × (c.sink.faults_after ≡ c.sink.faults)
 headline_says c (Ok o) h s =
     (record { run = h.0; outcome = o; whole = h.1; written = h.2; status_is = refl }, h.3)
 headline_says c (Err Words) h s = absurd (no_outcome 2 s (omega arith) (omega arith))
@@ -79,7 +79,7 @@ headline_says c (Err (ThirdSignal n)) h s = absurd (no_outcome_above 7 s (omega 
 
 -- 2: the words
 pub words_say : (c : Call) (ending : Result RunOutcome Fault)
-    → IsEnding c ending → status_of ending ≡ 2 → (¬ IsReplay c.words) × Writes c.sink (fault_only Words)
+    → IsEnding c ending → ending_status ending ≡ 2 → (¬ IsReplay c.words) × Writes c.sink (fault_only Words)
 words_say c (Ok o) h s = absurd (no_outcome 2 (apart _ 2 (outcome_is o) s) (omega arith) (omega arith))
 words_say c (Err Words) h s = h
 words_say c (Err (Line n)) h s = absurd (omega arith)
@@ -94,7 +94,7 @@ words_say c (Err (ThirdSignal n)) h s = absurd (omega arith)
 
 -- and other words give no other status but that of wanting memory
 pub no_words : (c : Call) (ending : Result RunOutcome Fault)
-    → IsEnding c ending → ¬ IsReplay c.words → (status_of ending ≡ 2) ⊎ (status_of ending ≡ 11)
+    → IsEnding c ending → ¬ IsReplay c.words → (ending_status ending ≡ 2) ⊎ (ending_status ending ≡ 11)
 no_words c (Ok o) h bad = absurd (bad h.0.replay)
 no_words c (Err Words) h bad = inl refl
 no_words c (Err (Line n)) h bad = absurd (bad h.0)
@@ -109,7 +109,7 @@ no_words c (Err (ThirdSignal n)) h bad = absurd (bad h.0.replay)
 
 -- 3: a bad line
 pub line_says : (c : Call) (ending : Result RunOutcome Fault)
-    → IsEnding c ending → status_of ending ≡ 3 → SaysBadLine c
+    → IsEnding c ending → ending_status ending ≡ 3 → SaysBadLine c
 line_says c (Ok o) h s = absurd (no_outcome 3 (apart _ 3 (outcome_is o) s) (omega arith) (omega arith))
 line_says c (Err Words) h s = absurd (omega arith)
 line_says c (Err (Line n)) h s = (h.0, (n, h.1, h.2))
@@ -124,7 +124,7 @@ line_says c (Err (ThirdSignal n)) h s = absurd (omega arith)
 
 -- 5: a plan that is refused
 pub plan_says : (c : Call) (ending : Result RunOutcome Fault)
-    → IsEnding c ending → status_of ending ≡ 5 → SaysBadPlan c
+    → IsEnding c ending → ending_status ending ≡ 5 → SaysBadPlan c
 plan_says c (Ok o) h s = absurd (no_outcome_above 5 (apart _ 5 (outcome_is o) s) (omega arith) (omega arith))
 plan_says c (Err Words) h s = absurd (omega arith)
 plan_says c (Err (Line n)) h s = absurd (omega arith)
@@ -139,7 +139,7 @@ plan_says c (Err (ThirdSignal n)) h s = absurd (omega arith)
 
 -- 6: a turn that isn't enabled
 pub not_enabled_says : (c : Call) (ending : Result RunOutcome Fault)
-    → IsEnding c ending → status_of ending ≡ 6 → SaysNotEnabled c
+    → IsEnding c ending → ending_status ending ≡ 6 → SaysNotEnabled c
 not_enabled_says c (Ok o) h s = absurd (no_outcome_above 6 (apart _ 6 (outcome_is o) s) (omega arith) (omega arith))
 not_enabled_says c (Err Words) h s = absurd (omega arith)
 not_enabled_says c (Err (Line n)) h s = absurd (omega arith)
@@ -154,7 +154,7 @@ not_enabled_says c (Err (ThirdSignal n)) h s = absurd (omega arith)
 
 -- 7: a third signal
 pub third_signal_says : (c : Call) (ending : Result RunOutcome Fault)
-    → IsEnding c ending → status_of ending ≡ 7 → SaysThirdSignal c
+    → IsEnding c ending → ending_status ending ≡ 7 → SaysThirdSignal c
 third_signal_says c (Ok o) h s = absurd (no_outcome_above 7 (apart _ 7 (outcome_is o) s) (omega arith) (omega arith))
 third_signal_says c (Err Words) h s = absurd (omega arith)
 third_signal_says c (Err (Line n)) h s = absurd (omega arith)
@@ -169,7 +169,7 @@ third_signal_says c (Err TooLong) h s = absurd (omega arith)
 
 -- 8: a run that isn't over
 pub unfinished_says : (c : Call) (ending : Result RunOutcome Fault)
-    → IsEnding c ending → status_of ending ≡ 8 → SaysUnfinished c
+    → IsEnding c ending → ending_status ending ≡ 8 → SaysUnfinished c
 unfinished_says c (Ok o) h s = absurd (no_outcome_above 8 (apart _ 8 (outcome_is o) s) (omega arith) (omega arith))
 unfinished_says c (Err Words) h s = absurd (omega arith)
 unfinished_says c (Err (Line n)) h s = absurd (omega arith)
@@ -184,7 +184,7 @@ unfinished_says c (Err (ThirdSignal n)) h s = absurd (omega arith)
 
 -- 9: a sink that failed
 pub report_says : (c : Call) (ending : Result RunOutcome Fault)
-    → IsEnding c ending → status_of ending ≡ 9 → SaysReport c
+    → IsEnding c ending → ending_status ending ≡ 9 → SaysReport c
 report_says c (Ok o) h s = absurd (no_outcome_above 9 (apart _ 9 (outcome_is o) s) (omega arith) (omega arith))
 report_says c (Err Words) h s = absurd (omega arith)
 report_says c (Err (Line n)) h s = absurd (omega arith)
@@ -199,7 +199,7 @@ report_says c (Err (ThirdSignal n)) h s = absurd (omega arith)
 
 -- 10: a source that failed
 pub read_says : (c : Call) (ending : Result RunOutcome Fault)
-    → IsEnding c ending → status_of ending ≡ 10 → IsReplay c.words × IsWithin c.source × Writes c.sink (fault_only Read)
+    → IsEnding c ending → ending_status ending ≡ 10 → IsReplay c.words × IsWithin c.source × Writes c.sink (fault_only Read)
 read_says c (Ok o) h s = absurd (no_outcome_above 10 (apart _ 10 (outcome_is o) s) (omega arith) (omega arith))
 read_says c (Err Words) h s = absurd (omega arith)
 read_says c (Err (Line n)) h s = absurd (omega arith)
@@ -214,7 +214,7 @@ read_says c (Err (ThirdSignal n)) h s = absurd (omega arith)
 
 -- 12: an input that is too long
 pub too_long_says : (c : Call) (ending : Result RunOutcome Fault)
-    → IsEnding c ending → status_of ending ≡ 12
+    → IsEnding c ending → ending_status ending ≡ 12
     → IsReplay c.words × IsTooLong c.source × Writes c.sink (fault_only TooLong)
 too_long_says c (Ok o) h s = absurd (no_outcome_above 12 (apart _ 12 (outcome_is o) s) (omega arith) (omega arith))
 too_long_says c (Err Words) h s = absurd (omega arith)
@@ -229,7 +229,7 @@ too_long_says c (Err TooLong) h s = h
 too_long_says c (Err (ThirdSignal n)) h s = absurd (omega arith)
 
 -- the source's count rose where the status is 10
-pub read_rose : (r : Reading) (ending : Result RunOutcome Fault) → CountsReadAtEnd r ending → status_of ending ≡ 10
+pub read_rose : (r : Reading) (ending : Result RunOutcome Fault) → CountsReadAtEnd r ending → ending_status ending ≡ 10
     → HasReadFault r
 read_rose r (Ok o) h s = absurd (no_outcome_above 10 (apart _ 10 (outcome_is o) s) (omega arith) (omega arith))
 read_rose r (Err Words) h s = absurd (omega arith)
@@ -245,8 +245,8 @@ read_rose r (Err (ThirdSignal n)) h s = absurd (omega arith)
 
 -- and stayed where it is neither 10 nor 11
 pub read_stayed : (r : Reading) (ending : Result RunOutcome Fault) → CountsReadAtEnd r ending
-    → (status_of ending ≡ 10 → ⊥)
-    → (status_of ending ≡ 11 → ⊥) → r.faults_after ≡ r.faults
+    → (ending_status ending ≡ 10 → ⊥)
+    → (ending_status ending ≡ 11 → ⊥) → r.faults_after ≡ r.faults
 read_stayed r (Ok o) h t m = h
 read_stayed r (Err Words) h t m = h
 read_stayed r (Err (Line n)) h t m = h
@@ -261,7 +261,7 @@ read_stayed r (Err (ThirdSignal n)) h t m = h
 
 -- so each end of the program has its answer
 pub answers : (c : Call) (ending : Result RunOutcome Fault) → IsEnding c ending → CountsReadAtEnd c.source ending
-    → Answers c (status_of ending)
+    → Answers c (ending_status ending)
 answers c ending h n = record {
   headline = λ s. (headline_says c ending h s).0;
   sound_sink = λ s. (headline_says c ending h s).1;

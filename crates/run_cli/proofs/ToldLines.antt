@@ -11,7 +11,7 @@ use Rattle.run_model.specs.Turns.{happening}
 use Rattle.run_model.specs.Journal.{history, past_of, IsLegalBackward}
 use Rattle.run_capture.specs.Faults.{Rose, RoseExactlyIf}
 use Rattle.run_engine.specs.World.{flagged, earlier, first_error}
-use Rattle.run_output.specs.Fields.{line_of}
+use Rattle.run_output.specs.Fields.{line_bytes}
 use Rattle.run_output.specs.Events.{event_text}
 use Rattle.run_output.specs.Told.{IsLine, AreLines, TookLines, some_refused, HasTold}
 use Rattle.run_laws.specs.Course.{none_refused}
@@ -45,9 +45,9 @@ answers-told p (e ∷ before) legal =
 -- a line of an event that wasn't refused, and then those of the others
 one_whole : {E : Type 0} (event : ReporterEvent) (error later : Option E) (bytes line rest others : List ℕ)
     → earlier error later ≡ None → IsLine event error line → (later ≡ None → rest ≡ others) → bytes ≡ line ++ rest
-    → bytes ≡ line_of (event_text event) ++ others
+    → bytes ≡ line_bytes (event_text event) ++ others
 one_whole event None later bytes line rest others none is same e =
-    e ∙ ap (λ l. l ++ rest) is ∙ ap (λ r. line_of (event_text event) ++ r) (same none)
+    e ∙ ap (λ l. l ++ rest) is ∙ ap (λ r. line_bytes (event_text event) ++ r) (same none)
 one_whole event (Some d) later bytes line rest others none is same e = cc
 
 -- where no event was refused, the lines are whole

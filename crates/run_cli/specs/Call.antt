@@ -22,20 +22,20 @@ pub record Call : Type 0 where
   pub source : Reading
   pub sink : Writing
 
-abbrev pub reading : {S : Type 0} → (S → Option (List ℕ)) → (S → ℕ) → S → S → Reading
-reading left faults old new =
+abbrev pub reading_of : {S : Type 0} → (S → Option (List ℕ)) → (S → ℕ) → S → S → Reading
+reading_of left faults old new =
     record { left = left old; left_after = left new; faults = faults old; faults_after = faults new }
 
-abbrev pub writing : {K : Type 0} → (K → Option (List ℕ)) → (K → ℕ) → K → K → Writing
-writing taken faults old new =
+abbrev pub writing_of : {K : Type 0} → (K → Option (List ℕ)) → (K → ℕ) → K → K → Writing
+writing_of taken faults old new =
     record { taken = taken old; taken_after = taken new; faults = faults old; faults_after = faults new }
 
 abbrev pub call_of : List (List ℕ) → Reading → Writing → Call
 call_of words source sink = record { words = words; source = source; sink = sink }
 
 -- one write, and then another
-abbrev pub joined : Writing → Writing → Writing
-joined a b = record { taken = a.taken; taken_after = b.taken_after; faults = a.faults; faults_after = b.faults_after }
+abbrev pub then_writing : Writing → Writing → Writing
+then_writing a b = record { taken = a.taken; taken_after = b.taken_after; faults = a.faults; faults_after = b.faults_after }
 
 -- the source gave these bytes; the sink took these bytes
 abbrev pub HasGiven : Reading → List ℕ → Type 0

@@ -9,7 +9,7 @@ use Rattle.run_engine.specs.declared.errors.TestRunnerBuildError.{TestRunnerBuil
 use Rattle.run_input.specs.Lines.{lines_of}
 use Rattle.run_input.specs.Input.{IsInput, IsFirstBad}
 use Rattle.run_cli.specs.Call.{Writing, HasWriteFault}
-use Rattle.run_cli.specs.Plans.{settings_for, refusal_for}
+use Rattle.run_cli.specs.Plans.{settings_for, plan_refusal}
 use Rattle.run_cli.specs.Given.{input_limit}
 use Rattle.run_cli.specs.Text.{outcome_status}
 
@@ -50,11 +50,11 @@ pub record GetsByCourse (keys : RunnerKeys) (plan : Plan) (turns : List Turn) (w
     (status : ℕ) : Type 0 where
   pub refuses : ℕ → Bool
   pub tied : ¬ HasWriteFault w → (n : ℕ) → refuses n ≡ false
-  pub refused : (error : TestRunnerBuildError) → refusal_for keys plan ≡ Some error → Gets status 5
-  pub stops : refusal_for keys plan ≡ None → (place : ℕ) (third : Bool)
+  pub refused : (error : TestRunnerBuildError) → plan_refusal keys plan ≡ Some error → Gets status 5
+  pub stops : plan_refusal keys plan ≡ None → (place : ℕ) (third : Bool)
       → Stops (settings_for keys plan) turns refuses place third → Gets status (stop_status third)
-  pub unfinished : refusal_for keys plan ≡ None → GoesOn (settings_for keys plan) turns refuses → Gets status 8
-  pub ended : refusal_for keys plan ≡ None → (o : RunOutcome) → Ends (settings_for keys plan) turns refuses o
+  pub unfinished : plan_refusal keys plan ≡ None → GoesOn (settings_for keys plan) turns refuses → Gets status 8
+  pub ended : plan_refusal keys plan ≡ None → (o : RunOutcome) → Ends (settings_for keys plan) turns refuses o
       → ¬ HasWriteFault w → Gets status (outcome_status o)
-  pub unreported : refusal_for keys plan ≡ None → (o : RunOutcome) → Ends (settings_for keys plan) turns refuses o
+  pub unreported : plan_refusal keys plan ≡ None → (o : RunOutcome) → Ends (settings_for keys plan) turns refuses o
       → w.faults < w.faults_after → Gets status 9

@@ -12,15 +12,15 @@ use Rattle.run_model.specs.Words.{is_over, sub_run, ended_runs}
 use Rattle.run_model.specs.Turns.{enabled}
 use Rattle.run_model.specs.Journal.{past_of, IsLegal, outcome}
 use Rattle.run_model.specs.Fates.{HaveFates}
-use Rattle.run_laws.specs.Course.{turns_of, none_refused, is_third}
+use Rattle.run_laws.specs.Course.{turns_of, none_refused, is_third_after}
 use Rattle.run_output.specs.declared.fault.Fault.{Fault}
 use Rattle.run_output.specs.declared.fault.Fault.TheVariants.{Words, Line, Plan as BadPlan, NotEnabled, ThirdSignal}
 use Rattle.run_output.specs.declared.fault.Fault.TheVariants.{Unfinished, Report, Read, Memory, TooLong}
 use Rattle.run_output.specs.declared.fault.PlanFault.{PlanFault}
 use Rattle.run_cli.specs.Call.{Call, Reading, HasTaken, HasWriteFault, Writes}
 use Rattle.run_cli.specs.Executed.{TookParts, WritesRun, report_ending}
-use Rattle.run_cli.specs.Plans.{settings_for, refusal_for, IsPlanFault}
-use Rattle.run_cli.specs.Given.{IsReplay, IsGiven, IsTooLong, IsWithin, HasBadLine}
+use Rattle.run_cli.specs.Plans.{settings_for, plan_refusal, IsPlanFault}
+use Rattle.run_cli.specs.Given.{IsReplay, SaysInput, IsTooLong, IsWithin, HasBadLine}
 use Rattle.run_cli.specs.Text.{fault_only, rest_text, history_text}
 
 -- the words are good, the source was read to its end, its lines say a plan that is accepted and its turns, and this
@@ -30,8 +30,8 @@ pub record Replays (c : Call) : Type 0 where
   pub keys : RunnerKeys
   pub plan : Plan
   pub turns : List Turn
-  pub given : IsGiven c.source keys plan turns
-  pub accepted : refusal_for keys plan ≡ None
+  pub given : SaysInput c.source keys plan turns
+  pub accepted : plan_refusal keys plan ≡ None
   pub journal : List Entry
   pub legal : IsLegal (settings_for keys plan) journal
   pub tied : ¬ HasWriteFault c.sink → none_refused journal ≡ true
@@ -53,7 +53,7 @@ pub record IsFinished (p : Settings) (journal : List Entry) (o : RunOutcome) : T
   pub ended : Contains (ended_runs (past_of p journal)) (sub_run (past_of p journal))
 
 -- the run took every turn of the input and is finished so
-pub record IsWhole {c : Call} (r : Replays c) (o : RunOutcome) : Type 0 where
+pub record IsWholeRun {c : Call} (r : Replays c) (o : RunOutcome) : Type 0 where
   pub all : turns_of r.journal ≡ r.turns
   pub finished : IsFinished (settings_in r) r.journal o
 
@@ -69,7 +69,7 @@ pub record StopsBefore {c : Call} (r : Replays c) (place : ℕ) (third : Bool) :
   pub turn : Turn
   pub at : slice_get r.turns place ≡ Some turn
   pub refused : enabled (settings_in r) (history_in r) turn ≡ false
-  pub whether : is_third (settings_in r) (history_in r) turn ≡ third
+  pub whether : is_third_after (settings_in r) (history_in r) turn ≡ third
 
 -- every turn was enabled, and the run isn't over after the last
 pub record IsUnfinished {c : Call} (r : Replays c) : Type 0 where
@@ -81,15 +81,15 @@ pub record HasBadPlan (source : Reading) (fault : PlanFault) : Type 0 where
   pub keys : RunnerKeys
   pub plan : Plan
   pub turns : List Turn
-  pub given : IsGiven source keys plan turns
+  pub given : SaysInput source keys plan turns
   pub refused : IsPlanFault keys plan fault
 
 -- what each end says
 abbrev pub IsEnding : Call → Result RunOutcome Fault → Type 0
 IsEnding c (Ok o) =
-    (r : Replays c) × IsWhole r o × HasTaken c.sink (history_text (history_in r) (Ok o))
+    (r : Replays c) × IsWholeRun r o × HasTaken c.sink (history_text (history_in r) (Ok o))
     × (c.sink.faults_after ≡ c.sink.faults)
-IsEnding c (Err Report) = (r : Replays c) × (o : RunOutcome) × IsWhole r o × WritesReport r o × HasWriteFault c.sink
+IsEnding c (Err Report) = (r : Replays c) × (o : RunOutcome) × IsWholeRun r o × WritesReport r o × HasWriteFault c.sink
 IsEnding c (Err (NotEnabled place)) =
     (r : Replays c) × StopsBefore r place false × WritesRun (history_in r) (Err (NotEnabled place)) c.sink
 IsEnding c (Err (ThirdSignal place)) =

@@ -17,11 +17,11 @@ use Rattle.run_engine.specs.declared.errors.TestRunnerExecuteErrors.TheVariants 
 use Rattle.run_output.specs.declared.fault.Fault.{Fault}
 use Rattle.run_output.specs.declared.fault.Fault.TheVariants.{Plan as BadPlan, NotEnabled, ThirdSignal}
 use Rattle.run_output.specs.declared.fault.Fault.TheVariants.{Unfinished, Report, Memory}
-use Rattle.run_output.specs.Fields.{line_of}
+use Rattle.run_output.specs.Fields.{line_bytes}
 use Rattle.run_output.specs.Outcomes.{outcome_text}
 use Rattle.run_cli.specs.Call.{Writing, HasTaken, HasTakenFront, HasWriteFault, Writes}
 use Rattle.run_cli.specs.Executed.{TookParts, WritesRun, report_ending}
-use Rattle.run_cli.specs.Plans.{settings_for, refusal_for, IsPlanFault}
+use Rattle.run_cli.specs.Plans.{settings_for, plan_refusal, IsPlanFault}
 use Rattle.run_cli.specs.Text.{ask_lines, fault_only, rest_text, history_text}
 
 -- the lines of asks and of a fault were written, where the sink failed a front part of them, unless memory was wanting
@@ -33,9 +33,9 @@ EndsAtFault w asks fault (Err e) =
 -- the lines of asks and of an outcome were written, or the sink failed, or memory was wanting
 abbrev pub EndsAtOutcome : Writing → List (ℕ × Ask) → RunOutcome → Result RunOutcome Fault → Type 0
 EndsAtOutcome w asks outcome (Ok o) =
-    (o ≡ outcome) × HasTaken w (ask_lines asks ++ line_of (outcome_text outcome)) × (w.faults_after ≡ w.faults)
+    (o ≡ outcome) × HasTaken w (ask_lines asks ++ line_bytes (outcome_text outcome)) × (w.faults_after ≡ w.faults)
 EndsAtOutcome w asks outcome (Err Report) =
-    HasWriteFault w × HasTakenFront w (ask_lines asks ++ line_of (outcome_text outcome))
+    HasWriteFault w × HasTakenFront w (ask_lines asks ++ line_bytes (outcome_text outcome))
 EndsAtOutcome w asks outcome (Err Memory) = ⊤
 EndsAtOutcome w asks outcome (Err _) = ⊥
 
@@ -81,6 +81,6 @@ IsInputEnding keys plan turns w (Err (BadPlan fault)) = IsPlanFault keys plan fa
     × Writes w (fault_only (BadPlan fault))
 IsInputEnding keys plan turns w (Err Memory) = ⊤
 IsInputEnding keys plan turns w (Err fault) =
-    (refusal_for keys plan ≡ None) × IsReplayEnding (settings_for keys plan) turns w (Err fault)
+    (plan_refusal keys plan ≡ None) × IsReplayEnding (settings_for keys plan) turns w (Err fault)
 IsInputEnding keys plan turns w (Ok outcome) =
-    (refusal_for keys plan ≡ None) × IsReplayEnding (settings_for keys plan) turns w (Ok outcome)
+    (plan_refusal keys plan ≡ None) × IsReplayEnding (settings_for keys plan) turns w (Ok outcome)

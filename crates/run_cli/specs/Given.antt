@@ -25,7 +25,7 @@ pub record IsAllOf (r : Reading) (bytes : List ℕ) : Type 0 where
   pub within : length bytes ≤ input_limit
 
 -- the source was read to its end, and its lines say a plan and its turns
-pub record IsGiven (r : Reading) (keys : RunnerKeys) (plan : Plan) (turns : List Turn) : Type 0 where
+pub record SaysInput (r : Reading) (keys : RunnerKeys) (plan : Plan) (turns : List Turn) : Type 0 where
   pub bytes : List ℕ
   pub given : HasGiven r bytes
   pub end : AtEnd r.left_after

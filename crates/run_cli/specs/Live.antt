@@ -19,7 +19,7 @@ use Rattle.run_output.specs.declared.fault.Fault.{Fault}
 use Rattle.run_output.specs.declared.fault.Fault.TheVariants.{Words, Line, Plan as BadPlan, NotEnabled, ThirdSignal}
 use Rattle.run_output.specs.declared.fault.Fault.TheVariants.{Unfinished, Report, Read, Memory, TooLong}
 use Rattle.run_output.specs.declared.fault.PlanFault.{PlanFault}
-use Rattle.run_shared.specs.Receipts.{joined, numbers_of, times, StandsIn}
+use Rattle.run_shared.specs.Receipts.{concatenated, receipt_numbers, times, StandsIn}
 use Rattle.run_shared.specs.Closed.{Refuses}
 use Rattle.run_drive.specs.declared.spawner.Heard.{Heard}
 use Rattle.run_live.specs.Own.{IsLive}
@@ -30,9 +30,9 @@ use Rattle.run_cli.specs.Call.{Call, Reading, Writing, HasGiven, HasTaken, HasRe
 use Rattle.run_cli.specs.Cause.{Gets, HasInput, HasTooMuch}
 use Rattle.run_cli.specs.Ending.{IsFinished}
 use Rattle.run_cli.specs.Executed.{TookParts, report_ending}
-use Rattle.run_cli.specs.Given.{IsGiven, IsTooLong, IsWithin, CountsReadAtEnd, input_limit}
+use Rattle.run_cli.specs.Given.{SaysInput, IsTooLong, IsWithin, CountsReadAtEnd, input_limit}
 use Rattle.run_cli.specs.LiveGiven.{IsLiveWord, HasBadPlanLine}
-use Rattle.run_cli.specs.Plans.{settings_for, refusal_for, fault_of_plan}
+use Rattle.run_cli.specs.Plans.{settings_for, plan_refusal, fault_of_plan}
 use Rattle.run_cli.specs.Status.{IsOutcomeStatus}
 use Rattle.run_cli.specs.Text.{fault_only, rest_text, history_text, outcome_status}
 use Rattle.run_output.specs.Faults.{fault_status}
@@ -46,7 +46,7 @@ abbrev pub live_settings : RunnerKeys → Plan → Settings
 live_settings keys plan = settings_for keys (unheard plan)
 
 abbrev pub live_refusal : RunnerKeys → Plan → Option TestRunnerBuildError
-live_refusal keys plan = refusal_for keys (unheard plan)
+live_refusal keys plan = plan_refusal keys (unheard plan)
 
 -- as many workers as may run at a time, or as there are units where they are fewer, and one at least
 abbrev pub workers_in : Settings → ℕ
@@ -57,8 +57,8 @@ workers_in p = max 1 (min p.threads (units_in p))
 pub record IsClosed {W : Type 0} (has_said : W → List Heard → Type 0) (p : Settings) (l : Live W) : Type 0 where
   pub legal : IsLegal p l.journal
   pub borne_out : IsNone l.error
-  pub stands : All (StandsIn l.journal) (joined l.receipts)
-  pub once : (k : ℕ) → k < length l.journal → times k (numbers_of (joined l.receipts)) ≡ 1
+  pub stands : All (StandsIn l.journal) (concatenated l.receipts)
+  pub once : (k : ℕ) → k < length l.journal → times k (receipt_numbers (concatenated l.receipts)) ≡ 1
   pub own : IsLive has_said l.workers.items l.receipts
   pub count : length l.workers.items ≡ workers_in p
 
@@ -75,7 +75,7 @@ IsRunEnd said p w live (ends.Fault Report) = IsSomeAnd live (λ l. IsClosed said
 IsRunEnd said p w live (ends.Fault Unfinished) = IsSomeAnd live (λ l. IsClosed said p l
     × (length l.journal ≡ 4294967295) × (is_over (past_of p l.journal) ≡ false))
 IsRunEnd said p w live ends.Receipt = IsSomeAnd live (λ l.
-    IsSomeAnd l.error (λ e. Refuses p l.journal (joined l.receipts) e.kind))
+    IsSomeAnd l.error (λ e. Refuses p l.journal (concatenated l.receipts) e.kind))
 IsRunEnd said p w live (ends.Fault Memory) = live ≡ None
 IsRunEnd said p w live (ends.Fault _) = ⊥
 
@@ -84,7 +84,7 @@ pub record HasLivePlan (c : Call) : Type 0 where
   pub word : IsLiveWord c.words
   pub keys : RunnerKeys
   pub plan : Plan
-  pub given : IsGiven c.source keys plan []
+  pub given : SaysInput c.source keys plan []
   pub accepted : live_refusal keys plan ≡ None
 
 -- how a plan that a line says ends: it is refused, or its run ends so
@@ -105,7 +105,7 @@ IsPlanEnd said keys plan w live ends.Receipt =
 pub record HasRefusedPlan (r : Reading) (fault : PlanFault) : Type 0 where
   pub keys : RunnerKeys
   pub plan : Plan
-  pub given : IsGiven r keys plan []
+  pub given : SaysInput r keys plan []
   pub error : TestRunnerBuildError
   pub refused : live_refusal keys plan ≡ Some error
   pub says : fault_of_plan error ≡ BadPlan fault

@@ -20,7 +20,7 @@ use Rattle.run_cli.specs.declared.live.LiveEnding.{LiveEnding}
 use Rattle.run_cli.specs.declared.live.LiveEnding.TheVariants as ends
 use Rattle.std.specs.Option.{IsNone, IfSome}
 use Rattle.std.specs.List.{All}
-use Rattle.run_shared.specs.Receipts.{joined, numbers_of, times, StandsIn}
+use Rattle.run_shared.specs.Receipts.{concatenated, receipt_numbers, times, StandsIn}
 use Rattle.run_shared.specs.Closed.{IsLeft, Refuses}
 use Rattle.run_drive.specs.declared.spawner.Heard.{Heard}
 use Rattle.run_live.specs.Own.{IsLive}
@@ -56,10 +56,10 @@ pub record IsLeftOver {W R : Type 0} (has_said : W → List Heard → Type 0)
     (tells : R → List (ReporterEvent × Option Failed) → Type 0) (p : Settings) (l : Lived W R) : Type 0 where
   pub count : length l.live.workers.items ≡ workers_in p
   pub left : IsNone l.live.error → IsLeft tells l.report l.asks p l.live.journal l.outcome
-  pub stands : IsNone l.live.error → All (StandsIn l.live.journal) (joined l.live.receipts)
+  pub stands : IsNone l.live.error → All (StandsIn l.live.journal) (concatenated l.live.receipts)
   pub once : IsNone l.live.error → (k : ℕ) → k < length l.live.journal
-      → times k (numbers_of (joined l.live.receipts)) ≡ 1
-  pub refused : IfSome l.live.error (λ e. Refuses p l.live.journal (joined l.live.receipts) e.kind)
+      → times k (receipt_numbers (concatenated l.live.receipts)) ≡ 1
+  pub refused : IfSome l.live.error (λ e. Refuses p l.live.journal (concatenated l.live.receipts) e.kind)
   pub own : IsLive has_said l.live.workers.items l.live.receipts
 
 -- the line of a fault was written, where the sink failed a front part of it, unless memory was wanting

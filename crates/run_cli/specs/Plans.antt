@@ -27,8 +27,8 @@ builder_of keys = record {
 abbrev pub settings_for : RunnerKeys → Plan → Settings
 settings_for keys plan = settings_of (builder_of keys) plan
 
-abbrev pub refusal_for : RunnerKeys → Plan → Option TestRunnerBuildError
-refusal_for keys plan = refusal_of (builder_of keys) plan
+abbrev pub plan_refusal : RunnerKeys → Plan → Option TestRunnerBuildError
+plan_refusal keys plan = refusal_of (builder_of keys) plan
 
 -- the fault that a refusal of a plan is
 abbrev pub fault_of_plan : TestRunnerBuildError → Fault
@@ -42,4 +42,4 @@ fault_of_plan build.OutOfMemory = Memory
 -- why a plan is refused
 abbrev pub IsPlanFault : RunnerKeys → Plan → PlanFault → Type 0
 IsPlanFault keys plan fault =
-    (error : TestRunnerBuildError) × (refusal_for keys plan ≡ Some error) × (fault_of_plan error ≡ BadPlan fault)
+    (error : TestRunnerBuildError) × (plan_refusal keys plan ≡ Some error) × (fault_of_plan error ≡ BadPlan fault)

@@ -12,7 +12,7 @@ use Rattle.run_cli.specs.Call.{Call, HasTaken, HasReadFault, HasWriteFault, Writ
 use Rattle.run_cli.specs.Text.{fault_only, history_text, outcome_status}
 use Rattle.run_cli.specs.Executed.{WritesRun}
 use Rattle.run_cli.specs.Given.{IsReplay, IsTooLong, IsWithin, HasBadLine}
-use Rattle.run_cli.specs.Ending.{Replays, IsWhole, WritesReport, StopsBefore, IsUnfinished, HasBadPlan, history_in}
+use Rattle.run_cli.specs.Ending.{Replays, IsWholeRun, WritesReport, StopsBefore, IsUnfinished, HasBadPlan, history_in}
 use Rattle.run_cli.specs.Cause.{Gets, HasInput, HasBadInput, HasTooMuch, GetsByCourse}
 
 -- the statuses of outcomes: success, no tests run, failed or cancelled in tests, failed or cancelled in scripts
@@ -29,7 +29,7 @@ is_status status = list_any (λ known. known == status) (0 ∷ 2 ∷ 3 ∷ 4 ∷
 pub record Headline (c : Call) (status : ℕ) : Type 0 where
   pub run : Replays c
   pub outcome : RunOutcome
-  pub whole : IsWhole run outcome
+  pub whole : IsWholeRun run outcome
   pub written : HasTaken c.sink (history_text (history_in run) (Ok outcome))
   pub status_is : status ≡ outcome_status outcome
 
@@ -61,7 +61,7 @@ SaysUnfinished c = (r : Replays c) × IsUnfinished r × WritesRun (history_in r)
 
 -- all is as for an outcome's status, but for the sink, whose count of faults rose, and which took parts of the lines
 abbrev pub SaysReport : Call → Type 0
-SaysReport c = (r : Replays c) × (o : RunOutcome) × IsWhole r o × WritesReport r o × HasWriteFault c.sink
+SaysReport c = (r : Replays c) × (o : RunOutcome) × IsWholeRun r o × WritesReport r o × HasWriteFault c.sink
 
 -- what each status says, and what status each cause gives
 pub record Answers (c : Call) (status : ℕ) : Type 0 where

@@ -8,7 +8,7 @@ use Rattle.run_events.specs.declared.outcome.RunOutcome.TheVariants as outcomes
 use Rattle.run_model.specs.declared.happening.Happening.{Happening}
 use Rattle.run_model.specs.Words.{told, asked}
 use Rattle.run_output.specs.declared.fault.Fault.{Fault}
-use Rattle.run_output.specs.Fields.{line_of}
+use Rattle.run_output.specs.Fields.{line_bytes}
 use Rattle.run_output.specs.Events.{event_text}
 use Rattle.run_output.specs.Asks.{ask_text}
 use Rattle.run_output.specs.Outcomes.{outcome_text}
@@ -17,12 +17,12 @@ use Rattle.run_output.specs.Faults.{fault_text, fault_status}
 -- the lines of events, in order
 abbrev pub event_lines : List ReporterEvent → List ℕ
 event_lines [] = []
-event_lines (event ∷ events) = line_of (event_text event) ++ event_lines events
+event_lines (event ∷ events) = line_bytes (event_text event) ++ event_lines events
 
 -- the lines of asks, in order
 abbrev pub ask_lines : List (ℕ × Ask) → List ℕ
 ask_lines [] = []
-ask_lines (ask ∷ asks) = line_of (ask_text ask.0 ask.1) ++ ask_lines asks
+ask_lines (ask ∷ asks) = line_bytes (ask_text ask.0 ask.1) ++ ask_lines asks
 
 -- the last line: the outcome, or the fault
 abbrev pub last_text : Result RunOutcome Fault → List ℕ
@@ -31,11 +31,11 @@ last_text (Err fault) = fault_text fault
 
 -- the line of a fault alone
 abbrev pub fault_only : Fault → List ℕ
-fault_only fault = line_of (fault_text fault)
+fault_only fault = line_bytes (fault_text fault)
 
 -- the lines after those of events: of what a history asked, and the last line
 abbrev pub rest_text : List Happening → Result RunOutcome Fault → List ℕ
-rest_text past ending = ask_lines (asked past) ++ line_of (last_text ending)
+rest_text past ending = ask_lines (asked past) ++ line_bytes (last_text ending)
 
 -- the lines of a history: what it told, then what it asked, then the last line
 abbrev pub history_text : List Happening → Result RunOutcome Fault → List ℕ
@@ -51,6 +51,6 @@ outcome_status (outcomes.Cancelled steps.Test) = 100
 outcome_status (outcomes.Cancelled steps.SetupScript) = 105
 
 -- the status that the program ends with
-abbrev pub status_of : Result RunOutcome Fault → ℕ
-status_of (Ok outcome) = outcome_status outcome
-status_of (Err fault) = fault_status fault
+abbrev pub ending_status : Result RunOutcome Fault → ℕ
+ending_status (Ok outcome) = outcome_status outcome
+ending_status (Err fault) = fault_status fault

@@ -3,7 +3,7 @@ ghost use Rattle.std.specs.Prelude.{◌≡◌, ◌<◌, ◌≤◌, ◌^◌, List
 ghost use Rattle.run_events.specs.declared.settings.Settings.{Settings};
 ghost use Rattle.run_events.specs.declared.turn.Turn.{Turn};
 ghost use Rattle.run_engine.specs.Execution.{UnlessMemory};
-ghost use Rattle.run_cli.specs.Call.{Writing, writing, joined};
+ghost use Rattle.run_cli.specs.Call.{Writing, writing_of, then_writing};
 ghost use Rattle.run_cli.specs.Executed.{IsExecuted};
 ghost use Rattle.run_cli.specs.Text.{outcome_status};
 ghost use Rattle.run_cli.specs.Finish.{fault_of_error, EndsAtFault, EndsAtOutcome, IsReplayEnding};
@@ -56,7 +56,8 @@ fn end_for_memory<K: Sink>(sink: &mut K)
 
 /// Writes asks and a fault. A write that fails leaves the fault as it is.
 pub fn end_at_fault<K: Sink>(alloc: Global, sink: K, asks: &[(u64, Ask)], fault: Fault) -> Ended<K>
-    ensures { EndsAtFault (writing K.taken K.faults sink result.sink) asks.now fault result.ending }
+    ensures { EndsAtFault (writing_of K.taken K.faults sink result.sink) asks.now fault
+        result.ending }
 {
     let mut sink = sink;
     let ending = match write_fault(alloc, &mut sink, asks, fault) {
@@ -77,7 +78,8 @@ pub fn end_at_outcome<K: Sink>(
     asks: &[(u64, Ask)],
     outcome: RunOutcome,
 ) -> Ended<K>
-    ensures ends { EndsAtOutcome (writing K.taken K.faults sink result.sink) asks.now outcome result.ending }
+    ensures ends { EndsAtOutcome (writing_of K.taken K.faults sink result.sink) asks.now outcome
+        result.ending }
     ensures later { K.faults sink ≤ K.faults result.sink }
 {
     let mut sink = sink;
@@ -112,10 +114,12 @@ fn finish<K: Sink>(
     asks: &[(u64, Ask)],
     answer: Result<RunOutcome, TestRunnerExecuteErrors<Failed>>,
 ) -> Ended<K>
-    ensures { (p : Settings) (turns : List Turn) (w : Writing) → K.taken sink ≡ w.taken_after → K.faults sink
+    ensures { (p : Settings) (turns : List Turn) (w : Writing) → K.taken sink ≡ w.taken_after
+        → K.faults sink
         ≡ w.faults_after
         → UnlessMemory answer (IsExecuted p turns w asks.now answer)
-        → IsReplayEnding p turns (joined w (writing K.taken K.faults sink result.sink)) result.ending }
+        → IsReplayEnding p turns (then_writing w (writing_of K.taken K.faults sink result.sink))
+        result.ending }
 {
     match answer {
         Ok(outcome) => end_at_outcome(alloc, sink, asks, outcome),
@@ -129,7 +133,8 @@ fn finish<K: Sink>(
 /// Carries out the turns of a run, and writes all its lines.
 pub fn replay<K: Sink>(alloc: Global, runner: TestRunner, turns: &[Turn], sink: K) -> Ended<K>
     requires { length turns.now < 2 ^ 32 }
-    ensures { IsReplayEnding runner turns.now (writing K.taken K.faults sink result.sink) result.ending }
+    ensures { IsReplayEnding runner turns.now (writing_of K.taken K.faults sink result.sink)
+        result.ending }
 {
     let Executed { sink, asks, answer } = execute(alloc, runner, turns, sink);
     finish(alloc, sink, asks.asks(), answer)

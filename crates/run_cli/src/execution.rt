@@ -1,7 +1,7 @@
 // Carries out the turns of a run, and writes its events to a sink as they are told.
 ghost use Rattle.std.specs.Prelude.{◌≡◌, ◌<◌, ◌^◌, length};
 ghost use Rattle.run_engine.specs.Execution.{UnlessMemory};
-ghost use Rattle.run_cli.specs.Call.{writing};
+ghost use Rattle.run_cli.specs.Call.{writing_of};
 ghost use Rattle.run_cli.specs.Executed.{IsExecuted};
 
 use run_capture::{Failed, Sink};
@@ -28,7 +28,8 @@ fn execute_at<K: Sink, O: Origin>(
     requires taken { O.taken_before ≡ K.taken sink }
     requires faults { O.faults_before ≡ K.faults sink }
     requires few { length turns.now < 2 ^ 32 }
-    ensures { UnlessMemory result.answer (IsExecuted runner turns.now (writing K.taken K.faults sink result.sink)
+    ensures { UnlessMemory result.answer
+        (IsExecuted runner turns.now (writing_of K.taken K.faults sink result.sink)
         result.asks result.answer) }
 {
     let mut reporter = LineReporter::<K, O>::new(sink);
@@ -44,7 +45,8 @@ fn execute_at<K: Sink, O: Origin>(
 /// Carries out the turns, and writes the line of each event to the sink as it is told.
 pub fn execute<K: Sink>(alloc: Global, runner: TestRunner, turns: &[Turn], sink: K) -> Executed<K>
     requires { length turns.now < 2 ^ 32 }
-    ensures { UnlessMemory result.answer (IsExecuted runner turns.now (writing K.taken K.faults sink result.sink)
+    ensures { UnlessMemory result.answer
+        (IsExecuted runner turns.now (writing_of K.taken K.faults sink result.sink)
         result.asks result.answer) }
 {
     execute_at::<K, Brand>(alloc, runner, turns, sink)

@@ -2,7 +2,7 @@
 ghost use Rattle.std.specs.Prelude.{◌≡◌, ℕ, length, None, Some};
 ghost use Rattle.run_events.specs.declared.settings.Settings.{Settings};
 ghost use Rattle.run_model.specs.Journal.{past_of, outcome};
-ghost use Rattle.run_cli.specs.Call.{Writing, writing, joined};
+ghost use Rattle.run_cli.specs.Call.{Writing, writing_of, then_writing};
 ghost use Rattle.run_cli.specs.Live.{IsClosed, IsRunEnd, live_status, workers_in};
 ghost use Rattle.run_cli.specs.Lived.{IsOver, IsLeftOver, IsFaultEnd, EndsOver, IsOpenFault, ending_of, kept_by};
 ghost use Rattle.run_cli.specs.declared.live.LiveEnding.TheVariants as ends;
@@ -103,7 +103,8 @@ fn last_lines<K: Sink>(
     outcome: RunOutcome,
     refused: bool,
 ) -> Ended<K>
-    ensures { EndsOver (writing K.taken K.faults sink result.sink) asks.now outcome refused result.ending }
+    ensures { EndsOver (writing_of K.taken K.faults sink result.sink) asks.now outcome refused
+        result.ending }
 {
     if refused {
         end_at_fault(alloc, sink, asks, Fault::Report)
@@ -121,9 +122,11 @@ fn end_over<K: Sink, W: Spawner + Drop>(
     refused: bool,
     live: Live<W>,
 ) -> LiveEnded<K, W>
-    ensures { (p : Settings) (w : Writing) (n : ℕ) → K.taken sink ≡ w.taken_after → K.faults sink ≡ w.faults_after
+    ensures { (p : Settings) (w : Writing) (n : ℕ) → K.taken sink ≡ w.taken_after → K.faults sink
+        ≡ w.faults_after
         → IsClosed W.has_said p live → IsOver p w n live.journal asks outcome refused
-        → IsRunEnd W.has_said p (joined w (writing K.taken K.faults sink result.sink)) result.live result.ending }
+        → IsRunEnd W.has_said p (then_writing w (writing_of K.taken K.faults sink result.sink))
+        result.live result.ending }
 {
     let ended = last_lines(alloc, sink, asks.asks(), outcome, refused);
     drop(asks);
@@ -211,7 +214,7 @@ fn finish<K: Sink, O: Origin, W: Spawner + Drop>(
 
 /// Writes a fault, where there is no run: nothing of one is handed back.
 pub fn end_without_run<K: Sink, W>(alloc: Global, sink: K, fault: Fault) -> LiveEnded<K, W>
-    ensures ending { IsFaultEnd (writing K.taken K.faults sink result.sink) fault result.ending }
+    ensures ending { IsFaultEnd (writing_of K.taken K.faults sink result.sink) fault result.ending }
     ensures live { result.live ≡ None }
 {
     let Ended { ending, sink } = end_at_fault(alloc, sink, &[], fault);
@@ -236,7 +239,8 @@ fn run_at<K: Sink + Send, H: Host, O: Origin + Send, X: Threads + Wait + Sync>(
 ) -> LiveEnded<K, H::Worker>
     requires taken { O.taken_before ≡ K.taken sink }
     requires faults { O.faults_before ≡ K.faults sink }
-    ensures { IsRunEnd H.Worker.has_said runner (writing K.taken K.faults sink result.sink) result.live
+    ensures { IsRunEnd H.Worker.has_said runner (writing_of K.taken K.faults sink result.sink)
+        result.live
         result.ending }
 {
     let workers = workers_of(&runner);
@@ -255,7 +259,8 @@ pub fn run_live<K: Sink + Send, H: Host, X: Threads + Wait + Sync>(
     sink: K,
     host: &mut H,
 ) -> LiveEnded<K, H::Worker>
-    ensures { IsRunEnd H.Worker.has_said runner (writing K.taken K.faults sink result.sink) result.live
+    ensures { IsRunEnd H.Worker.has_said runner (writing_of K.taken K.faults sink result.sink)
+        result.live
         result.ending }
 {
     run_at::<K, H, Brand, X>(rt, alloc, runner, sink, host)

@@ -1,7 +1,7 @@
 // The plan line as a builder and its plan.
 ghost use Rattle.std.specs.Prelude.{◌≡◌, option_map, option_and_then};
 ghost use Rattle.run_input.specs.ReadsValue.{ReadsValue};
-ghost use Rattle.run_input.specs.ValueOf.{value_of};
+ghost use Rattle.run_input.specs.ValueOf.{json_value};
 ghost use Rattle.run_input.specs.PlanLine.{plan_of};
 ghost use Rattle.run_cli.specs.Plans.{builder_of};
 
@@ -34,7 +34,7 @@ pub fn builder_of(keys: RunnerKeys) -> TestRunnerBuilder
 /// not in its table.
 pub fn read_plan_line(alloc: Global, line: &[u8]) -> Result<(TestRunnerBuilder, Plan), LineError>
     ensures { ReadsValue result (option_map (λ said. (builder_of said.0, said.1))
-        (option_and_then plan_of (value_of line.now))) }
+        (option_and_then plan_of (json_value line.now))) }
 {
     match run_input::read_plan_line(alloc, line) {
         Ok((keys, plan)) => Ok((builder_of(keys), plan)),

@@ -1,11 +1,11 @@
 // The top call: all that the program does.
 ghost use Rattle.std.specs.Prelude.{◌≡◌, ◌+◌, ◌<◌, ◌^◌, ℕ, List, map, length, string_bytes, None};
-ghost use Rattle.run_cli.specs.Call.{reading, writing, call_of};
+ghost use Rattle.run_cli.specs.Call.{reading_of, writing_of, call_of};
 ghost use Rattle.run_cli.specs.Plans.{fault_of_plan};
 ghost use Rattle.run_cli.specs.Given.{CountsReadAtEnd, IsReplay};
 ghost use Rattle.run_cli.specs.Finish.{IsInputEnding};
 ghost use Rattle.run_cli.specs.Ending.{IsEnding};
-ghost use Rattle.run_cli.specs.Text.{status_of, outcome_status};
+ghost use Rattle.run_cli.specs.Text.{ending_status, outcome_status};
 ghost use Rattle.run_cli.specs.Status.{Answers};
 ghost use Rattle.run_cli.specs.LiveGiven.{IsLiveWord};
 ghost use Rattle.run_cli.specs.Live.{unheard, IsPlanEnd, IsLiveEnd, CountsLive, AnswersLive};
@@ -32,7 +32,7 @@ pub struct Ran<K> {
 }
 
 fn status_of_ending(ending: Result<RunOutcome, Fault>) -> u8
-    ensures { result ≡ status_of ending }
+    ensures { result ≡ ending_status ending }
 {
     match ending {
         Ok(outcome) => status_of_outcome(outcome),
@@ -64,7 +64,8 @@ fn fault_of_plan(error: TestRunnerBuildError) -> Fault
 fn replay_input<K: Sink>(alloc: Global, input: Input, sink: K) -> Ended<K>
     requires units { length input.plan.scripts + length input.plan.tests < 2 ^ 32 }
     requires turns { length input.turns < 2 ^ 32 }
-    ensures { IsInputEnding input.keys input.plan input.turns (writing K.taken K.faults sink result.sink)
+    ensures { IsInputEnding input.keys input.plan input.turns
+        (writing_of K.taken K.faults sink result.sink)
         result.ending }
 {
     let Input { keys, plan, turns } = input;
@@ -82,9 +83,10 @@ fn run_to_end<S: Source, K: Sink>(
     sink: K,
 ) -> Ended<K>
     ensures says { IsEnding (call_of (map (λ w. string_bytes w) words.now)
-        (reading S.left S.faults source.old source.new)
-        (writing K.taken K.faults sink result.sink)) result.ending }
-    ensures counted { CountsReadAtEnd (reading S.left S.faults source.old source.new) result.ending }
+        (reading_of S.left S.faults source.old source.new)
+        (writing_of K.taken K.faults sink result.sink)) result.ending }
+    ensures counted { CountsReadAtEnd (reading_of S.left S.faults source.old source.new)
+        result.ending }
     ensures untouched { ¬ IsReplay (map (λ w. string_bytes w) words.now) → source.new ≡ source.old }
 {
     match read_given(alloc, words, source) {
@@ -112,7 +114,8 @@ fn live_plan<K: Sink + Send, H: Host, X: Threads + Wait + Sync>(
     host: &mut H,
 ) -> LiveEnded<K, H::Worker>
     requires { length said.1.scripts + length said.1.tests < 2 ^ 32 }
-    ensures { IsPlanEnd H.Worker.has_said said.0 said.1 (writing K.taken K.faults sink result.sink) result.live
+    ensures { IsPlanEnd H.Worker.has_said said.0 said.1
+        (writing_of K.taken K.faults sink result.sink) result.live
         result.ending }
 {
     let (keys, plan) = said;
@@ -131,9 +134,10 @@ fn live_to_end<S: Source, K: Sink + Send, H: Host, X: Threads + Wait + Sync>(
     host: &mut H,
 ) -> LiveEnded<K, H::Worker>
     ensures says { (words : List (List ℕ)) → IsLiveWord words → IsLiveEnd H.Worker.has_said
-        (call_of words (reading S.left S.faults source.old source.new) (writing K.taken K.faults sink result.sink))
+        (call_of words (reading_of S.left S.faults source.old source.new)
+        (writing_of K.taken K.faults sink result.sink))
         result.live result.ending }
-    ensures counted { CountsLive (reading S.left S.faults source.old source.new) result.ending }
+    ensures counted { CountsLive (reading_of S.left S.faults source.old source.new) result.ending }
 {
     match read_plan(alloc, source) {
         Ok(said) => live_plan(rt, alloc, said, sink, host),
@@ -144,8 +148,9 @@ fn live_to_end<S: Source, K: Sink + Send, H: Host, X: Threads + Wait + Sync>(
 // Carries out recorded turns.
 fn replayed<S: Source, K: Sink>(alloc: Global, words: &[String], source: &mut S, sink: K) -> Ran<K>
     ensures says { Answers
-        (call_of (map (λ w. string_bytes w) words.now) (reading S.left S.faults source.old source.new)
-        (writing K.taken K.faults sink result.sink)) result.status }
+        (call_of (map (λ w. string_bytes w) words.now)
+        (reading_of S.left S.faults source.old source.new)
+        (writing_of K.taken K.faults sink result.sink)) result.status }
     ensures untouched { ¬ IsReplay (map (λ w. string_bytes w) words.now) → source.new ≡ source.old }
 {
     let Ended { ending, sink } = run_to_end(alloc, words, source, sink);
@@ -164,7 +169,8 @@ fn lived<S: Source, K: Sink + Send, H: Host, X: Threads + Wait + Sync>(
     host: &mut H,
 ) -> (Ran<K>, Option<Live<H::Worker>>)
     ensures { (words : List (List ℕ)) → IsLiveWord words → AnswersLive H.Worker.has_said
-        (call_of words (reading S.left S.faults source.old source.new) (writing K.taken K.faults sink result.0.sink))
+        (call_of words (reading_of S.left S.faults source.old source.new)
+        (writing_of K.taken K.faults sink result.0.sink))
         result.1 result.0.status }
 {
     let LiveEnded { ending, sink, live } = live_to_end(rt, alloc, source, sink, host);
@@ -190,11 +196,13 @@ pub fn run<S: Source, K: Sink + Send, H: Host, X: Threads + Wait + Sync>(
     host: &mut H,
 ) -> (Ran<K>, Option<Live<H::Worker>>)
     ensures replay { ¬ IsLiveWord (map (λ w. string_bytes w) words.now) →
-        Answers (call_of (map (λ w. string_bytes w) words.now) (reading S.left S.faults source.old source.new)
-        (writing K.taken K.faults sink result.0.sink)) result.0.status × (result.1 ≡ None) }
+        Answers (call_of (map (λ w. string_bytes w) words.now)
+        (reading_of S.left S.faults source.old source.new)
+        (writing_of K.taken K.faults sink result.0.sink)) result.0.status × (result.1 ≡ None) }
     ensures live { IsLiveWord (map (λ w. string_bytes w) words.now) → AnswersLive H.Worker.has_said
-        (call_of (map (λ w. string_bytes w) words.now) (reading S.left S.faults source.old source.new)
-        (writing K.taken K.faults sink result.0.sink)) result.1 result.0.status }
+        (call_of (map (λ w. string_bytes w) words.now)
+        (reading_of S.left S.faults source.old source.new)
+        (writing_of K.taken K.faults sink result.0.sink)) result.1 result.0.status }
     ensures untouched { ¬ IsLiveWord (map (λ w. string_bytes w) words.now)
         → ¬ IsReplay (map (λ w. string_bytes w) words.now) → source.new ≡ source.old }
 {

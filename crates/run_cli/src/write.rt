@@ -1,7 +1,7 @@
 // How the lines after a run are written.
 ghost use Rattle.std.specs.Prelude.{◌≡◌, ◌++◌, ◌∷◌, [], List, ℕ, OnErr, OnOk};
 ghost use Rattle.run_capture.specs.Bytes.{Takes};
-ghost use Rattle.run_output.specs.Fields.{line_of};
+ghost use Rattle.run_output.specs.Fields.{line_bytes};
 ghost use Rattle.run_output.specs.Outcomes.{outcome_text};
 ghost use Rattle.run_output.specs.Faults.{fault_text};
 ghost use Rattle.run_cli.specs.Call.{TakesFront};
@@ -46,8 +46,9 @@ impl From<Failed> for WriteError {
 
 /// Writes a line.
 pub fn write_line<K: Sink>(alloc: Global, sink: &mut K, line: Text) -> Result<(), WriteError>
-    ensures ok { OnOk result (Takes (K.taken sink.old) (K.taken sink.new) (line_of line)) }
-    ensures front { OnErr result (TakesFront (K.taken sink.old) (K.taken sink.new) (line_of line)) }
+    ensures ok { OnOk result (Takes (K.taken sink.old) (K.taken sink.new) (line_bytes line)) }
+    ensures front { OnErr result (TakesFront (K.taken sink.old) (K.taken sink.new)
+        (line_bytes line)) }
     ensures counted { CountsWrite (K.faults sink.old) (K.faults sink.new) result }
 {
     let line = with_line_feed(alloc, line)?;
@@ -58,7 +59,8 @@ pub fn write_line<K: Sink>(alloc: Global, sink: &mut K, line: Text) -> Result<()
 // Writes the lines of asks.
 fn write_asks<K: Sink>(alloc: Global, sink: &mut K, asks: &[(u64, Ask)]) -> Result<(), WriteError>
     ensures ok { OnOk result (Takes (K.taken sink.old) (K.taken sink.new) (ask_lines asks.now)) }
-    ensures front { OnErr result (TakesFront (K.taken sink.old) (K.taken sink.new) (ask_lines asks.now)) }
+    ensures front { OnErr result (TakesFront (K.taken sink.old) (K.taken sink.new)
+        (ask_lines asks.now)) }
     ensures counted { CountsWrite (K.faults sink.old) (K.faults sink.new) result }
 {
     for ask in asks {
@@ -75,9 +77,10 @@ fn write_rest<K: Sink>(
     asks: &[(u64, Ask)],
     last: Text,
 ) -> Result<(), WriteError>
-    ensures ok { OnOk result (Takes (K.taken sink.old) (K.taken sink.new) (ask_lines asks.now ++ line_of last)) }
+    ensures ok { OnOk result (Takes (K.taken sink.old) (K.taken sink.new)
+        (ask_lines asks.now ++ line_bytes last)) }
     ensures front { OnErr result
-        (TakesFront (K.taken sink.old) (K.taken sink.new) (ask_lines asks.now ++ line_of last)) }
+        (TakesFront (K.taken sink.old) (K.taken sink.new) (ask_lines asks.now ++ line_bytes last)) }
     ensures counted { CountsWrite (K.faults sink.old) (K.faults sink.new) result }
 {
     write_asks(alloc, sink, asks)?;
@@ -92,9 +95,9 @@ pub fn write_outcome<K: Sink>(
     outcome: RunOutcome,
 ) -> Result<(), WriteError>
     ensures ok { OnOk result (Takes (K.taken sink.old) (K.taken sink.new)
-        (ask_lines asks.now ++ line_of (outcome_text outcome))) }
+        (ask_lines asks.now ++ line_bytes (outcome_text outcome))) }
     ensures front { OnErr result (TakesFront (K.taken sink.old) (K.taken sink.new)
-        (ask_lines asks.now ++ line_of (outcome_text outcome))) }
+        (ask_lines asks.now ++ line_bytes (outcome_text outcome))) }
     ensures counted { CountsWrite (K.faults sink.old) (K.faults sink.new) result }
 {
     let last = outcome_line(alloc, outcome)?;
@@ -109,9 +112,9 @@ pub fn write_fault<K: Sink>(
     fault: Fault,
 ) -> Result<(), WriteError>
     ensures ok { OnOk result (Takes (K.taken sink.old) (K.taken sink.new)
-        (ask_lines asks.now ++ line_of (fault_text fault))) }
+        (ask_lines asks.now ++ line_bytes (fault_text fault))) }
     ensures front { OnErr result (TakesFront (K.taken sink.old) (K.taken sink.new)
-        (ask_lines asks.now ++ line_of (fault_text fault))) }
+        (ask_lines asks.now ++ line_bytes (fault_text fault))) }
     ensures counted { CountsWrite (K.faults sink.old) (K.faults sink.new) result }
 {
     let last = fault_line(alloc, fault)?;

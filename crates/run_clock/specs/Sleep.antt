@@ -1,5 +1,5 @@
 -- What contracts see of a sleep, and the timer that it keeps.
-use Rattle.std.specs.Prelude.{ℕ, ◌≡◌, ◌+◌, ◌-◌, ◌^◌, ◌≤◌, Bool, true, false, nat_le, if◌then◌else◌}
+use Rattle.std.specs.Prelude.{ℕ, ◌≡◌, ◌+◌, ◌-◌, ◌^◌, ◌≤◌, Bool, true, false, nat_le, if◌then◌else◌, Option, Some, None}
 use Rattle.run_clock.specs.declared.poll.Poll.{Poll}
 use Rattle.run_clock.specs.declared.poll.Poll.TheVariants.{Ready, Pending}
 use Rattle.run_clock.specs.declared.sleep_state.SleepState.{SleepState}
@@ -45,6 +45,11 @@ reset_at (Paused remaining) now duration = Paused duration
 abbrev pub fires_at : SleepState → ℕ → Bool
 fires_at (Running deadline) now = nat_le deadline now
 fires_at (Paused remaining) now = false
+
+-- whether a timer is set and fires at now
+abbrev pub fires_now : ℕ → Option Sleep → Bool
+fires_now now None = false
+fires_now now (Some timer) = fires_at timer.state now
 
 -- the deadline is past the greatest u64
 abbrev pub IsOutOfReach : SleepState → Type 0

@@ -13,6 +13,6 @@ pub use laws::{
     idle_marks_count_nothing, idle_marks_need_no_call, passing_time_counts,
     same_moment_counts_nothing, time_adds_up,
 };
-pub use pausable_sleep::PausableSleep;
+pub use pausable_sleep::{PausableSleep, fires_now};
 pub use poll::Poll;
 pub use stopwatch::{StopwatchSnapshot, StopwatchStart};

@@ -1,8 +1,8 @@
 // A sleep that can be paused.
-ghost use Rattle.std.specs.Prelude.{◌≡◌, ◌+◌, ◌≤◌, []};
+ghost use Rattle.std.specs.Prelude.{◌≡◌, ◌+◌, ◌≤◌, [], IfSome};
 ghost use Rattle.run_clock.specs.Counted.{pause, resume, is_paused, is_due};
 ghost use Rattle.run_clock.specs.Sleep.{set_at, is_stopped, paused_at, resumed_at, reset_at, fires_at, IsOutOfReach};
-ghost use Rattle.run_clock.specs.Sleep.{ready_where, Keeps, ForTimer, ForTimerBy, AddsToTimer, SetsAgain};
+ghost use Rattle.run_clock.specs.Sleep.{fires_now, ready_where, Keeps, ForTimer, ForTimerBy, AddsToTimer, SetsAgain};
 
 use crate::poll::Poll;
 use crate::sleep_state::SleepState;
@@ -130,5 +130,16 @@ impl PausableSleep {
         } else {
             Poll::Pending
         }
+    }
+}
+
+/// Whether a timer is set and fires at now.
+pub fn fires_now(timer: &Option<PausableSleep>, now: u64) -> bool
+    requires { IfSome timer.now (λ timer. timer.latest ≤ now) }
+    ensures { result ≡ fires_now now timer.now }
+{
+    match timer {
+        Some(timer) => matches!(timer.poll_at(now), Poll::Ready(())),
+        None => false,
     }
 }

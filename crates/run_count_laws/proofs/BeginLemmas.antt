@@ -30,10 +30,10 @@ use Rattle.run_model.specs.Cancel.{Cause, cause_of, caused}
 use Rattle.run_model.specs.Turns.{enabled_on, takes_turn, turn_of_unit, admission, starting, answer_to, event_of}
 use Rattle.run_model.specs.Turns.{tally_with, delivered_as, delivery, done_by, deed_on, happening}
 use Rattle.run_model.specs.Journal.{past_of, IsLegal, IsLegalBackward}
-use Rattle.run_laws.proofs.ByTurn.{by_turn}
-use Rattle.run_laws.proofs.Cancels.{IsCancel, IsCancelKind, cancel_is}
-use Rattle.run_laws.proofs.Deeds.{Does}
-use Rattle.run_laws.proofs.Kept.{does_after, holds}
+use Rattle.run_laws.proofs.board.ByTurn.{by_turn}
+use Rattle.run_laws.proofs.told.Cancels.{IsCancel, IsCancelKind, cancel_is}
+use Rattle.run_laws.proofs.board.DeedFits.{Does}
+use Rattle.run_laws.proofs.board.Kept.{does_after, holds}
 use Rattle.run_count_laws.specs.RunStart.{run_start_in, run_start, is_begin, IsStartOf, TellsRunStart}
 
 -- the start of a run that an event tells, of none or one

@@ -11,7 +11,7 @@ use Rattle.run_model.specs.declared.dispatcher_view.Tally.{Tally}
 use Rattle.run_model.specs.Dispatch.{event}
 use Rattle.run_model.specs.Board.{with_cause}
 use Rattle.run_model.specs.Cancel.{is_above, cancelled_for, cancel_event}
-use Rattle.run_laws.proofs.Cancels.{cancel_for}
+use Rattle.run_laws.proofs.told.Cancels.{cancel_for}
 use Rattle.run_count_laws.specs.Moments.{SaysMoment}
 use Rattle.run_count_laws.proofs.OwnEvents.{SaysTally}
 

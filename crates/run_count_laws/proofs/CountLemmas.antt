@@ -16,10 +16,10 @@ use Rattle.run_model.specs.Dispatch.{having_told}
 use Rattle.run_model.specs.Board.{Board, Deed, board, with_cause}
 use Rattle.run_model.specs.Turns.{enabled, deed_on, happening}
 use Rattle.run_model.specs.Journal.{history, past_of, IsLegal, IsLegalBackward}
-use Rattle.run_laws.proofs.Boards.{counts, counts-more, board-steps}
-use Rattle.run_laws.proofs.Cancels.{IsCancel, cancel_is, cancel_tallied}
-use Rattle.run_laws.proofs.Deeds.{Does}
-use Rattle.run_laws.proofs.Kept.{HoldsAfter, does_after, IsOfRun, IsBeforeRuns, where_joins, holds}
+use Rattle.run_laws.proofs.board.Boards.{counts, counts-more, board-steps}
+use Rattle.run_laws.proofs.told.Cancels.{IsCancel, cancel_is, cancel_tallied}
+use Rattle.run_laws.proofs.board.DeedFits.{Does}
+use Rattle.run_laws.proofs.board.Kept.{HoldsAfter, does_after, IsOfRun, IsBeforeRuns, where_joins, holds}
 use Rattle.run_count_laws.specs.Moments.{SaysMoment}
 use Rattle.run_count_laws.specs.Counts.{SaysCounts, TellsCounts}
 use Rattle.run_count_laws.proofs.OwnEvents.{SaysTally, TellsBoard, own_tells}

@@ -19,9 +19,9 @@ use Rattle.run_model.specs.Journal.{history, IsLegalBackward}
 use Rattle.run_model.specs.Board.{board}
 use Rattle.run_model.specs.Turns.{enabled, happening, takes_turn, turn_of_unit}
 use Rattle.run_model.specs.Words.{is_on, is_over, sub_run, unit_of, units}
-use Rattle.run_laws.proofs.Kept.{HoldsAfter, does_after, IsOfRun, IsBeforeRuns, where_joins, holds}
-use Rattle.run_laws.proofs.OnBoard.{units-at, units-length}
-use Rattle.run_laws.proofs.Ordered.{board_over}
+use Rattle.run_laws.proofs.board.Kept.{HoldsAfter, does_after, IsOfRun, IsBeforeRuns, where_joins, holds}
+use Rattle.run_laws.proofs.board.OnBoard.{units-at, units-length}
+use Rattle.run_laws.proofs.board.Ordered.{board_over}
 use Rattle.run_count_laws.specs.Idle.{IsIdle}
 use Rattle.run_count_laws.proofs.IdleLemmas.{AreIdle, admits_first, get_within}
 

@@ -20,7 +20,7 @@ use Rattle.run_model.specs.Board.{Board, Deed}
 use Rattle.run_model.specs.Cancel.{Cause, cause_of, caused}
 use Rattle.run_model.specs.Turns.{enabled_on, takes_turn, turn_of_unit, admission, starting, answer_to, event_of}
 use Rattle.run_model.specs.Turns.{tally_with, delivered_as, delivery, done_by, deed_on}
-use Rattle.run_laws.proofs.ByTurn.{by_turn}
+use Rattle.run_laws.proofs.board.ByTurn.{by_turn}
 use Rattle.run_count_laws.specs.Moments.{SaysMoment}
 use Rattle.run_count_laws.specs.Counts.{running_said_in, running_said, scripts_said_in, scripts_said, stats_said_in}
 use Rattle.run_count_laws.specs.Counts.{stats_said}

@@ -22,7 +22,7 @@ use Rattle.run_admission.specs.InUse.{Admissions, admitted, admitted_as, candida
 use Rattle.run_admission.specs.InUse.{least_free, slot_in, tests}
 use Rattle.run_model.specs.declared.unit_view.UnitView.{UnitView}
 use Rattle.run_model.specs.Admission.{unit_of_test, group_slot, limits_of, Newcomer, newcomer}
-use Rattle.run_laws.proofs.Newcomers.{Becomes, Newcomes, ScriptComes, newcomer_is}
+use Rattle.run_laws.proofs.board.Newcomers.{Becomes, Newcomes, ScriptComes, newcomer_is}
 use Rattle.run_count_laws.specs.PlanLimits.{group_named, group_of_plan}
 
 -- a start has the slots of a test of the plan

@@ -31,12 +31,12 @@ use Rattle.run_model.specs.Cancel.{Cause, cause_of, caused}
 use Rattle.run_model.specs.Turns.{enabled_on, takes_turn, turn_of_unit, admission, starting, answer_to, event_of}
 use Rattle.run_model.specs.Turns.{tally_with, taken_by, delivered_as, delivery, done_by, deed_on}
 use Rattle.run_model.specs.Journal.{history, IsLegalBackward}
-use Rattle.run_laws.proofs.ByTurn.{by_turn}
-use Rattle.run_laws.proofs.Cancels.{IsCancel, IsCancelKind, cancel_is}
-use Rattle.run_laws.proofs.Deeds.{ToldFits, ToldFitsIn, IsInOrder, PartFits, IsSentAs, Does}
-use Rattle.run_laws.proofs.FaceLemmas.{said_in, SendsNoStart, row_sends_none}
-use Rattle.run_laws.proofs.Kept.{HoldsAfter, does_after, IsOfRun, IsBeforeRuns, where_joins, holds}
-use Rattle.run_laws.proofs.Rows.{takes_moment}
+use Rattle.run_laws.proofs.board.ByTurn.{by_turn}
+use Rattle.run_laws.proofs.told.Cancels.{IsCancel, IsCancelKind, cancel_is}
+use Rattle.run_laws.proofs.board.DeedFits.{ToldFits, ToldFitsIn, IsInOrder, PartFits, IsSentAs, Does}
+use Rattle.run_laws.proofs.units.FaceLemmas.{said_in, SendsNoStart, row_sends_none}
+use Rattle.run_laws.proofs.board.Kept.{HoldsAfter, does_after, IsOfRun, IsBeforeRuns, where_joins, holds}
+use Rattle.run_laws.proofs.units.Rows.{takes_moment}
 use Rattle.run_count_laws.proofs.SlotLemmas.{StartFits, MessageFits, newcomer_fits}
 
 -- the message of a unit that joins fits

@@ -7,7 +7,7 @@ use Rattle.run_events.specs.declared.events.ReporterEvent.{ReporterEvent}
 use Rattle.run_model.specs.declared.entry.Entry.{Entry}
 use Rattle.run_model.specs.Words.{sub_run, told}
 use Rattle.run_model.specs.Journal.{history, IsLegalBackward}
-use Rattle.run_laws.proofs.Limits.{limits}
+use Rattle.run_laws.proofs.board.Limits.{limits}
 use Rattle.run_count_laws.specs.PlanLimits.{KeepsPlanLimits, HasPlanSlots}
 use Rattle.run_count_laws.proofs.StartedLemmas.{EventFits, told_fit}
 use Rattle.run_count_laws.proofs.PlanLemmas.{keeps_plan, has_plan_slots}

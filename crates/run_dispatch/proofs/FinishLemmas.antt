@@ -25,9 +25,9 @@ use Rattle.run_model.specs.Board.{Deed, deed_events, dispatched, causes_after, w
 use Rattle.run_model.specs.Cancel.{Cause, caused, cancel_event, cancelled_for, is_above, failure_cause, too_many_failed}
 use Rattle.run_model.specs.Cancel.{script_cause, script_failed}
 use Rattle.run_model.specs.Dispatch.{event, having_told, finished_event}
-use Rattle.run_model.specs.Turns.{nothing_done}
+use Rattle.run_model.specs.Turns.{nothing_done, delivers, told_by, tally_by}
 use Rattle.run_model.specs.Words.{is_by_signal, is_by_report, is_by_time}
-use Rattle.run_dispatch.specs.Deeds.{Does, delivers, told_by, tally_by}
+use Rattle.run_dispatch.specs.Deeds.{Does}
 use Rattle.run_dispatch.specs.declared.effects.DispatchEffects.{DispatchEffects}
 
 -- no cause leaves the reason
@@ -204,7 +204,7 @@ pub finish_answers : {E : Type 0} (now : ℕ) (d new : DispatcherView) (finish :
       tally = with_cause (option_map (λ cause. cause.reason) cause) t;
       latest = now;
     })
-    → IfOk answer (Does now d (delivers now d (Finish finish)) None new)
+    → IfOk answer (Does now d (delivers now d (Finish finish) nothing_done) None new)
 finish_answers now d new finish t cause answer events counts tells why gives leaves =
     let all = tally_by now d (Finish finish) in
     let tells_all : events ≡ event now (finished_event finish all) ∷ [] = rw counts at tells in
@@ -226,7 +226,7 @@ pub script_answers : {E : Type 0} (now : ℕ) (d new : DispatcherView) (finish :
       tally = with_cause (option_map (λ cause. cause.reason) cause) t;
       latest = now;
     })
-    → IfOk answer (Does now d (delivers now d (ScriptFinished finish)) None new)
+    → IfOk answer (Does now d (delivers now d (ScriptFinished finish) nothing_done) None new)
 script_answers now d new finish t cause answer events counts tells why gives leaves =
     heeded_answers now d new (told_by now d (ScriptFinished finish)) (script_cause finish.status.result) t cause answer
     events (script_is finish.status.result) counts tells why gives leaves

@@ -12,21 +12,22 @@ use Rattle.run_model.specs.Cancel.{signal_cause, first_reason, shutdown_by}
 use Rattle.run_events.specs.declared.request.Request.TheVariants.{Shutdown}
 use Rattle.run_events.specs.declared.request.ShutdownRequest.TheVariants.{Twice}
 use Rattle.run_model.specs.Words.{is_by_signal, is_by_report, is_by_time}
-use Rattle.run_dispatch.specs.Deeds.{Does, cancels}
+use Rattle.run_model.specs.Turns.{cancels_for}
+use Rattle.run_dispatch.specs.Deeds.{Does}
 use Rattle.run_dispatch.specs.declared.effects.DispatchEffects.{DispatchEffects}
 use Rattle.run_dispatch.proofs.FinishLemmas.{cancel_counts}
 
 -- a cause alone
-cancelled : (now : ℕ) (d : DispatcherView) (cause : Cause) → dispatched now d (cancels now d cause)
+cancelled : (now : ℕ) (d : DispatcherView) (cause : Cause) → dispatched now d (cancels_for now d cause)
     ≡ record d {
-      causes = causes_after now d.rules d.causes (cancels now d cause);
+      causes = causes_after now d.rules d.causes (cancels_for now d cause);
       tally = with_cause (Some cause.reason) d.tally;
       latest = now;
     }
 cancelled now d cause =
     ap
     (λ u. record d {
-      causes = causes_after now d.rules d.causes (cancels now d cause);
+      causes = causes_after now d.rules d.causes (cancels_for now d cause);
       tally = with_cause (Some cause.reason) u;
       latest = now;
     })
@@ -58,7 +59,7 @@ signal_is n signal =
 
 -- a signal counts
 signalled : (now : ℕ) (d : DispatcherView) (signal : Signal)
-    → dispatched now d (cancels now d (signal_cause d.causes.signals signal))
+    → dispatched now d (cancels_for now d (signal_cause d.causes.signals signal))
     ≡ record d {
       causes = record d.causes { signals = d.causes.signals + 1 };
       tally = with_cause (Some (signal_cause d.causes.signals signal).reason) d.tally;
@@ -74,14 +75,14 @@ signalled now d signal =
 -- what a call gives and leaves that heard a signal, is what its deed does
 pub signal_does : (now : ℕ) (d left : DispatcherView) (signal : Signal) (cause : Cause) (fx : DispatchEffects)
     → cause ≡ signal_cause d.causes.signals signal
-    → fx ≡ record { events = deed_events (cancels now d cause); request = (cancels now d cause).request; go = None }
+    → fx ≡ record { events = deed_events (cancels_for now d cause); request = (cancels_for now d cause).request; go = None }
     → left ≡ record d { tally = with_cause (Some cause.reason) d.tally; latest = now }
-    → Does now d (cancels now d (signal_cause d.causes.signals signal)) None
+    → Does now d (cancels_for now d (signal_cause d.causes.signals signal)) None
     (record left { causes = record left.causes { signals = left.causes.signals + 1 } }) fx
 signal_does now d left signal cause fx is gives leaves =
     let all = signal_cause d.causes.signals signal in
     let gives_all : fx
-    ≡ record { events = deed_events (cancels now d all); request = (cancels now d all).request; go = None } =
+    ≡ record { events = deed_events (cancels_for now d all); request = (cancels_for now d all).request; go = None } =
     rw is at gives in
     let leaves_all : left ≡ record d { tally = with_cause (Some all.reason) d.tally; latest = now } =
     rw is at leaves in

@@ -3,5 +3,5 @@ use Rattle.std.specs.Prelude.{◌≤◌, IfSome}
 use Rattle.run_model.specs.declared.dispatcher_view.DispatcherView.{DispatcherView}
 
 -- the global timer was given no later moment than that of the latest turn
-abbrev pub IsCurrent : DispatcherView → Type 0
-IsCurrent d = IfSome d.causes.global (λ timer. timer.latest ≤ d.latest)
+abbrev pub IsTimerCurrent : DispatcherView → Type 0
+IsTimerCurrent d = IfSome d.causes.global (λ timer. timer.latest ≤ d.latest)

@@ -1,18 +1,16 @@
 // What a cause does.
-ghost use Rattle.std.specs.Prelude.{◌≡◌, ◌+◌, ◌<◌, ◌≤◌, ◌++◌, IfOk, IfSome, OnOk, OnErr, None, Some};
+ghost use Rattle.std.specs.Prelude.{◌≡◌, ◌+◌, ◌<◌, ◌≤◌, ◌++◌, IfOk, OnOk, OnErr, None, Some};
 ghost use Rattle.std.specs.Prelude.{option_map, option_to_list};
 ghost use Rattle.run_model.specs.Board.{deed_events, with_cause};
 ghost use Rattle.run_model.specs.Cancel.{is_above, cancelled_for, cancel_event, caused, signal_cause};
 ghost use Rattle.run_model.specs.Cancel.{time_is_up, event_refused};
 ghost use Rattle.run_model.specs.Dispatch.{shuts_down};
-ghost use Rattle.run_model.specs.Turns.{nothing_done};
-ghost use Rattle.run_model.specs.Unit.{is_due};
-ghost use Rattle.run_dispatch.specs.Deeds.{Does, cancels};
+ghost use Rattle.run_model.specs.Turns.{nothing_done, cancels_for};
+ghost use Rattle.run_dispatch.specs.Deeds.{Does};
 
 use crate::cause::Cause;
 use crate::effects::{DispatchEffects, Fx, event_at, telling};
 use run_capture::List;
-use run_clock::{PausableSleep, Poll};
 use run_events::{
     CancelReason, Heard, Hearing, ReporterEvent, RunCancelled, RunStats, Signal, TestEventKind,
     hears_signal,
@@ -28,17 +26,6 @@ pub fn shuts_down(hearing: &Hearing, signal: Signal) -> bool
         hears_signal(hearing.signals, hearing.quit_is_info, signal),
         Some(Heard::Shutdown)
     )
-}
-
-/// Whether a timer is set and fires now.
-pub fn is_due(timer: &Option<PausableSleep>, now: u64) -> bool
-    requires { IfSome timer.now (λ timer. timer.latest ≤ now) }
-    ensures { result ≡ is_due now timer.now }
-{
-    match timer {
-        Some(timer) => matches!(timer.poll_at(now), Poll::Ready(())),
-        None => false,
-    }
 }
 
 // Whether a reason is above the current one.
@@ -154,8 +141,8 @@ pub fn heed(
 // A cause alone: its reason is the run's where it is above the current one.
 fn cancel_for(alloc: Global, view: &mut DispatcherView, cause: &Cause, now: u64) -> Fx
     ensures told { IfOk result (λ fx. fx ≡ record {
-      events = deed_events (cancels now view.old cause.now);
-      request = (cancels now view.old cause.now).request;
+      events = deed_events (cancels_for now view.old cause.now);
+      request = (cancels_for now view.old cause.now).request;
       go = None;
     }) }
     ensures after { OnOk result (view.new ≡ record view.old {
@@ -174,7 +161,7 @@ fn cancel_for(alloc: Global, view: &mut DispatcherView, cause: &Cause, now: u64)
 pub fn hear_signal(alloc: Global, view: &mut DispatcherView, signal: Signal, now: u64) -> Fx
     requires few { view.old.causes.signals < 2 }
     ensures does { IfOk result
-        (Does now view.old (cancels now view.old (signal_cause view.old.causes.signals signal)) None view.new) }
+        (Does now view.old (cancels_for now view.old (signal_cause view.old.causes.signals signal)) None view.new) }
     ensures err { OnErr result (view.new ≡ view.old) }
 {
     let cause = Cause::signal(view.causes.signals, signal);
@@ -185,7 +172,7 @@ pub fn hear_signal(alloc: Global, view: &mut DispatcherView, signal: Signal, now
 
 /// The reporter refused an event.
 pub fn refuse(alloc: Global, view: &mut DispatcherView, now: u64) -> Fx
-    ensures does { IfOk result (Does now view.old (cancels now view.old event_refused) None view.new) }
+    ensures does { IfOk result (Does now view.old (cancels_for now view.old event_refused) None view.new) }
     ensures err { OnErr result (view.new ≡ view.old) }
 {
     let effects = cancel_for(alloc, view, &Cause::event_refused(), now)?;
@@ -195,7 +182,7 @@ pub fn refuse(alloc: Global, view: &mut DispatcherView, now: u64) -> Fx
 
 /// The sub-run has run out of its time.
 pub fn run_out(alloc: Global, view: &mut DispatcherView, now: u64) -> Fx
-    ensures does { IfOk result (Does now view.old (cancels now view.old time_is_up) None view.new) }
+    ensures does { IfOk result (Does now view.old (cancels_for now view.old time_is_up) None view.new) }
     ensures err { OnErr result (view.new ≡ view.old) }
 {
     let effects = cancel_for(alloc, view, &Cause::time_is_up(), now)?;

@@ -3,7 +3,8 @@ ghost use Rattle.std.specs.Prelude.{◌≡◌, ◌+◌, ◌<◌, ◌^◌, length
 ghost use Rattle.run_events.specs.Stats.{AreBelow};
 ghost use Rattle.run_events.specs.declared.message.Message.TheVariants as messages;
 ghost use Rattle.run_model.specs.Dispatch.{CanDeliver, go_of, event, finished_event};
-ghost use Rattle.run_dispatch.specs.Deeds.{Does, delivers};
+ghost use Rattle.run_model.specs.Turns.{nothing_done, delivers};
+ghost use Rattle.run_dispatch.specs.Deeds.{Does};
 
 use crate::cancel::heed;
 use crate::cause::Cause;
@@ -24,7 +25,7 @@ use std::alloc::Global;
 pub fn hear(alloc: Global, view: &mut DispatcherView, message: Message, now: u64) -> Fx
     requires fits { CanDeliver view.old message }
     ensures does { IfOk result
-        (Does now view.old (delivers now view.old message) (go_of view.old.tally message) view.new) }
+        (Does now view.old (delivers now view.old message nothing_done) (go_of view.old.tally message) view.new) }
     ensures err { OnErr result (view.new ≡ view.old) }
 {
     match message {
@@ -43,7 +44,7 @@ pub fn hear(alloc: Global, view: &mut DispatcherView, message: Message, now: u64
 // A start is told and let go, unless a reason cancels the run.
 fn hear_start(alloc: Global, view: &mut DispatcherView, start: TestStart, now: u64) -> Fx
     requires { view.old.tally.running + 1 < 2 ^ 32 }
-    ensures does { IfOk result (Does now view.old (delivers now view.old (messages.Start start))
+    ensures does { IfOk result (Does now view.old (delivers now view.old (messages.Start start) nothing_done)
         (go_of view.old.tally (messages.Start start)) view.new) }
     ensures err { OnErr result (view.new ≡ view.old) }
 {
@@ -64,7 +65,7 @@ fn hear_start(alloc: Global, view: &mut DispatcherView, start: TestStart, now: u
 }
 
 fn hear_slow(alloc: Global, view: &mut DispatcherView, slow: TestSlow, now: u64) -> Fx
-    ensures does { IfOk result (Does now view.old (delivers now view.old (messages.Slow slow))
+    ensures does { IfOk result (Does now view.old (delivers now view.old (messages.Slow slow) nothing_done)
         (go_of view.old.tally (messages.Slow slow)) view.new) }
     ensures err { OnErr result (view.new ≡ view.old) }
 {
@@ -75,7 +76,7 @@ fn hear_slow(alloc: Global, view: &mut DispatcherView, slow: TestSlow, now: u64)
 
 // The failure of an attempt that is tried again is told.
 fn hear_failed(alloc: Global, view: &mut DispatcherView, failed: AttemptFailed, now: u64) -> Fx
-    ensures does { IfOk result (Does now view.old (delivers now view.old (messages.AttemptFailed failed))
+    ensures does { IfOk result (Does now view.old (delivers now view.old (messages.AttemptFailed failed) nothing_done)
         (go_of view.old.tally (messages.AttemptFailed failed)) view.new) }
     ensures err { OnErr result (view.new ≡ view.old) }
 {
@@ -90,7 +91,7 @@ fn hear_failed(alloc: Global, view: &mut DispatcherView, failed: AttemptFailed, 
 
 // A retry is told and let go, unless a reason cancels the run.
 fn hear_retry(alloc: Global, view: &mut DispatcherView, retry: TestRetry, now: u64) -> Fx
-    ensures does { IfOk result (Does now view.old (delivers now view.old (messages.Retry retry))
+    ensures does { IfOk result (Does now view.old (delivers now view.old (messages.Retry retry) nothing_done)
         (go_of view.old.tally (messages.Retry retry)) view.new) }
     ensures err { OnErr result (view.new ≡ view.old) }
 {
@@ -109,7 +110,7 @@ fn hear_retry(alloc: Global, view: &mut DispatcherView, retry: TestRetry, now: u
 
 fn hear_skip(alloc: Global, view: &mut DispatcherView, skip: TestSkip, now: u64) -> Fx
     requires { view.old.tally.stats.skipped < 2 ^ 32 }
-    ensures does { IfOk result (Does now view.old (delivers now view.old (messages.Skip skip))
+    ensures does { IfOk result (Does now view.old (delivers now view.old (messages.Skip skip) nothing_done)
         (go_of view.old.tally (messages.Skip skip)) view.new) }
     ensures err { OnErr result (view.new ≡ view.old) }
 {
@@ -123,7 +124,7 @@ fn hear_finish(alloc: Global, view: &mut DispatcherView, finish: TestFinish, now
     requires counts { AreBelow (2 ^ 32) view.old.tally.stats }
     requires attempts { 0 < length finish.statuses }
     requires runs { 0 < view.old.tally.running }
-    ensures does { IfOk result (Does now view.old (delivers now view.old (messages.Finish finish))
+    ensures does { IfOk result (Does now view.old (delivers now view.old (messages.Finish finish) nothing_done)
         (go_of view.old.tally (messages.Finish finish)) view.new) }
     ensures err { OnErr result (view.new ≡ view.old) }
 {

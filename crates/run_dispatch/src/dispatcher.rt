@@ -2,18 +2,19 @@
 ghost use Rattle.std.specs.Prelude.{◌≡◌, ◌<◌, ◌≤◌, ◌^◌, IfOk, OnErr, None, true, false};
 ghost use Rattle.run_model.specs.Admission.{tests_in};
 ghost use Rattle.run_model.specs.Cancel.{time_is_up, event_refused, signal_cause};
-ghost use Rattle.run_model.specs.Dispatch.{head_of, unbegun, dispatch_takes, go_of, shuts_down, CanDeliver};
+ghost use Rattle.run_model.specs.Dispatch.{head_of, unbegun, dispatch_takes, go_of, is_third, shuts_down, CanDeliver};
 ghost use Rattle.run_model.specs.Words.{armed, time_limit};
-ghost use Rattle.run_dispatch.specs.Deeds.{Does, begins, ends, delivers, cancels};
-ghost use Rattle.run_dispatch.specs.Dispatch.{state_of, is_third};
+ghost use Rattle.run_model.specs.Turns.{nothing_done, begins_at, ends_at, delivers, cancels_for};
+ghost use Rattle.run_dispatch.specs.Deeds.{Does};
+ghost use Rattle.run_dispatch.specs.Dispatch.{state_of};
 
-use crate::cancel::{hear_signal, is_due, refuse, run_out, shuts_down};
+use crate::cancel::{hear_signal, refuse, run_out, shuts_down};
 use crate::deliver::hear;
 use crate::effects::{Fx, one_event, telling};
 use crate::tally::count_matched;
 use crate::view::DispatchState;
 use run_capture::{Duplicate, Mem};
-use run_clock::PausableSleep;
+use run_clock::{PausableSleep, fires_now};
 use run_events::{
     CancelReason, Message, RunFinished, RunFinishedStats, RunStarted, RunStats, Settings, Signal,
     TestEventKind, Turn,
@@ -30,13 +31,13 @@ pub struct Dispatcher {
 
 impl Model for Dispatcher {
     ghost use Rattle.run_model.specs.declared.dispatcher_view.DispatcherView.{DispatcherView};
-    ghost use Rattle.run_dispatch.specs.Timely.{IsCurrent};
+    ghost use Rattle.run_dispatch.specs.Timely.{IsTimerCurrent};
 
     ghost Value = { DispatcherView };
 
     ghost view = { λ d. d.view };
 
-    ghost invariant = { λ d. IsCurrent d.view };
+    ghost invariant = { λ d. IsTimerCurrent d.view };
 }
 
 // What is told of a run as it starts.
@@ -154,7 +155,7 @@ impl Dispatcher {
                     && shuts_down(&self.view.rules.hearing, *signal)
                     && self.view.causes.signals < 2
             }
-            Turn::GlobalDue => self.view.on && is_due(&self.view.causes.global, now),
+            Turn::GlobalDue => self.view.on && fires_now(&self.view.causes.global, now),
             Turn::ReportCancel => self.view.on && facts.refused && !self.view.causes.reported,
             Turn::End => self.view.on && facts.complete,
             _ => false,
@@ -181,7 +182,7 @@ impl Dispatcher {
     pub fn begin(&mut self, alloc: Global, now: u64) -> Fx
         requires idle { self.old.on ≡ false }
         requires later { self.old.latest ≤ now }
-        ensures does { IfOk result (Does now self.old (begins now self.old) None self.new) }
+        ensures does { IfOk result (Does now self.old (begins_at now self.old) None self.new) }
         ensures err { OnErr result (self.new ≡ self.old) }
     {
         let head = self.view.head.copy(alloc)?;
@@ -199,7 +200,7 @@ impl Dispatcher {
         requires fits { CanDeliver self.old message }
         requires later { self.old.latest ≤ now }
         ensures does { IfOk result
-            (Does now self.old (delivers now self.old message) (go_of self.old.tally message) self.new) }
+            (Does now self.old (delivers now self.old message nothing_done) (go_of self.old.tally message) self.new) }
         ensures err { OnErr result (self.new ≡ self.old) }
     {
         hear(alloc, &mut self.view, message, now)
@@ -212,7 +213,7 @@ impl Dispatcher {
         requires few { self.old.causes.signals < 2 }
         requires later { self.old.latest ≤ now }
         ensures does { IfOk result
-            (Does now self.old (cancels now self.old (signal_cause self.old.causes.signals signal)) None self.new) }
+            (Does now self.old (cancels_for now self.old (signal_cause self.old.causes.signals signal)) None self.new) }
         ensures err { OnErr result (self.new ≡ self.old) }
     {
         hear_signal(alloc, &mut self.view, signal, now)
@@ -221,7 +222,7 @@ impl Dispatcher {
     /// Cancels the run since the reporter refused an event.
     pub fn report_cancel(&mut self, alloc: Global, now: u64) -> Fx
         requires later { self.old.latest ≤ now }
-        ensures does { IfOk result (Does now self.old (cancels now self.old event_refused) None self.new) }
+        ensures does { IfOk result (Does now self.old (cancels_for now self.old event_refused) None self.new) }
         ensures err { OnErr result (self.new ≡ self.old) }
     {
         refuse(alloc, &mut self.view, now)
@@ -230,7 +231,7 @@ impl Dispatcher {
     /// Cancels the run since the sub-run has run out of its time.
     pub fn global_due(&mut self, alloc: Global, now: u64) -> Fx
         requires later { self.old.latest ≤ now }
-        ensures does { IfOk result (Does now self.old (cancels now self.old time_is_up) None self.new) }
+        ensures does { IfOk result (Does now self.old (cancels_for now self.old time_is_up) None self.new) }
         ensures err { OnErr result (self.new ≡ self.old) }
     {
         run_out(alloc, &mut self.view, now)
@@ -240,7 +241,7 @@ impl Dispatcher {
     pub fn end(&mut self, alloc: Global, now: u64) -> Fx
         requires on { self.old.on ≡ true }
         requires later { self.old.latest ≤ now }
-        ensures does { IfOk result (Does now self.old (ends now self.old) None self.new) }
+        ensures does { IfOk result (Does now self.old (ends_at now self.old) None self.new) }
         ensures err { OnErr result (self.new ≡ self.old) }
     {
         let kind = TestEventKind::RunFinished(RunFinished {

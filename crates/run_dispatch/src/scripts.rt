@@ -3,7 +3,8 @@ ghost use Rattle.std.specs.Prelude.{◌≡◌, ◌+◌, ◌<◌, ◌^◌, IfOk, 
 ghost use Rattle.run_events.specs.Stats.{AreBelow};
 ghost use Rattle.run_events.specs.declared.message.Message.TheVariants as messages;
 ghost use Rattle.run_model.specs.Dispatch.{go_of};
-ghost use Rattle.run_dispatch.specs.Deeds.{Does, delivers};
+ghost use Rattle.run_model.specs.Turns.{nothing_done, delivers};
+ghost use Rattle.run_dispatch.specs.Deeds.{Does};
 
 use crate::cancel::heed;
 use crate::cause::Cause;
@@ -22,7 +23,7 @@ pub fn hear_script_start(
     now: u64,
 ) -> Fx
     requires { view.old.tally.scripts_running + 1 < 2 ^ 32 }
-    ensures does { IfOk result (Does now view.old (delivers now view.old (messages.ScriptStart start))
+    ensures does { IfOk result (Does now view.old (delivers now view.old (messages.ScriptStart start) nothing_done)
         (go_of view.old.tally (messages.ScriptStart start)) view.new) }
     ensures err { OnErr result (view.new ≡ view.old) }
 {
@@ -38,7 +39,7 @@ pub fn hear_script_start(
 
 /// That a script is slow is told.
 pub fn hear_script_slow(alloc: Global, view: &mut DispatcherView, slow: ScriptSlow, now: u64) -> Fx
-    ensures does { IfOk result (Does now view.old (delivers now view.old (messages.ScriptSlow slow))
+    ensures does { IfOk result (Does now view.old (delivers now view.old (messages.ScriptSlow slow) nothing_done)
         (go_of view.old.tally (messages.ScriptSlow slow)) view.new) }
     ensures err { OnErr result (view.new ≡ view.old) }
 {
@@ -56,7 +57,7 @@ pub fn hear_script_finish(
 ) -> Fx
     requires counts { AreBelow (2 ^ 32) view.old.tally.stats }
     requires runs { 0 < view.old.tally.scripts_running }
-    ensures does { IfOk result (Does now view.old (delivers now view.old (messages.ScriptFinish finish))
+    ensures does { IfOk result (Does now view.old (delivers now view.old (messages.ScriptFinish finish) nothing_done)
         (go_of view.old.tally (messages.ScriptFinish finish)) view.new) }
     ensures err { OnErr result (view.new ≡ view.old) }
 {

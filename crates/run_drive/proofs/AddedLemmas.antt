@@ -7,19 +7,19 @@ use Rattle.run_events.specs.declared.turn.Turn.{Turn}
 use Rattle.run_events.specs.declared.turn.Turn.TheVariants as turns
 use Rattle.run_shared.specs.declared.shared.Receipt.{Receipt}
 use Rattle.run_drive.specs.Driven.{is_child_turn, OfTicker, child_turns, IsSublist}
-use Rattle.run_drive.specs.Added.{IsSettled, IsOf, Settles, Enters}
+use Rattle.run_drive.specs.Added.{IsSettled, IsOf, SettlesSome, Enters}
 use Rattle.run_drive.proofs.Sublists.{sub_append, child_turns-append, own_turn}
 use Rattle.run_drive.proofs.KindLemmas.{settled_quiet, settled_of_ticker, ticker_of}
 
 -- no receipt of a settled turn, and one more
-pub settles_none : (old : List Receipt) → Settles old old
+pub settles_none : (old : List Receipt) → SettlesSome old old
 settles_none old = record { mine = []; added = sym (append-nil old); kinds = All-nil IsSettled }
 
-pub settles_one : (old : List Receipt) (r : Receipt) → IsSettled r → Settles old (old ++ r ∷ [])
+pub settles_one : (old : List Receipt) (r : Receipt) → IsSettled r → SettlesSome old (old ++ r ∷ [])
 settles_one old r settled =
     record { mine = r ∷ []; added = refl; kinds = All-cons IsSettled r [] settled (All-nil IsSettled) }
 
-pub settles_more : (old now new : List Receipt) → Settles old now → Settles now new → Settles old new
+pub settles_more : (old now new : List Receipt) → SettlesSome old now → SettlesSome now new → SettlesSome old new
 settles_more old now new a b = record {
   mine = a.mine ++ b.mine;
   added = b.added ∙ ap (λ (rs : List Receipt). rs ++ b.mine) a.added ∙ append_assoc old a.mine b.mine;
@@ -38,7 +38,7 @@ enters_one old turn r same = record {
   own = subst (λ (t : Turn). IsSublist (filter is_child_turn (t ∷ [])) (turn ∷ [])) (sym same) (own_turn turn);
 }
 
-pub enters_more : (old now new : List Receipt) (turn : Turn) → Enters old turn now → Settles now new → Enters old turn new
+pub enters_more : (old now new : List Receipt) (turn : Turn) → Enters old turn now → SettlesSome now new → Enters old turn new
 enters_more old now new turn e s = record {
   mine = e.mine ++ s.mine;
   added = s.added ∙ ap (λ (rs : List Receipt). rs ++ s.mine) e.added ∙ append_assoc old e.mine s.mine;
@@ -51,7 +51,7 @@ enters_more old now new turn e s = record {
 }
 
 -- the ticker's receipts
-pub ticks_settled : (new : List Receipt) → Settles [] new → All OfTicker new
+pub ticks_settled : (new : List Receipt) → SettlesSome [] new → All OfTicker new
 ticks_settled new s =
     subst (All OfTicker) (sym s.added) (All-weaker IsSettled OfTicker settled_of_ticker s.mine s.kinds)
 

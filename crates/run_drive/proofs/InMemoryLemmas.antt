@@ -14,10 +14,10 @@ use Rattle.run_drive.specs.declared.spawner.Said.{Said}
 use Rattle.run_drive.specs.declared.spawner.Said.TheVariants.{WaitFailed}
 use Rattle.run_drive.specs.declared.spawner.Heard.{Heard}
 use Rattle.run_drive.specs.declared.spawner.Heard.TheVariants.{Asked, Spoke}
-use Rattle.run_drive.specs.InMemory.{IsGiven, IsFed, last_word, answers_in, words_in}
+use Rattle.run_drive.specs.InMemory.{WereGiven, IsFed, silent_text, answers_in, words_in}
 
 -- nothing was given out
-given_none : {X : Type 0} (items : List X) (last : X) → IsGiven items last 0 []
+given_none : {X : Type 0} (items : List X) (last : X) → WereGiven items last 0 []
 given_none items last = record { each = λ k below. absurd (omega (arith, below)); place = omega arith }
 
 -- past the end
@@ -39,7 +39,7 @@ given_last items last at many place = by_cases (cases_lt many (length items))
         get_or_past items at last (omega (arith, place, past)) ∙ sym (get_or_past items many last past)
 
 given_item : {X : Type 0} (items : List X) (last : X) (at : ℕ) (given : List X) (item : X) (k : ℕ)
-    → IsGiven items last at given → get_or items at last ≡ item → k < length (given ++ item ∷ [])
+    → WereGiven items last at given → get_or items at last ≡ item → k < length (given ++ item ∷ [])
     → get_or (given ++ item ∷ []) k last ≡ get_or items k last
 given_item items last at given item k g same below = by_cases (cases_lt k (length given))
   where
@@ -55,14 +55,14 @@ given_item items last at given item k g same below = by_cases (cases_lt k (lengt
 
 -- one item more, where the list goes on, and where it is at its end
 given_some : {X : Type 0} (items : List X) (last : X) (at : ℕ) (given : List X) (item : X)
-    → Some item ≡ slice_get items at → IsGiven items last at given → IsGiven items last (at + 1) (given ++ item ∷ [])
+    → Some item ≡ slice_get items at → WereGiven items last at given → WereGiven items last (at + 1) (given ++ item ∷ [])
 given_some items last at given item is g = record {
   each = λ k below. given_item items last at given item k g (get_or_from_slice_get items at item last (sym is)) below;
   place = omega (arith, g.place, slice_get_within items at item (sym is), length-append given (item ∷ []));
 }
 
 given_past : {X : Type 0} (items : List X) (last : X) (at : ℕ) (given : List X)
-    → None ≡ slice_get items at → IsGiven items last at given → IsGiven items last at (given ++ last ∷ [])
+    → None ≡ slice_get items at → WereGiven items last at given → WereGiven items last at (given ++ last ∷ [])
 given_past items last at given none g = record {
   each = λ k below. given_item items last at given last k g (get_or_past items at last (past_of items at last none)) below;
   place = omega (arith, g.place, past_of items at last none, length-append given (last ∷ []));
@@ -94,16 +94,16 @@ words_spoke (Spoke w ∷ heard) said = ap (λ (ws : List Said). w ∷ ws) (words
 -- a spawner at the front of its lists
 pub fed_none : (begun : List Begun) (said : List Said) → IsFed begun 0 said 0 []
 fed_none begun said =
-    record { answers = given_none begun (Refused last_word); words = given_none said (WaitFailed last_word) }
+    record { answers = given_none begun (Refused silent_text); words = given_none said (WaitFailed silent_text) }
 
 -- one answer more, from the list and past its end
 fed_asked : (begun : List Begun) (at : ℕ) (said : List Said) (said_at : ℕ) (heard : List Heard) (start : StartAsk)
-    (b : Begun) → IsGiven begun (Refused last_word) at (answers_in heard ++ b ∷ [])
-    → IsGiven said (WaitFailed last_word) said_at (words_in heard)
+    (b : Begun) → WereGiven begun (Refused silent_text) at (answers_in heard ++ b ∷ [])
+    → WereGiven said (WaitFailed silent_text) said_at (words_in heard)
     → IsFed begun at said said_at (heard ++ Asked start b ∷ [])
 fed_asked begun at said said_at heard start b given words = record {
-  answers = subst (IsGiven begun (Refused last_word) at) (sym (answers_asked heard start b)) given;
-  words = subst (IsGiven said (WaitFailed last_word) said_at) (sym (words_asked heard start b)) words;
+  answers = subst (WereGiven begun (Refused silent_text) at) (sym (answers_asked heard start b)) given;
+  words = subst (WereGiven said (WaitFailed silent_text) said_at) (sym (words_asked heard start b)) words;
 }
 
 pub fed_begun : (begun now : List Begun) (at next : ℕ) (said : List Said) (said_at : ℕ) (found : Option Begun)
@@ -113,19 +113,19 @@ pub fed_begun : (begun now : List Begun) (at next : ℕ) (said : List Said) (sai
 fed_begun begun now at next said said_at found start b is from some same heard f =
     let more =
     fed_asked begun (at + 1) said said_at heard start b
-    (given_some begun (Refused last_word) at (answers_in heard) b (sym is ∙ from) f.answers) f.words in
+    (given_some begun (Refused silent_text) at (answers_in heard) b (sym is ∙ from) f.answers) f.words in
     subst (λ (bs : List Begun). IsFed bs next said said_at (heard ++ Asked start b ∷ [])) (sym same)
     (subst (λ (n : ℕ). IsFed begun n said said_at (heard ++ Asked start b ∷ [])) (sym (some (subst IsSome (sym is) refl)))
     more)
 
 pub fed_refused : (begun now : List Begun) (at next : ℕ) (said : List Said) (said_at : ℕ) (found : Option Begun)
     (start : StartAsk) (text : List ℕ) → found ≡ None → found ≡ slice_get begun at → (IsNone found → next ≡ at)
-    → now ≡ begun → text ≡ last_word → (heard : List Heard) → IsFed begun at said said_at heard
+    → now ≡ begun → text ≡ silent_text → (heard : List Heard) → IsFed begun at said said_at heard
     → IsFed now next said said_at (heard ++ Asked start (Refused text) ∷ [])
 fed_refused begun now at next said said_at found start text is from none same last heard f =
     let more =
-    fed_asked begun at said said_at heard start (Refused last_word)
-    (given_past begun (Refused last_word) at (answers_in heard) (sym is ∙ from) f.answers) f.words in
+    fed_asked begun at said said_at heard start (Refused silent_text)
+    (given_past begun (Refused silent_text) at (answers_in heard) (sym is ∙ from) f.answers) f.words in
     subst (λ (bs : List Begun). IsFed bs next said said_at (heard ++ Asked start (Refused text) ∷ [])) (sym same)
     (subst (λ (n : ℕ). IsFed begun n said said_at (heard ++ Asked start (Refused text) ∷ []))
     (sym (none (subst IsNone (sym is) refl)))
@@ -133,12 +133,12 @@ fed_refused begun now at next said said_at found start text is from none same la
 
 -- one word more, from the list and past its end
 fed_spoke : (begun : List Begun) (begun_at : ℕ) (said : List Said) (at : ℕ) (heard : List Heard) (w : Said)
-    → IsGiven begun (Refused last_word) begun_at (answers_in heard)
-    → IsGiven said (WaitFailed last_word) at (words_in heard ++ w ∷ [])
+    → WereGiven begun (Refused silent_text) begun_at (answers_in heard)
+    → WereGiven said (WaitFailed silent_text) at (words_in heard ++ w ∷ [])
     → IsFed begun begun_at said at (heard ++ Spoke w ∷ [])
 fed_spoke begun begun_at said at heard w answers given = record {
-  answers = subst (IsGiven begun (Refused last_word) begun_at) (sym (answers_spoke heard w)) answers;
-  words = subst (IsGiven said (WaitFailed last_word) at) (sym (words_spoke heard w)) given;
+  answers = subst (WereGiven begun (Refused silent_text) begun_at) (sym (answers_spoke heard w)) answers;
+  words = subst (WereGiven said (WaitFailed silent_text) at) (sym (words_spoke heard w)) given;
 }
 
 pub fed_said : (begun : List Begun) (begun_at : ℕ) (said now : List Said) (at next : ℕ) (found : Option Said) (w : Said)
@@ -147,19 +147,19 @@ pub fed_said : (begun : List Begun) (begun_at : ℕ) (said now : List Said) (at 
 fed_said begun begun_at said now at next found w is from some same heard f =
     let more =
     fed_spoke begun begun_at said (at + 1) heard w f.answers
-    (given_some said (WaitFailed last_word) at (words_in heard) w (sym is ∙ from) f.words) in
+    (given_some said (WaitFailed silent_text) at (words_in heard) w (sym is ∙ from) f.words) in
     subst (λ (ws : List Said). IsFed begun begun_at ws next (heard ++ Spoke w ∷ [])) (sym same)
     (subst (λ (n : ℕ). IsFed begun begun_at said n (heard ++ Spoke w ∷ [])) (sym (some (subst IsSome (sym is) refl)))
     more)
 
 pub fed_failed : (begun : List Begun) (begun_at : ℕ) (said now : List Said) (at next : ℕ) (found : Option Said)
     (text : List ℕ) → found ≡ None → found ≡ slice_get said at → (IsNone found → next ≡ at) → now ≡ said
-    → text ≡ last_word → (heard : List Heard) → IsFed begun begun_at said at heard
+    → text ≡ silent_text → (heard : List Heard) → IsFed begun begun_at said at heard
     → IsFed begun begun_at now next (heard ++ Spoke (WaitFailed text) ∷ [])
 fed_failed begun begun_at said now at next found text is from none same last heard f =
     let more =
-    fed_spoke begun begun_at said at heard (WaitFailed last_word) f.answers
-    (given_past said (WaitFailed last_word) at (words_in heard) (sym is ∙ from) f.words) in
+    fed_spoke begun begun_at said at heard (WaitFailed silent_text) f.answers
+    (given_past said (WaitFailed silent_text) at (words_in heard) (sym is ∙ from) f.words) in
     subst (λ (ws : List Said). IsFed begun begun_at ws next (heard ++ Spoke (WaitFailed text) ∷ [])) (sym same)
     (subst (λ (n : ℕ). IsFed begun begun_at said n (heard ++ Spoke (WaitFailed text) ∷ []))
     (sym (none (subst IsNone (sym is) refl)))

@@ -15,7 +15,7 @@ abbrev pub IsOf : Turn → Receipt → Type 0
 IsOf turn r = (r.turn ≡ turn) ⊎ IsSettled r
 
 -- receipts of settled turns were added
-pub record Settles (old new : List Receipt) : Type 0 where
+pub record SettlesSome (old new : List Receipt) : Type 0 where
   pub mine : List Receipt
   pub added : new ≡ old ++ mine
   pub kinds : All IsSettled mine

@@ -8,8 +8,8 @@ use Rattle.run_drive.specs.declared.spawner.Heard.{Heard}
 use Rattle.run_drive.specs.declared.spawner.Heard.TheVariants.{Asked, Spoke}
 
 -- the text of a spawner that has nothing left
-abbrev pub last_word : List ℕ
-last_word = codes "end"
+abbrev pub silent_text : List ℕ
+silent_text = codes "end"
 
 -- how the starts of a list were answered, and what was said in it
 abbrev pub answers_in : List Heard → List Begun
@@ -23,11 +23,11 @@ words_in (Asked start begun ∷ rest) = words_in rest
 words_in (Spoke said ∷ rest) = said ∷ words_in rest
 
 -- these items were given out: those of a list from the front, then the last one again and again; the list is at this place
-pub record IsGiven {X : Type 0} (items : List X) (last : X) (at : ℕ) (given : List X) : Type 0 where
+pub record WereGiven {X : Type 0} (items : List X) (last : X) (at : ℕ) (given : List X) : Type 0 where
   pub each : (k : ℕ) → k < length given → slice_index_or given k last ≡ slice_index_or items k last
   pub place : at ≡ min (length given) (length items)
 
 -- a spawner that answers and says these lists, at these places, was asked and has said this
 pub record IsFed (begun : List Begun) (begun_at : ℕ) (said : List Said) (said_at : ℕ) (heard : List Heard) : Type 0 where
-  pub answers : IsGiven begun (Refused last_word) begun_at (answers_in heard)
-  pub words : IsGiven said (WaitFailed last_word) said_at (words_in heard)
+  pub answers : WereGiven begun (Refused silent_text) begun_at (answers_in heard)
+  pub words : WereGiven said (WaitFailed silent_text) said_at (words_in heard)

@@ -1,6 +1,6 @@
 // A spawner whose answers are given.
 ghost use Rattle.std.specs.Prelude.{◌≡◌, List as Items, [], ◌∷◌, ◌++◌, IfOk, OnErr};
-ghost use Rattle.run_drive.specs.InMemory.{IsFed, last_word};
+ghost use Rattle.run_drive.specs.InMemory.{IsFed, silent_text};
 
 use crate::given::Given;
 use crate::{Begun, Said, Spawner};
@@ -19,7 +19,7 @@ pub struct MemorySpawner {
 }
 
 fn last_word(alloc: Global) -> Mem<Text>
-    ensures { IfOk result (λ text. text ≡ last_word) }
+    ensures { IfOk result (λ text. text ≡ silent_text) }
 {
     Text::from_str(alloc, LAST_WORD)
 }

@@ -2,7 +2,7 @@
 ghost use Rattle.std.specs.Prelude.{◌≡◌, ◌<◌, ◌+◌, length, IfOk, OnOk};
 ghost use Rattle.std.specs.List.{All};
 ghost use Rattle.run_drive.specs.Driven.{OfTicker};
-ghost use Rattle.run_drive.specs.Added.{Settles, Enters};
+ghost use Rattle.run_drive.specs.Added.{SettlesSome, Enters};
 
 use run_capture::{List, Mem, OutOfMemory};
 use run_engine::StepError;
@@ -49,7 +49,7 @@ fn settle_one<X: Wait, L: Ledger, R: Reporter>(
     receipts: &mut List<Receipt>,
 ) -> Mem<Answer>
     requires { 0 < share.old.parts }
-    ensures settles { OnOk result (Settles receipts.old receipts.new) }
+    ensures settles { OnOk result (SettlesSome receipts.old receipts.new) }
     ensures counted { OnOk result
         (share.new.amount + length receipts.old ≡ share.old.amount + length receipts.new) }
     ensures parts { share.new.parts ≡ share.old.parts }
@@ -73,7 +73,7 @@ fn settle_all<X: Wait, L: Ledger, R: Reporter>(
     receipts: &mut List<Receipt>,
 ) -> Mem<bool>
     requires { 0 < share.old.parts }
-    ensures settles { OnOk result (Settles receipts.old receipts.new) }
+    ensures settles { OnOk result (SettlesSome receipts.old receipts.new) }
     ensures counted { OnOk result
         (share.new.amount + length receipts.old ≡ share.old.amount + length receipts.new) }
     ensures parts { share.new.parts ≡ share.old.parts }

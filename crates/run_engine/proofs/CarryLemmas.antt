@@ -13,15 +13,15 @@ use Rattle.run_model.specs.Board.{Board, board, step, answered, deed_events}
 use Rattle.run_model.specs.Turns.{enabled, turn_of_unit, deed_on, happening}
 use Rattle.run_model.specs.Journal.{past_of}
 use Rattle.run_laws.specs.Ready.{CanAdvance}
-use Rattle.run_laws.proofs.Boards.{board-steps}
-use Rattle.run_laws.proofs.Ready.{ready_after}
-use Rattle.run_state.specs.Held.{Held, IsSeated, held}
+use Rattle.run_laws.proofs.board.Boards.{board-steps}
+use Rattle.run_laws.proofs.board.Ready.{ready_after}
+use Rattle.run_state.specs.Held.{Held, KeepsSeats, held}
 use Rattle.run_engine.specs.Standing.{IsRunnable, unbroken}
 use Rattle.run_engine.specs.World.{Outside, entry_of, TellsEvents, CountsErrors, TakesTurn}
 use Rattle.run_engine.proofs.JournalLemmas.{past_of-push, legal-push}
 
 -- a state that is seated is that of its board
-pub held-is : (p : Settings) (h : Held) (b : Board) → IsSeated p h → h.board ≡ b → h ≡ held p b
+pub held-is : (p : Settings) (h : Held) (b : Board) → KeepsSeats p h → h.board ≡ b → h ≡ held p b
 held-is p h b seated e = ap (λ l. record { board = h.board; limits = l }) seated ∙ ap (held p) e
 
 -- an enabled turn can be taken

@@ -12,9 +12,9 @@ use Rattle.run_model.specs.declared.entry.Entry.{Entry}
 use Rattle.run_model.specs.Words.{sub_run, stats}
 use Rattle.run_model.specs.Journal.{past_of, IsLegal}
 use Rattle.run_laws.specs.Course.{AreAnswersOf, refuses_none, none_refused, Stops, GoesOn, Ends, HasOneCourse}
-use Rattle.run_laws.proofs.Courses.{one_course, unrefused}
-use Rattle.run_laws.proofs.Outcomes.{over_outcome}
-use Rattle.run_laws.proofs.FateLemmas.{ended_fates, over_ended}
+use Rattle.run_laws.proofs.board.Courses.{one_course, unrefused}
+use Rattle.run_laws.proofs.told.Outcomes.{over_outcome}
+use Rattle.run_laws.proofs.told.FateLemmas.{ended_fates, over_ended}
 use Rattle.run_engine.specs.World.{Outside, CountsErrors}
 use Rattle.run_engine.specs.Execution.{IsAnswerOf, IsRefusedAt, stopped_at, AnswersCourse, UnlessMemory, Carries, Executes}
 use Rattle.run_engine.specs.declared.errors.TestRunnerExecuteErrors.{TestRunnerExecuteErrors}

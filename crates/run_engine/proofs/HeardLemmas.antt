@@ -8,7 +8,7 @@ use Rattle.run_events.specs.declared.events.ReporterEvent.{ReporterEvent}
 use Rattle.run_model.specs.declared.entry.Entry.{Entry}
 use Rattle.run_model.specs.Words.{answers, asked, events_in}
 use Rattle.std.specs.Result.{IfOk, IfErr, OnErr, IsErrOf}
-use Rattle.run_engine.specs.World.{World, Breaks, Outside, outside, flagged, TakesTurn, entry_of, next_of, history_of}
+use Rattle.run_engine.specs.World.{World, Breaks, Outside, outside, flagged, TakesTurn, entry_of, next_happening, history_of}
 use Rattle.run_engine.specs.Broken.{BreaksOff}
 use Rattle.run_engine.specs.Heard.{IsHeard}
 use Rattle.run_engine.specs.Refused.{IfNotMemory}

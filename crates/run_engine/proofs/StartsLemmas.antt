@@ -16,35 +16,35 @@ use Rattle.run_events.specs.declared.turn.Turn.{Turn}
 use Rattle.run_state.specs.Held.{Held, held}
 use Rattle.run_engine.specs.World.{entry_of, World}
 use Rattle.run_model.specs.Journal.{past_of}
-use Rattle.run_laws.proofs.Ready.{past_of-length}
-use Rattle.run_engine.specs.Starts.{start_in, starts_in, starts_of, AreClaimed}
+use Rattle.run_laws.proofs.board.Ready.{past_of-length}
+use Rattle.run_engine.specs.Starts.{start_among, starts_among, starts_of, AreClaimed}
 use Rattle.run_engine.proofs.TakesLemmas.{asked-push}
 
-starts-append : (xs ys : List (ℕ × Ask)) → starts_in (xs ++ ys) ≡ starts_in xs ++ starts_in ys
+starts-append : (xs ys : List (ℕ × Ask)) → starts_among (xs ++ ys) ≡ starts_among xs ++ starts_among ys
 starts-append [] ys = refl
-starts-append (x ∷ xs) ys = ap (λ s. start_in (Some x.1) ++ s) (starts-append xs ys)
-    ∙ sym (append_assoc (start_in (Some x.1)) (starts_in xs) (starts_in ys))
+starts-append (x ∷ xs) ys = ap (λ s. start_among (Some x.1) ++ s) (starts-append xs ys)
+    ∙ sym (append_assoc (start_among (Some x.1)) (starts_among xs) (starts_among ys))
 
 starts-placed : (place : ℕ) (q : Option Ask)
-    → starts_in (map (λ ask. (place, ask)) (option_to_list q)) ≡ start_in q
+    → starts_among (map (λ ask. (place, ask)) (option_to_list q)) ≡ start_among q
 starts-placed place None = refl
-starts-placed place (Some ask) = append-nil (start_in (Some ask))
+starts-placed place (Some ask) = append-nil (start_among (Some ask))
 
 -- the starts of a journal with one more entry
 pub starts-push : (p : Settings) (journal : List Entry) (e : Entry)
-    → starts_of p (journal ++ e ∷ []) ≡ starts_of p journal ++ start_in (happening p (past_of p journal) e).asked
+    → starts_of p (journal ++ e ∷ []) ≡ starts_of p journal ++ start_among (happening p (past_of p journal) e).asked
 starts-push p journal e =
-    ap starts_in (asked-push p journal e)
+    ap starts_among (asked-push p journal e)
     ∙ starts-append (asked (past_of p journal)) _
     ∙ ap (λ s. starts_of p journal ++ s) (starts-placed (length journal) (happening p (past_of p journal) e).asked)
 
-one-start : (q : Option Ask) → length (start_in q) ≤ 1
+one-start : (q : Option Ask) → length (start_among q) ≤ 1
 one-start None = omega arith
 one-start (Some (Start start)) = omega arith
 one-start (Some (Signal signal)) = omega arith
 one-start (Some StopSelf) = omega arith
 
-starts-few : (past : List Happening) → length (starts_in (asked past)) ≤ length past
+starts-few : (past : List Happening) → length (starts_among (asked past)) ≤ length past
 starts-few [] = omega arith
 starts-few (x ∷ past) = omega (
   arith,
@@ -52,7 +52,7 @@ starts-few (x ∷ past) = omega (
   one-start x.asked,
   ap length (starts-append (asked past) (map (λ ask. (length past, ask)) (option_to_list x.asked))),
   ap length (starts-placed (length past) x.asked),
-  length-append (starts_in (asked past)) (starts_in (map (λ ask. (length past, ask)) (option_to_list x.asked))),
+  length-append (starts_among (asked past)) (starts_among (map (λ ask. (length past, ask)) (option_to_list x.asked))),
 )
 
 -- a journal asks no more starts than it has turns
@@ -62,10 +62,10 @@ starts-fit p journal = omega (arith, starts-few (past_of p journal), past_of-len
 -- one more start that waits comes last
 pub claims-push : (p : Settings) (journal : List Entry) (e : Entry) (waiting after : List StartAsk) (claimed : ℕ)
     → AreClaimed (starts_of p journal) waiting claimed
-    → after ≡ waiting ++ start_in (happening p (past_of p journal) e).asked
+    → after ≡ waiting ++ start_among (happening p (past_of p journal) e).asked
     → AreClaimed (starts_of p (journal ++ e ∷ [])) after claimed
 claims-push p journal e waiting after claimed c grown =
-    let new = start_in (happening p (past_of p journal) e).asked in
+    let new = start_among (happening p (past_of p journal) e).asked in
     let pushed = starts-push p journal e in
     record {
       few = omega (arith, c.few, ap length pushed, length-append (starts_of p journal) new);
@@ -108,15 +108,15 @@ claims-none starts waiting claimed c is =
 pub claims_next : (p q : Settings) (journal after : List Entry) (state : Held) (turn : Turn) (refused : List Bool)
     (waiting starts : List StartAsk) (claimed : ℕ) → p ≡ q → AreClaimed (starts_of q journal) waiting claimed
     → state ≡ held q (board q (past_of q journal))
-    → starts ≡ waiting ++ start_in (deed_on p state.board turn).asked
+    → starts ≡ waiting ++ start_among (deed_on p state.board turn).asked
     → after ≡ journal ++ entry_of turn refused ∷ [] → AreClaimed (starts_of p after) starts claimed
 claims_next p q journal after state turn refused waiting starts claimed same c st =
-    subst (λ p. starts ≡ waiting ++ start_in (deed_on p state.board turn).asked
+    subst (λ p. starts ≡ waiting ++ start_among (deed_on p state.board turn).asked
     → after ≡ journal ++ entry_of turn refused ∷ [] → AreClaimed (starts_of p after) starts claimed)
     (sym same)
     (λ grown more. subst (λ j. AreClaimed (starts_of q j) starts claimed) (sym more)
     (claims-push q journal (entry_of turn refused) waiting starts claimed c
-    (grown ∙ ap (λ (h : Held). waiting ++ start_in (deed_on q h.board turn).asked) st)))
+    (grown ∙ ap (λ (h : Held). waiting ++ start_among (deed_on q h.board turn).asked) st)))
 
 pub claims-some : (starts waiting : List StartAsk) (claimed : ℕ) → AreClaimed starts waiting claimed
     → 0 < length waiting → is_some (slice_get starts claimed) ≡ true

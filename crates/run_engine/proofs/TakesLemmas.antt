@@ -20,8 +20,8 @@ use Rattle.run_engine.specs.Standing.{sound}
 use Rattle.run_laws.specs.Course.{turns_of, refusals, none_refused}
 use Rattle.run_engine.specs.Execution.{TakesTurns, StopsHere}
 use Rattle.run_engine.specs.Refused.{IsNotTaken}
-use Rattle.run_laws.proofs.Courses.{refusals-append}
-use Rattle.run_laws.proofs.Ready.{past_of-length}
+use Rattle.run_laws.proofs.board.Courses.{refusals-append}
+use Rattle.run_laws.proofs.board.Ready.{past_of-length}
 use Rattle.run_engine.proofs.JournalLemmas.{past_of-push, legal-push}
 
 -- the events of a journal with one more entry

@@ -39,13 +39,13 @@ abbrev pub count_of : TestThreads → ℕ
 count_of (Count threads) = threads
 
 -- whether output is captured
-abbrev pub is_captured : CaptureStrategy → Bool
-is_captured strategies.None = false
-is_captured _ = true
+abbrev pub captures_output : CaptureStrategy → Bool
+captures_output strategies.None = false
+captures_output _ = true
 
 -- how many threads a run has: those that were set, and one where none were set or no output is captured
 abbrev pub threads_of : Builder → ℕ
-threads_of builder = if is_captured builder.capture then unwrap_or builder.threads 1 else 1
+threads_of builder = if captures_output builder.capture then unwrap_or builder.threads 1 else 1
 
 -- the settings of a runner: what was set, and for what wasn't the usual
 abbrev pub settings_of : Builder → Plan → Settings

@@ -14,7 +14,7 @@ use Rattle.run_model.specs.Fates.{HaveFates}
 use Rattle.run_model.specs.Turns.{enabled}
 use Rattle.run_model.specs.Journal.{past_of, outcome}
 use Rattle.run_capture.specs.Faults.{Rose}
-use Rattle.run_laws.specs.Course.{turns_of, is_third, none_refused, AreAnswersOf, Stops, GoesOn, Ends}
+use Rattle.run_laws.specs.Course.{turns_of, is_third_after, none_refused, AreAnswersOf, Stops, GoesOn, Ends}
 use Rattle.run_engine.specs.World.{Outside, TellsEvents, CountsErrors}
 use Rattle.run_engine.specs.Standing.{IsRunnable}
 use Rattle.run_engine.specs.Broken.{RunsOut}
@@ -40,7 +40,7 @@ pub record TakesTurns {R E C : Type 0} (tells : R → List (ReporterEvent × Opt
 abbrev pub IsRefusedAt : Settings → List Turn → List Entry → ℕ → Bool → Type 0
 IsRefusedAt p turns journal place third = (turns_of journal ≡ take place turns) × ((turn : Turn)
     × (slice_get turns place ≡ Some turn) × (enabled p (past_of p journal) turn ≡ false)
-    × (is_third p (past_of p journal) turn ≡ third))
+    × (is_third_after p (past_of p journal) turn ≡ third))
 
 -- what each answer says of the turns given, the journal of the call and the reporter's first error
 abbrev pub IsAnswerOf : {E : Type 0} → Settings → List Turn → List Entry → Option E

@@ -4,7 +4,7 @@ use Rattle.run_events.specs.declared.turn.Turn.{Turn}
 use Rattle.run_events.specs.declared.settings.Settings.{Settings}
 use Rattle.run_model.specs.Board.{Board}
 use Rattle.run_model.specs.Turns.{enabled, enabled_on, is_third_signal}
-use Rattle.run_laws.specs.Course.{is_third}
+use Rattle.run_laws.specs.Course.{is_third_after}
 use Rattle.run_engine.specs.World.{World, history_of}
 use Rattle.run_engine.specs.declared.errors.StepError.{StepError}
 use Rattle.run_engine.specs.declared.errors.StepError.TheVariants.{NotEnabled, ThirdSignal, Full, OutOfMemory}
@@ -12,7 +12,7 @@ use Rattle.run_engine.specs.declared.errors.StepError.TheVariants.{NotEnabled, T
 -- a turn isn't enabled in a run, and is a third signal or not
 abbrev pub IsNotTaken : World → Turn → Bool → Type 0
 IsNotTaken w turn third = (enabled w.settings (history_of w) turn ≡ false)
-    × (is_third w.settings (history_of w) turn ≡ third)
+    × (is_third_after w.settings (history_of w) turn ≡ third)
 
 -- a turn is refused because the journal is full, or has room and the turn isn't enabled after it; want of memory has no
 -- cause here

@@ -9,18 +9,18 @@ use Rattle.run_model.specs.Words.{asked}
 use Rattle.run_model.specs.Journal.{past_of}
 
 -- the start among what a turn asks
-abbrev pub start_in : Option Ask → List StartAsk
-start_in (Some (Start start)) = start ∷ []
-start_in _ = []
+abbrev pub start_among : Option Ask → List StartAsk
+start_among (Some (Start start)) = start ∷ []
+start_among _ = []
 
 -- the starts among what was asked, in order
-abbrev pub starts_in : List (ℕ × Ask) → List StartAsk
-starts_in [] = []
-starts_in (x ∷ xs) = start_in (Some x.1) ++ starts_in xs
+abbrev pub starts_among : List (ℕ × Ask) → List StartAsk
+starts_among [] = []
+starts_among (x ∷ xs) = start_among (Some x.1) ++ starts_among xs
 
 -- the starts that the turns of a journal asked
 abbrev pub starts_of : Settings → List Entry → List StartAsk
-starts_of p journal = starts_in (asked (past_of p journal))
+starts_of p journal = starts_among (asked (past_of p journal))
 
 -- so many of the starts were claimed, the earliest first, and the rest waits
 pub record AreClaimed (starts waiting : List StartAsk) (claimed : ℕ) : Type 0 where

@@ -77,8 +77,8 @@ abbrev pub entry_of : Turn → List Bool → Entry
 entry_of turn refused = record { turn = turn; refused = refused }
 
 -- what a turn with these answers does after a run's history
-abbrev pub next_of : World → Turn → List Bool → Happening
-next_of w turn refused = happening w.settings (history_of w) (entry_of turn refused)
+abbrev pub next_happening : World → Turn → List Bool → Happening
+next_happening w turn refused = happening w.settings (history_of w) (entry_of turn refused)
 
 -- a run takes a turn: it was enabled, the journal grows by it and the reporter's answers, the reporter and the children
 -- are told and asked what the tables say, and the reporter's count of faults rose where it refused
@@ -87,12 +87,12 @@ pub record TakesTurn {R E C : Type 0} (tells : R → List (ReporterEvent × Opti
     : Type 0 where
   pub is_enabled : IsTrue (enabled old.settings (history_of old) turn)
   pub refused : List Bool
-  pub answered : length refused ≡ length (events_in (next_of old turn refused))
+  pub answered : length refused ≡ length (events_in (next_happening old turn refused))
   pub grown : new ≡ record old { journal = old.journal ++ entry_of turn refused ∷ [] }
   pub marked : is_none refusal ≡ list_all not refused
-  pub told : TellsEvents tells o.report o.report_after (zip (events_in (next_of old turn refused)) refused) refusal
+  pub told : TellsEvents tells o.report o.report_after (zip (events_in (next_happening old turn refused)) refused) refusal
   pub asked : Adds asks o.children o.children_after
-      (map (λ ask. (length old.journal, ask)) (option_to_list (next_of old turn refused).asked))
+      (map (λ ask. (length old.journal, ask)) (option_to_list (next_happening old turn refused).asked))
   pub counted : CountsErrors o.faults o.faults_after refusal
 
 -- a turn was refused: the run and the outside are as they were

@@ -6,21 +6,21 @@ ghost use Rattle.std.specs.Prelude.{ℕ, ◌||◌, nat_le, is_some, None, true, 
 ghost use Rattle.std.specs.VecDeque.{deque_len, deque_capacity};
 ghost use Rattle.std.specs.List.{list_all};
 ghost use Rattle.run_events.specs.Tell.{Adds};
-ghost use Rattle.run_laws.specs.Ready.{CanAdvance, IsTimely};
+ghost use Rattle.run_laws.specs.Ready.{CanAdvance, IsTimelyBoard};
 ghost use Rattle.run_model.specs.Journal.{past_of, IsLegal, outcome};
 ghost use Rattle.run_model.specs.Admission.{AreFew, units_in};
 ghost use Rattle.run_model.specs.Turns.{enabled, enabled_on, turn_of_unit, deed_on};
 ghost use Rattle.run_model.specs.Words.{is_over};
 ghost use Rattle.run_model.specs.Board.{board, step, answered, deed_events};
 ghost use Rattle.run_engine.specs.Broken.{TellsPart, BreaksOff};
-ghost use Rattle.run_engine.specs.Starts.{start_in, starts_of};
+ghost use Rattle.run_engine.specs.Starts.{start_among, starts_of};
 ghost use Rattle.run_engine.specs.Heard.{IsHeard};
 ghost use Rattle.run_engine.specs.Settling.{first_settled, Settles, IsUnsettled};
-ghost use Rattle.run_state.specs.Settle.{turn_by};
+ghost use Rattle.run_state.specs.Settle.{settled_turn};
 ghost use Rattle.run_events.specs.declared.turn.Turn.{Turn};
 ghost use Rattle.run_engine.specs.World.{TakesTurn, TellsEvents, CountsErrors, IsUntouched, Breaks, outside};
 ghost use Rattle.run_engine.specs.World.{history_of};
-ghost use Rattle.run_state.specs.Held.{IsSeated, held};
+ghost use Rattle.run_state.specs.Held.{KeepsSeats, held};
 ghost use Rattle.run_engine.specs.Standing.{IsRunnable, unbroken, sound};
 ghost use Rattle.run_engine.specs.Refused.{IsRefused, IsNotNamed, IfNotMemory};
 
@@ -48,9 +48,11 @@ fn say<C: Children, R: Reporter>(
         (map (λ ask. (place, ask)) (option_to_list effects.now.asked))) }
     ensures answered { IfOk result (λ t. length t.refused ≡ length effects.now.events) }
     ensures marked { IfOk result (λ t. is_none t.refusal ≡ list_all not t.refused) }
-    ensures told { IfOk result (λ t. TellsEvents R.told report.old report.new (zip effects.now.events t.refused)
+    ensures told { IfOk result (λ t. TellsEvents R.told report.old report.new
+        (zip effects.now.events t.refused)
         t.refusal) }
-    ensures faults { IfOk result (λ t. CountsErrors (R.faults report.old) (R.faults report.new) t.refusal) }
+    ensures faults { IfOk result (λ t. CountsErrors (R.faults report.old) (R.faults report.new)
+        t.refusal) }
 {
     ask(alloc, children, place, &effects.asked)?;
     let told = tell(alloc, report, effects.events.as_slice())?;
@@ -60,7 +62,7 @@ fn say<C: Children, R: Reporter>(
 // Keeps the start that a turn asked, for who claims it.
 fn keep(starts: &mut VecDeque<StartAsk>, effects: Effects)
     requires { deque_len starts.old < deque_capacity starts.old }
-    ensures { starts.new.items ≡ starts.old.items ++ start_in effects.asked }
+    ensures { starts.new.items ≡ starts.old.items ++ start_among effects.asked }
 {
     let Effects { events, asked } = effects;
     drop(events);
@@ -77,17 +79,20 @@ fn send<C: Children, R: Reporter>(
     report: &mut R,
 ) -> Mem<Told<R::Error>>
     requires room { deque_len starts.old < deque_capacity starts.old }
-    ensures waits { OnOk result (starts.new.items ≡ starts.old.items ++ start_in effects.asked) }
+    ensures waits { OnOk result (starts.new.items ≡ starts.old.items ++ start_among effects.asked) }
     ensures kept { OnErr result (starts.new.items ≡ starts.old.items) }
     ensures part { OnErr result (TellsPart R.told C.asked
-        (outside R.faults report.old report.new children.old children.new) place effects.events effects.asked) }
+        (outside R.faults report.old report.new children.old children.new) place effects.events
+        effects.asked) }
     ensures asked { OnOk result (Adds C.asked children.old children.new
         (map (λ ask. (place, ask)) (option_to_list effects.asked))) }
     ensures answered { IfOk result (λ t. length t.refused ≡ length effects.events) }
     ensures marked { IfOk result (λ t. is_none t.refusal ≡ list_all not t.refused) }
-    ensures told { IfOk result (λ t. TellsEvents R.told report.old report.new (zip effects.events t.refused)
+    ensures told { IfOk result (λ t. TellsEvents R.told report.old report.new
+        (zip effects.events t.refused)
         t.refusal) }
-    ensures faults { IfOk result (λ t. CountsErrors (R.faults report.old) (R.faults report.new) t.refusal) }
+    ensures faults { IfOk result (λ t. CountsErrors (R.faults report.old) (R.faults report.new)
+        t.refusal) }
 {
     match say(alloc, place, &effects, children, report) {
         Ok(told) => {
@@ -131,12 +136,13 @@ fn act<C: Children, R: Reporter>(
 ) -> Mem<Told<R::Error>>
     requires named { named ≡ turn_of_unit turn.now }
     requires can { CanAdvance settings.now state.old.board turn.now (turn_of_unit turn.now) }
-    requires seated { IsSeated settings.now state.old }
+    requires seated { KeepsSeats settings.now state.old }
     requires few { AreFew settings.now }
     requires short { length journal.old.items < 2 ^ 32 }
     ensures after { IfOk result (λ t. state.new.board
-        ≡ answered (step state.old.board turn.now (deed_on settings.now state.old.board turn.now)) t.refused) }
-    ensures seated { OnOk result (IsSeated settings.now state.new) }
+        ≡ answered (step state.old.board turn.now (deed_on settings.now state.old.board turn.now))
+        t.refused) }
+    ensures seated { OnOk result (KeepsSeats settings.now state.new) }
     ensures asked { OnOk result (Adds C.asked children.old children.new
         (map (λ ask. (length journal.old.items, ask))
         (option_to_list (deed_on settings.now state.old.board turn.now).asked))) }
@@ -145,14 +151,16 @@ fn act<C: Children, R: Reporter>(
     ensures marked { IfOk result (λ t. is_none t.refusal ≡ list_all not t.refused) }
     ensures told { IfOk result (λ t. TellsEvents R.told report.old report.new
         (zip (deed_events (deed_on settings.now state.old.board turn.now)) t.refused) t.refusal) }
-    ensures faults { IfOk result (λ t. CountsErrors (R.faults report.old) (R.faults report.new) t.refusal) }
+    ensures faults { IfOk result (λ t. CountsErrors (R.faults report.old) (R.faults report.new)
+        t.refusal) }
     ensures same { journal.new.items ≡ journal.old.items }
     ensures room { OnOk result (vec_len journal.new < vec_capacity journal.new) }
     ensures waits { OnOk result (starts.new.items
-        ≡ starts.old.items ++ start_in (deed_on settings.now state.old.board turn.now).asked) }
+        ≡ starts.old.items ++ start_among (deed_on settings.now state.old.board turn.now).asked) }
     ensures kept { OnErr result (starts.new.items ≡ starts.old.items) }
     ensures part { OnErr result (TellsPart R.told C.asked
-        (outside R.faults report.old report.new children.old children.new) (length journal.old.items)
+        (outside R.faults report.old report.new children.old children.new)
+        (length journal.old.items)
         (deed_events (deed_on settings.now state.old.board turn.now))
         (deed_on settings.now state.old.board turn.now).asked) }
 {
@@ -181,21 +189,24 @@ pub(crate) fn carry_out<C: Children, R: Reporter>(
 ) -> Mem<Option<R::Error>>
     requires named { named ≡ turn_of_unit turn }
     requires runnable { IsRunnable settings.now journal.old.items }
-    requires stands { state.old ≡ held settings.now (board settings.now (past_of settings.now journal.old.items)) }
+    requires stands { state.old ≡ held settings.now
+        (board settings.now (past_of settings.now journal.old.items)) }
     requires enabled { enabled settings.now (past_of settings.now journal.old.items) turn ≡ true }
     requires room { length journal.old.items + 1 < 2 ^ 32 }
     ensures takes { IfOk result (λ refusal. (claimed : ℕ) → TakesTurn R.told C.asked
         (outside R.faults report.old report.new children.old children.new) turn
-        (unbroken settings.now journal.old.items claimed) (unbroken settings.now journal.new.items claimed) refusal) }
+        (unbroken settings.now journal.old.items claimed)
+        (unbroken settings.now journal.new.items claimed) refusal) }
     ensures runnable { OnOk result (IsRunnable settings.now journal.new.items) }
     ensures stands { OnOk result (state.new
         ≡ held settings.now (board settings.now (past_of settings.now journal.new.items))) }
     ensures waits { OnOk result (starts.new.items
-        ≡ starts.old.items ++ start_in (deed_on settings.now state.old.board turn).asked) }
+        ≡ starts.old.items ++ start_among (deed_on settings.now state.old.board turn).asked) }
     ensures err { OnErr result (journal.new.items ≡ journal.old.items) }
     ensures kept { OnErr result (starts.new.items ≡ starts.old.items) }
     ensures part { OnErr result (BreaksOff R.told C.asked
-        (outside R.faults report.old report.new children.old children.new) settings.now journal.old.items turn) }
+        (outside R.faults report.old report.new children.old children.new) settings.now
+        journal.old.items turn) }
 {
     match act(
         alloc, settings, state, journal, starts, &turn, named, children, report,
@@ -219,8 +230,8 @@ pub(crate) fn named_if_enabled(
     turn: &Turn,
 ) -> Result<Option<(u32, UnitTurn)>, StepError>
     requires whole { length state.now.board.units ≡ units_in settings.now }
-    requires seated { IsSeated settings.now state.now }
-    requires timely { IsTimely state.now.board }
+    requires seated { KeepsSeats settings.now state.now }
+    requires timely { IsTimelyBoard state.now.board }
     ensures named { IfOk result (λ named. named ≡ turn_of_unit turn.now) }
     ensures enabled { OnOk result (enabled_on settings.now state.now.board turn.now ≡ true) }
     ensures refused { IfErr result (IsNotNamed settings.now state.now.board turn.now) }

@@ -6,21 +6,21 @@ ghost use Rattle.std.specs.Prelude.{ℕ, ◌||◌, nat_le, is_some, None, true, 
 ghost use Rattle.std.specs.VecDeque.{deque_len, deque_capacity};
 ghost use Rattle.std.specs.List.{list_all};
 ghost use Rattle.run_events.specs.Tell.{Adds};
-ghost use Rattle.run_laws.specs.Ready.{CanAdvance, IsTimely};
+ghost use Rattle.run_laws.specs.Ready.{CanAdvance, IsTimelyBoard};
 ghost use Rattle.run_model.specs.Journal.{past_of, IsLegal, outcome};
 ghost use Rattle.run_model.specs.Admission.{AreFew, units_in};
 ghost use Rattle.run_model.specs.Turns.{enabled, enabled_on, turn_of_unit, deed_on};
 ghost use Rattle.run_model.specs.Words.{is_over};
 ghost use Rattle.run_model.specs.Board.{board, step, answered, deed_events};
 ghost use Rattle.run_engine.specs.Broken.{TellsPart, BreaksOff};
-ghost use Rattle.run_engine.specs.Starts.{start_in, starts_of};
+ghost use Rattle.run_engine.specs.Starts.{start_among, starts_of};
 ghost use Rattle.run_engine.specs.Heard.{IsHeard};
 ghost use Rattle.run_engine.specs.Settling.{first_settled, Settles, IsUnsettled};
-ghost use Rattle.run_state.specs.Settle.{turn_by};
+ghost use Rattle.run_state.specs.Settle.{settled_turn};
 ghost use Rattle.run_events.specs.declared.turn.Turn.{Turn};
 ghost use Rattle.run_engine.specs.World.{TakesTurn, TellsEvents, CountsErrors, IsUntouched, Breaks, outside};
 ghost use Rattle.run_engine.specs.World.{history_of};
-ghost use Rattle.run_state.specs.Held.{IsSeated, held};
+ghost use Rattle.run_state.specs.Held.{KeepsSeats, held};
 ghost use Rattle.run_engine.specs.Standing.{IsRunnable, unbroken, sound};
 ghost use Rattle.run_engine.specs.Refused.{IsRefused, IsNotNamed, IfNotMemory};
 
@@ -63,7 +63,8 @@ impl Model for Run {
       claimed = r.claimed;
     } };
 
-    ghost invariant = { λ r. IsStanding r.settings r.journal.items r.state r.broken r.starts.items r.claimed };
+    ghost invariant = { λ r. IsStanding r.settings r.journal.items r.state r.broken r.starts.items
+        r.claimed };
 }
 
 impl Run {
@@ -92,7 +93,8 @@ impl Run {
         report: &mut R,
     ) -> Result<Option<R::Error>, StepError>
         ensures takes { IfOk result (TakesTurn R.told C.asked
-            (outside R.faults report.old report.new children.old children.new) turn self.old self.new) }
+            (outside R.faults report.old report.new children.old children.new) turn self.old
+            self.new) }
         ensures room { OnOk result (length self.old.journal < 4294967295) }
         ensures stays_broken { self.old.broken ≡ true → IsErrOf result StepError.OutOfMemory }
         ensures refused { IfErr result (IsRefused self.old turn) }
@@ -100,7 +102,8 @@ impl Run {
             (outside R.faults report.old report.new children.old children.new))) }
         ensures broken { IsErrOf result StepError.OutOfMemory → Breaks self.old self.new }
         ensures part { IsErrOf result StepError.OutOfMemory → BreaksOff R.told C.asked
-            (outside R.faults report.old report.new children.old children.new) self.old.settings self.old.journal
+            (outside R.faults report.old report.new children.old children.new) self.old.settings
+            self.old.journal
             turn }
         ensures idle { self.old.broken ≡ true → IsUntouched self.old self.new
             (outside R.faults report.old report.new children.old children.new) }
@@ -119,7 +122,8 @@ impl Run {
     // The unit that a turn names, with what the turn is to it, where the run can take the turn.
     fn admit(&mut self, alloc: Global, turn: &Turn) -> Result<Option<(u32, UnitTurn)>, StepError>
         ensures named { IfOk result (λ named. named ≡ turn_of_unit turn.now) }
-        ensures enabled { OnOk result (enabled self.old.settings (history_of self.old) turn.now ≡ true) }
+        ensures enabled { OnOk result (enabled self.old.settings (history_of self.old) turn.now
+            ≡ true) }
         ensures room { OnOk result (length self.old.journal < 4294967295) }
         ensures sound { OnOk result (self.old.broken ≡ false) }
         ensures same { OnOk result (self.new ≡ self.old) }
@@ -159,11 +163,13 @@ impl Run {
         requires room { length self.old.journal < 4294967295 }
         requires sound { self.old.broken ≡ false }
         ensures takes { IfOk result (TakesTurn R.told C.asked
-            (outside R.faults report.old report.new children.old children.new) turn self.old self.new) }
+            (outside R.faults report.old report.new children.old children.new) turn self.old
+            self.new) }
         ensures memory { IfErr result (λ e. e ≡ StepError.OutOfMemory) }
         ensures broken { IsErrOf result StepError.OutOfMemory → Breaks self.old self.new }
         ensures part { OnErr result (BreaksOff R.told C.asked
-            (outside R.faults report.old report.new children.old children.new) self.old.settings self.old.journal
+            (outside R.faults report.old report.new children.old children.new) self.old.settings
+            self.old.journal
             turn) }
     {
         let settings = self.settings.get();
@@ -198,7 +204,8 @@ impl Run {
     ) -> Result<u64, StepError>
         ensures place { IfOk result (λ place. place ≡ length self.old.journal) }
         ensures takes { OnOk result ((refusal : Option R.Error) × TakesTurn R.told C.asked
-            (outside R.faults report.old report.new children.old children.new) turn self.old self.new refusal) }
+            (outside R.faults report.old report.new children.old children.new) turn self.old
+            self.new refusal) }
 
         ensures refused { IfErr result (IsRefused self.old turn) }
         ensures not_full { OnOk result (length self.old.journal < 4294967295) }
@@ -207,7 +214,8 @@ impl Run {
 
         ensures broken { IsErrOf result StepError.OutOfMemory → Breaks self.old self.new }
         ensures part { IsErrOf result StepError.OutOfMemory → BreaksOff R.told C.asked
-            (outside R.faults report.old report.new children.old children.new) self.old.settings self.old.journal
+            (outside R.faults report.old report.new children.old children.new) self.old.settings
+            self.old.journal
             turn }
         ensures stays_broken { self.old.broken ≡ true → IsErrOf result StepError.OutOfMemory }
         ensures idle { self.old.broken ≡ true → IsUntouched self.old self.new
@@ -225,7 +233,7 @@ impl Run {
     // The first enabled turn of those that the run takes by itself.
     fn next(&self, word: u32) -> Option<Settled>
         requires { self.now.broken ≡ false }
-        ensures { option_map turn_by result ≡ first_settled self.now word }
+        ensures { option_map settled_turn result ≡ first_settled self.now word }
     {
         next_settled(self.settings.get(), &self.state, word)
     }
@@ -247,9 +255,11 @@ impl Run {
         ensures unchanged { IfErr result (λ e. IfNotMemory e (IsUntouched self.old self.new
             (outside R.faults report.old report.new children.old children.new))) }
         ensures broken { IsErrOf result StepError.OutOfMemory → Breaks self.old self.new }
-        ensures part { IsErrOf result StepError.OutOfMemory → self.old.broken ≡ false → (turn : Turn)
+        ensures part { IsErrOf result StepError.OutOfMemory → self.old.broken ≡ false
+            → (turn : Turn)
             × (first_settled self.old word ≡ Some turn) × BreaksOff R.told C.asked
-            (outside R.faults report.old report.new children.old children.new) self.old.settings self.old.journal
+            (outside R.faults report.old report.new children.old children.new) self.old.settings
+            self.old.journal
             turn }
         ensures stays_broken { self.old.broken ≡ true → IsErrOf result StepError.OutOfMemory }
         ensures idle { self.old.broken ≡ true → IsUntouched self.old self.new
@@ -271,8 +281,10 @@ impl Run {
 
     /// Claims the earliest start that was asked and that nobody has claimed, if there is one.
     pub fn claim(&mut self) -> Option<StartAsk>
-        ensures start { result ≡ slice_get (starts_of self.old.settings self.old.journal) self.old.claimed }
-        ensures claimed { IsSome result → self.new ≡ record self.old { claimed = self.old.claimed + 1 } }
+        ensures start { result ≡ slice_get (starts_of self.old.settings self.old.journal)
+            self.old.claimed }
+        ensures claimed { IsSome result → self.new
+            ≡ record self.old { claimed = self.old.claimed + 1 } }
         ensures none { IsNone result → self.new ≡ self.old }
     {
         match self.starts.pop_front() {
@@ -286,7 +298,8 @@ impl Run {
 
     /// Whether a start was asked that nobody has claimed.
     pub fn has_start(&self) -> bool
-        ensures { result ≡ is_some (slice_get (starts_of self.now.settings self.now.journal) self.now.claimed) }
+        ensures { result ≡ is_some (slice_get (starts_of self.now.settings self.now.journal)
+            self.now.claimed) }
     {
         if self.starts.is_empty() {
             return false;
@@ -306,7 +319,8 @@ impl Run {
     /// is.
     pub fn give_up(&mut self)
         ensures { self.new
-            ≡ (if is_over (history_of self.old) then self.old else record self.old { broken = true }) }
+            ≡ (if is_over (history_of self.old) then self.old else record self.old
+            { broken = true }) }
     {
         if !self.is_over() {
             self.broken = true;

@@ -73,14 +73,16 @@ fn take_copy<C: Children, R: Reporter>(
     report: &mut R,
 ) -> Result<Option<R::Error>, StepError>
     ensures takes { IfOk result (TakesTurn R.told C.asked
-        (outside R.faults report.old report.new children.old children.new) turn.now run.old run.new) }
+        (outside R.faults report.old report.new children.old children.new) turn.now run.old
+        run.new) }
     ensures room { OnOk result (length run.old.journal < 4294967295) }
     ensures refused { IfErr result (IsRefused run.old turn.now) }
     ensures unchanged { IfErr result (λ e. IfNotMemory e (IsUntouched run.old run.new
         (outside R.faults report.old report.new children.old children.new))) }
     ensures same { IsErrOf result StepError.OutOfMemory → run.new.journal ≡ run.old.journal }
     ensures part { IsErrOf result StepError.OutOfMemory → BreaksOff R.told C.asked
-        (outside R.faults report.old report.new children.old children.new) run.old.settings run.old.journal turn.now }
+        (outside R.faults report.old report.new children.old children.new) run.old.settings
+        run.old.journal turn.now }
 {
     match turn.copy(alloc) {
         Ok(turn) => run.take(alloc, turn, children, report),
@@ -100,11 +102,13 @@ fn take_all<C: Children, R: Reporter>(
     requires units { AreFew run.old.settings }
     requires few { length turns.now < 2 ^ 32 }
     ensures ok { IfOk result (TakesTurns R.told C.asked
-        (outside R.faults report.old report.new children.old children.new) run.old.settings run.new.journal) }
+        (outside R.faults report.old report.new children.old children.new) run.old.settings
+        run.new.journal) }
     ensures all { OnOk result (turns_of run.new.journal ≡ turns.now) }
     ensures run { OnOk result (run.new ≡ sound run.old.settings run.new.journal) }
     ensures stopped { IfErr result (StopsAt R.told C.asked
-        (outside R.faults report.old report.new children.old children.new) run.old.settings turns.now
+        (outside R.faults report.old report.new children.old children.new) run.old.settings
+        turns.now
         run.new.journal) }
 {
     let mut first = None;
@@ -123,7 +127,8 @@ fn take_all<C: Children, R: Reporter>(
 // What a run that has taken all turns answers.
 fn answer<E: Drop>(run: &Run, refusal: Option<E>) -> Result<RunOutcome, TestRunnerExecuteErrors<E>>
     ensures ended { IsFinal (outcome run.now.settings (history_of run.now)) refusal result }
-    ensures unfinished { outcome run.now.settings (history_of run.now) ≡ None → is_over (history_of run.now) ≡ false }
+    ensures unfinished { outcome run.now.settings (history_of run.now) ≡ None
+        → is_over (history_of run.now) ≡ false }
 {
     match (run.outcome(), refusal) {
         (None, _) => Err(TestRunnerExecuteErrors::Unfinished),
@@ -144,9 +149,11 @@ fn run_all<C: Children, R: Reporter>(
     requires units { AreFew run.old.settings }
     requires few { length turns.now < 2 ^ 32 }
     ensures carries { UnlessMemory result (Carries R.told C.asked
-        (outside R.faults report.old report.new children.old children.new) run.old.settings turns.now result) }
+        (outside R.faults report.old report.new children.old children.new) run.old.settings
+        turns.now result) }
     ensures memory { IsErrOf result TestRunnerExecuteErrors.OutOfMemory → (journal : List Entry)
-        × RunsOut R.told C.asked (outside R.faults report.old report.new children.old children.new) run.old.settings
+        × RunsOut R.told C.asked (outside R.faults report.old report.new children.old children.new)
+        run.old.settings
         turns.now journal }
 {
     match take_all(alloc, run, turns, children, report) {
@@ -229,11 +236,14 @@ impl TestRunner {
     ) -> Result<RunOutcome, TestRunnerExecuteErrors<R::Error>>
         requires { length turns.now < 2 ^ 32 }
         ensures executes { UnlessMemory result (Executes R.told C.asked
-            (outside R.faults report.old report.new children.old children.new) self turns.now result) }
+            (outside R.faults report.old report.new children.old children.new) self turns.now
+            result) }
         ensures course { ¬ Rose (R.faults report.old) (R.faults report.new) → AnswersCourse
-            (outside R.faults report.old report.new children.old children.new) self turns.now refuses_none result }
+            (outside R.faults report.old report.new children.old children.new) self turns.now
+            refuses_none result }
         ensures memory { IsErrOf result TestRunnerExecuteErrors.OutOfMemory → (journal : List Entry)
-            × RunsOut R.told C.asked (outside R.faults report.old report.new children.old children.new) self turns.now
+            × RunsOut R.told C.asked (outside R.faults report.old report.new children.old
+            children.new) self turns.now
             journal }
     {
         self.carry_out(alloc, turns, children, report)
@@ -249,9 +259,11 @@ impl TestRunner {
     ) -> Result<RunOutcome, TestRunnerExecuteErrors<R::Error>>
         requires { length turns.now < 2 ^ 32 }
         ensures carries { UnlessMemory result (Carries R.told C.asked
-            (outside R.faults report.old report.new children.old children.new) self turns.now result) }
+            (outside R.faults report.old report.new children.old children.new) self turns.now
+            result) }
         ensures memory { IsErrOf result TestRunnerExecuteErrors.OutOfMemory → (journal : List Entry)
-            × RunsOut R.told C.asked (outside R.faults report.old report.new children.old children.new) self turns.now
+            × RunsOut R.told C.asked (outside R.faults report.old report.new children.old
+            children.new) self turns.now
             journal }
     {
         let _settings = &self.settings;
@@ -276,7 +288,8 @@ impl TestRunner {
         requires { length turns.now < 2 ^ 32 }
         ensures executes { UnlessMemory result (Executes ⟦<EventLog as Reporter>⟧.told C.asked
             (outside (λ log. 0) log.old log.new children.old children.new) self turns.now result) }
-        ensures course { AnswersCourse (outside (λ log. 0) log.old log.new children.old children.new) self turns.now
+        ensures course { AnswersCourse
+            (outside (λ log. 0) log.old log.new children.old children.new) self turns.now
             refuses_none result }
         ensures memory { IsErrOf result TestRunnerExecuteErrors.OutOfMemory → (journal : List Entry)
             × RunsOut ⟦<EventLog as Reporter>⟧.told C.asked

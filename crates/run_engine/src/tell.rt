@@ -6,7 +6,7 @@ ghost use Rattle.std.specs.List.{list_all};
 ghost use Rattle.run_events.specs.Tell.{Adds};
 ghost use Rattle.run_engine.specs.World.{TellsEvents, CountsErrors, earlier};
 ghost use Rattle.run_engine.specs.Broken.{TellsSome};
-ghost use Rattle.run_engine.specs.Starts.{start_in};
+ghost use Rattle.run_engine.specs.Starts.{start_among};
 
 use run_capture::{List, Mem, OutOfMemory};
 use run_events::{Ask, Children, ReportFault, Reporter, ReporterEvent, StartAsk};
@@ -27,7 +27,8 @@ fn tell_one<R: Reporter>(
 ) -> Mem<Option<R::Error>>
     ensures told { IfOk result (λ refusal.
         TellsEvents R.told report.old report.new ((event.now, is_some refusal) ∷ []) refusal) }
-    ensures faults { IfOk result (λ refusal. CountsErrors (R.faults report.old) (R.faults report.new) refusal) }
+    ensures faults { IfOk result (λ refusal. CountsErrors (R.faults report.old)
+        (R.faults report.new) refusal) }
     ensures none { OnErr result (TellsEvents R.told report.old report.new [] None) }
     ensures still { OnErr result (R.faults report.new ≡ R.faults report.old) }
 {
@@ -48,8 +49,10 @@ fn tell_marked<R: Reporter>(
     ensures marked { IfOk result (λ refusal. refused.new ≡ refused.old ++ is_some refusal ∷ []) }
     ensures told { IfOk result (λ refusal.
         TellsEvents R.told report.old report.new ((event.now, is_some refusal) ∷ []) refusal) }
-    ensures faults { IfOk result (λ refusal. CountsErrors (R.faults report.old) (R.faults report.new) refusal) }
-    ensures part { OnErr result (TellsSome R.told report.old report.new (R.faults report.old) (R.faults report.new)
+    ensures faults { IfOk result (λ refusal. CountsErrors (R.faults report.old)
+        (R.faults report.new) refusal) }
+    ensures part { OnErr result (TellsSome R.told report.old report.new (R.faults report.old)
+        (R.faults report.new)
         (event.now ∷ [])) }
 {
     let refusal = tell_one(alloc, report, event)?;
@@ -75,9 +78,12 @@ pub fn tell<R: Reporter>(
 ) -> Mem<Told<R::Error>>
     ensures answered { IfOk result (λ t. length t.refused ≡ length events.now) }
     ensures marked { IfOk result (λ t. is_none t.refusal ≡ list_all not t.refused) }
-    ensures told { IfOk result (λ t. TellsEvents R.told report.old report.new (zip events.now t.refused) t.refusal) }
-    ensures faults { IfOk result (λ t. CountsErrors (R.faults report.old) (R.faults report.new) t.refusal) }
-    ensures part { OnErr result (TellsSome R.told report.old report.new (R.faults report.old) (R.faults report.new)
+    ensures told { IfOk result (λ t. TellsEvents R.told report.old report.new
+        (zip events.now t.refused) t.refusal) }
+    ensures faults { IfOk result (λ t. CountsErrors (R.faults report.old) (R.faults report.new)
+        t.refusal) }
+    ensures part { OnErr result (TellsSome R.told report.old report.new (R.faults report.old)
+        (R.faults report.new)
         events.now) }
 {
     let mut refused = List::new();
@@ -104,7 +110,7 @@ pub fn ask<C: Children>(alloc: Global, children: &mut C, turn: u64, asked: &Opti
 /// Puts the start that a turn asked, if it did, at the end of those that nobody has claimed, which have room for it.
 pub fn keep_start(starts: &mut VecDeque<StartAsk>, asked: Option<Ask>)
     requires { deque_len starts.old < deque_capacity starts.old }
-    ensures { starts.new.items ≡ starts.old.items ++ start_in asked }
+    ensures { starts.new.items ≡ starts.old.items ++ start_among asked }
 {
     match asked {
         Some(Ask::Start(start)) => starts.push_back_reserved(start),

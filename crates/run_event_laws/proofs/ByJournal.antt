@@ -7,10 +7,10 @@ use Rattle.run_model.specs.Board.{said}
 use Rattle.run_model.specs.Journal.{history, IsLegalBackward}
 use Rattle.run_model.specs.Turns.{enabled_on, deed_on}
 use Rattle.run_model.specs.Words.{clock, is_over, sub_run, was_refused}
-use Rattle.run_laws.proofs.Deeds.{Does}
-use Rattle.run_laws.proofs.Holds.{Holds}
-use Rattle.run_laws.proofs.Kept.{HoldsAfter, does_after, IsOfRun, IsBeforeRuns, where_joins, holds}
-use Rattle.run_laws.proofs.OnBoard.{board_with}
+use Rattle.run_laws.proofs.board.DeedFits.{Does}
+use Rattle.run_laws.proofs.board.Holds.{Holds}
+use Rattle.run_laws.proofs.board.Kept.{HoldsAfter, does_after, IsOfRun, IsBeforeRuns, where_joins, holds}
+use Rattle.run_laws.proofs.board.OnBoard.{board_with}
 
 -- it is kept by each enabled turn
 abbrev pub IsKept : Settings → (List Happening → Type 0) → Type 0

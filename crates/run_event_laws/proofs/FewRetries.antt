@@ -1,6 +1,7 @@
 -- No more retries of a test are told than the plan gives it.
 use Rattle.std.specs.Prelude.{IfSome}
-use Rattle.std.proofs.Common.{◌≡◌, inl, inr, ℕ, ◌+◌, ◌-◌, ◌<◌, ◌≤◌, List, [], ◌∷◌, ◌++◌, length, Bool, true, false}
+use Rattle.std.proofs.Common.{◌≡◌, inl, inr, ℕ, zero, suc, ◌+◌, ◌-◌, ◌<◌, ◌≤◌, List, [], ◌∷◌, ◌++◌, length}
+use Rattle.std.proofs.Common.{Bool, true, false}
 use Rattle.std.proofs.Common.{if◌then◌else◌, Option, Some, None, slice_get, unwrap_or, refl, ap, sym, subst, ◌∙◌, arith}
 use Rattle.std.proofs.Common.{append-nil, length-append}
 use Rattle.run_events.specs.declared.plan.PlanTest.{PlanTest}
@@ -20,11 +21,11 @@ use Rattle.run_model.specs.Admission.{is_script, scripts_in, terms_if, unit_term
 use Rattle.run_model.specs.Backoff.{retry_count}
 use Rattle.run_model.specs.Fates.{MeetsAttemptLaw}
 use Rattle.run_model.specs.Journal.{history, IsLegalBackward}
-use Rattle.run_model.specs.Story.{OwnTurn, story_of}
+use Rattle.run_model.specs.Story.{OwnTurn, story_of, is_at_retry}
 use Rattle.run_model.specs.Words.{queue, sub_run, told, unit_of}
-use Rattle.run_laws.proofs.AttemptLemmas.{IsMadeIf}
-use Rattle.run_laws.proofs.Holds.{HasEndedAs, IsOnWay, IsOnWayIn, Way, way_of}
-use Rattle.run_laws.proofs.Kept.{HoldsAfter, holds}
+use Rattle.run_laws.proofs.units.AttemptLemmas.{IsMadeIf}
+use Rattle.run_laws.proofs.board.Holds.{HasEndedAs, IsOnWay, IsOnWayIn, Way, way_of}
+use Rattle.run_laws.proofs.board.Kept.{HoldsAfter, holds}
 use Rattle.run_event_laws.specs.Names.{planned_retries, test_of_unit}
 use Rattle.run_event_laws.specs.Retries.{AreRetriesFew, retries_told}
 use Rattle.run_event_laws.proofs.Tries.{retried_in, retried-told, tried_count}
@@ -57,13 +58,13 @@ plain n t early is within =
 none_few : (n : ℕ) (t : List News) → retried_in t ≡ 0 → IsFew n t
 none_few n t is = omega arith
 
-ended_few : (left : Bool) (n : ℕ) (ss : List ExecuteStatus) → HasEndedAs left n ss → length ss ≤ n + 1
-ended_few true n ss h = let within : length ss ≤ n = h.1 in omega arith
-ended_few false n ss h = law_few n ss h
+ended_few : (stopped : Option ℕ) (n : ℕ) (ss : List ExecuteStatus) → HasEndedAs stopped n ss → length ss ≤ n + 1
+ended_few (Some m) n ss h = let within : length ss ≤ n = h.0.1 in omega arith
+ended_few None n ss h = law_few n ss h
 
 by_phase : (n attempt : ℕ) (ph : Phase) (ss : List ExecuteStatus) (t q : List News) (w : Way)
     → IsOnWayIn n ph attempt ss w
-    → HasAccountAt false w.left ph ss t q → IsFew n t
+    → HasAccountAt false (is_at_retry w.stopped) ph ss t q → IsFew n t
 by_phase n attempt StartSent ss t q w way (empty, (is, waits)) = none_few n t (ap retried_in is)
 by_phase n attempt Starting ss t q w way (is, waits) = plain n t ss is way.2.1
 by_phase n attempt Running ss t q w way (is, waits) = plain n t ss is way.2.1
@@ -84,22 +85,24 @@ by_phase n attempt RetrySent ss t q w way (early, (s, (e, inl (is, waits)))) =
 by_phase n attempt RetrySent ss t q w way (early, (s, (e, inr (is, waits)))) =
     let within : length ss ≤ n = way.2.1 in
     few n t (failed s ∷ []) early is refl (omega (arith, before_last ss early s e))
-by_phase n attempt Over ss t q w way h = over w.left ss way h
+by_phase n attempt Over ss t q w way h = over w.stopped ss way h
   where
-    over : (left : Bool) (ss : List ExecuteStatus)
-        → IsOnWayIn n Over attempt ss (record { delivered = w.delivered; never = w.never; left = left })
-        → HasAccountAt false left Over ss t q → IsFew n t
-    over true [] way (early, (s, (e, (is, waits)))) =
+    over : (stopped : Option ℕ) (ss : List ExecuteStatus)
+        → IsOnWayIn n Over attempt ss (record { delivered = w.delivered; stopped = stopped })
+        → HasAccountAt false (is_at_retry stopped) Over ss t q → IsFew n t
+    over (Some (suc m)) [] way (early, (s, (e, (is, waits)))) =
         let many : 0 ≡ length early + 1 = before_last [] early s e in absurd (omega arith)
-    over true (x ∷ ss) way (early, (s, (e, (is, waits)))) =
-        let within : length (x ∷ ss) ≤ n + 1 = ended_few true n (x ∷ ss) way.2 in
+    over (Some (suc m)) (x ∷ ss) way (early, (s, (e, (is, waits)))) =
+        let within : length (x ∷ ss) ≤ n + 1 = ended_few (Some (suc m)) n (x ∷ ss) way.1 in
         few n t (failed s ∷ []) early is refl (omega (arith, before_last (x ∷ ss) early s e))
-    over false [] way (is, waits) = none_few n t (ap retried_in is)
-    over false (x ∷ ss) way (early, (s, (e, inl (is, waits)))) =
-        let within : length (x ∷ ss) ≤ n + 1 = ended_few false n (x ∷ ss) way.2 in
+    over (Some zero) [] way (is, waits) = none_few n t (ap retried_in is)
+    over (Some zero) (x ∷ ss) way h = let none : length (x ∷ ss) ≡ 0 = way.1.1 in absurd (omega arith)
+    over None [] way (is, waits) = none_few n t (ap retried_in is)
+    over None (x ∷ ss) way (early, (s, (e, inl (is, waits)))) =
+        let within : length (x ∷ ss) ≤ n + 1 = ended_few None n (x ∷ ss) way.1 in
         plain n t early is (omega (arith, before_last (x ∷ ss) early s e))
-    over false (x ∷ ss) way (early, (s, (e, inr (is, waits)))) =
-        let within : length (x ∷ ss) ≤ n + 1 = ended_few false n (x ∷ ss) way.2 in
+    over None (x ∷ ss) way (early, (s, (e, inr (is, waits)))) =
+        let within : length (x ∷ ss) ≤ n + 1 = ended_few None n (x ∷ ss) way.1 in
         few n t (finished (x ∷ ss) ∷ []) early is refl (omega (arith, before_last (x ∷ ss) early s e))
 
 skip_few : (n : ℕ) (left : Bool) (ph : Phase) (ss : List ExecuteStatus) (t q : List News)
@@ -111,10 +114,11 @@ skip_few n left Over (s ∷ ss) t q h = absurd h
 skip_few n left ph ss t q h = absurd h
 
 by_unit : (mm : Bool) (terms : AttemptTerms) (v : Option UnitView) (story : List OwnTurn) (t q : List News) (w : Way)
-    → IsMadeIf terms v story → IsOnWay mm v w → HasAccount mm w.left v t q → IsFew (retry_count terms.retries) t
+    → IsMadeIf terms v story → IsOnWay mm v w → HasAccount mm (is_at_retry w.stopped) v t q
+    → IsFew (retry_count terms.retries) t
 by_unit mm terms None story t q w made way h = none_few (retry_count terms.retries) t (ap retried_in h.0)
 by_unit true terms (Some u) story t q w made way h =
-    skip_few (retry_count terms.retries) w.left u.phase u.statuses t q h
+    skip_few (retry_count terms.retries) (is_at_retry w.stopped) u.phase u.statuses t q h
 by_unit false terms (Some u) story t q w made way h =
     subst (λ (terms : AttemptTerms). IsFew (retry_count terms.retries) t) made.terms
     (by_phase (retry_count u.terms.retries) u.attempt u.phase u.statuses t q w way h)

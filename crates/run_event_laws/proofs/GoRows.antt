@@ -26,9 +26,10 @@ use Rattle.run_model.specs.Admission.{runner_words, start_message}
 use Rattle.run_model.specs.Environment.{attempts, number_of, test_start}
 use Rattle.run_model.specs.Unit.{Row, failure_message, finish_message, last_status, next_delay, retry_message, row_at}
 use Rattle.run_model.specs.Unit.{script_finish, slow_message, slow_report, takes_at}
-use Rattle.run_laws.proofs.Facts.{itself}
-use Rattle.run_laws.proofs.Rows.{is_open, StaysOrGoes, Takes, answers, opens, decides, passes, again, Moves}
-use Rattle.run_laws.proofs.Rows.{decide_cases, row_moves, row_passes, row_takes}
+use Rattle.run_laws.proofs.board.Facts.{itself}
+use Rattle.run_laws.proofs.units.OpenRows.{is_open, Moves}
+use Rattle.run_laws.proofs.units.Rows.{StaysOrGoes, Takes, answers, opens, decides, passes, again}
+use Rattle.run_laws.proofs.units.Rows.{decide_cases, row_moves, row_passes, row_takes}
 use Rattle.run_event_laws.specs.Names.{test_named, test_of_unit}
 use Rattle.run_event_laws.specs.Retries.{retry_as}
 use Rattle.run_event_laws.specs.Slots.{slots_in_role}

@@ -21,12 +21,12 @@ use Rattle.run_model.specs.Story.{Attempt, pieces, story_of}
 use Rattle.run_model.specs.Turns.{deed_on}
 use Rattle.run_model.specs.Unit.{at_moment, is_live, reach, row, takes_at}
 use Rattle.run_model.specs.Words.{sent, sub_run, unit_after, unit_of, units}
-use Rattle.run_laws.proofs.AccountLemmas.{IsFirst}
-use Rattle.run_laws.proofs.AttemptLemmas.{IsMade, IsMadeIf}
-use Rattle.run_laws.proofs.Deeds.{IsSentAs, PartFits}
-use Rattle.run_laws.proofs.Holds.{Holds}
-use Rattle.run_laws.proofs.OnBoard.{board_with}
-use Rattle.run_laws.proofs.Rows.{row_keeps, takes_moment}
+use Rattle.run_laws.proofs.units.AccountLemmas.{IsFirst}
+use Rattle.run_laws.proofs.units.AttemptLemmas.{IsMade, IsMadeIf}
+use Rattle.run_laws.proofs.board.DeedFits.{IsSentAs, PartFits}
+use Rattle.run_laws.proofs.board.Holds.{Holds}
+use Rattle.run_laws.proofs.board.OnBoard.{board_with}
+use Rattle.run_laws.proofs.units.Rows.{row_keeps, takes_moment}
 use Rattle.run_event_laws.specs.Names.{test_of_unit}
 use Rattle.run_event_laws.specs.Slots.{slots_in_role}
 use Rattle.run_event_laws.proofs.ByJournal.{IsKept, by_journal}

@@ -19,8 +19,8 @@ use Rattle.run_model.specs.Admission.{is_last, is_script, scripts_in, seat_as, s
 use Rattle.run_model.specs.Environment.{number_of}
 use Rattle.run_model.specs.Words.{unit_of}
 use Rattle.run_laws.specs.Limits.{limits_with}
-use Rattle.run_laws.proofs.Facts.{test_above}
-use Rattle.run_laws.proofs.Holds.{Holds}
+use Rattle.run_laws.proofs.board.Facts.{test_above}
+use Rattle.run_laws.proofs.board.Holds.{Holds}
 use Rattle.run_event_laws.specs.Names.{test_of_unit}
 use Rattle.run_event_laws.specs.Slots.{slots_held, slots_in_role}
 use Rattle.run_event_laws.proofs.Places.{range_at, range_from, zip_at, zip_from}

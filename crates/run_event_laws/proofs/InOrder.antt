@@ -16,7 +16,7 @@ use Rattle.run_model.specs.Journal.{history, IsLegalBackward}
 use Rattle.run_model.specs.Turns.{deed_on, starting}
 use Rattle.run_model.specs.Words.{delivered, queue, reason, sent, sub_run, told}
 use Rattle.run_laws.specs.Laws.{Extends}
-use Rattle.run_laws.proofs.OnBoard.{board_with}
+use Rattle.run_laws.proofs.board.OnBoard.{board_with}
 use Rattle.run_event_laws.proofs.ByJournal.{IsKept, by_journal}
 use Rattle.run_event_laws.proofs.Told.{messages_of, told_from, told-more}
 

@@ -16,8 +16,8 @@ use Rattle.run_model.specs.Cancel.{Cause, cause_of, caused}
 use Rattle.run_model.specs.Turns.{admission, deed_on, delivered_as, delivery, done_by, enabled_on, event_of}
 use Rattle.run_model.specs.Turns.{nothing_done, takes_turn, tally_with, taken_by, turn_of_unit}
 use Rattle.run_model.specs.Words.{queue, units}
-use Rattle.run_laws.proofs.ByTurn.{by_turn}
-use Rattle.run_laws.proofs.OnBoard.{board_of, board_with}
+use Rattle.run_laws.proofs.board.ByTurn.{by_turn}
+use Rattle.run_laws.proofs.board.OnBoard.{board_of, board_with}
 
 -- the unit that a deed lets join, and what it sends, are those of an admission
 abbrev pub IsAdmission : Option Newcomer → Deed → Type 0

@@ -28,11 +28,11 @@ use Rattle.run_model.specs.Turns.{deed_on}
 use Rattle.run_model.specs.Unit.{at_moment, row}
 use Rattle.run_model.specs.Words.{sent, sub_run, told, unit_after, unit_of}
 use Rattle.run_laws.specs.Starts.{start_told, start_told_in}
-use Rattle.run_laws.proofs.Deeds.{IsSentAs, PartFits}
-use Rattle.run_laws.proofs.FaceLemmas.{is_start, SendsNoStart, row_sends_none}
-use Rattle.run_laws.proofs.Facts.{itself}
-use Rattle.run_laws.proofs.OnBoard.{board_with}
-use Rattle.run_laws.proofs.Rows.{row_keeps, takes_moment}
+use Rattle.run_laws.proofs.board.DeedFits.{IsSentAs, PartFits}
+use Rattle.run_laws.proofs.units.FaceLemmas.{is_start, SendsNoStart, row_sends_none}
+use Rattle.run_laws.proofs.board.Facts.{itself}
+use Rattle.run_laws.proofs.board.OnBoard.{board_with}
+use Rattle.run_laws.proofs.units.Rows.{row_keeps, takes_moment}
 use Rattle.run_event_laws.specs.Slots.{IsInSlots, slots_in_role, slots_joined, slots_joining}
 use Rattle.run_event_laws.proofs.ByJournal.{IsKept, by_journal}
 use Rattle.run_event_laws.proofs.Goes.{reach_slots}

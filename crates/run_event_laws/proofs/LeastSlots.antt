@@ -25,9 +25,9 @@ use Rattle.run_model.specs.Admission.{group_slot, seat_of, slots_of, unit_of_tes
 use Rattle.run_model.specs.Environment.{number}
 use Rattle.run_model.specs.Words.{unit_of}
 use Rattle.run_laws.specs.Limits.{limits_with}
-use Rattle.run_laws.proofs.BoardSeats.{board_seat, seat_after}
-use Rattle.run_laws.proofs.Facts.{itself}
-use Rattle.run_laws.proofs.Holds.{Holds}
+use Rattle.run_laws.proofs.board.BoardSeats.{board_seat, seat_after}
+use Rattle.run_laws.proofs.board.Facts.{itself}
+use Rattle.run_laws.proofs.board.Holds.{Holds}
 use Rattle.run_event_laws.specs.Slots.{AreLeastFree, HoldsInGroup, HoldsNumber, IsGroupSlot, IsLeastFree, planned_group}
 use Rattle.run_event_laws.specs.Slots.{slots_held}
 use Rattle.run_event_laws.proofs.HeldSlots.{IsHolder, group_seat, holder, number_seat, seat_test, test_seat}

@@ -12,9 +12,9 @@ use Rattle.run_model.specs.declared.unit_view.UnitView.{UnitView}
 use Rattle.run_model.specs.Accounts.{News, HasAccountAt}
 use Rattle.run_model.specs.Attempts.{attempt_in, ended_statuses, has_ended}
 use Rattle.run_model.specs.Story.{Attempt, cut}
-use Rattle.run_laws.proofs.AttemptLemmas.{HasPieces, IsMade}
-use Rattle.run_laws.proofs.GoingLemmas.{next_status}
-use Rattle.run_laws.proofs.Holds.{IsOnWayAt, IsOnWayIn, Way}
+use Rattle.run_laws.proofs.units.AttemptLemmas.{HasPieces, IsMade}
+use Rattle.run_laws.proofs.units.GoingLemmas.{next_status}
+use Rattle.run_laws.proofs.board.Holds.{IsOnWayAt, IsOnWayIn, Way}
 
 -- numbers from a on
 abbrev pub AreFrom : ℕ → List ℕ → Type 0
@@ -119,7 +119,7 @@ in_phase terms retries Over u ps [] w same at h way =
 in_phase terms retries Over u [] (s ∷ ss) w same at h way =
     subst (λ ss. AreFrom 1 (attempts_of ss)) (sym h) tt
 in_phase terms retries Over u (cut piece (d ∷ after) ∷ earlier) (s ∷ ss) w same at h way =
-    let many : u.attempt ≡ length (s ∷ ss) = way.1 in
+    let many : u.attempt ≡ length (s ∷ ss) = way.0 in
     numbered terms u (cut piece [] ∷ earlier) h.0.1 (omega (arith, ap length same))
 in_phase terms retries ph u ps ss w same at h way = absurd h
 

@@ -31,10 +31,10 @@ use Rattle.run_model.specs.Turns.{deed_on}
 use Rattle.run_model.specs.Unit.{at_moment, failure_message, finish_message, last_status, retry_message, row}
 use Rattle.run_model.specs.Unit.{script_finish, slow_report}
 use Rattle.run_model.specs.Words.{sent, sub_run, told, units}
-use Rattle.run_laws.proofs.Deeds.{IsSentAs, PartFits}
-use Rattle.run_laws.proofs.Newcomers.{Becomes, Newcomes, ScriptComes, newcomer_is}
-use Rattle.run_laws.proofs.OnBoard.{board_with}
-use Rattle.run_laws.proofs.Rows.{takes_moment}
+use Rattle.run_laws.proofs.board.DeedFits.{IsSentAs, PartFits}
+use Rattle.run_laws.proofs.board.Newcomers.{Becomes, Newcomes, ScriptComes, newcomer_is}
+use Rattle.run_laws.proofs.board.OnBoard.{board_with}
+use Rattle.run_laws.proofs.units.Rows.{takes_moment}
 use Rattle.run_event_laws.specs.Names.{HasReason, IsScriptNamed, IsTestNamed, NamesThePlan, NamesThePlanIn}
 use Rattle.run_event_laws.specs.Names.{SaysAttempts, SaysFlaky, SlowSaysAttempts, SlowSaysAttemptsIn, FinishSaysFlaky}
 use Rattle.run_event_laws.specs.Names.{FinishSaysFlakyIn, planned_attempts, planned_flaky, test_named, test_of_unit}

@@ -25,8 +25,9 @@ use Rattle.run_model.specs.Admission.{slots_of, unit_of_test}
 use Rattle.run_model.specs.Environment.{Variable, attempts_by, number}
 use Rattle.run_model.specs.Unit.{at_moment, is_live, reach, row}
 use Rattle.run_model.specs.Words.{unit_after, unit_of, units}
-use Rattle.run_laws.proofs.Newcomers.{Becomes, Newcomes, ScriptComes, newcomer_is, place-of_test, test_number}
-use Rattle.run_laws.proofs.Rows.{Keeps, row_keeps}
+use Rattle.run_laws.proofs.board.Newcomers.{Becomes, Newcomes, ScriptComes, newcomer_is, place-of_test, test_number}
+use Rattle.run_laws.proofs.units.OpenRows.{Keeps}
+use Rattle.run_laws.proofs.units.Rows.{row_keeps}
 use Rattle.run_event_laws.specs.Names.{planned_attempts, planned_flaky, planned_retries, script_named, test_named}
 use Rattle.run_event_laws.specs.Names.{test_of_unit, IsScriptNamed}
 use Rattle.run_event_laws.proofs.ByJournal.{IsKept}

@@ -20,8 +20,9 @@ use Rattle.run_model.specs.Terminate.{terminate_method}
 use Rattle.run_model.specs.Unit.{Row, row_at, takes_at, asked_to_end, requested, take_row, running_row, waited_row}
 use Rattle.run_model.specs.Unit.{slow_message, slow_report, slow_row, slow_again, in_grace, out_of_time}
 use Rattle.run_model.specs.Unit.{failure_message, finish_message, last_status, next_delay, retry_message}
-use Rattle.run_laws.proofs.Rows.{is_open, StaysOrGoes, Takes, answers, opens, decides, passes, again, decide_cases}
-use Rattle.run_laws.proofs.Rows.{row_passes, row_takes}
+use Rattle.run_laws.proofs.units.OpenRows.{is_open}
+use Rattle.run_laws.proofs.units.Rows.{StaysOrGoes, Takes, answers, opens, decides, passes, again, decide_cases}
+use Rattle.run_laws.proofs.units.Rows.{row_passes, row_takes}
 
 -- it sends nothing, or that it is slow
 abbrev pub SaysSlow : UnitView → Row → Type 0

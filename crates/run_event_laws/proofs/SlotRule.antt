@@ -25,14 +25,14 @@ use Rattle.run_model.specs.Turns.{deed_on, enabled, happening}
 use Rattle.run_model.specs.Unit.{is_live, reach}
 use Rattle.run_model.specs.Words.{clock, is_over, sub_run, unit_after, unit_of, units, was_refused}
 use Rattle.run_laws.specs.Limits.{limits_with}
-use Rattle.run_laws.proofs.BoardSeats.{AreKeptIn, board_seat, kept_fewer, seat_after}
-use Rattle.run_laws.proofs.Deeds.{PartFits}
-use Rattle.run_laws.proofs.JoinSeats.{limits_on_board}
-use Rattle.run_laws.proofs.Kept.{HoldsAfter, does_after, holds}
-use Rattle.run_laws.proofs.Newcomers.{Becomes, Newcomes, ScriptComes, newcomer_is}
-use Rattle.run_laws.proofs.OnBoard.{board_with}
-use Rattle.run_laws.proofs.OpenSeats.{same_lower}
-use Rattle.run_laws.proofs.SeatMoves.{moves}
+use Rattle.run_laws.proofs.board.BoardSeats.{AreKeptIn, board_seat, kept_fewer, seat_after}
+use Rattle.run_laws.proofs.board.DeedFits.{PartFits}
+use Rattle.run_laws.proofs.board.JoinSeats.{limits_on_board}
+use Rattle.run_laws.proofs.board.Kept.{HoldsAfter, does_after, holds}
+use Rattle.run_laws.proofs.board.Newcomers.{Becomes, Newcomes, ScriptComes, newcomer_is}
+use Rattle.run_laws.proofs.board.OnBoard.{board_with}
+use Rattle.run_laws.proofs.board.OpenSeats.{same_lower}
+use Rattle.run_laws.proofs.board.SeatMoves.{moves}
 use Rattle.run_event_laws.specs.Slots.{JoinsInSlots}
 use Rattle.run_event_laws.proofs.ByJournal.{IsKept, by_journal}
 use Rattle.run_event_laws.proofs.Joined.{joins_new}

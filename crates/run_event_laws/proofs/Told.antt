@@ -26,10 +26,10 @@ use Rattle.run_model.specs.Journal.{history, IsLegalBackward}
 use Rattle.run_model.specs.Turns.{admission, cancelled, deed_on, delivered_as, delivery, done_by, enabled_on, event_of}
 use Rattle.run_model.specs.Turns.{nothing_done, starting, takes_turn, tally_with, turn_of_unit}
 use Rattle.run_model.specs.Words.{queue, reason, sent, delivered, sub_run, tally, told, units}
-use Rattle.run_laws.proofs.ByTurn.{by_turn}
-use Rattle.run_laws.proofs.Cancels.{IsCancel, IsCancelKind, cancel_for, cancel_is}
-use Rattle.run_laws.proofs.Facts.{may_go-is}
-use Rattle.run_laws.proofs.OnBoard.{board_of, board_with}
+use Rattle.run_laws.proofs.board.ByTurn.{by_turn}
+use Rattle.run_laws.proofs.told.Cancels.{IsCancel, IsCancelKind, cancel_for, cancel_is}
+use Rattle.run_laws.proofs.board.Facts.{may_go-is}
+use Rattle.run_laws.proofs.board.OnBoard.{board_of, board_with}
 use Rattle.run_event_laws.proofs.ByJournal.{IsKept, by_journal}
 
 -- the message whose delivery an event tells

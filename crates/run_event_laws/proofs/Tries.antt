@@ -20,16 +20,17 @@ use Rattle.run_model.specs.declared.phase.Phase.TheVariants.{StartSent, Starting
 use Rattle.run_model.specs.declared.phase.Phase.TheVariants.{EnvWait, Deciding, Delay, RetrySent, Over}
 use Rattle.run_model.specs.declared.unit_view.AttemptTerms.{AttemptTerms}
 use Rattle.run_model.specs.declared.unit_view.UnitView.{UnitView}
-use Rattle.run_model.specs.Accounts.{News, started, failed, retried, finished, skipped, tried, HasAccount, HasAccountAt}
+use Rattle.run_model.specs.Accounts.{News, started, failed, retried, finished, skipped, tried, tried_from}
+use Rattle.run_model.specs.Accounts.{HasAccount, HasAccountAt}
 use Rattle.run_model.specs.Accounts.{account_of, is_mismatched, news_in, news_of, pending_of}
 use Rattle.run_model.specs.Admission.{unit_terms}
 use Rattle.run_model.specs.Journal.{history, IsLegalBackward}
 use Rattle.run_model.specs.Story.{OwnTurn, pieces, story_of, was_left}
 use Rattle.run_model.specs.Words.{queue, sub_run, told, unit_of}
 use Rattle.run_laws.specs.Limits.{slots_told}
-use Rattle.run_laws.proofs.AttemptLemmas.{IsMadeIf}
-use Rattle.run_laws.proofs.Holds.{IsOnWay, Way, way_of}
-use Rattle.run_laws.proofs.Kept.{HoldsAfter, holds}
+use Rattle.run_laws.proofs.units.AttemptLemmas.{IsMadeIf}
+use Rattle.run_laws.proofs.board.Holds.{IsOnWay, Way, way_of}
+use Rattle.run_laws.proofs.board.Kept.{HoldsAfter, holds}
 use Rattle.run_event_laws.specs.Names.{test_of_unit}
 use Rattle.run_event_laws.specs.Retries.{AreNumbered, Try, failure_of, retry_as, retry_in, retry_to, retry_told}
 use Rattle.run_event_laws.specs.Retries.{retries_as, retries_told, tries_from, tries_told, try_in, try_told}
@@ -40,13 +41,13 @@ use Rattle.run_event_laws.proofs.Numbered.{AreFrom, attempts_of, from_split, uni
 abbrev labelled : List News → List TestRetry → List Try
 labelled [] rs = []
 labelled (failed s ∷ news) rs = failure_of s.attempt ∷ labelled news rs
-labelled (retried ∷ news) [] = labelled news []
-labelled (retried ∷ news) (r ∷ rs) = retry_to r.attempt ∷ labelled news rs
+labelled (retried n ∷ news) [] = labelled news []
+labelled (retried n ∷ news) (r ∷ rs) = retry_to r.attempt ∷ labelled news rs
 labelled (n ∷ news) rs = labelled news rs
 
 abbrev pub retried_in : List News → ℕ
 retried_in [] = 0
-retried_in (retried ∷ news) = retried_in news + 1
+retried_in (retried n ∷ news) = retried_in news + 1
 retried_in (n ∷ news) = retried_in news
 
 try_one : (k : ℕ) (e : ReporterEvent) (t : List News) (rs : List TestRetry)
@@ -81,7 +82,7 @@ try_one k (Test e) t rs = by_kind e.kind
       where
         by_unit : (b : Bool)
             → cons_option (if b then Some (retry_to event.retry.attempt) else None) (labelled t rs)
-            ≡ labelled (cons_option (if b then Some retried else None) t)
+            ≡ labelled (cons_option (if b then Some (retried event.retry.attempt) else None) t)
             (cons_option (if b then Some event.retry else None) rs)
         by_unit true = refl
         by_unit false = refl
@@ -114,7 +115,7 @@ count_one k (Test e) t rs same = by_kind e.kind
         quiet (event.failed.test.unit == k) (failed event.failed.status) refl
     by_kind (kinds.TestRetryStarted event) = by_unit (event.retry.start.test.unit == k)
       where
-        by_unit : (b : Bool) → retried_in (cons_option (if b then Some retried else None) t)
+        by_unit : (b : Bool) → retried_in (cons_option (if b then Some (retried event.retry.attempt) else None) t)
             ≡ length (cons_option (if b then Some event.retry else None) rs)
         by_unit true = omega arith
         by_unit false = same
@@ -146,13 +147,13 @@ last_tries a (n ∷ news) rs h = absurd h
 
 tries : (early : List ExecuteStatus) (last : List News) (rs : List TestRetry) (a : ℕ) → AreFrom a (attempts_of early)
     → EndsWith (a + length early) last → AreFrom (a + 1) (retry_numbers rs) → length rs ≡ length early
-    → AreTries a (labelled (tried early ++ last) rs)
+    → AreTries a (labelled (tried_from a early ++ last) rs)
 tries [] last rs a from ends numbers many = last_tries a last rs (subst (λ n. EndsWith n last) (omega arith) ends)
 tries (s ∷ early) last [] a from ends numbers many = absurd (omega (arith, many))
 tries (s ∷ early) last (r ∷ rs) a from ends numbers many =
     let same : a + length (s ∷ early) ≡ (a + 1) + length early = omega arith in
-    ap (λ n. failure_of n ∷ retry_to r.attempt ∷ labelled (tried early ++ last) rs) from.0
-    ∙ ap (λ n. failure_of a ∷ retry_to n ∷ labelled (tried early ++ last) rs) numbers.0
+    ap (λ n. failure_of n ∷ retry_to r.attempt ∷ labelled (tried_from (a + 1) early ++ last) rs) from.0
+    ∙ ap (λ n. failure_of a ∷ retry_to n ∷ labelled (tried_from (a + 1) early ++ last) rs) numbers.0
     ∙ ap (λ ts. failure_of a ∷ retry_to (a + 1) ∷ ts) (tries early last rs (a + 1) from.1
     (subst (λ n. EndsWith n last) same ends) numbers.1 (omega (arith, many)))
 
@@ -162,10 +163,14 @@ last_count a (failed s ∷ []) h = refl
 last_count a (finished ss ∷ []) h = refl
 last_count a (n ∷ news) h = absurd h
 
+tried_from_count : (n : ℕ) (early : List ExecuteStatus) (last : List News) → retried_in last ≡ 0
+    → retried_in (tried_from n early ++ last) ≡ length early
+tried_from_count n [] last none = none
+tried_from_count n (s ∷ early) last none = omega (arith, tried_from_count (n + 1) early last none)
+
 pub tried_count : (early : List ExecuteStatus) (last : List News) → retried_in last ≡ 0
     → retried_in (tried early ++ last) ≡ length early
-tried_count [] last none = none
-tried_count (s ∷ early) last none = omega (arith, tried_count early last none)
+tried_count early last none = tried_from_count 1 early last none
 
 -- an account and the retries that it has
 abbrev AreTold : List TestRetry → List News → Type 0

@@ -10,7 +10,7 @@ use Rattle.run_events.specs.declared.plan.Plan.{Plan}
 use Rattle.run_input.specs.declared.errors.InputError.{InputError}
 use Rattle.run_input.specs.declared.errors.InputError.TheVariants.{Line, OutOfMemory}
 use Rattle.run_input.specs.Refused.{IsRefusedInput, IsRefusedTurns}
-use Rattle.run_input.specs.Input.{plan_line_of, turn_line_of, turns_of, IsFirstBadTurn, HasNoBadLine}
+use Rattle.run_input.specs.Input.{plan_line_of, turn_line_of, turns_said, IsFirstBadTurn, HasOnlyGoodLines}
 
 -- the turn and the turns after it
 first_and_rest : (first : Option Turn) (rest : Option (List Turn)) (turns : List Turn)
@@ -22,13 +22,13 @@ first_and_rest (Some turn) (Some others) turns e = (turn, others, refl, refl, sa
 
 -- one line more says one turn more
 turns_of-push : (lines : List (List ℕ)) (line : List ℕ) (turns : List Turn) (turn : Turn)
-    → turns_of lines ≡ Some turns → turn_line_of line ≡ Some turn
-    → turns_of (lines ++ line ∷ []) ≡ Some (turns ++ turn ∷ [])
+    → turns_said lines ≡ Some turns → turn_line_of line ≡ Some turn
+    → turns_said (lines ++ line ∷ []) ≡ Some (turns ++ turn ∷ [])
 turns_of-push [] line turns turn before last =
     let none : [] ≡ turns = same_Some [] turns before in rw last (ap (λ xs. Some (xs ++ turn ∷ [])) none)
 turns_of-push (first ∷ lines) line turns turn before last =
     let (said, others, is_said, are_others, whole) =
-    first_and_rest (turn_line_of first) (turns_of lines) turns before in
+    first_and_rest (turn_line_of first) (turns_said lines) turns before in
     let more = turns_of-push lines line others turn are_others last in
     rw (is_said, more) (ap (λ xs. Some (xs ++ turn ∷ [])) whole)
 
@@ -36,7 +36,7 @@ turns_of-push (first ∷ lines) line turns turn before last =
 pub record ReadSoFar (bytes rest : List ℕ) (turns : List Turn) (number : ℕ) : Type 0 where
   pub read : List (List ℕ)
   pub split : lines_of bytes ≡ read ++ lines_of rest
-  pub said : turns_of read ≡ Some turns
+  pub said : turns_said read ≡ Some turns
   pub counted : number ≡ length read + 2
   pub room : number + length rest ≤ length bytes + 2
 
@@ -60,9 +60,9 @@ read_more bytes rest after line turns turn number so_far first shorter says = re
 -- with no byte left the turns are those of all lines
 pub read_all_lines : (bytes rest : List ℕ) (turns : List Turn) (number : ℕ) → ReadSoFar bytes rest turns number
     → rest ≡ []
-    → turns_of (lines_of bytes) ≡ Some turns
+    → turns_said (lines_of bytes) ≡ Some turns
 read_all_lines bytes rest turns number so_far done =
-    ap turns_of (so_far.split ∙ ap (λ left. so_far.read ++ lines_of left) done ∙ append-nil so_far.read) ∙ so_far.said
+    ap turns_said (so_far.split ∙ ap (λ left. so_far.read ++ lines_of left) done ∙ append-nil so_far.read) ∙ so_far.said
 
 -- the next line is the first bad one where it is no turn line
 pub read_bad : (bytes rest after line : List ℕ) (turns : List Turn) (number : ℕ)
@@ -86,17 +86,17 @@ none_after (Some turn) = refl
 
 -- lines with a bad one among them say no turns
 turns_of-bad : (before : List (List ℕ)) (bad : List ℕ) (after : List (List ℕ))
-    → turn_line_of bad ≡ None → turns_of (before ++ bad ∷ after) ≡ None
+    → turn_line_of bad ≡ None → turns_said (before ++ bad ∷ after) ≡ None
 turns_of-bad [] bad after outside = rw outside refl
 turns_of-bad (line ∷ before) bad after outside =
     let rest = turns_of-bad before bad after outside in rw rest (none_after (turn_line_of line))
 
 -- an input that says something has no first bad line
-pub has_no_bad_line : HasNoBadLine
+pub has_no_bad_line : HasOnlyGoodLines
 has_no_bad_line [] keys plan turns number says first = says
 has_no_bad_line (line ∷ others) keys plan turns number says first =
     let bad : IsFirstBadTurn others number = rw says.0 at first in
-    let none = ap turns_of bad.split ∙ turns_of-bad bad.before bad.bad bad.after bad.outside in
+    let none = ap turns_said bad.split ∙ turns_of-bad bad.before bad.bad bad.after bad.outside in
     none-some turns (sym none ∙ says.1)
 
 -- what refuses the lines after a plan line refuses the input

@@ -37,8 +37,8 @@ mode_named name =
     else if pointwise nat_eq name (codes "benchmark") then Some modes.Benchmark
     else None
 
-abbrev pub mode_of : Data → Option RunMode
-mode_of d = option_and_then mode_named (as_str d)
+abbrev pub mode_from : Data → Option RunMode
+mode_from d = option_and_then mode_named (as_str d)
 
 -- the first moment that a timestamp has, and the last, in nanoseconds since the start of 1970
 abbrev pub first_moment : ℤ
@@ -87,7 +87,7 @@ abbrev pub run_of : Data → Option (List ℕ × Option Timestamp × RunMode)
 run_of d = do
   run_id ← option_and_then run_id_of (get (codes "run_id") d)
   started_at ← optional moment_of (get (codes "started_at") d)
-  mode ← or_usual modes.Test mode_of (get (codes "mode") d)
+  mode ← or_usual modes.Test mode_from (get (codes "mode") d)
   Some (run_id, started_at, mode)
 
 -- its profile, its folder, and the words with which the runner was called
@@ -99,8 +99,8 @@ words_of d = do
   Some (profile, root, args)
 
 -- what a run is to its children
-abbrev pub head_of : Data → Option RunHead
-head_of d = do
+abbrev pub head_from : Data → Option RunHead
+head_from d = do
   run ← run_of d
   words ← words_of d
   versions ← versions_of d
@@ -136,6 +136,6 @@ runners_of d = do
 -- what a run is to its children, and the runners of its tests
 abbrev pub frame_of : Data → Option (RunHead × TargetRunner)
 frame_of d = do
-  head ← head_of d
+  head ← head_from d
   runners ← or_usual no_runners runners_of (get (codes "runners") d)
   Some (head, runners)

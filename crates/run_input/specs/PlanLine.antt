@@ -25,9 +25,9 @@ use Rattle.run_input.specs.declared.plan_line.RunnerKeys.{RunnerKeys}
 use Rattle.run_input.specs.Fields.{◌>>=◌, when, is_object_of, optional, or_usual, u32_of, u64_of}
 use Rattle.run_input.specs.PlanHead.{frame_of}
 use Rattle.run_input.specs.PlanInterceptor.{interceptor_of}
-use Rattle.run_input.specs.PlanRetries.{retries_of, flaky_of}
-use Rattle.run_input.specs.PlanScripts.{scripts_of}
-use Rattle.run_input.specs.PlanTest.{test_of}
+use Rattle.run_input.specs.PlanRetries.{retries_from, flaky_from}
+use Rattle.run_input.specs.PlanScripts.{scripts_listed}
+use Rattle.run_input.specs.PlanTest.{test_from}
 use lib.Pointwise.{pointwise}
 
 -- the way of capture that a text names
@@ -60,8 +60,8 @@ max_fail_of d = do
   Some (Count count mode)
 
 -- how output is captured, how many tests run at a time, and after how many failures none starts any more
-abbrev pub limits_of : Data → Option (CaptureStrategy × Option ℕ × MaxFail)
-limits_of d = do
+abbrev pub limits_from : Data → Option (CaptureStrategy × Option ℕ × MaxFail)
+limits_from d = do
   capture ← or_usual capture.Split capture_of (get (codes "capture") d)
   threads ← optional u32_of (get (codes "threads") d)
   max_fail ← or_usual All max_fail_of (get (codes "max_fail") d)
@@ -70,15 +70,15 @@ limits_of d = do
 -- how often each test is tried again, and what a pass counts as then
 abbrev pub retrying_of : Data → Option (Option RetryPolicy × Option FlakyResult)
 retrying_of d = do
-  retries ← optional retries_of (get (codes "retries") d)
-  flaky_result ← optional flaky_of (get (codes "flaky_result") d)
+  retries ← optional retries_from (get (codes "retries") d)
+  flaky_result ← optional flaky_from (get (codes "flaky_result") d)
   Some (retries, flaky_result)
 
 -- what the keys of a plan line set of a runner: where nothing else is said output is captured split, all tests run,
 -- each has its own retries, and none runs under a debugger or a tracer
 abbrev pub keys_of : Data → Option RunnerKeys
 keys_of d = do
-  limits ← limits_of d
+  limits ← limits_from d
   retrying ← retrying_of d
   interceptor ← or_usual under.None interceptor_of (get (codes "interceptor") d)
   Some (record {
@@ -102,15 +102,15 @@ abbrev pub signals_of : Data → Option SignalHandlerKind
 signals_of d = option_and_then signals_named (as_str d)
 
 -- which signals a run hears, all of them where nothing is said, and how long it may take
-abbrev pub rules_of : Data → Option (SignalHandlerKind × Option ℕ)
-rules_of d = do
+abbrev pub rules_from : Data → Option (SignalHandlerKind × Option ℕ)
+rules_from d = do
   signals ← or_usual handlers.Standard signals_of (get (codes "signals") d)
   global_timeout ← optional u64_of (get (codes "global_timeout") d)
   Some (signals, global_timeout)
 
 -- a group, with its limit
-unfoldable pub group_of : Data → Option Group
-group_of d = do
+unfoldable pub group_from : Data → Option Group
+group_from d = do
   _ ← when (is_object_of (codes "limit" ∷ codes "name" ∷ []) d)
   limit ← option_and_then u32_of (get (codes "limit") d)
   name ← option_and_then as_str (get (codes "name") d)
@@ -120,7 +120,7 @@ group_of d = do
 abbrev pub groups_from : Items → Option (List Group)
 groups_from no_items = Some []
 groups_from (item d ds) = do
-  group ← group_of d
+  group ← group_from d
   groups ← groups_from ds
   Some (group ∷ groups)
 
@@ -132,7 +132,7 @@ groups_of d = option_and_then groups_from (as_array d)
 abbrev pub tests_from : Items → Option (List PlanTest)
 tests_from no_items = Some []
 tests_from (item d ds) = do
-  test ← test_of d
+  test ← test_from d
   tests ← tests_from ds
   Some (test ∷ tests)
 
@@ -157,7 +157,7 @@ plan_groups_of d = do
 -- the setup scripts of a plan, none where nothing is said, are fewer than 2^32
 abbrev pub plan_scripts_of : Option Data → Option (List PlanScript)
 plan_scripts_of d = do
-  scripts ← or_usual [] scripts_of d
+  scripts ← or_usual [] scripts_listed d
   _ ← when (nat_lt (length scripts) 4294967296)
   Some scripts
 
@@ -195,7 +195,7 @@ plan_names =
 -- the plan, without what is set of a runner
 abbrev pub plan_alone_of : Data → Option Plan
 plan_alone_of d = do
-  rules ← rules_of d
+  rules ← rules_from d
   frame ← frame_of d
   lists ← lists_of d
   Some (plan_with rules frame lists)

@@ -40,8 +40,8 @@ exponential_of d = do
   Some (Exponential count delay jitter max_delay)
 
 -- how often a test is tried again, and after which delays: they don't grow where nothing is said
-abbrev pub retries_of : Data → Option RetryPolicy
-retries_of d = do
+abbrev pub retries_from : Data → Option RetryPolicy
+retries_from d = do
   grows ← or_usual false grows_of (get (codes "backoff") d)
   if grows then exponential_of d else fixed_of d
 
@@ -52,5 +52,5 @@ flaky_named name =
     else if pointwise nat_eq name (codes "pass") then Some flakies.Pass
     else None
 
-abbrev pub flaky_of : Data → Option FlakyResult
-flaky_of d = option_and_then flaky_named (as_str d)
+abbrev pub flaky_from : Data → Option FlakyResult
+flaky_from d = option_and_then flaky_named (as_str d)

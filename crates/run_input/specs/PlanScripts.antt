@@ -62,5 +62,5 @@ scripts_from (item d ds) = do
   Some (script ∷ scripts)
 
 -- a list of scripts
-abbrev pub scripts_of : Data → Option (List PlanScript)
-scripts_of d = option_and_then scripts_from (as_array d)
+abbrev pub scripts_listed : Data → Option (List PlanScript)
+scripts_listed d = option_and_then scripts_from (as_array d)

@@ -17,7 +17,7 @@ use Rattle.run_events.specs.declared.result.SlowTimeoutResult.TheVariants as tim
 use Rattle.run_events.specs.declared.retry_policy.RetryPolicy.{RetryPolicy}
 use Rattle.run_events.specs.Usual.{usual_slow, usual_leak, no_retries, usual_test}
 use Rattle.run_input.specs.Fields.{◌>>=◌, when, is_object_of, optional, or_usual, u32_of, u64_of, texts_of, numbers_of}
-use Rattle.run_input.specs.PlanRetries.{retries_of, flaky_of}
+use Rattle.run_input.specs.PlanRetries.{retries_from, flaky_from}
 use lib.Pointwise.{pointwise}
 
 -- the name of a test
@@ -76,8 +76,8 @@ abbrev pub platform_of : Data → Option BuildPlatform
 platform_of d = option_and_then platform_named (as_str d)
 
 -- the weight of a test, 1 where nothing is said, and its time-outs
-abbrev pub terms_of : Data → Option (ℕ × SlowTimeout × LeakTimeout)
-terms_of d = do
+abbrev pub terms_from : Data → Option (ℕ × SlowTimeout × LeakTimeout)
+terms_from d = do
   weight ← or_usual 1 u32_of (get (codes "weight") d)
   slow ← or_usual usual_slow (slow_of usual_slow) (get (codes "slow") d)
   leak ← or_usual usual_leak leak_of (get (codes "leak") d)
@@ -86,8 +86,8 @@ terms_of d = do
 -- how often it is tried again, never where nothing is said, and what a pass counts as then
 abbrev pub trials_of : Data → Option (RetryPolicy × FlakyResult)
 trials_of d = do
-  retries ← or_usual no_retries retries_of (get (codes "retries") d)
-  flaky ← or_usual flakies.Pass flaky_of (get (codes "flaky") d)
+  retries ← or_usual no_retries retries_from (get (codes "retries") d)
+  flaky ← or_usual flakies.Pass flaky_from (get (codes "flaky") d)
   Some (retries, flaky)
 
 -- the group of a test, and the setup scripts whose variables its child gets, none where nothing is said
@@ -106,12 +106,12 @@ named_of d = do
   Some (usual_test id command skip)
 
 -- a test in its group, for its platform, with its weight, its time-outs, its retries and its scripts
-unfoldable pub test_of : Data → Option PlanTest
-test_of d = do
+unfoldable pub test_from : Data → Option PlanTest
+test_from d = do
   _ ← when (is_object_of (codes "binary" ∷ codes "command" ∷ codes "flaky" ∷ codes "group" ∷ codes "leak"
       ∷ codes "name" ∷ codes "platform" ∷ codes "retries" ∷ codes "scripts" ∷ codes "skip" ∷ codes "slow"
       ∷ codes "weight" ∷ []) d)
-  terms ← terms_of d
+  terms ← terms_from d
   trials ← trials_of d
   platform ← or_usual platforms.Target platform_of (get (codes "platform") d)
   ties ← ties_of d

@@ -84,8 +84,8 @@ signal_named name =
     else if is_word name (codes "usr1") then Some Usr1
     else None
 
-abbrev pub signal_of : Data → Option SignalKind
-signal_of d = option_and_then signal_named (as_str d)
+abbrev pub signal_from : Data → Option SignalKind
+signal_from d = option_and_then signal_named (as_str d)
 
 -- the one item of a list
 abbrev pub only_one : List ℕ → Option ℕ
@@ -140,8 +140,8 @@ child_exit_of None (Some signal) = option_map exits.Signal (i32_of signal)
 child_exit_of _ _ = None
 
 -- a child that ended
-unfoldable pub exit_of : Data → Option Turn
-exit_of d = do
+unfoldable pub exit_from : Data → Option Turn
+exit_from d = do
   _ ← when (is_object_of (codes "code" ∷ codes "signal" ∷ codes "turn" ∷ codes "unit" ∷ []) d)
   unit ← option_and_then u32_of (get (codes "unit") d)
   exit ← child_exit_of (get (codes "code") d) (get (codes "signal") d)
@@ -190,8 +190,8 @@ env_input_of None (Some failed) = env_failure_of failed
 env_input_of _ _ = None
 
 -- a script's environment file
-unfoldable pub env_of : Data → Option Turn
-env_of d = do
+unfoldable pub env_file_from : Data → Option Turn
+env_file_from d = do
   _ ← when (is_object_of (codes "failed" ∷ codes "hex" ∷ codes "turn" ∷ codes "unit" ∷ []) d)
   unit ← option_and_then u32_of (get (codes "unit") d)
   input ← env_input_of (get (codes "hex") d) (get (codes "failed") d)
@@ -213,13 +213,13 @@ timer_named name =
     else if is_word name (codes "info") then Some InfoDue
     else None
 
-abbrev pub timer_of : Data → Option Turn
-timer_of d = option_and_then timer_named (as_str d)
+abbrev pub timer_from : Data → Option Turn
+timer_from d = option_and_then timer_named (as_str d)
 
 -- the timer that is due, from what stands at its unit and at its name: exactly one of them is there
 abbrev pub due_timer_of : Option Data → Option Data → Option Turn
 due_timer_of (Some unit) None = option_map UnitDue (u32_of unit)
-due_timer_of None (Some timer) = timer_of timer
+due_timer_of None (Some timer) = timer_from timer
 due_timer_of _ _ = None
 
 -- a timer that is due
@@ -229,8 +229,8 @@ due_of d = do
   due_timer_of (get (codes "unit") d) (get (codes "timer") d)
 
 -- a unit that takes a request
-unfoldable pub take_of : Data → Option Turn
-take_of d = do
+unfoldable pub take_from : Data → Option Turn
+take_from d = do
   _ ← when (is_object_of (codes "turn" ∷ codes "unit" ∷ []) d)
   unit ← option_and_then u32_of (get (codes "unit") d)
   Some (Take unit)
@@ -246,7 +246,7 @@ clock_of d = do
 unfoldable pub came_of : Data → Option Turn
 came_of d = do
   _ ← when (is_object_of (codes "name" ∷ codes "turn" ∷ []) d)
-  signal ← option_and_then signal_of (get (codes "name") d)
+  signal ← option_and_then signal_from (get (codes "name") d)
   Some (Signal signal)
 
 -- a key that was pressed or let go
@@ -265,16 +265,16 @@ turn_by names.Admit d = bare_of Admit d
 turn_by names.Deliver d = bare_of Deliver d
 turn_by names.Started d = started_of d
 turn_by names.StartFailed d = start_failed_of d
-turn_by names.Exit d = exit_of d
+turn_by names.Exit d = exit_from d
 turn_by names.WaitFailed d = wait_failed_of d
 turn_by names.Piece d = piece_of d
 turn_by names.StreamEnd d = stream_end_of d
 turn_by names.ReadError d = read_error_of d
-turn_by names.Env d = env_of d
+turn_by names.Env d = env_file_from d
 turn_by names.Decide d = decide_of d
 turn_by names.Due d = due_of d
 turn_by names.Answer d = bare_of Answer d
-turn_by names.Take d = take_of d
+turn_by names.Take d = take_from d
 turn_by names.Clock d = clock_of d
 turn_by names.Signal d = came_of d
 turn_by names.Key d = key_of d

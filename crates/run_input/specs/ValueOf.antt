@@ -10,5 +10,5 @@ abbrev pub unless_float : Data → Option Data
 unless_float d = if has_float d then None else Some d
 
 -- the value of a line that is UTF-8 and one JSON value with no float in it
-unfoldable pub value_of : List ℕ → Option Data
-value_of bytes = if is_utf8 bytes then option_and_then unless_float (read bytes) else None
+unfoldable pub json_value : List ℕ → Option Data
+json_value bytes = if is_utf8 bytes then option_and_then unless_float (read bytes) else None

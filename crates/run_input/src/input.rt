@@ -1,7 +1,7 @@
 // A whole input: a plan line, and a turn line for each turn.
 ghost use Rattle.std.specs.Prelude.{◌≡◌, [], Some, IfOk, IfErr};
 ghost use Rattle.run_input.specs.Lines.{lines_of};
-ghost use Rattle.run_input.specs.Input.{turns_of, IsInput, IsFirstBadTurn};
+ghost use Rattle.run_input.specs.Input.{turns_said, IsInput, IsFirstBadTurn};
 ghost use Rattle.run_input.specs.Refused.{error_at, IsRefusedInput, IsRefusedTurns, IsRefusedAlone};
 
 use crate::both::both;
@@ -32,7 +32,7 @@ fn at_line(number: u64, error: LineError) -> InputError
 
 // Reads the lines after the first, whose numbers start at 2.
 fn read_turns(alloc: Global, bytes: &[u8]) -> Result<List<Turn>, InputError>
-    ensures ok { IfOk result (λ turns. turns_of (lines_of bytes.now) ≡ Some turns) }
+    ensures ok { IfOk result (λ turns. turns_said (lines_of bytes.now) ≡ Some turns) }
     ensures refused { IfErr result (IsRefusedTurns (lines_of bytes.now)) }
 {
     let mut turns = List::new();

@@ -8,8 +8,8 @@ ghost use Rattle.run_events.specs.declared.retry_policy.RunMode.TheVariants as m
 ghost use Rattle.run_commands.specs.TargetRunner.{no_runners};
 ghost use Rattle.run_events.specs.Usual.{usual_versions};
 ghost use Rattle.run_input.specs.Fields.{or_usual, optional};
-ghost use Rattle.run_input.specs.PlanHead.{uuid_of, run_id_of, mode_of, moment_named, moment_of, run_of, words_of};
-ghost use Rattle.run_input.specs.PlanHead.{version_named, version_of, versions_of, head_of, frame_of};
+ghost use Rattle.run_input.specs.PlanHead.{uuid_of, run_id_of, mode_from, moment_named, moment_of, run_of, words_of};
+ghost use Rattle.run_input.specs.PlanHead.{version_named, version_of, versions_of, head_from, frame_of};
 ghost use Rattle.run_input.specs.ReadsValue.{ReadsValue};
 
 use crate::LineError;
@@ -34,7 +34,7 @@ pub fn frame_from(alloc: Global, value: &Value) -> Result<(RunHead, TargetRunner
 }
 
 fn head_from(alloc: Global, value: &Value) -> Result<RunHead, LineError>
-    ensures { ReadsValue result (head_of (view value.now)) }
+    ensures { ReadsValue result (head_from (view value.now)) }
 {
     let run = run_from(value).ok_or(LineError::NotInTable)?;
     let words = words_from(alloc, value)?;
@@ -126,7 +126,7 @@ fn optional_moment_at(value: Option<&Value>) -> Option<Option<Timestamp>>
 
 // What a run is of, and tests where nothing is said.
 fn mode_at(value: Option<&Value>) -> Option<RunMode>
-    ensures { result ≡ or_usual modes.Test mode_of (option_map (λ v. view v.now) value.entry) }
+    ensures { result ≡ or_usual modes.Test mode_from (option_map (λ v. view v.now) value.entry) }
 {
     match value {
         Some(_) => named_mode(value),
@@ -135,7 +135,7 @@ fn mode_at(value: Option<&Value>) -> Option<RunMode>
 }
 
 fn named_mode(value: Option<&Value>) -> Option<RunMode>
-    ensures { result ≡ option_and_then mode_of (option_map (λ v. view v.now) value.entry) }
+    ensures { result ≡ option_and_then mode_from (option_map (λ v. view v.now) value.entry) }
 {
     match str_at(value)? {
         "test" => Some(RunMode::Test),

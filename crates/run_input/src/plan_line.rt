@@ -2,9 +2,9 @@
 ghost use Rattle.std.specs.Prelude.{◌≡◌, [], ◌+◌, length, nat_lt, option_map, option_and_then};
 ghost use Rattle.serde_json.specs.View.{view, items_view};
 ghost use Rattle.run_input.specs.ReadsValue.{ReadsValue};
-ghost use Rattle.run_input.specs.ValueOf.{value_of};
+ghost use Rattle.run_input.specs.ValueOf.{json_value};
 ghost use Rattle.run_input.specs.PlanLine.{tests_of, tests_from, plan_tests_of, groups_of, groups_from, plan_groups_of};
-ghost use Rattle.run_input.specs.PlanLine.{group_of, limits_of, retrying_of, keys_of, rules_of, lists_of};
+ghost use Rattle.run_input.specs.PlanLine.{group_from, limits_from, retrying_of, keys_of, rules_from, lists_of};
 ghost use Rattle.run_input.specs.PlanLine.{plan_scripts_of, plan_with, plan_alone_of, plan_of};
 ghost use Rattle.run_input.specs.Fields.{or_usual, when};
 
@@ -65,7 +65,7 @@ pub struct RunnerKeys {
 /// too, and has `command` (a text with a word at least, as a shell splits it) and `kind` (the text `debugger` or
 /// `tracer`).
 pub fn read_plan_line(alloc: Global, line: &[u8]) -> Result<(RunnerKeys, Plan), LineError>
-    ensures { ReadsValue result (option_and_then plan_of (value_of line.now)) }
+    ensures { ReadsValue result (option_and_then plan_of (json_value line.now)) }
 {
     match read_value(alloc, line) {
         Ok(value) => plan_from(alloc, &value),
@@ -124,7 +124,7 @@ fn plan_alone(alloc: Global, value: &Value) -> Result<Plan, LineError>
 
 // How output is captured, how many tests run at a time, and after how many failures none starts any more.
 fn limits_from(value: &Value) -> Option<(CaptureStrategy, Option<u32>, MaxFail)>
-    ensures { result ≡ limits_of (view value.now) }
+    ensures { result ≡ limits_from (view value.now) }
 {
     let capture = capture_at(value.get("capture"))?;
     let threads = optional_u32_at(value.get("threads"))?;
@@ -160,7 +160,7 @@ fn runner_keys(alloc: Global, value: &Value) -> Result<RunnerKeys, LineError>
 
 // Which signals a run hears, and how long it may take.
 fn rules_from(value: &Value) -> Option<(SignalHandlerKind, Option<u64>)>
-    ensures { result ≡ rules_of (view value.now) }
+    ensures { result ≡ rules_from (view value.now) }
 {
     let signals = signals_at(value.get("signals"))?;
     let global_timeout = optional_u64_at(value.get("global_timeout"))?;
@@ -251,9 +251,9 @@ fn scripts_of_plan(alloc: Global, value: Option<&Value>) -> Result<List<PlanScri
     }
 }
 
-#[tactic(auto, unfolding(crate::specs::PlanLine::group_of))]
+#[tactic(auto, unfolding(crate::specs::PlanLine::group_from))]
 fn group_from(alloc: Global, value: &Value) -> Result<Group, LineError>
-    ensures { ReadsValue result (group_of (view value.now)) }
+    ensures { ReadsValue result (group_from (view value.now)) }
 {
     if !has_keys_of(value, &["limit", "name"]) {
         return Err(LineError::NotInTable);

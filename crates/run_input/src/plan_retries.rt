@@ -4,7 +4,7 @@ ghost use Rattle.serde_json.specs.View.{view};
 ghost use Rattle.run_events.specs.Usual.{no_retries};
 ghost use Rattle.run_events.specs.declared.result.FlakyResult.TheVariants.{Pass};
 ghost use Rattle.run_input.specs.Fields.{optional, or_usual};
-ghost use Rattle.run_input.specs.PlanRetries.{grows_of, fixed_of, exponential_of, retries_of, flaky_of};
+ghost use Rattle.run_input.specs.PlanRetries.{grows_of, fixed_of, exponential_of, retries_from, flaky_from};
 
 use crate::fields::{optional_u64_at, str_at, truth_or, u32_at, u64_or};
 use crate::objects::has_keys_of;
@@ -13,7 +13,7 @@ use serde_json::Value;
 
 /// How often a test is tried again, and never where nothing is said.
 pub fn retries_at(value: Option<&Value>) -> Option<RetryPolicy>
-    ensures { result ≡ or_usual no_retries retries_of (option_map (λ v. view v.now) value.entry) }
+    ensures { result ≡ or_usual no_retries retries_from (option_map (λ v. view v.now) value.entry) }
 {
     match value {
         Some(retries) => retries_from(retries),
@@ -23,7 +23,7 @@ pub fn retries_at(value: Option<&Value>) -> Option<RetryPolicy>
 
 /// The same, where it is given for all tests alike.
 pub fn optional_retries_at(value: Option<&Value>) -> Option<Option<RetryPolicy>>
-    ensures { result ≡ optional retries_of (option_map (λ v. view v.now) value.entry) }
+    ensures { result ≡ optional retries_from (option_map (λ v. view v.now) value.entry) }
 {
     match value {
         Some(retries) => Some(Some(retries_from(retries)?)),
@@ -33,7 +33,7 @@ pub fn optional_retries_at(value: Option<&Value>) -> Option<Option<RetryPolicy>>
 
 // By whether its delays grow.
 fn retries_from(value: &Value) -> Option<RetryPolicy>
-    ensures { result ≡ retries_of (view value.now) }
+    ensures { result ≡ retries_from (view value.now) }
 {
     if grows_at(value.get("backoff"))? {
         exponential_from(value)
@@ -100,7 +100,7 @@ fn named_growth(value: Option<&Value>) -> Option<bool>
 
 /// What a pass after a failed attempt counts as, and a pass where nothing is said.
 pub fn flaky_at(value: Option<&Value>) -> Option<FlakyResult>
-    ensures { result ≡ or_usual Pass flaky_of (option_map (λ v. view v.now) value.entry) }
+    ensures { result ≡ or_usual Pass flaky_from (option_map (λ v. view v.now) value.entry) }
 {
     match value {
         Some(_) => named_flaky(value),
@@ -110,7 +110,7 @@ pub fn flaky_at(value: Option<&Value>) -> Option<FlakyResult>
 
 /// The same, where it is given for all tests alike.
 pub fn optional_flaky_at(value: Option<&Value>) -> Option<Option<FlakyResult>>
-    ensures { result ≡ optional flaky_of (option_map (λ v. view v.now) value.entry) }
+    ensures { result ≡ optional flaky_from (option_map (λ v. view v.now) value.entry) }
 {
     match value {
         Some(_) => Some(Some(named_flaky(value)?)),
@@ -119,7 +119,7 @@ pub fn optional_flaky_at(value: Option<&Value>) -> Option<Option<FlakyResult>>
 }
 
 fn named_flaky(value: Option<&Value>) -> Option<FlakyResult>
-    ensures { result ≡ option_and_then flaky_of (option_map (λ v. view v.now) value.entry) }
+    ensures { result ≡ option_and_then flaky_from (option_map (λ v. view v.now) value.entry) }
 {
     match str_at(value)? {
         "fail" => Some(FlakyResult::Fail),

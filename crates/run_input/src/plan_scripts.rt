@@ -3,7 +3,7 @@ ghost use Rattle.std.specs.Prelude.{◌≡◌, [], option_map};
 ghost use Rattle.serde_json.specs.View.{view, items_view};
 ghost use Rattle.run_input.specs.Fields.{or_usual};
 ghost use Rattle.run_input.specs.PlanScripts.{usual_script_slow, script_times_of, script_captures_of, script_words_of};
-ghost use Rattle.run_input.specs.PlanScripts.{script_of, scripts_from, scripts_of};
+ghost use Rattle.run_input.specs.PlanScripts.{script_of, scripts_from, scripts_listed};
 ghost use Rattle.run_input.specs.ReadsValue.{ReadsValue};
 
 use crate::LineError;
@@ -17,7 +17,7 @@ use std::alloc::Global;
 
 /// The setup scripts of a list, and none where there is none.
 pub fn scripts_at(alloc: Global, value: Option<&Value>) -> Result<List<PlanScript>, LineError>
-    ensures { ReadsValue result (or_usual [] scripts_of (option_map (λ v. view v.now) value.entry)) }
+    ensures { ReadsValue result (or_usual [] scripts_listed (option_map (λ v. view v.now) value.entry)) }
 {
     match value {
         Some(list) => match list.as_array() {

@@ -4,7 +4,7 @@ ghost use Rattle.serde_json.specs.View.{view};
 ghost use Rattle.run_events.specs.Usual.{usual_leak};
 ghost use Rattle.run_input.specs.ReadsValue.{ReadsValue};
 ghost use Rattle.run_commands.specs.declared.target_runner.BuildPlatform.TheVariants as platforms;
-ghost use Rattle.run_input.specs.PlanTest.{id_of, named_of, platform_of, terms_of, test_of, ties_of, trials_of};
+ghost use Rattle.run_input.specs.PlanTest.{id_of, named_of, platform_of, terms_from, test_from, ties_of, trials_of};
 ghost use Rattle.run_input.specs.PlanTest.{slow_of, leak_of, timeout_of, leak_result_of};
 ghost use Rattle.run_input.specs.Fields.{u32_of, or_usual};
 
@@ -25,9 +25,9 @@ use serde_json::Value;
 use std::alloc::Global;
 
 /// A test, by its keys.
-#[tactic(auto, unfolding(crate::specs::PlanTest::test_of))]
+#[tactic(auto, unfolding(crate::specs::PlanTest::test_from))]
 pub fn test_from(alloc: Global, value: &Value) -> Result<PlanTest, LineError>
-    ensures { ReadsValue result (test_of (view value.now)) }
+    ensures { ReadsValue result (test_from (view value.now)) }
 {
     if !has_keys_of(
         value,
@@ -123,7 +123,7 @@ fn named_from(alloc: Global, value: &Value) -> Result<PlanTest, LineError>
 
 // The weight of a test, and its time-outs.
 fn terms_from(value: &Value) -> Option<(u32, SlowTimeout, LeakTimeout)>
-    ensures { result ≡ terms_of (view value.now) }
+    ensures { result ≡ terms_from (view value.now) }
 {
     let weight = weight_at(value.get("weight"))?;
     let slow = slow_or(SlowTimeout::usual(), value.get("slow"))?;

@@ -2,8 +2,8 @@
 ghost use Rattle.std.specs.Prelude.{◌≡◌, option_map, option_and_then};
 ghost use Rattle.serde_json.specs.View.{view};
 ghost use Rattle.run_input.specs.ReadsValue.{ReadsValue};
-ghost use Rattle.run_input.specs.TurnLine.{stream_of, signal_of, only_one, code_of, hex_of, child_exit_of};
-ghost use Rattle.run_input.specs.TurnLine.{env_failure_of, env_input_of, timer_of};
+ghost use Rattle.run_input.specs.TurnLine.{stream_of, signal_from, only_one, code_of, hex_of, child_exit_of};
+ghost use Rattle.run_input.specs.TurnLine.{env_failure_of, env_input_of, timer_from};
 ghost use Rattle.std.specs.Str.{chars};
 ghost use Rattle.std.specs.Result.{result_ok};
 ghost use Rattle.hex.specs.Hex.{decode_of};
@@ -31,7 +31,7 @@ pub fn stream_at(value: Option<&Value>) -> Option<Stream>
 
 /// A signal, by its name.
 pub fn signal_at(value: Option<&Value>) -> Option<Signal>
-    ensures { result ≡ option_and_then signal_of (option_map (λ v. view v.now) value.entry) }
+    ensures { result ≡ option_and_then signal_from (option_map (λ v. view v.now) value.entry) }
 {
     match str_at(value)? {
         "int" => Some(Signal::Int),
@@ -133,7 +133,7 @@ pub fn env_input(
 
 /// A timer of the run's own that is due.
 pub fn timer_from(value: &Value) -> Option<Turn>
-    ensures { result ≡ timer_of (view value.now) }
+    ensures { result ≡ timer_from (view value.now) }
 {
     match value.as_str()? {
         "global" => Some(Turn::GlobalDue),

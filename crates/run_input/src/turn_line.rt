@@ -2,10 +2,10 @@
 ghost use Rattle.std.specs.Prelude.{◌≡◌, option_map, option_and_then};
 ghost use Rattle.serde_json.specs.View.{view};
 ghost use Rattle.run_input.specs.ReadsValue.{ReadsValue};
-ghost use Rattle.run_input.specs.ValueOf.{value_of};
-ghost use Rattle.run_input.specs.TurnLine.{bare_of, started_of, failed_of, start_failed_of, wait_failed_of, exit_of};
-ghost use Rattle.run_input.specs.TurnLine.{piece_of, stream_end_of, read_error_of, env_of, decide_of, due_timer_of};
-ghost use Rattle.run_input.specs.TurnLine.{due_of, take_of, clock_of, came_of, key_of, turn_by, turn_of};
+ghost use Rattle.run_input.specs.ValueOf.{json_value};
+ghost use Rattle.run_input.specs.TurnLine.{bare_of, started_of, failed_of, start_failed_of, wait_failed_of, exit_from};
+ghost use Rattle.run_input.specs.TurnLine.{piece_of, stream_end_of, read_error_of, env_file_from, decide_of, due_timer_of};
+ghost use Rattle.run_input.specs.TurnLine.{due_of, take_from, clock_of, came_of, key_of, turn_by, turn_of};
 
 use crate::LineError;
 use crate::fields::{str_at, text_at, truth_at, u32_at, u64_at};
@@ -33,7 +33,7 @@ use std::alloc::Global;
 /// `unit`;
 /// `clock` has `ns`; `signal` has `name`; `key` has `code` (`enter` or one character), `modified` and `press`.
 pub fn read_turn_line(alloc: Global, line: &[u8]) -> Result<Turn, LineError>
-    ensures { ReadsValue result (option_and_then turn_of (value_of line.now)) }
+    ensures { ReadsValue result (option_and_then turn_of (json_value line.now)) }
 {
     match read_value(alloc, line) {
         Ok(value) => turn_from(alloc, &value),
@@ -139,9 +139,9 @@ fn wait_failed(alloc: Global, value: &Value) -> Result<Turn, LineError>
     Ok(Turn::WaitFailed { unit, error })
 }
 
-#[tactic(auto, unfolding(crate::specs::TurnLine::exit_of))]
+#[tactic(auto, unfolding(crate::specs::TurnLine::exit_from))]
 fn exit(value: &Value) -> Option<Turn>
-    ensures { result ≡ exit_of (view value.now) }
+    ensures { result ≡ exit_from (view value.now) }
 {
     if !has_keys_of(value, &["code", "signal", "turn", "unit"]) {
         return None;
@@ -197,9 +197,9 @@ fn read_error(alloc: Global, value: &Value) -> Result<Turn, LineError>
     })
 }
 
-#[tactic(auto, unfolding(crate::specs::TurnLine::env_of))]
+#[tactic(auto, unfolding(crate::specs::TurnLine::env_file_from))]
 fn env(alloc: Global, value: &Value) -> Result<Turn, LineError>
-    ensures { ReadsValue result (env_of (view value.now)) }
+    ensures { ReadsValue result (env_file_from (view value.now)) }
 {
     if !has_keys_of(value, &["failed", "hex", "turn", "unit"]) {
         return Err(LineError::NotInTable);
@@ -246,9 +246,9 @@ fn due(value: &Value) -> Option<Turn>
     due_timer(value.get("unit"), value.get("timer"))
 }
 
-#[tactic(auto, unfolding(crate::specs::TurnLine::take_of))]
+#[tactic(auto, unfolding(crate::specs::TurnLine::take_from))]
 fn take(value: &Value) -> Option<Turn>
-    ensures { result ≡ take_of (view value.now) }
+    ensures { result ≡ take_from (view value.now) }
 {
     if !has_keys_of(value, &["turn", "unit"]) {
         return None;

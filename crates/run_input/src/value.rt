@@ -1,7 +1,7 @@
 // A line as a JSON value.
 ghost use Rattle.std.specs.Prelude.{◌≡◌, Some, None, Err, IfOk};
 ghost use Rattle.serde_json.specs.View.{view};
-ghost use Rattle.run_input.specs.ValueOf.{value_of};
+ghost use Rattle.run_input.specs.ValueOf.{json_value};
 
 use crate::LineError;
 use crate::floats::value_has_float;
@@ -10,8 +10,8 @@ use std::alloc::Global;
 
 /// Reads a line as a JSON value with no float in it.
 pub fn read_value(alloc: Global, line: &[u8]) -> Result<Value, LineError>
-    ensures ok { IfOk result (λ v. value_of line.now ≡ Some (view v)) }
-    ensures refused { result ≡ Err LineError.NotInTable → value_of line.now ≡ None }
+    ensures ok { IfOk result (λ v. json_value line.now ≡ Some (view v)) }
+    ensures refused { result ≡ Err LineError.NotInTable → json_value line.now ≡ None }
 {
     let value = match Value::from_slice(alloc, line) {
         Ok(value) => value,

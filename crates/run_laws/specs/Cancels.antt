@@ -64,9 +64,9 @@ begins_in (TestStarted event) = true
 begins_in (TestRetryStarted event) = true
 begins_in _ = false
 
-abbrev pub begins : ReporterEvent → Bool
-begins (Test event) = begins_in event.kind
-begins _ = false
+abbrev pub tells_start : ReporterEvent → Bool
+tells_start (Test event) = begins_in event.kind
+tells_start _ = false
 
 -- what a turn is as a cause after others of its sub-run, if it is one: a shutdown signal, the first or the second that was
 -- heard; the time of the sub-run; an event that was refused; the delivery of a script's finish, where it is no success; or
@@ -130,7 +130,7 @@ pub record IsCancelled (p : Settings) (before : List Happening) (x : Happening) 
   pub with_reason : IfSome x.cancel (λ event. reason_told event ≡ x.cause)
   pub kills : IfSome x.cancel (λ event. kills event ≡ is_second x.cause)
   pub own : IfSome x.told (λ event. reason_told event ≡ None)
-  pub starts : IfSome x.told (λ event. begins event ≡ true → reason before ≡ None)
+  pub starts : IfSome x.told (λ event. tells_start event ≡ true → reason before ≡ None)
   pub asks : IfSome x.asked (λ ask. asks_start ask ≡ true → reason before ≡ None)
 
 -- that holds of each turn of every legal journal

@@ -46,8 +46,8 @@ pub record IsJournalOf (p : Settings) (turns : List Turn) (refuses : ℕ → Boo
   pub answers : AreAnswersOf refuses journal
 
 -- whether a turn after a history is a shutdown signal that is taken no more, since two came before it
-abbrev pub is_third : Settings → List Happening → Turn → Bool
-is_third p past turn = is_third_signal (board p past) turn
+abbrev pub is_third_after : Settings → List Happening → Turn → Bool
+is_third_after p past turn = is_third_signal (board p past) turn
 
 -- with this reporter the turns before this place are those of a legal journal, after which the turn there isn't enabled,
 -- and is a third signal or not
@@ -55,7 +55,7 @@ abbrev pub Stops : Settings → List Turn → (ℕ → Bool) → ℕ → Bool �
 Stops p turns refuses place third =
     (journal : List Entry) × IsJournalOf p (take place turns) refuses journal
     × ((turn : Turn) × (slice_get turns place ≡ Some turn) × (enabled p (past_of p journal) turn ≡ false)
-    × (is_third p (past_of p journal) turn ≡ third))
+    × (is_third_after p (past_of p journal) turn ≡ third))
 
 -- with this reporter all turns are those of a legal journal, after which the run isn't over
 abbrev pub GoesOn : Settings → List Turn → (ℕ → Bool) → Type 0

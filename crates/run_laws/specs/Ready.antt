@@ -21,12 +21,12 @@ use Rattle.run_model.specs.Turns.{starting, enabled, turn_of_unit}
 use Rattle.run_model.specs.Journal.{past_of, IsLegal}
 
 -- neither the dispatcher nor a unit took a turn later than the clock is
-pub record IsTimely (b : Board) : Type 0 where
+pub record IsTimelyBoard (b : Board) : Type 0 where
   pub dispatcher : b.dispatcher.latest ≤ b.clock
   pub units : (k : ℕ) (u : UnitView) → unit_in b k ≡ Some u → u.latest ≤ b.clock
 
 -- the unit of this number is one of the plan and can take a turn
-pub record CanTake (b : Board) (k : ℕ) (turn : UnitTurn) : Type 0 where
+pub record CanTakeTurn (b : Board) (k : ℕ) (turn : UnitTurn) : Type 0 where
   pub unit : UnitView
   pub is : unit_in b k ≡ Some unit
   pub named : number unit ≡ k
@@ -36,7 +36,7 @@ pub record CanTake (b : Board) (k : ℕ) (turn : UnitTurn) : Type 0 where
 
 -- an answer can be given to the unit that waits for it
 abbrev pub CanAnswer : Board → Option ℕ → Option Bool → Type 0
-CanAnswer b (Some k) (Some go) = CanTake b k (Answered go)
+CanAnswer b (Some k) (Some go) = CanTakeTurn b k (Answered go)
 CanAnswer b _ _ = ⊤
 
 -- the oldest message can be delivered
@@ -65,11 +65,11 @@ CanRun p b _ = ⊥
 -- a turn can be taken: none is earlier than the latest that its taker took
 abbrev pub CanAdvance : Settings → Board → Turn → Option (ℕ × UnitTurn) → Type 0
 CanAdvance p b turn None = (b.dispatcher.latest ≤ b.clock) × CanRun p b turn
-CanAdvance p b turn (Some named) = CanTake b named.0 named.1
+CanAdvance p b turn (Some named) = CanTakeTurn b named.0 named.1
 
 -- after every legal journal no turn was taken later than the clock is
 abbrev pub AllAreTimely : Type 0
-AllAreTimely = (p : Settings) (journal : List Entry) → IsLegal p journal → IsTimely (board p (past_of p journal))
+AllAreTimely = (p : Settings) (journal : List Entry) → IsLegal p journal → IsTimelyBoard (board p (past_of p journal))
 
 -- a turn of the clock moves it by its nanoseconds, and no other turn moves it
 abbrev pub moved_by : Turn → ℕ

@@ -73,10 +73,10 @@ pub fn turns_are_timely()
 
 /// In every sub-run that has ended, also in the newest of a run that is over, each test has its fate: one that doesn't
 /// match was told skipped once and nothing else; any other was told started once, then the failure of each attempt that
-/// was tried again and its retry, and finished once, with the results of its own turns, or, exactly where a cause came
-/// before the delivery of its start or of a retry, was never started or was left there. Of a finished one each attempt but
-/// the last failed, and the last passed or no retry was left; of one that was left each failed, and a retry was left. Each
-/// attempt that was let go has ended, and has its status.
+/// was tried again and its retry, by its number, and finished once, with the results of its own turns, or, exactly where a
+/// cause came before the delivery of its start or of a retry, was never started or was left there. Of a finished one each
+/// attempt but the last failed, and the last passed or no retry was left; of one that was left each failed, a retry was
+/// left, and they are as many as had been delivered. Each attempt that was let go has ended, and has its status.
 pub fn each_test_has_its_fate()
     ensures fates { EachHasFate }
     ensures over { OverHasEnded }

@@ -6,20 +6,20 @@ use Rattle.std.proofs.lemmas.Bool.{cases_lt}
 use Rattle.std.proofs.lemmas.List.Sums.{sum_by_push}
 use Rattle.std.specs.List.{All, sum_by}
 use Rattle.run_shared.specs.declared.shared.Receipt.{Receipt}
-use Rattle.run_shared.specs.Receipts.{joined}
+use Rattle.run_shared.specs.Receipts.{concatenated}
 use Rattle.run_drive.specs.declared.spawner.Heard.{Heard}
 use Rattle.run_drive.specs.Driven.{Drives, OfTicker}
 use Rattle.run_live.specs.Own.{IsOwn, IsLive}
-use Rattle.run_live.specs.Work.{IsGathered, IsWhole}
+use Rattle.run_live.specs.Work.{IsGathered, IsWholeWork}
 
 -- one list of receipts more
-joined_push : (rss : List (List Receipt)) (rs : List Receipt) → joined (rss ++ rs ∷ []) ≡ joined rss ++ rs
+joined_push : (rss : List (List Receipt)) (rs : List Receipt) → concatenated (rss ++ rs ∷ []) ≡ concatenated rss ++ rs
 joined_push [] rs = append-nil rs
-joined_push (first ∷ rest) rs = ap (λ xs. first ++ xs) (joined_push rest rs) ∙ sym (append_assoc first (joined rest) rs)
+joined_push (first ∷ rest) rs = ap (λ xs. first ++ xs) (joined_push rest rs) ∙ sym (append_assoc first (concatenated rest) rs)
 
 length-joined_push : (rss : List (List Receipt)) (rs : List Receipt)
-    → length (joined (rss ++ rs ∷ [])) ≡ length (joined rss) + length rs
-length-joined_push rss rs = ap length (joined_push rss rs) ∙ length-append (joined rss) rs
+    → length (concatenated (rss ++ rs ∷ [])) ≡ length (concatenated rss) + length rs
+length-joined_push rss rs = ap length (joined_push rss rs) ∙ length-append (concatenated rss) rs
 
 -- what a spawner that had said nothing was driven to say
 pub own_of : {W : Type 0} (has_said : W → List Heard → Type 0) (w v : W) (rs : List Receipt)
@@ -68,7 +68,7 @@ gathered_more has_said ws rss parts amount w rs g own = record {
 
 pub whole_of : {W : Type 0} (has_said : W → List Heard → Type 0) (ws : List W) (rss : List (List Receipt))
     (parts amount : ℕ) (rs : List Receipt) → IsGathered has_said ws rss parts amount → All OfTicker rs
-    → IsWhole has_said ws (rss ++ rs ∷ []) (parts + 1) (amount + length rs)
+    → IsWholeWork has_said ws (rss ++ rs ∷ []) (parts + 1) (amount + length rs)
 whole_of has_said ws rss parts amount rs g ticks = record {
   live = record {
     lists = omega (arith, length_push rss rs, g.lists);
@@ -94,7 +94,7 @@ pub whole_push : {W S : Type 0} (has_said : W → List Heard → Type 0) (parts_
     (rss : List (List Receipt)) (ss : List S) (rs : List Receipt) (s : S) → parts_of s ≡ 1
     → amount_of s ≡ length rs → IsGathered has_said ws rss (sum_by parts_of ss) (sum_by amount_of ss)
     → All OfTicker rs
-    → IsWhole has_said ws (rss ++ rs ∷ []) (sum_by parts_of (ss ++ s ∷ [])) (sum_by amount_of (ss ++ s ∷ []))
+    → IsWholeWork has_said ws (rss ++ rs ∷ []) (sum_by parts_of (ss ++ s ∷ [])) (sum_by amount_of (ss ++ s ∷ []))
 whole_push has_said parts_of amount_of ws rss ss rs s one rose g ticks =
     rw (sum_by_push parts_of ss s, sum_by_push amount_of ss s, one, rose)
     (whole_of has_said ws rss (sum_by parts_of ss) (sum_by amount_of ss) rs g ticks)

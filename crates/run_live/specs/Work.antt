@@ -3,7 +3,7 @@ use Rattle.std.specs.Prelude.{ℕ, ◌≡◌, ◌+◌, ◌<◌, List, length, sl
 use Rattle.std.specs.Option.{IfSome}
 use Rattle.std.specs.List.{All}
 use Rattle.run_shared.specs.declared.shared.Receipt.{Receipt}
-use Rattle.run_shared.specs.Receipts.{joined}
+use Rattle.run_shared.specs.Receipts.{concatenated}
 use Rattle.run_drive.specs.declared.spawner.Heard.{Heard}
 use Rattle.run_drive.specs.Driven.{OfTicker}
 use Rattle.run_live.specs.Own.{IsOwn, IsLive}
@@ -34,13 +34,13 @@ pub record IsGathered {W : Type 0} (has_said : W → List Heard → Type 0) (ws 
     (all_parts all_amount : ℕ) : Type 0 where
   pub lists : length rss ≡ length ws
   pub parts : all_parts ≡ length ws
-  pub amounts : all_amount ≡ length (joined rss)
+  pub amounts : all_amount ≡ length (concatenated rss)
   pub own : (k : ℕ) (w : W) (rs : List Receipt) → k < length ws
       → IsOwn has_said (slice_index_or ws k w) (slice_index_or rss k rs)
 
 -- the same with the ticker's list behind those of the workers
-pub record IsWhole {W : Type 0} (has_said : W → List Heard → Type 0) (ws : List W) (rss : List (List Receipt))
+pub record IsWholeWork {W : Type 0} (has_said : W → List Heard → Type 0) (ws : List W) (rss : List (List Receipt))
     (all_parts all_amount : ℕ) : Type 0 where
   pub live : IsLive has_said ws rss
   pub parts : all_parts ≡ length ws + 1
-  pub amounts : all_amount ≡ length (joined rss)
+  pub amounts : all_amount ≡ length (concatenated rss)

@@ -1,10 +1,10 @@
 // What a run leaves once all threads have ended.
 ghost use Rattle.std.specs.Prelude.{◌≡◌, ◌≢◌, ◌+◌, ◌<◌, ℕ, [], IfOk, IfSome, IsSome, IsNone, IsTrue, ◌↔◌, Some, None, length};
 ghost use Rattle.std.specs.List.{All, sum_by};
-ghost use Rattle.run_shared.specs.Receipts.{joined, numbers_of, times, StandsIn};
+ghost use Rattle.run_shared.specs.Receipts.{concatenated, receipt_numbers, times, StandsIn};
 ghost use Rattle.run_shared.specs.Closed.{IsLeft, Refuses};
 ghost use Rattle.run_live.specs.Own.{IsLive};
-ghost use Rattle.run_live.specs.Work.{IsWhole};
+ghost use Rattle.run_live.specs.Work.{IsWholeWork};
 
 use crate::gathering::Gathered;
 use crate::lived::{Live, Lived};
@@ -121,18 +121,18 @@ pub(crate) fn finish<W: Spawner + Drop, L: Ledger, R: Reporter>(
     shared: SharedRun<L, R>,
     all: Gathered<L, W>,
 ) -> Result<Lived<W, R>, R>
-    requires whole { IsWhole W.has_said all.workers.items all.receipts
+    requires whole { IsWholeWork W.has_said all.workers.items all.receipts
         (sum_by (λ (s : Share L). s.parts) all.shares.items) (sum_by (λ (s : Share L). s.amount) all.shares.items) }
     requires parts { length all.workers.items + 1 ≡ L.parts }
     ensures workers { IfOk result (λ l. l.live.workers ≡ all.workers) }
     ensures left { IfOk result (λ l. IsNone l.live.error
         → IsLeft R.told l.report l.asks shared l.live.journal l.outcome) }
     ensures once { IfOk result (λ l. IsNone l.live.error → (k : ℕ) → k < length l.live.journal
-        → times k (numbers_of (joined l.live.receipts)) ≡ 1) }
+        → times k (receipt_numbers (concatenated l.live.receipts)) ≡ 1) }
     ensures stands { IfOk result (λ l. IsNone l.live.error
-        → All (StandsIn l.live.journal) (joined l.live.receipts)) }
+        → All (StandsIn l.live.journal) (concatenated l.live.receipts)) }
     ensures refused { IfOk result (λ l. IfSome l.live.error
-        (λ e. Refuses shared l.live.journal (joined l.live.receipts) e.kind)) }
+        (λ e. Refuses shared l.live.journal (concatenated l.live.receipts) e.kind)) }
     ensures kind { IfOk result (λ l. IfSome l.live.error (λ e. e.kind ≢ CloseKind.OutOfMemory)) }
     ensures nothing { IfOk result (λ l. IsSome l.live.error → (l.asks ≡ []) × (l.outcome ≡ None)) }
     ensures own { IfOk result (λ l. IsLive W.has_said l.live.workers.items l.live.receipts) }

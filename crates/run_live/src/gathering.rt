@@ -2,7 +2,7 @@
 ghost use Rattle.std.specs.Prelude.{◌≡◌, ◌+◌, IfOk, OnOk, IfSome, length};
 ghost use Rattle.std.specs.List.{All, sum_by};
 ghost use Rattle.run_live.specs.Own.{IsOwn};
-ghost use Rattle.run_live.specs.Work.{IsWork, IsTicked, IsGathered, IsWhole};
+ghost use Rattle.run_live.specs.Work.{IsWork, IsTicked, IsGathered, IsWholeWork};
 ghost use Rattle.run_drive.specs.Driven.{OfTicker};
 
 use crate::both::push_each;
@@ -104,7 +104,7 @@ fn add_ticker<W: Spawner + Drop, L: Ledger>(
     requires gathered { IsGathered W.has_said all.old.workers.items all.old.receipts
         (sum_by (λ (s : Share L). s.parts) all.old.shares.items) (sum_by (λ (s : Share L). s.amount) all.old.shares.items) }
     requires ticked { IsTicked ticked.share.parts ticked.share.amount ticked.receipts }
-    ensures whole { OnOk result (IsWhole W.has_said all.new.workers.items all.new.receipts
+    ensures whole { OnOk result (IsWholeWork W.has_said all.new.workers.items all.new.receipts
         (sum_by (λ (s : Share L). s.parts) all.new.shares.items) (sum_by (λ (s : Share L). s.amount) all.new.shares.items)) }
     ensures workers { all.new.workers ≡ all.old.workers }
 {
@@ -125,7 +125,7 @@ pub(crate) fn gather_all<W: Spawner + Drop, L: Ledger>(
 ) -> Mem<Gathered<L, W>>
     requires done { All (λ (d : Done L W). IsWork W.has_said d.worker d.share.parts d.share.amount d.receipts) done.items }
     requires ticked { IsTicked ticked.share.parts ticked.share.amount ticked.receipts }
-    ensures whole { IfOk result (λ g. IsWhole W.has_said g.workers.items g.receipts
+    ensures whole { IfOk result (λ g. IsWholeWork W.has_said g.workers.items g.receipts
         (sum_by (λ (s : Share L). s.parts) g.shares.items) (sum_by (λ (s : Share L). s.amount) g.shares.items)) }
     ensures count { IfOk result (λ g. length g.workers.items ≡ length done.items) }
 {

@@ -1,10 +1,10 @@
 // A run of real children, from its first turn to what it leaves.
 ghost use Rattle.std.specs.Prelude.{◌≡◌, ◌≢◌, ◌+◌, ◌<◌, ℕ, [], IfOk, IfSome, IsSome, IsNone, None, length};
 ghost use Rattle.std.specs.List.{All, sum_by};
-ghost use Rattle.run_shared.specs.Receipts.{joined, numbers_of, times, StandsIn};
+ghost use Rattle.run_shared.specs.Receipts.{concatenated, receipt_numbers, times, StandsIn};
 ghost use Rattle.run_shared.specs.Closed.{IsLeft, Refuses};
 ghost use Rattle.run_live.specs.Own.{IsLive};
-ghost use Rattle.run_live.specs.Work.{IsOneEmpty, IsWound, IsWhole};
+ghost use Rattle.run_live.specs.Work.{IsOneEmpty, IsWound, IsWholeWork};
 
 use crate::both::both;
 use crate::ending::{finish, report_of};
@@ -64,7 +64,7 @@ where
     requires jobs { All (λ (j : Job L W). W.has_said j.worker [] × IsOneEmpty j.share.parts j.share.amount) jobs.items }
     requires clock { IsWound clock.share.parts clock.share.amount clock.first }
     ensures count { IfOk result (λ g. length g.workers.items ≡ length jobs.items) }
-    ensures whole { IfOk result (λ g. IsWhole W.has_said g.workers.items g.receipts
+    ensures whole { IfOk result (λ g. IsWholeWork W.has_said g.workers.items g.receipts
         (sum_by (λ (s : Share L). s.parts) g.shares.items) (sum_by (λ (s : Share L). s.amount) g.shares.items)) }
 {
     let (done, ticked) = together(rt, alloc, shared, jobs, clock)?;
@@ -85,7 +85,7 @@ where
     requires each { All (λ (s : Share L). IsOneEmpty s.parts s.amount) shares.items }
     requires share { IsOneEmpty share.parts share.amount }
     ensures count { IfOk result (λ g. length g.workers.items ≡ length shares.items) }
-    ensures whole { IfOk result (λ g. IsWhole H.Worker.has_said g.workers.items g.receipts
+    ensures whole { IfOk result (λ g. IsWholeWork H.Worker.has_said g.workers.items g.receipts
         (sum_by (λ (s : Share L). s.parts) g.shares.items) (sum_by (λ (s : Share L). s.amount) g.shares.items)) }
 {
     let (jobs, clock) = make_all(rt, alloc, shared, host, shares, share)?;
@@ -105,7 +105,7 @@ where
     requires each { All (λ (s : Share L). (s.parts ≡ 1) × (s.amount ≡ 0)) shares.items }
     requires some { 0 < length shares.items }
     ensures count { IfOk result (λ g. length g.workers.items + 1 ≡ length shares.items) }
-    ensures whole { IfOk result (λ g. IsWhole H.Worker.has_said g.workers.items g.receipts
+    ensures whole { IfOk result (λ g. IsWholeWork H.Worker.has_said g.workers.items g.receipts
         (sum_by (λ (s : Share L). s.parts) g.shares.items) (sum_by (λ (s : Share L). s.amount) g.shares.items)) }
 {
     let mut shares = shares;
@@ -132,11 +132,11 @@ where
     ensures left { IfOk result (λ l. IsNone l.live.error
         → IsLeft R.told l.report l.asks shared l.live.journal l.outcome) }
     ensures once { IfOk result (λ l. IsNone l.live.error → (k : ℕ) → k < length l.live.journal
-        → times k (numbers_of (joined l.live.receipts)) ≡ 1) }
+        → times k (receipt_numbers (concatenated l.live.receipts)) ≡ 1) }
     ensures stands { IfOk result (λ l. IsNone l.live.error
-        → All (StandsIn l.live.journal) (joined l.live.receipts)) }
+        → All (StandsIn l.live.journal) (concatenated l.live.receipts)) }
     ensures refused { IfOk result (λ l. IfSome l.live.error
-        (λ e. Refuses shared l.live.journal (joined l.live.receipts) e.kind)) }
+        (λ e. Refuses shared l.live.journal (concatenated l.live.receipts) e.kind)) }
     ensures kind { IfOk result (λ l. IfSome l.live.error (λ e. e.kind ≢ CloseKind.OutOfMemory)) }
     ensures nothing { IfOk result (λ l. IsSome l.live.error → (l.asks ≡ []) × (l.outcome ≡ None)) }
     ensures own { IfOk result (λ l. IsLive H.Worker.has_said l.live.workers.items l.live.receipts) }
@@ -167,11 +167,11 @@ where
     ensures left { IfOk result (λ l. IsNone l.live.error
         → IsLeft R.told l.report l.asks runner l.live.journal l.outcome) }
     ensures once { IfOk result (λ l. IsNone l.live.error → (k : ℕ) → k < length l.live.journal
-        → times k (numbers_of (joined l.live.receipts)) ≡ 1) }
+        → times k (receipt_numbers (concatenated l.live.receipts)) ≡ 1) }
     ensures stands { IfOk result (λ l. IsNone l.live.error
-        → All (StandsIn l.live.journal) (joined l.live.receipts)) }
+        → All (StandsIn l.live.journal) (concatenated l.live.receipts)) }
     ensures refused { IfOk result (λ l. IfSome l.live.error
-        (λ e. Refuses runner l.live.journal (joined l.live.receipts) e.kind)) }
+        (λ e. Refuses runner l.live.journal (concatenated l.live.receipts) e.kind)) }
     ensures kind { IfOk result (λ l. IfSome l.live.error (λ e. e.kind ≢ CloseKind.OutOfMemory)) }
     ensures nothing { IfOk result (λ l. IsSome l.live.error → (l.asks ≡ []) × (l.outcome ≡ None)) }
     ensures own { IfOk result (λ l. IsLive H.Worker.has_said l.live.workers.items l.live.receipts) }
@@ -201,11 +201,11 @@ where
     ensures left { IfOk result (λ l. IsNone l.live.error
         → IsLeft R.told l.report l.asks runner l.live.journal l.outcome) }
     ensures once { IfOk result (λ l. IsNone l.live.error → (k : ℕ) → k < length l.live.journal
-        → times k (numbers_of (joined l.live.receipts)) ≡ 1) }
+        → times k (receipt_numbers (concatenated l.live.receipts)) ≡ 1) }
     ensures stands { IfOk result (λ l. IsNone l.live.error
-        → All (StandsIn l.live.journal) (joined l.live.receipts)) }
+        → All (StandsIn l.live.journal) (concatenated l.live.receipts)) }
     ensures refused { IfOk result (λ l. IfSome l.live.error
-        (λ e. Refuses runner l.live.journal (joined l.live.receipts) e.kind)) }
+        (λ e. Refuses runner l.live.journal (concatenated l.live.receipts) e.kind)) }
     ensures kind { IfOk result (λ l. IfSome l.live.error (λ e. e.kind ≢ CloseKind.OutOfMemory)) }
     ensures nothing { IfOk result (λ l. IsSome l.live.error → (l.asks ≡ []) × (l.outcome ≡ None)) }
     ensures own { IfOk result (λ l. IsLive H.Worker.has_said l.live.workers.items l.live.receipts) }

@@ -1,6 +1,6 @@
 -- What is told of one unit: its account.
-use Rattle.std.specs.Prelude.{ℕ, ◌≡◌, ◌⊎◌, ◌==◌, ◌-◌, List, [], ◌∷◌, ◌++◌, Bool, true, false, if◌then◌else◌, Option, Some}
-use Rattle.std.specs.Prelude.{None, not, ◌&&◌}
+use Rattle.std.specs.Prelude.{ℕ, ◌+◌, ◌≡◌, ◌⊎◌, ◌==◌, ◌-◌, List, [], ◌∷◌, ◌++◌, length, Bool, true, false}
+use Rattle.std.specs.Prelude.{if◌then◌else◌, Option, Some, None, not, ◌&&◌}
 use Rattle.std.specs.Prelude.{filter_map, is_some, slice_get}
 use Rattle.run_events.specs.declared.message.Message.{Message}
 use Rattle.run_events.specs.declared.message.Message.TheVariants.{ScriptStart, ScriptFinish, Start, Skip, AttemptFailed}
@@ -24,12 +24,12 @@ use Rattle.run_model.specs.Admission.{scripts_in, is_script}
 use Rattle.run_model.specs.Words.{told, queue, unit_of}
 use Rattle.run_model.specs.Story.{was_left}
 
--- what is told of a unit, apart from moments and counts: that it started; that an attempt failed and the next one
--- started; that it finished after these attempts; or that it was skipped
+-- what is told of a unit, apart from moments and counts: that it started; that an attempt failed, and that the one of
+-- this number started; that it finished after these attempts; or that it was skipped
 pub data News : Type 0 where
   started : News
   failed : ExecuteStatus → News
-  retried : News
+  retried : ℕ → News
   finished : List ExecuteStatus → News
   skipped : News
 
@@ -53,7 +53,7 @@ news_in k (SetupScriptFinished e) =
     if e.script.unit == k then Some (finished (attempt_of e.status ∷ [])) else None
 news_in k (TestStarted e) = if e.start.test.unit == k then Some started else None
 news_in k (TestAttemptFailedWillRetry e) = if e.failed.test.unit == k then Some (failed e.failed.status) else None
-news_in k (TestRetryStarted e) = if e.retry.start.test.unit == k then Some retried else None
+news_in k (TestRetryStarted e) = if e.retry.start.test.unit == k then Some (retried e.retry.attempt) else None
 news_in k (TestFinished e) = if e.finish.test.unit == k then Some (finished e.finish.statuses) else None
 news_in k (TestSkipped skip) = if skip.test.unit == k then Some skipped else None
 news_in k _ = None
@@ -74,7 +74,7 @@ pending_in k (ScriptFinish finish) =
 pending_in k (Start start) = if start.test.unit == k then Some started else None
 pending_in k (Skip skip) = if skip.test.unit == k then Some skipped else None
 pending_in k (AttemptFailed failure) = if failure.test.unit == k then Some (failed failure.status) else None
-pending_in k (Retry retry) = if retry.start.test.unit == k then Some retried else None
+pending_in k (Retry retry) = if retry.start.test.unit == k then Some (retried retry.attempt) else None
 pending_in k (Finish finish) = if finish.test.unit == k then Some (finished finish.statuses) else None
 pending_in k _ = None
 
@@ -91,10 +91,14 @@ is_skip (Some test) = is_some test.skip
 abbrev pub is_mismatched : Settings → ℕ → Bool
 is_mismatched p k = not (is_script p k) && is_skip (slice_get p.plan.tests (k - scripts_in p))
 
--- what is told of attempts each of which a further one follows
+-- what is told of attempts each of which a further one follows, where the first has this number
+abbrev pub tried_from : ℕ → List ExecuteStatus → List News
+tried_from n [] = []
+tried_from n (s ∷ ss) = failed s ∷ retried (n + 1) ∷ tried_from (n + 1) ss
+
+-- the same of the first attempts of a unit
 abbrev pub tried : List ExecuteStatus → List News
-tried [] = []
-tried (s ∷ ss) = failed s ∷ retried ∷ tried ss
+tried ss = tried_from 1 ss
 
 -- there is a last attempt, and of those before it and of it this holds
 abbrev pub HasLast : List ExecuteStatus → (List ExecuteStatus → ExecuteStatus → Type 0) → Type 0
@@ -109,11 +113,11 @@ abbrev pub IsFailing : List News → List News → List ExecuteStatus → Execut
 IsFailing t q early s =
     AreTold (started ∷ tried early) (failed s ∷ []) t q ⊎ AreTold (started ∷ tried early ++ failed s ∷ []) [] t q
 
--- and its retry waits too
+-- and its retry waits too, which is the attempt after those before it and it
 abbrev pub IsRetrying : List News → List News → List ExecuteStatus → ExecuteStatus → Type 0
 IsRetrying t q early s =
-    AreTold (started ∷ tried early) (failed s ∷ retried ∷ []) t q
-    ⊎ AreTold (started ∷ tried early ++ failed s ∷ []) (retried ∷ []) t q
+    AreTold (started ∷ tried early) (failed s ∷ retried (length early + 2) ∷ []) t q
+    ⊎ AreTold (started ∷ tried early ++ failed s ∷ []) (retried (length early + 2) ∷ []) t q
 
 -- the finish of a test waits to be told, or was told
 abbrev pub IsFinishing : List ExecuteStatus → List News → List News → List ExecuteStatus → ExecuteStatus → Type 0

@@ -69,27 +69,27 @@ error_in (ReadError stream error) = Some (read_error stream error)
 error_in (WaitFailed error) = Some (Wait error)
 error_in _ = None
 
-abbrev pub errors_of : List OwnTurn → List ChildFdError
-errors_of [] = []
-errors_of (t ∷ before) = errors_of before ++ option_to_list (error_in t.turn)
+abbrev pub errors_heard : List OwnTurn → List ChildFdError
+errors_heard [] = []
+errors_heard (t ∷ before) = errors_heard before ++ option_to_list (error_in t.turn)
 
 -- what its child wrote to a stream, joined in the order of its turns
 abbrev pub bytes_in : Stream → UnitTurn → List ℕ
 bytes_in stream (Piece other bytes) = if is_stream stream other then bytes else []
 bytes_in stream _ = []
 
-abbrev pub bytes_of : Stream → List OwnTurn → List ℕ
-bytes_of stream [] = []
-bytes_of stream (t ∷ before) = bytes_of stream before ++ bytes_in stream t.turn
+abbrev pub bytes_heard : Stream → List OwnTurn → List ℕ
+bytes_heard stream [] = []
+bytes_heard stream (t ∷ before) = bytes_heard stream before ++ bytes_in stream t.turn
 
 -- its output: of each captured stream what its child wrote to it
 abbrev pub bytes_where : Bool → Stream → List OwnTurn → Option (List ℕ)
-bytes_where captured stream piece = if captured then Some (bytes_of stream piece) else None
+bytes_where captured stream piece = if captured then Some (bytes_heard stream piece) else None
 
 abbrev pub output_of : CapturedStreams → List OwnTurn → ChildOutput
 output_of (captured.Apart stdout stderr) piece =
     outputs.Split (record { stdout = bytes_where stdout Stdout piece; stderr = bytes_where stderr Stderr piece })
-output_of captured.Combined piece = outputs.Combined (bytes_of Combined piece)
+output_of captured.Combined piece = outputs.Combined (bytes_heard Combined piece)
 
 -- a stream is done where it ended or could not be read on
 abbrev pub ends_stream : Stream → UnitTurn → Bool
@@ -113,7 +113,7 @@ result_by terms piece (Some error) = ExecFail
 result_by terms piece None =
     if has_timed_out terms.slow piece
     then Timeout terms.slow.on_timeout
-    else execution_result (exit_of piece) (errors_of piece) (has_leaked piece) terms.leak.result
+    else execution_result (exit_of piece) (errors_heard piece) (has_leaked piece) terms.leak.result
 
 -- what came of its environment file, if that was read or could not be
 abbrev pub env_in : UnitTurn → Option ScriptEnv
@@ -175,7 +175,7 @@ status_of terms delay attempt piece = record {
   attempts = attempts_by terms.retries;
   delay = delay;
   result = result_in terms piece;
-  output = output_by (start_error_of piece) (output_of terms.streams piece) (errors_of piece);
+  output = output_by (start_error_of piece) (output_of terms.streams piece) (errors_heard piece);
   slow = nat_lt 0 (slow_count terms.slow piece);
   start = start_of piece;
   time = time_of terms piece;
@@ -186,8 +186,8 @@ abbrev pub word_in : UnitTurn → Option ℕ
 word_in (Decide word) = Some word
 word_in _ = None
 
-abbrev pub word_of : List OwnTurn → ℕ
-word_of after = unwrap_or (first_said (λ t. word_in t.turn) after) 0
+abbrev pub drawn_word : List OwnTurn → ℕ
+drawn_word after = unwrap_or (first_said (λ t. word_in t.turn) after) 0
 
 abbrev pub decided_at : List OwnTurn → ℕ
 decided_at after = unwrap_or (first_said (moment_if decides) after) 0
@@ -195,7 +195,7 @@ decided_at after = unwrap_or (first_said (moment_if decides) after) 0
 -- the delay before the attempt that comes after these: none before the first
 abbrev pub delay_after : RetryPolicy → List Attempt → ℕ
 delay_after retries [] = 0
-delay_after retries (cut piece after ∷ earlier) = delay_by retries (length earlier) (word_of after)
+delay_after retries (cut piece after ∷ earlier) = delay_by retries (length earlier) (drawn_word after)
 
 -- the statuses of the attempts that have ended, in order
 abbrev pub ended_statuses : AttemptTerms → List Attempt → List ExecuteStatus

@@ -1,4 +1,5 @@
 -- The dispatcher's table: which turns it takes, what each tells, and what it leaves.
+use Rattle.run_clock.specs.Sleep.{fires_now}
 use Rattle.std.specs.Prelude.{⊤, ℕ, ◌≡◌, ◌+◌, ◌-◌, ◌<◌, ◌^◌, nat_lt, length, Bool, true, false, ◌&&◌, not, if◌then◌else◌, Option}
 use Rattle.std.specs.Prelude.{Some, None, is_none}
 use Rattle.run_events.specs.Stats.{AreBelow, plus}
@@ -23,7 +24,6 @@ use Rattle.run_events.specs.declared.events.TestEventKind.TheVariants.{TestSkipp
 use Rattle.run_events.specs.declared.events.TestEventKind.TheVariants.{TestRetryStarted}
 use Rattle.run_model.specs.declared.dispatcher_view.CancelRules.{CancelRules}
 use Rattle.run_model.specs.declared.dispatcher_view.DispatcherView.{DispatcherView}
-use Rattle.run_model.specs.Unit.{is_due}
 use Rattle.run_events.specs.Hearing.{heard_signal}
 use Rattle.run_events.specs.declared.plan.Hearing.{Hearing}
 use Rattle.run_events.specs.declared.signal.Heard.{Heard}
@@ -78,10 +78,16 @@ abbrev pub dispatch_takes : DispatcherView → Facts → ℕ → Turn → Bool
 dispatch_takes d facts now Begin = not d.on && not d.over
 dispatch_takes d facts now Deliver = d.on && facts.message_waits
 dispatch_takes d facts now (SignalCame signal) = d.on && shuts_down d.rules.hearing signal && nat_lt d.causes.signals 2
-dispatch_takes d facts now GlobalDue = d.on && is_due now d.causes.global
+dispatch_takes d facts now GlobalDue = d.on && fires_now now d.causes.global
 dispatch_takes d facts now ReportCancel = d.on && facts.refused && not d.causes.reported
 dispatch_takes d facts now End = d.on && facts.complete
 dispatch_takes d facts now _ = false
+
+-- a shutdown signal that would be taken, but that two came before it
+abbrev pub is_third : DispatcherView → Turn → Bool
+is_third d (SignalCame signal) =
+    not d.over && d.on && shuts_down d.rules.hearing signal && not (nat_lt d.causes.signals 2)
+is_third d _ = false
 
 -- an event at a moment of a run that has never paused
 abbrev pub event : ℕ → TestEventKind → ReporterEvent

@@ -1,6 +1,6 @@
 -- The story of a unit: its own turns, cut where it was let go.
 use Rattle.std.specs.Prelude.{ℕ, ◌+◌, ◌==◌, List, [], drop, ◌∷◌, ◌++◌, Bool, true, false, ◌||◌, if◌then◌else◌, Option, Some, None}
-use Rattle.std.specs.Prelude.{option_to_list, is_some, nat_lt, ◌&&◌}
+use Rattle.std.specs.Prelude.{option_to_list, is_some, zero, suc, ◌&&◌}
 use Rattle.std.specs.Option.{option_or}
 use Rattle.run_events.specs.declared.request.Request.{Request}
 use Rattle.run_model.specs.declared.happening.Happening.{Happening}
@@ -117,14 +117,26 @@ abbrev pub deliveries : ℕ → List Happening → ℕ
 deliveries k [] = 0
 deliveries k (x ∷ past) = deliveries k past + (if lets_go k x.part then 1 else 0)
 
+-- where unit k was stopped in a sub-run: after so many deliveries of its start and its retries, at the first one before
+-- which a cause stands
+abbrev pub stopped_at : ℕ → List Happening → Option ℕ
+stopped_at k [] = None
+stopped_at k (x ∷ past) = option_or (stopped_at k past)
+    (if lets_go k x.part && is_some (reason past) then Some (deliveries k past) else None)
+
+-- whether that was at its start, or at a retry
+abbrev pub is_at_start : Option ℕ → Bool
+is_at_start (Some zero) = true
+is_at_start _ = false
+
+abbrev pub is_at_retry : Option ℕ → Bool
+is_at_retry (Some (suc n)) = true
+is_at_retry _ = false
+
 -- unit k was never started: a cause stands before the delivery of its start
 abbrev pub never_started : ℕ → List Happening → Bool
-never_started k [] = false
-never_started k (x ∷ past) =
-    (lets_go k x.part && (deliveries k past == 0) && is_some (reason past)) || never_started k past
+never_started k run = is_at_start (stopped_at k run)
 
 -- unit k was left between two attempts: a cause stands before the delivery of a retry
 abbrev pub was_left : ℕ → List Happening → Bool
-was_left k [] = false
-was_left k (x ∷ past) =
-    (lets_go k x.part && nat_lt 0 (deliveries k past) && is_some (reason past)) || was_left k past
+was_left k run = is_at_retry (stopped_at k run)

@@ -14,6 +14,7 @@ use Rattle.run_events.specs.declared.events.TestEventKind.{TestEventKind}
 use Rattle.run_events.specs.declared.events.TestEventKind.TheVariants.{RunStarted, RunFinished}
 use Rattle.run_events.specs.declared.events.RunFinishedStats.TheVariants.{Single}
 use Rattle.run_events.specs.declared.stats.RunStats.{RunStats}
+use Rattle.run_model.specs.declared.dispatcher_view.DispatcherView.{DispatcherView}
 use Rattle.run_model.specs.declared.dispatcher_view.Facts.{Facts}
 use Rattle.run_model.specs.declared.entry.Entry.{Entry}
 use Rattle.run_model.specs.declared.happening.Happening.{Happening}
@@ -28,7 +29,7 @@ use Rattle.run_model.specs.declared.unit_turn.UnitTurn.TheVariants.{Take as Unit
 use Rattle.run_model.specs.declared.unit_view.UnitView.{UnitView}
 use Rattle.run_model.specs.Unit.{row, takes}
 use Rattle.run_model.specs.Admission.{is_done, Newcomer, newcomer}
-use Rattle.run_model.specs.Dispatch.{shuts_down, dispatch_takes, event, having_told, told_of, go_of}
+use Rattle.run_model.specs.Dispatch.{dispatch_takes, event, having_told, told_of, go_of, is_third}
 use Rattle.run_model.specs.Cancel.{Cause, time_is_up, event_refused, signal_cause, cause_of, caused}
 use Rattle.run_events.specs.declared.events.ReporterEvent.{ReporterEvent}
 use Rattle.run_model.specs.declared.dispatcher_view.Tally.{Tally}
@@ -124,52 +125,67 @@ abbrev pub answer_to : Board → Option ℕ → Option Bool → Deed
 answer_to b (Some k) (Some go) = taken_by b.clock k (Answered go) (unit_in b k)
 answer_to b _ _ = nothing_done
 
--- the event that a message tells, and the counts after it
-abbrev pub event_of : Board → Message → Option ReporterEvent
-event_of b m = option_map (event b.clock) (told_of b.dispatcher.tally m)
+-- the event that a message tells at a moment, and the counts after it
+abbrev pub told_by : ℕ → DispatcherView → Message → Option ReporterEvent
+told_by now d m = option_map (event now) (told_of d.tally m)
 
-abbrev pub tally_with : Board → Option ReporterEvent → Tally
-tally_with b told = having_told b.dispatcher.tally told
+abbrev pub tally_by : ℕ → DispatcherView → Message → Tally
+tally_by now d m = having_told d.tally (told_by now d m)
 
--- the delivery of a message, with the answer that the unit is given
-abbrev pub delivered_as : Board → Message → Deed → Deed
-delivered_as b m answer = record nothing_done {
+-- the delivery of a message, with the answer that its unit is given, and what it does as a cause
+abbrev pub hears : ℕ → DispatcherView → Message → Deed → Deed
+hears now d m answer = record nothing_done {
   part = answer.part;
   sent = answer.sent;
   taken = true;
-  told = event_of b m;
+  told = told_by now d m;
   asked = answer.asked;
 }
 
--- and what it does as a cause
-abbrev pub delivery_of : Board → Message → Deed → Deed
-delivery_of b m answer =
-    caused b.clock (tally_with b (event_of b m)) (cause_of b.dispatcher.rules (tally_with b (event_of b m)) m)
-    (delivered_as b m answer)
+abbrev pub delivers : ℕ → DispatcherView → Message → Deed → Deed
+delivers now d m answer = caused now (tally_by now d m) (cause_of d.rules (tally_by now d m) m) (hears now d m answer)
 
 -- a cause that tells nothing else
-abbrev pub cancelled : Board → Cause → Deed
-cancelled b cause = caused b.clock b.dispatcher.tally (Some cause) nothing_done
-
--- the delivery of the oldest message
-abbrev pub delivery : Board → List Message → Deed
-delivery b [] = nothing_done
-delivery b (m ∷ rest) = delivery_of b m (answer_to b (starting m) (go_of b.dispatcher.tally m))
+abbrev pub cancels_for : ℕ → DispatcherView → Cause → Deed
+cancels_for now d cause = caused now d.tally (Some cause) nothing_done
 
 -- the end of a run: it tells the statistics
 abbrev pub finale : RunStats → TestEventKind
 finale stats = RunFinished (record { stats = Single stats; not_seen = None })
 
 -- the begin and the end of a run
+abbrev pub begins_at : ℕ → DispatcherView → Deed
+begins_at now d = record nothing_done { told = Some (event now (RunStarted d.head)); begins = true }
+
+abbrev pub ends_at : ℕ → DispatcherView → Deed
+ends_at now d = record nothing_done { told = Some (event now (finale d.tally.stats)); ends = true; over = true }
+
+-- the same on a board
+abbrev pub event_of : Board → Message → Option ReporterEvent
+event_of b m = told_by b.clock b.dispatcher m
+
+abbrev pub tally_with : Board → Option ReporterEvent → Tally
+tally_with b told = having_told b.dispatcher.tally told
+
+abbrev pub delivered_as : Board → Message → Deed → Deed
+delivered_as b m answer = hears b.clock b.dispatcher m answer
+
+abbrev pub delivery_of : Board → Message → Deed → Deed
+delivery_of b m answer = delivers b.clock b.dispatcher m answer
+
+abbrev pub cancelled : Board → Cause → Deed
+cancelled b cause = cancels_for b.clock b.dispatcher cause
+
 abbrev pub begun : Board → Deed
-begun b = record nothing_done { told = Some (event b.clock (RunStarted b.dispatcher.head)); begins = true }
+begun b = begins_at b.clock b.dispatcher
 
 abbrev pub ended : Board → Deed
-ended b = record nothing_done {
-  told = Some (event b.clock (finale b.dispatcher.tally.stats));
-  ends = true;
-  over = true;
-}
+ended b = ends_at b.clock b.dispatcher
+
+-- the delivery of the oldest message
+abbrev pub delivery : Board → List Message → Deed
+delivery b [] = nothing_done
+delivery b (m ∷ rest) = delivery_of b m (answer_to b (starting m) (go_of b.dispatcher.tally m))
 
 -- what a turn of the run's own does; the clock does nothing but move
 abbrev pub run_turn : Settings → Board → Turn → Deed
@@ -190,12 +206,9 @@ done_by p b turn (Some named) = taken_by b.clock named.0 named.1 (unit_in b name
 abbrev pub deed_on : Settings → Board → Turn → Deed
 deed_on p b turn = done_by p b turn (turn_of_unit turn)
 
--- a shutdown signal that would be taken, but that two came before it
+-- a shutdown signal that is taken no more, since two came before it
 abbrev pub is_third_signal : Board → Turn → Bool
-is_third_signal b (Signal signal) =
-    not b.dispatcher.over && b.dispatcher.on && shuts_down b.dispatcher.rules.hearing signal
-    && not (nat_lt b.dispatcher.causes.signals 2)
-is_third_signal b _ = false
+is_third_signal b turn = is_third b.dispatcher turn
 
 -- the same after a history
 abbrev pub enabled : Settings → List Happening → Turn → Bool

@@ -2,7 +2,7 @@
 use Rattle.std.specs.Prelude.{ℕ, ◌+◌, ◌-◌, ◌==◌, List, [], ◌∷◌, ◌++◌, length, nat_lt, nat_le, Bool, true, false, not, ◌&&◌}
 use Rattle.std.specs.Prelude.{◌||◌, if◌then◌else◌, Option, Some, None, option_map}
 use Rattle.run_clock.specs.Stopwatch.{started_at, active_by}
-use Rattle.run_clock.specs.Sleep.{Sleep, set_at, fires_at}
+use Rattle.run_clock.specs.Sleep.{Sleep, set_at, fires_now}
 use Rattle.run_capture.specs.Output.{uncaptured, nothing_of_split}
 use Rattle.run_capture.specs.declared.test_output.ChildOutput.{ChildOutput}
 use Rattle.run_capture.specs.declared.test_output.ChildOutput.TheVariants as outputs
@@ -245,16 +245,16 @@ retried u = record {
 }
 
 -- the output of a child before its first piece, of the streams that are captured
-abbrev pub nothing_of : CapturedStreams → ChildOutput
-nothing_of (captured.Apart stdout stderr) = nothing_of_split stdout stderr
-nothing_of captured.Combined = outputs.Combined []
+abbrev pub nothing_captured : CapturedStreams → ChildOutput
+nothing_captured (captured.Apart stdout stderr) = nothing_of_split stdout stderr
+nothing_captured captured.Combined = outputs.Combined []
 
 -- it is let go at this moment: its stopwatch starts, and all else of an attempt begins anew
 abbrev pub let_go : ℕ → UnitView → UnitView
 let_go now u = record u {
   phase = Starting;
   timers = record { stopwatch = started_at now; slow = None; wait = None; slow_count = 0 };
-  capture = begun (nothing_of u.terms.streams);
+  capture = begun (nothing_captured u.terms.streams);
 }
 
 -- it is let go at this moment and its start is asked, at first or for its next attempt
@@ -421,11 +421,6 @@ at_moment now u = record u { latest = now }
 abbrev pub row : ℕ → UnitTurn → UnitView → Row
 row now turn u = row_at now u.phase turn (at_moment now u)
 
--- whether a timer is set and fires at this moment
-abbrev pub is_due : ℕ → Option Sleep → Bool
-is_due now None = false
-is_due now (Some timer) = fires_at timer.state now
-
 -- a request waits in a line
 abbrev pub has_request : List Request → Bool
 has_request [] = false
@@ -438,22 +433,22 @@ takes_at now Starting u (Started _) = true
 takes_at now Starting u (StartFailed _) = true
 takes_at now Running u (Exit _) = true
 takes_at now Running u (WaitFailed _) = true
-takes_at now Running u Due = is_due now u.timers.slow
+takes_at now Running u Due = fires_now now u.timers.slow
 takes_at now Running u Take = has_request u.line
 takes_at now Running u turn = hears u.capture turn
 takes_at now Grace u (Exit _) = true
 takes_at now Grace u (WaitFailed _) = true
-takes_at now Grace u Due = is_due now u.timers.wait
+takes_at now Grace u Due = fires_now now u.timers.wait
 takes_at now Grace u Take = has_request u.line
 takes_at now Grace u turn = hears u.capture turn
 takes_at now KillWait u (Exit _) = true
 takes_at now KillWait u (WaitFailed _) = true
-takes_at now Leak u Due = is_due now u.timers.wait
+takes_at now Leak u Due = fires_now now u.timers.wait
 takes_at now Leak u Take = has_request u.line
 takes_at now Leak u turn = hears u.capture turn
 takes_at now EnvWait u (Env _) = true
 takes_at now Deciding u (Decide _) = true
-takes_at now Delay u Due = is_due now u.timers.wait
+takes_at now Delay u Due = fires_now now u.timers.wait
 takes_at now Delay u Take = has_request u.line
 takes_at now RetrySent u (Answered _) = true
 takes_at _ _ _ _ = false

@@ -53,14 +53,14 @@ is_over [] = false
 is_over (x ∷ past) = x.over || is_over past
 
 -- a turn that begins no sub-run joins the one before it; before the first begin there is none
-abbrev pub joined : Happening → List Happening → List Happening
-joined x [] = []
-joined x (y ∷ run) = x ∷ y ∷ run
+abbrev pub joined_run : Happening → List Happening → List Happening
+joined_run x [] = []
+joined_run x (y ∷ run) = x ∷ y ∷ run
 
 -- the newest sub-run: the history from its begin on
 abbrev pub sub_run : List Happening → List Happening
 sub_run [] = []
-sub_run (x ∷ past) = if x.begins then x ∷ [] else joined x (sub_run past)
+sub_run (x ∷ past) = if x.begins then x ∷ [] else joined_run x (sub_run past)
 
 -- a sub-run is on where it has begun and not ended
 abbrev pub is_on : List Happening → Bool

@@ -59,5 +59,5 @@ abbrev pub pair : List ℕ × List ℕ → Data
 pair texts_of_pair = texts (texts_of_pair.0 ∷ texts_of_pair.1 ∷ [])
 
 -- a line, with the line feed that ends it
-abbrev pub line_of : List ℕ → List ℕ
-line_of text = text ++ 10 ∷ []
+abbrev pub line_bytes : List ℕ → List ℕ
+line_bytes text = text ++ 10 ∷ []

@@ -4,5 +4,5 @@ use Rattle.serde_json.specs.View.{view}
 use Rattle.run_output.specs.declared.plain.Plain.{Plain}
 
 -- its data
-abbrev pub data_of : Plain → Data
-data_of plain = view plain.value
+abbrev pub plain_data : Plain → Data
+plain_data plain = view plain.value

@@ -4,14 +4,14 @@ use Rattle.std.specs.Prelude.{is_some}
 use Rattle.run_capture.specs.Bytes.{Takes}
 use Rattle.run_capture.specs.Faults.{RoseExactlyIf}
 use Rattle.run_events.specs.declared.events.ReporterEvent.{ReporterEvent}
-use Rattle.run_output.specs.Fields.{line_of}
+use Rattle.run_output.specs.Fields.{line_bytes}
 use Rattle.run_output.specs.Events.{event_text}
 
 -- the line of an event; of an event that was refused, a front part of it, and not all
 abbrev pub IsLine : {E : Type 0} → ReporterEvent → Option E → List ℕ → Type 0
-IsLine event None bytes = bytes ≡ line_of (event_text event)
+IsLine event None bytes = bytes ≡ line_bytes (event_text event)
 IsLine event (Some error) bytes =
-    (n : ℕ) × (n < length (line_of (event_text event))) × (bytes ≡ take n (line_of (event_text event)))
+    (n : ℕ) × (n < length (line_bytes (event_text event))) × (bytes ≡ take n (line_bytes (event_text event)))
 
 -- the lines of these events in order, each with the error that refused it, or none
 abbrev pub AreLines : {E : Type 0} → List (ReporterEvent × Option E) → List ℕ → Type 0

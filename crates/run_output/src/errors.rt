@@ -2,7 +2,7 @@
 ghost use Rattle.std.specs.Prelude.{◌≡◌, ◌++◌, map, option_map, string_bytes, IfOk};
 ghost use Rattle.serde_json.specs.Data.{string};
 ghost use Rattle.run_output.specs.Items.{list_of};
-ghost use Rattle.run_output.specs.Plain.{data_of};
+ghost use Rattle.run_output.specs.Plain.{plain_data};
 ghost use Rattle.run_output.specs.Errors.{error_text, fault_text, child_errors, fault_errors, errors_data};
 
 use crate::items::Items;
@@ -83,7 +83,7 @@ pub(crate) fn errors_plain(
     fault: Option<SetupScriptOutputError>,
 ) -> Mem<Option<Plain>>
     ensures { IfOk result
-        (λ p. option_map data_of p ≡ errors_data (child_errors child.now ++ fault_errors fault)) }
+        (λ p. option_map plain_data p ≡ errors_data (child_errors child.now ++ fault_errors fault)) }
 {
     let items = child_items(alloc, child)?;
     let items = with_fault(alloc, items, fault)?;

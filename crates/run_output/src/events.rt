@@ -1,6 +1,6 @@
 // The lines of events.
 ghost use Rattle.std.specs.Prelude.{◌≡◌, IfOk};
-ghost use Rattle.run_output.specs.Fields.{put_all, line_of};
+ghost use Rattle.run_output.specs.Fields.{put_all, line_bytes};
 ghost use Rattle.run_output.specs.Object.{members_of};
 ghost use Rattle.run_output.specs.Events.{event_word, kind_fields, test_event_text, event_text};
 
@@ -110,7 +110,7 @@ pub fn event_line(alloc: Global, event: &ReporterEvent) -> Mem<Text>
 
 /// The line of an event with its line feed.
 pub(crate) fn whole_line(alloc: Global, event: &ReporterEvent) -> Mem<Text>
-    ensures { IfOk result (λ t. t ≡ line_of (event_text event.now)) }
+    ensures { IfOk result (λ t. t ≡ line_bytes (event_text event.now)) }
 {
     with_line_feed(alloc, event_line(alloc, event)?)
 }

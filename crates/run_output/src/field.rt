@@ -2,7 +2,7 @@
 ghost use Rattle.std.specs.Prelude.{◌≡◌, option_map, IfOk};
 ghost use Rattle.run_output.specs.Fields.{rows};
 ghost use Rattle.run_output.specs.Leaf.{leaf_data};
-ghost use Rattle.run_output.specs.Plain.{data_of};
+ghost use Rattle.run_output.specs.Plain.{plain_data};
 ghost use Rattle.run_output.specs.Field.{not_seen_fields, not_seen_data};
 ghost use Rattle.run_output.specs.Stress.{condition_data, index_data};
 
@@ -64,7 +64,7 @@ fn not_seen(tests: &TestsNotSeen) -> [(&'static str, Leaf<'_>); 2]
 }
 
 fn not_seen_plain(alloc: Global, tests: &Option<TestsNotSeen>) -> Mem<Option<Plain>>
-    ensures { IfOk result (λ p. option_map data_of p ≡ option_map not_seen_data tests.now) }
+    ensures { IfOk result (λ p. option_map plain_data p ≡ option_map not_seen_data tests.now) }
 {
     match tests {
         Some(tests) => Object::of(alloc, &not_seen(tests)).map(Some),
@@ -73,7 +73,7 @@ fn not_seen_plain(alloc: Global, tests: &Option<TestsNotSeen>) -> Mem<Option<Pla
 }
 
 fn stress_plain(alloc: Global, stress: &Option<StressCondition>) -> Mem<Option<Plain>>
-    ensures { IfOk result (λ p. option_map data_of p ≡ option_map condition_data stress.now) }
+    ensures { IfOk result (λ p. option_map plain_data p ≡ option_map condition_data stress.now) }
 {
     match stress {
         Some(condition) => condition_plain(alloc, condition).map(Some),
@@ -82,7 +82,7 @@ fn stress_plain(alloc: Global, stress: &Option<StressCondition>) -> Mem<Option<P
 }
 
 fn sub_run_plain(alloc: Global, index: Option<StressIndex>) -> Mem<Option<Plain>>
-    ensures { IfOk result (λ p. option_map data_of p ≡ option_map index_data index) }
+    ensures { IfOk result (λ p. option_map plain_data p ≡ option_map index_data index) }
 {
     match index {
         Some(index) => index_plain(alloc, index).map(Some),

@@ -5,7 +5,7 @@ ghost use Rattle.serde_json.specs.Data.{string};
 ghost use Rattle.run_output.specs.Fields.{rows};
 ghost use Rattle.run_output.specs.Info.{state_fields, method_word, reason_word, state_data, output_data, shown_data};
 ghost use Rattle.run_output.specs.Leaf.{leaf_data};
-ghost use Rattle.run_output.specs.Plain.{data_of};
+ghost use Rattle.run_output.specs.Plain.{plain_data};
 ghost use Rattle.run_output.specs.Texts.{result_text};
 
 use crate::leaf::Leaf;
@@ -143,7 +143,7 @@ fn delay(
 
 /// What a unit is doing.
 pub(crate) fn state_plain(alloc: Global, state: &UnitState) -> Mem<Plain>
-    ensures { IfOk result (λ p. data_of p ≡ state_data state.now) }
+    ensures { IfOk result (λ p. plain_data p ≡ state_data state.now) }
 {
     match *state {
         UnitState::Running {
@@ -179,7 +179,7 @@ pub(crate) fn state_plain(alloc: Global, state: &UnitState) -> Mem<Plain>
 }
 
 fn output_plain(alloc: Global, child: &ChildExecutionOutput) -> Mem<Plain>
-    ensures { IfOk result (λ p. data_of p ≡ output_data child.now) }
+    ensures { IfOk result (λ p. plain_data p ≡ output_data child.now) }
 {
     let object = Object::new(alloc).with(alloc, &[("errors", Leaf::Errors(child, None))])?;
     let object = with_streams(alloc, object, child)?;
@@ -188,7 +188,7 @@ fn output_plain(alloc: Global, child: &ChildExecutionOutput) -> Mem<Plain>
 
 /// What the unit's child wrote so far, which isn't shown in a delay.
 pub(crate) fn shown_plain(alloc: Global, response: &InfoResponse) -> Mem<Plain>
-    ensures { IfOk result (λ p. data_of p ≡ shown_data response.now.state response.now.output) }
+    ensures { IfOk result (λ p. plain_data p ≡ shown_data response.now.state response.now.output) }
 {
     match response.state {
         UnitState::Delay { .. } => Ok(Object::new(alloc).done()),

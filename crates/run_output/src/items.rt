@@ -18,7 +18,7 @@ pub(crate) struct Items {
 impl Items {
     ghost use Rattle.serde_json.specs.Data.{array};
     ghost use Rattle.serde_json.specs.View.{items_of};
-    ghost use Rattle.run_output.specs.Plain.{data_of};
+    ghost use Rattle.run_output.specs.Plain.{plain_data};
     ghost use Rattle.run_output.specs.Items.{list_of};
     ghost use Rattle.run_output.specs.Fields.{array_unless_empty};
 
@@ -34,7 +34,7 @@ impl Items {
     /// One more item at the end.
     #[tactic(auto, using(crate::proofs::Floats::push_no_float))]
     pub(crate) fn with(self, plain: Plain) -> Mem<Items>
-        ensures { IfOk result (λ items. list_of items ≡ list_of self ++ data_of plain ∷ []) }
+        ensures { IfOk result (λ items. list_of items ≡ list_of self ++ plain_data plain ∷ []) }
     {
         let Items { mut values } = self;
         values.push(plain.into_value())?;
@@ -43,7 +43,7 @@ impl Items {
 
     /// The array.
     pub(crate) fn done(self) -> Plain
-        ensures { data_of result ≡ array (items_of (list_of self)) }
+        ensures { plain_data result ≡ array (items_of (list_of self)) }
     {
         let Items { values } = self;
         Plain::array(values)
@@ -51,7 +51,7 @@ impl Items {
 
     /// The array, where it has an item.
     pub(crate) fn done_unless_empty(self) -> Option<Plain>
-        ensures { option_map data_of result ≡ array_unless_empty (list_of self) }
+        ensures { option_map plain_data result ≡ array_unless_empty (list_of self) }
     {
         if self.values.is_empty() {
             None

@@ -1,7 +1,7 @@
 // What stands at a key of an object, where it holds no object itself.
 ghost use Rattle.std.specs.Prelude.{◌≡◌, option_map};
 ghost use Rattle.run_output.specs.Fields.{count, nonzero};
-ghost use Rattle.run_output.specs.Plain.{data_of};
+ghost use Rattle.run_output.specs.Plain.{plain_data};
 
 use crate::errors::errors_plain;
 use crate::lists::{pairs_plain, test_plain, tests_plain, texts_plain};
@@ -55,7 +55,7 @@ pub(crate) enum Leaf<'a> {
 
 #[tactic(auto, unfolding(crate::specs::Fields::nonzero))]
 fn nonzero_plain(number: u64) -> Option<Plain>
-    ensures { option_map data_of result ≡ nonzero number }
+    ensures { option_map plain_data result ≡ nonzero number }
 {
     if number == 0 {
         None

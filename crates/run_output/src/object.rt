@@ -19,7 +19,7 @@ impl Object {
     ghost use Rattle.serde_json.specs.Data.{no_members, put, object};
     ghost use Rattle.serde_json.specs.Written.{compact_text};
     ghost use Rattle.run_output.specs.Fields.{put_all, rows, object_of, object_text};
-    ghost use Rattle.run_output.specs.Plain.{data_of};
+    ghost use Rattle.run_output.specs.Plain.{plain_data};
     ghost use Rattle.run_output.specs.Object.{members_of};
 
     /// An object with no members.
@@ -34,7 +34,7 @@ impl Object {
     /// The object with this value at a key.
     #[tactic(auto, using(crate::proofs::Floats::put_no_float))]
     pub(crate) fn put(self, alloc: Global, key: &str, plain: Plain) -> Mem<Object>
-        ensures { IfOk result (λ o. members_of o ≡ put key.now (data_of plain) (members_of self)) }
+        ensures { IfOk result (λ o. members_of o ≡ put key.now (plain_data plain) (members_of self)) }
     {
         let Object { mut members } = self;
         serde_json::put(&mut members, alloc, key, plain.into_value())?;
@@ -57,7 +57,7 @@ impl Object {
 
     /// The object as a value.
     pub(crate) fn done(self) -> Plain
-        ensures { data_of result ≡ object (members_of self) }
+        ensures { plain_data result ≡ object (members_of self) }
     {
         let Object { members } = self;
         Plain::object(members)
@@ -72,7 +72,7 @@ impl Object {
 
     /// The object of these fields.
     pub(crate) fn of<F: Printed>(alloc: Global, fields: &[(&'static str, F)]) -> Mem<Plain>
-        ensures { IfOk result (λ p. data_of p ≡ object_of (rows F.printed fields.now)) }
+        ensures { IfOk result (λ p. plain_data p ≡ object_of (rows F.printed fields.now)) }
     {
         let object = Object::new(alloc).with(alloc, fields)?;
         Ok(object.done())

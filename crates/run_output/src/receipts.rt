@@ -1,6 +1,6 @@
 // The lines of receipts that a journal doesn't bear out.
 ghost use Rattle.std.specs.Prelude.{◌≡◌, IfOk};
-ghost use Rattle.run_output.specs.Plain.{data_of};
+ghost use Rattle.run_output.specs.Plain.{plain_data};
 ghost use Rattle.run_output.specs.Turns.{found_data, other_settings_text, mismatch_text, repeated_text};
 
 use crate::leaf::Leaf;
@@ -38,7 +38,7 @@ pub fn repeated_line(alloc: Global, number: u64) -> Mem<Text>
 }
 
 fn found_plain(alloc: Global, found: &Option<Turn>) -> Mem<Plain>
-    ensures { IfOk result (λ p. data_of p ≡ found_data found.now) }
+    ensures { IfOk result (λ p. plain_data p ≡ found_data found.now) }
 {
     match found {
         Some(turn) => turn_plain(alloc, turn),

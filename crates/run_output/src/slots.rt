@@ -3,7 +3,7 @@ ghost use Rattle.std.specs.Prelude.{◌≡◌, option_map, IfOk};
 ghost use Rattle.serde_json.specs.Data.{string};
 ghost use Rattle.run_output.specs.Fields.{count, rows};
 ghost use Rattle.run_output.specs.Leaf.{leaf_data};
-ghost use Rattle.run_output.specs.Plain.{data_of};
+ghost use Rattle.run_output.specs.Plain.{plain_data};
 ghost use Rattle.run_output.specs.Slots.{slot_fields, slot_data};
 
 use crate::leaf::Leaf;
@@ -44,7 +44,7 @@ fn numbers(slot: &TestSlotAssignment) -> [(&'static str, Leaf<'_>); 3]
 
 /// A slot: its number, and in a group the number there and the group's name.
 pub(crate) fn slot_plain(alloc: Global, slot: &TestSlotAssignment) -> Mem<Plain>
-    ensures { IfOk result (λ p. data_of p ≡ slot_data slot.now) }
+    ensures { IfOk result (λ p. plain_data p ≡ slot_data slot.now) }
 {
     Object::of(alloc, &numbers(slot))
 }

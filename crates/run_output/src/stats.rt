@@ -3,7 +3,7 @@ ghost use Rattle.std.specs.Prelude.{◌≡◌, option_map, IfOk};
 ghost use Rattle.serde_json.specs.Data.{string};
 ghost use Rattle.run_output.specs.Fields.{rows};
 ghost use Rattle.run_output.specs.Leaf.{leaf_data};
-ghost use Rattle.run_output.specs.Plain.{data_of};
+ghost use Rattle.run_output.specs.Plain.{plain_data};
 ghost use Rattle.run_output.specs.Stats.{reason_word, script_fields, test_fields, stats_data};
 
 use crate::leaf::Leaf;
@@ -97,7 +97,7 @@ fn test_counts(stats: &RunStats) -> [(&'static str, Leaf<'static>); 12]
 /// The statistics, each count left out where it is 0.
 #[tactic(auto, using(crate::proofs::FieldLemmas::put_all_more))]
 pub(crate) fn stats_plain(alloc: Global, stats: &RunStats) -> Mem<Plain>
-    ensures { IfOk result (λ p. data_of p ≡ stats_data stats.now) }
+    ensures { IfOk result (λ p. plain_data p ≡ stats_data stats.now) }
 {
     let object = Object::new(alloc).with(alloc, &script_counts(stats))?;
     let object = object.with(alloc, &test_counts(stats))?;

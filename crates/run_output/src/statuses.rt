@@ -3,7 +3,7 @@ ghost use Rattle.std.specs.Prelude.{◌≡◌, option_map, IfOk};
 ghost use Rattle.run_output.specs.Fields.{array_of, put_all, rows};
 ghost use Rattle.run_output.specs.Leaf.{leaf_data};
 ghost use Rattle.run_output.specs.Object.{members_of};
-ghost use Rattle.run_output.specs.Plain.{data_of};
+ghost use Rattle.run_output.specs.Plain.{plain_data};
 ghost use Rattle.run_output.specs.Texts.{bytes_data};
 ghost use Rattle.run_output.specs.Statuses.{
   stream_fields,
@@ -83,7 +83,7 @@ fn attempt(status: &ExecuteStatus) -> [(&'static str, Leaf<'_>); 8]
 /// An attempt of a test.
 #[tactic(auto, using(crate::proofs::FieldLemmas::put_all_more))]
 pub(crate) fn status_plain(alloc: Global, status: &ExecuteStatus) -> Mem<Plain>
-    ensures { IfOk result (λ p. data_of p ≡ status_data status.now) }
+    ensures { IfOk result (λ p. plain_data p ≡ status_data status.now) }
 {
     let object = Object::new(alloc).with(alloc, &attempt(status))?;
     let object = with_streams(alloc, object, &status.output)?;
@@ -92,7 +92,7 @@ pub(crate) fn status_plain(alloc: Global, status: &ExecuteStatus) -> Mem<Plain>
 
 /// The attempts of a test, in order.
 pub(crate) fn statuses_plain(alloc: Global, statuses: &[ExecuteStatus]) -> Mem<Plain>
-    ensures { IfOk result (λ p. data_of p ≡ array_of status_data statuses.now) }
+    ensures { IfOk result (λ p. plain_data p ≡ array_of status_data statuses.now) }
 {
     let mut items = Items::new(alloc);
     for status in statuses {
@@ -139,7 +139,7 @@ fn script_attempt(status: &SetupScriptExecuteStatus) -> [(&'static str, Leaf<'_>
 /// The attempt of a setup script.
 #[tactic(auto, using(crate::proofs::FieldLemmas::put_all_more))]
 pub(crate) fn script_status_plain(alloc: Global, status: &SetupScriptExecuteStatus) -> Mem<Plain>
-    ensures { IfOk result (λ p. data_of p ≡ script_status_data status.now) }
+    ensures { IfOk result (λ p. plain_data p ≡ script_status_data status.now) }
 {
     let object = Object::new(alloc).with(alloc, &script_attempt(status))?;
     let object = with_streams(alloc, object, &status.output)?;

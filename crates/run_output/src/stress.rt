@@ -2,7 +2,7 @@
 ghost use Rattle.std.specs.Prelude.{◌≡◌, option_map, IfOk};
 ghost use Rattle.run_output.specs.Fields.{rows};
 ghost use Rattle.run_output.specs.Leaf.{leaf_data};
-ghost use Rattle.run_output.specs.Plain.{data_of};
+ghost use Rattle.run_output.specs.Plain.{plain_data};
 ghost use Rattle.run_output.specs.Stress.{
   condition_data,
   index_fields,
@@ -25,7 +25,7 @@ use std::alloc::Global;
 /// When a stress run ends, as a plan says it.
 #[tactic(auto, unfolding(crate::specs::Stress::condition_fields))]
 pub(crate) fn condition_plain(alloc: Global, condition: &StressCondition) -> Mem<Plain>
-    ensures { IfOk result (λ p. data_of p ≡ condition_data condition.now) }
+    ensures { IfOk result (λ p. plain_data p ≡ condition_data condition.now) }
 {
     match condition {
         StressCondition::Count(runs) => Object::of(alloc, &[("count", Leaf::Runs(*runs))]),
@@ -45,7 +45,7 @@ fn index(index: StressIndex) -> [(&'static str, Leaf<'static>); 2]
 
 /// Which sub-run it is.
 pub(crate) fn index_plain(alloc: Global, index_of: StressIndex) -> Mem<Plain>
-    ensures { IfOk result (λ p. data_of p ≡ index_data index_of) }
+    ensures { IfOk result (λ p. plain_data p ≡ index_data index_of) }
 {
     Object::of(alloc, &index(index_of))
 }
@@ -73,7 +73,7 @@ fn progress(progress: StressProgress) -> [(&'static str, Leaf<'static>); 2]
 
 /// How far a stress run is.
 pub(crate) fn progress_plain(alloc: Global, so_far: StressProgress) -> Mem<Plain>
-    ensures { IfOk result (λ p. data_of p ≡ progress_data so_far) }
+    ensures { IfOk result (λ p. plain_data p ≡ progress_data so_far) }
 {
     Object::of(alloc, &progress(so_far))
 }
@@ -103,7 +103,7 @@ fn ended(stats: &StressRunStats) -> [(&'static str, Leaf<'static>); 3]
 
 /// What came of the sub-runs of a stress run.
 pub(crate) fn stress_stats_plain(alloc: Global, stats: &StressRunStats) -> Mem<Plain>
-    ensures { IfOk result (λ p. data_of p ≡ stress_stats_data stats.now) }
+    ensures { IfOk result (λ p. plain_data p ≡ stress_stats_data stats.now) }
 {
     let completed = index_plain(alloc, stats.completed)?;
     let object = Object::new(alloc).put(alloc, "completed", completed)?;

@@ -2,7 +2,7 @@
 ghost use Rattle.std.specs.Prelude.{◌≡◌, string_bytes, IfOk};
 ghost use Rattle.serde_json.specs.Data.{string};
 ghost use Rattle.uuid.specs.Text.{hyphenated_text, lower};
-ghost use Rattle.run_output.specs.Plain.{data_of};
+ghost use Rattle.run_output.specs.Plain.{plain_data};
 ghost use Rattle.run_output.specs.Texts.{bytes_data, leaked_text, failure_text, result_text, runs_text};
 
 use crate::plain::Plain;
@@ -14,7 +14,7 @@ use uuid::Uuid;
 
 /// Bytes, in hex with lower case letters.
 pub(crate) fn hex_plain(alloc: Global, bytes: &Blob) -> Mem<Plain>
-    ensures { IfOk result (λ p. data_of p ≡ bytes_data bytes.now) }
+    ensures { IfOk result (λ p. plain_data p ≡ bytes_data bytes.now) }
 {
     let text = hex::encode(alloc, bytes.as_slice())?;
     Ok(Plain::string(text))
@@ -22,7 +22,7 @@ pub(crate) fn hex_plain(alloc: Global, bytes: &Blob) -> Mem<Plain>
 
 /// An id, in lower case with hyphens.
 pub(crate) fn id_plain(alloc: Global, id: Uuid) -> Mem<Plain>
-    ensures { IfOk result (λ p. data_of p ≡ string (hyphenated_text lower id)) }
+    ensures { IfOk result (λ p. plain_data p ≡ string (hyphenated_text lower id)) }
 {
     let text = format!(in alloc; "{id}")?;
     Ok(Plain::string(text))
@@ -31,7 +31,7 @@ pub(crate) fn id_plain(alloc: Global, id: Uuid) -> Mem<Plain>
 /// How often a stress run repeats, as a plan says it.
 #[tactic(auto, unfolding(crate::specs::Texts::runs_text))]
 pub(crate) fn count_plain(alloc: Global, runs: StressCount) -> Mem<Plain>
-    ensures { IfOk result (λ p. data_of p ≡ string (runs_text runs)) }
+    ensures { IfOk result (λ p. plain_data p ≡ string (runs_text runs)) }
 {
     match runs {
         StressCount::Infinite => Plain::text(alloc, "infinite"),
@@ -62,7 +62,7 @@ fn failure_string(alloc: Global, failure: FailureStatus, leaked: bool) -> Mem<St
 /// The result of an attempt, in words.
 #[tactic(auto, unfolding(crate::specs::Texts::result_text))]
 pub(crate) fn result_plain(alloc: Global, outcome: ExecutionResult) -> Mem<Plain>
-    ensures { IfOk result (λ p. data_of p ≡ string (result_text outcome)) }
+    ensures { IfOk result (λ p. plain_data p ≡ string (result_text outcome)) }
 {
     match outcome {
         ExecutionResult::Pass => Plain::text(alloc, "pass"),

@@ -1,6 +1,6 @@
 // Turns as objects, and their lines.
 ghost use Rattle.std.specs.Prelude.{◌≡◌, ◌∷◌, Some, IfOk, codes, string_bytes};
-ghost use Rattle.run_output.specs.Plain.{data_of};
+ghost use Rattle.run_output.specs.Plain.{plain_data};
 ghost use Rattle.run_commands.specs.declared.script_helpers.EnvInput.TheVariants.{Bytes};
 ghost use Rattle.run_output.specs.Fields.{signed, object_of};
 ghost use Rattle.run_output.specs.Turns.{stream_word, signal_word, key_text, word_at, bare_fields, unit_fields, timer_fields};
@@ -54,27 +54,27 @@ fn key_name(alloc: Global, code: KeyCode) -> Mem<String>
 }
 
 fn bare(alloc: Global, name: &'static str) -> Mem<Plain>
-    ensures { IfOk result (λ p. data_of p ≡ object_of (bare_fields name.now)) }
+    ensures { IfOk result (λ p. plain_data p ≡ object_of (bare_fields name.now)) }
 {
     Object::of(alloc, &[("turn", Leaf::Word(name))])
 }
 
 fn of_unit(alloc: Global, name: &'static str, unit: u32) -> Mem<Plain>
-    ensures { IfOk result (λ p. data_of p ≡ object_of (unit_fields name.now unit)) }
+    ensures { IfOk result (λ p. plain_data p ≡ object_of (unit_fields name.now unit)) }
 {
     let fields = [("turn", Leaf::Word(name)), ("unit", Leaf::Count(unit))];
     Object::of(alloc, &fields)
 }
 
 fn timer(alloc: Global, name: &'static str) -> Mem<Plain>
-    ensures { IfOk result (λ p. data_of p ≡ object_of (timer_fields name.now)) }
+    ensures { IfOk result (λ p. plain_data p ≡ object_of (timer_fields name.now)) }
 {
     let fields = [("timer", Leaf::Word(name)), ("turn", Leaf::Word("due"))];
     Object::of(alloc, &fields)
 }
 
 fn failed(alloc: Global, name: &'static str, unit: u32, error: &Text) -> Mem<Plain>
-    ensures { IfOk result (λ p. data_of p ≡ object_of (failed_fields name.now unit error.now)) }
+    ensures { IfOk result (λ p. plain_data p ≡ object_of (failed_fields name.now unit error.now)) }
 {
     let fields = [
         ("text", Leaf::Text(error)),
@@ -87,7 +87,7 @@ fn failed(alloc: Global, name: &'static str, unit: u32, error: &Text) -> Mem<Pla
 // A child that ended with a code, or by a signal: the key says which.
 fn ended(alloc: Global, key: &'static str, unit: u32, number: i32) -> Mem<Plain>
     ensures { IfOk result
-        (λ p. data_of p ≡ object_of ((key.now, Some (signed number)) ∷ unit_fields (codes "exit") unit)) }
+        (λ p. plain_data p ≡ object_of ((key.now, Some (signed number)) ∷ unit_fields (codes "exit") unit)) }
 {
     let fields = [
         (key, Leaf::Signed(number)),
@@ -98,7 +98,7 @@ fn ended(alloc: Global, key: &'static str, unit: u32, number: i32) -> Mem<Plain>
 }
 
 fn exited(alloc: Global, unit: u32, exit: ChildExit) -> Mem<Plain>
-    ensures { IfOk result (λ p. data_of p ≡ object_of (exit_fields unit exit)) }
+    ensures { IfOk result (λ p. plain_data p ≡ object_of (exit_fields unit exit)) }
 {
     match exit {
         ChildExit::Code(code) => ended(alloc, "code", unit, code),
@@ -107,7 +107,7 @@ fn exited(alloc: Global, unit: u32, exit: ChildExit) -> Mem<Plain>
 }
 
 fn piece(alloc: Global, unit: u32, stream: Stream, bytes: &Blob) -> Mem<Plain>
-    ensures { IfOk result (λ p. data_of p ≡ turn_data (turns.Piece unit stream bytes.now)) }
+    ensures { IfOk result (λ p. plain_data p ≡ turn_data (turns.Piece unit stream bytes.now)) }
 {
     let fields = [
         ("hex", Leaf::Hex(bytes)),
@@ -119,7 +119,7 @@ fn piece(alloc: Global, unit: u32, stream: Stream, bytes: &Blob) -> Mem<Plain>
 }
 
 fn read_error(alloc: Global, unit: u32, stream: Stream, error: &Text) -> Mem<Plain>
-    ensures { IfOk result (λ p. data_of p ≡ turn_data (turns.ReadError unit stream error.now)) }
+    ensures { IfOk result (λ p. plain_data p ≡ turn_data (turns.ReadError unit stream error.now)) }
 {
     let fields = [
         ("stream", Leaf::Word(stream_name(stream))),
@@ -131,7 +131,7 @@ fn read_error(alloc: Global, unit: u32, stream: Stream, error: &Text) -> Mem<Pla
 }
 
 fn env_bytes(alloc: Global, unit: u32, bytes: &Blob) -> Mem<Plain>
-    ensures { IfOk result (λ p. data_of p ≡ object_of (env_fields unit (Bytes bytes.now))) }
+    ensures { IfOk result (λ p. plain_data p ≡ object_of (env_fields unit (Bytes bytes.now))) }
 {
     let fields = [
         ("hex", Leaf::Hex(bytes)),
@@ -143,7 +143,7 @@ fn env_bytes(alloc: Global, unit: u32, bytes: &Blob) -> Mem<Plain>
 
 fn env_failed(alloc: Global, unit: u32, what: &'static str) -> Mem<Plain>
     ensures { IfOk result
-        (λ p. data_of p ≡ object_of (word_at (codes "failed") what.now ∷ unit_fields (codes "env") unit)) }
+        (λ p. plain_data p ≡ object_of (word_at (codes "failed") what.now ∷ unit_fields (codes "env") unit)) }
 {
     let fields = [
         ("failed", Leaf::Word(what)),
@@ -154,7 +154,7 @@ fn env_failed(alloc: Global, unit: u32, what: &'static str) -> Mem<Plain>
 }
 
 fn env(alloc: Global, unit: u32, input: &EnvInput) -> Mem<Plain>
-    ensures { IfOk result (λ p. data_of p ≡ object_of (env_fields unit input.now)) }
+    ensures { IfOk result (λ p. plain_data p ≡ object_of (env_fields unit input.now)) }
 {
     match input {
         EnvInput::Bytes(bytes) => env_bytes(alloc, unit, bytes),
@@ -164,7 +164,7 @@ fn env(alloc: Global, unit: u32, input: &EnvInput) -> Mem<Plain>
 }
 
 fn decide(alloc: Global, unit: u32, word: u32) -> Mem<Plain>
-    ensures { IfOk result (λ p. data_of p ≡ turn_data (turns.Decide unit word)) }
+    ensures { IfOk result (λ p. plain_data p ≡ turn_data (turns.Decide unit word)) }
 {
     let fields = [
         ("turn", Leaf::Word("decide")),
@@ -175,14 +175,14 @@ fn decide(alloc: Global, unit: u32, word: u32) -> Mem<Plain>
 }
 
 fn clock(alloc: Global, ns: u64) -> Mem<Plain>
-    ensures { IfOk result (λ p. data_of p ≡ turn_data (turns.Clock ns)) }
+    ensures { IfOk result (λ p. plain_data p ≡ turn_data (turns.Clock ns)) }
 {
     let fields = [("ns", Leaf::Number(ns)), ("turn", Leaf::Word("clock"))];
     Object::of(alloc, &fields)
 }
 
 fn signal(alloc: Global, signal: Signal) -> Mem<Plain>
-    ensures { IfOk result (λ p. data_of p ≡ turn_data (turns.Signal signal)) }
+    ensures { IfOk result (λ p. plain_data p ≡ turn_data (turns.Signal signal)) }
 {
     let fields = [
         ("name", Leaf::Word(signal_name(signal))),
@@ -192,7 +192,7 @@ fn signal(alloc: Global, signal: Signal) -> Mem<Plain>
 }
 
 fn key(alloc: Global, key: Key) -> Mem<Plain>
-    ensures { IfOk result (λ p. data_of p ≡ turn_data (turns.Key key)) }
+    ensures { IfOk result (λ p. plain_data p ≡ turn_data (turns.Key key)) }
 {
     let code = key_name(alloc, key.code)?;
     let fields = [
@@ -205,7 +205,7 @@ fn key(alloc: Global, key: Key) -> Mem<Plain>
 }
 
 fn stream_end(alloc: Global, unit: u32, stream: Stream) -> Mem<Plain>
-    ensures { IfOk result (λ p. data_of p ≡ turn_data (turns.StreamEnd unit stream)) }
+    ensures { IfOk result (λ p. plain_data p ≡ turn_data (turns.StreamEnd unit stream)) }
 {
     let fields = [
         ("stream", Leaf::Word(stream_name(stream))),
@@ -216,7 +216,7 @@ fn stream_end(alloc: Global, unit: u32, stream: Stream) -> Mem<Plain>
 }
 
 fn started(alloc: Global, unit: u32, pid: u32) -> Mem<Plain>
-    ensures { IfOk result (λ p. data_of p ≡ turn_data (turns.Started unit pid)) }
+    ensures { IfOk result (λ p. plain_data p ≡ turn_data (turns.Started unit pid)) }
 {
     let fields = [
         ("pid", Leaf::Count(pid)),
@@ -228,7 +228,7 @@ fn started(alloc: Global, unit: u32, pid: u32) -> Mem<Plain>
 
 /// A turn as an object.
 pub(crate) fn turn_plain(alloc: Global, turn: &Turn) -> Mem<Plain>
-    ensures { IfOk result (λ p. data_of p ≡ turn_data turn.now) }
+    ensures { IfOk result (λ p. plain_data p ≡ turn_data turn.now) }
 {
     match turn {
         Turn::Begin => bare(alloc, "begin"),

@@ -6,7 +6,7 @@ use Rattle.std.proofs.Math.Nat.{mul-le-mul_left}
 use Rattle.std.proofs.lemmas.List.Sums.{sum_by-cons}
 use Rattle.std.proofs.lemmas.Slice.Zip.{length-zip}
 use Rattle.std.proofs.lemmas.List.Quantifiers.{position-Some}
-use Rattle.run_laws.proofs.Scan.{first_is}
+use Rattle.run_laws.proofs.board.Scan.{first_is}
 use Rattle.run_admission.specs.declared.seat.Claim.{Claim}
 use Rattle.run_admission.specs.declared.seat.Seat.{Seat}
 use Rattle.run_admission.specs.InUse.{Test, taken, taken_in, is_in_use, is_of, holds, least_free}

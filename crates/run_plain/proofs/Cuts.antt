@@ -2,7 +2,7 @@
 use Rattle.std.proofs.Common.{◌≡◌, ◌≢◌, length, ℕ, ◌+◌, ◌<◌, ◌≤◌, zero, suc, List, [], ◌∷◌, take, drop, Bool, true, false}
 use Rattle.std.proofs.Common.{if◌then◌else◌, arith, ap, refl, ◌∙◌, sym}
 use Rattle.run_model.specs.Story.{OwnTurn, Attempt, cut, begins_attempt, decides, pieces, with_turn}
-use Rattle.run_plain.specs.Newest.{newest, with_one, decided, after_decide}
+use Rattle.run_plain.specs.Newest.{newest, with_one, decided_count, after_decide}
 
 with_one-suc : (n : ℕ) → with_one (suc n) ≡ suc n + 1
 with_one-suc n = grind arith
@@ -32,10 +32,10 @@ within_one false false (suc m) zero some rest = omega (arith, with_one-suc m)
 within_one false is (suc m) (suc d) some rest =
     let less = rest (λ e. absurd (omega arith)) in omega (arith, with_one-suc m, after-suc is d)
 
-pub decided_within : (story : List OwnTurn) → newest story ≢ 0 → decided story < newest story
+pub decided_within : (story : List OwnTurn) → newest story ≢ 0 → decided_count story < newest story
 decided_within [] some = absurd (some refl)
 decided_within (t ∷ before) some =
-    within_one (begins_attempt t.turn) (decides t.turn) (newest before) (decided before) some (decided_within before)
+    within_one (begins_attempt t.turn) (decides t.turn) (newest before) (decided_count before) some (decided_within before)
 
 -- the attempts of a story, whose newest one has so many turns, so many of them from its decide on
 abbrev cut_at : ℕ → ℕ → List OwnTurn → List Attempt
@@ -79,13 +79,13 @@ cut_one false (suc m) n d t before is within rest =
     ap (with_turn t) (rest m refl) ∙ turn_more t m d before within
     ∙ sym (ap (λ k. cut_at (suc k) (after_decide (decides t.turn) d) (t ∷ before)) next)
 
-cut_story : (story : List OwnTurn) (n : ℕ) → newest story ≡ suc n → pieces story ≡ cut_at (suc n) (decided story) story
+cut_story : (story : List OwnTurn) (n : ℕ) → newest story ≡ suc n → pieces story ≡ cut_at (suc n) (decided_count story) story
 cut_story [] n is = absurd (omega arith)
 cut_story (t ∷ before) n is =
-    cut_one (begins_attempt t.turn) (newest before) n (decided before) t before is (newest_within before)
+    cut_one (begins_attempt t.turn) (newest before) n (decided_count before) t before is (newest_within before)
     (cut_story before)
 
-pub cut_newest : (story : List OwnTurn) (n d : ℕ) → n ≡ newest story → d ≡ decided story → n ≢ 0
+pub cut_newest : (story : List OwnTurn) (n d : ℕ) → n ≡ newest story → d ≡ decided_count story → n ≢ 0
     → pieces story ≡ cut (drop d (take n story)) (take d (take n story)) ∷ pieces (drop n story)
 cut_newest story zero d is at some = absurd (some refl)
 cut_newest story (suc n) d is at some =

@@ -14,7 +14,7 @@ use Rattle.run_events.specs.declared.events.ReporterEvent.{ReporterEvent}
 use Rattle.run_model.specs.Accounts.{account_of, news_of}
 use Rattle.run_model.specs.Admission.{is_matched, matched_in, scripts_in, tests_in}
 use Rattle.run_model.specs.Words.{FinishedUnit, a_script, a_test, adds_by, finish_of, initial_stats, skips, stats_after}
-use Rattle.run_plain.specs.Told.{AreSmall, stats_told, counted, with_finish, with_skip}
+use Rattle.run_plain.specs.Told.{AreSmall, stats_told, counted_by, plus_finish, plus_skip}
 
 -- what one more item gives
 given_last : {X Y : Type 0} (f : X → Option Y) (x : X) (o : Option Y) → f x ≡ o
@@ -34,12 +34,12 @@ account_more k events e = given_more (news_of k) events e
 -- the statistics after one more event
 finish_more : (p : Settings) (why : Option CancelReason) (skips : ℕ) (finishes : List FinishedUnit)
     (o : Option FinishedUnit)
-    → stats_after p why skips (finishes ++ option_to_list o) ≡ with_finish o (stats_after p why skips finishes)
+    → stats_after p why skips (finishes ++ option_to_list o) ≡ plus_finish o (stats_after p why skips finishes)
 finish_more p why skips finishes None = ap (stats_after p why skips) (append-nil finishes)
 finish_more p why skips finishes (Some unit) = total_by_push adds_by _ finishes unit
 
 skip_more : (p : Settings) (why : Option CancelReason) (n m : ℕ) (finishes : List FinishedUnit) (b : Bool)
-    → m ≡ n + cond b 1 0 → stats_after p why m finishes ≡ with_skip b (stats_after p why n finishes)
+    → m ≡ n + cond b 1 0 → stats_after p why m finishes ≡ plus_skip b (stats_after p why n finishes)
 unfolding total_by
 skip_more p why n m finishes false is =
     let same : m ≡ n = omega arith in ap (λ k. stats_after p why k finishes) same
@@ -49,13 +49,13 @@ skip_more p why n m finishes true is =
     ap (λ k. record (stats_after p why n finishes) { skipped = k }) more
 
 pub stats_more : (p : Settings) (why : Option CancelReason) (events : List ReporterEvent) (e : ReporterEvent)
-    → stats_told p why (events ++ e ∷ []) ≡ counted (stats_told p why events) e
+    → stats_told p why (events ++ e ∷ []) ≡ counted_by (stats_told p why events) e
 stats_more p why events e =
     ap (stats_after p why (count_by skips (events ++ e ∷ []))) (given_more finish_of events e)
     ∙ skip_more p why (count_by skips events) (count_by skips (events ++ e ∷ []))
     (filter_map finish_of events ++ option_to_list (finish_of e)) (skips e)
     (sum_by_push (λ x. cond (skips x) 1 0) events e)
-    ∙ ap (with_skip (skips e)) (finish_more p why (count_by skips events) (filter_map finish_of events) (finish_of e))
+    ∙ ap (plus_skip (skips e)) (finish_more p why (count_by skips events) (filter_map finish_of events) (finish_of e))
 
 -- before the first event
 pub stats_first : (p : Settings) (why : Option CancelReason)

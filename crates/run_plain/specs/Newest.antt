@@ -14,17 +14,17 @@ newest (t ∷ before) = if begins_attempt t.turn then 1 else with_one (newest be
 abbrev pub after_decide : Bool → ℕ → ℕ
 after_decide is n = if n == 0 then (if is then 1 else 0) else n + 1
 
-abbrev pub decided : List OwnTurn → ℕ
-decided [] = 0
-decided (t ∷ before) = if begins_attempt t.turn then 0 else after_decide (decides t.turn) (decided before)
+abbrev pub decided_count : List OwnTurn → ℕ
+decided_count [] = 0
+decided_count (t ∷ before) = if begins_attempt t.turn then 0 else after_decide (decides t.turn) (decided_count before)
 
--- the newest attempt of a story: its turns until it is decided on, those from then on, and the story before it
+-- the newest attempt of a story: its turns until it is decided_count on, those from then on, and the story before it
 pub record NewestAttempt : Type 0 where
   pub piece : List OwnTurn
   pub after : List OwnTurn
   pub before : List OwnTurn
 
 -- the attempts of a story, by that
-abbrev pub attempts_by : Option NewestAttempt → List Attempt
-attempts_by None = []
-attempts_by (Some newest) = cut newest.piece newest.after ∷ pieces newest.before
+abbrev pub attempts_with : Option NewestAttempt → List Attempt
+attempts_with None = []
+attempts_with (Some newest) = cut newest.piece newest.after ∷ pieces newest.before

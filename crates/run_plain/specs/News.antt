@@ -6,6 +6,6 @@ use Rattle.run_plain.specs.declared.accounts.News.TheVariants.{Started, Failed, 
 abbrev pub defined : News → Defined
 defined Started = started
 defined (Failed status) = failed status
-defined Retried = retried
+defined (Retried attempt) = retried attempt
 defined (Finished statuses) = finished statuses
 defined Skipped = skipped

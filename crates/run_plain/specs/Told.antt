@@ -17,16 +17,16 @@ abbrev pub StatsAreOfToldEvents : Type 0
 StatsAreOfToldEvents = (p : Settings) (past : List Happening) → stats p past ≡ stats_told p (reason past) (told past)
 
 -- one more event may finish a script or a test, or tell a skip
-abbrev pub with_finish : Option FinishedUnit → RunStats → RunStats
-with_finish None s = s
-with_finish (Some unit) s = plus s (adds_by unit)
+abbrev pub plus_finish : Option FinishedUnit → RunStats → RunStats
+plus_finish None s = s
+plus_finish (Some unit) s = plus s (adds_by unit)
 
-abbrev pub with_skip : Bool → RunStats → RunStats
-with_skip false s = s
-with_skip true s = record s { skipped = s.skipped + 1 }
+abbrev pub plus_skip : Bool → RunStats → RunStats
+plus_skip false s = s
+plus_skip true s = record s { skipped = s.skipped + 1 }
 
-abbrev pub counted : RunStats → ReporterEvent → RunStats
-counted s event = with_skip (skips event) (with_finish (finish_of event) s)
+abbrev pub counted_by : RunStats → ReporterEvent → RunStats
+counted_by s event = plus_skip (skips event) (plus_finish (finish_of event) s)
 
 -- the counts are small, apart from the number of scripts to run, to which no event adds
 abbrev pub AreSmall : RunStats → Type 0

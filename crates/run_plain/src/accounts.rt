@@ -14,8 +14,8 @@ pub enum News {
     Started,
     /// An attempt failed, and the next one follows.
     Failed(ExecuteStatus),
-    /// A further attempt started.
-    Retried,
+    /// The attempt of this number, from 1, started.
+    Retried(usize),
     /// It finished after these attempts.
     Finished(List<ExecuteStatus>),
     Skipped,
@@ -62,7 +62,7 @@ fn news_in(alloc: Global, k: u32, kind: &TestEventKind) -> Mem<Option<News>>
             Ok(Some(News::Failed(event.failed.status.copy(alloc)?)))
         }
         TestEventKind::TestRetryStarted(event) if event.retry.start.test.unit == k => {
-            Ok(Some(News::Retried))
+            Ok(Some(News::Retried(event.retry.attempt as usize)))
         }
         TestEventKind::TestFinished(event) if event.finish.test.unit == k => {
             Ok(Some(News::Finished(event.finish.statuses.copy(alloc)?)))

@@ -2,7 +2,7 @@
 ghost use Rattle.std.specs.Prelude.{◌≡◌, ◌*◌, ◌-◌, ◌^◌, ◌<◌, min, length, []};
 ghost use Rattle.run_clock.specs.Counted.{is_due};
 ghost use Rattle.run_model.specs.Backoff.{retry_count, has_jitter, whole_delay, jittered, delay_by};
-ghost use Rattle.run_model.specs.Attempts.{cancels, decided_at, delay_after, is_delay_over, moment_if, word_in, word_of};
+ghost use Rattle.run_model.specs.Attempts.{cancels, decided_at, delay_after, is_delay_over, moment_if, word_in, drawn_word};
 ghost use Rattle.run_model.specs.Story.{decides, first_said, pieces};
 
 use crate::OwnTurn;
@@ -88,7 +88,7 @@ fn drawn(after: &[OwnTurn]) -> Option<u32>
 }
 
 fn word_of(after: &[OwnTurn]) -> u32
-    ensures { result ≡ word_of after.now }
+    ensures { result ≡ drawn_word after.now }
 {
     drawn(after).unwrap_or(0)
 }

@@ -1,10 +1,12 @@
 // What becomes of a unit in a run that is over.
-ghost use Rattle.std.specs.Prelude.{◌≡◌, ◌↔◌, ◌∷◌, ◌++◌, [], false, map, not, IfOk, IsTrue};
+ghost use Rattle.std.specs.Prelude.{◌≡◌, ◌↔◌, ◌≤◌, ◌+◌, ◌^◌, ◌∷◌, ◌++◌, [], false, length, map, not, option_to_list};
+ghost use Rattle.std.specs.Prelude.{IfOk, IsTrue};
 ghost use Rattle.std.specs.List.{list_all};
 ghost use Rattle.run_events.specs.Result.{is_success};
-ghost use Rattle.run_model.specs.Accounts.{finished};
+ghost use Rattle.run_model.specs.Accounts.{failed, finished, tried_from};
+ghost use Rattle.run_model.specs.Unit.{last_status};
 ghost use Rattle.run_plain.specs.declared.accounts.News.TheVariants.{Failed};
-ghost use Rattle.run_model.specs.Fates.{HasRetryLeft, MeetsAttemptLaw, account, failures, retold};
+ghost use Rattle.run_model.specs.Fates.{HasRetryLeft, MeetsAttemptLaw, account, but_last, retold};
 ghost use Rattle.run_plain.specs.News.{defined};
 
 use crate::News;
@@ -22,31 +24,40 @@ fn with_failure(alloc: Global, status: &ExecuteStatus, after: List<News>) -> Mem
     ahead(alloc, News::Failed(status), after)
 }
 
-// What is told of attempts each of which a further one follows, but the last, before what is told after them.
-fn with_retries(alloc: Global, statuses: &[ExecuteStatus], after: List<News>) -> Mem<List<News>>
-    ensures { IfOk result (λ l. map defined l ≡ retold statuses.now ++ map defined after) }
+// What is told of attempts, the first of this number, each of which a further one follows, but the last, before what is
+// told after them.
+fn with_retries(
+    alloc: Global,
+    number: usize,
+    statuses: &[ExecuteStatus],
+    after: List<News>,
+) -> Mem<List<News>>
+    requires few { number + length statuses.now ≤ 2 ^ 64 }
+    ensures { IfOk result (λ l. map defined l ≡ tried_from number (but_last statuses.now) ++ map defined after) }
 {
     match statuses {
         [] => Ok(after),
         [_last] => Ok(after),
         [status, rest @ ..] => {
-            let after = with_retries(alloc, rest, after)?;
-            let after = ahead(alloc, News::Retried, after)?;
+            let after = with_retries(alloc, number + 1, rest, after)?;
+            let after = ahead(alloc, News::Retried(number + 1), after)?;
             with_failure(alloc, status, after)
         }
     }
 }
 
-// What is told of attempts the last of which failed too, and none followed.
-fn failures(alloc: Global, statuses: &[ExecuteStatus]) -> Mem<List<News>>
-    ensures { IfOk result (λ l. map defined l ≡ failures statuses.now) }
+// What is told of attempts, the first of this number, the last of which failed too, and none followed.
+fn failures(alloc: Global, number: usize, statuses: &[ExecuteStatus]) -> Mem<List<News>>
+    requires few { number + length statuses.now ≤ 2 ^ 64 }
+    ensures { IfOk result (λ l. map defined l
+        ≡ tried_from number (but_last statuses.now) ++ map failed (option_to_list (last_status statuses.now))) }
 {
     match statuses {
         [] => Ok(List::new()),
         [status] => with_failure(alloc, status, List::new()),
         [status, rest @ ..] => {
-            let after = failures(alloc, rest)?;
-            let after = ahead(alloc, News::Retried, after)?;
+            let after = failures(alloc, number + 1, rest)?;
+            let after = ahead(alloc, News::Retried(number + 1), after)?;
             with_failure(alloc, status, after)
         }
     }
@@ -58,37 +69,40 @@ fn finished(alloc: Global, statuses: &List<ExecuteStatus>) -> Mem<List<News>>
 {
     let attempts = statuses.copy(alloc)?;
     let last = ahead(alloc, News::Finished(attempts), List::new())?;
-    with_retries(alloc, statuses.as_slice(), last)
+    with_retries(alloc, 1, statuses.as_slice(), last)
 }
 
-// What is told of a unit that was let go: it was left after its attempts, or it finished with them.
-fn started(alloc: Global, was_left: bool, statuses: &List<ExecuteStatus>) -> Mem<List<News>>
-    ensures { IfOk result (λ l. map defined l ≡ account false false was_left statuses.now) }
+// What is told of a unit that wasn't skipped, by where it was stopped.
+fn told(alloc: Global, stopped: Option<usize>, statuses: &List<ExecuteStatus>) -> Mem<List<News>>
+    ensures { IfOk result (λ l. map defined l ≡ account false stopped statuses.now) }
 {
-    let told = if was_left {
-        failures(alloc, statuses.as_slice())?
-    } else {
-        finished(alloc, statuses)?
-    };
-    ahead(alloc, News::Started, told)
+    match stopped {
+        Some(0) => Ok(List::new()),
+        Some(_) => {
+            let told = failures(alloc, 1, statuses.as_slice())?;
+            ahead(alloc, News::Started, told)
+        }
+        None => {
+            let told = finished(alloc, statuses)?;
+            ahead(alloc, News::Started, told)
+        }
+    }
 }
 
-/// The account of a unit's fate: all that is told of it.
+/// The account of a unit's fate: all that is told of it. It was stopped after so many of its attempts had begun, if it
+/// was.
 pub fn account(
     alloc: Global,
     mismatched: bool,
-    never_started: bool,
-    was_left: bool,
+    stopped: Option<usize>,
     statuses: &List<ExecuteStatus>,
 ) -> Mem<List<News>>
-    ensures { IfOk result (λ l. map defined l ≡ account mismatched never_started was_left statuses.now) }
+    ensures { IfOk result (λ l. map defined l ≡ account mismatched stopped statuses.now) }
 {
     if mismatched {
         ahead(alloc, News::Skipped, List::new())
-    } else if never_started {
-        Ok(List::new())
     } else {
-        started(alloc, was_left, statuses)
+        told(alloc, stopped, statuses)
     }
 }
 

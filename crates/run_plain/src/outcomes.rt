@@ -1,7 +1,7 @@
 // What came of the child of an attempt, by its own turns.
 ghost use Rattle.std.specs.Prelude.{◌≡◌, IfOk, is_some};
 ghost use Rattle.run_capture.specs.Captured.{read_error};
-ghost use Rattle.run_model.specs.Attempts.{error_in, errors_of, exit_of, output_by, output_of, result_by};
+ghost use Rattle.run_model.specs.Attempts.{error_in, errors_heard, exit_of, output_by, output_of, result_by};
 ghost use Rattle.run_model.specs.Attempts.{start_error_of};
 ghost use Rattle.run_plain.specs.Any.{has_any};
 
@@ -75,7 +75,7 @@ fn error_in(alloc: Global, turn: &UnitTurn) -> Mem<Option<ChildFdError>>
 
 // Its errors but that of its start, in order.
 fn errors_of(alloc: Global, piece: &[OwnTurn]) -> Mem<List<ChildFdError>>
-    ensures { IfOk result (λ l. l ≡ errors_of piece.now) }
+    ensures { IfOk result (λ l. l ≡ errors_heard piece.now) }
 {
     let [turn, before @ ..] = piece else {
         return Ok(List::new());
@@ -100,7 +100,7 @@ fn is_error(turn: &UnitTurn) -> bool
 // Whether it has an error but that of its start.
 #[tactic(auto, using(crate::proofs::OutcomeLemmas::any_more))]
 fn has_errors(piece: &[OwnTurn]) -> bool
-    ensures { result ≡ has_any (errors_of piece.now) }
+    ensures { result ≡ has_any (errors_heard piece.now) }
 {
     let [turn, before @ ..] = piece else {
         return false;
@@ -136,7 +136,7 @@ pub fn child_output(
     piece: &[OwnTurn],
 ) -> Mem<ChildExecutionOutput>
     ensures { IfOk result (λ o. o ≡ output_by (start_error_of piece.now) (output_of streams piece.now)
-        (errors_of piece.now)) }
+        (errors_heard piece.now)) }
 {
     if let Some(error) = refusal_of(alloc, piece)? {
         return Ok(ChildExecutionOutput::StartError(error));

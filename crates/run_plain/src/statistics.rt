@@ -5,7 +5,7 @@ ghost use Rattle.run_events.specs.Stats.{script_adds, script_finished, test_adds
 ghost use Rattle.run_events.specs.declared.result.ExecutionResult.TheVariants.{ExecFail, Pass};
 ghost use Rattle.run_model.specs.Admission.{is_matched, matched_in, tests_in};
 ghost use Rattle.run_model.specs.Words.{finished_test, last_slow};
-ghost use Rattle.run_plain.specs.Told.{AreSmall, StatsAreOfToldEvents, counted, stats_told, with_skip};
+ghost use Rattle.run_plain.specs.Told.{AreSmall, StatsAreOfToldEvents, counted_by, stats_told, plus_skip};
 
 use crate::results::passes;
 use run_events::{
@@ -207,7 +207,7 @@ fn plus(a: RunStats, b: RunStats) -> RunStats
 // The statistics after one more skip.
 fn with_skip(stats: RunStats) -> RunStats
     requires { AreSmall stats }
-    ensures { result ≡ with_skip true stats }
+    ensures { result ≡ plus_skip true stats }
 {
     RunStats {
         skipped: stats.skipped + 1,
@@ -218,7 +218,7 @@ fn with_skip(stats: RunStats) -> RunStats
 // The statistics after one more event.
 fn counted(stats: RunStats, event: &ReporterEvent) -> RunStats
     requires { AreSmall stats }
-    ensures { result ≡ counted stats event.now }
+    ensures { result ≡ counted_by stats event.now }
 {
     match event {
         ReporterEvent::Test(event) => match &event.kind {

@@ -1,7 +1,7 @@
 // A unit's own turns, and how they are cut where it was let go.
 ghost use Rattle.std.specs.Prelude.{◌≡◌, ◌<◌, ◌≤◌, length, IfSome};
 ghost use Rattle.run_model.specs.Story.{begins_attempt, decides, pieces};
-ghost use Rattle.run_plain.specs.Newest.{newest, decided, attempts_by};
+ghost use Rattle.run_plain.specs.Newest.{newest, decided_count, attempts_with};
 
 use run_events::Request;
 use run_model::UnitTurn;
@@ -57,7 +57,7 @@ fn newest(story: &[OwnTurn]) -> usize
 
 // How many of these are from its decide on.
 fn decided(story: &[OwnTurn]) -> usize
-    ensures turns { result ≡ decided story.now }
+    ensures turns { result ≡ decided_count story.now }
     ensures within { result ≤ length story.now }
 {
     let [turn, before @ ..] = story else {
@@ -93,7 +93,7 @@ impl<'a> Model for NewestAttempt<'a> {
 #[tactic(auto, using(crate::proofs::Cuts::cut_newest, crate::proofs::Cuts::no_piece, crate::proofs::Cuts::decided_within))]
 // The newest attempt of a story, if it has one.
 pub fn newest_attempt(story: &[OwnTurn]) -> Option<NewestAttempt<'_>>
-    ensures cut { pieces story.now ≡ attempts_by result }
+    ensures cut { pieces story.now ≡ attempts_with result }
     ensures shorter { IfSome result (λ newest. length newest.before < length story.now) }
 {
     let turns = newest(story);

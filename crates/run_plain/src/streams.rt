@@ -2,7 +2,7 @@
 ghost use Rattle.std.specs.Prelude.{◌≡◌, ◌++◌, IfOk, OnOk};
 ghost use Rattle.run_capture.specs.Heard.{is_stream};
 ghost use Rattle.run_capture.specs.declared.test_output.ChildOutput.TheVariants.{Split};
-ghost use Rattle.run_model.specs.Attempts.{are_streams_done, bytes_in, bytes_of, bytes_where, ends_stream};
+ghost use Rattle.run_model.specs.Attempts.{are_streams_done, bytes_in, bytes_heard, bytes_where, ends_stream};
 ghost use Rattle.run_model.specs.Attempts.{is_stream_done, output_of};
 ghost use Rattle.run_model.specs.declared.unit_view.CapturedStreams.TheVariants as captured;
 
@@ -37,7 +37,7 @@ fn add_bytes(alloc: Global, bytes: &mut Blob, stream: Stream, turn: &UnitTurn) -
 
 // What was written to a stream, in order.
 fn bytes_of(alloc: Global, stream: Stream, piece: &[OwnTurn]) -> Mem<Blob>
-    ensures { IfOk result (λ b. b ≡ bytes_of stream piece.now) }
+    ensures { IfOk result (λ b. b ≡ bytes_heard stream piece.now) }
 {
     let [turn, before @ ..] = piece else {
         return Ok(Blob::new(alloc));

@@ -13,11 +13,11 @@ use Rattle.run_progress.specs.declared.running_test.RunningTest.{RunningTest}
 use Rattle.run_progress.specs.declared.running_test.RunningTestStatus.{RunningTestStatus}
 use Rattle.run_progress.specs.declared.running_test.RunningTestStatus.TheVariants as statuses
 use Rattle.run_progress.specs.declared.seen.Seen.{Seen}
-use Rattle.run_progress.specs.Deeds.{Deed, starts, finishes, slows, continues, other, deed_of, is_same, is_slow_of}
+use Rattle.run_progress.specs.Deeds.{Change, starts, finishes, slows, continues, other, deed_of, is_same, is_slow_of}
 use Rattle.run_progress.specs.Deeds.{replaces, paused_in, paused_where}
 use Rattle.run_progress.specs.Display.{running_after, display, pauses, started_by, running_test, is_replaced}
 use Rattle.run_progress.specs.Display.{is_told_slow}
-use Rattle.run_progress.specs.Edits.{edited, edited_by, slowed, delayed, without, seen_after}
+use Rattle.run_progress.specs.Edits.{edited, edited_by, slowed, paused_more, without, seen_after}
 use Rattle.run_progress.specs.Seen.{counts_in, info_in, last_told, no_counts, pause_in, script_in, seen_of, shows_tests}
 
 -- the last that is told of something, after one more event
@@ -37,11 +37,11 @@ pauses-push before [] last = omega arith
 pauses-push before (first ∷ ends) last = omega (arith, pauses-push first ends last)
 
 -- a running test after a deed that doesn't replace it
-abbrev pub touched : Deed → ℕ → RunningTest → RunningTest
+abbrev pub touched : Change → ℕ → RunningTest → RunningTest
 touched (starts id status) pause running = running
 touched (finishes id) pause running = running
 touched (slows id) pause running = slowed id running
-touched continues pause running = delayed pause running
+touched continues pause running = paused_more pause running
 touched other pause running = running
 
 -- it in parts
@@ -55,7 +55,7 @@ parts test status start before slow ends = record {
 
 -- its parts after one more deed
 parts-push : (test : TestInstanceId) (status : RunningTestStatus) (start before : ℕ) (slow : Bool) (ends : List ℕ)
-    (deed : Deed) (paused : ℕ)
+    (deed : Change) (paused : ℕ)
     → parts test status start before (slow || (is_slow_of test deed || false))
     (ends ++ cons_option (paused_where deed paused) [])
     ≡ touched deed (paused - last_or before ends) (parts test status start before slow ends)
@@ -84,7 +84,7 @@ parts-push test status start before slow ends continues paused =
     = omega (arith, pauses-push before ends paused) in
     rw total (elim slow as (λ b. record (parts test status start before (b || false) ends)
     { paused = min (min (pauses before ends) (2 ^ 64 - 1) + (paused - last_or before ends)) (2 ^ 64 - 1) }
-    ≡ delayed (paused - last_or before ends) (parts test status start before b ends)) [ true ↦ refl | false ↦ refl ])
+    ≡ paused_more (paused - last_or before ends) (parts test status start before b ends)) [ true ↦ refl | false ↦ refl ])
 
 -- a running test after one more event
 running_test-push : (test : TestInstanceId) (status : RunningTestStatus) (start before : ℕ) (later : List TestEvent)
@@ -101,7 +101,7 @@ running_test-push test status start before later event =
     (deed_of event.kind) (event.clock - event.elapsed))
 
 -- a list that begins with a running test, or doesn't, after a deed
-edited-cons : (deed : Deed) (now pause : ℕ) (replaced : Bool) (running : RunningTest) (rest : List RunningTest)
+edited-cons : (deed : Change) (now pause : ℕ) (replaced : Bool) (running : RunningTest) (rest : List RunningTest)
     → (if replaced || (replaces running.test deed || false) then [] else touched deed pause running ∷ [])
     ++ edited_by deed now pause rest
     ≡ edited_by deed now pause ((if replaced then [] else running ∷ []) ++ rest)
@@ -118,7 +118,7 @@ edited-cons continues now pause false running rest = refl
 edited-cons other now pause false running rest = refl
 
 -- what starts by a deed, before a list after one more event
-started-push : (first : Deed) (start before : ℕ) (later : List TestEvent) (event : TestEvent) (rest : List RunningTest)
+started-push : (first : Change) (start before : ℕ) (later : List TestEvent) (event : TestEvent) (rest : List RunningTest)
     → started_by first start before (later ++ event ∷ [])
     ++ edited (last_or before (filter_map paused_in later)) event rest
     ≡ edited (last_or before (filter_map paused_in later)) event (started_by first start before later ++ rest)
@@ -136,7 +136,7 @@ started-push continues start before later event rest = refl
 started-push other start before later event rest = refl
 
 -- what starts by the last deed of all
-started-last : (deed : Deed) (now before pause : ℕ)
+started-last : (deed : Change) (now before pause : ℕ)
     → started_by deed now before [] ++ [] ≡ edited_by deed now pause []
 started-last (starts id status) now before pause = refl
 started-last (finishes id) now before pause = refl

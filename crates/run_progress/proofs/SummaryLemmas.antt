@@ -1,15 +1,15 @@
--- Parts of a summary, joined.
+-- Parts of a summary, comma_joined.
 use Rattle.std.proofs.Common.{◌≡◌, ℕ, Bool, true, false, List, [], ◌∷◌, ◌++◌, refl, ap, sym, append-nil, append_assoc}
 use Rattle.std.proofs.Common.{◌<◌, suc, arith}
 use Rattle.std.specs.Prelude.{codes, decimal, nat_lt, length, ◌==◌, if◌then◌else◌}
 use Rattle.std.proofs.lemmas.Bool.{lt-ltb, ne_eqb}
 use Rattle.std.proofs.lemmas.List.Concat.{flat_map-append}
 use Rattle.run_events.specs.declared.stats.RunStats.{RunStats}
-use Rattle.run_progress.specs.Summary.{counted, failed_kinds, in_parentheses, joined, passed_kinds, summary_text}
+use Rattle.run_progress.specs.Summary.{count_text, failed_kinds, in_parentheses, comma_joined, passed_kinds, summary_text}
 use Rattle.run_progress.specs.Parts.{after_commas, closed, with_kind}
 
 -- the first part, and each other after a comma
-pub joined-cons : (text : List ℕ) (rest : List (List ℕ)) → joined (text ∷ rest) ≡ text ++ after_commas rest
+pub joined-cons : (text : List ℕ) (rest : List (List ℕ)) → comma_joined (text ∷ rest) ≡ text ++ after_commas rest
 joined-cons text [] = sym (append-nil text)
 joined-cons text (next ∷ rest) =
     rw (joined-cons next rest) (ap (λ tail. text ++ tail) (sym (append_assoc (codes ", ") next (after_commas rest))))
@@ -62,9 +62,9 @@ failed_kinds-some stats some =
 pub parts_joined : (stats : RunStats)
     → summary_text stats
     ≡ ((((decimal stats.passed ++ (codes " passed" ++ passed_kinds stats))
-    ++ after_commas (counted stats.failed (codes " failed" ++ failed_kinds stats)))
-    ++ after_commas (counted stats.exec_failed (codes " exec failed")))
-    ++ after_commas (counted stats.failed_timed_out (codes " timed out")))
+    ++ after_commas (count_text stats.failed (codes " failed" ++ failed_kinds stats)))
+    ++ after_commas (count_text stats.exec_failed (codes " exec failed")))
+    ++ after_commas (count_text stats.failed_timed_out (codes " timed out")))
     ++ (codes ", " ++ (decimal stats.skipped ++ codes " skipped"))
 unfolding summary_text
 parts_joined stats = simp (joined-cons, flat_map-append, append_assoc, append-nil)

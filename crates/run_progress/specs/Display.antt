@@ -6,7 +6,7 @@ use Rattle.run_events.specs.declared.plan.TestInstanceId.{TestInstanceId}
 use Rattle.run_progress.specs.declared.running_test.RunningTest.{RunningTest}
 use Rattle.run_progress.specs.declared.running_test.RunningTestStatus.{RunningTestStatus}
 use Rattle.run_progress.specs.declared.running_test.RunningTestStatus.TheVariants as statuses
-use Rattle.run_progress.specs.Deeds.{Deed, starts, finishes, slows, continues, other, deed_of, replaces, is_slow_of}
+use Rattle.run_progress.specs.Deeds.{Change, starts, finishes, slows, continues, other, deed_of, replaces, is_slow_of}
 use Rattle.run_progress.specs.Deeds.{paused_in}
 
 -- whether a test starts again or finishes in these events
@@ -32,7 +32,7 @@ running_test test status start before later = record {
 }
 
 -- the test that starts by this deed, at this moment, unless it starts again or finishes later
-abbrev pub started_by : Deed → ℕ → ℕ → List TestEvent → List RunningTest
+abbrev pub started_by : Change → ℕ → ℕ → List TestEvent → List RunningTest
 started_by (starts test status) start before later =
     if is_replaced test later then [] else running_test test status start before later ∷ []
 started_by (finishes test) start before later = []

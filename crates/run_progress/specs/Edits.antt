@@ -8,7 +8,7 @@ use Rattle.run_progress.specs.declared.running_test.RunningTest.{RunningTest}
 use Rattle.run_progress.specs.declared.running_test.RunningTestStatus.TheVariants as statuses
 use Rattle.run_progress.specs.declared.seen.Hiding.{Hiding}
 use Rattle.run_progress.specs.declared.seen.Seen.{Seen}
-use Rattle.run_progress.specs.Deeds.{Deed, starts, finishes, slows, continues, other, deed_of, is_same, paused_in}
+use Rattle.run_progress.specs.Deeds.{Change, starts, finishes, slows, continues, other, deed_of, is_same, paused_in}
 use Rattle.run_progress.specs.Seen.{counts_in, script_in, pause_in, info_in, shows_tests}
 
 -- all tests but this one
@@ -20,16 +20,16 @@ abbrev pub slowed : TestInstanceId → RunningTest → RunningTest
 slowed id running = if is_same running.test id then record running { status = statuses.Slow } else running
 
 -- a test after one more pause, whose pauses come to the greatest u64 at most
-abbrev pub delayed : ℕ → RunningTest → RunningTest
-delayed pause running = record running { paused = min (running.paused + pause) (2 ^ 64 - 1) }
+abbrev pub paused_more : ℕ → RunningTest → RunningTest
+paused_more pause running = record running { paused = min (running.paused + pause) (2 ^ 64 - 1) }
 
 -- the running tests after a deed at this moment, where a pause of this length ends
-abbrev pub edited_by : Deed → ℕ → ℕ → List RunningTest → List RunningTest
+abbrev pub edited_by : Change → ℕ → ℕ → List RunningTest → List RunningTest
 edited_by (starts id status) now pause tests =
     without id tests ++ record { test = id; status = status; start = now; paused = 0 } ∷ []
 edited_by (finishes id) now pause tests = without id tests
 edited_by (slows id) now pause tests = map (slowed id) tests
-edited_by continues now pause tests = map (delayed pause) tests
+edited_by continues now pause tests = map (paused_more pause) tests
 edited_by other now pause tests = tests
 
 -- the running tests after an event, where the run had been paused for so long before

@@ -19,17 +19,17 @@ abbrev pub SaysInfinite : List ℕ → Type 0
 SaysInfinite text = map to_ascii_lowercase text ≡ codes "infinite"
 
 -- decimal digits, with an optional `+` before them, whose value is this one
-abbrev pub IsDecimal : List ℕ → ℕ → Type 0
-IsDecimal text n = IsNumeral 10 (without_leading_plus text) × (digits_value 10 (without_leading_plus text) ≡ n)
+abbrev pub IsMaximumText : List ℕ → ℕ → Type 0
+IsMaximumText text n = IsNumeral 10 (without_leading_plus text) × (digits_value 10 (without_leading_plus text) ≡ n)
 
 -- what a text that is read says
 abbrev pub SaysMax : List ℕ → MaxProgressRunning → Type 0
 SaysMax text Infinite = SaysInfinite text
-SaysMax text (Count n) = IsDecimal text n
+SaysMax text (Count n) = IsMaximumText text n
 
 -- neither the word nor a number that fits 64 bits
 abbrev pub SaysNoMax : List ℕ → Type 0
-SaysNoMax text = (¬ SaysInfinite text) × ((n : ℕ) → n < 2 ^ 64 → ¬ IsDecimal text n)
+SaysNoMax text = (¬ SaysInfinite text) × ((n : ℕ) → n < 2 ^ 64 → ¬ IsMaximumText text n)
 
 -- std's words for what is wrong with a text that is no number
 abbrev pub error_words : IntErrorKind → List ℕ
@@ -40,12 +40,12 @@ error_words kinds.NegOverflow = codes "number too small to fit in target type"
 error_words kinds.Zero = codes "number would be zero for non-zero type"
 
 -- the message for a text that says nothing: std's words for it, and the text
-abbrev pub error_text : List ℕ → IntErrorKind → List ℕ
-error_text text kind = codes "Error: " ++ (error_words kind ++ (codes " parsing " ++ text))
+abbrev pub number_error_text : List ℕ → IntErrorKind → List ℕ
+number_error_text text kind = codes "Error: " ++ (error_words kind ++ (codes " parsing " ++ text))
 
 -- the error for a text with this wrong with it
 abbrev pub Tells : List ℕ → IntErrorKind → MaxProgressError → Type 0
-Tells text kind (Parse message) = message ≡ error_text text kind
+Tells text kind (Parse message) = message ≡ number_error_text text kind
 Tells text kind OutOfMemory = Unit {0}
 
 -- an error as it prints
@@ -56,9 +56,9 @@ error_message OutOfMemory = codes "out of memory"
 -- this is the error's message, and its kind is what std finds wrong with the text
 abbrev pub IsMessage : List ℕ → List ℕ → Type 0
 IsMessage text message = (kind : IntErrorKind)
-    × IsParseIntError 10 text (without_leading_plus text) kinds.PosOverflow kind × (message ≡ error_text text kind)
+    × IsParseIntError 10 text (without_leading_plus text) kinds.PosOverflow kind × (message ≡ number_error_text text kind)
 
 -- why a text is refused: it says nothing, and the message tells what is wrong with it
-abbrev pub Refuses : List ℕ → MaxProgressError → Type 0
-Refuses text (Parse message) = SaysNoMax text × IsMessage text message
-Refuses text OutOfMemory = Unit {0}
+abbrev pub RefusesText : List ℕ → MaxProgressError → Type 0
+RefusesText text (Parse message) = SaysNoMax text × IsMessage text message
+RefusesText text OutOfMemory = Unit {0}

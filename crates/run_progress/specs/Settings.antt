@@ -8,20 +8,20 @@ use Rattle.run_progress.specs.declared.show.ShowTerminalProgress.{ShowTerminalPr
 use Rattle.run_progress.specs.declared.show.ShowTerminalProgress.TheVariants.{Yes, No}
 
 -- what a variable's text says: `true`, `false`, or nothing
-abbrev pub truth_of : List ℕ → Option Bool
-truth_of text = if bytes_eq text (codes "true") then Some true
+abbrev pub said_truth : List ℕ → Option Bool
+said_truth text = if bytes_eq text (codes "true") then Some true
     else if bytes_eq text (codes "false") then Some false else None
 
 -- the value of a setting, where it has one
-abbrev pub value_of : Option (List ℕ) → TermSetting → Option Bool
-value_of env (CliOption value) = value
-value_of env Env = option_and_then truth_of env
-value_of env (File value) = value
+abbrev pub setting_value : Option (List ℕ) → TermSetting → Option Bool
+setting_value env (CliOption value) = value
+setting_value env Env = option_and_then said_truth env
+setting_value env (File value) = value
 
 -- the value of the first setting that has one, or else whether the terminal supports it
-abbrev pub decided : Option (List ℕ) → Bool → List TermSetting → Bool
-decided env supported [] = supported
-decided env supported (setting ∷ rest) = unwrap_or (value_of env setting) (decided env supported rest)
+abbrev pub first_setting : Option (List ℕ) → Bool → List TermSetting → Bool
+first_setting env supported [] = supported
+first_setting env supported (setting ∷ rest) = unwrap_or (setting_value env setting) (first_setting env supported rest)
 
 abbrev pub shown_where : Bool → ShowTerminalProgress
 shown_where true = Yes

@@ -6,41 +6,41 @@ use Rattle.run_events.specs.declared.cancel.CancelReason.TheVariants.{SecondSign
 use Rattle.run_progress.specs.Texts.{right, bracket}
 
 -- a count and what it counts, where it is above 0
-abbrev pub counted : ℕ → List ℕ → List (List ℕ)
-counted n words = if nat_lt 0 n then (decimal n ++ words) ∷ [] else []
+abbrev pub count_text : ℕ → List ℕ → List (List ℕ)
+count_text n words = if nat_lt 0 n then (decimal n ++ words) ∷ [] else []
 
 -- texts, with a comma and a space between them
-abbrev pub joined : List (List ℕ) → List ℕ
-joined [] = []
-joined (text ∷ []) = text
-joined (text ∷ rest) = text ++ (codes ", " ++ joined rest)
+abbrev pub comma_joined : List (List ℕ) → List ℕ
+comma_joined [] = []
+comma_joined (text ∷ []) = text
+comma_joined (text ∷ rest) = text ++ (codes ", " ++ comma_joined rest)
 
 -- texts in parentheses, and nothing where there are none
 abbrev pub in_parentheses : List (List ℕ) → List ℕ
 in_parentheses [] = []
-in_parentheses texts = codes " (" ++ (joined texts ++ codes ")")
+in_parentheses texts = codes " (" ++ (comma_joined texts ++ codes ")")
 
 -- which of the passed tests were slow, flaky and leaky
 unfoldable pub passed_kinds : RunStats → List ℕ
 passed_kinds stats = in_parentheses
-    (counted stats.passed_slow (codes " slow") ++ (counted stats.flaky (codes " flaky")
-    ++ counted stats.leaky (codes " leaky")))
+    (count_text stats.passed_slow (codes " slow") ++ (count_text stats.flaky (codes " flaky")
+    ++ count_text stats.leaky (codes " leaky")))
 
 -- which of the failed tests failed for a leak
 abbrev pub failed_kinds : RunStats → List ℕ
-failed_kinds stats = in_parentheses (counted stats.leaky_failed (codes " due to being leaky"))
+failed_kinds stats = in_parentheses (count_text stats.leaky_failed (codes " due to being leaky"))
 
 -- each part that isn't left out, in order
 abbrev pub summary_parts : RunStats → List (List ℕ)
 summary_parts stats = (decimal stats.passed ++ (codes " passed" ++ passed_kinds stats))
-    ∷ (counted stats.failed (codes " failed" ++ failed_kinds stats)
-    ++ (counted stats.exec_failed (codes " exec failed")
-    ++ (counted stats.failed_timed_out (codes " timed out")
+    ∷ (count_text stats.failed (codes " failed" ++ failed_kinds stats)
+    ++ (count_text stats.exec_failed (codes " exec failed")
+    ++ (count_text stats.failed_timed_out (codes " timed out")
     ++ ((decimal stats.skipped ++ codes " skipped") ∷ []))))
 
 -- how many tests passed, failed, and were skipped
 unfoldable pub summary_text : RunStats → List ℕ
-summary_text stats = joined (summary_parts stats)
+summary_text stats = comma_joined (summary_parts stats)
 
 -- what the run does
 abbrev pub doing : Option CancelReason → List ℕ

@@ -1,7 +1,7 @@
 // What events do to the list of running tests. Only the tests in the list are looked at.
 ghost use Rattle.std.specs.Prelude.{◌≡◌, ◌-◌, ◌∷◌, [], ◌++◌, ◌≤◌, false, map, vec_len, vec_capacity, OnOk, OnErr};
-ghost use Rattle.run_progress.specs.Deeds.{deed_of, is_same, starts_test};
-ghost use Rattle.run_progress.specs.Edits.{delayed, edited, slowed, without};
+ghost use Rattle.run_progress.specs.Deeds.{deed_of, is_same, adds_test};
+ghost use Rattle.run_progress.specs.Edits.{paused_more, edited, slowed, without};
 
 use crate::running_test::{RunningTest, RunningTestStatus};
 use run_capture::{Duplicate, List, Mem};
@@ -100,13 +100,13 @@ fn slow(alloc: Global, tests: &mut List<RunningTest>, id: &TestInstanceId)
 }
 
 fn delay_one(running: &mut RunningTest, pause: u64)
-    ensures { running.new ≡ delayed pause running.old }
+    ensures { running.new ≡ paused_more pause running.old }
 {
     running.paused = running.paused.saturating_add(pause);
 }
 
 fn delay_each(tests: &mut [RunningTest], pause: u64)
-    ensures { tests.new ≡ map (delayed pause) tests.old }
+    ensures { tests.new ≡ map (paused_more pause) tests.old }
 {
     for running in tests.iter_mut() {
         delay_one(running, pause);
@@ -115,7 +115,7 @@ fn delay_each(tests: &mut [RunningTest], pause: u64)
 
 // A pause of this length ends.
 fn delay(alloc: Global, tests: &mut List<RunningTest>, pause: u64)
-    ensures { tests.new ≡ map (delayed pause) tests.old }
+    ensures { tests.new ≡ map (paused_more pause) tests.old }
 {
     let mut vec = mem::replace(tests, List::new()).into_vec(alloc);
     delay_each(vec.as_mut_slice(), pause);
@@ -131,7 +131,7 @@ pub(crate) fn paused_by(event: &TestEvent) -> u64
 
 // What an event does to the running tests, where it starts none.
 fn edit_in_place(alloc: Global, tests: &mut List<RunningTest>, before: u64, event: &TestEvent)
-    requires { starts_test (deed_of event.now.kind) ≡ false }
+    requires { adds_test (deed_of event.now.kind) ≡ false }
     ensures { tests.new ≡ edited before event.now tests.old }
 {
     match &event.kind {

@@ -1,6 +1,6 @@
 // How many running tests are shown.
 ghost use Rattle.std.specs.Prelude.{◌≡◌, IfOk, IfErr};
-ghost use Rattle.run_progress.specs.MaxRunning.{SaysMax, Refuses, Tells, error_words};
+ghost use Rattle.run_progress.specs.MaxRunning.{SaysMax, RefusesText, Tells, error_words};
 ghost use Rattle.run_progress.specs.Seen.{shows_tests};
 
 use run_capture::Text;
@@ -38,7 +38,7 @@ impl MaxProgressRunning {
     /// ```
     pub fn from_str(alloc: Global, s: &str) -> Result<Self, MaxProgressError>
         ensures ok { IfOk result (SaysMax s.now) }
-        ensures err { IfErr result (Refuses s.now) }
+        ensures err { IfErr result (RefusesText s.now) }
     {
         if s.eq_ignore_ascii_case("infinite") {
             return Ok(MaxProgressRunning::Infinite);

@@ -1,7 +1,7 @@
 // What of a run's progress is shown.
 ghost use Rattle.std.specs.Prelude.{◌≡◌};
 ghost use Rattle.std.specs.Option.{option_copied};
-ghost use Rattle.run_progress.specs.Settings.{truth_of, value_of, decided, shown_where};
+ghost use Rattle.run_progress.specs.Settings.{said_truth, setting_value, first_setting, shown_where};
 
 /// How a run's progress is shown.
 #[derive(Clone, Copy, Debug, PartialEq, Eq)]
@@ -55,7 +55,7 @@ impl ShowTerminalProgress {
     /// ShowTerminalProgress::from_settings(&settings, Some("true"), false) == ShowTerminalProgress::Yes
     /// ```
     pub fn from_settings(settings: &[TermSetting], env: Option<&str>, supported: bool) -> Self
-        ensures { result ≡ shown_where (decided (option_copied env.entry) supported settings.now) }
+        ensures { result ≡ shown_where (first_setting (option_copied env.entry) supported settings.now) }
     {
         for setting in settings {
             if let Some(shown) = value_of(env, *setting) {
@@ -67,7 +67,7 @@ impl ShowTerminalProgress {
 }
 
 fn truth_of(text: &str) -> Option<bool>
-    ensures { result ≡ truth_of text.now }
+    ensures { result ≡ said_truth text.now }
 {
     if text == "true" {
         Some(true)
@@ -79,7 +79,7 @@ fn truth_of(text: &str) -> Option<bool>
 }
 
 fn value_of(env: Option<&str>, setting: TermSetting) -> Option<bool>
-    ensures { result ≡ value_of (option_copied env.entry) setting }
+    ensures { result ≡ setting_value (option_copied env.entry) setting }
 {
     match setting {
         TermSetting::CliOption(value) | TermSetting::File(value) => value,

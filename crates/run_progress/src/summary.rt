@@ -2,7 +2,7 @@
 ghost use Rattle.std.specs.Prelude.{◌≡◌, ◌++◌, codes, decimal, string_bytes, IfOk, OnOk, OnErr};
 ghost use Rattle.run_progress.specs.Texts.{right};
 ghost use Rattle.run_progress.specs.Summary.{
-  counted,
+  count_text,
   counts_text,
   doing,
   failed_kinds,
@@ -77,7 +77,7 @@ fn passed_part(alloc: Global, stats: &RunStats) -> Mem<String>
 // Adds how many tests failed, with their kinds, after a comma, where some did.
 fn push_failed(alloc: Global, parts: &mut String, stats: &RunStats) -> Mem<()>
     ensures { OnOk result (string_bytes parts.new ≡ string_bytes parts.old
-        ++ after_commas (counted stats.now.failed (codes " failed" ++ failed_kinds stats.now))) }
+        ++ after_commas (count_text stats.now.failed (codes " failed" ++ failed_kinds stats.now))) }
 {
     let failed = stats.failed;
     if failed > 0 {
@@ -90,7 +90,7 @@ fn push_failed(alloc: Global, parts: &mut String, stats: &RunStats) -> Mem<()>
 // Adds a part after a comma, where its count is above 0.
 fn push_part(parts: &mut String, count: u64, words: &str) -> Mem<()>
     ensures { OnOk result (string_bytes parts.new
-        ≡ string_bytes parts.old ++ after_commas (counted count words.now)) }
+        ≡ string_bytes parts.old ++ after_commas (count_text count words.now)) }
 {
     if count > 0 {
         write!(parts, ", {count}{words}")?;

@@ -12,7 +12,7 @@ use Rattle.run_model.specs.declared.entry.Entry.{Entry}
 use Rattle.run_shared.specs.declared.shared.Receipt.{Receipt}
 use Rattle.run_shared.specs.declared.closing.CloseKind.{CloseKind}
 use Rattle.run_shared.specs.declared.closing.CloseKind.TheVariants.{OtherSettings, Mismatch, Repeated, OutOfMemory}
-use Rattle.run_shared.specs.Receipts.{joined, numbers_of, times, bit, StandsIn, Marks, Looked, IsFault, HasFault, Closes}
+use Rattle.run_shared.specs.Receipts.{concatenated, receipt_numbers, times, bit, StandsIn, Marks, Looked, IsFault, HasFault, Closes}
 
 times_append : (k : ℕ) (xs ys : List ℕ) → times k (xs ++ ys) ≡ times k xs + times k ys
 times_append k xs ys = sum_by-append (λ n. cond (n == k) 1 0) xs ys
@@ -51,16 +51,16 @@ pub looked_more : (journal : List Entry) (seen now after : List Bool) (rs ss : L
     → Looked journal now after ss → Looked journal seen after (rs ++ ss)
 looked_more journal seen now after rs ss a b = record {
   stands = All-append (StandsIn journal) rs ss a.stands b.stands;
-  marked = λ ns m. rw (map-append (λ (r : Receipt). r.number) rs ss, ← append_assoc ns (numbers_of rs) (numbers_of ss))
-      (b.marked (ns ++ numbers_of rs) (a.marked ns m));
+  marked = λ ns m. rw (map-append (λ (r : Receipt). r.number) rs ss, ← append_assoc ns (receipt_numbers rs) (receipt_numbers ss))
+      (b.marked (ns ++ receipt_numbers rs) (a.marked ns m));
 }
 
 -- what is wrong after receipts that stand is wrong with all of them
 numbers_three : (rs ss after : List Receipt)
-    → numbers_of (rs ++ (ss ++ after)) ≡ numbers_of rs ++ (numbers_of ss ++ numbers_of after)
+    → receipt_numbers (rs ++ (ss ++ after)) ≡ receipt_numbers rs ++ (receipt_numbers ss ++ receipt_numbers after)
 numbers_three rs ss after =
     map-append (λ (r : Receipt). r.number) rs (ss ++ after)
-    ∙ ap (λ (ns : List ℕ). numbers_of rs ++ ns) (map-append (λ (r : Receipt). r.number) ss after)
+    ∙ ap (λ (ns : List ℕ). receipt_numbers rs ++ ns) (map-append (λ (r : Receipt). r.number) ss after)
 
 repeated_after : (n : ℕ) (ns xs ys zs : List ℕ) → 2 ≤ times n ((ns ++ xs) ++ ys) → 2 ≤ times n (ns ++ (xs ++ (ys ++ zs)))
 repeated_after n ns xs ys zs h = omega (
@@ -74,7 +74,7 @@ repeated_after n ns xs ys zs h = omega (
 )
 
 fault_later : (journal : List Entry) (ns : List ℕ) (rs ss after : List Receipt) (e : CloseKind)
-    → IsFault journal (ns ++ numbers_of rs) ss e → IsFault journal ns (rs ++ (ss ++ after)) e
+    → IsFault journal (ns ++ receipt_numbers rs) ss e → IsFault journal ns (rs ++ (ss ++ after)) e
 fault_later journal ns rs ss after (OtherSettings given kept) h = h
 fault_later journal ns rs ss after (Mismatch number receipt found) h = (
   Contains-append_right rs (ss ++ after) _ (Contains-append_left ss after _ h.0),
@@ -82,13 +82,13 @@ fault_later journal ns rs ss after (Mismatch number receipt found) h = (
   h.2,
 )
 fault_later journal ns rs ss after (Repeated n) h =
-    rw (numbers_three rs ss after) (repeated_after n ns (numbers_of rs) (numbers_of ss) (numbers_of after) h)
+    rw (numbers_three rs ss after) (repeated_after n ns (receipt_numbers rs) (receipt_numbers ss) (receipt_numbers after) h)
 fault_later journal ns rs ss after OutOfMemory h = h
 
 pub fault_after : (journal : List Entry) (seen now : List Bool) (rs ss after : List Receipt) (e : CloseKind)
     → Looked journal seen now rs → HasFault journal now ss e → HasFault journal seen (rs ++ (ss ++ after)) e
 fault_after journal seen now rs ss after e looked h =
-    λ ns m. fault_later journal ns rs ss after e (h (ns ++ numbers_of rs) (looked.marked ns m))
+    λ ns m. fault_later journal ns rs ss after e (h (ns ++ receipt_numbers rs) (looked.marked ns m))
 
 -- a list is what comes before an item, the item and the rest
 pub next_at : {X : Type 0} → (xs : List X) (i : ℕ) (x : X) → i < length xs → x ≡ get_or xs i x
@@ -102,23 +102,23 @@ cut_at xs i x below is =
     ∙ ap (λ ys. ys ++ drop (i + 1) xs) (next_at xs i x below is)
     ∙ append_assoc (take i xs) (x ∷ []) (drop (i + 1) xs)
 
--- the same of lists that are joined
-pub joined_append : {X : Type 0} → (xss yss : List (List X)) → joined (xss ++ yss) ≡ joined xss ++ joined yss
+-- the same of lists that are concatenated
+pub joined_append : {X : Type 0} → (xss yss : List (List X)) → concatenated (xss ++ yss) ≡ concatenated xss ++ concatenated yss
 joined_append [] yss = refl
 joined_append (xs ∷ xss) yss =
-    ap (λ ys. xs ++ ys) (joined_append xss yss) ∙ sym (append_assoc xs (joined xss) (joined yss))
+    ap (λ ys. xs ++ ys) (joined_append xss yss) ∙ sym (append_assoc xs (concatenated xss) (concatenated yss))
 
 pub next_joined : {X : Type 0} → (xss : List (List X)) (i : ℕ) (xs : List X) → i < length xss → xs ≡ get_or xss i xs
-    → joined (take (i + 1) xss) ≡ joined (take i xss) ++ xs
+    → concatenated (take (i + 1) xss) ≡ concatenated (take i xss) ++ xs
 next_joined xss i xs below is =
-    ap joined (next_at xss i xs below is)
+    ap concatenated (next_at xss i xs below is)
     ∙ joined_append (take i xss) (xs ∷ [])
-    ∙ ap (λ ys. joined (take i xss) ++ ys) (append-nil xs)
+    ∙ ap (λ ys. concatenated (take i xss) ++ ys) (append-nil xs)
 
 pub cut_joined : {X : Type 0} → (xss : List (List X)) (i : ℕ) (xs : List X) → i < length xss → xs ≡ get_or xss i xs
-    → joined xss ≡ joined (take i xss) ++ (xs ++ joined (drop (i + 1) xss))
+    → concatenated xss ≡ concatenated (take i xss) ++ (xs ++ concatenated (drop (i + 1) xss))
 cut_joined xss i xs below is =
-    ap joined (cut_at xss i xs below is) ∙ joined_append (take i xss) ((xs ∷ []) ++ drop (i + 1) xss)
+    ap concatenated (cut_at xss i xs below is) ∙ joined_append (take i xss) ((xs ∷ []) ++ drop (i + 1) xss)
 
 -- where all flags are set, each is
 pub all_true : (seen : List Bool) (k : ℕ) → count_by (λ b. b) seen ≡ length seen → k < length seen
@@ -143,7 +143,7 @@ marks_none n = record {
 }
 
 once_each : (journal : List Entry) (now : List Bool) (rs : List Receipt) (k : ℕ) → length now ≡ length journal
-    → Marks now (numbers_of rs) → length rs ≡ length journal → k < length journal → times k (numbers_of rs) ≡ 1
+    → Marks now (receipt_numbers rs) → length rs ≡ length journal → k < length journal → times k (receipt_numbers rs) ≡ 1
 once_each journal now rs k len m as_many below =
     m.each k ∙ ap bit (all_true now k (m.count ∙ length-map rs (λ (r : Receipt). r.number) ∙ as_many ∙ sym len)
     (omega (arith, len, below)))

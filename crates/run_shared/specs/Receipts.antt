@@ -9,13 +9,13 @@ use Rattle.run_shared.specs.declared.closing.CloseKind.{CloseKind}
 use Rattle.run_shared.specs.declared.closing.CloseKind.TheVariants.{OtherSettings, Mismatch, Repeated, OutOfMemory}
 
 -- lists one after another
-abbrev pub joined : {X : Type 0} → List (List X) → List X
-joined [] = []
-joined (xs ∷ rest) = xs ++ joined rest
+abbrev pub concatenated : {X : Type 0} → List (List X) → List X
+concatenated [] = []
+concatenated (xs ∷ rest) = xs ++ concatenated rest
 
 -- the numbers of receipts
-abbrev pub numbers_of : List Receipt → List ℕ
-numbers_of rs = map (λ (r : Receipt). r.number) rs
+abbrev pub receipt_numbers : List Receipt → List ℕ
+receipt_numbers rs = map (λ (r : Receipt). r.number) rs
 
 -- how often a number is in a list
 abbrev pub times : ℕ → List ℕ → ℕ
@@ -40,7 +40,7 @@ pub record Marks (seen : List Bool) (ns : List ℕ) : Type 0 where
 -- these receipts stand in the journal, and their numbers were flagged
 pub record Looked (journal : List Entry) (seen now : List Bool) (rs : List Receipt) : Type 0 where
   pub stands : All (StandsIn journal) rs
-  pub marked : (ns : List ℕ) → Marks seen ns → Marks now (ns ++ numbers_of rs)
+  pub marked : (ns : List ℕ) → Marks seen ns → Marks now (ns ++ receipt_numbers rs)
 
 -- what is wrong with receipts, where these numbers were looked at before them
 abbrev pub IsFault : List Entry → List ℕ → List Receipt → CloseKind → Type 0
@@ -48,7 +48,7 @@ IsFault journal before rs (OtherSettings given kept) = ⊥
 IsFault journal before rs (Mismatch number receipt found) =
     Contains rs (record { number = number; turn = receipt }) × (found ≡ turn_at journal number)
     × (found ≢ Some receipt)
-IsFault journal before rs (Repeated number) = 2 ≤ times number (before ++ numbers_of rs)
+IsFault journal before rs (Repeated number) = 2 ≤ times number (before ++ receipt_numbers rs)
 IsFault journal before rs OutOfMemory = Unit {0}
 
 -- the same after any numbers that the flags say
@@ -59,5 +59,5 @@ HasFault journal seen rs e = (ns : List ℕ) → Marks seen ns → IsFault journ
 -- has one
 pub record Closes (journal : List Entry) (rs : List Receipt) : Type 0 where
   pub stands : All (StandsIn journal) rs
-  pub apart : (k : ℕ) → times k (numbers_of rs) ≤ 1
-  pub once : length rs ≡ length journal → (k : ℕ) → k < length journal → times k (numbers_of rs) ≡ 1
+  pub apart : (k : ℕ) → times k (receipt_numbers rs) ≤ 1
+  pub once : length rs ≡ length journal → (k : ℕ) → k < length journal → times k (receipt_numbers rs) ≡ 1

@@ -1,7 +1,7 @@
 // Whether receipts are those of a journal.
 ghost use Rattle.std.specs.Prelude.{◌≡◌, ◌<◌, ◌∷◌, ◌↔◌, ℕ, List as Items, [], length, IfOk, IfErr, OnOk, OnErr, IfSome, IsSome, IsNone};
 ghost use Rattle.std.specs.Prelude.{IsTrue, Some, None, replicate, false};
-ghost use Rattle.run_shared.specs.Receipts.{joined, turn_at, StandsIn, IsFault, HasFault, Looked, Closes};
+ghost use Rattle.run_shared.specs.Receipts.{concatenated, turn_at, StandsIn, IsFault, HasFault, Looked, Closes};
 
 use crate::closing::CloseKind;
 use crate::shared::Receipt;
@@ -115,8 +115,8 @@ fn mark_all(
     lists: &[List<Receipt>],
 ) -> Result<(), CloseKind>
     requires { length seen.old ≡ length journal.now }
-    ensures looked { OnOk result (Looked journal.now seen.old seen.new (joined lists.now)) }
-    ensures fault { IfErr result (HasFault journal.now seen.old (joined lists.now)) }
+    ensures looked { OnOk result (Looked journal.now seen.old seen.new (concatenated lists.now)) }
+    ensures fault { IfErr result (HasFault journal.now seen.old (concatenated lists.now)) }
 {
     for list in lists {
         if let Err(kind) = mark_list(alloc, journal, seen, list.as_slice()) {
@@ -139,8 +139,8 @@ pub fn check(
     journal: &[Entry],
     receipts: &List<List<Receipt>>,
 ) -> Result<(), CloseKind>
-    ensures closes { OnOk result (Closes journal.now (joined receipts.now)) }
-    ensures fault { IfErr result (IsFault journal.now [] (joined receipts.now)) }
+    ensures closes { OnOk result (Closes journal.now (concatenated receipts.now)) }
+    ensures fault { IfErr result (IsFault journal.now [] (concatenated receipts.now)) }
 {
     let Ok(mut seen) = no_flags(alloc, journal.len()) else {
         return Err(CloseKind::OutOfMemory);

@@ -4,7 +4,7 @@ ghost use Rattle.run_shared.specs.Settled.{is_settled_turn};
 ghost use Rattle.std.specs.List.{All, sum_by};
 ghost use Rattle.run_engine.specs.Heard.{IsHeard};
 ghost use Rattle.run_engine.specs.Standing.{sound};
-ghost use Rattle.run_shared.specs.Receipts.{joined, Closes};
+ghost use Rattle.run_shared.specs.Receipts.{concatenated, Closes};
 ghost use Rattle.run_shared.specs.Closed.{IsLeft, IsOther, Refuses};
 
 use crate::closing::{CloseError, CloseKind};
@@ -194,8 +194,8 @@ fn judge(
     receipts: &List<List<Receipt>>,
 ) -> Result<(), CloseKind>
     ensures same { OnOk result (given.now ≡ run.now.settings) }
-    ensures closes { OnOk result (Closes run.now.journal (joined receipts.now)) }
-    ensures refused { IfErr result (Refuses given.now run.now.journal (joined receipts.now)) }
+    ensures closes { OnOk result (Closes run.now.journal (concatenated receipts.now)) }
+    ensures refused { IfErr result (Refuses given.now run.now.journal (concatenated receipts.now)) }
 {
     let given = given.get();
     let journal = run.journal();
@@ -380,11 +380,11 @@ impl<L: Ledger, R: Reporter> SharedRun<L, R> {
         receipts: List<List<Receipt>>,
     ) -> Result<Closed<R>, Unclosed<R>>
         ensures left { IfOk result (λ c. IsLeft R.told c.report c.asks self c.journal c.outcome) }
-        ensures receipts { IfOk result (λ c. Closes c.journal (joined receipts)) }
+        ensures receipts { IfOk result (λ c. Closes c.journal (concatenated receipts)) }
         ensures counted { IfOk result (λ c. sum_by (λ (s : Share L). s.parts) shares.items ≡ L.parts
             → sum_by (λ (s : Share L). s.amount) shares.items ≡ length c.journal) }
         ensures back { IfOk result (λ c. c.receipts ≡ receipts) }
-        ensures refused { IfErr result (λ u. Refuses self u.journal (joined receipts) u.error.kind) }
+        ensures refused { IfErr result (λ u. Refuses self u.journal (concatenated receipts) u.error.kind) }
         ensures counted_too { IfErr result (λ u. sum_by (λ (s : Share L). s.parts) shares.items ≡ L.parts
             → sum_by (λ (s : Share L). s.amount) shares.items ≡ length u.journal) }
         ensures back_too { IfErr result (λ u. u.receipts ≡ receipts) }

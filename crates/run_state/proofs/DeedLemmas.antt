@@ -13,21 +13,21 @@ use Rattle.run_model.specs.Admission.{seat_of, limits_of, scripts_in}
 use Rattle.run_model.specs.Board.{Board, deed_events, dispatched, moved, reach_all, units_after}
 use Rattle.run_model.specs.Cancel.{Cause, cause_of, caused}
 use Rattle.run_model.specs.Dispatch.{go_of}
-use Rattle.run_model.specs.Turns.{answer_to, cancelled, delivered_as, delivery, delivery_of, event_of, nothing_done}
+use Rattle.run_model.specs.Turns.{answer_to, cancelled, delivered_as, delivers, delivery, delivery_of, event_of}
+use Rattle.run_model.specs.Turns.{nothing_done}
 use Rattle.run_model.specs.Turns.{starting, tally_with}
 use Rattle.run_model.specs.Unit.{is_live, reached}
-use Rattle.run_laws.proofs.Boards.{with_cause-none}
-use Rattle.run_dispatch.specs.Deeds.{delivers}
+use Rattle.run_laws.proofs.board.Boards.{with_cause-none}
 use Rattle.run_dispatch.proofs.BoardLemmas.{delivery-told}
 use Rattle.run_state.specs.declared.turns.Effects.{Effects}
 use Rattle.run_state.specs.Cancelled.{Cancels}
-use Rattle.run_state.specs.Held.{Held, IsSeated}
+use Rattle.run_state.specs.Held.{Held, KeepsSeats}
 
 -- the board once the oldest message was taken, and the dispatcher has heard it
 abbrev pub heard : Board → Message → List Message → Board
 heard b m rest = record b {
   queue = rest;
-  dispatcher = dispatched b.clock b.dispatcher (delivers b.clock b.dispatcher m);
+  dispatcher = dispatched b.clock b.dispatcher (delivers b.clock b.dispatcher m nothing_done);
 }
 
 -- and once its unit was answered
@@ -44,7 +44,7 @@ idle now part sent asked d =
 -- then each unit is reached, and the delivery is done
 pub delivery-is : (b : Board) (m : Message) (rest : List Message) → b.queue ≡ m ∷ rest
     → record (answered b m rest) {
-      units = reach_all (delivers b.clock b.dispatcher m).request (answered b m rest).units;
+      units = reach_all (delivers b.clock b.dispatcher m nothing_done).request (answered b m rest).units;
     } ≡ moved b (delivery b b.queue)
 delivery-is b m rest waits =
     by_answer (starting m) (go_of b.dispatcher.tally m)
@@ -74,7 +74,7 @@ delivery-is b m rest waits =
 
     by_answer : (unit : Option ℕ) (go : Option Bool)
         → record (moved (heard b m rest) (answer_to (heard b m rest) unit go)) {
-          units = reach_all (delivers b.clock b.dispatcher m).request
+          units = reach_all (delivers b.clock b.dispatcher m nothing_done).request
               (moved (heard b m rest) (answer_to (heard b m rest) unit go)).units;
         }
         ≡ moved (record b { queue = m ∷ rest }) (delivery_of (record b { queue = m ∷ rest }) m (answer_to b unit go))
@@ -88,7 +88,7 @@ delivery-is b m rest waits =
 pub delivered : (b x mid left : Board) (m : Message) (rest : List Message) (unit : Option ℕ) (go : Option Bool)
     (request : Option Request)
     → b.queue ≡ m ∷ rest → x ≡ heard b m rest → unit ≡ starting m → go ≡ go_of b.dispatcher.tally m
-    → request ≡ (delivers b.clock b.dispatcher m).request → mid ≡ moved x (answer_to x unit go)
+    → request ≡ (delivers b.clock b.dispatcher m nothing_done).request → mid ≡ moved x (answer_to x unit go)
     → left ≡ record mid { units = reach_all request mid.units } → left ≡ moved b (delivery b b.queue)
 delivered b x mid left m rest unit go request waits hears starts answers asks goes reaches =
     reaches
@@ -99,7 +99,7 @@ delivered b x mid left m rest unit go request waits hears starts answers asks go
 
 -- what it tells
 pub delivery_tells : (b : Board) (m : Message) (rest : List Message) → b.queue ≡ m ∷ rest
-    → deed_events (delivers b.clock b.dispatcher m) ≡ deed_events (delivery b b.queue)
+    → deed_events (delivers b.clock b.dispatcher m nothing_done) ≡ deed_events (delivery b b.queue)
 delivery_tells b m rest waits =
     sym (delivery-told b m (answer_to b (starting m) (go_of b.dispatcher.tally m)))
     ∙ sym (ap (λ q. deed_events (delivery b q)) waits)
@@ -130,14 +130,14 @@ limits-reached p (Some request) us =
     ap (λ seats. record (limits_of p us) { seats = seats }) (seats-reached request (scripts_in p) us)
 
 -- so a cause does
-cancels_seated : (p : Settings) (old new : Held) (cause : Cause) → IsSeated p old
-    → new.board ≡ moved old.board (cancelled old.board cause) → new.limits ≡ old.limits → IsSeated p new
+cancels_seated : (p : Settings) (old new : Held) (cause : Cause) → KeepsSeats p old
+    → new.board ≡ moved old.board (cancelled old.board cause) → new.limits ≡ old.limits → KeepsSeats p new
 cancels_seated p old new cause seated after limits =
     limits ∙ seated ∙ sym (limits-reached p (cancelled old.board cause).request old.board.units)
     ∙ sym (ap (λ (b : Board). limits_of p b.units) after)
 
 -- so does a call that answers what a cause gives
 pub answer_seated : {E : Type 0} (p : Settings) (old new : Held) (cause : Cause) (answer : Result Effects E)
-    → IsSeated p old → IfOk answer (Cancels old cause new) → OnOk answer (IsSeated p new)
+    → KeepsSeats p old → IfOk answer (Cancels old cause new) → OnOk answer (KeepsSeats p new)
 answer_seated p old new cause (Ok effects) seated does = cancels_seated p old new cause seated does.after does.limits
 answer_seated p old new cause (Err lack) seated does = tt

@@ -18,8 +18,8 @@ use Rattle.run_model.specs.declared.unit_view.UnitView.{UnitView}
 use Rattle.run_model.specs.Environment.{number}
 use Rattle.run_model.specs.Unit.{at_moment, is_live, reached, row}
 use Rattle.run_model.specs.Admission.{limits_of, scripts_in, seat_of, newcomer, Newcomer}
-use Rattle.run_laws.proofs.Newcomers.{Newcomes, Becomes, ScriptComes, newcomer_is}
-use Rattle.run_laws.proofs.Rows.{row_keeps}
+use Rattle.run_laws.proofs.board.Newcomers.{Newcomes, Becomes, ScriptComes, newcomer_is}
+use Rattle.run_laws.proofs.units.Rows.{row_keeps}
 use Rattle.run_state.specs.Held.{given_back, units_with}
 use Rattle.run_state.specs.Placed.{AreTests, is_no_script, is_test}
 

@@ -29,10 +29,10 @@ use Rattle.run_model.specs.Admission.{scripts_over, script_newcomer, script_view
 use Rattle.run_model.specs.Environment.{number}
 use Rattle.run_model.specs.Board.{units_after}
 use Rattle.run_model.specs.Turns.{taken_by}
-use Rattle.run_laws.proofs.Newcomers.{becomes}
-use Rattle.run_laws.proofs.Rows.{row_keeps}
-use Rattle.run_laws.proofs.BoardSeats.{seat_going}
-use Rattle.run_laws.proofs.Admitted.{HasFreeSlots, admitted_is}
+use Rattle.run_laws.proofs.board.Newcomers.{becomes}
+use Rattle.run_laws.proofs.units.Rows.{row_keeps}
+use Rattle.run_laws.proofs.board.BoardSeats.{seat_going}
+use Rattle.run_laws.proofs.board.Admitted.{HasFreeSlots, admitted_is}
 use Rattle.run_state.specs.Held.{given_back, units_with}
 use Rattle.run_state.specs.Placed.{is_test}
 use Rattle.run_state.proofs.ScriptLemmas.{open_first}

@@ -12,7 +12,7 @@ use Rattle.run_events.specs.declared.stats.RunStats.{RunStats}
 use Rattle.run_events.specs.declared.settings.Settings.{Settings}
 use Rattle.run_model.specs.declared.unit_view.UnitView.{UnitView}
 use Rattle.run_model.specs.Admission.{units_in, tests_in, scripts_in, seat_of}
-use Rattle.run_laws.proofs.OnBoard.{units-length, units-at}
+use Rattle.run_laws.proofs.board.OnBoard.{units-length, units-at}
 use Rattle.run_model.specs.Words.{units, unit_of, running, scripts_running, is_running, adds_by}
 
 -- no finish adds nothing

@@ -7,6 +7,8 @@ use Rattle.run_model.specs.declared.unit_view.UnitView.{UnitView}
 use Rattle.run_model.specs.Admission.{scripts_in, limits_of, open_script, scripts_of, scripts_over, Newcomer}
 use Rattle.run_model.specs.Environment.{number}
 use Rattle.run_model.specs.Board.{Board}
+use Rattle.run_state.specs.declared.admission.Next.{Next}
+use Rattle.run_state.specs.declared.admission.Next.TheVariants.{Script, Test}
 
 -- the board that turns read, and what is kept of what the tests hold of the limits
 pub record Held : Type 0 where
@@ -14,8 +16,8 @@ pub record Held : Type 0 where
   pub limits : Admissions
 
 -- what is kept of the limits is what the units hold of them
-abbrev pub IsSeated : Settings → Held → Type 0
-IsSeated p h = h.limits ≡ limits_of p h.board.units
+abbrev pub KeepsSeats : Settings → Held → Type 0
+KeepsSeats p h = h.limits ≡ limits_of p h.board.units
 
 -- the state with this board
 abbrev pub held : Settings → Board → Held
@@ -30,6 +32,11 @@ pub record Comes (p : Settings) (us : List (Option UnitView)) (next : Admitted) 
 pub record Opens (p : Settings) (us : List (Option UnitView)) (place : ℕ) : Type 0 where
   pub scripts : scripts_over p us ≡ false
   pub is : open_script (scripts_of p us) ≡ Some place
+
+-- a script, or a test, comes next
+abbrev pub IsNext : Settings → List (Option UnitView) → Next → Type 0
+IsNext p us (Script place) = Opens p us place
+IsNext p us (Test admitted) = Comes p us admitted
 
 -- the units with one that was admitted
 abbrev pub units_with : Settings → List (Option UnitView) → Option Newcomer → List (Option UnitView)

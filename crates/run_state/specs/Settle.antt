@@ -12,16 +12,16 @@ use Rattle.run_state.specs.declared.settle.Settled.{Settled}
 use Rattle.run_state.specs.declared.settle.Settled.TheVariants as settled
 
 -- the turn that is settled
-abbrev pub turn_by : Settled → Turn
-turn_by settled.Begin = turns.Begin
-turn_by settled.ReportCancel = turns.ReportCancel
-turn_by settled.Deliver = turns.Deliver
-turn_by (settled.Take unit) = turns.Take unit
-turn_by (settled.Decide unit word) = turns.Decide unit word
-turn_by (settled.UnitDue unit) = turns.UnitDue unit
-turn_by settled.GlobalDue = turns.GlobalDue
-turn_by settled.Admit = turns.Admit
-turn_by settled.End = turns.End
+abbrev pub settled_turn : Settled → Turn
+settled_turn settled.Begin = turns.Begin
+settled_turn settled.ReportCancel = turns.ReportCancel
+settled_turn settled.Deliver = turns.Deliver
+settled_turn (settled.Take unit) = turns.Take unit
+settled_turn (settled.Decide unit word) = turns.Decide unit word
+settled_turn (settled.UnitDue unit) = turns.UnitDue unit
+settled_turn settled.GlobalDue = turns.GlobalDue
+settled_turn settled.Admit = turns.Admit
+settled_turn settled.End = turns.End
 
 -- a turn of each unit of a plan, by number
 abbrev pub of_each : Settings → (ℕ → Turn) → List Turn

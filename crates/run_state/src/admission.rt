@@ -1,11 +1,13 @@
 // What an admission makes.
-ghost use Rattle.std.specs.Prelude.{◌≡◌, ◌<◌, length, IfOk, Some, option_map, is_some, slice_get, true};
+ghost use Rattle.std.specs.Prelude.{◌≡◌, ◌<◌, length, IfOk, None, Some, option_map, is_some, slice_get};
+ghost use Rattle.std.specs.Prelude.{slice_index_or, true};
 ghost use Rattle.run_admission.specs.InUse.{admitted};
 ghost use Rattle.run_model.specs.Admission.{first_view, group_slot, handed_to, limits_of, newcomer, newcomer_as};
 ghost use Rattle.run_model.specs.Admission.{open_script, scripts_of, scripts_over, script_newcomer, skip_message};
 ghost use Rattle.run_model.specs.Admission.{skipped_view, slots_of, start_message, test_of, unit_of_test};
 ghost use Rattle.run_model.specs.Admission.{units_in, AreFew};
 ghost use Rattle.run_model.specs.Environment.{number};
+ghost use Rattle.run_state.specs.Held.{IsNext};
 
 use crate::units::Units;
 use run_admission::{Admission, Admitted, Candidate};
@@ -68,7 +70,8 @@ pub fn script_of(alloc: Global, settings: &Settings, place: u32) -> Mem<Newcomer
     requires planned { place < length settings.now.plan.scripts }
     requires few { AreFew settings.now }
     ensures made { IfOk result (λ a. script_newcomer settings.now place
-        (slice_get settings.now.plan.scripts place) ≡ Some (record { unit = a.unit; sent = a.sent })) }
+        (slice_get settings.now.plan.scripts place)
+        ≡ Some (record { unit = a.unit; sent = a.sent })) }
     ensures place { IfOk result (λ a. number a.unit ≡ place) }
 {
     let unit = Unit::script(alloc, settings, place)?;
@@ -180,8 +183,10 @@ pub fn newcomer_of(
         (slice_get settings.now.plan.tests (test_of admitted))) ≡ true }
     requires few { AreFew settings.now }
     ensures made { IfOk result (λ a. newcomer_as settings.now units.now admitted
-        (slice_get settings.now.plan.tests (test_of admitted)) ≡ Some (record { unit = a.unit; sent = a.sent })) }
-    ensures place { IfOk result (λ a. number a.unit ≡ unit_of_test settings.now (test_of admitted)) }
+        (slice_get settings.now.plan.tests (test_of admitted))
+        ≡ Some (record { unit = a.unit; sent = a.sent })) }
+    ensures place { IfOk result (λ a. number a.unit ≡ unit_of_test settings.now
+        (test_of admitted)) }
 {
     let planned = &settings.plan.tests.as_slice()[place_of(&admitted) as usize];
     match (admitted, &planned.skip) {
@@ -200,6 +205,45 @@ pub fn newcomer_of(
             let slots = slots_of(alloc, planned, global_slot, group_slot)?;
             let handed = handed_to(alloc, settings, units, planned)?;
             start_test(alloc, settings, test, slots, handed)
+        }
+    }
+}
+
+/// What is admitted next.
+#[derive(Drop)]
+pub enum Next {
+    /// The script at this place.
+    Script(usize),
+    /// The test that the rule admits.
+    Test(Admitted),
+}
+
+/// The unit that comes next, as a newcomer, and its number.
+pub fn next_newcomer(
+    alloc: Global,
+    settings: &Settings,
+    units: &Units,
+    next: Next,
+) -> Mem<(u32, Newcomer)>
+    requires next { IsNext settings.now units.now next }
+    requires whole { length units.now ≡ units_in settings.now }
+    requires few { AreFew settings.now }
+    ensures made { IfOk result (λ r. newcomer settings.now units.now
+        ≡ Some (record { unit = r.1.unit; sent = r.1.sent })) }
+    ensures number { IfOk result (λ r. number r.1.unit ≡ r.0) }
+    ensures within { IfOk result (λ r. r.0 < length units.now) }
+    ensures absent { IfOk result (λ r. slice_index_or units.now r.0 None ≡ None) }
+{
+    match next {
+        Next::Script(place) => {
+            let place = place as u32;
+            let new = script_of(alloc, settings, place)?;
+            Ok((place, new))
+        }
+        Next::Test(admitted) => {
+            let place = settings.plan.scripts.len() as u32 + place_of(&admitted);
+            let new = newcomer_of(alloc, settings, units, admitted)?;
+            Ok((place, new))
         }
     }
 }

@@ -2,8 +2,8 @@
 ghost use Rattle.std.specs.Prelude.{◌≤◌, ◌≡◌, length, IfOk};
 ghost use Rattle.run_model.specs.Admission.{units_in};
 ghost use Rattle.run_model.specs.Turns.{turn_of_unit, is_empty, facts, run_takes, enabled_on};
-ghost use Rattle.run_laws.specs.Ready.{IsTimely};
-ghost use Rattle.run_state.specs.Held.{IsSeated};
+ghost use Rattle.run_laws.specs.Ready.{IsTimelyBoard};
+ghost use Rattle.run_state.specs.Held.{KeepsSeats};
 ghost use Rattle.run_events.specs.declared.turn.Turn.TheVariants.{StartFailed, WaitFailed, Piece, ReadError};
 ghost use Rattle.run_events.specs.declared.turn.Turn.TheVariants.{Env};
 
@@ -108,7 +108,7 @@ fn facts_of(state: &State) -> Facts
 // Whether a turn of the run's own is enabled where the run isn't over.
 fn is_run_enabled(settings: &Settings, state: &State, turn: &Turn) -> bool
     requires whole { length state.now.board.units ≡ units_in settings.now }
-    requires seated { IsSeated settings.now state.now }
+    requires seated { KeepsSeats settings.now state.now }
     requires later { state.now.board.dispatcher.latest ≤ state.now.board.clock }
     ensures { result ≡ run_takes settings.now state.now.board turn.now }
 {
@@ -130,8 +130,8 @@ pub fn is_enabled(
     named: &Option<(u32, UnitTurn)>,
 ) -> bool
     requires whole { length state.now.board.units ≡ units_in settings.now }
-    requires seated { IsSeated settings.now state.now }
-    requires timely { IsTimely state.now.board }
+    requires seated { KeepsSeats settings.now state.now }
+    requires timely { IsTimelyBoard state.now.board }
     requires named { named.now ≡ turn_of_unit turn.now }
     ensures { result ≡ enabled_on settings.now state.now.board turn.now }
 {

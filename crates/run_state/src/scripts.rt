@@ -61,7 +61,8 @@ fn handed_if_listed<'a>(
     number: usize,
     script: &'a Option<Unit>,
 ) -> &'a [(Text, Text)]
-    ensures { result.now ≡ (if list_any (λ n. n == number) numbers.now then handed_by script.now else []) }
+    ensures { result.now ≡ (if list_any (λ n. n == number) numbers.now then handed_by script.now
+        else []) }
 {
     if is_listed(numbers, number) {
         handed_by(script)

@@ -2,9 +2,9 @@
 ghost use Rattle.std.specs.Prelude.{◌≤◌, ◌≡◌, ◌<◌, ◌^◌, ◌++◌, length, IfSome, IsNone, None, false, option_map};
 ghost use Rattle.run_model.specs.Admission.{units_in};
 ghost use Rattle.run_model.specs.Turns.{turn_of_unit, enabled_on};
-ghost use Rattle.run_laws.specs.Ready.{IsTimely};
-ghost use Rattle.run_state.specs.Held.{IsSeated};
-ghost use Rattle.run_state.specs.Settle.{turn_by, of_each, first_turns, last_turns, settling, first_enabled, IsFirst};
+ghost use Rattle.run_laws.specs.Ready.{IsTimelyBoard};
+ghost use Rattle.run_state.specs.Held.{KeepsSeats};
+ghost use Rattle.run_state.specs.Settle.{settled_turn, of_each, first_turns, last_turns, settling, first_enabled, IsFirst};
 ghost use Rattle.run_state.specs.Settle.{NoneTakes};
 ghost use Rattle.run_events.specs.declared.turn.Turn.TheVariants as turns;
 ghost use Rattle.run_model.specs.declared.unit_turn.UnitTurn.TheVariants as own;
@@ -31,7 +31,7 @@ pub enum Settled {
 impl Settled {
     /// The turn.
     pub fn turn(self) -> Turn
-        ensures { result ≡ turn_by self }
+        ensures { result ≡ settled_turn self }
     {
         match self {
             Settled::Begin => Turn::Begin,
@@ -50,8 +50,8 @@ impl Settled {
 // Whether a turn of the run's own is enabled.
 fn is_own_enabled(settings: &Settings, state: &State, turn: &Turn) -> bool
     requires whole { length state.now.board.units ≡ units_in settings.now }
-    requires seated { IsSeated settings.now state.now }
-    requires timely { IsTimely state.now.board }
+    requires seated { KeepsSeats settings.now state.now }
+    requires timely { IsTimelyBoard state.now.board }
     requires own { turn_of_unit turn.now ≡ None }
     ensures { result ≡ enabled_on settings.now state.now.board turn.now }
 {
@@ -60,10 +60,11 @@ fn is_own_enabled(settings: &Settings, state: &State, turn: &Turn) -> bool
 
 // The first unit that takes a turn.
 fn first_unit(state: &State, turn: &UnitTurn) -> Option<u32>
-    requires timely { IsTimely state.now.board }
+    requires timely { IsTimelyBoard state.now.board }
     requires few { length state.now.board.units < 2 ^ 32 }
     ensures first { IfSome result (IsFirst state.now.board turn.now) }
-    ensures none { IsNone result → NoneTakes state.now.board turn.now (length state.now.board.units) }
+    ensures none { IsNone result → NoneTakes state.now.board turn.now
+        (length state.now.board.units) }
 {
     for unit in state.units.working() {
         if state.units.takes(*unit, turn, state.clock) {
@@ -75,10 +76,11 @@ fn first_unit(state: &State, turn: &UnitTurn) -> Option<u32>
 
 // The first unit that decides.
 fn first_decide(state: &State, word: u32) -> Option<u32>
-    requires timely { IsTimely state.now.board }
+    requires timely { IsTimelyBoard state.now.board }
     requires few { length state.now.board.units < 2 ^ 32 }
     ensures first { IfSome result (IsFirst state.now.board (own.Decide word)) }
-    ensures none { IsNone result → NoneTakes state.now.board (own.Decide word) (length state.now.board.units) }
+    ensures none { IsNone result → NoneTakes state.now.board (own.Decide word)
+        (length state.now.board.units) }
 {
     let turn = UnitTurn::Decide { word };
     let unit = first_unit(state, &turn);
@@ -89,9 +91,10 @@ fn first_decide(state: &State, word: u32) -> Option<u32>
 // The first of the turns that come before those of units.
 fn first_settled(settings: &Settings, state: &State) -> Option<Settled>
     requires whole { length state.now.board.units ≡ units_in settings.now }
-    requires seated { IsSeated settings.now state.now }
-    requires timely { IsTimely state.now.board }
-    ensures { option_map turn_by result ≡ first_enabled settings.now state.now.board first_turns }
+    requires seated { KeepsSeats settings.now state.now }
+    requires timely { IsTimelyBoard state.now.board }
+    ensures { option_map settled_turn result ≡ first_enabled settings.now state.now.board
+        first_turns }
 {
     if is_own_enabled(settings, state, &Turn::Begin) {
         return Some(Settled::Begin);
@@ -108,9 +111,10 @@ fn first_settled(settings: &Settings, state: &State) -> Option<Settled>
 // The first of the turns that come after those of units.
 fn last_settled(settings: &Settings, state: &State) -> Option<Settled>
     requires whole { length state.now.board.units ≡ units_in settings.now }
-    requires seated { IsSeated settings.now state.now }
-    requires timely { IsTimely state.now.board }
-    ensures { option_map turn_by result ≡ first_enabled settings.now state.now.board last_turns }
+    requires seated { KeepsSeats settings.now state.now }
+    requires timely { IsTimelyBoard state.now.board }
+    ensures { option_map settled_turn result ≡ first_enabled settings.now state.now.board
+        last_turns }
 {
     if is_own_enabled(settings, state, &Turn::GlobalDue) {
         return Some(Settled::GlobalDue);
@@ -129,11 +133,12 @@ fn last_settled(settings: &Settings, state: &State) -> Option<Settled>
 fn due_or_later(settings: &Settings, state: &State) -> Option<Settled>
     requires whole { length state.now.board.units ≡ units_in settings.now }
     requires few { units_in settings.now < 2 ^ 32 }
-    requires seated { IsSeated settings.now state.now }
-    requires timely { IsTimely state.now.board }
+    requires seated { KeepsSeats settings.now state.now }
+    requires timely { IsTimelyBoard state.now.board }
     requires going { state.now.board.dispatcher.over ≡ false }
-    ensures { option_map turn_by result
-        ≡ first_enabled settings.now state.now.board (of_each settings.now turns.UnitDue ++ last_turns) }
+    ensures { option_map settled_turn result
+        ≡ first_enabled settings.now state.now.board
+        (of_each settings.now turns.UnitDue ++ last_turns) }
 {
     match first_unit(state, &UnitTurn::Due) {
         Some(unit) => Some(Settled::UnitDue { unit }),
@@ -146,11 +151,12 @@ fn due_or_later(settings: &Settings, state: &State) -> Option<Settled>
 fn decide_or_later(settings: &Settings, state: &State, word: u32) -> Option<Settled>
     requires whole { length state.now.board.units ≡ units_in settings.now }
     requires few { units_in settings.now < 2 ^ 32 }
-    requires seated { IsSeated settings.now state.now }
-    requires timely { IsTimely state.now.board }
+    requires seated { KeepsSeats settings.now state.now }
+    requires timely { IsTimelyBoard state.now.board }
     requires going { state.now.board.dispatcher.over ≡ false }
-    ensures { option_map turn_by result
-        ≡ first_enabled settings.now state.now.board (of_each settings.now (λ unit. turns.Decide unit word)
+    ensures { option_map settled_turn result
+        ≡ first_enabled settings.now state.now.board
+        (of_each settings.now (λ unit. turns.Decide unit word)
         ++ (of_each settings.now turns.UnitDue ++ last_turns)) }
 {
     match first_decide(state, word) {
@@ -164,10 +170,10 @@ fn decide_or_later(settings: &Settings, state: &State, word: u32) -> Option<Sett
 fn take_or_later(settings: &Settings, state: &State, word: u32) -> Option<Settled>
     requires whole { length state.now.board.units ≡ units_in settings.now }
     requires few { units_in settings.now < 2 ^ 32 }
-    requires seated { IsSeated settings.now state.now }
-    requires timely { IsTimely state.now.board }
+    requires seated { KeepsSeats settings.now state.now }
+    requires timely { IsTimelyBoard state.now.board }
     requires going { state.now.board.dispatcher.over ≡ false }
-    ensures { option_map turn_by result
+    ensures { option_map settled_turn result
         ≡ first_enabled settings.now state.now.board (of_each settings.now turns.Take
         ++ (of_each settings.now (λ unit. turns.Decide unit word)
         ++ (of_each settings.now turns.UnitDue ++ last_turns))) }
@@ -182,9 +188,10 @@ fn take_or_later(settings: &Settings, state: &State, word: u32) -> Option<Settle
 pub fn next_settled(settings: &Settings, state: &State, word: u32) -> Option<Settled>
     requires whole { length state.now.board.units ≡ units_in settings.now }
     requires few { units_in settings.now < 2 ^ 32 }
-    requires seated { IsSeated settings.now state.now }
-    requires timely { IsTimely state.now.board }
-    ensures { option_map turn_by result ≡ first_enabled settings.now state.now.board (settling settings.now word) }
+    requires seated { KeepsSeats settings.now state.now }
+    requires timely { IsTimelyBoard state.now.board }
+    ensures { option_map settled_turn result ≡ first_enabled settings.now state.now.board
+        (settling settings.now word) }
 {
     if state.is_over() {
         return None;

@@ -4,20 +4,20 @@ ghost use Rattle.std.specs.Prelude.{None, Some, length, option_map, if◌then◌
 ghost use Rattle.std.specs.VecDeque.{deque_len, deque_capacity};
 ghost use Rattle.run_admission.specs.InUse.{is_test_in_use};
 ghost use Rattle.run_model.specs.Admission.{newcomer, scripts_in, scripts_over, units_in, AreFew};
-ghost use Rattle.run_state.specs.Held.{IsSeated, Comes, Opens, units_with, given_back};
+ghost use Rattle.run_state.specs.Held.{KeepsSeats, IsNext, units_with, given_back};
 ghost use Rattle.run_state.specs.Cancelled.{Cancels};
 ghost use Rattle.run_model.specs.Board.{unit_in, moved, step, deed_events, reach_all};
 ghost use Rattle.run_model.specs.Cancel.{signal_cause, time_is_up, event_refused};
 ghost use Rattle.run_model.specs.Dispatch.{shuts_down};
 ghost use Rattle.run_model.specs.Turns.{taken_by, admission, starting, answer_to, delivery, begun, ended, run_turn};
 ghost use Rattle.run_model.specs.Turns.{deed_on, turn_of_unit};
-ghost use Rattle.run_laws.specs.Ready.{CanAnswer, CanTake, CanAdmit, CanDeliverOldest, CanRun, CanAdvance};
+ghost use Rattle.run_laws.specs.Ready.{CanAnswer, CanTakeTurn, CanAdmit, CanDeliverOldest, CanRun, CanAdvance};
 
-use crate::admission::{Newcomer, are_scripts_over, newcomer_of, next_script, place_of, script_of};
+use crate::admission::{Newcomer, Next, are_scripts_over, next_newcomer, next_script};
 use crate::broadcast::broadcast;
 use crate::state::State;
 use crate::units::Units;
-use run_admission::{Admission, Admitted};
+use run_admission::Admission;
 use run_capture::{List, Mem, OutOfMemory};
 use run_dispatch::DispatchEffects;
 use run_events::{Ask, Message, ReporterEvent, Request, Settings, Signal, Turn};
@@ -57,7 +57,8 @@ fn send(queue: &mut VecDeque<Message>, sent: Option<Message>)
 fn release(settings: &Settings, admission: &mut Admission, unit: u32, over: bool)
     requires { over ≡ true → scripts_in settings.now ≤ unit
         → is_test_in_use admission.old (unit - scripts_in settings.now) ≡ true }
-    ensures { admission.new ≡ (if over then given_back settings.now admission.old unit else admission.old) }
+    ensures { admission.new ≡ (if over then given_back settings.now admission.old unit else
+        admission.old) }
 {
     let scripts = settings.plan.scripts.len();
     if over && unit as usize >= scripts {
@@ -73,11 +74,11 @@ pub fn take_turn(
     unit: u32,
     turn: UnitTurn,
 ) -> Mem<Option<Ask>>
-    requires can { CanTake state.old.board unit turn }
-    requires seated { IsSeated settings.now state.old }
+    requires can { CanTakeTurn state.old.board unit turn }
+    requires seated { KeepsSeats settings.now state.old }
     ensures after { OnOk result (state.new.board ≡ moved state.old.board
         (taken_by state.old.board.clock unit turn (unit_in state.old.board unit))) }
-    ensures seated { OnOk result (IsSeated settings.now state.new) }
+    ensures seated { OnOk result (KeepsSeats settings.now state.new) }
     ensures asked { IfOk result (λ asked. asked
         ≡ (taken_by state.old.board.clock unit turn (unit_in state.old.board unit)).asked) }
 {
@@ -95,11 +96,11 @@ pub fn take_turn(
 /// Admits the next script, or once all scripts are over the candidate.
 pub fn admit(alloc: Global, settings: &Settings, state: &mut State) -> Mem<()>
     requires can { CanAdmit settings.now state.old.board }
-    requires seated { IsSeated settings.now state.old }
+    requires seated { KeepsSeats settings.now state.old }
     requires few { AreFew settings.now }
     ensures after { OnOk result (state.new.board
         ≡ moved state.old.board (admission (newcomer settings.now state.old.board.units))) }
-    ensures seated { OnOk result (IsSeated settings.now state.new) }
+    ensures seated { OnOk result (KeepsSeats settings.now state.new) }
 {
     if are_scripts_over(settings, &state.units) {
         admit_test(alloc, settings, state)
@@ -112,21 +113,16 @@ pub fn admit(alloc: Global, settings: &Settings, state: &mut State) -> Mem<()>
 fn admit_test(alloc: Global, settings: &Settings, state: &mut State) -> Mem<()>
     requires can { CanAdmit settings.now state.old.board }
     requires over { scripts_over settings.now state.old.board.units ≡ true }
-    requires seated { IsSeated settings.now state.old }
+    requires seated { KeepsSeats settings.now state.old }
     requires few { AreFew settings.now }
     ensures after { OnOk result (state.new.board
         ≡ moved state.old.board (admission (newcomer settings.now state.old.board.units))) }
-    ensures seated { OnOk result (IsSeated settings.now state.new) }
+    ensures seated { OnOk result (KeepsSeats settings.now state.new) }
 {
     match state.admission.admit() {
         Some(admitted) => {
-            seat(
-                alloc,
-                settings,
-                &mut state.units,
-                &mut state.queue,
-                admitted,
-            )?;
+            let next = Next::Test(admitted);
+            seat(alloc, settings, &mut state.units, &mut state.queue, next)?;
             Ok(())
         }
         None => unreachable!(),
@@ -137,64 +133,41 @@ fn admit_test(alloc: Global, settings: &Settings, state: &mut State) -> Mem<()>
 fn admit_script(alloc: Global, settings: &Settings, state: &mut State) -> Mem<()>
     requires can { CanAdmit settings.now state.old.board }
     requires before { scripts_over settings.now state.old.board.units ≡ false }
-    requires seated { IsSeated settings.now state.old }
+    requires seated { KeepsSeats settings.now state.old }
     requires few { AreFew settings.now }
     ensures after { OnOk result (state.new.board
         ≡ moved state.old.board (admission (newcomer settings.now state.old.board.units))) }
-    ensures seated { OnOk result (IsSeated settings.now state.new) }
+    ensures seated { OnOk result (KeepsSeats settings.now state.new) }
 {
     match next_script(settings, &state.units) {
         Some(place) => {
-            seat_script(alloc, settings, &mut state.units, &mut state.queue, place)?;
+            let next = Next::Script(place);
+            seat(alloc, settings, &mut state.units, &mut state.queue, next)?;
             Ok(())
         }
         None => unreachable!(),
     }
 }
 
-// The test that was admitted becomes a unit, and its first message is sent.
+// The script or the test that comes next becomes a unit, and its first message is sent.
 fn seat(
     alloc: Global,
     settings: &Settings,
     units: &mut Units,
     queue: &mut VecDeque<Message>,
-    admitted: Admitted,
+    next: Next,
 ) -> Mem<()>
-    requires comes { Comes settings.now units.old admitted }
+    requires next { IsNext settings.now units.old next }
     requires whole { length units.old ≡ units_in settings.now }
     requires few { AreFew settings.now }
     ensures units { OnOk result (units.new
         ≡ units_with settings.now units.old (newcomer settings.now units.old)) }
-    ensures queue { OnOk result (queue.new.items
-        ≡ queue.old.items ++ option_to_list (option_map (λ n. n.sent) (newcomer settings.now units.old))) }
+    ensures queue { OnOk result (queue.new.items ≡ queue.old.items
+        ++ option_to_list (option_map (λ n. n.sent) (newcomer settings.now units.old))) }
     ensures err { OnErr result (units.new ≡ units.old) }
 {
     queue.reserve(1)?;
-    let place = settings.plan.scripts.len() as u32 + place_of(&admitted);
-    let new = newcomer_of(alloc, settings, units, admitted)?;
-    join(units, queue, place, new)
-}
-
-// The script at this place, which is the next one, becomes a unit, and its first message is sent.
-fn seat_script(
-    alloc: Global,
-    settings: &Settings,
-    units: &mut Units,
-    queue: &mut VecDeque<Message>,
-    place: usize,
-) -> Mem<()>
-    requires opens { Opens settings.now units.old place }
-    requires whole { length units.old ≡ units_in settings.now }
-    requires few { AreFew settings.now }
-    ensures units { OnOk result (units.new
-        ≡ units_with settings.now units.old (newcomer settings.now units.old)) }
-    ensures queue { OnOk result (queue.new.items
-        ≡ queue.old.items ++ option_to_list (option_map (λ n. n.sent) (newcomer settings.now units.old))) }
-    ensures err { OnErr result (units.new ≡ units.old) }
-{
-    queue.reserve(1)?;
-    let place = place as u32;
-    let new = script_of(alloc, settings, place)?;
+    let (place, new) = next_newcomer(alloc, settings, units, next)?;
     join(units, queue, place, new)
 }
 
@@ -237,9 +210,10 @@ fn answer(
     go: Option<bool>,
 ) -> Mem<Option<Ask>>
     requires can { CanAnswer state.old.board unit go }
-    requires seated { IsSeated settings.now state.old }
-    ensures seated { OnOk result (IsSeated settings.now state.new) }
-    ensures after { OnOk result (state.new.board ≡ moved state.old.board (answer_to state.old.board unit go)) }
+    requires seated { KeepsSeats settings.now state.old }
+    ensures seated { OnOk result (KeepsSeats settings.now state.new) }
+    ensures after { OnOk result (state.new.board ≡ moved state.old.board
+        (answer_to state.old.board unit go)) }
     ensures asked { IfOk result (λ asked. asked ≡ (answer_to state.old.board unit go).asked) }
 {
     match (unit, go) {
@@ -264,10 +238,13 @@ fn heed(
     request: Option<Request>,
 ) -> Mem<Option<Ask>>
     requires can { CanAnswer state.old.board unit go }
-    requires seated { IsSeated settings.now state.old }
-    ensures seated { OnOk result (IsSeated settings.now state.new) }
-    ensures after { OnOk result (state.new.board ≡ record (moved state.old.board (answer_to state.old.board unit go))
-        { units = reach_all request (moved state.old.board (answer_to state.old.board unit go)).units }) }
+    requires seated { KeepsSeats settings.now state.old }
+    ensures seated { OnOk result (KeepsSeats settings.now state.new) }
+    ensures after { OnOk result
+        (state.new.board ≡ record (moved state.old.board (answer_to state.old.board unit go)) {
+          units = reach_all request
+              (moved state.old.board (answer_to state.old.board unit go)).units;
+        }) }
     ensures asked { IfOk result (λ asked. asked ≡ (answer_to state.old.board unit go).asked) }
 {
     let asked = answer(alloc, settings, state, unit, go)?;
@@ -278,9 +255,9 @@ fn heed(
 /// Delivers the oldest message.
 pub fn deliver(alloc: Global, settings: &Settings, state: &mut State) -> Mem<Effects>
     requires can { CanDeliverOldest state.old.board state.old.board.queue }
-    requires seated { IsSeated settings.now state.old }
+    requires seated { KeepsSeats settings.now state.old }
     requires later { state.old.board.dispatcher.latest ≤ state.old.board.clock }
-    ensures seated { OnOk result (IsSeated settings.now state.new) }
+    ensures seated { OnOk result (KeepsSeats settings.now state.new) }
     ensures after { OnOk result (state.new.board
         ≡ moved state.old.board (delivery state.old.board state.old.board.queue)) }
     ensures told { IfOk result (λ effects. effects.events
@@ -314,11 +291,11 @@ pub fn advance(
 ) -> Mem<Effects>
     requires named { named ≡ turn_of_unit turn.now }
     requires can { CanAdvance settings.now state.old.board turn.now (turn_of_unit turn.now) }
-    requires seated { IsSeated settings.now state.old }
+    requires seated { KeepsSeats settings.now state.old }
     requires few { AreFew settings.now }
     ensures after { OnOk result (state.new.board
         ≡ step state.old.board turn.now (deed_on settings.now state.old.board turn.now)) }
-    ensures seated { OnOk result (IsSeated settings.now state.new) }
+    ensures seated { OnOk result (KeepsSeats settings.now state.new) }
     ensures told { IfOk result (λ effects. effects.events
         ≡ deed_events (deed_on settings.now state.old.board turn.now)) }
     ensures asked { IfOk result (λ effects. effects.asked
@@ -336,12 +313,12 @@ pub fn advance(
 // Takes a turn of the run's own; the clock moves where it is one of the clock.
 fn advance_run(alloc: Global, settings: &Settings, state: &mut State, turn: &Turn) -> Mem<Effects>
     requires can { CanRun settings.now state.old.board turn.now }
-    requires seated { IsSeated settings.now state.old }
+    requires seated { KeepsSeats settings.now state.old }
     requires later { state.old.board.dispatcher.latest ≤ state.old.board.clock }
     requires few { AreFew settings.now }
     ensures after { OnOk result (state.new.board
         ≡ step state.old.board turn.now (run_turn settings.now state.old.board turn.now)) }
-    ensures seated { OnOk result (IsSeated settings.now state.new) }
+    ensures seated { OnOk result (KeepsSeats settings.now state.new) }
     ensures told { IfOk result (λ effects. effects.events
         ≡ deed_events (run_turn settings.now state.old.board turn.now)) }
     ensures asked { IfOk result (λ effects. effects.asked

@@ -77,7 +77,8 @@ impl Units {
     /// Whether a unit takes a turn at a moment of the run's clock, no earlier than its latest turn; a number of no
     /// admitted unit takes none.
     pub fn takes(&self, unit: u32, turn: &UnitTurn, now: u64) -> bool
-        requires later { (u : UnitView) → slice_index_or self.now unit None ≡ Some u → u.latest ≤ now }
+        requires later { (u : UnitView) → slice_index_or self.now unit None ≡ Some u → u.latest
+            ≤ now }
         ensures { result ≡ unit_takes now (slice_index_or self.now unit None) turn.now }
     {
         match self.items.get(unit as usize) {
@@ -133,15 +134,19 @@ impl Units {
 
     /// A unit takes a turn.
     pub fn step(&mut self, alloc: Global, unit: u32, turn: UnitTurn, now: u64) -> Mem<UnitEffects>
-        requires { (u : UnitView) × (slice_index_or self.old unit None ≡ Some u) × (takes now u turn ≡ true)
+        requires { (u : UnitView) × (slice_index_or self.old unit None ≡ Some u)
+            × (takes now u turn ≡ true)
             × (u.latest ≤ now) }
         ensures after { OnOk result (self.new
-            ≡ units_after now (taken_by now unit turn (slice_index_or self.old unit None)).part self.old) }
-        ensures sent { IfOk result (λ e. e.sent ≡ (taken_by now unit turn (slice_index_or self.old unit None)).sent) }
+            ≡ units_after now (taken_by now unit turn (slice_index_or self.old unit None)).part
+            self.old) }
+        ensures sent { IfOk result
+            (λ e. e.sent ≡ (taken_by now unit turn (slice_index_or self.old unit None)).sent) }
         ensures asked { IfOk result (λ e. e.asked
             ≡ (taken_by now unit turn (slice_index_or self.old unit None)).asked) }
         ensures over { IfOk result (λ e. e.over
-            ≡ is_done (option_map (λ u. (row now turn u).next) (slice_index_or self.old unit None))) }
+            ≡ is_done (option_map (λ u. (row now turn u).next)
+            (slice_index_or self.old unit None))) }
         ensures err { OnErr result (self.new ≡ self.old) }
     {
         let effects = step_at(&mut self.items, alloc, unit as usize, turn, now)?;
@@ -188,13 +193,15 @@ fn step_at(
     requires { (u : UnitView) × (slice_index_or units.old.items unit None ≡ Some u)
         × (takes now u turn ≡ true) × (u.latest ≤ now) }
     ensures after { OnOk result (units.new.items
-        ≡ units_after now (taken_by now unit turn (slice_index_or units.old.items unit None)).part units.old.items) }
+        ≡ units_after now (taken_by now unit turn (slice_index_or units.old.items unit None)).part
+        units.old.items) }
     ensures sent { IfOk result (λ e. e.sent
         ≡ (taken_by now unit turn (slice_index_or units.old.items unit None)).sent) }
     ensures asked { IfOk result (λ e. e.asked
         ≡ (taken_by now unit turn (slice_index_or units.old.items unit None)).asked) }
     ensures over { IfOk result (λ e. e.over
-        ≡ is_done (option_map (λ u. (row now turn u).next) (slice_index_or units.old.items unit None))) }
+        ≡ is_done (option_map (λ u. (row now turn u).next)
+        (slice_index_or units.old.items unit None))) }
     ensures err { OnErr result (units.new.items ≡ units.old.items) }
 {
     match &mut units[unit] {

@@ -24,7 +24,8 @@ fn place_for(numbers: &[u32], number: u32) -> usize
 fn place_of(numbers: &[u32], number: u32) -> Option<usize>
     ensures some { IfSome result (λ place. slice_index_or numbers.now place 0 ≡ number) }
     ensures within { IfSome result (λ place. place < length numbers.now) }
-    ensures none { IsNone result → (k : ℕ) → k < length numbers.now → slice_index_or numbers.now k 0 ≢ number }
+    ensures none { IsNone result → (k : ℕ) → k < length numbers.now → slice_index_or numbers.now k 0
+        ≢ number }
 {
     for (place, other) in numbers.iter().enumerate() {
         if *other == number {
@@ -36,8 +37,10 @@ fn place_of(numbers: &[u32], number: u32) -> Option<usize>
 
 // Puts a number at its place.
 fn put_in(numbers: &mut Vec<u32>, number: u32) -> Mem<()>
-    ensures ok { OnOk result ((flags : List Bool) → numbers.old.items ≡ places 0 flags → number < length flags
-        → slice_index_or flags number false ≡ false → numbers.new.items ≡ places 0 (slice_set flags number true)) }
+    ensures ok { OnOk result ((flags : List Bool) → numbers.old.items ≡ places 0 flags → number
+        < length flags
+        → slice_index_or flags number false ≡ false → numbers.new.items
+        ≡ places 0 (slice_set flags number true)) }
     ensures err { OnErr result (numbers.new.items ≡ numbers.old.items) }
 {
     let place = place_for(numbers.as_slice(), number);
@@ -49,7 +52,8 @@ fn put_in(numbers: &mut Vec<u32>, number: u32) -> Mem<()>
 
 // Takes a number away.
 fn take_out(numbers: &mut Vec<u32>, number: u32)
-    ensures { (flags : List Bool) → numbers.old.items ≡ places 0 flags → slice_index_or flags number false ≡ true
+    ensures { (flags : List Bool) → numbers.old.items ≡ places 0 flags
+        → slice_index_or flags number false ≡ true
         → numbers.new.items ≡ places 0 (slice_set flags number false) }
 {
     if let Some(place) = place_of(numbers.as_slice(), number) {
@@ -59,8 +63,10 @@ fn take_out(numbers: &mut Vec<u32>, number: u32)
 
 /// A unit is admitted, which is over or not: its flag is set where it isn't.
 pub fn admit(numbers: &mut Vec<u32>, unit: u32, over: bool) -> Mem<()>
-    ensures ok { OnOk result ((flags : List Bool) → numbers.old.items ≡ places 0 flags → unit < length flags
-        → slice_index_or flags unit false ≡ false → numbers.new.items ≡ places 0 (slice_set flags unit (not over))) }
+    ensures ok { OnOk result ((flags : List Bool) → numbers.old.items ≡ places 0 flags → unit
+        < length flags
+        → slice_index_or flags unit false ≡ false → numbers.new.items
+        ≡ places 0 (slice_set flags unit (not over))) }
     ensures err { OnErr result (numbers.new.items ≡ numbers.old.items) }
 {
     if over {
@@ -71,7 +77,8 @@ pub fn admit(numbers: &mut Vec<u32>, unit: u32, over: bool) -> Mem<()>
 
 /// A unit that wasn't over took a turn, after which it is over or not.
 pub fn leave(numbers: &mut Vec<u32>, unit: u32, over: bool)
-    ensures { (flags : List Bool) → numbers.old.items ≡ places 0 flags → slice_index_or flags unit false ≡ true
+    ensures { (flags : List Bool) → numbers.old.items ≡ places 0 flags
+        → slice_index_or flags unit false ≡ true
         → numbers.new.items ≡ places 0 (slice_set flags unit (not over)) }
 {
     if over {

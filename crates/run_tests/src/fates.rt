@@ -149,7 +149,9 @@ fn letter(news: &News) -> &'static str {
     match news {
         News::Started => "s",
         News::Failed(_) => "f",
-        News::Retried => "r",
+        // A test is tried again once at most.
+        News::Retried(2) => "r",
+        News::Retried(_) => "x",
         News::Finished(statuses) if statuses.len() == 1 => "1",
         News::Finished(_) => "n",
         News::Skipped => "k",
@@ -174,8 +176,8 @@ fn told_letters(rt: &impl Abort, alloc: Global, walk: &Walk, unit: u32) -> Text 
 #[derive(Clone, Copy, Drop)]
 struct Fate {
     is_mismatched: bool,
-    never_started: bool,
-    was_left: bool,
+    // After how many attempts it was stopped, if it was.
+    stopped: Option<usize>,
 }
 
 // How often the unit of a story was let go, or how often it wasn't.
@@ -189,11 +191,9 @@ fn answers(story: &[OwnTurn], go: bool) -> usize {
 // The fate of the first test, by its own turns.
 fn first_fate(story: &[OwnTurn]) -> Fate {
     let is_refused = answers(story, false) > 0;
-    let has_begun = answers(story, true) > 0;
     Fate {
         is_mismatched: false,
-        never_started: is_refused && !has_begun,
-        was_left: is_refused && has_begun,
+        stopped: is_refused.then_some(answers(story, true)),
     }
 }
 
@@ -203,14 +203,7 @@ fn fate_letters(
     fate: Fate,
     statuses: &List<ExecuteStatus>,
 ) -> Text {
-    let account = account(
-        alloc,
-        fate.is_mismatched,
-        fate.never_started,
-        fate.was_left,
-        statuses,
-    )
-    .expect(rt, MEMORY);
+    let account = account(alloc, fate.is_mismatched, fate.stopped, statuses).expect(rt, MEMORY);
     letters(rt, alloc, account.as_slice())
 }
 
@@ -228,12 +221,10 @@ fn has_fate(
 
 // Whether the attempts of the first test are as its fate says: there are none, or they meet their law.
 fn are_lawful(of: Tests, fate: Fate, statuses: &[ExecuteStatus]) -> bool {
-    if fate.never_started {
-        statuses.is_empty()
-    } else if fate.was_left {
-        has_retry_left(retry_count(of), statuses)
-    } else {
-        meets_attempt_law(retry_count(of), statuses)
+    match fate.stopped {
+        Some(0) => statuses.is_empty(),
+        Some(attempts) => statuses.len() == attempts && has_retry_left(retry_count(of), statuses),
+        None => meets_attempt_law(retry_count(of), statuses),
     }
 }
 
@@ -254,8 +245,7 @@ fn has_first_fate(rt: &impl Abort, alloc: Global, of: Tests, walk: &Walk) -> boo
 fn has_second_fate(rt: &impl Abort, alloc: Global, walk: &Walk) -> bool {
     let fate = Fate {
         is_mismatched: true,
-        never_started: false,
-        was_left: false,
+        stopped: None,
     };
     has_fate(rt, alloc, walk, 1, fate, &List::new())
 }

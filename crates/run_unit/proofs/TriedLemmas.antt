@@ -28,7 +28,7 @@ use Rattle.run_model.specs.Unit.{row_at, running_row, slow_row, slow_again, in_g
 use Rattle.run_model.specs.Unit.{result_of, awaits_env, awaiting_env, ended}
 use Rattle.run_model.specs.Unit.{leaking, heard_with, having_heard, asked_to_end, requested, take_row}
 use Rattle.run_model.specs.Unit.{has_retry, next_delay, delayed, decided}
-use Rattle.run_unit.specs.Tried.{last_in, IsTried}
+use Rattle.run_unit.specs.Timely.{last_in, IsTried}
 
 -- the attempts of a test of a plan fit where those of the plan do
 pub few_of : (p : Settings) (j : ℕ) (test : PlanTest) → AreFew p → slice_get p.plan.tests j ≡ Some test

@@ -4,8 +4,8 @@ use Rattle.run_model.specs.declared.unit_turn.UnitTurn.{UnitTurn}
 use Rattle.run_model.specs.declared.unit_turn.UnitTurn.TheVariants.{Piece, StreamEnd, ReadError}
 
 -- whether a turn is one of a stream
-abbrev pub is_heard : UnitTurn → Bool
-is_heard (Piece stream bytes) = true
-is_heard (StreamEnd stream) = true
-is_heard (ReadError stream error) = true
-is_heard _ = false
+abbrev pub is_of_stream : UnitTurn → Bool
+is_of_stream (Piece stream bytes) = true
+is_of_stream (StreamEnd stream) = true
+is_of_stream (ReadError stream error) = true
+is_of_stream _ = false

@@ -2,4 +2,3 @@ pub mod Effects
 pub mod Heard
 pub mod Same
 pub mod Timely
-pub mod Tried

@@ -1,7 +1,11 @@
--- The timers of a unit and the moment of its latest turn.
-use Rattle.std.specs.Prelude.{ℕ, ◌≤◌, IfSome}
+-- What holds of a unit after each of its turns: of its timers, and of the number of its attempt.
+use Rattle.std.specs.Prelude.{ℕ, ◌+◌, ◌<◌, ◌≤◌, ◌^◌, IfSome}
+use Rattle.run_model.specs.declared.phase.Phase.{Phase}
+use Rattle.run_model.specs.declared.phase.Phase.TheVariants.{Delay, RetrySent}
 use Rattle.run_model.specs.declared.unit_view.Timers.{Timers}
 use Rattle.run_model.specs.declared.unit_view.UnitView.{UnitView}
+use Rattle.run_model.specs.Backoff.{retry_count}
+use Rattle.run_model.specs.Environment.{attempts}
 
 -- no timer was given a later moment than this
 abbrev pub IsTimely : Timers → ℕ → Type 0
@@ -11,3 +15,13 @@ IsTimely t now =
 -- no timer of a unit was given a later moment than that of its latest turn
 abbrev pub IsCurrent : UnitView → Type 0
 IsCurrent u = IsTimely u.timers u.latest
+
+-- the last attempt that a unit can be at in a phase, with so many retries: a further one comes after a delay
+abbrev pub last_in : Phase → ℕ → ℕ
+last_in Delay retries = retries
+last_in RetrySent retries = retries
+last_in _ retries = retries + 1
+
+-- the attempts of a unit fit in a u32, and its current one is one of them
+abbrev pub IsTried : UnitView → Type 0
+IsTried u = (attempts u < 2 ^ 32) × (1 ≤ u.attempt) × (u.attempt ≤ last_in u.phase (retry_count u.terms.retries))

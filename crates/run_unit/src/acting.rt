@@ -4,9 +4,8 @@ ghost use Rattle.run_model.specs.Unit.{row_at, takes_at, started, quiet as quiet
 ghost use Rattle.run_model.specs.declared.phase.Phase.TheVariants as phases;
 ghost use Rattle.run_model.specs.declared.unit_turn.UnitTurn.TheVariants as turns;
 ghost use Rattle.run_unit.specs.Effects.{IsRow};
-ghost use Rattle.run_unit.specs.Heard.{is_heard};
-ghost use Rattle.run_unit.specs.Timely.{IsTimely};
-ghost use Rattle.run_unit.specs.Tried.{IsTried};
+ghost use Rattle.run_unit.specs.Heard.{is_of_stream};
+ghost use Rattle.run_unit.specs.Timely.{IsTimely, IsTried};
 
 use crate::effects::{UnitEffects, quiet};
 use crate::ending::{end_child, end_wait, fail_start, hear_after, leave_streams};
@@ -67,7 +66,7 @@ pub fn act(alloc: Global, view: &mut UnitView, turn: UnitTurn, now: u64) -> Mem<
 
 // Its capture gets a turn.
 fn hear_turn(alloc: Global, view: &mut UnitView, turn: UnitTurn, now: u64) -> Mem<UnitEffects>
-    requires heard { is_heard turn ≡ true }
+    requires heard { is_of_stream turn ≡ true }
     requires enabled { takes_at now view.old.phase view.old turn ≡ true }
     requires later { view.old.timers.stopwatch.latest ≤ now }
     requires tried { IsTried view.old }
@@ -86,7 +85,7 @@ fn hear_turn(alloc: Global, view: &mut UnitView, turn: UnitTurn, now: u64) -> Me
 
 // Takes a turn that is none of a stream.
 fn act_itself(alloc: Global, view: &mut UnitView, turn: UnitTurn, now: u64) -> Mem<UnitEffects>
-    requires other { is_heard turn ≡ false }
+    requires other { is_of_stream turn ≡ false }
     requires enabled { takes_at now view.old.phase view.old turn ≡ true }
     requires later { view.old.timers.stopwatch.latest ≤ now }
     requires tried { IsTried view.old }

@@ -143,8 +143,8 @@ fn place_variables(alloc: Global, role: &TestRole) -> Mem<Variables>
     Ok(list)
 }
 
-// Some variables, and then others.
-fn followed_by(front: Variables, back: Variables) -> Mem<Variables>
+/// Some items, and then others.
+pub fn followed_by<T: Drop>(front: Vec<T>, back: Vec<T>) -> Mem<Vec<T>>
     ensures { IfOk result (λ v. v.items ≡ front.items ++ back.items) }
 {
     let mut front = front;

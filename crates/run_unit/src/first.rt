@@ -5,7 +5,7 @@ ghost use Rattle.run_model.specs.Admission.{begun_view, flaky_of, retries_of, te
 ghost use Rattle.run_model.specs.Admission.{streams_by, test_role, first_view};
 
 use crate::messages::test_unit;
-use crate::start::followed_by;
+use crate::start::with_command;
 use crate::timing::timers_from;
 use run_capture::{CaptureStrategy, ChildAccumulator, Duplicate, List, Mem, Text};
 use run_commands::PlatformRunner;
@@ -134,7 +134,7 @@ fn command_of(alloc: Global, settings: &Settings, test: &PlanTest) -> Mem<List<T
     match settings.plan.runners.for_build_platform(test.platform) {
         Some(runner) => {
             let words = runner_words(alloc, runner)?;
-            followed_by(alloc, words, &test.command)
+            with_command(alloc, words, &test.command)
         }
         None => test.command.copy(alloc),
     }

@@ -1,7 +1,7 @@
 // What a unit hears of its child's streams.
 ghost use Rattle.std.specs.Prelude.{◌≡◌, OnOk, OnErr, true};
 ghost use Rattle.run_model.specs.Unit.{hears, having_heard};
-ghost use Rattle.run_unit.specs.Heard.{is_heard};
+ghost use Rattle.run_unit.specs.Heard.{is_of_stream};
 
 use run_capture::{ChildAccumulator, Mem};
 use run_model::UnitTurn;
@@ -9,7 +9,7 @@ use std::alloc::Global;
 
 /// Whether a turn is one of a stream.
 pub fn is_heard(turn: &UnitTurn) -> bool
-    ensures { result ≡ is_heard turn.now }
+    ensures { result ≡ is_of_stream turn.now }
 {
     matches!(
         turn,

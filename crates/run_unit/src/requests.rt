@@ -6,7 +6,7 @@ ghost use Rattle.run_model.specs.Unit.{has_request, take_row, requested, asked_t
 ghost use Rattle.run_model.specs.declared.phase.Phase.TheVariants as phases;
 ghost use Rattle.run_unit.specs.Effects.{IsRow};
 ghost use Rattle.run_unit.specs.Same.{is_request};
-ghost use Rattle.run_unit.specs.Tried.{IsTried};
+ghost use Rattle.run_unit.specs.Timely.{IsTried};
 
 use crate::effects::{UnitEffects, quiet};
 use crate::retry::take_in_delay;

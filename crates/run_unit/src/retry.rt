@@ -1,5 +1,6 @@
 // The attempts after the first: whether an attempt is tried again, after which delay, and from when on.
-ghost use Rattle.std.specs.Prelude.{ℕ, ◌≡◌, ◌≤◌, ◌<◌, ◌^◌, OnErr, IfOk, true};
+ghost use Rattle.std.specs.Prelude.{ℕ, ◌≡◌, ◌≤◌, ◌<◌, ◌^◌, OnErr, IfOk, Some, true};
+ghost use Rattle.run_model.specs.Attempts.{cancels};
 ghost use Rattle.run_model.specs.Backoff.{retry_count};
 ghost use Rattle.run_model.specs.Environment.{attempts};
 ghost use Rattle.run_model.specs.Unit.{has_passed, has_retry, last_status};
@@ -7,7 +8,6 @@ ghost use Rattle.run_model.specs.Unit.{decide_row, decided, delayed, retried, ha
 ghost use Rattle.run_model.specs.declared.phase.Phase.TheVariants as phases;
 ghost use Rattle.run_model.specs.declared.unit_turn.UnitTurn.TheVariants as turns;
 ghost use Rattle.run_unit.specs.Effects.{IsRow};
-ghost use Rattle.run_unit.specs.Tried.{ends_delay};
 
 use crate::effects::{UnitEffects, quiet};
 use crate::messages::{failure_message, finish_message, retry_message};
@@ -153,7 +153,7 @@ fn go_again(alloc: Global, view: &mut UnitView, now: u64) -> Mem<UnitEffects>
 
 // Whether a request ends a delay: it cancels the run.
 fn ends_delay(request: Request) -> bool
-    ensures { result ≡ ends_delay request }
+    ensures { result ≡ cancels (Some request) }
 {
     matches!(request, Request::Shutdown(_) | Request::OtherCancel)
 }

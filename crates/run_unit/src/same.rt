@@ -1,6 +1,6 @@
 // Whether two requests are the same.
 ghost use Rattle.std.specs.Prelude.{◌≡◌};
-ghost use Rattle.run_unit.specs.Same.{is_request, is_shutdown};
+ghost use Rattle.run_unit.specs.Same.{is_request, is_for};
 
 use run_events::{Request, ShutdownRequest};
 
@@ -23,7 +23,7 @@ pub fn is_request(request: Request, other: Request) -> bool
 
 // Whether a shutdown is for this reason.
 fn is_shutdown(reason: ShutdownRequest, other: ShutdownRequest) -> bool
-    ensures { result ≡ is_shutdown reason other }
+    ensures { result ≡ is_for reason other }
 {
     match reason {
         ShutdownRequest::Interrupt => matches!(other, ShutdownRequest::Interrupt),

@@ -3,11 +3,11 @@ ghost use Rattle.std.specs.Prelude.{◌≡◌, ◌<◌, ◌^◌, ◌++◌, IfOk,
 ghost use Rattle.run_capture.specs.Captured.{begun};
 ghost use Rattle.run_model.specs.Environment.{attempts, start_ask, environment_as, env_path_of};
 ghost use Rattle.run_model.specs.Environment.{split_streams, streams_of};
-ghost use Rattle.run_model.specs.Unit.{begun_row, nothing_of};
+ghost use Rattle.run_model.specs.Unit.{begun_row, nothing_captured};
 ghost use Rattle.run_unit.specs.Effects.{IsRow};
 
 use crate::effects::UnitEffects;
-use crate::environment::environment;
+use crate::environment::{environment, followed_by};
 use crate::messages::number_of;
 use crate::timing::timers_from;
 use run_capture::{CaptureStrategy, ChildAccumulator, Duplicate, List, Mem, Stream, Text};
@@ -16,13 +16,12 @@ use run_model::{CapturedStreams, Phase, UnitRole, UnitView};
 use std::alloc::Global;
 
 /// These words and then those of a command.
-pub fn followed_by(alloc: Global, words: List<Text>, command: &List<Text>) -> Mem<List<Text>>
+pub fn with_command(alloc: Global, words: List<Text>, command: &List<Text>) -> Mem<List<Text>>
     ensures { IfOk result (λ all. all ≡ words ++ command.now) }
 {
-    let mut words = words.into_vec(alloc);
-    let mut own = command.copy(alloc)?.into_vec(alloc);
-    words.append(&mut own)?;
-    Ok(List::from_vec(words))
+    let own = command.copy(alloc)?.into_vec(alloc);
+    let all = followed_by(words.into_vec(alloc), own)?;
+    Ok(List::from_vec(all))
 }
 
 // Where a script's child writes the variables that it hands on: none of a test.
@@ -71,7 +70,7 @@ fn wrapped(alloc: Global, unit: &UnitView) -> Mem<List<Text>>
     ensures { IfOk result (λ all. all ≡ unit.now.around.wrapper ++ unit.now.command) }
 {
     let wrapper = unit.around.wrapper.copy(alloc)?;
-    followed_by(alloc, wrapper, &unit.command)
+    with_command(alloc, wrapper, &unit.command)
 }
 
 // That command, and the child's variables.
@@ -108,7 +107,7 @@ pub fn start_of(alloc: Global, unit: &UnitView) -> Mem<Ask>
 
 // What is captured of a child before its first piece.
 fn capture_of(alloc: Global, captured: CapturedStreams) -> Mem<ChildAccumulator>
-    ensures { IfOk result (λ capture. capture ≡ begun (nothing_of captured)) }
+    ensures { IfOk result (λ capture. capture ≡ begun (nothing_captured captured)) }
 {
     match captured {
         CapturedStreams::Apart { stdout, stderr } => {

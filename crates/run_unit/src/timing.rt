@@ -1,11 +1,11 @@
 // The timers of a unit.
 ghost use Rattle.std.specs.Prelude.{◌≡◌, ◌≤◌, IfSome, None};
 ghost use Rattle.run_clock.specs.Stopwatch.{started_at};
-ghost use Rattle.run_model.specs.Unit.{is_due, takes_at, slow_timer_at};
+ghost use Rattle.run_model.specs.Unit.{takes_at, slow_timer_at};
 ghost use Rattle.run_model.specs.declared.unit_turn.UnitTurn.TheVariants.{Due};
 ghost use Rattle.run_unit.specs.Timely.{IsTimely};
 
-use run_clock::{PausableSleep, Poll, StopwatchStart};
+use run_clock::{PausableSleep, StopwatchStart, fires_now};
 use run_model::{AttemptTerms, Phase, Timers, UnitView};
 
 /// The timers of an attempt that is let go now.
@@ -31,25 +31,14 @@ pub fn slow_timer_at(now: u64, terms: &AttemptTerms) -> Option<PausableSleep>
     }
 }
 
-// Whether a timer is set and fires now.
-fn is_due(timer: &Option<PausableSleep>, now: u64) -> bool
-    requires { IfSome timer.now (λ timer. timer.latest ≤ now) }
-    ensures { result ≡ is_due now timer.now }
-{
-    match timer {
-        Some(timer) => matches!(timer.poll_at(now), Poll::Ready(())),
-        None => false,
-    }
-}
-
 /// Whether the timer of its phase is due.
 pub fn is_timer_due(view: &UnitView, now: u64) -> bool
     requires { IsTimely view.now.timers now }
     ensures { result ≡ takes_at now view.now.phase view.now Due }
 {
     match view.phase {
-        Phase::Running => is_due(&view.timers.slow, now),
-        Phase::Grace | Phase::Leak | Phase::Delay => is_due(&view.timers.wait, now),
+        Phase::Running => fires_now(&view.timers.slow, now),
+        Phase::Grace | Phase::Leak | Phase::Delay => fires_now(&view.timers.wait, now),
         _ => false,
     }
 }

@@ -27,8 +27,7 @@ pub struct Unit {
 
 impl Model for Unit {
     ghost use Rattle.run_model.specs.declared.unit_view.UnitView.{UnitView};
-    ghost use Rattle.run_unit.specs.Timely.{IsCurrent};
-    ghost use Rattle.run_unit.specs.Tried.{IsTried};
+    ghost use Rattle.run_unit.specs.Timely.{IsCurrent, IsTried};
 
     ghost Value = { UnitView };
 

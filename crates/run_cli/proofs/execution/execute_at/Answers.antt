@@ -1,7 +1,7 @@
 use Rattle.std.proofs.Common.{[], subst}
 use Rattle.run_engine.proofs.CourseLemmas.{unless_weaker}
 use Rattle.run_output.specs.Told.{HasTold}
-use Rattle.run_cli.specs.Call.{writing}
+use Rattle.run_cli.specs.Call.{writing_of}
 use Rattle.run_cli.proofs.ToldLines.{executed_from}
 use Rattle.run_cli.proofs.execution.execute_at.Goals as goal
 
@@ -9,7 +9,7 @@ pub returns : goal.returns
 returns g c = unless_weaker c.try_execute-answer.result _ _
     (λ x.
     let told = x.call.takes.told [] c.new-reporter.ensures.told in
-    let w = writing g.K.Sink.taken g.K.Sink.faults c.args.sink c.into_sink.result in
+    let w = writing_of g.K.Sink.taken g.K.Sink.faults c.args.sink c.into_sink.result in
     let refusals = c.try_execute-answer.new.report.refusals in
     executed_from c.args.runner c.args.turns.now w refusals c.try_execute-answer.new.children
     c.try_execute-answer.result

@@ -1,5 +1,5 @@
 use Rattle.std.proofs.Common.{◌≡◌, subst, ◌∙◌}
-use Rattle.run_output.specs.Fields.{line_of}
+use Rattle.run_output.specs.Fields.{line_bytes}
 use Rattle.run_cli.specs.Call.{TakesFront}
 use Rattle.run_cli.proofs.TextLemmas.{front_take, on_err}
 use Rattle.run_cli.proofs.write.write_line.Goals as goal
@@ -7,6 +7,6 @@ use Rattle.run_cli.proofs.write.write_line.Goals as goal
 pub returns-in_err-write_all-clause-front : goal.returns-in_err-write_all-clause-front
 returns-in_err-write_all-clause-front g c =
     let piece = c.as_bytes.result.now in
-    let is : piece ≡ line_of c.args.line = c.as_bytes.ensures ∙ c.in_ok-line.ensures in
+    let is : piece ≡ line_bytes c.args.line = c.as_bytes.ensures ∙ c.in_ok-line.ensures in
     let front = c.in_err-write_all.ensures.err in
     on_err c.from_residual-in_err-write_all.result _ (subst (TakesFront _ _) is (front_take _ _ front.0 piece front.2))

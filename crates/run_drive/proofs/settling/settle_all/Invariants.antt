@@ -1,10 +1,10 @@
 use Rattle.std.proofs.Common.{◌≡◌, ◌+◌, length}
-use Rattle.run_drive.specs.Added.{Settles}
+use Rattle.run_drive.specs.Added.{SettlesSome}
 use Rattle.run_drive.proofs.settling.settle_all.Given as goal
 
 abbrev pub invariant-loop : goal.invariant-loop
 invariant-loop g l = record {
-  settles : Settles l.initial.receipts l.receipts;
+  settles : SettlesSome l.initial.receipts l.receipts;
   counted : l.share.amount + length l.initial.receipts ≡ l.initial.share.amount + length l.receipts;
   parts : l.share.parts ≡ l.initial.share.parts;
 }

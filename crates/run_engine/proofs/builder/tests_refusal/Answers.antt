@@ -3,7 +3,7 @@ use Rattle.std.proofs.Common.{arith, below_more, is_some, option_and_then}
 use Rattle.std.specs.List.{list_any}
 use Rattle.std.proofs.lemmas.Option.{slice_get-get_or}
 use Rattle.std.proofs.lemmas.List.Folds.{list_any_more}
-use Rattle.run_laws.proofs.Scan.{found_first, found_none}
+use Rattle.run_laws.proofs.board.Scan.{found_first, found_none}
 use Rattle.run_engine.specs.Builder.{same_id, test_refusal, first_refused}
 use Rattle.run_events.specs.declared.plan.PlanTest.{PlanTest}
 use Rattle.run_engine.proofs.RepeatLemmas.{id_equal, one_more, found, refusal_here}

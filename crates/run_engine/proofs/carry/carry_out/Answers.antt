@@ -2,7 +2,7 @@ use Rattle.std.proofs.Common.{◌≡◌, ◌∷◌, ◌++◌, [], length, refl, 
 use Rattle.run_model.specs.Board.{board, deed_events}
 use Rattle.run_model.specs.Turns.{deed_on}
 use Rattle.run_model.specs.Journal.{past_of}
-use Rattle.run_state.specs.Held.{Held, IsSeated, held}
+use Rattle.run_state.specs.Held.{Held, KeepsSeats, held}
 use Rattle.run_engine.specs.World.{entry_of}
 use Rattle.run_engine.specs.Standing.{IsRunnable}
 use Rattle.run_engine.proofs.PartLemmas.{breaks_off}
@@ -15,7 +15,7 @@ act-requires-clause-can g c =
     (ap (λ (h : Held). h.board) c.requires.stands) c.requires.enabled
 
 pub act-requires-clause-seated : goal.act-requires-clause-seated
-act-requires-clause-seated g c = subst (IsSeated c.args.settings.now) (sym c.requires.stands) refl
+act-requires-clause-seated g c = subst (KeepsSeats c.args.settings.now) (sym c.requires.stands) refl
 
 pub returns-in-Ok-clause-takes : goal.returns-in-Ok-clause-takes
 returns-in-Ok-clause-takes g c claimed =

@@ -1,4 +1,4 @@
-use Rattle.run_laws.proofs.Courses.{one_course, unrefused}
+use Rattle.run_laws.proofs.board.Courses.{one_course, unrefused}
 use Rattle.run_laws.proofs.laws.a_list_of_turns_has_one_course.Goals as goal
 
 pub returns : goal.returns

@@ -1,5 +1,5 @@
 use Rattle.std.proofs.Common.{reverse}
-use Rattle.run_laws.proofs.Kept.{accounts}
+use Rattle.run_laws.proofs.board.Kept.{accounts}
 use Rattle.run_laws.proofs.laws.accounts_hold.Goals as goal
 
 pub returns : goal.returns

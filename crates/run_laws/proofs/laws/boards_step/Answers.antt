@@ -1,5 +1,5 @@
 use Rattle.std.proofs.Common.{reverse}
-use Rattle.run_laws.proofs.Boards.{board-steps}
+use Rattle.run_laws.proofs.board.Boards.{board-steps}
 use Rattle.run_laws.proofs.laws.boards_step.Goals as goal
 
 pub returns : goal.returns

@@ -1,4 +1,4 @@
-use Rattle.run_laws.proofs.Cancelled.{cancels}
+use Rattle.run_laws.proofs.told.Cancelled.{cancels}
 use Rattle.run_laws.proofs.laws.cancels_are_caused.Goals as goal
 
 pub returns : goal.returns

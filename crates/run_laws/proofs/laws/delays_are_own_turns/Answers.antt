@@ -1,5 +1,5 @@
 use Rattle.std.proofs.Common.{reverse}
-use Rattle.run_laws.proofs.DelayLemmas.{own_delays}
+use Rattle.run_laws.proofs.told.DelayLemmas.{own_delays}
 use Rattle.run_laws.proofs.laws.delays_are_own_turns.Goals as goal
 
 pub returns : goal.returns

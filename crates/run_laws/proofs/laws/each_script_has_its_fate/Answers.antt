@@ -1,5 +1,5 @@
 use Rattle.std.proofs.Common.{reverse}
-use Rattle.run_laws.proofs.FirstLemmas.{script_fates}
+use Rattle.run_laws.proofs.told.FirstLemmas.{script_fates}
 use Rattle.run_laws.proofs.laws.each_script_has_its_fate.Goals as goal
 
 pub returns : goal.returns

@@ -1,5 +1,5 @@
 use Rattle.std.proofs.Common.{reverse}
-use Rattle.run_laws.proofs.FateLemmas.{ended_fates, over_ended}
+use Rattle.run_laws.proofs.told.FateLemmas.{ended_fates, over_ended}
 use Rattle.run_laws.proofs.laws.each_test_has_its_fate.Goals as goal
 
 pub returns : goal.returns

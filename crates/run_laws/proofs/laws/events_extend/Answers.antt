@@ -1,4 +1,4 @@
-use Rattle.run_laws.proofs.Prefix.{extends}
+use Rattle.run_laws.proofs.told.Prefix.{extends}
 use Rattle.run_laws.proofs.laws.events_extend.Goals as goal
 
 pub returns : goal.returns

@@ -1,5 +1,5 @@
 use Rattle.std.proofs.Common.{reverse}
-use Rattle.run_laws.proofs.Limits.{limits}
+use Rattle.run_laws.proofs.board.Limits.{limits}
 use Rattle.run_laws.proofs.laws.limits_hold.Goals as goal
 
 pub returns : goal.returns

@@ -1,5 +1,5 @@
 use Rattle.std.proofs.Common.{reverse}
-use Rattle.run_laws.proofs.Kept.{lined}
+use Rattle.run_laws.proofs.board.Kept.{lined}
 use Rattle.run_laws.proofs.laws.lines_are_broadcasts.Goals as goal
 
 pub returns : goal.returns

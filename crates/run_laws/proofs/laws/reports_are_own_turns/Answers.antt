@@ -1,5 +1,5 @@
 use Rattle.std.proofs.Common.{reverse}
-use Rattle.run_laws.proofs.Kept.{reported}
+use Rattle.run_laws.proofs.board.Kept.{reported}
 use Rattle.run_laws.proofs.laws.reports_are_own_turns.Goals as goal
 
 pub returns : goal.returns

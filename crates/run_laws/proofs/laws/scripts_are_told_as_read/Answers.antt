@@ -1,5 +1,5 @@
 use Rattle.std.proofs.Common.{reverse}
-use Rattle.run_laws.proofs.FileLemmas.{told_as_read}
+use Rattle.run_laws.proofs.told.FileLemmas.{told_as_read}
 use Rattle.run_laws.proofs.laws.scripts_are_told_as_read.Goals as goal
 
 pub returns : goal.returns

@@ -1,5 +1,5 @@
 use Rattle.std.proofs.Common.{reverse}
-use Rattle.run_laws.proofs.FirstLemmas.{come_first}
+use Rattle.run_laws.proofs.told.FirstLemmas.{come_first}
 use Rattle.run_laws.proofs.laws.scripts_come_first.Goals as goal
 
 pub returns : goal.returns

@@ -1,5 +1,5 @@
 use Rattle.std.proofs.Common.{reverse}
-use Rattle.run_laws.proofs.StartLemmas.{starts_planned}
+use Rattle.run_laws.proofs.told.StartLemmas.{starts_planned}
 use Rattle.run_laws.proofs.laws.starts_are_planned.Goals as goal
 
 pub returns : goal.returns

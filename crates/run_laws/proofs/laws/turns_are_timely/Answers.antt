@@ -1,4 +1,4 @@
-use Rattle.run_laws.proofs.Ready.{timely, clock_moves}
+use Rattle.run_laws.proofs.board.Ready.{timely, clock_moves}
 use Rattle.run_laws.proofs.laws.turns_are_timely.Goals as goal
 
 pub returns : goal.returns

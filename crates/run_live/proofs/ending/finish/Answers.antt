@@ -1,7 +1,7 @@
 use Rattle.std.proofs.Common.{◌∙◌, sym, ap, subst, ℕ, ◌≡◌, ◌<◌, length, List}
 use Rattle.run_shared.specs.declared.shared.Receipt.{Receipt}
 use Rattle.run_model.specs.declared.entry.Entry.{Entry}
-use Rattle.run_shared.specs.Receipts.{joined, numbers_of, times}
+use Rattle.run_shared.specs.Receipts.{concatenated, receipt_numbers, times}
 use Rattle.run_live.proofs.ending.finish.Goals as goal
 
 pub returns-in-Ok-clause-once : goal.returns-in-Ok-clause-once

@@ -1,6 +1,6 @@
 use Rattle.std.proofs.Common.{◌∙◌, ap, arith, take, sym, subst, [], ◌∷◌, ◌++◌}
 use Rattle.std.proofs.lemmas.List.{take_more, length-take}
-use Rattle.run_plain.specs.Told.{AreSmall, stats_told, counted}
+use Rattle.run_plain.specs.Told.{AreSmall, stats_told, counted_by}
 use Rattle.run_plain.proofs.Told.{stats_more, stats_few}
 use Rattle.run_plain.proofs.statistics.stats_told.Goals as goal
 
@@ -18,7 +18,7 @@ loop-event-preserved c =
     let events = take c.loop-event.event-index c.args.events.now in
     let next = take_more c.args.events.now c.loop-event.event-index c.event-item.result c.loop-event-test.true in
     c.counted-stats.ensures
-    ∙ ap (λ s. counted s c.event-item.result) c.loop-event.invariant
+    ∙ ap (λ s. counted_by s c.event-item.result) c.loop-event.invariant
     ∙ sym (stats_more p why events c.event-item.result)
     ∙ ap (λ e. stats_told p why (events ++ e ∷ [])) c.event-item.is
     ∙ sym (ap (stats_told p why) next)

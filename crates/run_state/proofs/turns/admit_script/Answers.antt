@@ -12,7 +12,7 @@ returns-clause-seated c =
     let seated : c.state.inside.admission ≡ limits_of p us = rw (sym c.state.view_is) at c.requires.seated in
     let next : open_script (scripts_of p us) ≡ Some c.in-Some.place = sym c.next_script.ensures ∙ c.in-Some.is in
     seated ∙ limits-script p us c.in-Some.place (rw (sym c.state.view_is) at c.requires.before) next
-    ∙ sym (ap (limits_of p) c.in_ok-seat_script-in-Some.ensures.units)
+    ∙ sym (ap (limits_of p) c.in_ok-seat-in-Some.ensures.units)
 
 pub invariant_of-state-in-Some : goal.invariant_of-state-in-Some
 invariant_of-state-in-Some c =
@@ -21,5 +21,5 @@ invariant_of-state-in-Some c =
     let seated : c.state.inside.admission ≡ limits_of p us = rw (sym c.state.view_is) at c.requires.seated in
     let whole : length us ≡ units_in p = rw (sym c.state.view_is) at c.requires.can.whole in
     let many : scripts_in p ≤ length us = omega (arith, whole) in
-    subst (λ vs. AreTests vs c.state.inside.admission) (sym c.in_ok-seat_script-in-Some.ensures.units)
+    subst (λ vs. AreTests vs c.state.inside.admission) (sym c.in_ok-seat-in-Some.ensures.units)
     (tests-after p us c.state.inside.admission c.state.inside.admission c.state.invariant seated refl many)

@@ -1,14 +1,14 @@
 use Rattle.std.proofs.Common.{◌≡◌, false, length, refl, ap, sym, subst, ◌∙◌}
-use Rattle.run_laws.specs.Ready.{IsTimely}
-use Rattle.run_state.specs.Held.{Held, IsSeated}
+use Rattle.run_laws.specs.Ready.{IsTimelyBoard}
+use Rattle.run_state.specs.Held.{Held, KeepsSeats}
 use Rattle.run_model.specs.Admission.{units_in}
 use Rattle.run_model.specs.Journal.{past_of}
 use Rattle.run_model.specs.Words.{sub_run}
-use Rattle.run_laws.proofs.OnBoard.{units-length}
-use Rattle.run_laws.proofs.Ready.{timely}
+use Rattle.run_laws.proofs.board.OnBoard.{units-length}
+use Rattle.run_laws.proofs.board.Ready.{timely}
 use Rattle.std.proofs.Common.{option_map}
 use Rattle.run_model.specs.Board.{board}
-use Rattle.run_state.specs.Settle.{turn_by}
+use Rattle.run_state.specs.Settle.{settled_turn}
 use Rattle.run_engine.specs.World.{World}
 use Rattle.run_engine.specs.Settling.{first_settled}
 use Rattle.run_engine.proofs.SettlingLemmas.{settled_on}
@@ -24,20 +24,20 @@ next_settled-requires-clause-whole c =
 pub next_settled-requires-clause-timely : goal.next_settled-requires-clause-timely
 next_settled-requires-clause-timely c =
     let sound : c.self.inside.broken ≡ false = rw (sym c.self.view_is) at c.requires in
-    subst (λ (h : Held). IsTimely h.board) (sym (c.self.invariant.stands sound))
+    subst (λ (h : Held). IsTimelyBoard h.board) (sym (c.self.invariant.stands sound))
     (timely c.self.inside.settings c.self.inside.journal.items c.self.invariant.runnable.legal)
 
 pub next_settled-requires-clause-seated : goal.next_settled-requires-clause-seated
 next_settled-requires-clause-seated c =
     let sound : c.self.inside.broken ≡ false = rw (sym c.self.view_is) at c.requires in
-    subst (λ p. IsSeated p c.self.inside.state) (sym c.get.ensures)
-    (subst (IsSeated c.self.inside.settings) (sym (c.self.invariant.stands sound)) refl)
+    subst (λ p. KeepsSeats p c.self.inside.state) (sym c.get.ensures)
+    (subst (KeepsSeats c.self.inside.settings) (sym (c.self.invariant.stands sound)) refl)
 
 pub returns : goal.returns
 returns c =
     let sound : c.self.inside.broken ≡ false = rw (sym c.self.view_is) at c.requires in
     let p = c.self.inside.settings in
-    subst (λ (w : World). option_map turn_by c.next_settled.result ≡ first_settled w c.args.word) c.self.view_is
+    subst (λ (w : World). option_map settled_turn c.next_settled.result ≡ first_settled w c.args.word) c.self.view_is
     (c.next_settled.ensures
     ∙ settled_on p c.get.result.now c.self.inside.state (board p (past_of p c.self.inside.journal.items)) c.args.word
     c.get.ensures (c.self.invariant.stands sound))

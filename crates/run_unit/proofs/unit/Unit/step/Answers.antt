@@ -1,8 +1,7 @@
 -- The unit stays current, and at one of its attempts.
 use Rattle.std.proofs.Common.{◌≤◌, refl, sym, subst, arith}
 use Rattle.run_model.specs.declared.unit_view.UnitView.{UnitView}
-use Rattle.run_unit.specs.Timely.{IsCurrent}
-use Rattle.run_unit.specs.Tried.{IsTried}
+use Rattle.run_unit.specs.Timely.{IsCurrent, IsTried}
 use Rattle.run_unit.proofs.TimelyLemmas.{row_current, at_moment_current}
 use Rattle.run_unit.proofs.TriedLemmas.{row_tried}
 use Rattle.run_unit.proofs.unit.Unit.step.Goals as goal

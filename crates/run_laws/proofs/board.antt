@@ -1,0 +1,24 @@
+-- The lemmas on the board: who is admitted, what each turn does, what holds after every legal journal, seats and limits.
+pub mod Order
+pub mod Holds
+pub mod ByTurn
+pub mod Queue
+pub mod Scan
+pub mod OnBoard
+pub mod Newcomers
+pub mod Facts
+pub mod Ordered
+pub mod DeedFits
+pub mod UnitDeeds
+pub mod Deeds
+pub mod Kept
+pub mod Boards
+pub mod Ready
+pub mod Courses
+pub mod Admitted
+pub mod OpenSeats
+pub mod BoardSeats
+pub mod JoinSeats
+pub mod StartMoves
+pub mod SeatMoves
+pub mod Limits

@@ -1,0 +1,143 @@
+-- What each enabled turn does to the seats of the tests.
+use Rattle.std.proofs.Common.{◌≡◌, ℕ, ◌==◌, List, [], ◌∷◌, ◌++◌, take, get_or, Bool, true, false, not, if◌then◌else◌}
+use Rattle.std.proofs.Common.{Option, Some, None, refl, ap, sym, subst, ◌∙◌}
+use Rattle.std.specs.Cmp.{second_so}
+use Rattle.run_events.specs.declared.settings.Settings.{Settings}
+use Rattle.run_events.specs.declared.turn.Turn.{Turn}
+use Rattle.run_events.specs.declared.message.Message.{Message}
+use Rattle.run_events.specs.declared.message.Message.TheVariants.{ScriptStart as ScriptStarts, ScriptSlow}
+use Rattle.run_events.specs.declared.message.Message.TheVariants.{ScriptFinish as ScriptFinishes, Start, Slow}
+use Rattle.run_events.specs.declared.message.Message.TheVariants.{AttemptFailed, Retry, Skip, Finish}
+use Rattle.run_events.specs.declared.events.ReporterEvent.{ReporterEvent}
+use Rattle.run_admission.specs.declared.seat.Seat.{Seat}
+use Rattle.run_admission.specs.declared.seat.Seat.TheVariants.{Gone}
+use Rattle.run_admission.proofs.FewerLemmas.{IsBelow}
+use Rattle.run_model.specs.Cancel.{signal_cause, time_is_up, event_refused, cause_of}
+use Rattle.run_model.specs.declared.happening.Happening.{Happening}
+use Rattle.run_model.specs.Words.{is_on, a_test, finished_test, queue, told, starts, finishes, units, tally}
+use Rattle.run_model.specs.Words.{signals_heard}
+use Rattle.run_model.specs.Admission.{newcomer}
+use Rattle.run_model.specs.Dispatch.{may_go, event, with_finish, finished_event}
+use Rattle.run_model.specs.Board.{Board}
+use Rattle.run_model.specs.Turns.{enabled_on, is_empty, takes_turn, turn_of_unit, nothing_done, event_of, tally_with}
+use Rattle.run_model.specs.Turns.{delivered_as, delivery, done_by, deed_on}
+use Rattle.run_laws.specs.Limits.{seat_told}
+use Rattle.run_laws.proofs.board.Holds.{Holds}
+use Rattle.run_laws.proofs.board.ByTurn.{by_turn}
+use Rattle.run_laws.proofs.board.OnBoard.{board_of, board_with, unit_in-is}
+use Rattle.run_laws.proofs.board.Facts.{may_go-is}
+use Rattle.run_laws.proofs.board.OpenSeats.{opened, at_last, same_lower}
+use Rattle.run_laws.proofs.told.ToldSeats.{seat_told-other, seat_told-finished}
+use Rattle.run_laws.proofs.board.StartMoves.{MovesSeats, tells_nothing, admits, unit_moves, caused_moves, start_moves}
+use Rattle.run_laws.proofs.board.StartMoves.{script_finished, script_moves, retry_moves}
+
+-- the delivery of a message whose event neither starts nor finishes a test leaves the seats
+told_moves : (p : Settings) (now : ℕ) (run : List Happening) (m : Message) (rest : List Message) (e : ReporterEvent)
+    → queue run ≡ m ∷ rest → ((k : ℕ) → starts k e ≡ false) → ((k : ℕ) → finishes k e ≡ false)
+    → ((seat : ℕ → Seat) (k : ℕ) → opened m seat k ≡ seat k)
+    → MovesSeats p now run (record nothing_done { taken = true; told = Some e })
+told_moves p now run m rest e eq s f leaves = record {
+  tells = same_lower _ _ (λ k. seat_told-other k (told run) e (s k) (f k) ∙ sym (leaves (seat_told (told run)) k)
+      ∙ ap (λ q. at_last (seat_told (told run)) (take 1 q) k) (sym eq));
+  opens_none = λ cause. same_lower _ _ (λ k. seat_told-other k (told run) e (s k) (f k));
+  keeps = λ kept. kept;
+  sends = λ calm below. below;
+}
+
+-- what a delivery does to the seats
+delivers : (p : Settings) (over : Bool) (now : ℕ) (run : List Happening) (q : List Message) → Holds p over now run
+    → queue run ≡ q → not (is_empty q) ≡ true → MovesSeats p now run (delivery (board_of p over now run) q)
+delivers p over now run [] h eq en = cc
+delivers p over now run (Start start ∷ rest) h eq en =
+    start_moves p over now run start rest (may_go (tally p run)) (get_or (units p run) start.test.unit None) h eq
+    (may_go-is p run) (sym (unit_in-is p over now run start.test.unit h))
+delivers p over now run (ScriptStarts start ∷ rest) h eq en =
+    script_moves p over now run start rest (may_go (tally p run)) (get_or (units p run) start.script.unit None) h eq
+    (may_go-is p run) (sym (unit_in-is p over now run start.script.unit h))
+delivers p over now run (ScriptSlow slow ∷ rest) h eq en =
+    told_moves p now run (ScriptSlow slow) rest _ eq (λ k. refl) (λ k. refl) (λ seat k. refl)
+delivers p over now run (ScriptFinishes finish ∷ rest) h eq en =
+    let b : Board = board_of p over now run in
+    let tells : Option ReporterEvent = event_of b (ScriptFinishes finish) in
+    caused_moves p now run (cause_of b.dispatcher.rules (tally_with b tells) (ScriptFinishes finish)) (tally_with b tells)
+    (delivered_as b (ScriptFinishes finish) nothing_done) (record {
+      tells = λ k used. script_finished k now (told run) finish used
+          ∙ ap (λ q. at_last (seat_told (told run)) (take 1 q) k) (sym eq);
+      opens_none = λ cause k. script_finished k now (told run) finish;
+      keeps = λ kept. kept;
+      sends = λ calm below. below;
+    })
+delivers p over now run (Retry retry ∷ rest) h eq en =
+    retry_moves p over now run retry rest (may_go (tally p run)) (get_or (units p run) retry.start.test.unit None) h eq
+    (may_go-is p run) (sym (unit_in-is p over now run retry.start.test.unit h))
+delivers p over now run (Skip skip ∷ rest) h eq en =
+    told_moves p now run (Skip skip) rest _ eq (λ k. refl) (λ k. refl) (λ seat k. refl)
+delivers p over now run (Slow slow ∷ rest) h eq en =
+    told_moves p now run (Slow slow) rest _ eq (λ k. refl) (λ k. refl) (λ seat k. refl)
+delivers p over now run (AttemptFailed failure ∷ rest) h eq en =
+    told_moves p now run (AttemptFailed failure) rest _ eq (λ k. refl) (λ k. refl) (λ seat k. refl)
+delivers p over now run (Finish finish ∷ rest) h eq en =
+    let b : Board = board_of p over now run in
+    let tells : Option ReporterEvent = event_of b (Finish finish) in
+    caused_moves p now run (cause_of b.dispatcher.rules (tally_with b tells) (Finish finish)) (tally_with b tells)
+    (delivered_as b (Finish finish) nothing_done) (record {
+      tells = same_lower _ _ (λ k.
+          seat_told-finished k now (told run) finish (with_finish (tally p run) (a_test (finished_test finish)))
+          ∙ ap (λ q. at_last (seat_told (told run)) (take 1 q) k) (sym eq));
+      opens_none = λ cause k. closes k;
+      keeps = λ kept. kept;
+      sends = λ calm below. below;
+    })
+  where
+    closes : (k : ℕ) → IsBelow (seat_told (told run ++ event now (finished_event finish
+        (with_finish (tally p run) (a_test (finished_test finish)))) ∷ []) k) (seat_told (told run) k)
+    closes k = subst (λ s. IsBelow s (seat_told (told run) k))
+        (sym (seat_told-finished k now (told run) finish (with_finish (tally p run) (a_test (finished_test finish)))))
+        (by_unit (finish.test.unit == k))
+      where
+        by_unit : (b : Bool) → IsBelow (if b then Gone else seat_told (told run) k) (seat_told (told run) k)
+        by_unit true used = cc
+        by_unit false used = refl
+
+-- what each enabled turn does to the seats
+pub moves : (p : Settings) (over refused : Bool) (now : ℕ) (run : List Happening) (turn : Turn) → Holds p over now run
+    → enabled_on p (board_with p refused over now run) turn ≡ true
+    → MovesSeats p now run (deed_on p (board_with p refused over now run) turn)
+moves p over refused now run turn h en =
+    by_turn (λ turn named. takes_turn p b turn named ≡ true → MovesSeats p now run (done_by p b turn named))
+    (record {
+      begin = λ en. record {
+        tells = same_lower _ _ (λ k. seat_told-other k (told run) _ refl refl);
+        opens_none = λ cause. same_lower _ _ (λ k. seat_told-other k (told run) _ refl refl);
+        keeps = λ kept. kept;
+        sends = λ calm below. below;
+      };
+      admit = λ en. admits p now run (newcomer p (units p run)) refl;
+      deliver = λ en. delivers p over now run (queue run) h refl
+          (second_so (is_on run) (not (is_empty (queue run))) en);
+      named = λ turn k to other en. unit_moves p over now run k to _ h (sym (unit_in-is p over now run k h)) en other;
+      clock = λ ns en. still;
+      signal = λ signal en. caused_moves p now run (Some (signal_cause (signals_heard run) signal)) (tally p run)
+          nothing_done still;
+      global_due = λ en. caused_moves p now run (Some time_is_up) (tally p run) nothing_done still;
+      report_cancel = λ en. caused_moves p now run (Some event_refused) (tally p run) nothing_done still;
+      end = λ en. record {
+        tells = same_lower _ _ (λ k. seat_told-other k (told run) _ refl refl);
+        opens_none = λ cause. same_lower _ _ (λ k. seat_told-other k (told run) _ refl refl);
+        keeps = λ kept. kept;
+        sends = λ calm below. below;
+      };
+      unbuilt = λ turn never en. let no : false ≡ true = sym (never p b) ∙ en in cc;
+    })
+    turn (second_so (not over) (takes_turn p b turn (turn_of_unit turn)) en)
+  where
+    still : MovesSeats p now run nothing_done
+    still = record {
+      tells = tells_nothing run;
+      opens_none = λ cause. tells_nothing run;
+      keeps = λ kept. kept;
+      sends = λ calm below. below;
+    }
+
+    b : Board
+    b = board_with p refused over now run

@@ -1,0 +1,25 @@
+-- The lemmas on units: rows of the unit table, attempts, timers, lines, accounts.
+pub mod OpenRows
+pub mod Rows
+pub mod CaptureLemmas
+pub mod StandingLemmas
+pub mod SlowLemmas
+pub mod TimerLemmas
+pub mod PieceLemmas
+pub mod GoingLemmas
+pub mod MadeLemmas
+pub mod RowLemmas
+pub mod DueLemmas
+pub mod RequestLemmas
+pub mod AttemptLemmas
+pub mod ReportLemmas
+pub mod AccountRows
+pub mod RowSends
+pub mod AccountLemmas
+pub mod OneOff
+pub mod Lines
+pub mod LetGo
+pub mod LineMoves
+pub mod RowDelays
+pub mod FaceLemmas
+pub mod ReadLemmas
