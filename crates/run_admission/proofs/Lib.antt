@@ -4,6 +4,7 @@ mod ScanLemmas
 mod KeptLemmas
 mod TestLemmas
 mod WholeLemmas
+mod DoneLemmas
 mod RuleLemmas
 mod BegunLemmas
 mod LawLemmas

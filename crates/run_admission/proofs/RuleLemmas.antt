@@ -3,16 +3,15 @@ use Rattle.std.proofs.Common.{◌≡◌, ◌≢◌, ℕ, zero, suc, ◌+◌, ◌
 use Rattle.std.proofs.Common.{set, map}
 use Rattle.std.proofs.Common.{Bool, true, false, not, if◌then◌else◌, Option, Some, None, min, refl, ap, sym, subst, ◌∙◌}
 use Rattle.std.proofs.Common.{arith}
-use Rattle.std.proofs.Common.{slice_get, slice_index, option_map, option_and_then, position, sum_by, nat_eq, nat_lt}
-use Rattle.std.proofs.Common.{eq-eqb, get_or-set_other}
+use Rattle.std.proofs.Common.{slice_get, slice_index, option_map, option_and_then, position, sum_by}
+use Rattle.std.proofs.Common.{get_or-set_other}
 use Rattle.std.proofs.lemmas.Grind.{get_or-set_at}
 use Rattle.std.proofs.lemmas.List.{map-set, set-get_or, get_or_read}
 use Rattle.std.specs.Option.{option_map_or}
-use Rattle.std.specs.List.{list_any, position_or_len, zip}
+use Rattle.std.specs.List.{position_or_len, zip}
 use Rattle.std.proofs.lemmas.Option.{same_Some, slice_get-get_or}
-use Rattle.std.proofs.lemmas.List.Sums.{sum-map, fails_before_first, passes_at_first, prefix_len-le-length}
+use Rattle.std.proofs.lemmas.List.Sums.{sum-map, fails_before_first, prefix_len-le-length}
 use Rattle.std.proofs.lemmas.List.Quantifiers.{position-Some}
-use Rattle.std.proofs.lemmas.List.Folds.{Any-from_list_any, list_any_at}
 use Rattle.run_admission.specs.declared.seat.Claim.{Claim}
 use Rattle.run_admission.specs.declared.seat.Seat.{Seat}
 use Rattle.run_admission.specs.declared.seat.Seat.TheVariants.{Waiting, InUse, Gone}
@@ -286,38 +285,6 @@ limits_give us (Some g) (Some n) w = by_place (slice_get us g) refl
         → map (λ u. u.limit) (option_map_or (λ u. set us g (give_back u n w)) o us) ≡ map (λ u. u.limit) us
     by_place None e = refl
     by_place (Some u) e = limits_set us g u (give_back u n w) e refl
-
--- no test waits exactly where the first place at which one does is past the end
-pub done_is : (seats : List Seat)
-    → nat_eq (position_or_len is_waiting seats) (length seats) ≡ not (list_any is_waiting seats)
-done_is seats = by_any (list_any is_waiting seats) refl
-  where
-    within : position_or_len is_waiting seats ≤ length seats
-    within = prefix_len-le-length (λ s. not (is_waiting s)) seats
-
-    by_any : (b : Bool) → list_any is_waiting seats ≡ b
-        → nat_eq (position_or_len is_waiting seats) (length seats) ≡ not b
-    by_any true e =
-        let some = Any-from_list_any is_waiting seats e in
-        let apart : position_or_len is_waiting seats ≢ length seats =
-        λ same. let fails : is_waiting (get_or seats some.0 some.1) ≡ false =
-        fails_before_first is_waiting seats some.0 some.1 (omega (arith, same, some.2)) in
-        let bad : false ≡ true = sym fails ∙ ap is_waiting some.3 ∙ some.4 in cc in
-        grind (arith, apart)
-    by_any false e = by_end (nat_lt (position_or_len is_waiting seats) (length seats)) refl
-      where
-        by_end : (b : Bool) → nat_lt (position_or_len is_waiting seats) (length seats) ≡ b
-            → nat_eq (position_or_len is_waiting seats) (length seats) ≡ true
-        by_end true h =
-            let inside : position_or_len is_waiting seats < length seats = grind (arith, h) in
-            let passes = passes_at_first is_waiting seats Waiting inside in
-            let bad : false ≡ true =
-            sym e ∙ list_any_at is_waiting seats (position_or_len is_waiting seats) Waiting inside passes in
-            cc
-        by_end false h =
-            let outside : length seats ≤ position_or_len is_waiting seats = grind (arith, h) in
-            let same : position_or_len is_waiting seats ≡ length seats = omega (arith, within) in
-            eq-eqb _ _ same
 
 -- the first place at which a test waits, and no test before it does, also after one was admitted
 pub start_within : (start : ℕ) (seats : List Seat) → start ≡ position_or_len is_waiting seats → start ≤ length seats

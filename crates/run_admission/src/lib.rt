@@ -8,6 +8,7 @@ mod claims;
 mod room;
 mod scan;
 mod seat;
+mod values;
 
 pub use admission::Admission;
 pub use seat::{Admitted, Candidate, Claim, Seat};

@@ -1,13 +1,12 @@
 // The reporter of lines as the layers above call it: by its trait alone, and over a sink.
-ghost use Rattle.std.specs.Prelude.{◌≡◌, ℕ, IsOk, Option};
+ghost use Rattle.std.specs.Prelude.{◌≡◌, IsOk};
 ghost use Rattle.run_events.specs.Tell.{answered, Adds};
 
 use crate::rows::{MEMORY, holds};
 use run_capture::{Failed, List, MemorySink, Sink};
 use run_events::{ReportFault, Reporter, ReporterEvent};
-use run_output::{LineReporter, Origin};
+use run_output::LineReporter;
 use std::alloc::Global;
-use std::marker::Brand;
 use std::process::Abort;
 
 // Stands for the engine: it knows any reporter by its trait alone.
@@ -23,25 +22,14 @@ fn tells_one<R: Reporter>(
 }
 
 // Stands for the program, which makes the reporter over its sink, and takes the sink back.
-fn written_at<K: Sink, O: Origin>(
-    alloc: Global,
-    sink: K,
-    event: &ReporterEvent,
-) -> (K, Result<(), ReportFault<Failed>>)
-    requires taken { O.taken_before ≡ K.taken sink }
-    requires faults { O.faults_before ≡ K.faults sink }
-{
-    let mut reporter = LineReporter::<K, O>::new(sink);
-    let answer = tells_one(&mut reporter, alloc, event);
-    (reporter.into_sink(), answer)
-}
-
 fn written<K: Sink>(
     alloc: Global,
     sink: K,
     event: &ReporterEvent,
 ) -> (K, Result<(), ReportFault<Failed>>) {
-    written_at::<K, Brand>(alloc, sink, event)
+    let mut reporter = LineReporter::new(sink);
+    let answer = tells_one(&mut reporter, alloc, event);
+    (reporter.into_sink(), answer)
 }
 
 // Two ticks into a sink, where the first is taken and the second refused.

@@ -7,7 +7,7 @@ use std::alloc::Global;
 use std::marker::Model;
 
 /// Bytes that can grow. Freezing them is moving them, and takes no memory.
-#[derive(Drop)]
+#[derive(Debug, Drop)]
 pub struct Blob {
     bytes: BytesMut,
 }

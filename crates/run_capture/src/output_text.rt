@@ -11,7 +11,7 @@ use serde_json::{Map, Value};
 use std::alloc::Global;
 
 /// A child's output as lower-case hex, of each stream that was captured.
-#[derive(Drop)]
+#[derive(Debug, Drop)]
 pub struct OutputText {
     pub stdout: Option<Text>,
     pub stderr: Option<Text>,

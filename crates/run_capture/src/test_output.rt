@@ -16,6 +16,12 @@ pub enum CaptureStrategy {
     Combined,
 }
 
+impl Duplicate for CaptureStrategy {
+    fn copy(&self, _alloc: Global) -> Mem<CaptureStrategy> {
+        Ok(*self)
+    }
+}
+
 /// A stream of a child's output.
 #[derive(Clone, Copy, Debug, Drop, PartialEq, Eq)]
 pub enum Stream {
@@ -32,7 +38,7 @@ impl Duplicate for Stream {
 }
 
 /// A fault at a child's descriptors, or of the wait for it, with the text of its error.
-#[derive(Drop)]
+#[derive(Debug, Drop)]
 pub enum ChildFdError {
     /// Reading standard output failed.
     ReadStdout(Text),
@@ -56,7 +62,7 @@ impl Duplicate for ChildFdError {
 }
 
 /// What a child wrote to its two streams, each where it was captured.
-#[derive(Drop)]
+#[derive(Debug, Drop)]
 pub struct ChildSplitOutput {
     pub stdout: Option<Blob>,
     pub stderr: Option<Blob>,
@@ -72,6 +78,7 @@ impl Duplicate for ChildSplitOutput {
 }
 
 /// What a child wrote.
+#[derive(Debug)]
 pub enum ChildOutput {
     /// Each stream by itself.
     Split(ChildSplitOutput),

@@ -4,6 +4,7 @@ use Rattle.std.proofs.Common.{slice_index_or, Bool, true, false, not, Option, So
 use Rattle.std.proofs.Common.{refl, ap, sym, subst, ◌∙◌, arith, length-append}
 use Rattle.std.specs.List.{list_all}
 use Rattle.std.proofs.lemmas.List.{append-nil}
+use Rattle.std.proofs.Math.Seq.{take-length}
 use Rattle.run_capture.specs.Bytes.{Gives, AtEnd}
 use Rattle.run_input.specs.declared.plan_line.RunnerKeys.{RunnerKeys}
 use Rattle.run_events.specs.declared.plan.Plan.{Plan}
@@ -11,7 +12,7 @@ use Rattle.run_events.specs.declared.settings.Settings.{Settings}
 use Rattle.run_events.specs.declared.turn.Turn.{Turn}
 use Rattle.run_events.specs.declared.outcome.RunOutcome.{RunOutcome}
 use Rattle.run_model.specs.declared.entry.Entry.{Entry}
-use Rattle.run_model.specs.Journal.{IsLegal}
+use Rattle.run_model.specs.Journal.{past_of, IsLegal}
 use Rattle.run_laws.specs.Course.{turns_of, refusals, refuses_none, refuses_as_in, IsJournalOf, Stops, GoesOn, Ends}
 use Rattle.run_laws.specs.Course.{HasOneCourse}
 use Rattle.run_laws.proofs.board.Courses.{one_course}
@@ -24,10 +25,13 @@ use Rattle.run_output.specs.declared.fault.Fault.TheVariants.{Words, Line, Plan 
 use Rattle.run_output.specs.declared.fault.Fault.TheVariants.{Unfinished, Report, Read, Memory, TooLong}
 use Rattle.run_cli.specs.Call.{Call, Reading, Writing, HasGiven, HasReadFault, HasWriteFault}
 use Rattle.run_cli.specs.Plans.{settings_for, plan_refusal}
-use Rattle.run_cli.specs.Text.{outcome_status, ending_status}
+use Rattle.run_cli.specs.Executed.{TookParts, report_ending}
+use Rattle.run_cli.specs.Text.{rest_text, outcome_status, ending_status}
 use Rattle.run_cli.specs.Given.{IsReplay, SaysInput, IsTooLong, HasBadLine, CountsReadAtEnd}
-use Rattle.run_cli.specs.Ending.{Replays, IsWholeRun, StopsBefore, IsUnfinished, IsEnding}
-use Rattle.run_cli.specs.Cause.{Gets, HasInput, HasBadInput, HasTooMuch, GetsByCourse, stop_status}
+use Rattle.run_cli.specs.Ending.{Replays, settings_in, history_in, IsWholeRun, WritesReport, StopsBefore, IsUnfinished}
+use Rattle.run_cli.specs.Ending.{IsEnding}
+use Rattle.run_cli.specs.Cause.{Gets, HasInput, HasBadInput, HasTooMuch, IsAnsweredSo, GetsByCourse}
+use Rattle.run_cli.specs.Cause.{stop_status}
 
 -- what a source that is at its end has given is all that it had
 pub all_given : (left left_after : Option (List ℕ)) (held bytes : List ℕ) → left ≡ Some held → Gives left left_after bytes
@@ -101,6 +105,7 @@ memory_gets c p ts w = record {
   tied = λ calm n. refl;
   refused = λ e r. inr refl;
   stops = λ a k third s. inr refl;
+  answered = λ a. inl refl;
   unfinished = λ a g. inr refl;
   ended = λ a o e calm. inr refl;
   unreported = λ a o e lt. inr refl;
@@ -111,10 +116,32 @@ journal_of : (p : Settings) (ts : List Turn) (journal : List Entry) → IsLegal 
     → IsJournalOf p ts (refuses_as_in journal) journal
 journal_of p ts journal legal takes = record { legal = legal; takes = takes; answers = λ n below. refl }
 
+-- and its answers are those that the sink shows
+answered_by : (p : Settings) (ts : List Turn) (place : ℕ) (journal : List Entry) (ending : Result RunOutcome Fault)
+    (w : Writing) → IsLegal p journal → turns_of journal ≡ take place ts
+    → TookParts (past_of p journal) (rest_text (past_of p journal) ending) w
+    → IsAnsweredSo p ts (refuses_as_in journal) w
+answered_by p ts place journal ending w legal takes parts = record {
+  place = place;
+  journal = journal;
+  answered = journal_of p (take place ts) journal legal takes;
+  ending = ending;
+  parts = parts;
+}
+
+-- so are those of one that took all turns
+answered_all : {c : Call} (r : Replays c) (ending : Result RunOutcome Fault) → turns_of r.journal ≡ r.turns
+    → TookParts (history_in r) (rest_text (history_in r) ending) c.sink
+    → IsAnsweredSo (settings_in r) r.turns (refuses_as_in r.journal) c.sink
+answered_all {c} r ending all parts =
+    answered_by (settings_in r) r.turns (length r.turns) r.journal ending c.sink r.legal
+    (all ∙ sym (take-length r.turns)) parts
+
 -- what each ending of an accepted plan gets
 ended_gets : (c : Call) (r : Replays c) (o : RunOutcome) → IsWholeRun r o → c.sink.faults_after ≡ c.sink.faults
+    → TookParts (history_in r) (rest_text (history_in r) (Ok o)) c.sink
     → GetsByCourse r.keys r.plan r.turns c.sink (outcome_status o)
-ended_gets c r o whole stayed =
+ended_gets c r o whole stayed parts =
     let p : Settings = settings_for r.keys r.plan in
     let one : HasOneCourse p r.turns (refuses_as_in r.journal) = one_course p r.turns (refuses_as_in r.journal) in
     let ends : Ends p r.turns (refuses_as_in r.journal) o =
@@ -124,14 +151,15 @@ ended_gets c r o whole stayed =
       tied = λ calm n. false_at (refusals r.journal) n (r.tied calm);
       refused = λ e x. never_refused (plan_refusal r.keys r.plan) e r.accepted x;
       stops = λ a k third s. absurd (one.stop_or_end k third o s ends);
+      answered = λ a. inr (answered_all r (Ok o) whole.all parts);
       unfinished = λ a g. absurd (one.unfinished_or_end o g ends);
       ended = λ a u e calm. inl (ap outcome_status (one.one_end o u ends e));
       unreported = λ a u e lt. absurd (omega arith);
     }
 
-unreported_gets : (c : Call) (r : Replays c) (o : RunOutcome) → IsWholeRun r o → HasWriteFault c.sink
+unreported_gets : (c : Call) (r : Replays c) (o : RunOutcome) → IsWholeRun r o → WritesReport r o → HasWriteFault c.sink
     → GetsByCourse r.keys r.plan r.turns c.sink 9
-unreported_gets c r o whole rose =
+unreported_gets c r o whole parts rose =
     let p : Settings = settings_for r.keys r.plan in
     let one : HasOneCourse p r.turns (refuses_as_in r.journal) = one_course p r.turns (refuses_as_in r.journal) in
     let ends : Ends p r.turns (refuses_as_in r.journal) o =
@@ -141,14 +169,16 @@ unreported_gets c r o whole rose =
       tied = λ calm n. false_at (refusals r.journal) n (r.tied calm);
       refused = λ e x. never_refused (plan_refusal r.keys r.plan) e r.accepted x;
       stops = λ a k third s. absurd (one.stop_or_end k third o s ends);
+      answered = λ a. inr (answered_all r (report_ending r.journal o) whole.all parts);
       unfinished = λ a g. absurd (one.unfinished_or_end o g ends);
       ended = λ a u e calm. absurd (calm rose);
       unreported = λ a u e lt. inl refl;
     }
 
-stopped_gets : (c : Call) (r : Replays c) (place : ℕ) (third : Bool) → StopsBefore r place third
+stopped_gets : (c : Call) (r : Replays c) (place : ℕ) (third : Bool) (ending : Result RunOutcome Fault)
+    → StopsBefore r place third → TookParts (history_in r) (rest_text (history_in r) ending) c.sink
     → GetsByCourse r.keys r.plan r.turns c.sink (stop_status third)
-stopped_gets c r place third before =
+stopped_gets c r place third ending before parts =
     let p : Settings = settings_for r.keys r.plan in
     let one : HasOneCourse p r.turns (refuses_as_in r.journal) = one_course p r.turns (refuses_as_in r.journal) in
     let stops : Stops p r.turns (refuses_as_in r.journal) place third = (
@@ -163,13 +193,17 @@ stopped_gets c r place third before =
       stops = λ a k t s.
           let same : (place ≡ k) × (third ≡ t) = one.one_stop place k third t stops s in
           inl (ap stop_status same.1);
+      answered = λ a.
+          inr (answered_by p r.turns place r.journal ending c.sink r.legal before.before parts);
       unfinished = λ a g. absurd (one.stop_or_unfinished place third stops g);
       ended = λ a u e calm. absurd (one.stop_or_end place third u stops e);
       unreported = λ a u e lt. absurd (one.stop_or_end place third u stops e);
     }
 
-unfinished_gets : (c : Call) (r : Replays c) → IsUnfinished r → GetsByCourse r.keys r.plan r.turns c.sink 8
-unfinished_gets c r still =
+unfinished_gets : (c : Call) (r : Replays c) → IsUnfinished r
+    → TookParts (history_in r) (rest_text (history_in r) (Err Unfinished)) c.sink
+    → GetsByCourse r.keys r.plan r.turns c.sink 8
+unfinished_gets c r still parts =
     let p : Settings = settings_for r.keys r.plan in
     let one : HasOneCourse p r.turns (refuses_as_in r.journal) = one_course p r.turns (refuses_as_in r.journal) in
     let goes : GoesOn p r.turns (refuses_as_in r.journal) =
@@ -179,6 +213,7 @@ unfinished_gets c r still =
       tied = λ calm n. false_at (refusals r.journal) n (r.tied calm);
       refused = λ e x. never_refused (plan_refusal r.keys r.plan) e r.accepted x;
       stops = λ a k third s. absurd (one.stop_or_unfinished k third s goes);
+      answered = λ a. inr (answered_all r (Err Unfinished) still.all parts);
       unfinished = λ a g. inl refl;
       ended = λ a u e calm. absurd (one.unfinished_or_end u goes e);
       unreported = λ a u e lt. absurd (one.unfinished_or_end u goes e);
@@ -191,6 +226,7 @@ refused_gets c p ts w error refused = record {
   tied = λ calm n. refl;
   refused = λ e x. inl refl;
   stops = λ a k third s. never_refused (plan_refusal c p) error a refused;
+  answered = λ a. never_refused (plan_refusal c p) error a refused;
   unfinished = λ a g. never_refused (plan_refusal c p) error a refused;
   ended = λ a u e calm. never_refused (plan_refusal c p) error a refused;
   unreported = λ a u e lt. never_refused (plan_refusal c p) error a refused;
@@ -211,19 +247,22 @@ pub course_gets : (c : Call) (ending : Result RunOutcome Fault) → IsEnding c e
     → GetsByCourse b p ts c.sink (ending_status ending)
 course_gets c (Ok o) h n replay calm b p ts has =
     moved b h.0.keys p h.0.plan ts h.0.turns c.sink (outcome_status o)
-    (same_input c.source b h.0.keys p h.0.plan ts h.0.turns has h.0.given) (ended_gets c h.0 o h.1 h.3)
+    (same_input c.source b h.0.keys p h.0.plan ts h.0.turns has h.0.given) (ended_gets c h.0 o h.1 h.3 h.4)
 course_gets c (Err Report) h n replay calm b p ts has =
     moved b h.0.keys p h.0.plan ts h.0.turns c.sink 9
-    (same_input c.source b h.0.keys p h.0.plan ts h.0.turns has h.0.given) (unreported_gets c h.0 h.1 h.2 h.4)
+    (same_input c.source b h.0.keys p h.0.plan ts h.0.turns has h.0.given) (unreported_gets c h.0 h.1 h.2 h.3 h.4)
 course_gets c (Err (NotEnabled place)) h n replay calm b p ts has =
     moved b h.0.keys p h.0.plan ts h.0.turns c.sink 6
-    (same_input c.source b h.0.keys p h.0.plan ts h.0.turns has h.0.given) (stopped_gets c h.0 place false h.1)
+    (same_input c.source b h.0.keys p h.0.plan ts h.0.turns has h.0.given)
+    (stopped_gets c h.0 place false (Err (NotEnabled place)) h.1 h.2.parts)
 course_gets c (Err (ThirdSignal place)) h n replay calm b p ts has =
     moved b h.0.keys p h.0.plan ts h.0.turns c.sink 7
-    (same_input c.source b h.0.keys p h.0.plan ts h.0.turns has h.0.given) (stopped_gets c h.0 place true h.1)
+    (same_input c.source b h.0.keys p h.0.plan ts h.0.turns has h.0.given)
+    (stopped_gets c h.0 place true (Err (ThirdSignal place)) h.1 h.2.parts)
 course_gets c (Err Unfinished) h n replay calm b p ts has =
     moved b h.0.keys p h.0.plan ts h.0.turns c.sink 8
-    (same_input c.source b h.0.keys p h.0.plan ts h.0.turns has h.0.given) (unfinished_gets c h.0 h.1)
+    (same_input c.source b h.0.keys p h.0.plan ts h.0.turns has h.0.given)
+    (unfinished_gets c h.0 h.1 h.2.parts)
 course_gets c (Err (BadPlan f)) h n replay calm b p ts has =
     moved b h.1.keys p h.1.plan ts h.1.turns c.sink 5
     (same_input c.source b h.1.keys p h.1.plan ts h.1.turns has h.1.given)

@@ -21,7 +21,7 @@ use Rattle.run_output.specs.declared.fault.Fault.TheVariants.{Words, Line, Plan 
 use Rattle.run_output.specs.declared.fault.Fault.TheVariants.{Unfinished, Report, Read, Memory, TooLong}
 use Rattle.run_output.specs.Fields.{line_bytes}
 use Rattle.run_output.specs.Outcomes.{outcome_text}
-use Rattle.run_cli.specs.Call.{Writing, then_writing, TakesFront, HasTaken, HasTakenFront, HasWriteFault, Writes}
+use Rattle.run_cli.specs.Call.{Writing, then_writing, HasTaken, HasWriteFault, Writes}
 use Rattle.run_cli.specs.Text.{event_lines, ask_lines, fault_only, rest_text}
 use Rattle.run_cli.specs.Executed.{IsExecuted, TookParts, WritesRun, report_ending}
 use Rattle.run_cli.specs.Finish.{fault_of_error, EndsAtFault, EndsAtOutcome, IsReplayed, IsReplayEnding}
@@ -49,17 +49,25 @@ whole_text p turns w v asks answer last on x none rest =
     (subst (λ told_asks. HasTaken (record v { taken = w.taken_after }) (ask_lines told_asks ++ last)) x.asked
     (subst (λ t. HasTaken (record v { taken = t }) (ask_lines asks ++ last)) on rest))
 
--- the lines of its events, each as it was taken, and then a front part of those of its asks and its end
+-- the lines of its events, each as it was taken, and then those of its asks and its end
 pub took_parts : (p : Settings) (turns : List Turn) (w v : Writing) (asks : List (ℕ × Ask))
     (answer : Result RunOutcome (TestRunnerExecuteErrors Failed)) (last : List ℕ) → v.taken ≡ w.taken_after
-    → (x : IsExecuted p turns w asks answer) → HasTakenFront v (ask_lines asks ++ last)
+    → v.faults ≡ w.faults_after → (x : IsExecuted p turns w asks answer) → Writes v (ask_lines asks ++ last)
     → TookParts (past_of p x.journal) (ask_lines (asked (past_of p x.journal)) ++ last) (then_writing w v)
-took_parts p turns w v asks answer last on x front = record {
+took_parts p turns w v asks answer last on from x writes = record {
   between = w.taken_after;
+  count = w.faults_after;
   events = x.took;
-  last = subst (λ told_asks. TakesFront w.taken_after v.taken_after (ask_lines told_asks ++ last)) x.asked
-      (subst (λ t. TakesFront t v.taken_after (ask_lines asks ++ last)) on front);
+  last = subst (λ sent. Writes (record v { taken = w.taken_after; faults = w.faults_after }) (ask_lines sent ++ last))
+      x.asked
+      (subst (λ n. Writes (record v { taken = w.taken_after; faults = n }) (ask_lines asks ++ last)) from
+      (subst (λ t. Writes (record v { taken = t }) (ask_lines asks ++ last)) on writes));
 }
+
+-- bytes that went out are whole where the sink's count didn't rise
+whole_of : (v : Writing) (text : List ℕ) → Writes v text → ¬ HasWriteFault v → HasTaken v text
+whole_of v text (inl whole) calm = whole.1
+whole_of v text (inr front) calm = absurd (calm front.1)
 
 -- where the sink failed neither in the run nor after it, no event was refused
 calm_run : (p : Settings) (turns : List Turn) (w v : Writing) (asks : List (ℕ × Ask))
@@ -92,8 +100,9 @@ fault_writes p turns w v asks answer fault on from x le writes = record {
       let none = calm_run p turns w v asks answer (omega arith) x calm in
       let stayed : v.faults ≡ w.faults = from ∙ x.quiet none in
       whole_text p turns w v asks answer (fault_only fault) on x none
-      (writes.whole (λ rose. calm (subst (λ n. Rose n v.faults_after) stayed rose)));
-  parts = took_parts p turns w v asks answer (fault_only fault) on x writes.front;
+      (whole_of v (ask_lines asks ++ fault_only fault) writes
+      (λ rose. calm (subst (λ n. Rose n v.faults_after) stayed rose)));
+  parts = took_parts p turns w v asks answer (fault_only fault) on from x writes;
 }
 
 -- the last line of a run that is over, by whether an event was refused
@@ -114,14 +123,16 @@ pub outcome_ends : (p : Settings) (turns : List Turn) (w v : Writing) (asks : Li
     → IsExecuted p turns w asks (Ok o) → EndsAtOutcome v asks o ending → v.faults ≤ v.faults_after
     → IsReplayEnding p turns (then_writing w v) ending
 unfolding replayed
-outcome_ends p turns w v asks o (Ok e) on from x h le = (
-  replayed p turns w v asks (Ok o) (omega arith) x,
-  x.says.0,
-  x.says.1 ∙ ap Some (sym h.0),
-  whole_text p turns w v asks (Ok o) (line_bytes (outcome_text e)) on x x.says.2
-      (subst (λ u. HasTaken v (ask_lines asks ++ line_bytes (outcome_text u))) (sym h.0) h.1),
-  h.2 ∙ from ∙ x.quiet x.says.2,
-)
+outcome_ends p turns w v asks o (Ok e) on from x h le =
+    let text : HasTaken v (ask_lines asks ++ line_bytes (outcome_text e)) =
+    subst (λ u. HasTaken v (ask_lines asks ++ line_bytes (outcome_text u))) (sym h.0) h.1 in (
+      replayed p turns w v asks (Ok o) (omega arith) x,
+      x.says.0,
+      x.says.1 ∙ ap Some (sym h.0),
+      whole_text p turns w v asks (Ok o) (line_bytes (outcome_text e)) on x x.says.2 text,
+      h.2 ∙ from ∙ x.quiet x.says.2,
+      took_parts p turns w v asks (Ok o) (line_bytes (outcome_text e)) on from x (inl (h.2, text)),
+    )
 outcome_ends p turns w v asks o (Err Report) on from x h le = (
   replayed p turns w v asks (Ok o) (omega arith) x,
   x.says.0,
@@ -129,9 +140,9 @@ outcome_ends p turns w v asks o (Err Report) on from x h le = (
     o,
     x.says.1,
     report_of p turns w v asks (Ok o) x o true (ap is_none x.says.2)
-        (took_parts p turns w v asks (Ok o) (line_bytes (outcome_text o)) on x h.1),
+        (took_parts p turns w v asks (Ok o) (line_bytes (outcome_text o)) on from x (inr h)),
   ),
-  subst (λ n. Rose n v.faults_after) (from ∙ x.quiet x.says.2) h.0,
+  subst (λ n. Rose n v.faults_after) (from ∙ x.quiet x.says.2) h.1,
 )
 outcome_ends p turns w v asks o (Err Memory) on from x h le = tt
 outcome_ends p turns w v asks o (Err Words) on from x h le = absurd h
@@ -172,7 +183,7 @@ error_ends p turns w v asks (engine.Report d) ending on from x h =
         end.0,
         end.1,
         report_of p turns w v asks (Err (engine.Report d)) x end.0 false (ap is_none x.says.2)
-            (took_parts p turns w v asks (Err (engine.Report d)) (fault_only Report) on x writes.front),
+            (took_parts p turns w v asks (Err (engine.Report d)) (fault_only Report) on from x writes),
       ),
       rose_then w.faults w.faults_after v.faults_after (x.risen (some_is x.refusal d x.says.2)) (omega arith),
     )) h

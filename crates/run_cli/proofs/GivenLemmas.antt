@@ -191,7 +191,7 @@ pub given_says : (c : Call) (keys : RunnerKeys) (plan : Plan) (turns : List Turn
 unfolding replays
 given_says c keys plan turns (Ok o) replay given (accepted, h) =
     let r = replays c keys plan turns replay given accepted h.0 in
-    (r, whole c r o h.1 h.2, h.3, h.4)
+    (r, whole c r o h.1 h.2, h.3, h.4, h.5)
 given_says c keys plan turns (Err Report) replay given (accepted, h) =
     let r = replays c keys plan turns replay given accepted h.0 in
     (r, h.2.0, whole c r h.2.0 h.1 h.2.1, h.2.2, h.3)

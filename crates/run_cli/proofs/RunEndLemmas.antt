@@ -47,9 +47,9 @@ calm_ends said p w v n l asks o (Ok e) on from closed x h =
 calm_ends said p w v n l asks o (Err Report) on from closed x h =
     let run : IsExecuted p (turns_of l.journal) w asks (Ok o) = executed_calm p w n l.journal asks o x in
     let parts = report_of p (turns_of l.journal) w v asks (Ok o) run o true refl
-    (took_parts p (turns_of l.journal) w v asks (Ok o) (line_bytes (outcome_text o)) on run h.1) in (
+    (took_parts p (turns_of l.journal) w v asks (Ok o) (line_bytes (outcome_text o)) on from run (inr h)) in (
       (closed, (o, finished p l.journal o closed.legal x.over, parts)),
-      subst (λ n. Rose n v.faults_after) (from ∙ run.quiet refl) h.0,
+      subst (λ n. Rose n v.faults_after) (from ∙ run.quiet refl) h.1,
     )
 calm_ends said p w v n l asks o (Err Memory) on from closed x h = refl
 calm_ends said p w v n l asks o (Err Words) on from closed x h = absurd h
@@ -92,7 +92,7 @@ rough_ends said p w v n l asks o ending on from closed x h =
           o,
           finished p l.journal o closed.legal x.over,
           report_of p (turns_of l.journal) w v asks answer run o false refl
-              (took_parts p (turns_of l.journal) w v asks answer (fault_only Report) on run writes.front),
+              (took_parts p (turns_of l.journal) w v asks answer (fault_only Report) on from run writes),
         ),
       ),
       rose_then w.faults w.faults_after v.faults_after (run.risen refl) (omega arith),

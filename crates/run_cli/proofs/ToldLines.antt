@@ -1,6 +1,6 @@
 -- The lines that a reporter wrote are those of the events that the journal told.
-use Rattle.std.proofs.Common.{◌≡◌, ℕ, ◌||◌, List, [], ◌∷◌, ◌++◌, length, map, zip, Bool, true, false, Option, Some, None}
-use Rattle.std.proofs.Common.{is_none, is_some, reverse, Result, IsSome, refl, ap, sym, subst, ◌∙◌, arith}
+use Rattle.std.proofs.Common.{◌≡◌, ℕ, ◌≤◌, ◌||◌, List, [], ◌∷◌, ◌++◌, length, map, zip, Bool, true, false, Option}
+use Rattle.std.proofs.Common.{Some, None, is_none, is_some, reverse, Result, IsSome, refl, ap, sym, subst, ◌∙◌, arith}
 use Rattle.std.proofs.lemmas.List.{map-append}
 use Rattle.run_events.specs.declared.settings.Settings.{Settings}
 use Rattle.run_events.specs.declared.events.ReporterEvent.{ReporterEvent}
@@ -13,7 +13,7 @@ use Rattle.run_capture.specs.Faults.{Rose, RoseExactlyIf}
 use Rattle.run_engine.specs.World.{flagged, earlier, first_error}
 use Rattle.run_output.specs.Fields.{line_bytes}
 use Rattle.run_output.specs.Events.{event_text}
-use Rattle.run_output.specs.Told.{IsLine, AreLines, TookLines, some_refused, HasTold}
+use Rattle.run_output.specs.Told.{IsLine, AreLines, marks, AreCounted, some_refused, HasTold}
 use Rattle.run_laws.specs.Course.{none_refused}
 use Rattle.run_cli.specs.Call.{Writing, HasTaken}
 use Rattle.run_cli.specs.Text.{event_lines}
@@ -74,6 +74,39 @@ first_refused (y ∷ ys) = by_error y.1 (first_refused ys)
     by_error None h = h
     by_error (Some d) h = refl
 
+-- where no event was refused the sink's count stayed
+pub stays : {E : Type 0} (ys : List (ReporterEvent × Option E)) (before now : ℕ) → first_error ys ≡ None
+    → AreCounted (marks ys) before now → now ≡ before
+stays [] before now none counted = counted
+stays (y ∷ ys) before now none counted =
+    by_error y.1 none counted.1 (λ later. stays ys counted.0 now later counted.2)
+  where
+    by_error : (error : Option _) → earlier error (first_error ys) ≡ None
+        → RoseExactlyIf (is_some error) before counted.0 → (first_error ys ≡ None → now ≡ counted.0) → now ≡ before
+    by_error None none same later = later none ∙ same
+    by_error (Some d) none rose later = cc
+
+-- it never falls
+grown : (refused : List Bool) (before now : ℕ) → AreCounted refused before now → before ≤ now
+grown [] before now counted = omega arith
+grown (true ∷ refused) before now counted =
+    omega (arith, counted.1.0, grown refused counted.0 now counted.2)
+grown (false ∷ refused) before now counted =
+    omega (arith, counted.1, grown refused counted.0 now counted.2)
+
+-- so where one was refused it rose
+pub rises : {E : Type 0} (ys : List (ReporterEvent × Option E)) (before now : ℕ) → IsSome (first_error ys)
+    → AreCounted (marks ys) before now → Rose before now
+rises [] before now some counted = cc
+rises (y ∷ ys) before now some counted =
+    by_error y.1 some counted.1 (λ later. rises ys counted.0 now later counted.2)
+  where
+    by_error : (error : Option _) → IsSome (earlier error (first_error ys))
+        → RoseExactlyIf (is_some error) before counted.0 → (IsSome (first_error ys) → Rose counted.0 now)
+        → Rose before now
+    by_error None some same later = subst (λ n. Rose n now) same (later some)
+    by_error (Some d) some rose later = omega (arith, rose.1, grown (marks ys) counted.0 now counted.2)
+
 -- a run whose events the sink took, from what the reporter told
 unfoldable pub executed_from : (p : Settings) (turns : List Turn) (w : Writing) (refusals : ℕ) (asks : List (ℕ × Ask))
     (answer : Result RunOutcome (TestRunnerExecuteErrors Failed)) (journal : List Entry) (refusal : Option Failed)
@@ -90,22 +123,12 @@ executed_from p turns w refusals asks answer journal refusal ys runnable says ma
       says = says;
       marked = marked;
       asked = asked_is;
-      took = (ys, flags, told.took);
+      took = record { events = ys; flags = flags; took = told.took; counted = told.counted };
       told = λ none. subst (HasTaken w)
           (lines_whole ys told.took.0 (first ∙ none) told.took.1
           ∙ ap event_lines (sym (flags_first ys) ∙ ap (map (λ x. x.0)) flags
           ∙ answers-told p (reverse journal) runnable.legal))
           told.took.2;
-      quiet = λ none. quiet_count (some_refused ys) (first_refused ys ∙ ap is_some (first ∙ none)) told.counted;
-      risen = λ some. risen_count refusal some (some_refused ys) (first_refused ys ∙ ap is_some first) told.counted;
+      quiet = λ none. stays ys w.faults w.faults_after (first ∙ none) told.counted;
+      risen = λ some. rises ys w.faults w.faults_after (subst IsSome (sym first) some) told.counted;
     }
-  where
-    quiet_count : (b : Bool) → b ≡ false → RoseExactlyIf b w.faults w.faults_after → w.faults_after ≡ w.faults
-    quiet_count true e h = cc
-    quiet_count false e h = h
-
-    risen_count : (o : Option Failed) → IsSome o → (b : Bool) → b ≡ is_some o
-        → RoseExactlyIf b w.faults w.faults_after → Rose w.faults w.faults_after
-    risen_count None s b e h = cc
-    risen_count (Some d) s true e h = h.1
-    risen_count (Some d) s false e h = cc

@@ -1,5 +1,7 @@
 -- What the program was given and what it left: its words, and its source and its sink before and after.
-use Rattle.std.specs.Prelude.{ℕ, ◌≡◌, ◌++◌, List, Option}
+use Rattle.std.specs.Prelude.{ℕ, ◌≡◌, ◌⊎◌, ◌≤◌, ◌<◌, ◌++◌, List, length, Option}
+use Rattle.run_capture.specs.declared.sink.Sink.{Ghosts as OfSink}
+use Rattle.run_capture.specs.declared.source.Source.{Ghosts as OfSource}
 use Rattle.run_capture.specs.Bytes.{Gives, Takes}
 use Rattle.run_capture.specs.Faults.{Rose}
 
@@ -22,13 +24,13 @@ pub record Call : Type 0 where
   pub source : Reading
   pub sink : Writing
 
-abbrev pub reading_of : {S : Type 0} → (S → Option (List ℕ)) → (S → ℕ) → S → S → Reading
-reading_of left faults old new =
-    record { left = left old; left_after = left new; faults = faults old; faults_after = faults new }
+abbrev pub reading_of : {S : Type 0} → OfSource S → S → S → Reading
+reading_of s old new =
+    record { left = s.left old; left_after = s.left new; faults = s.faults old; faults_after = s.faults new }
 
-abbrev pub writing_of : {K : Type 0} → (K → Option (List ℕ)) → (K → ℕ) → K → K → Writing
-writing_of taken faults old new =
-    record { taken = taken old; taken_after = taken new; faults = faults old; faults_after = faults new }
+abbrev pub writing_of : {K : Type 0} → OfSink K → K → K → Writing
+writing_of k old new =
+    record { taken = k.taken old; taken_after = k.taken new; faults = k.faults old; faults_after = k.faults new }
 
 abbrev pub call_of : List (List ℕ) → Reading → Writing → Call
 call_of words source sink = record { words = words; source = source; sink = sink }
@@ -51,15 +53,17 @@ HasReadFault r = Rose r.faults r.faults_after
 abbrev pub HasWriteFault : Writing → Type 0
 HasWriteFault w = Rose w.faults w.faults_after
 
--- a front part of these bytes was taken last
+-- a front part of these bytes was taken last, and not all
 abbrev pub TakesFront : Option (List ℕ) → Option (List ℕ) → List ℕ → Type 0
 TakesFront before after bytes =
-    (front : List ℕ) × (left : List ℕ) × (bytes ≡ front ++ left) × Takes before after front
+    (front : List ℕ) × (left : List ℕ) × (0 < length left) × (bytes ≡ front ++ left) × Takes before after front
 
 abbrev pub HasTakenFront : Writing → List ℕ → Type 0
 HasTakenFront w bytes = TakesFront w.taken w.taken_after bytes
 
--- these bytes went out, all of them where the sink didn't fail, and else a front part of them; and nothing else
-pub record Writes (w : Writing) (text : List ℕ) : Type 0 where
-  pub whole : ¬ HasWriteFault w → HasTaken w text
-  pub front : HasTakenFront w text
+-- these bytes went out, and nothing else: whole, where the sink's count of faults stayed; or a front part, and not all,
+-- where it rose
+abbrev pub Writes : Writing → List ℕ → Type 0
+Writes w text =
+    ((w.faults_after ≡ w.faults) × HasTaken w text)
+    ⊎ ((w.faults ≤ w.faults_after) × HasWriteFault w × HasTakenFront w text)

@@ -57,8 +57,8 @@ pub record IsWholeRun {c : Call} (r : Replays c) (o : RunOutcome) : Type 0 where
   pub all : turns_of r.journal ≡ r.turns
   pub finished : IsFinished (settings_in r) r.journal o
 
--- the sink, which failed, took the lines of the told events, each whole or a front part of it, and a front part of the
--- rest: the lines of asks and of the outcome, or where an event was refused of the fault
+-- the sink, which failed, took the lines of the told events, of each that was refused a front part, and the rest, or
+-- where it failed there a front part: the lines of asks and of the outcome, or where an event was refused of the fault
 abbrev pub WritesReport : {c : Call} → Replays c → RunOutcome → Type 0
 WritesReport {c} r o = TookParts (history_in r) (rest_text (history_in r) (report_ending r.journal o)) c.sink
 
@@ -89,6 +89,7 @@ abbrev pub IsEnding : Call → Result RunOutcome Fault → Type 0
 IsEnding c (Ok o) =
     (r : Replays c) × IsWholeRun r o × HasTaken c.sink (history_text (history_in r) (Ok o))
     × (c.sink.faults_after ≡ c.sink.faults)
+    × TookParts (history_in r) (rest_text (history_in r) (Ok o)) c.sink
 IsEnding c (Err Report) = (r : Replays c) × (o : RunOutcome) × IsWholeRun r o × WritesReport r o × HasWriteFault c.sink
 IsEnding c (Err (NotEnabled place)) =
     (r : Replays c) × StopsBefore r place false × WritesRun (history_in r) (Err (NotEnabled place)) c.sink

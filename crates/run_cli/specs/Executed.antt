@@ -15,22 +15,27 @@ use Rattle.run_engine.specs.World.{flagged}
 use Rattle.run_engine.specs.Standing.{IsRunnable}
 use Rattle.run_engine.specs.Execution.{IsAnswerOf}
 use Rattle.run_engine.specs.declared.errors.TestRunnerExecuteErrors.{TestRunnerExecuteErrors}
-use Rattle.run_output.specs.Told.{TookLines}
+use Rattle.run_output.specs.Told.{TookLines, marks, AreCounted}
 use Rattle.run_output.specs.declared.fault.Fault.{Fault}
 use Rattle.run_output.specs.declared.fault.Fault.TheVariants.{Report}
-use Rattle.run_cli.specs.Call.{Writing, TakesFront, HasTaken, HasWriteFault}
+use Rattle.run_cli.specs.Call.{Writing, HasTaken, HasWriteFault, Writes}
 use Rattle.run_cli.specs.Text.{event_lines, rest_text, history_text}
 
--- a sink took the line of each event that a history told, in order: each whole, or of one that was refused a front part
-abbrev pub TookEvents : List Happening → Option (List ℕ) → Option (List ℕ) → Type 0
-TookEvents past before after =
-    (ys : List (ReporterEvent × Option Failed)) × (map flagged ys ≡ answers past) × TookLines before after ys
+-- a sink took the line of each event that a history told, in order: each whole, or of one that was refused a front
+-- part, and not all; and its count of faults rose at each that was refused, and at no other
+pub record TookEvents (past : List Happening) (w : Writing) : Type 0 where
+  pub events : List (ReporterEvent × Option Failed)
+  pub flags : map flagged events ≡ answers past
+  pub took : TookLines w.taken w.taken_after events
+  pub counted : AreCounted (marks events) w.faults w.faults_after
 
--- a sink took the lines of a history's events so, and then a front part of the rest; and nothing else
+-- a sink took the lines of a history's events so, and then the rest: whole, or where it failed there a front part, and
+-- not all; and nothing else
 pub record TookParts (past : List Happening) (rest : List ℕ) (w : Writing) : Type 0 where
   pub between : Option (List ℕ)
-  pub events : TookEvents past w.taken between
-  pub last : TakesFront between w.taken_after rest
+  pub count : ℕ
+  pub events : TookEvents past (record w { taken_after = between; faults_after = count })
+  pub last : Writes (record w { taken = between; faults = count }) rest
 
 -- the lines of a history went out: all where the sink didn't fail, and else parts of them; and nothing else
 pub record WritesRun (past : List Happening) (ending : Result RunOutcome Fault) (w : Writing) : Type 0 where
@@ -51,7 +56,7 @@ pub record IsExecuted (p : Settings) (turns : List Turn) (w : Writing) (asks : L
   pub says : IsAnswerOf p turns journal refusal answer
   pub marked : is_none refusal ≡ none_refused journal
   pub asked : asks ≡ asked (past_of p journal)
-  pub took : TookEvents (past_of p journal) w.taken w.taken_after
+  pub took : TookEvents (past_of p journal) w
   pub told : refusal ≡ None → HasTaken w (event_lines (told (past_of p journal)))
   pub quiet : refusal ≡ None → w.faults_after ≡ w.faults
   pub risen : IsSome refusal → HasWriteFault w

@@ -3,6 +3,7 @@ use Rattle.std.specs.Prelude.{ℕ, ◌≡◌, ◌⊎◌, ◌≤◌, List, ◌++�
 use Rattle.std.specs.Prelude.{⊤}
 use Rattle.run_input.specs.declared.plan_line.RunnerKeys.{RunnerKeys}
 use Rattle.run_events.specs.declared.plan.Plan.{Plan}
+use Rattle.run_capture.specs.declared.source.Failed.{Failed}
 use Rattle.run_events.specs.declared.settings.Settings.{Settings}
 use Rattle.run_events.specs.declared.turn.Turn.{Turn}
 use Rattle.run_events.specs.declared.ask.Ask.{Ask}
@@ -11,7 +12,7 @@ use Rattle.run_model.specs.declared.entry.Entry.{Entry}
 use Rattle.run_model.specs.Words.{is_over}
 use Rattle.run_model.specs.Journal.{past_of, IsLegal, outcome}
 use Rattle.run_laws.specs.Course.{turns_of, none_refused}
-use Rattle.run_engine.specs.Execution.{IsRefusedAt}
+use Rattle.run_engine.specs.Execution.{IsRefusedAt, UnlessMemory}
 use Rattle.run_engine.specs.declared.errors.TestRunnerExecuteErrors.{TestRunnerExecuteErrors}
 use Rattle.run_engine.specs.declared.errors.TestRunnerExecuteErrors.TheVariants as engine
 use Rattle.run_output.specs.declared.fault.Fault.{Fault}
@@ -19,8 +20,8 @@ use Rattle.run_output.specs.declared.fault.Fault.TheVariants.{Plan as BadPlan, N
 use Rattle.run_output.specs.declared.fault.Fault.TheVariants.{Unfinished, Report, Memory}
 use Rattle.run_output.specs.Fields.{line_bytes}
 use Rattle.run_output.specs.Outcomes.{outcome_text}
-use Rattle.run_cli.specs.Call.{Writing, HasTaken, HasTakenFront, HasWriteFault, Writes}
-use Rattle.run_cli.specs.Executed.{TookParts, WritesRun, report_ending}
+use Rattle.run_cli.specs.Call.{Writing, then_writing, HasTaken, HasTakenFront, HasWriteFault, Writes}
+use Rattle.run_cli.specs.Executed.{TookParts, WritesRun, IsExecuted, report_ending}
 use Rattle.run_cli.specs.Plans.{settings_for, plan_refusal, IsPlanFault}
 use Rattle.run_cli.specs.Text.{ask_lines, fault_only, rest_text, history_text}
 
@@ -35,7 +36,8 @@ abbrev pub EndsAtOutcome : Writing → List (ℕ × Ask) → RunOutcome → Resu
 EndsAtOutcome w asks outcome (Ok o) =
     (o ≡ outcome) × HasTaken w (ask_lines asks ++ line_bytes (outcome_text outcome)) × (w.faults_after ≡ w.faults)
 EndsAtOutcome w asks outcome (Err Report) =
-    HasWriteFault w × HasTakenFront w (ask_lines asks ++ line_bytes (outcome_text outcome))
+    (w.faults ≤ w.faults_after) × HasWriteFault w
+    × HasTakenFront w (ask_lines asks ++ line_bytes (outcome_text outcome))
 EndsAtOutcome w asks outcome (Err Memory) = ⊤
 EndsAtOutcome w asks outcome (Err _) = ⊥
 
@@ -50,6 +52,7 @@ abbrev pub IsReplayEnding : Settings → List Turn → Writing → Result RunOut
 IsReplayEnding p turns w (Ok o) =
     (r : IsReplayed p w) × (turns_of r.journal ≡ turns) × (outcome p (past_of p r.journal) ≡ Some o)
     × HasTaken w (history_text (past_of p r.journal) (Ok o)) × (w.faults_after ≡ w.faults)
+    × TookParts (past_of p r.journal) (rest_text (past_of p r.journal) (Ok o)) w
 IsReplayEnding p turns w (Err Report) =
     (r : IsReplayed p w) × (turns_of r.journal ≡ turns)
     × ((o : RunOutcome) × (outcome p (past_of p r.journal) ≡ Some o)
@@ -66,6 +69,14 @@ IsReplayEnding p turns w (Err Unfinished) =
     × WritesRun (past_of p r.journal) (Err Unfinished) w
 IsReplayEnding p turns w (Err Memory) = ⊤
 IsReplayEnding p turns w (Err _) = ⊥
+
+-- whatever turns of a plan this is the answer to, with these asks and with a sink that is left as this writing found it,
+-- they end so
+abbrev pub Finishes : Writing → List (ℕ × Ask) → Result RunOutcome (TestRunnerExecuteErrors Failed)
+    → Result RunOutcome Fault → Type 0
+Finishes v asks answer ending =
+    (p : Settings) (turns : List Turn) (w : Writing) → v.taken ≡ w.taken_after → v.faults ≡ w.faults_after
+    → UnlessMemory answer (IsExecuted p turns w asks answer) → IsReplayEnding p turns (then_writing w v) ending
 
 -- the fault that an error of the engine is
 abbrev pub fault_of_error : {E : Type 0} → TestRunnerExecuteErrors E → Fault

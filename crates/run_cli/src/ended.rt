@@ -1,12 +1,8 @@
 // How the program ends: with an outcome or a fault, and its last lines.
-ghost use Rattle.std.specs.Prelude.{◌≡◌, ◌<◌, ◌≤◌, ◌^◌, List, length};
-ghost use Rattle.run_events.specs.declared.settings.Settings.{Settings};
-ghost use Rattle.run_events.specs.declared.turn.Turn.{Turn};
-ghost use Rattle.run_engine.specs.Execution.{UnlessMemory};
-ghost use Rattle.run_cli.specs.Call.{Writing, writing_of, then_writing};
-ghost use Rattle.run_cli.specs.Executed.{IsExecuted};
+ghost use Rattle.std.specs.Prelude.{◌≡◌, ◌<◌, ◌≤◌, ◌^◌, length};
+ghost use Rattle.run_cli.specs.Call.{writing_of};
 ghost use Rattle.run_cli.specs.Text.{outcome_status};
-ghost use Rattle.run_cli.specs.Finish.{fault_of_error, EndsAtFault, EndsAtOutcome, IsReplayEnding};
+ghost use Rattle.run_cli.specs.Finish.{fault_of_error, EndsAtFault, EndsAtOutcome, Finishes, IsReplayEnding};
 
 use crate::execution::{Executed, execute};
 use crate::write::{WriteError, write_fault, write_outcome};
@@ -56,7 +52,7 @@ fn end_for_memory<K: Sink>(sink: &mut K)
 
 /// Writes asks and a fault. A write that fails leaves the fault as it is.
 pub fn end_at_fault<K: Sink>(alloc: Global, sink: K, asks: &[(u64, Ask)], fault: Fault) -> Ended<K>
-    ensures { EndsAtFault (writing_of K.taken K.faults sink result.sink) asks.now fault
+    ensures { EndsAtFault (writing_of K.Sink sink result.sink) asks.now fault
         result.ending }
 {
     let mut sink = sink;
@@ -78,7 +74,7 @@ pub fn end_at_outcome<K: Sink>(
     asks: &[(u64, Ask)],
     outcome: RunOutcome,
 ) -> Ended<K>
-    ensures ends { EndsAtOutcome (writing_of K.taken K.faults sink result.sink) asks.now outcome
+    ensures ends { EndsAtOutcome (writing_of K.Sink sink result.sink) asks.now outcome
         result.ending }
     ensures later { K.faults sink ≤ K.faults result.sink }
 {
@@ -114,12 +110,7 @@ fn finish<K: Sink>(
     asks: &[(u64, Ask)],
     answer: Result<RunOutcome, TestRunnerExecuteErrors<Failed>>,
 ) -> Ended<K>
-    ensures { (p : Settings) (turns : List Turn) (w : Writing) → K.taken sink ≡ w.taken_after
-        → K.faults sink
-        ≡ w.faults_after
-        → UnlessMemory answer (IsExecuted p turns w asks.now answer)
-        → IsReplayEnding p turns (then_writing w (writing_of K.taken K.faults sink result.sink))
-        result.ending }
+    ensures { Finishes (writing_of K.Sink sink result.sink) asks.now answer result.ending }
 {
     match answer {
         Ok(outcome) => end_at_outcome(alloc, sink, asks, outcome),
@@ -133,7 +124,7 @@ fn finish<K: Sink>(
 /// Carries out the turns of a run, and writes all its lines.
 pub fn replay<K: Sink>(alloc: Global, runner: TestRunner, turns: &[Turn], sink: K) -> Ended<K>
     requires { length turns.now < 2 ^ 32 }
-    ensures { IsReplayEnding runner turns.now (writing_of K.taken K.faults sink result.sink)
+    ensures { IsReplayEnding runner turns.now (writing_of K.Sink sink result.sink)
         result.ending }
 {
     let Executed { sink, asks, answer } = execute(alloc, runner, turns, sink);

@@ -4,10 +4,10 @@ ghost use Rattle.run_engine.specs.Execution.{UnlessMemory};
 ghost use Rattle.run_cli.specs.Call.{writing_of};
 ghost use Rattle.run_cli.specs.Executed.{IsExecuted};
 
+use crate::tied::{Origin, TiedReporter};
 use run_capture::{Failed, Sink};
 use run_engine::{TestRunner, TestRunnerExecuteErrors};
 use run_events::{AskList, RunOutcome, Turn};
-use run_output::{LineReporter, Origin};
 use std::alloc::Global;
 use std::marker::Brand;
 
@@ -29,10 +29,10 @@ fn execute_at<K: Sink, O: Origin>(
     requires faults { O.faults_before ≡ K.faults sink }
     requires few { length turns.now < 2 ^ 32 }
     ensures { UnlessMemory result.answer
-        (IsExecuted runner turns.now (writing_of K.taken K.faults sink result.sink)
+        (IsExecuted runner turns.now (writing_of K.Sink sink result.sink)
         result.asks result.answer) }
 {
-    let mut reporter = LineReporter::<K, O>::new(sink);
+    let mut reporter = TiedReporter::<K, O>::new(sink);
     let mut asks = AskList::new();
     let answer = runner.try_execute(alloc, turns, &mut asks, &mut reporter);
     Executed {
@@ -46,7 +46,7 @@ fn execute_at<K: Sink, O: Origin>(
 pub fn execute<K: Sink>(alloc: Global, runner: TestRunner, turns: &[Turn], sink: K) -> Executed<K>
     requires { length turns.now < 2 ^ 32 }
     ensures { UnlessMemory result.answer
-        (IsExecuted runner turns.now (writing_of K.taken K.faults sink result.sink)
+        (IsExecuted runner turns.now (writing_of K.Sink sink result.sink)
         result.asks result.answer) }
 {
     execute_at::<K, Brand>(alloc, runner, turns, sink)

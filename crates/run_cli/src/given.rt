@@ -31,10 +31,10 @@ pub fn is_live(words: &[String]) -> bool
 
 // The bytes of a source, or why there are none.
 fn read_bytes<S: Source>(alloc: Global, source: &mut S) -> Result<Blob, Fault>
-    ensures ok { IfOk result (λ bytes. IsAllOf (reading_of S.left S.faults source.old source.new)
+    ensures ok { IfOk result (λ bytes. IsAllOf (reading_of S.Source source.old source.new)
         bytes) }
-    ensures refused { IfErr result (IsUnread (reading_of S.left S.faults source.old source.new)) }
-    ensures counted { CountsRead (reading_of S.left S.faults source.old source.new) result }
+    ensures refused { IfErr result (IsUnread (reading_of S.Source source.old source.new)) }
+    ensures counted { CountsRead (reading_of S.Source source.old source.new) result }
 {
     match read_all(alloc, source) {
         Ok(bytes) => Ok(bytes),
@@ -51,12 +51,12 @@ pub fn read_given<S: Source>(
     source: &mut S,
 ) -> Result<Input, Fault>
     ensures replay { IfOk result (λ _. IsReplay (map (λ w. string_bytes w) words.now)) }
-    ensures given { IfOk result (λ i. SaysInput (reading_of S.left S.faults source.old source.new)
+    ensures given { IfOk result (λ i. SaysInput (reading_of S.Source source.old source.new)
         i.keys i.plan
         i.turns) }
     ensures refused { IfErr result (IsGivenFault (map (λ w. string_bytes w) words.now)
-        (reading_of S.left S.faults source.old source.new)) }
-    ensures counted { CountsRead (reading_of S.left S.faults source.old source.new) result }
+        (reading_of S.Source source.old source.new)) }
+    ensures counted { CountsRead (reading_of S.Source source.old source.new) result }
     ensures untouched { ¬ IsReplay (map (λ w. string_bytes w) words.now) → source.new ≡ source.old }
 {
     if !is_word(words, "replay") {
@@ -76,11 +76,11 @@ pub fn read_given<S: Source>(
 /// The plan that the source's one line says, or why there is none.
 pub fn read_plan<S: Source>(alloc: Global, source: &mut S) -> Result<(RunnerKeys, Plan), Fault>
     ensures given { IfOk result
-        (λ said. SaysInput (reading_of S.left S.faults source.old source.new) said.0 said.1
+        (λ said. SaysInput (reading_of S.Source source.old source.new) said.0 said.1
         []) }
     ensures refused { IfErr result
-        (IsLineFault (reading_of S.left S.faults source.old source.new)) }
-    ensures counted { CountsRead (reading_of S.left S.faults source.old source.new) result }
+        (IsLineFault (reading_of S.Source source.old source.new)) }
+    ensures counted { CountsRead (reading_of S.Source source.old source.new) result }
 {
     let bytes = match read_bytes(alloc, source) {
         Ok(bytes) => bytes,

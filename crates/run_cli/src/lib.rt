@@ -9,11 +9,12 @@ mod given;
 mod live;
 mod plan_line;
 mod receipts;
+mod tied;
 mod top;
 mod write;
 
 pub use live::LiveEnding;
-pub use plan_line::read_plan_line;
+pub use plan_line::{builder_of, read_plan_line};
 // The rest of the given surface stands in the crates below.
 pub use run_capture::{StdSink, StdSource};
 pub use run_drive::{

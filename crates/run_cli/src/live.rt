@@ -9,13 +9,14 @@ ghost use Rattle.run_cli.specs.declared.live.LiveEnding.TheVariants as ends;
 
 use crate::ended::{Ended, end_at_fault, end_at_outcome, status_of_outcome};
 use crate::receipts::write_receipt;
+use crate::tied::{Origin, TiedReporter};
 use run_capture::{List, Sink};
 use run_drive::{Host, Spawner};
 use run_engine::TestRunner;
 use run_events::{Ask, AskList, Reporter, RunOutcome};
 use run_live::{Live, Lived, live};
 use run_model::Entry;
-use run_output::{Fault, LineReporter, Origin};
+use run_output::Fault;
 use std::alloc::Global;
 use std::marker::Brand;
 use std::sync::Wait;
@@ -103,7 +104,7 @@ fn last_lines<K: Sink>(
     outcome: RunOutcome,
     refused: bool,
 ) -> Ended<K>
-    ensures { EndsOver (writing_of K.taken K.faults sink result.sink) asks.now outcome refused
+    ensures { EndsOver (writing_of K.Sink sink result.sink) asks.now outcome refused
         result.ending }
 {
     if refused {
@@ -125,7 +126,7 @@ fn end_over<K: Sink, W: Spawner + Drop>(
     ensures { (p : Settings) (w : Writing) (n : ℕ) → K.taken sink ≡ w.taken_after → K.faults sink
         ≡ w.faults_after
         → IsClosed W.has_said p live → IsOver p w n live.journal asks outcome refused
-        → IsRunEnd W.has_said p (then_writing w (writing_of K.taken K.faults sink result.sink))
+        → IsRunEnd W.has_said p (then_writing w (writing_of K.Sink sink result.sink))
         result.live result.ending }
 {
     let ended = last_lines(alloc, sink, asks.asks(), outcome, refused);
@@ -185,9 +186,9 @@ fn end_refused<K: Sink, W: Spawner + Drop>(
 // Ends a run whose threads have ended, by what they left.
 fn finish<K: Sink, O: Origin, W: Spawner + Drop>(
     alloc: Global,
-    lived: Lived<W, LineReporter<K, O>>,
+    lived: Lived<W, TiedReporter<K, O>>,
 ) -> LiveEnded<K, W>
-    ensures { (p : Settings) → IsLeftOver W.has_said ⟦<LineReporter<K, O> as Reporter>⟧.told p lived
+    ensures { (p : Settings) → IsLeftOver W.has_said ⟦<TiedReporter<K, O> as Reporter>⟧.told p lived
         → IsRunEnd W.has_said p (record {
           taken = O.taken_before;
           taken_after = K.taken result.sink;
@@ -214,7 +215,7 @@ fn finish<K: Sink, O: Origin, W: Spawner + Drop>(
 
 /// Writes a fault, where there is no run: nothing of one is handed back.
 pub fn end_without_run<K: Sink, W>(alloc: Global, sink: K, fault: Fault) -> LiveEnded<K, W>
-    ensures ending { IsFaultEnd (writing_of K.taken K.faults sink result.sink) fault result.ending }
+    ensures ending { IsFaultEnd (writing_of K.Sink sink result.sink) fault result.ending }
     ensures live { result.live ≡ None }
 {
     let Ended { ending, sink } = end_at_fault(alloc, sink, &[], fault);
@@ -239,12 +240,12 @@ fn run_at<K: Sink + Send, H: Host, O: Origin + Send, X: Threads + Wait + Sync>(
 ) -> LiveEnded<K, H::Worker>
     requires taken { O.taken_before ≡ K.taken sink }
     requires faults { O.faults_before ≡ K.faults sink }
-    ensures { IsRunEnd H.Worker.has_said runner (writing_of K.taken K.faults sink result.sink)
+    ensures { IsRunEnd H.Worker.has_said runner (writing_of K.Sink sink result.sink)
         result.live
         result.ending }
 {
     let workers = workers_of(&runner);
-    let report = LineReporter::<K, O>::new(sink);
+    let report = TiedReporter::<K, O>::new(sink);
     match live(rt, alloc, runner, workers, host, report) {
         Ok(lived) => finish(alloc, lived),
         Err(report) => end_without_run(alloc, report.into_sink(), Fault::Memory),
@@ -259,7 +260,7 @@ pub fn run_live<K: Sink + Send, H: Host, X: Threads + Wait + Sync>(
     sink: K,
     host: &mut H,
 ) -> LiveEnded<K, H::Worker>
-    ensures { IsRunEnd H.Worker.has_said runner (writing_of K.taken K.faults sink result.sink)
+    ensures { IsRunEnd H.Worker.has_said runner (writing_of K.Sink sink result.sink)
         result.live
         result.ending }
 {

@@ -65,7 +65,7 @@ fn replay_input<K: Sink>(alloc: Global, input: Input, sink: K) -> Ended<K>
     requires units { length input.plan.scripts + length input.plan.tests < 2 ^ 32 }
     requires turns { length input.turns < 2 ^ 32 }
     ensures { IsInputEnding input.keys input.plan input.turns
-        (writing_of K.taken K.faults sink result.sink)
+        (writing_of K.Sink sink result.sink)
         result.ending }
 {
     let Input { keys, plan, turns } = input;
@@ -82,10 +82,10 @@ fn run_to_end<S: Source, K: Sink>(
     source: &mut S,
     sink: K,
 ) -> Ended<K>
-    ensures says { IsEnding (call_of (map (λ w. string_bytes w) words.now)
-        (reading_of S.left S.faults source.old source.new)
-        (writing_of K.taken K.faults sink result.sink)) result.ending }
-    ensures counted { CountsReadAtEnd (reading_of S.left S.faults source.old source.new)
+    ensures says { let said = map (λ w. string_bytes w) words.now in
+        let reading = reading_of S.Source source.old source.new in
+        IsEnding (call_of said reading (writing_of K.Sink sink result.sink)) result.ending }
+    ensures counted { CountsReadAtEnd (reading_of S.Source source.old source.new)
         result.ending }
     ensures untouched { ¬ IsReplay (map (λ w. string_bytes w) words.now) → source.new ≡ source.old }
 {
@@ -115,7 +115,7 @@ fn live_plan<K: Sink + Send, H: Host, X: Threads + Wait + Sync>(
 ) -> LiveEnded<K, H::Worker>
     requires { length said.1.scripts + length said.1.tests < 2 ^ 32 }
     ensures { IsPlanEnd H.Worker.has_said said.0 said.1
-        (writing_of K.taken K.faults sink result.sink) result.live
+        (writing_of K.Sink sink result.sink) result.live
         result.ending }
 {
     let (keys, plan) = said;
@@ -133,11 +133,10 @@ fn live_to_end<S: Source, K: Sink + Send, H: Host, X: Threads + Wait + Sync>(
     sink: K,
     host: &mut H,
 ) -> LiveEnded<K, H::Worker>
-    ensures says { (words : List (List ℕ)) → IsLiveWord words → IsLiveEnd H.Worker.has_said
-        (call_of words (reading_of S.left S.faults source.old source.new)
-        (writing_of K.taken K.faults sink result.sink))
-        result.live result.ending }
-    ensures counted { CountsLive (reading_of S.left S.faults source.old source.new) result.ending }
+    ensures says { let reading = reading_of S.Source source.old source.new in
+        (words : List (List ℕ)) → IsLiveWord words → IsLiveEnd H.Worker.has_said
+        (call_of words reading (writing_of K.Sink sink result.sink)) result.live result.ending }
+    ensures counted { CountsLive (reading_of S.Source source.old source.new) result.ending }
 {
     match read_plan(alloc, source) {
         Ok(said) => live_plan(rt, alloc, said, sink, host),
@@ -147,10 +146,9 @@ fn live_to_end<S: Source, K: Sink + Send, H: Host, X: Threads + Wait + Sync>(
 
 // Carries out recorded turns.
 fn replayed<S: Source, K: Sink>(alloc: Global, words: &[String], source: &mut S, sink: K) -> Ran<K>
-    ensures says { Answers
-        (call_of (map (λ w. string_bytes w) words.now)
-        (reading_of S.left S.faults source.old source.new)
-        (writing_of K.taken K.faults sink result.sink)) result.status }
+    ensures says { let said = map (λ w. string_bytes w) words.now in
+        let reading = reading_of S.Source source.old source.new in
+        Answers (call_of said reading (writing_of K.Sink sink result.sink)) result.status }
     ensures untouched { ¬ IsReplay (map (λ w. string_bytes w) words.now) → source.new ≡ source.old }
 {
     let Ended { ending, sink } = run_to_end(alloc, words, source, sink);
@@ -168,10 +166,9 @@ fn lived<S: Source, K: Sink + Send, H: Host, X: Threads + Wait + Sync>(
     sink: K,
     host: &mut H,
 ) -> (Ran<K>, Option<Live<H::Worker>>)
-    ensures { (words : List (List ℕ)) → IsLiveWord words → AnswersLive H.Worker.has_said
-        (call_of words (reading_of S.left S.faults source.old source.new)
-        (writing_of K.taken K.faults sink result.0.sink))
-        result.1 result.0.status }
+    ensures { let reading = reading_of S.Source source.old source.new in
+        (words : List (List ℕ)) → IsLiveWord words → AnswersLive H.Worker.has_said
+        (call_of words reading (writing_of K.Sink sink result.0.sink)) result.1 result.0.status }
 {
     let LiveEnded { ending, sink, live } = live_to_end(rt, alloc, source, sink, host);
     let ran = Ran {
@@ -195,16 +192,16 @@ pub fn run<S: Source, K: Sink + Send, H: Host, X: Threads + Wait + Sync>(
     sink: K,
     host: &mut H,
 ) -> (Ran<K>, Option<Live<H::Worker>>)
-    ensures replay { ¬ IsLiveWord (map (λ w. string_bytes w) words.now) →
-        Answers (call_of (map (λ w. string_bytes w) words.now)
-        (reading_of S.left S.faults source.old source.new)
-        (writing_of K.taken K.faults sink result.0.sink)) result.0.status × (result.1 ≡ None) }
-    ensures live { IsLiveWord (map (λ w. string_bytes w) words.now) → AnswersLive H.Worker.has_said
-        (call_of (map (λ w. string_bytes w) words.now)
-        (reading_of S.left S.faults source.old source.new)
-        (writing_of K.taken K.faults sink result.0.sink)) result.1 result.0.status }
-    ensures untouched { ¬ IsLiveWord (map (λ w. string_bytes w) words.now)
-        → ¬ IsReplay (map (λ w. string_bytes w) words.now) → source.new ≡ source.old }
+    ensures replay { let said = map (λ w. string_bytes w) words.now in
+        let reading = reading_of S.Source source.old source.new in
+        let call = call_of said reading (writing_of K.Sink sink result.0.sink) in
+        ¬ IsLiveWord said → Answers call result.0.status × (result.1 ≡ None) }
+    ensures live { let said = map (λ w. string_bytes w) words.now in
+        let reading = reading_of S.Source source.old source.new in
+        let call = call_of said reading (writing_of K.Sink sink result.0.sink) in
+        IsLiveWord said → AnswersLive H.Worker.has_said call result.1 result.0.status }
+    ensures untouched { let said = map (λ w. string_bytes w) words.now in
+        ¬ IsLiveWord said → ¬ IsReplay said → source.new ≡ source.old }
 {
     if is_live(words) {
         lived(rt, alloc, source, sink, host)

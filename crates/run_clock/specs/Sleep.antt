@@ -1,5 +1,5 @@
 -- What contracts see of a sleep, and the timer that it keeps.
-use Rattle.std.specs.Prelude.{ℕ, ◌≡◌, ◌+◌, ◌-◌, ◌^◌, ◌≤◌, Bool, true, false, nat_le, if◌then◌else◌, Option, Some, None}
+use Rattle.std.specs.Prelude.{ℕ, ◌≡◌, ◌+◌, ◌-◌, ◌^◌, ◌≤◌, ◌<◌, Bool, true, false, nat_le, if◌then◌else◌, Option, Some, None}
 use Rattle.run_clock.specs.declared.poll.Poll.{Poll}
 use Rattle.run_clock.specs.declared.poll.Poll.TheVariants.{Ready, Pending}
 use Rattle.run_clock.specs.declared.sleep_state.SleepState.{SleepState}
@@ -50,6 +50,11 @@ fires_at (Paused remaining) now = false
 abbrev pub fires_now : ℕ → Option Sleep → Bool
 fires_now now None = false
 fires_now now (Some timer) = fires_at timer.state now
+
+-- of the moments below 2^64 something is due at those from this one on, and at none of them where there is none
+abbrev pub IsDueFrom : (ℕ → Bool) → Option ℕ → Type 0
+IsDueFrom is_due None = (now : ℕ) → now < 2 ^ 64 → is_due now ≡ false
+IsDueFrom is_due (Some first) = (now : ℕ) → now < 2 ^ 64 → is_due now ≡ nat_le first now
 
 -- the deadline is past the greatest u64
 abbrev pub IsOutOfReach : SleepState → Type 0

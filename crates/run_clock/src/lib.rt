@@ -3,12 +3,14 @@
 //! stands on no other crate, and no call takes memory.
 #![tactic(auto)]
 
+mod due;
 mod laws;
 mod pausable_sleep;
 mod poll;
 mod sleep_state;
 mod stopwatch;
 
+pub use due::{due_from, sooner};
 pub use laws::{
     idle_marks_count_nothing, idle_marks_need_no_call, passing_time_counts,
     same_moment_counts_nothing, time_adds_up,

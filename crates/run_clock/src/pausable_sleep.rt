@@ -2,7 +2,7 @@
 ghost use Rattle.std.specs.Prelude.{◌≡◌, ◌+◌, ◌≤◌, [], IfSome};
 ghost use Rattle.run_clock.specs.Counted.{pause, resume, is_paused, is_due};
 ghost use Rattle.run_clock.specs.Sleep.{set_at, is_stopped, paused_at, resumed_at, reset_at, fires_at, IsOutOfReach};
-ghost use Rattle.run_clock.specs.Sleep.{fires_now, ready_where, Keeps, ForTimer, ForTimerBy, AddsToTimer, SetsAgain};
+ghost use Rattle.run_clock.specs.Sleep.{fires_now, ready_where, IsDueFrom, Keeps, ForTimer, ForTimerBy, AddsToTimer, SetsAgain};
 
 use crate::poll::Poll;
 use crate::sleep_state::SleepState;
@@ -129,6 +129,22 @@ impl PausableSleep {
             Poll::Ready(())
         } else {
             Poll::Pending
+        }
+    }
+
+    /// The least moment at which it fires: none where it is paused, or its deadline is past the greatest `u64`.
+    pub fn due_from(&self) -> Option<u64>
+        ensures { IsDueFrom (fires_at self.now.state) result }
+    {
+        match self.state {
+            SleepState::Running { deadline } => {
+                if deadline > u128::from(u64::MAX) {
+                    None
+                } else {
+                    Some(deadline as u64)
+                }
+            }
+            SleepState::Paused { .. } => None,
         }
     }
 }

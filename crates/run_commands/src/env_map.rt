@@ -10,7 +10,7 @@ use std::collections::BTreeMap;
 use std::marker::Model;
 
 /// Variables with their values, by name. Contracts see the pairs in that order.
-#[derive(Drop)]
+#[derive(Debug, Drop)]
 pub struct EnvMap {
     list: List<(Text, Text)>,
 }

@@ -23,7 +23,10 @@ pub use env_file::{ENV_FILE_LIMIT, read_env_file};
 pub use env_map::EnvMap;
 pub use errors::{DebuggerCommandParseError, SetupScriptOutputError, TracerCommandParseError};
 pub use interceptor::Interceptor;
-pub use laws::{a_command_has_its_words, a_text_has_one_reading, an_env_text_has_no_bad_line};
+pub use laws::{
+    a_command_has_its_words, a_text_has_one_reading, an_env_text_has_no_bad_line,
+    an_environment_is_given_one_way,
+};
 pub use script_helpers::{EnvInput, env_outcome, parse_env_text};
 pub use stress_count::{StressCondition, StressCount, StressCountParseError};
 pub use target_runner::{BuildPlatform, PlatformRunner, TargetRunner};

@@ -14,7 +14,7 @@ use std::alloc::Global;
 use std::collections::BTreeMap;
 
 /// What came of reading a script's environment file.
-#[derive(Drop)]
+#[derive(Debug, Drop)]
 pub enum EnvInput {
     /// The file's bytes.
     Bytes(Blob),

@@ -15,7 +15,7 @@ use std::fmt;
 use std::fmt::{Display, Write};
 
 /// The platform that a binary was built for.
-#[derive(Clone, Copy, PartialEq, Eq)]
+#[derive(Clone, Copy, Debug, PartialEq, Eq)]
 pub enum BuildPlatform {
     /// The platform that the tests are for.
     Target,
@@ -179,7 +179,7 @@ impl PlatformRunner {
 }
 
 /// The arguments of a runner that are left, in order.
-#[derive(Clone, Copy)]
+#[derive(Clone, Copy, Debug)]
 pub struct RunnerArgs<'a> {
     rest: &'a [Text],
 }

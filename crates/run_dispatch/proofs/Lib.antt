@@ -1,3 +1,4 @@
 pub mod BoardLemmas
 mod FinishLemmas
 mod SignalLemmas
+mod TallyLemmas

@@ -128,7 +128,7 @@ fn hear_finish(alloc: Global, view: &mut DispatcherView, finish: TestFinish, now
         (go_of view.old.tally (messages.Finish finish)) view.new) }
     ensures err { OnErr result (view.new ≡ view.old) }
 {
-    let tally = with_finish(alloc, view.tally, &finish)?;
+    let tally = with_finish(view.tally, &finish);
     let events = told_finish(alloc, tally, finish, now)?;
     let cause = Cause::failure(view.rules.max_fail, &tally.stats);
     heed(alloc, view, events, cause, tally, now)

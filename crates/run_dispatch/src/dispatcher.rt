@@ -1,10 +1,13 @@
 // The dispatcher and its rows.
 ghost use Rattle.std.specs.Prelude.{◌≡◌, ◌<◌, ◌≤◌, ◌^◌, IfOk, OnErr, None, true, false};
+ghost use Rattle.run_clock.specs.Sleep.{IsDueFrom};
+ghost use Rattle.run_events.specs.declared.turn.Turn.TheVariants.{GlobalDue};
 ghost use Rattle.run_model.specs.Admission.{tests_in};
 ghost use Rattle.run_model.specs.Cancel.{time_is_up, event_refused, signal_cause};
 ghost use Rattle.run_model.specs.Dispatch.{head_of, unbegun, dispatch_takes, go_of, is_third, shuts_down, CanDeliver};
 ghost use Rattle.run_model.specs.Words.{armed, time_limit};
 ghost use Rattle.run_model.specs.Turns.{nothing_done, begins_at, ends_at, delivers, cancels_for};
+ghost use Rattle.run_model.specs.declared.dispatcher_view.Facts.{Facts};
 ghost use Rattle.run_dispatch.specs.Deeds.{Does};
 ghost use Rattle.run_dispatch.specs.Dispatch.{state_of};
 
@@ -14,7 +17,7 @@ use crate::effects::{Fx, one_event, telling};
 use crate::tally::count_matched;
 use crate::view::DispatchState;
 use run_capture::{Duplicate, Mem};
-use run_clock::{PausableSleep, fires_now};
+use run_clock::{PausableSleep, due_from, fires_now};
 use run_events::{
     CancelReason, Message, RunFinished, RunFinishedStats, RunStarted, RunStats, Settings, Signal,
     TestEventKind, Turn,
@@ -159,6 +162,19 @@ impl Dispatcher {
             Turn::ReportCancel => self.view.on && facts.refused && !self.view.causes.reported,
             Turn::End => self.view.on && facts.complete,
             _ => false,
+        }
+    }
+
+    /// The least moment of the run's clock at which the global timer is due, whatever the facts of the rest of the run:
+    /// none where it isn't set, and none while no sub-run is on.
+    pub fn next_due(&self) -> Option<u64>
+        ensures { (facts : Facts)
+            → IsDueFrom (λ now. dispatch_takes self.now facts now GlobalDue) result }
+    {
+        if self.view.on {
+            due_from(&self.view.causes.global)
+        } else {
+            None
         }
     }
 

@@ -2,7 +2,7 @@
 ghost use Rattle.std.specs.Prelude.{◌≡◌, ◌∷◌, [], IfOk, None};
 ghost use Rattle.run_model.specs.Dispatch.{event};
 
-use run_capture::{List, Mem};
+use run_capture::{Duplicate, List, Mem};
 use run_events::{ReporterEvent, Request, TestEvent, TestEventKind};
 use std::alloc::Global;
 
@@ -15,6 +15,17 @@ pub struct DispatchEffects {
     pub request: Option<Request>,
     /// Whether the unit whose start was delivered is let go.
     pub go: Option<bool>,
+}
+
+impl Duplicate for DispatchEffects {
+    fn copy(&self, alloc: Global) -> Mem<DispatchEffects> {
+        let events = self.events.copy(alloc)?;
+        Ok(DispatchEffects {
+            events,
+            request: self.request,
+            go: self.go,
+        })
+    }
 }
 
 /// The effects of a call, or want of memory, after which the dispatcher is unchanged.

@@ -1,14 +1,13 @@
 // What the dispatcher counts.
-ghost use Rattle.std.specs.Prelude.{◌≡◌, ◌+◌, ◌<◌, ◌≤◌, ◌^◌, length, count_by, map, IfOk};
-ghost use Rattle.run_events.specs.Stats.{AreBelow};
+ghost use Rattle.std.specs.Prelude.{◌≡◌, ◌+◌, ◌<◌, ◌≤◌, ◌^◌, length, count_by, map};
+ghost use Rattle.run_events.specs.Stats.{AreBelow, last_or};
+ghost use Rattle.run_events.specs.declared.result.ExecutionResult.TheVariants.{ExecFail};
 ghost use Rattle.run_model.specs.Admission.{is_matched};
 ghost use Rattle.run_model.specs.Words.{a_script, a_test, finished_test, last_slow};
 ghost use Rattle.run_model.specs.Dispatch.{with_start, with_script, with_finish, with_skip};
 
-use run_capture::Mem;
 use run_events::{ExecuteStatus, ExecutionResult, PlanTest, RunStats, TestFinish};
 use run_model::Tally;
-use std::alloc::Global;
 
 fn is_matched(test: &PlanTest) -> bool
     ensures { result ≡ is_matched test.now }
@@ -65,21 +64,22 @@ pub fn with_skip(tally: Tally) -> Tally
 }
 
 /// The counts after a test has finished.
-pub fn with_finish(alloc: Global, tally: Tally, finish: &TestFinish) -> Mem<Tally>
+#[tactic(auto, unfolding(run_events::specs::Stats::adds_of))]
+pub fn with_finish(tally: Tally, finish: &TestFinish) -> Tally
     requires counts { AreBelow (2 ^ 32) tally.stats }
     requires attempts { 0 < length finish.now.statuses }
     requires runs { 0 < tally.running }
-    ensures { IfOk result (λ t. t ≡ with_finish tally (a_test (finished_test finish.now))) }
+    ensures { result ≡ with_finish tally (a_test (finished_test finish.now)) }
 {
     let statuses = finish.statuses.as_slice();
-    let results = results_of(alloc, statuses)?;
+    let (last_slow, last) = last_of(statuses);
     let mut stats = tally.stats;
-    stats.on_test_finished(&results, is_last_slow(statuses), finish.flaky);
-    Ok(Tally {
+    stats.count_test(finish.flaky, statuses.len() > 1, last_slow, last);
+    Tally {
         running: tally.running - 1,
         stats,
         ..tally
-    })
+    }
 }
 
 /// The counts after a setup script has finished with this result.
@@ -97,24 +97,13 @@ pub fn with_script_finish(tally: Tally, ended: ExecutionResult) -> Tally
     }
 }
 
-// The results of the attempts, in order.
-fn results_of(alloc: Global, statuses: &[ExecuteStatus]) -> Mem<Vec<ExecutionResult>>
-    ensures { IfOk result (λ v. v.items ≡ map (λ s. s.result) statuses.now) }
+// Whether the last attempt was slow, and its result.
+fn last_of(statuses: &[ExecuteStatus]) -> (bool, ExecutionResult)
+    ensures slow { result.0 ≡ last_slow statuses.now }
+    ensures last { result.1 ≡ last_or ExecFail (map (λ s. s.result) statuses.now) }
 {
-    let mut results = Vec::new(alloc);
-    for status in statuses {
-        results.push(status.result)?;
+    match statuses.last() {
+        Some(last) => (last.slow, last.result),
+        None => (false, ExecutionResult::ExecFail),
     }
-    Ok(results)
-}
-
-// Whether the last attempt was slow.
-fn is_last_slow(statuses: &[ExecuteStatus]) -> bool
-    ensures { result ≡ last_slow statuses.now }
-{
-    let mut slow = false;
-    for status in statuses {
-        slow = status.slow;
-    }
-    slow
 }

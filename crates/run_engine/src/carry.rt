@@ -41,9 +41,8 @@ fn say<C: Children, R: Reporter>(
     children: &mut C,
     report: &mut R,
 ) -> Mem<Told<R::Error>>
-    ensures part { OnErr result (TellsPart R.told C.asked
-        (outside R.faults report.old report.new children.old children.new) place effects.now.events
-        effects.now.asked) }
+    ensures part { let o = outside R.faults report.old report.new children.old children.new in
+        OnErr result (TellsPart R.told C.asked o place effects.now.events effects.now.asked) }
     ensures asked { OnOk result (Adds C.asked children.old children.new
         (map (λ ask. (place, ask)) (option_to_list effects.now.asked))) }
     ensures answered { IfOk result (λ t. length t.refused ≡ length effects.now.events) }
@@ -81,9 +80,8 @@ fn send<C: Children, R: Reporter>(
     requires room { deque_len starts.old < deque_capacity starts.old }
     ensures waits { OnOk result (starts.new.items ≡ starts.old.items ++ start_among effects.asked) }
     ensures kept { OnErr result (starts.new.items ≡ starts.old.items) }
-    ensures part { OnErr result (TellsPart R.told C.asked
-        (outside R.faults report.old report.new children.old children.new) place effects.events
-        effects.asked) }
+    ensures part { let o = outside R.faults report.old report.new children.old children.new in
+        OnErr result (TellsPart R.told C.asked o place effects.events effects.asked) }
     ensures asked { OnOk result (Adds C.asked children.old children.new
         (map (λ ask. (place, ask)) (option_to_list effects.asked))) }
     ensures answered { IfOk result (λ t. length t.refused ≡ length effects.events) }
@@ -158,10 +156,9 @@ fn act<C: Children, R: Reporter>(
     ensures waits { OnOk result (starts.new.items
         ≡ starts.old.items ++ start_among (deed_on settings.now state.old.board turn.now).asked) }
     ensures kept { OnErr result (starts.new.items ≡ starts.old.items) }
-    ensures part { OnErr result (TellsPart R.told C.asked
-        (outside R.faults report.old report.new children.old children.new)
-        (length journal.old.items)
-        (deed_events (deed_on settings.now state.old.board turn.now))
+    ensures part { let o = outside R.faults report.old report.new children.old children.new in
+        OnErr result (TellsPart R.told C.asked o (length journal.old.items) (deed_events
+        (deed_on settings.now state.old.board turn.now))
         (deed_on settings.now state.old.board turn.now).asked) }
 {
     let Ok(place) = make_room(journal, starts) else {
@@ -193,9 +190,9 @@ pub(crate) fn carry_out<C: Children, R: Reporter>(
         (board settings.now (past_of settings.now journal.old.items)) }
     requires enabled { enabled settings.now (past_of settings.now journal.old.items) turn ≡ true }
     requires room { length journal.old.items + 1 < 2 ^ 32 }
-    ensures takes { IfOk result (λ refusal. (claimed : ℕ) → TakesTurn R.told C.asked
-        (outside R.faults report.old report.new children.old children.new) turn
-        (unbroken settings.now journal.old.items claimed)
+    ensures takes { let o = outside R.faults report.old report.new children.old children.new in
+        IfOk result (λ refusal. (claimed : ℕ)
+        → TakesTurn R.told C.asked o turn (unbroken settings.now journal.old.items claimed)
         (unbroken settings.now journal.new.items claimed) refusal) }
     ensures runnable { OnOk result (IsRunnable settings.now journal.new.items) }
     ensures stands { OnOk result (state.new
@@ -204,9 +201,8 @@ pub(crate) fn carry_out<C: Children, R: Reporter>(
         ≡ starts.old.items ++ start_among (deed_on settings.now state.old.board turn).asked) }
     ensures err { OnErr result (journal.new.items ≡ journal.old.items) }
     ensures kept { OnErr result (starts.new.items ≡ starts.old.items) }
-    ensures part { OnErr result (BreaksOff R.told C.asked
-        (outside R.faults report.old report.new children.old children.new) settings.now
-        journal.old.items turn) }
+    ensures part { let o = outside R.faults report.old report.new children.old children.new in
+        OnErr result (BreaksOff R.told C.asked o settings.now journal.old.items turn) }
 {
     match act(
         alloc, settings, state, journal, starts, &turn, named, children, report,
@@ -236,19 +232,15 @@ pub(crate) fn named_if_enabled(
     ensures enabled { OnOk result (enabled_on settings.now state.now.board turn.now ≡ true) }
     ensures refused { IfErr result (IsNotNamed settings.now state.now.board turn.now) }
 {
-    if state.is_over() {
-        return Err(StepError::NotEnabled);
-    }
-    let Ok(named) = turn_of_unit(alloc, turn) else {
-        return Err(StepError::OutOfMemory);
-    };
-    if !is_enabled(settings, state, turn, &named) {
-        drop(named);
+    if !is_enabled(settings, state, turn) {
         return Err(if state.is_third_signal(turn) {
             StepError::ThirdSignal
         } else {
             StepError::NotEnabled
         });
     }
-    Ok(named)
+    match turn_of_unit(alloc, turn) {
+        Ok(named) => Ok(named),
+        Err(_) => Err(StepError::OutOfMemory),
+    }
 }

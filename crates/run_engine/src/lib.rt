@@ -12,5 +12,5 @@ mod tell;
 pub use builder::TestRunnerBuilder;
 pub use errors::{StepError, TestRunnerBuildError, TestRunnerExecuteErrors};
 pub use run::Run;
-pub use run_model::Entry;
+pub use run_model::{Entry, Phase};
 pub use runner::TestRunner;

@@ -2,12 +2,12 @@
 ghost use Rattle.std.specs.Prelude.{◌≤◌, ◌≡◌, ◌<◌, ◌+◌, ◌^◌, ◌∷◌, ◌++◌, [], length, map, zip, not, is_none};
 ghost use Rattle.std.specs.Prelude.{option_to_list};
 ghost use Rattle.std.specs.Prelude.{vec_len, vec_capacity, IfOk, IfErr, OnOk, OnErr, IsErrOf, IsTrue, Option, Some, option_map};
-ghost use Rattle.std.specs.Prelude.{ℕ, ◌||◌, nat_le, is_some, None, true, false, IsSome, IsNone, slice_get, if◌then◌else◌};
+ghost use Rattle.std.specs.Prelude.{ℕ, is_some, None, true, false, IsSome, IsNone, slice_get, if◌then◌else◌};
 ghost use Rattle.std.specs.VecDeque.{deque_len, deque_capacity};
 ghost use Rattle.std.specs.List.{list_all};
 ghost use Rattle.run_events.specs.Tell.{Adds};
 ghost use Rattle.run_laws.specs.Ready.{CanAdvance, IsTimelyBoard};
-ghost use Rattle.run_model.specs.Journal.{past_of, IsLegal, outcome};
+ghost use Rattle.run_model.specs.Journal.{past_of, IsLegal};
 ghost use Rattle.run_model.specs.Admission.{AreFew, units_in};
 ghost use Rattle.run_model.specs.Turns.{enabled, enabled_on, turn_of_unit, deed_on};
 ghost use Rattle.run_model.specs.Words.{is_over};
@@ -24,10 +24,12 @@ ghost use Rattle.run_state.specs.Held.{KeepsSeats, held};
 ghost use Rattle.run_engine.specs.Standing.{IsRunnable, unbroken, sound};
 ghost use Rattle.run_engine.specs.Refused.{IsRefused, IsNotNamed, IfNotMemory};
 
+mod questions;
+
 use crate::carry::{carry_out, named_if_enabled};
 use crate::errors::StepError;
 use run_capture::{List, Whole};
-use run_events::{Children, Reporter, RunOutcome, Settings, StartAsk, Turn};
+use run_events::{Children, Reporter, Settings, StartAsk, Turn};
 use run_model::{Entry, UnitTurn};
 use run_state::{Settled, State, next_settled};
 use std::alloc::Global;
@@ -92,21 +94,20 @@ impl Run {
         children: &mut C,
         report: &mut R,
     ) -> Result<Option<R::Error>, StepError>
-        ensures takes { IfOk result (TakesTurn R.told C.asked
-            (outside R.faults report.old report.new children.old children.new) turn self.old
-            self.new) }
+        ensures takes { let o = outside R.faults report.old report.new children.old children.new in
+            IfOk result (TakesTurn R.told C.asked o turn self.old self.new) }
         ensures room { OnOk result (length self.old.journal < 4294967295) }
         ensures stays_broken { self.old.broken ≡ true → IsErrOf result StepError.OutOfMemory }
         ensures refused { IfErr result (IsRefused self.old turn) }
-        ensures unchanged { IfErr result (λ e. IfNotMemory e (IsUntouched self.old self.new
-            (outside R.faults report.old report.new children.old children.new))) }
+        ensures unchanged { let o = outside R.faults report.old report.new
+            children.old children.new in
+            IfErr result (λ e. IfNotMemory e (IsUntouched self.old self.new o)) }
         ensures broken { IsErrOf result StepError.OutOfMemory → Breaks self.old self.new }
-        ensures part { IsErrOf result StepError.OutOfMemory → BreaksOff R.told C.asked
-            (outside R.faults report.old report.new children.old children.new) self.old.settings
-            self.old.journal
-            turn }
-        ensures idle { self.old.broken ≡ true → IsUntouched self.old self.new
-            (outside R.faults report.old report.new children.old children.new) }
+        ensures part { let o = outside R.faults report.old report.new children.old children.new in
+            IsErrOf result StepError.OutOfMemory
+            → BreaksOff R.told C.asked o self.old.settings self.old.journal turn }
+        ensures idle { let o = outside R.faults report.old report.new children.old children.new in
+            self.old.broken ≡ true → IsUntouched self.old self.new o }
         ensures heard { IsHeard R.told C.asked report.old children.old self.old
             → IsHeard R.told C.asked report.new children.new self.new }
     {
@@ -162,15 +163,12 @@ impl Run {
         requires enabled { enabled self.old.settings (history_of self.old) turn ≡ true }
         requires room { length self.old.journal < 4294967295 }
         requires sound { self.old.broken ≡ false }
-        ensures takes { IfOk result (TakesTurn R.told C.asked
-            (outside R.faults report.old report.new children.old children.new) turn self.old
-            self.new) }
+        ensures takes { let o = outside R.faults report.old report.new children.old children.new in
+            IfOk result (TakesTurn R.told C.asked o turn self.old self.new) }
         ensures memory { IfErr result (λ e. e ≡ StepError.OutOfMemory) }
         ensures broken { IsErrOf result StepError.OutOfMemory → Breaks self.old self.new }
-        ensures part { OnErr result (BreaksOff R.told C.asked
-            (outside R.faults report.old report.new children.old children.new) self.old.settings
-            self.old.journal
-            turn) }
+        ensures part { let o = outside R.faults report.old report.new children.old children.new in
+            OnErr result (BreaksOff R.told C.asked o self.old.settings self.old.journal turn) }
     {
         let settings = self.settings.get();
         match carry_out(
@@ -203,23 +201,23 @@ impl Run {
         report: &mut R,
     ) -> Result<u64, StepError>
         ensures place { IfOk result (λ place. place ≡ length self.old.journal) }
-        ensures takes { OnOk result ((refusal : Option R.Error) × TakesTurn R.told C.asked
-            (outside R.faults report.old report.new children.old children.new) turn self.old
-            self.new refusal) }
+        ensures takes { let o = outside R.faults report.old report.new children.old children.new in
+            OnOk result ((refusal : Option R.Error)
+            × TakesTurn R.told C.asked o turn self.old self.new refusal) }
 
         ensures refused { IfErr result (IsRefused self.old turn) }
         ensures not_full { OnOk result (length self.old.journal < 4294967295) }
-        ensures unchanged { IfErr result (λ e. IfNotMemory e (IsUntouched self.old self.new
-            (outside R.faults report.old report.new children.old children.new))) }
+        ensures unchanged { let o = outside R.faults report.old report.new
+            children.old children.new in
+            IfErr result (λ e. IfNotMemory e (IsUntouched self.old self.new o)) }
 
         ensures broken { IsErrOf result StepError.OutOfMemory → Breaks self.old self.new }
-        ensures part { IsErrOf result StepError.OutOfMemory → BreaksOff R.told C.asked
-            (outside R.faults report.old report.new children.old children.new) self.old.settings
-            self.old.journal
-            turn }
+        ensures part { let o = outside R.faults report.old report.new children.old children.new in
+            IsErrOf result StepError.OutOfMemory
+            → BreaksOff R.told C.asked o self.old.settings self.old.journal turn }
         ensures stays_broken { self.old.broken ≡ true → IsErrOf result StepError.OutOfMemory }
-        ensures idle { self.old.broken ≡ true → IsUntouched self.old self.new
-            (outside R.faults report.old report.new children.old children.new) }
+        ensures idle { let o = outside R.faults report.old report.new children.old children.new in
+            self.old.broken ≡ true → IsUntouched self.old self.new o }
         ensures heard { IsHeard R.told C.asked report.old children.old self.old
             → IsHeard R.told C.asked report.new children.new self.new }
     {
@@ -249,21 +247,21 @@ impl Run {
         report: &mut R,
     ) -> Result<Option<Turn>, StepError>
         ensures first { IfOk result (λ turn. turn ≡ first_settled self.old word) }
-        ensures settles { IfOk result (Settles R.told C.asked
-            (outside R.faults report.old report.new children.old children.new) self.old self.new) }
+        ensures settles { let o = outside R.faults report.old report.new children.old children.new
+            in
+            IfOk result (Settles R.told C.asked o self.old self.new) }
         ensures refused { IfErr result (IsUnsettled self.old word) }
-        ensures unchanged { IfErr result (λ e. IfNotMemory e (IsUntouched self.old self.new
-            (outside R.faults report.old report.new children.old children.new))) }
+        ensures unchanged { let o = outside R.faults report.old report.new
+            children.old children.new in
+            IfErr result (λ e. IfNotMemory e (IsUntouched self.old self.new o)) }
         ensures broken { IsErrOf result StepError.OutOfMemory → Breaks self.old self.new }
-        ensures part { IsErrOf result StepError.OutOfMemory → self.old.broken ≡ false
-            → (turn : Turn)
-            × (first_settled self.old word ≡ Some turn) × BreaksOff R.told C.asked
-            (outside R.faults report.old report.new children.old children.new) self.old.settings
-            self.old.journal
-            turn }
+        ensures part { let o = outside R.faults report.old report.new children.old children.new in
+            IsErrOf result StepError.OutOfMemory → self.old.broken ≡ false
+            → (turn : Turn) × (first_settled self.old word ≡ Some turn)
+            × BreaksOff R.told C.asked o self.old.settings self.old.journal turn }
         ensures stays_broken { self.old.broken ≡ true → IsErrOf result StepError.OutOfMemory }
-        ensures idle { self.old.broken ≡ true → IsUntouched self.old self.new
-            (outside R.faults report.old report.new children.old children.new) }
+        ensures idle { let o = outside R.faults report.old report.new children.old children.new in
+            self.old.broken ≡ true → IsUntouched self.old self.new o }
         ensures heard { IsHeard R.told C.asked report.old children.old self.old
             → IsHeard R.told C.asked report.new children.new self.new }
     {
@@ -307,14 +305,6 @@ impl Run {
         true
     }
 
-    /// Whether the run takes no turn any more: it is over, or broken, or its journal is full.
-    pub fn is_done(&self) -> bool
-        ensures { result ≡ (self.now.broken || is_over (history_of self.now)
-            || nat_le 4294967295 (length self.now.journal)) }
-    {
-        self.broken || self.is_over() || self.journal.len() >= MOST_TURNS
-    }
-
     /// Gives the run up: it is broken as by want of memory, but that nothing is told or asked. One that is over stays as it
     /// is.
     pub fn give_up(&mut self)
@@ -325,25 +315,6 @@ impl Run {
         if !self.is_over() {
             self.broken = true;
         }
-    }
-
-    /// Whether the run is over.
-    pub fn is_over(&self) -> bool
-        ensures over { result ≡ is_over (history_of self.now) }
-        ensures runnable { IsRunnable self.now.settings self.now.journal }
-    {
-        !self.broken && self.state.is_over()
-    }
-
-    /// The outcome of a run that is over, and none of one that isn't.
-    pub fn outcome(&self) -> Option<RunOutcome>
-        ensures outcome { result ≡ outcome self.now.settings (history_of self.now) }
-        ensures runnable { IsRunnable self.now.settings self.now.journal }
-    {
-        if self.broken || !self.state.is_over() {
-            return None;
-        }
-        Some(RunOutcome::from_final_stats(self.state.stats().summarize_final()))
     }
 
     /// The turns that it has taken, in order, each with the reporter's answers.

@@ -72,16 +72,15 @@ fn take_copy<C: Children, R: Reporter>(
     children: &mut C,
     report: &mut R,
 ) -> Result<Option<R::Error>, StepError>
-    ensures takes { IfOk result (TakesTurn R.told C.asked
-        (outside R.faults report.old report.new children.old children.new) turn.now run.old
-        run.new) }
+    ensures takes { let o = outside R.faults report.old report.new children.old children.new in
+        IfOk result (TakesTurn R.told C.asked o turn.now run.old run.new) }
     ensures room { OnOk result (length run.old.journal < 4294967295) }
     ensures refused { IfErr result (IsRefused run.old turn.now) }
-    ensures unchanged { IfErr result (λ e. IfNotMemory e (IsUntouched run.old run.new
-        (outside R.faults report.old report.new children.old children.new))) }
+    ensures unchanged { let o = outside R.faults report.old report.new children.old children.new in
+        IfErr result (λ e. IfNotMemory e (IsUntouched run.old run.new o)) }
     ensures same { IsErrOf result StepError.OutOfMemory → run.new.journal ≡ run.old.journal }
-    ensures part { IsErrOf result StepError.OutOfMemory → BreaksOff R.told C.asked
-        (outside R.faults report.old report.new children.old children.new) run.old.settings
+    ensures part { let o = outside R.faults report.old report.new children.old children.new in
+        IsErrOf result StepError.OutOfMemory → BreaksOff R.told C.asked o run.old.settings
         run.old.journal turn.now }
 {
     match turn.copy(alloc) {
@@ -101,15 +100,12 @@ fn take_all<C: Children, R: Reporter>(
     requires fresh { run.old ≡ sound run.old.settings [] }
     requires units { AreFew run.old.settings }
     requires few { length turns.now < 2 ^ 32 }
-    ensures ok { IfOk result (TakesTurns R.told C.asked
-        (outside R.faults report.old report.new children.old children.new) run.old.settings
-        run.new.journal) }
+    ensures ok { let o = outside R.faults report.old report.new children.old children.new in
+        IfOk result (TakesTurns R.told C.asked o run.old.settings run.new.journal) }
     ensures all { OnOk result (turns_of run.new.journal ≡ turns.now) }
     ensures run { OnOk result (run.new ≡ sound run.old.settings run.new.journal) }
-    ensures stopped { IfErr result (StopsAt R.told C.asked
-        (outside R.faults report.old report.new children.old children.new) run.old.settings
-        turns.now
-        run.new.journal) }
+    ensures stopped { let o = outside R.faults report.old report.new children.old children.new in
+        IfErr result (StopsAt R.told C.asked o run.old.settings turns.now run.new.journal) }
 {
     let mut first = None;
     for (place, turn) in turns.iter().enumerate() {
@@ -148,13 +144,11 @@ fn run_all<C: Children, R: Reporter>(
     requires fresh { run.old ≡ sound run.old.settings [] }
     requires units { AreFew run.old.settings }
     requires few { length turns.now < 2 ^ 32 }
-    ensures carries { UnlessMemory result (Carries R.told C.asked
-        (outside R.faults report.old report.new children.old children.new) run.old.settings
-        turns.now result) }
-    ensures memory { IsErrOf result TestRunnerExecuteErrors.OutOfMemory → (journal : List Entry)
-        × RunsOut R.told C.asked (outside R.faults report.old report.new children.old children.new)
-        run.old.settings
-        turns.now journal }
+    ensures carries { let o = outside R.faults report.old report.new children.old children.new in
+        UnlessMemory result (Carries R.told C.asked o run.old.settings turns.now result) }
+    ensures memory { let o = outside R.faults report.old report.new children.old children.new in
+        IsErrOf result TestRunnerExecuteErrors.OutOfMemory
+        → (journal : List Entry) × RunsOut R.told C.asked o run.old.settings turns.now journal }
 {
     match take_all(alloc, run, turns, children, report) {
         Ok(refusal) => answer(run, refusal),
@@ -235,16 +229,15 @@ impl TestRunner {
         report: &mut R,
     ) -> Result<RunOutcome, TestRunnerExecuteErrors<R::Error>>
         requires { length turns.now < 2 ^ 32 }
-        ensures executes { UnlessMemory result (Executes R.told C.asked
-            (outside R.faults report.old report.new children.old children.new) self turns.now
-            result) }
-        ensures course { ¬ Rose (R.faults report.old) (R.faults report.new) → AnswersCourse
-            (outside R.faults report.old report.new children.old children.new) self turns.now
-            refuses_none result }
-        ensures memory { IsErrOf result TestRunnerExecuteErrors.OutOfMemory → (journal : List Entry)
-            × RunsOut R.told C.asked (outside R.faults report.old report.new children.old
-            children.new) self turns.now
-            journal }
+        ensures executes { let o = outside R.faults report.old report.new children.old
+            children.new in
+            UnlessMemory result (Executes R.told C.asked o self turns.now result) }
+        ensures course { let o = outside R.faults report.old report.new children.old children.new in
+            ¬ Rose (R.faults report.old) (R.faults report.new)
+            → AnswersCourse o self turns.now refuses_none result }
+        ensures memory { let o = outside R.faults report.old report.new children.old children.new in
+            IsErrOf result TestRunnerExecuteErrors.OutOfMemory
+            → (journal : List Entry) × RunsOut R.told C.asked o self turns.now journal }
     {
         self.carry_out(alloc, turns, children, report)
     }
@@ -258,13 +251,12 @@ impl TestRunner {
         report: &mut R,
     ) -> Result<RunOutcome, TestRunnerExecuteErrors<R::Error>>
         requires { length turns.now < 2 ^ 32 }
-        ensures carries { UnlessMemory result (Carries R.told C.asked
-            (outside R.faults report.old report.new children.old children.new) self turns.now
-            result) }
-        ensures memory { IsErrOf result TestRunnerExecuteErrors.OutOfMemory → (journal : List Entry)
-            × RunsOut R.told C.asked (outside R.faults report.old report.new children.old
-            children.new) self turns.now
-            journal }
+        ensures carries { let o = outside R.faults report.old report.new children.old children.new
+            in
+            UnlessMemory result (Carries R.told C.asked o self turns.now result) }
+        ensures memory { let o = outside R.faults report.old report.new children.old children.new in
+            IsErrOf result TestRunnerExecuteErrors.OutOfMemory
+            → (journal : List Entry) × RunsOut R.told C.asked o self turns.now journal }
     {
         let _settings = &self.settings;
         match self.into_run(alloc) {

@@ -5,6 +5,7 @@ use run_capture::{Duplicate, List, Mem, Stream, Text};
 use std::alloc::Global;
 
 /// A child is to be started.
+#[derive(Debug)]
 pub struct StartAsk {
     pub unit: u32,
     /// Which attempt, from 1.
@@ -58,7 +59,7 @@ impl Duplicate for StartAsk {
 }
 
 /// A signal is to be sent to a unit's child, or to its process group.
-#[derive(Clone, Copy, Drop)]
+#[derive(Clone, Copy, Debug, Drop)]
 pub struct SignalAsk {
     pub unit: u32,
     pub signal: ChildSignal,
@@ -66,7 +67,7 @@ pub struct SignalAsk {
 }
 
 /// A request to the outside.
-#[derive(Drop)]
+#[derive(Debug, Drop)]
 pub enum Ask {
     Start(StartAsk),
     Signal(SignalAsk),

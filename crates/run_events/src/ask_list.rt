@@ -8,7 +8,7 @@ use std::alloc::Global;
 use std::marker::Model;
 
 /// The asks, each with its turn, in order.
-#[derive(Drop)]
+#[derive(Debug, Drop)]
 pub struct AskList {
     asks: List<(u64, Ask)>,
 }

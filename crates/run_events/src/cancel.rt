@@ -3,7 +3,7 @@ ghost use Rattle.std.specs.Prelude.{◌≡◌, nat_lt};
 ghost use Rattle.run_events.specs.Cancel.{greater, rank};
 
 /// The reason of a cancelled run, in rising order.
-#[derive(Clone, Copy, Drop, PartialEq, Eq, PartialOrd, Ord)]
+#[derive(Clone, Copy, Debug, Drop, PartialEq, Eq, PartialOrd, Ord)]
 pub enum CancelReason {
     SetupScriptFailure,
     TestFailure,

@@ -1,7 +1,6 @@
 // What a reporter is told. `running` is the number of tests told started and not told finished, and
 // `scripts_running` that of setup scripts; they count the event's own change, as `stats` does.
-ghost use Rattle.std.specs.Prelude.{◌≡◌, IfOk, true, false};
-ghost use Rattle.run_events.specs.Parts.{is_of_unit};
+ghost use Rattle.std.specs.Prelude.{◌≡◌, IfOk};
 
 use crate::copies::both;
 use crate::{
@@ -14,6 +13,7 @@ use std::alloc::Global;
 use uuid::Uuid;
 
 /// The run started.
+#[derive(Debug)]
 pub struct RunStarted {
     pub run_id: Uuid,
     /// How many tests the plan has.
@@ -53,7 +53,7 @@ impl Duplicate for RunStarted {
 }
 
 /// A sub-run of a stress run ended. Its own time is in nanoseconds.
-#[derive(Clone, Copy, Drop)]
+#[derive(Clone, Copy, Debug, Drop)]
 pub struct SubRunFinished {
     pub progress: StressProgress,
     pub sub_elapsed: u64,
@@ -61,7 +61,7 @@ pub struct SubRunFinished {
 }
 
 /// A test started.
-#[derive(Drop)]
+#[derive(Debug, Drop)]
 pub struct TestStarted {
     pub start: TestStart,
     pub running: u32,
@@ -80,7 +80,7 @@ impl Duplicate for TestStarted {
 }
 
 /// An attempt of a test failed, and a further one follows.
-#[derive(Drop)]
+#[derive(Debug, Drop)]
 pub struct AttemptFailedWillRetry {
     pub failed: AttemptFailed,
     pub running: u32,
@@ -97,7 +97,7 @@ impl Duplicate for AttemptFailedWillRetry {
 }
 
 /// A further attempt of a test started.
-#[derive(Drop)]
+#[derive(Debug, Drop)]
 pub struct RetryStarted {
     pub retry: TestRetry,
     pub running: u32,
@@ -114,7 +114,7 @@ impl Duplicate for RetryStarted {
 }
 
 /// A test finished.
-#[derive(Drop)]
+#[derive(Debug, Drop)]
 pub struct TestFinished {
     pub finish: TestFinish,
     pub running: u32,
@@ -133,7 +133,7 @@ impl Duplicate for TestFinished {
 }
 
 /// An information round started, with so many units asked.
-#[derive(Clone, Copy, Drop)]
+#[derive(Clone, Copy, Debug, Drop)]
 pub struct InfoStarted {
     pub total: u32,
     pub running: u32,
@@ -141,6 +141,7 @@ pub struct InfoStarted {
 }
 
 /// A unit answered, as the one with this index, from 0, of so many.
+#[derive(Debug)]
 pub struct InfoAnswered {
     pub response: InfoResponse,
     pub index: u32,
@@ -170,14 +171,14 @@ impl Duplicate for InfoAnswered {
 }
 
 /// Counts as they are.
-#[derive(Clone, Copy, Drop)]
+#[derive(Clone, Copy, Debug, Drop)]
 pub struct InputEntered {
     pub running: u32,
     pub stats: RunStats,
 }
 
 /// The run begins to be cancelled, for the reason in the statistics.
-#[derive(Clone, Copy, Drop)]
+#[derive(Clone, Copy, Debug, Drop)]
 pub struct RunCancelled {
     pub running: u32,
     pub scripts_running: u32,
@@ -185,21 +186,21 @@ pub struct RunCancelled {
 }
 
 /// The run was stopped, or goes on.
-#[derive(Clone, Copy, Drop)]
+#[derive(Clone, Copy, Debug, Drop)]
 pub struct JobControlled {
     pub running: u32,
     pub scripts_running: u32,
 }
 
 /// The statistics of a run that is over: its own, or in a stress run those of its sub-runs.
-#[derive(Clone, Copy, Drop)]
+#[derive(Clone, Copy, Debug, Drop)]
 pub enum RunFinishedStats {
     Single(RunStats),
     Stress(StressRunStats),
 }
 
 /// The tests that were expected and not seen: the first of them, in order, and how many they are.
-#[derive(Drop)]
+#[derive(Debug, Drop)]
 pub struct TestsNotSeen {
     pub not_seen: List<TestInstanceId>,
     pub total_not_seen: u64,
@@ -216,7 +217,7 @@ impl Duplicate for TestsNotSeen {
 }
 
 /// The run finished.
-#[derive(Drop)]
+#[derive(Debug, Drop)]
 pub struct RunFinished {
     pub stats: RunFinishedStats,
     /// In a rerun alone.
@@ -234,6 +235,7 @@ impl Duplicate for RunFinished {
 }
 
 /// What an event says.
+#[derive(Debug)]
 pub enum TestEventKind {
     RunStarted(RunStarted),
     StressSubRunStarted(StressProgress),
@@ -288,91 +290,8 @@ impl Drop for TestEventKind {
     }
 }
 
-// Whether an event is of one script or test.
-fn is_of_unit(kind: &TestEventKind) -> bool
-    ensures { result ≡ is_of_unit kind.now }
-{
-    matches!(
-        kind,
-        TestEventKind::SetupScriptStarted(_)
-            | TestEventKind::SetupScriptSlow(_)
-            | TestEventKind::SetupScriptFinished(_)
-            | TestEventKind::TestStarted(_)
-            | TestEventKind::TestSlow(_)
-            | TestEventKind::TestAttemptFailedWillRetry(_)
-            | TestEventKind::TestRetryStarted(_)
-            | TestEventKind::TestFinished(_)
-            | TestEventKind::TestSkipped(_)
-    )
-}
-
-// A copy of an event of one script or test.
-fn copy_of_unit(alloc: Global, kind: &TestEventKind) -> Mem<TestEventKind>
-    requires { is_of_unit kind.now ≡ true }
-    ensures { IfOk result (λ k. k ≡ kind.now) }
-{
-    match kind {
-        TestEventKind::SetupScriptStarted(event) => event
-            .copy(alloc)
-            .map(TestEventKind::SetupScriptStarted),
-        TestEventKind::SetupScriptSlow(event) => event
-            .copy(alloc)
-            .map(TestEventKind::SetupScriptSlow),
-        TestEventKind::SetupScriptFinished(event) => event
-            .copy(alloc)
-            .map(TestEventKind::SetupScriptFinished),
-        TestEventKind::TestStarted(event) => event.copy(alloc).map(TestEventKind::TestStarted),
-        TestEventKind::TestSlow(event) => event.copy(alloc).map(TestEventKind::TestSlow),
-        TestEventKind::TestAttemptFailedWillRetry(event) => event
-            .copy(alloc)
-            .map(TestEventKind::TestAttemptFailedWillRetry),
-        TestEventKind::TestRetryStarted(event) => event
-            .copy(alloc)
-            .map(TestEventKind::TestRetryStarted),
-        TestEventKind::TestFinished(event) => event.copy(alloc).map(TestEventKind::TestFinished),
-        TestEventKind::TestSkipped(event) => event.copy(alloc).map(TestEventKind::TestSkipped),
-        _ => unreachable!(),
-    }
-}
-
-// A copy of an event of the run's own.
-fn copy_of_run(alloc: Global, kind: &TestEventKind) -> Mem<TestEventKind>
-    requires { is_of_unit kind.now ≡ false }
-    ensures { IfOk result (λ k. k ≡ kind.now) }
-{
-    match kind {
-        TestEventKind::RunStarted(event) => event.copy(alloc).map(TestEventKind::RunStarted),
-        TestEventKind::StressSubRunStarted(event) => Ok(TestEventKind::StressSubRunStarted(*event)),
-        TestEventKind::StressSubRunFinished(event) => Ok(TestEventKind::StressSubRunFinished(
-            *event,
-        )),
-        TestEventKind::InfoStarted(event) => Ok(TestEventKind::InfoStarted(*event)),
-        TestEventKind::InfoResponse(event) => event.copy(alloc).map(TestEventKind::InfoResponse),
-        TestEventKind::InfoFinished { missing } => Ok(TestEventKind::InfoFinished {
-            missing: *missing,
-        }),
-        TestEventKind::InputEnter(event) => Ok(TestEventKind::InputEnter(*event)),
-        TestEventKind::RunBeginCancel(event) => Ok(TestEventKind::RunBeginCancel(*event)),
-        TestEventKind::RunBeginKill(event) => Ok(TestEventKind::RunBeginKill(*event)),
-        TestEventKind::RunPaused(event) => Ok(TestEventKind::RunPaused(*event)),
-        TestEventKind::RunContinued(event) => Ok(TestEventKind::RunContinued(*event)),
-        TestEventKind::RunFinished(event) => event.copy(alloc).map(TestEventKind::RunFinished),
-        _ => unreachable!(),
-    }
-}
-
-impl Duplicate for TestEventKind {
-    fn copy(&self, alloc: Global) -> Mem<TestEventKind> {
-        if is_of_unit(self) {
-            copy_of_unit(alloc, self)
-        } else {
-            copy_of_run(alloc, self)
-        }
-    }
-}
-
 /// An event of the run, at a moment of its clock and after so much active time, in nanoseconds.
-#[derive(Drop)]
+#[derive(Debug, Drop)]
 pub struct TestEvent {
     pub clock: u64,
     pub elapsed: u64,
@@ -391,7 +310,7 @@ impl Duplicate for TestEvent {
 }
 
 /// What a reporter is told.
-#[derive(Drop)]
+#[derive(Debug, Drop)]
 pub enum ReporterEvent {
     /// A display wants to draw anew.
     Tick,

@@ -7,7 +7,7 @@ use run_capture::{Duplicate, Mem};
 use std::alloc::Global;
 
 /// How long something has been waited for and how long it still is, in nanoseconds.
-#[derive(Clone, Copy, Drop)]
+#[derive(Clone, Copy, Debug, Drop)]
 pub struct Waiting {
     pub waiting: u64,
     /// The period less the time waited, at least 0.
@@ -15,7 +15,7 @@ pub struct Waiting {
 }
 
 /// What a unit is doing. Times are in nanoseconds; `time` is that of its attempt so far.
-#[derive(Clone, Copy, Drop)]
+#[derive(Clone, Copy, Debug, Drop)]
 pub enum UnitState {
     /// Its child runs.
     Running {
@@ -56,7 +56,7 @@ pub enum UnitState {
 }
 
 /// Which unit answers.
-#[derive(Drop)]
+#[derive(Debug, Drop)]
 pub enum InfoSubject {
     /// A test, at this attempt of so many at most.
     Test {
@@ -85,7 +85,7 @@ impl Duplicate for InfoSubject {
 }
 
 /// A unit's answer: what it is doing, and what its child wrote so far.
-#[derive(Drop)]
+#[derive(Debug, Drop)]
 pub struct InfoResponse {
     pub subject: InfoSubject,
     pub state: UnitState,

@@ -9,6 +9,7 @@ mod ask_list;
 mod cancel;
 mod children;
 mod copies;
+mod event_copies;
 mod event_log;
 mod events;
 mod info;
@@ -26,6 +27,7 @@ mod stats;
 mod stress;
 mod turn;
 mod usual;
+mod values;
 
 pub use ask::{Ask, SignalAsk, StartAsk};
 pub use ask_list::AskList;

@@ -5,14 +5,14 @@ ghost use Rattle.run_events.specs.Outcome.{outcome_of, severity, combined};
 use crate::CancelReason;
 
 /// The step of a run that failed or was cancelled.
-#[derive(Clone, Copy, Drop, PartialEq, Eq)]
+#[derive(Clone, Copy, Debug, Drop, PartialEq, Eq)]
 pub enum RunStep {
     SetupScript,
     Test,
 }
 
 /// The summary of a run's statistics at its end.
-#[derive(Clone, Copy, Drop)]
+#[derive(Clone, Copy, Debug, Drop)]
 pub enum FinalRunStats {
     Success,
     NoTestsRun,
@@ -26,7 +26,7 @@ pub enum FinalRunStats {
 }
 
 /// The outcome of a run.
-#[derive(Clone, Copy, Drop, PartialEq, Eq)]
+#[derive(Clone, Copy, Debug, Drop, PartialEq, Eq)]
 pub enum RunOutcome {
     NoTestsRun,
     Success,

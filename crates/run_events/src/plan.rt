@@ -27,7 +27,7 @@ impl Duplicate for TestInstanceId {
 }
 
 /// A slot within a test's group: the least free number from 0, and the group's name.
-#[derive(Drop)]
+#[derive(Debug, Drop)]
 pub struct GroupSlot {
     pub slot: u32,
     pub name: Text,
@@ -44,7 +44,7 @@ impl Duplicate for GroupSlot {
 }
 
 /// The slot that a test holds while it runs: the least free number from 0, and the same within its group.
-#[derive(Drop)]
+#[derive(Debug, Drop)]
 pub struct TestSlotAssignment {
     pub global: u32,
     /// In a group alone.
@@ -62,7 +62,7 @@ impl Duplicate for TestSlotAssignment {
 }
 
 /// Tests that share a limit on how much of them runs at a time.
-#[derive(Drop)]
+#[derive(Debug, Drop)]
 pub struct Group {
     pub name: Text,
     /// The greatest sum of weights that may run at a time.
@@ -80,7 +80,7 @@ impl Duplicate for Group {
 }
 
 /// When an attempt is slow, and what comes of that. Times are in nanoseconds.
-#[derive(Clone, Copy, Drop)]
+#[derive(Clone, Copy, Debug, Drop)]
 pub struct SlowTimeout {
     /// After each such time the attempt is reported slow.
     pub period: u64,
@@ -93,14 +93,14 @@ pub struct SlowTimeout {
 }
 
 /// How long open descriptors of an ended child are waited for, in nanoseconds, and what a leak counts as.
-#[derive(Clone, Copy, Drop)]
+#[derive(Clone, Copy, Debug, Drop)]
 pub struct LeakTimeout {
     pub period: u64,
     pub result: LeakTimeoutResult,
 }
 
 /// A setup script of the plan.
-#[derive(Drop)]
+#[derive(Debug, Drop)]
 pub struct PlanScript {
     pub id: Text,
     /// The program and its arguments.
@@ -130,7 +130,7 @@ impl Duplicate for PlanScript {
 }
 
 /// A test of the plan.
-#[derive(Drop)]
+#[derive(Debug, Drop)]
 pub struct PlanTest {
     pub id: TestInstanceId,
     /// The program and its arguments.
@@ -178,6 +178,7 @@ impl Duplicate for PlanTest {
 }
 
 /// What a run is to its children and to whoever reads its events.
+#[derive(Debug)]
 pub struct RunHead {
     pub run_id: Uuid,
     /// The moment at which the run's clock is 0: the start of 1970 where none is given.
@@ -223,7 +224,7 @@ impl Duplicate for RunHead {
 }
 
 /// Which signals and keys a run hears.
-#[derive(Clone, Copy, Drop)]
+#[derive(Clone, Copy, Debug, Drop)]
 pub struct Hearing {
     pub signals: SignalHandlerKind,
     pub input: InputHandlerKind,
@@ -232,6 +233,7 @@ pub struct Hearing {
 }
 
 /// What is to be run. With S scripts, script i is unit i, and the test at place j is unit S + j.
+#[derive(Debug)]
 pub struct Plan {
     pub head: RunHead,
     pub hearing: Hearing,
@@ -260,7 +262,7 @@ impl Drop for Plan {
 }
 
 // What a plan lists.
-#[derive(Drop)]
+#[derive(Debug, Drop)]
 struct PlanLists {
     groups: List<Group>,
     scripts: List<PlanScript>,

@@ -8,6 +8,7 @@ use run_commands::{Interceptor, StressCondition};
 use std::alloc::Global;
 
 /// The effective settings of a run, with the plan that they belong to.
+#[derive(Debug)]
 pub struct Settings {
     pub plan: Plan,
     pub capture: CaptureStrategy,
@@ -43,7 +44,7 @@ impl Drop for Settings {
 }
 
 // What settings hold beside the plan.
-#[derive(Drop)]
+#[derive(Debug, Drop)]
 struct Extras {
     stress: Option<StressCondition>,
     interceptor: Interceptor,

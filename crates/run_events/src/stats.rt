@@ -7,6 +7,7 @@ ghost use Rattle.run_events.specs.Stats.{
   nothing,
   plus,
   script_adds,
+  test_adds,
 };
 ghost use Rattle.run_events.specs.Outcome.{
   failed_count,
@@ -21,7 +22,7 @@ use crate::adds::{last_result, script_adds, test_adds};
 use crate::{CancelReason, ExecutionResult, FinalRunStats, FlakyResult, RunStep};
 
 /// The statistics of a run.
-#[derive(Clone, Copy, Drop, PartialEq, Eq)]
+#[derive(Clone, Copy, Debug, Drop, PartialEq, Eq)]
 pub struct RunStats {
     /// The tests that match, and so are to run.
     pub initial_run_count: u64,
@@ -100,8 +101,20 @@ impl RunStats {
         ensures { self.new ≡ plus self.old
             (adds_of (record { results = results.now; slow = last_slow; flaky = flaky })) }
     {
-        let retried = results.len() > 1;
-        let last = last_result(results);
+        self.count_test(flaky, results.len() > 1, last_slow, last_result(results));
+    }
+
+    /// Counts a finished test by the result of its last attempt, which was slow or not, and whether there were others.
+    pub fn count_test(
+        &mut self,
+        flaky: FlakyResult,
+        retried: bool,
+        last_slow: bool,
+        last: ExecutionResult,
+    )
+        requires { AreBelow (2 ^ 32) self.old }
+        ensures { self.new ≡ plus self.old (test_adds flaky retried last_slow last) }
+    {
         *self = self.plus(test_adds(flaky, retried, last_slow, last));
     }
 

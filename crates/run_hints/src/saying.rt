@@ -1,5 +1,7 @@
 // What is said of how the program ended.
 use crate::line_fault::{line_at, line_fault};
+use crate::replayed::stopped_at;
+use crate::waiting::why_not;
 use serde_json::Value;
 use std::alloc::{AllocError, Global};
 
@@ -12,28 +14,32 @@ const PLAN_HINT: &str =
 const TURN_HINT: &str =
     "a turn is a JSON object on one line, as {\"turn\":\"begin\"}: nextest_run --help has an input";
 
+const NOT_ENABLED_HINT: &str =
+    "the turns before it were taken; a unit takes a turn only where it waits for it";
+
 const LIVE_HINT: &str = "live takes a plan alone, on one line: jq -c puts a plan on one";
 
 // What is wrong, and what helps.
 #[derive(Drop)]
 struct Message {
     error: String,
-    hint: &'static str,
+    hint: String,
 }
 
 // What is wrong, where memory is there, and what helps.
 fn message_of(
+    alloc: Global,
     error: Result<String, AllocError>,
-    hint: &'static str,
+    hint: &str,
 ) -> Result<Message, AllocError> {
     Ok(Message {
         error: error?,
-        hint,
+        hint: String::from_str(alloc, hint)?,
     })
 }
 
-fn plain(alloc: Global, error: &str, hint: &'static str) -> Result<Message, AllocError> {
-    message_of(String::from_str(alloc, error), hint)
+fn plain(alloc: Global, error: &str, hint: &str) -> Result<Message, AllocError> {
+    message_of(alloc, String::from_str(alloc, error), hint)
 }
 
 // Whether a word is a command.
@@ -85,11 +91,11 @@ fn of_line(
     if input.is_empty() {
         plain(alloc, "the input is empty", PLAN_HINT)
     } else if number <= 1 {
-        message_of(line_text(alloc, true, input, number), PLAN_HINT)
+        message_of(alloc, line_text(alloc, true, input, number), PLAN_HINT)
     } else if is_live(words) {
         plain(alloc, "input line 2 is one too many", LIVE_HINT)
     } else {
-        message_of(line_text(alloc, false, input, number), TURN_HINT)
+        message_of(alloc, line_text(alloc, false, input, number), TURN_HINT)
     }
 }
 
@@ -117,6 +123,7 @@ fn test_fault(kind: &str) -> Option<(&'static str, &'static str)> {
 fn of_limit(alloc: Global, fault: &Value) -> Result<Message, AllocError> {
     match fault.get("group").and_then(Value::as_u64) {
         Some(group) => message_of(
+            alloc,
             format!(in alloc; "the plan is refused: groups[{group}] has a limit of 0"),
             "a limit is 1 or more",
         ),
@@ -134,6 +141,7 @@ fn of_plan(alloc: Global, fault: &Value) -> Result<Message, AllocError> {
     let test = number_at(fault, "test");
     match test_fault(kind) {
         Some((what, hint)) => message_of(
+            alloc,
             format!(in alloc; "the plan is refused: tests[{test}] {what}"),
             hint,
         ),
@@ -174,14 +182,29 @@ fn of_turn(
     input: &[u8],
     fault: &Value,
     what: &str,
-    hint: &'static str,
+    hint: &str,
 ) -> Result<Message, AllocError> {
     let number = number_at(fault, "turn").saturating_add(2);
     let turn = turn_text(alloc, input, number)?;
     message_of(
+        alloc,
         format!(in alloc; "input line {number} {what}: {turn}"),
         hint,
     )
+}
+
+// Why a turn isn't enabled, by the run that took those before it.
+fn enabled_hint(alloc: Global, input: &[u8], fault: &Value) -> Result<String, AllocError> {
+    match stopped_at(alloc, input, number_at(fault, "turn")) {
+        Some((run, turn)) => why_not(alloc, &run, &turn),
+        None => String::from_str(alloc, NOT_ENABLED_HINT),
+    }
+}
+
+// Of a turn that isn't enabled.
+fn of_not_enabled(alloc: Global, input: &[u8], fault: &Value) -> Result<Message, AllocError> {
+    let hint = enabled_hint(alloc, input, fault)?;
+    of_turn(alloc, input, fault, "is not enabled", hint.as_str())
 }
 
 // Of a fault that says no place.
@@ -237,16 +260,10 @@ fn said_of(
     last: &Value,
 ) -> Result<Message, AllocError> {
     match status {
-        2 => message_of(words_fault(alloc, words), USAGE),
+        2 => message_of(alloc, words_fault(alloc, words), USAGE),
         3 => of_line(alloc, words, input, number_at(last, "line")),
         5 => of_plan(alloc, last),
-        6 => of_turn(
-            alloc,
-            input,
-            last,
-            "is not enabled",
-            "the turns before it were taken; a unit takes a turn only where it waits for it",
-        ),
+        6 => of_not_enabled(alloc, input, last),
         7 => of_turn(
             alloc,
             input,

@@ -1,6 +1,8 @@
 // What can be wrong with an input.
-use run_capture::OutOfMemory;
-use std::alloc::{AllocError, AllocFailed};
+ghost use Rattle.std.specs.Prelude.{◌≡◌, IfOk};
+
+use run_capture::{Duplicate, Mem, OutOfMemory};
+use std::alloc::{AllocError, AllocFailed, Global};
 use thiserror::Error;
 
 /// Why a line has no value.
@@ -66,5 +68,17 @@ impl From<OutOfMemory> for InputError {
 
     fn from(_: OutOfMemory) -> Self {
         InputError::OutOfMemory
+    }
+}
+
+impl Duplicate for LineError {
+    fn copy(&self, _alloc: Global) -> Mem<LineError> {
+        Ok(*self)
+    }
+}
+
+impl Duplicate for InputError {
+    fn copy(&self, _alloc: Global) -> Mem<InputError> {
+        Ok(*self)
     }
 }

@@ -11,6 +11,7 @@ mod happening;
 mod phase;
 mod unit_turn;
 mod unit_view;
+mod values;
 
 pub use backoff::{BackoffIter, delay_by, retry_count};
 pub use dispatcher_view::{CancelRules, Causes, DispatcherView, Facts, Tally};

@@ -6,7 +6,7 @@ use Rattle.run_capture.proofs.BytesLemmas.{takes_both}
 use Rattle.run_capture.specs.Bytes.{Takes}
 use Rattle.run_events.specs.declared.events.ReporterEvent.{ReporterEvent}
 use Rattle.run_capture.specs.Faults.{RoseExactlyIf}
-use Rattle.run_output.specs.Told.{IsLine, AreLines, TookLines, some_refused, HasTold}
+use Rattle.run_output.specs.Told.{IsLine, AreLines, TookLines, marks, AreCounted, some_refused, HasTold}
 
 -- lines and one more line after them
 lines_more : {E : Type 0} (xs : List (ReporterEvent × Option E)) (event : ReporterEvent) (error : Option E)
@@ -39,6 +39,15 @@ rose_both false true before between now one other = (omega arith, omega arith)
 rose_both true false before between now one other = (omega arith, omega arith)
 rose_both true true before between now one other = (omega arith, omega arith)
 
+-- a count that rose event by event, and then at one more event
+counted_more : {E : Type 0} (xs : List (ReporterEvent × Option E)) (event : ReporterEvent) (error : Option E)
+    (before between now : ℕ) → AreCounted (marks xs) before between → RoseExactlyIf (is_some error) between now
+    → AreCounted (marks (xs ++ (event, error) ∷ [])) before now
+counted_more [] event error before between now counted last =
+    (now, subst (λ n. RoseExactlyIf (is_some error) n now) counted last, refl)
+counted_more (x ∷ xs) event error before between now counted last =
+    (counted.0, counted.1, counted_more xs event error counted.0 between now counted.2 last)
+
 or_assoc : (a b c : Bool) → (a || (b || c)) ≡ ((a || b) || c)
 or_assoc true b c = refl
 or_assoc false b c = refl
@@ -62,6 +71,6 @@ told_more before between now f g h m n xs event error line last taken sinks own 
     let more = sym (some_refused-more xs event error) in
     record {
       took = took_more before between now xs event error line last taken told.took;
-      counted = subst (λ b. RoseExactlyIf b f h) more (rose_both (some_refused xs) (is_some error) f g h told.counted sinks);
+      counted = counted_more xs event error f g h told.counted sinks;
       own = subst (λ b. RoseExactlyIf b 0 n) more (rose_both (some_refused xs) (is_some error) 0 m n told.own own);
     }

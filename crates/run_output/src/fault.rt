@@ -1,4 +1,8 @@
 // Faults that end the program.
+ghost use Rattle.std.specs.Prelude.{◌≡◌, IfOk};
+
+use run_capture::{Duplicate, Mem};
+use std::alloc::Global;
 
 /// What is wrong with a plan whose line is in its table. Places are counted from 0.
 #[derive(Clone, Copy, Drop)]
@@ -38,4 +42,16 @@ pub enum Fault {
     Memory,
     /// The input is longer than 16,777,216 bytes.
     TooLong,
+}
+
+impl Duplicate for PlanFault {
+    fn copy(&self, _alloc: Global) -> Mem<PlanFault> {
+        Ok(*self)
+    }
+}
+
+impl Duplicate for Fault {
+    fn copy(&self, _alloc: Global) -> Mem<Fault> {
+        Ok(*self)
+    }
 }

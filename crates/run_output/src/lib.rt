@@ -35,7 +35,7 @@ pub use events::event_line;
 pub use fault::{Fault, PlanFault};
 pub use faults::fault_line;
 pub use line_feed::with_line_feed;
-pub use line_reporter::{LineReporter, Origin};
+pub use line_reporter::LineReporter;
 pub use outcomes::outcome_line;
 pub use receipts::{mismatch_line, other_settings_line, repeated_line};
 pub use turns::turn_line;

@@ -13,6 +13,7 @@ mod show;
 mod summary;
 mod terminal;
 mod texts;
+mod values;
 
 pub use max_running::{MaxProgressError, MaxProgressRunning};
 pub use progress_state::ProgressState;

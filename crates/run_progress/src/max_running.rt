@@ -3,7 +3,7 @@ ghost use Rattle.std.specs.Prelude.{◌≡◌, IfOk, IfErr};
 ghost use Rattle.run_progress.specs.MaxRunning.{SaysMax, RefusesText, Tells, error_words};
 ghost use Rattle.run_progress.specs.Seen.{shows_tests};
 
-use run_capture::Text;
+use run_capture::{Duplicate, Mem, Text};
 use std::alloc::Global;
 use std::error::Error;
 use std::fmt;
@@ -24,6 +24,15 @@ pub enum MaxProgressError {
     Parse(Text),
     /// Memory was refused.
     OutOfMemory,
+}
+
+impl Duplicate for MaxProgressError {
+    fn copy(&self, alloc: Global) -> Mem<MaxProgressError> {
+        match self {
+            MaxProgressError::Parse(text) => Ok(MaxProgressError::Parse(text.copy(alloc)?)),
+            MaxProgressError::OutOfMemory => Ok(MaxProgressError::OutOfMemory),
+        }
+    }
 }
 
 impl MaxProgressRunning {

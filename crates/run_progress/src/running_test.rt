@@ -1,5 +1,9 @@
 // A test that runs, as a display shows it.
+ghost use Rattle.std.specs.Prelude.{◌≡◌, IfOk};
+
+use run_capture::{Duplicate, Mem};
 use run_events::TestInstanceId;
+use std::alloc::Global;
 
 /// What a running test does. Times are in nanoseconds.
 #[derive(Clone, Copy, Debug, Drop, PartialEq, Eq)]
@@ -23,4 +27,16 @@ pub struct RunningTest {
     pub start: u64,
     /// How long the run was paused since then, in the pauses that have ended.
     pub paused: u64,
+}
+
+impl Duplicate for RunningTest {
+    fn copy(&self, alloc: Global) -> Mem<RunningTest> {
+        let test = self.test.copy(alloc)?;
+        Ok(RunningTest {
+            test,
+            status: self.status,
+            start: self.start,
+            paused: self.paused,
+        })
+    }
 }

@@ -3,7 +3,7 @@ use crate::progress_events::{
     Step, Told, cancelled, controlled, event, event_of, seconds, started, stats,
 };
 use crate::rows::holds;
-use run_capture::{Mem, Text};
+use run_capture::{Duplicate, Mem, Text};
 use run_events::{RunMode, RunStats, TestEventKind};
 use run_progress::{
     MaxProgressError, MaxProgressRunning, ProgressState, ShowProgress, ShowTerminalProgress,
@@ -27,12 +27,12 @@ fn is_message(alloc: Global, error: &MaxProgressError, message: &str) -> Mem<boo
     Ok(shown.as_str() == message)
 }
 
-// A text is refused with std's own words for it.
+// A text is refused with std's own words for it, which a copy of the error has too.
 fn is_refused(alloc: Global, text: &str, words: &str) -> Mem<bool> {
     let message = format!(in alloc; "Error: {words} parsing {text}")?;
     match MaxProgressRunning::from_str(alloc, text) {
         Ok(_) => Ok(false),
-        Err(error) => is_message(alloc, &error, message.as_str()),
+        Err(error) => is_message(alloc, &error.copy(alloc)?, message.as_str()),
     }
 }
 
@@ -301,6 +301,7 @@ fn check_run(rt: &impl Abort, alloc: Global) {
             lines,
             shows_after(alloc, &mut state, told, now, time, lines),
         );
+        holds(rt, lines, are_copied(alloc, &state));
     }
 }
 
@@ -339,6 +340,16 @@ fn check_lines(rt: &impl Abort, alloc: Global) {
         "infinite",
         shows_benchmarks(alloc, infinite, one, 80, line),
     );
+}
+
+// Each running test equals its copy.
+fn are_copied(alloc: Global, state: &ProgressState) -> Mem<bool> {
+    for test in state.running().unwrap_or(&[]) {
+        if test.copy(alloc)? != *test {
+            return Ok(false);
+        }
+    }
+    Ok(true)
 }
 
 // Running tests are shown, and there are none.

@@ -1,5 +1,6 @@
 pub mod CountedLemmas
 pub mod DeedLemmas
+pub mod DueLemmas
 pub mod PlaceLemmas
 pub mod ScriptLemmas
 pub mod SeatLemmas

@@ -148,7 +148,7 @@ working-failed request n us vs k new d is same =
     ∙ working-some request n us vs is
 
 -- a unit that takes a turn was admitted and isn't over
-taken_working : (now : ℕ) (o : Option UnitView) (turn : UnitTurn) → unit_takes now o turn ≡ true → is_working o ≡ true
+pub taken_working : (now : ℕ) (o : Option UnitView) (turn : UnitTurn) → unit_takes now o turn ≡ true → is_working o ≡ true
 taken_working now None turn e = cc
 taken_working now (Some u) turn e = ap not (not_last now u turn e)
 

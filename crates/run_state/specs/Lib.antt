@@ -3,3 +3,5 @@ pub mod Placed
 pub mod Held
 pub mod Cancelled
 pub mod Settle
+pub mod UnitTurns
+pub mod Due

@@ -1,18 +1,22 @@
 // Which turns are enabled.
-ghost use Rattle.std.specs.Prelude.{◌≤◌, ◌≡◌, length, IfOk};
+ghost use Rattle.std.specs.Prelude.{◌≤◌, ◌≡◌, length, pos, IfOk, option_map};
 ghost use Rattle.run_model.specs.Admission.{units_in};
-ghost use Rattle.run_model.specs.Turns.{turn_of_unit, is_empty, facts, run_takes, enabled_on};
+ghost use Rattle.run_model.specs.Turns.{turn_of_unit, unit_takes, is_empty, facts, run_takes, enabled_on};
+ghost use Rattle.run_model.specs.Board.{unit_in};
 ghost use Rattle.run_laws.specs.Ready.{IsTimelyBoard};
 ghost use Rattle.run_state.specs.Held.{KeepsSeats};
 ghost use Rattle.run_events.specs.declared.turn.Turn.TheVariants.{StartFailed, WaitFailed, Piece, ReadError};
 ghost use Rattle.run_events.specs.declared.turn.Turn.TheVariants.{Env};
+ghost use Rattle.run_events.specs.declared.result.ChildExit.TheVariants.{Code};
+ghost use Rattle.run_commands.specs.declared.script_helpers.EnvInput.TheVariants.{OpenFailed};
+ghost use Rattle.run_model.specs.declared.unit_turn.UnitTurn.TheVariants as own;
 
 use crate::admission::can_admit;
 use crate::state::State;
 use run_capture::{Blob, Duplicate, Mem, Stream, Text};
 use run_commands::EnvInput;
 use run_dispatch::DispatchState;
-use run_events::{Settings, Turn};
+use run_events::{ChildExit, Settings, Turn};
 use run_model::{Facts, UnitTurn};
 use std::alloc::Global;
 
@@ -122,24 +126,84 @@ fn is_run_enabled(settings: &Settings, state: &State, turn: &Turn) -> bool
     }
 }
 
-/// Whether a turn is enabled, by the unit that it names. No turn was taken later than the clock is.
-pub fn is_enabled(
-    settings: &Settings,
-    state: &State,
-    turn: &Turn,
-    named: &Option<(u32, UnitTurn)>,
-) -> bool
+// Whether the unit of this number takes a turn.
+fn takes(state: &State, unit: u32, turn: UnitTurn) -> bool
+    requires timely { IsTimelyBoard state.now.board }
+    ensures { result ≡ unit_takes state.now.board.clock (unit_in state.now.board unit) turn }
+{
+    let takes = state.units.takes(unit, &turn, state.clock);
+    drop(turn);
+    takes
+}
+
+// Whether the unit of this number takes the end of its child, of a captured stream, or of the reading of its environment
+// file.
+fn takes_exit(state: &State, unit: u32) -> bool
+    requires timely { IsTimelyBoard state.now.board }
+    ensures { result ≡ unit_takes state.now.board.clock (unit_in state.now.board unit)
+        (own.Exit (Code (pos 0))) }
+{
+    let exit = ChildExit::Code(0);
+    takes(state, unit, UnitTurn::Exit { exit })
+}
+
+fn takes_end(state: &State, unit: u32, stream: Stream) -> bool
+    requires timely { IsTimelyBoard state.now.board }
+    ensures { result ≡ unit_takes state.now.board.clock (unit_in state.now.board unit)
+        (own.StreamEnd stream) }
+{
+    takes(state, unit, UnitTurn::StreamEnd { stream })
+}
+
+fn takes_env(state: &State, unit: u32) -> bool
+    requires timely { IsTimelyBoard state.now.board }
+    ensures { result ≡ unit_takes state.now.board.clock (unit_in state.now.board unit)
+        (own.Env OpenFailed) }
+{
+    let input = EnvInput::OpenFailed;
+    takes(state, unit, UnitTurn::Env { input })
+}
+
+// Whether the unit that a turn names takes it, none where it names none. What a text or bytes say decides nothing, so a
+// turn with none stands for each.
+fn is_taken(state: &State, turn: &Turn) -> Option<bool>
+    requires timely { IsTimelyBoard state.now.board }
+    ensures { result ≡ option_map
+        (λ named. unit_takes state.now.board.clock (unit_in state.now.board named.0) named.1)
+        (turn_of_unit turn.now) }
+{
+    match turn {
+        Turn::Started { unit, pid } => Some(takes(state, *unit, UnitTurn::Started { pid: *pid })),
+        Turn::StartFailed { unit, .. } => Some(takes(state, *unit, UnitTurn::Started { pid: 0 })),
+        Turn::Exit { unit, exit } => Some(takes(state, *unit, UnitTurn::Exit { exit: *exit })),
+        Turn::WaitFailed { unit, .. } => Some(takes_exit(state, *unit)),
+        Turn::Piece {
+            unit,
+            stream,
+            bytes,
+        } => Some(!bytes.is_empty() && takes_end(state, *unit, *stream)),
+        Turn::StreamEnd { unit, stream } => Some(takes_end(state, *unit, *stream)),
+        Turn::ReadError { unit, stream, .. } => Some(takes_end(state, *unit, *stream)),
+        Turn::Env { unit, .. } => Some(takes_env(state, *unit)),
+        Turn::Take { unit } => Some(takes(state, *unit, UnitTurn::Take)),
+        Turn::UnitDue { unit } => Some(takes(state, *unit, UnitTurn::Due)),
+        Turn::Decide { unit, word } => Some(takes(state, *unit, UnitTurn::Decide { word: *word })),
+        _ => None,
+    }
+}
+
+/// Whether a turn is enabled. No turn was taken later than the clock is. Takes no memory.
+pub fn is_enabled(settings: &Settings, state: &State, turn: &Turn) -> bool
     requires whole { length state.now.board.units ≡ units_in settings.now }
     requires seated { KeepsSeats settings.now state.now }
     requires timely { IsTimelyBoard state.now.board }
-    requires named { named.now ≡ turn_of_unit turn.now }
     ensures { result ≡ enabled_on settings.now state.now.board turn.now }
 {
     if state.dispatcher.is_over() {
         return false;
     }
-    match named {
-        Some((unit, own)) => state.units.takes(*unit, own, state.clock),
+    match is_taken(state, turn) {
+        Some(takes) => takes,
         None => is_run_enabled(settings, state, turn),
     }
 }

@@ -1,7 +1,6 @@
 // Which turn a run takes by itself.
 ghost use Rattle.std.specs.Prelude.{◌≤◌, ◌≡◌, ◌<◌, ◌^◌, ◌++◌, length, IfSome, IsNone, None, false, option_map};
 ghost use Rattle.run_model.specs.Admission.{units_in};
-ghost use Rattle.run_model.specs.Turns.{turn_of_unit, enabled_on};
 ghost use Rattle.run_laws.specs.Ready.{IsTimelyBoard};
 ghost use Rattle.run_state.specs.Held.{KeepsSeats};
 ghost use Rattle.run_state.specs.Settle.{settled_turn, of_each, first_turns, last_turns, settling, first_enabled, IsFirst};
@@ -47,17 +46,6 @@ impl Settled {
     }
 }
 
-// Whether a turn of the run's own is enabled.
-fn is_own_enabled(settings: &Settings, state: &State, turn: &Turn) -> bool
-    requires whole { length state.now.board.units ≡ units_in settings.now }
-    requires seated { KeepsSeats settings.now state.now }
-    requires timely { IsTimelyBoard state.now.board }
-    requires own { turn_of_unit turn.now ≡ None }
-    ensures { result ≡ enabled_on settings.now state.now.board turn.now }
-{
-    is_enabled(settings, state, turn, &None)
-}
-
 // The first unit that takes a turn.
 fn first_unit(state: &State, turn: &UnitTurn) -> Option<u32>
     requires timely { IsTimelyBoard state.now.board }
@@ -96,13 +84,13 @@ fn first_settled(settings: &Settings, state: &State) -> Option<Settled>
     ensures { option_map settled_turn result ≡ first_enabled settings.now state.now.board
         first_turns }
 {
-    if is_own_enabled(settings, state, &Turn::Begin) {
+    if is_enabled(settings, state, &Turn::Begin) {
         return Some(Settled::Begin);
     }
-    if is_own_enabled(settings, state, &Turn::ReportCancel) {
+    if is_enabled(settings, state, &Turn::ReportCancel) {
         return Some(Settled::ReportCancel);
     }
-    if is_own_enabled(settings, state, &Turn::Deliver) {
+    if is_enabled(settings, state, &Turn::Deliver) {
         return Some(Settled::Deliver);
     }
     None
@@ -116,13 +104,13 @@ fn last_settled(settings: &Settings, state: &State) -> Option<Settled>
     ensures { option_map settled_turn result ≡ first_enabled settings.now state.now.board
         last_turns }
 {
-    if is_own_enabled(settings, state, &Turn::GlobalDue) {
+    if is_enabled(settings, state, &Turn::GlobalDue) {
         return Some(Settled::GlobalDue);
     }
-    if is_own_enabled(settings, state, &Turn::Admit) {
+    if is_enabled(settings, state, &Turn::Admit) {
         return Some(Settled::Admit);
     }
-    if is_own_enabled(settings, state, &Turn::End) {
+    if is_enabled(settings, state, &Turn::End) {
         return Some(Settled::End);
     }
     None

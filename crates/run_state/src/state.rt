@@ -1,16 +1,21 @@
 // What a run keeps of its history.
-ghost use Rattle.std.specs.Prelude.{◌≡◌, ◌<◌, ◌^◌, [], IfOk};
+ghost use Rattle.std.specs.Prelude.{◌≡◌, ◌<◌, ◌^◌, [], IfOk, length, option_map};
+ghost use Rattle.run_clock.specs.Sleep.{IsDueFrom};
+ghost use Rattle.run_events.specs.declared.settings.Settings.{Settings};
 ghost use Rattle.run_model.specs.Admission.{units_in};
 ghost use Rattle.std.specs.List.{list_any};
-ghost use Rattle.run_model.specs.Board.{board, answered};
+ghost use Rattle.run_model.specs.Board.{board, answered, unit_in};
 ghost use Rattle.run_model.specs.Turns.{is_third_signal};
+ghost use Rattle.run_state.specs.Due.{is_any_due};
 ghost use Rattle.run_state.specs.Held.{held};
 
 use crate::units::{Units, unadmitted};
 use run_admission::Admission;
 use run_capture::Mem;
+use run_clock::sooner;
 use run_dispatch::Dispatcher;
 use run_events::{Message, RunStats, Settings, Turn};
+use run_model::Phase;
 use std::alloc::Global;
 use std::collections::VecDeque;
 use std::marker::Model;
@@ -109,5 +114,31 @@ impl State {
         ensures { result ≡ self.now.board.dispatcher.tally.stats }
     {
         self.dispatcher.stats()
+    }
+
+    /// How many tests of the newest sub-run were told started and not told finished.
+    pub fn running(&self) -> u32
+        ensures { result ≡ self.now.board.dispatcher.tally.running }
+    {
+        self.dispatcher.running()
+    }
+
+    /// The phase of a unit, if it was admitted.
+    pub fn phase(&self, unit: u32) -> Option<Phase>
+        ensures { result ≡ option_map (λ unit. unit.phase) (unit_in self.now.board unit) }
+    {
+        self.units.phase(unit)
+    }
+
+    /// The least moment of the run's clock at which a timer is due: that of the run, or of a unit. It looks at the units
+    /// that were admitted and aren't over.
+    pub fn next_due(&self) -> Option<u64>
+        ensures { (p : Settings) → length self.now.board.units ≡ units_in p
+            → IsDueFrom (is_any_due p self.now.board) result }
+    {
+        if self.dispatcher.is_over() {
+            return None;
+        }
+        sooner(self.dispatcher.next_due(), self.units.next_due())
     }
 }

@@ -240,11 +240,8 @@ fn heed(
     requires can { CanAnswer state.old.board unit go }
     requires seated { KeepsSeats settings.now state.old }
     ensures seated { OnOk result (KeepsSeats settings.now state.new) }
-    ensures after { OnOk result
-        (state.new.board ≡ record (moved state.old.board (answer_to state.old.board unit go)) {
-          units = reach_all request
-              (moved state.old.board (answer_to state.old.board unit go)).units;
-        }) }
+    ensures after { let answered = moved state.old.board (answer_to state.old.board unit go) in
+        OnOk result (state.new.board ≡ record answered { units = reach_all request answered.units }) }
     ensures asked { IfOk result (λ asked. asked ≡ (answer_to state.old.board unit go).asked) }
 {
     let asked = answer(alloc, settings, state, unit, go)?;
@@ -258,12 +255,12 @@ pub fn deliver(alloc: Global, settings: &Settings, state: &mut State) -> Mem<Eff
     requires seated { KeepsSeats settings.now state.old }
     requires later { state.old.board.dispatcher.latest ≤ state.old.board.clock }
     ensures seated { OnOk result (KeepsSeats settings.now state.new) }
-    ensures after { OnOk result (state.new.board
-        ≡ moved state.old.board (delivery state.old.board state.old.board.queue)) }
-    ensures told { IfOk result (λ effects. effects.events
-        ≡ deed_events (delivery state.old.board state.old.board.queue)) }
-    ensures asked { IfOk result (λ effects. effects.asked
-        ≡ (delivery state.old.board state.old.board.queue).asked) }
+    ensures after { let deed = delivery state.old.board state.old.board.queue in
+        OnOk result (state.new.board ≡ moved state.old.board deed) }
+    ensures told { let deed = delivery state.old.board state.old.board.queue in
+        IfOk result (λ effects. effects.events ≡ deed_events deed) }
+    ensures asked { let deed = delivery state.old.board state.old.board.queue in
+        IfOk result (λ effects. effects.asked ≡ deed.asked) }
 {
     match state.queue.pop_front() {
         Some(message) => {
@@ -293,13 +290,13 @@ pub fn advance(
     requires can { CanAdvance settings.now state.old.board turn.now (turn_of_unit turn.now) }
     requires seated { KeepsSeats settings.now state.old }
     requires few { AreFew settings.now }
-    ensures after { OnOk result (state.new.board
-        ≡ step state.old.board turn.now (deed_on settings.now state.old.board turn.now)) }
     ensures seated { OnOk result (KeepsSeats settings.now state.new) }
-    ensures told { IfOk result (λ effects. effects.events
-        ≡ deed_events (deed_on settings.now state.old.board turn.now)) }
-    ensures asked { IfOk result (λ effects. effects.asked
-        ≡ (deed_on settings.now state.old.board turn.now).asked) }
+    ensures after { let deed = deed_on settings.now state.old.board turn.now in
+        OnOk result (state.new.board ≡ step state.old.board turn.now deed) }
+    ensures told { let deed = deed_on settings.now state.old.board turn.now in
+        IfOk result (λ effects. effects.events ≡ deed_events deed) }
+    ensures asked { let deed = deed_on settings.now state.old.board turn.now in
+        IfOk result (λ effects. effects.asked ≡ deed.asked) }
 {
     match named {
         Some((unit, own)) => {
@@ -316,13 +313,13 @@ fn advance_run(alloc: Global, settings: &Settings, state: &mut State, turn: &Tur
     requires seated { KeepsSeats settings.now state.old }
     requires later { state.old.board.dispatcher.latest ≤ state.old.board.clock }
     requires few { AreFew settings.now }
-    ensures after { OnOk result (state.new.board
-        ≡ step state.old.board turn.now (run_turn settings.now state.old.board turn.now)) }
     ensures seated { OnOk result (KeepsSeats settings.now state.new) }
-    ensures told { IfOk result (λ effects. effects.events
-        ≡ deed_events (run_turn settings.now state.old.board turn.now)) }
-    ensures asked { IfOk result (λ effects. effects.asked
-        ≡ (run_turn settings.now state.old.board turn.now).asked) }
+    ensures after { let deed = run_turn settings.now state.old.board turn.now in
+        OnOk result (state.new.board ≡ step state.old.board turn.now deed) }
+    ensures told { let deed = run_turn settings.now state.old.board turn.now in
+        IfOk result (λ effects. effects.events ≡ deed_events deed) }
+    ensures asked { let deed = run_turn settings.now state.old.board turn.now in
+        IfOk result (λ effects. effects.asked ≡ deed.asked) }
 {
     match turn {
         Turn::Begin => begin(alloc, state),

@@ -1,19 +1,22 @@
 // The units of a run, with what is counted of them.
-ghost use Rattle.std.specs.Prelude.{◌≡◌, ◌<◌, ◌≤◌, ◌^◌, ℕ, length, take, slice_index_or, slice_set, IfOk, OnOk, OnErr, Some};
+ghost use Rattle.std.specs.Prelude.{◌≡◌, ◌<◌, ◌≤◌, ℕ, length, take, slice_index_or, slice_set, IfOk, OnOk, OnErr, Some};
 ghost use Rattle.std.specs.Prelude.{None, true, ◌-◌, cond, map, option_map};
-ghost use Rattle.std.specs.List.{list_all};
+ghost use Rattle.std.specs.List.{list_all, list_any};
+ghost use Rattle.run_clock.specs.Sleep.{IsDueFrom};
+ghost use Rattle.run_model.specs.declared.unit_turn.UnitTurn.TheVariants.{Due};
 ghost use Rattle.run_model.specs.declared.unit_view.UnitView.{UnitView};
 ghost use Rattle.run_model.specs.Admission.{handed_from, is_done, is_last, open_script};
-ghost use Rattle.run_model.specs.Unit.{row, takes};
 ghost use Rattle.run_model.specs.Board.{reach_all, units_after};
-ghost use Rattle.run_model.specs.Turns.{unit_takes, taken_by};
-ghost use Rattle.run_state.specs.Counted.{is_working, working_in};
+ghost use Rattle.run_model.specs.Turns.{unit_takes};
+ghost use Rattle.run_state.specs.Counted.{working_in};
 ghost use Rattle.run_state.specs.Placed.{is_no_script};
+ghost use Rattle.run_state.specs.UnitTurns.{MayTake, unit_deed, unit_next};
 
 use crate::broadcast::reach_each;
 use crate::scripts::{handed_from, open_script};
 use crate::working::{admit, leave};
 use run_capture::{List, Mem, OutOfMemory, Text};
+use run_clock::sooner;
 use run_events::Request;
 use run_model::{Phase, UnitTurn};
 use run_unit::{Unit, UnitEffects};
@@ -95,6 +98,37 @@ impl Units {
         self.working.as_slice()
     }
 
+    // The least moment at which the timer of a unit is due.
+    fn due_of(&self, unit: u32) -> Option<u64>
+        ensures { IsDueFrom (λ now. unit_takes now (slice_index_or self.now unit None) Due) result }
+    {
+        match self.items.get(unit as usize) {
+            Some(Some(unit)) => unit.next_due(),
+            _ => None,
+        }
+    }
+
+    /// The least moment of the run's clock at which the timer of one is due.
+    pub fn next_due(&self) -> Option<u64>
+        ensures { IsDueFrom (λ now. list_any (λ unit. unit_takes now unit Due) self.now) result }
+    {
+        let mut first = None;
+        for unit in self.working.as_slice() {
+            first = sooner(first, self.due_of(*unit));
+        }
+        first
+    }
+
+    /// The phase of a unit, if it was admitted.
+    pub fn phase(&self, unit: u32) -> Option<Phase>
+        ensures { result ≡ option_map (λ unit. unit.phase) (slice_index_or self.now unit None) }
+    {
+        match self.items.get(unit as usize) {
+            Some(Some(unit)) => Some(unit.phase()),
+            _ => None,
+        }
+    }
+
     /// Whether each was admitted and is over.
     pub fn are_over(&self) -> bool
         ensures { result ≡ list_all is_done self.now }
@@ -134,19 +168,15 @@ impl Units {
 
     /// A unit takes a turn.
     pub fn step(&mut self, alloc: Global, unit: u32, turn: UnitTurn, now: u64) -> Mem<UnitEffects>
-        requires { (u : UnitView) × (slice_index_or self.old unit None ≡ Some u)
-            × (takes now u turn ≡ true)
-            × (u.latest ≤ now) }
-        ensures after { OnOk result (self.new
-            ≡ units_after now (taken_by now unit turn (slice_index_or self.old unit None)).part
-            self.old) }
-        ensures sent { IfOk result
-            (λ e. e.sent ≡ (taken_by now unit turn (slice_index_or self.old unit None)).sent) }
-        ensures asked { IfOk result (λ e. e.asked
-            ≡ (taken_by now unit turn (slice_index_or self.old unit None)).asked) }
-        ensures over { IfOk result (λ e. e.over
-            ≡ is_done (option_map (λ u. (row now turn u).next)
-            (slice_index_or self.old unit None))) }
+        requires { MayTake now unit turn self.old }
+        ensures after { let deed = unit_deed now unit turn self.old in
+            OnOk result (self.new ≡ units_after now deed.part self.old) }
+        ensures sent { let deed = unit_deed now unit turn self.old in
+            IfOk result (λ e. e.sent ≡ deed.sent) }
+        ensures asked { let deed = unit_deed now unit turn self.old in
+            IfOk result (λ e. e.asked ≡ deed.asked) }
+        ensures over { let next = unit_next now unit turn self.old in
+            IfOk result (λ e. e.over ≡ is_done next) }
         ensures err { OnErr result (self.new ≡ self.old) }
     {
         let effects = step_at(&mut self.items, alloc, unit as usize, turn, now)?;
@@ -190,18 +220,15 @@ fn step_at(
     turn: UnitTurn,
     now: u64,
 ) -> Mem<UnitEffects>
-    requires { (u : UnitView) × (slice_index_or units.old.items unit None ≡ Some u)
-        × (takes now u turn ≡ true) × (u.latest ≤ now) }
-    ensures after { OnOk result (units.new.items
-        ≡ units_after now (taken_by now unit turn (slice_index_or units.old.items unit None)).part
-        units.old.items) }
-    ensures sent { IfOk result (λ e. e.sent
-        ≡ (taken_by now unit turn (slice_index_or units.old.items unit None)).sent) }
-    ensures asked { IfOk result (λ e. e.asked
-        ≡ (taken_by now unit turn (slice_index_or units.old.items unit None)).asked) }
-    ensures over { IfOk result (λ e. e.over
-        ≡ is_done (option_map (λ u. (row now turn u).next)
-        (slice_index_or units.old.items unit None))) }
+    requires { MayTake now unit turn units.old.items }
+    ensures after { let deed = unit_deed now unit turn units.old.items in
+        OnOk result (units.new.items ≡ units_after now deed.part units.old.items) }
+    ensures sent { let deed = unit_deed now unit turn units.old.items in
+        IfOk result (λ e. e.sent ≡ deed.sent) }
+    ensures asked { let deed = unit_deed now unit turn units.old.items in
+        IfOk result (λ e. e.asked ≡ deed.asked) }
+    ensures over { let next = unit_next now unit turn units.old.items in
+        IfOk result (λ e. e.over ≡ is_done next) }
     ensures err { OnErr result (units.new.items ≡ units.old.items) }
 {
     match &mut units[unit] {

@@ -1,7 +1,9 @@
 // What a step of a unit gives to the run.
-ghost use Rattle.std.specs.Prelude.{◌≡◌, None};
+ghost use Rattle.std.specs.Prelude.{◌≡◌, None, IfOk};
 
+use run_capture::{Duplicate, Mem};
 use run_events::{Ask, Message};
+use std::alloc::Global;
 
 /// What a step of a unit gives to the run.
 #[derive(Drop)]
@@ -12,6 +14,18 @@ pub struct UnitEffects {
     pub asked: Option<Ask>,
     /// Whether it is over now.
     pub over: bool,
+}
+
+impl Duplicate for UnitEffects {
+    fn copy(&self, alloc: Global) -> Mem<UnitEffects> {
+        let asked = self.asked.copy(alloc)?;
+        let sent = self.sent.copy(alloc)?;
+        Ok(UnitEffects {
+            sent,
+            asked,
+            over: self.over,
+        })
+    }
 }
 
 /// A step that sends and asks nothing.

@@ -1,11 +1,12 @@
 // The timers of a unit.
 ghost use Rattle.std.specs.Prelude.{◌≡◌, ◌≤◌, IfSome, None};
+ghost use Rattle.run_clock.specs.Sleep.{IsDueFrom};
 ghost use Rattle.run_clock.specs.Stopwatch.{started_at};
 ghost use Rattle.run_model.specs.Unit.{takes_at, slow_timer_at};
 ghost use Rattle.run_model.specs.declared.unit_turn.UnitTurn.TheVariants.{Due};
 ghost use Rattle.run_unit.specs.Timely.{IsTimely};
 
-use run_clock::{PausableSleep, StopwatchStart, fires_now};
+use run_clock::{PausableSleep, StopwatchStart, due_from, fires_now};
 use run_model::{AttemptTerms, Phase, Timers, UnitView};
 
 /// The timers of an attempt that is let go now.
@@ -40,5 +41,16 @@ pub fn is_timer_due(view: &UnitView, now: u64) -> bool
         Phase::Running => fires_now(&view.timers.slow, now),
         Phase::Grace | Phase::Leak | Phase::Delay => fires_now(&view.timers.wait, now),
         _ => false,
+    }
+}
+
+/// The least moment at which the timer of its phase is due, none where that has none.
+pub fn next_due(view: &UnitView) -> Option<u64>
+    ensures { IsDueFrom (λ now. takes_at now view.now.phase view.now Due) result }
+{
+    match view.phase {
+        Phase::Running => due_from(&view.timers.slow),
+        Phase::Grace | Phase::Leak | Phase::Delay => due_from(&view.timers.wait),
+        _ => None,
     }
 }

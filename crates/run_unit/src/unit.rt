@@ -1,9 +1,13 @@
 // A unit: a setup script, or one test with its attempts.
-ghost use Rattle.std.specs.Prelude.{◌≡◌, ◌≤◌, ◌<◌, length, IfOk, OnOk, OnErr, Some, option_map, slice_get, true};
+ghost use Rattle.std.specs.Prelude.{◌≡◌, ◌+◌, ◌≤◌, ◌<◌, ◌^◌, length, IfOk, OnOk, OnErr, Some, option_map, slice_get, true};
 ghost use Rattle.std.specs.List.{list_any};
+ghost use Rattle.run_clock.specs.Sleep.{IsDueFrom};
 ghost use Rattle.run_model.specs.Unit.{row, takes, is_live, reached};
-ghost use Rattle.run_model.specs.Admission.{first_view, script_view, skipped_view, start_message, unit_of_test, AreFew};
+ghost use Rattle.run_model.specs.Admission.{first_view, script_view, skipped_view, start_message};
+ghost use Rattle.run_model.specs.Admission.{scripts_in, terms_at, unit_of_test};
+ghost use Rattle.run_model.specs.Backoff.{retry_count};
 ghost use Rattle.run_model.specs.declared.phase.Phase.TheVariants as phases;
+ghost use Rattle.run_model.specs.declared.unit_turn.UnitTurn.TheVariants.{Due};
 ghost use Rattle.run_unit.specs.Effects.{IsRow};
 ghost use Rattle.run_unit.specs.Same.{is_request};
 
@@ -13,6 +17,7 @@ use crate::first::first_view;
 use crate::messages::start_message;
 use crate::requests::{holds, is_live};
 use crate::script::script_view;
+use crate::timing::next_due;
 use run_capture::{List, Mem, Text};
 use run_events::{Message, Request, ScriptEnv, Settings, TestSlotAssignment};
 use run_model::{Phase, UnitTurn, UnitView};
@@ -46,7 +51,8 @@ impl Unit {
         handed: List<(Text, Text)>,
     ) -> Mem<Unit>
         requires planned { test < length settings.now.plan.tests }
-        requires few { AreFew settings.now }
+        requires numbered { unit_of_test settings.now test < 2 ^ 32 }
+        requires attempts { retry_count (terms_at settings.now test).retries + 1 < 2 ^ 32 }
         ensures view { IfOk result (λ u. option_map
             (first_view settings.now (unit_of_test settings.now test) slot handed)
             (slice_get settings.now.plan.tests test) ≡ Some u) }
@@ -61,7 +67,8 @@ impl Unit {
     /// The test at this place of the plan, which doesn't match: it is over from its admission.
     pub fn skipped(alloc: Global, settings: &Settings, test: u32) -> Mem<Unit>
         requires planned { test < length settings.now.plan.tests }
-        requires few { AreFew settings.now }
+        requires numbered { unit_of_test settings.now test < 2 ^ 32 }
+        requires attempts { retry_count (terms_at settings.now test).retries + 1 < 2 ^ 32 }
         ensures view { IfOk result (λ u. option_map (skipped_view settings.now (unit_of_test settings.now test))
             (slice_get settings.now.plan.tests test) ≡ Some u) }
         ensures phase { IfOk result (λ u. u.phase ≡ phases.Over) }
@@ -78,7 +85,7 @@ impl Unit {
     /// The script at this place of the plan.
     pub fn script(alloc: Global, settings: &Settings, script: u32) -> Mem<Unit>
         requires planned { script < length settings.now.plan.scripts }
-        requires few { AreFew settings.now }
+        requires numbered { scripts_in settings.now < 2 ^ 32 }
         ensures view { IfOk result (λ u. option_map (script_view settings.now script)
             (slice_get settings.now.plan.scripts script) ≡ Some u) }
         ensures phase { IfOk result (λ u. u.phase ≡ phases.StartSent) }
@@ -137,6 +144,13 @@ impl Unit {
         ensures { result ≡ takes now self.now turn.now }
     {
         is_enabled(&self.view, turn, now)
+    }
+
+    /// The least moment of the run's clock at which the timer of its phase is due, none where it waits for none.
+    pub fn next_due(&self) -> Option<u64>
+        ensures { IsDueFrom (λ now. takes now self.now Due) result }
+    {
+        next_due(&self.view)
     }
 
     /// Takes a turn at a moment of the run's clock, in nanoseconds: one row of the unit table. No turn is earlier than

@@ -9,8 +9,8 @@ pub returns : goal.returns
 returns g c = unless_weaker c.try_execute-answer.result _ _
     (λ x.
     let told = x.call.takes.told [] c.new-reporter.ensures.told in
-    let w = writing_of g.K.Sink.taken g.K.Sink.faults c.args.sink c.into_sink.result in
-    let refusals = c.try_execute-answer.new.report.refusals in
+    let w = writing_of g.K.Sink c.args.sink c.into_sink.result in
+    let refusals = c.try_execute-answer.new.report.lines.refusals in
     executed_from c.args.runner c.args.turns.now w refusals c.try_execute-answer.new.children
     c.try_execute-answer.result
     x.call.journal x.call.refusal told.0 x.call.takes.runnable x.call.says x.call.takes.marked

@@ -7,7 +7,7 @@ use Rattle.run_cli.proofs.live.end_over.Goals as goal
 pub returns : goal.returns
 returns g c = λ p w n on from closed over.
     let lines = c.last_lines-ended in
-    let v = writing_of g.K.Sink.taken g.K.Sink.faults c.args.sink lines.result.sink in
+    let v = writing_of g.K.Sink c.args.sink lines.result.sink in
     let written = subst (λ asks. EndsOver v asks c.args.outcome c.args.refused lines.result.ending) c.asks.ensures
     lines.ensures in
     rw (c.with_live.ensures.ending, c.with_live.ensures.live, c.with_live.ensures.sink)

@@ -16,8 +16,8 @@ returns-in-Some g c = λ p x.
       faults_after = g.K.Sink.faults c.into_sink-sink.result;
     } in
     let left = rw c.in-Some.is at (x.left none) in
-    c.end_over.ensures p w lived.report.refusals refl refl (closed_from g.W.Spawner.has_said _ p lived x none)
-    (over_from _ p w lived.report.refusals lived.report lived.live.journal lived.asks c.in-Some.outcome
+    c.end_over.ensures p w lived.report.lines.refusals refl refl (closed_from g.W.Spawner.has_said _ p lived x none)
+    (over_from _ p w lived.report.lines.refusals lived.report lived.live.journal lived.asks c.in-Some.outcome
     c.has_refused-refused.result (λ ys told. c.into_sink-sink.ensures.told ys told)
     (λ ys told. c.has_refused-refused.ensures ys told) left)
 

@@ -9,7 +9,7 @@ use Rattle.run_cli.proofs.top.replay_input.Goals as goal
 pub returns-in-Ok : goal.returns-in-Ok
 returns-in-Ok g c =
     let input = c.args.input in
-    let w = writing_of g.K.Sink.taken g.K.Sink.faults c.args.sink c.replay.result.sink in
+    let w = writing_of g.K.Sink c.args.sink c.replay.result.sink in
     let built : IsBuilt (builder_of input.keys) input.plan (Ok c.in-Ok.runner) =
     subst (λ b. IsBuilt b input.plan (Ok c.in-Ok.runner)) c.builder_of.ensures c.in-Ok.ensures.built in
     accepted_ends input.keys input.plan input.turns w c.replay.result.ending built.0

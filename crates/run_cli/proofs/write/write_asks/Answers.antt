@@ -5,7 +5,7 @@ use Rattle.run_output.specs.Fields.{line_bytes}
 use Rattle.run_output.specs.Asks.{ask_text}
 use Rattle.run_cli.specs.Call.{TakesFront}
 use Rattle.run_cli.specs.Text.{ask_lines}
-use Rattle.run_cli.proofs.TextLemmas.{ask_lines-take, front_whole, front_after, asks_front, on_err}
+use Rattle.run_cli.proofs.TextLemmas.{ask_lines-take, front_after, asks_before, asks_front, on_err}
 use Rattle.run_cli.proofs.write.write_asks.Goals as goal
 
 pub loop-ask-preserved : goal.loop-ask-preserved
@@ -29,7 +29,7 @@ returns-in_err-line-clause-front g c =
     let asks = c.args.asks.now in
     let taken = c.loop-ask.invariant.taken in
     on_err c.from_residual.result _
-    (asks_front _ _ asks c.loop-ask.ask-index (front_whole _ _ (ask_lines (take c.loop-ask.ask-index asks)) taken))
+    (asks_before _ _ asks c.loop-ask.ask-index (omega arith) taken)
 
 pub returns-in_err-write_line-clause-front : goal.returns-in_err-write_line-clause-front
 returns-in_err-write_line-clause-front g c =

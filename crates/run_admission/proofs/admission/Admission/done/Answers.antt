@@ -1,6 +1,6 @@
 use Rattle.std.proofs.Common.{◌≡◌, length, ap, ◌∙◌, arith, nat_eq}
 use Rattle.run_admission.specs.InUse.{is_done}
-use Rattle.run_admission.proofs.RuleLemmas.{done_is}
+use Rattle.run_admission.proofs.DoneLemmas.{done_is}
 use Rattle.run_admission.proofs.admission.Admission.done.Goals as goal
 
 pub returns : goal.returns
