@@ -1,7 +1,6 @@
 // What is said of how the program ended.
 use crate::line_fault::{line_at, line_fault};
-use crate::replayed::stopped_at;
-use crate::waiting::why_not;
+use crate::replayed::why_stopped;
 use serde_json::Value;
 use std::alloc::{AllocError, Global};
 
@@ -195,8 +194,8 @@ fn of_turn(
 
 // Why a turn isn't enabled, by the run that took those before it.
 fn enabled_hint(alloc: Global, input: &[u8], fault: &Value) -> Result<String, AllocError> {
-    match stopped_at(alloc, input, number_at(fault, "turn")) {
-        Some((run, turn)) => why_not(alloc, &run, &turn),
+    match why_stopped(alloc, input, number_at(fault, "turn")) {
+        Some(why) => Ok(why),
         None => String::from_str(alloc, NOT_ENABLED_HINT),
     }
 }

@@ -61,20 +61,32 @@ fn phase_words(phase: Phase) -> &'static str {
     }
 }
 
-// Where an admitted unit stands, and what it waits for.
-fn unit_words(alloc: Global, run: &Run, unit: u32, phase: Phase) -> Result<String, AllocError> {
+// The names of what a unit waits for.
+fn names_of(alloc: Global, run: &Run, unit: u32) -> Result<Vec<&'static str>, AllocError> {
     let mut names = Vec::new(alloc);
     for (name, turn) in &awaited(unit) {
         if run.is_enabled(turn) {
             names.push(*name)?;
         }
     }
-    let stands = phase_words(phase);
+    Ok(names)
+}
+
+// The words on what a unit waits for, where it waits for something.
+fn waits_words(alloc: Global, run: &Run, unit: u32) -> Result<String, AllocError> {
+    let names = names_of(alloc, run, unit)?;
     if names.is_empty() {
-        return format!(in alloc; "unit {unit} {stands}");
+        return Ok(String::new(alloc));
     }
     let waits = one_of(alloc, names.as_slice())?;
-    format!(in alloc; "unit {unit} {stands} and waits for {waits}")
+    format!(in alloc; " and waits for {waits}")
+}
+
+// Where an admitted unit stands, and what it waits for.
+fn unit_words(alloc: Global, run: &Run, unit: u32, phase: Phase) -> Result<String, AllocError> {
+    let stands = phase_words(phase);
+    let waits = waits_words(alloc, run, unit)?;
+    format!(in alloc; "unit {unit} {stands}{waits}")
 }
 
 // How many scripts the plan of a run has, and how many units.
