@@ -50,7 +50,7 @@ count_set xs k was new is inside =
     ∙ sum_by-set (λ x. cond (is_some x) 1 0) xs k new None inside
 
 -- not all places are taken where one is free
-count_lt : (xs : List (Option ℕ)) (k : ℕ) → get_or xs k None ≡ None → k < length xs → count_by is_some xs < length xs
+pub count_lt : (xs : List (Option ℕ)) (k : ℕ) → get_or xs k None ≡ None → k < length xs → count_by is_some xs < length xs
 count_lt xs k none inside =
     omega (
       arith,
@@ -65,12 +65,13 @@ free_le [] = omega arith
 free_le (None ∷ xs) = omega arith
 free_le (Some n ∷ xs) = omega (arith, free_le xs, sum_by-cons (λ x. cond (is_some x) 1 0) (Some n) xs)
 
--- a test that holds nothing, and whose weight fits, can take of a limit
-pub can_take : (u : Use) (ws : List ℕ) (ss : List (Option ℕ)) (k weight : ℕ) → IsKept u ws ss → k < length ss
-    → get_or ss k None ≡ None → length ss < 2 ^ 32 → u.used + min weight u.limit ≤ u.limit → CanTake u weight
-can_take u ws ss k weight c inside none few fits = record {
+-- a test whose weight fits can take of a limit, not all of whose slots are held
+pub can_take : (u : Use) (ws : List ℕ) (ss : List (Option ℕ)) (weight : ℕ) → IsKept u ws ss
+    → count_by is_some ss < length u.holders → length ss < 2 ^ 32 → u.used + min weight u.limit ≤ u.limit
+    → CanTake u weight
+can_take u ws ss weight c free few fits = record {
   fits = fits;
-  free = omega (arith, free_le u.holders, count_lt ss k none inside, c.counted, c.places);
+  free = omega (arith, free_le u.holders, free, c.counted);
   few = omega (arith, c.places);
 }
 

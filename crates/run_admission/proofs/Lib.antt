@@ -1,11 +1,19 @@
 mod ListLemmas
+mod MemberLemmas
+mod OpenLemmas
+mod TreeLemmas
+mod NameLemmas
 mod RoomLemmas
-mod ScanLemmas
+mod GroupLemmas
 mod KeptLemmas
 mod TestLemmas
 mod WholeLemmas
-mod DoneLemmas
+mod WaitLemmas
 mod RuleLemmas
+mod LineLemmas
+mod QueueLemmas
+mod ReadyLemmas
+mod DraftLemmas
 mod BegunLemmas
 mod LawLemmas
 pub mod FewerLemmas

@@ -1,16 +1,14 @@
 -- What is kept says what the rule says.
-use Rattle.std.proofs.Common.{◌≡◌, ◌≢◌, ℕ, zero, suc, ◌+◌, ◌<◌, ◌≤◌, ◌==◌, ◌&&◌, ◌||◌, List, [], ◌∷◌, length, get_or}
+use Rattle.std.proofs.Common.{◌≡◌, ℕ, zero, suc, ◌+◌, ◌<◌, ◌≤◌, ◌&&◌, ◌||◌, List, [], ◌∷◌, length, get_or}
 use Rattle.std.proofs.Common.{set, map}
 use Rattle.std.proofs.Common.{Bool, true, false, not, if◌then◌else◌, Option, Some, None, min, refl, ap, sym, subst, ◌∙◌}
 use Rattle.std.proofs.Common.{arith}
-use Rattle.std.proofs.Common.{slice_get, slice_index, option_map, option_and_then, position, sum_by}
-use Rattle.std.proofs.Common.{get_or-set_other}
-use Rattle.std.proofs.lemmas.Grind.{get_or-set_at}
+use Rattle.std.proofs.Common.{slice_get, slice_index, count_by, option_map, option_and_then, position, sum_by}
 use Rattle.std.proofs.lemmas.List.{map-set, set-get_or, get_or_read}
 use Rattle.std.specs.Option.{option_map_or}
-use Rattle.std.specs.List.{position_or_len, zip}
+use Rattle.std.specs.List.{zip}
 use Rattle.std.proofs.lemmas.Option.{same_Some, slice_get-get_or}
-use Rattle.std.proofs.lemmas.List.Sums.{sum-map, fails_before_first, prefix_len-le-length}
+use Rattle.std.proofs.lemmas.List.Sums.{sum-map}
 use Rattle.std.proofs.lemmas.List.Quantifiers.{position-Some}
 use Rattle.run_admission.specs.declared.seat.Claim.{Claim}
 use Rattle.run_admission.specs.declared.seat.Seat.{Seat}
@@ -19,16 +17,17 @@ use Rattle.run_admission.specs.declared.seat.Candidate.{Candidate}
 use Rattle.run_admission.specs.declared.seat.Candidate.TheVariants.{Skip, Fits, Blocked}
 use Rattle.run_admission.specs.declared.seat.Admitted.TheVariants.{Run}
 use Rattle.run_admission.specs.InUse.{Admissions, Test, taken, taken_in, slot_of, slot_in, is_waiting, is_in_use}
-use Rattle.run_admission.specs.InUse.{fits_beside, seat_group_slot}
+use Rattle.run_admission.specs.InUse.{fits_beside}
 use Rattle.run_admission.specs.InUse.{group_weight_in_use, fits_its_group, fits_all, may_come, candidate_at}
 use Rattle.run_admission.specs.InUse.{candidate, free_slot, free_group_slot, admitted, admitted_as, seats_after}
 use Rattle.run_admission.specs.InUse.{after_admission, released, least_free}
 use Rattle.run_admission.specs.Kept.{Use, IsWhole, IsOfAll, IsOfGroup, nobody, free_in, comes, fits_in, seen}
 use Rattle.run_admission.specs.Kept.{free_within, take_of, take_in, give_back, give_in}
 use Rattle.run_admission.proofs.ListLemmas.{position_same, get_or_zip, length_zip}
+use Rattle.run_admission.proofs.OpenLemmas.{open_slot, open_in_group}
 use Rattle.run_admission.proofs.TestLemmas.{least_is, may_take}
 use Rattle.run_admission.proofs.WholeLemmas.{limit_at, of_same, CanRun, CanLeave, can_leave, run_whole, release_whole}
-use Rattle.run_admission.proofs.ScanLemmas.{free_is}
+use Rattle.run_admission.proofs.GroupLemmas.{free_is}
 
 -- the weight in use is what is kept of it
 pub all_used : (u : Use) (ts : List Test) → IsOfAll u ts → sum_by (taken u.limit) ts ≡ u.used
@@ -66,11 +65,11 @@ fits_same whole us claims seats claim (Some g) of there kept =
     (slice_index (map (λ u. u.limit) us) g) claim.weight) o true) of)
 
 -- which tests may come next
-come_same : (start : ℕ) (whole : Use) (us : List Use) (claims : List Claim) (seats : List Seat)
-    → IsWhole start whole us claims seats → (k : ℕ) → k < length (zip claims seats)
+come_same : (waiting : ℕ) (whole : Use) (us : List Use) (claims : List Claim) (seats : List Seat)
+    → IsWhole waiting whole us claims seats → (k : ℕ) → k < length (zip claims seats)
     → comes us (get_or (zip claims seats) k nobody)
     ≡ may_come (seen whole us claims seats) (get_or (zip claims seats) k nobody)
-come_same start whole us claims seats w k h =
+come_same waiting whole us claims seats w k h =
     let inside : k < length seats = omega (arith, length_zip claims seats w.paired) in
     let claim = get_or claims k nobody.0 in
     let s = get_or seats k Waiting in
@@ -80,35 +79,35 @@ come_same start whole us claims seats w k h =
     (fits_same whole us claims seats claim _ refl (w.members k) w.groups)
     ∙ sym (ap (may_come (seen whole us claims seats)) at)
 
-pub place_same : (start : ℕ) (whole : Use) (us : List Use) (claims : List Claim) (seats : List Seat)
-    → IsWhole start whole us claims seats
+pub place_same : (waiting : ℕ) (whole : Use) (us : List Use) (claims : List Claim) (seats : List Seat)
+    → IsWhole waiting whole us claims seats
     → position (comes us) (zip claims seats) ≡ position (may_come (seen whole us claims seats)) (zip claims seats)
-place_same start whole us claims seats w =
+place_same waiting whole us claims seats w =
     position_same (comes us) (may_come (seen whole us claims seats)) (zip claims seats) nobody
-    (come_same start whole us claims seats w)
+    (come_same waiting whole us claims seats w)
 
 -- there is no candidate
-pub no_candidate : (start : ℕ) (whole : Use) (us : List Use) (claims : List Claim) (seats : List Seat)
-    → IsWhole start whole us claims seats → position (comes us) (zip claims seats) ≡ None
+pub no_candidate : (waiting : ℕ) (whole : Use) (us : List Use) (claims : List Claim) (seats : List Seat)
+    → IsWhole waiting whole us claims seats → position (comes us) (zip claims seats) ≡ None
     → candidate (seen whole us claims seats) ≡ None
-no_candidate start whole us claims seats w e =
+no_candidate waiting whole us claims seats w e =
     ap (option_and_then (λ test. option_map
     (λ claim. candidate_at test claim (fits_all (seen whole us claims seats) claim))
     (slice_get claims test)))
-    (sym (place_same start whole us claims seats w) ∙ e)
+    (sym (place_same waiting whole us claims seats w) ∙ e)
 
 -- the candidate at a place
-pub candidate_is : (start : ℕ) (whole : Use) (us : List Use) (claims : List Claim) (seats : List Seat) (k : ℕ)
+pub candidate_is : (waiting : ℕ) (whole : Use) (us : List Use) (claims : List Claim) (seats : List Seat) (k : ℕ)
     (claim : Claim)
-    → IsWhole start whole us claims seats → position (comes us) (zip claims seats) ≡ Some k
+    → IsWhole waiting whole us claims seats → position (comes us) (zip claims seats) ≡ Some k
     → slice_get claims k ≡ Some claim
     → candidate (seen whole us claims seats)
     ≡ Some (candidate_at k claim (fits_beside whole.used whole.limit claim.weight))
-candidate_is start whole us claims seats k claim w e at =
+candidate_is waiting whole us claims seats k claim w e at =
     ap (option_and_then (λ test. option_map
     (λ claim. candidate_at test claim (fits_all (seen whole us claims seats) claim))
     (slice_get claims test)))
-    (sym (place_same start whole us claims seats w) ∙ e)
+    (sym (place_same waiting whole us claims seats w) ∙ e)
     ∙ ap (option_map (λ claim. candidate_at k claim (fits_all (seen whole us claims seats) claim))) at
     ∙ ap (λ n. Some (candidate_at k claim (fits_beside n whole.limit claim.weight)))
     (all_used whole (zip claims seats) w.all)
@@ -138,19 +137,19 @@ record IsChosen (whole : Use) (us : List Use) (claims : List Claim) (seats : Lis
   pub is : c ≡ candidate_at k (get_or claims k nobody.0)
       (fits_beside whole.used whole.limit (get_or claims k nobody.0).weight)
 
-chosen : (start : ℕ) (whole : Use) (us : List Use) (claims : List Claim) (seats : List Seat) (c : Candidate)
+chosen : (waiting : ℕ) (whole : Use) (us : List Use) (claims : List Claim) (seats : List Seat) (c : Candidate)
     (o : Option ℕ)
-    → IsWhole start whole us claims seats → position (comes us) (zip claims seats) ≡ o
+    → IsWhole waiting whole us claims seats → position (comes us) (zip claims seats) ≡ o
     → candidate (seen whole us claims seats) ≡ Some c → (k : ℕ) × IsChosen whole us claims seats c k
-chosen start whole us claims seats c None w e is =
-    let bad : None ≡ Some c = sym (no_candidate start whole us claims seats w e) ∙ is in cc
-chosen start whole us claims seats c (Some k) w e is = (
+chosen waiting whole us claims seats c None w e is =
+    let bad : None ≡ Some c = sym (no_candidate waiting whole us claims seats w e) ∙ is in cc
+chosen waiting whole us claims seats c (Some k) w e is = (
   k,
   record {
     inside = inside;
     waits = is_waiting_true _ both.0;
     fits = both.1;
-    is = same_Some c _ (sym is ∙ candidate_is start whole us claims seats k claim w e
+    is = same_Some c _ (sym is ∙ candidate_is waiting whole us claims seats k claim w e
         (slice_get-get_or claims k nobody.0 (omega (arith, w.paired, inside))));
   },
 )
@@ -188,11 +187,11 @@ runs t k claim b false of e =
     let bad : Fits t ≡ Skip k = e ∙ ap (λ m. if m then (if b then Fits k else Blocked k) else Skip k) (sym of) in cc
 
 -- a candidate that is to be skipped waits
-pub can_skip : (start : ℕ) (whole : Use) (us : List Use) (claims : List Claim) (seats : List Seat) (t : ℕ)
-    → IsWhole start whole us claims seats → candidate (seen whole us claims seats) ≡ Some (Skip t)
+pub can_skip : (waiting : ℕ) (whole : Use) (us : List Use) (claims : List Claim) (seats : List Seat) (t : ℕ)
+    → IsWhole waiting whole us claims seats → candidate (seen whole us claims seats) ≡ Some (Skip t)
     → (t < length seats) × (get_or seats t Waiting ≡ Waiting)
-can_skip start whole us claims seats t w is =
-    let found = chosen start whole us claims seats (Skip t) (position (comes us) (zip claims seats)) w refl is in
+can_skip waiting whole us claims seats t w is =
+    let found = chosen waiting whole us claims seats (Skip t) (position (comes us) (zip claims seats)) w refl is in
     let same : found.0 ≡ t = skips t found.0 (get_or claims found.0 nobody.0) _ _ refl found.1.is in
     (omega (arith, same, found.1.inside), ap (λ k. get_or seats k Waiting) (sym same) ∙ found.1.waits)
 
@@ -200,29 +199,29 @@ fits_is : (used limit weight : ℕ) → fits_beside used limit weight ≡ true �
 fits_is used limit weight e = grind (arith, e)
 
 -- a candidate that fits can run
-pub can_run : (start : ℕ) (whole : Use) (us : List Use) (claims : List Claim) (seats : List Seat) (t : ℕ)
-    → IsWhole start whole us claims seats → candidate (seen whole us claims seats) ≡ Some (Fits t)
+pub can_run : (waiting : ℕ) (whole : Use) (us : List Use) (claims : List Claim) (seats : List Seat) (t : ℕ)
+    → IsWhole waiting whole us claims seats → candidate (seen whole us claims seats) ≡ Some (Fits t)
     → CanRun whole us claims seats t
-can_run start whole us claims seats t w is =
-    let found = chosen start whole us claims seats (Fits t) (position (comes us) (zip claims seats)) w refl is in
+can_run waiting whole us claims seats t w is =
+    let found = chosen waiting whole us claims seats (Fits t) (position (comes us) (zip claims seats)) w refl is in
     let so = runs t found.0 (get_or claims found.0 nobody.0) _ _ refl found.1.is in
     subst (CanRun whole us claims seats) so.0
-    (chosen_runs start whole us claims seats found.0 w found.1.inside found.1.waits
-    (ap (λ m. not m || fits_in us (get_or claims found.0 nobody.0)) (sym so.1) ∙ found.1.fits) so.2)
+    (chosen_runs waiting whole us claims seats found.0 w found.1.inside found.1.waits
+    so.1 (ap (λ m. not m || fits_in us (get_or claims found.0 nobody.0)) (sym so.1) ∙ found.1.fits) so.2)
   where
-    chosen_runs : (start : ℕ) (whole : Use) (us : List Use) (claims : List Claim) (seats : List Seat) (k : ℕ)
-        → IsWhole start whole us claims seats → k < length seats → get_or seats k Waiting ≡ Waiting
-        → fits_in us (get_or claims k nobody.0) ≡ true
+    chosen_runs : (waiting : ℕ) (whole : Use) (us : List Use) (claims : List Claim) (seats : List Seat) (k : ℕ)
+        → IsWhole waiting whole us claims seats → k < length seats → get_or seats k Waiting ≡ Waiting
+        → (get_or claims k nobody.0).matched ≡ true → fits_in us (get_or claims k nobody.0) ≡ true
         → fits_beside whole.used whole.limit (get_or claims k nobody.0).weight ≡ true → CanRun whole us claims seats k
-    chosen_runs start whole us claims seats k w inside waits within all = record {
+    chosen_runs waiting whole us claims seats k w inside waits matched within all = record {
       inside = inside;
       waits = waits;
-      can = may_take whole (taken whole.limit) slot_of claims seats k claim.weight w.paired inside w.few refl
-          (ap (λ s. slot_of (claim, s)) waits) (fits_is _ _ _ all) w.all;
+      matched = matched;
+      can = may_take whole (taken whole.limit) slot_of claims seats claim.weight w.paired w.few
+          (omega (arith, w.slots, open_slot claims seats k w.paired inside waits)) (fits_is _ _ _ all) w.all;
       cans = λ g u of e.
-          may_take u (taken_in g u.limit) (slot_in g) claims seats k claim.weight w.paired inside w.few refl
-          (ap (λ b. if b then seat_group_slot (get_or seats k Waiting) else None) (of_same g g _ of refl)
-          ∙ ap seat_group_slot waits)
+          may_take u (taken_in g u.limit) (slot_in g) claims seats claim.weight w.paired w.few
+          (omega (arith, w.places g u e, open_in_group g claims seats k w.paired inside (of_same g g _ of refl) waits))
           (fits_is _ _ _ (sym (ap (λ o. option_map_or (λ u. fits_beside u.used u.limit claim.weight) o true) e)
           ∙ sym (ap (λ o. option_map_or
           (λ g. option_map_or (λ u. fits_beside u.used u.limit claim.weight) (slice_get us g) true) o true) of)
@@ -244,11 +243,11 @@ slot_within us ts (Some g) there kept =
     ∙ sym (free_is us g u.0 u.1)
 
 -- what is admitted, where the candidate fits
-pub run_admitted : (start : ℕ) (whole : Use) (us : List Use) (claims : List Claim) (seats : List Seat) (k : ℕ)
-    → IsWhole start whole us claims seats → candidate (seen whole us claims seats) ≡ Some (Fits k) → k < length seats
+pub run_admitted : (waiting : ℕ) (whole : Use) (us : List Use) (claims : List Claim) (seats : List Seat) (k : ℕ)
+    → IsWhole waiting whole us claims seats → candidate (seen whole us claims seats) ≡ Some (Fits k) → k < length seats
     → admitted (seen whole us claims seats)
     ≡ Some (Run k (free_in whole) (free_within us (get_or claims k nobody.0).group))
-run_admitted start whole us claims seats k w is inside =
+run_admitted waiting whole us claims seats k w is inside =
     let claim = get_or claims k nobody.0 in
     let a = seen whole us claims seats in
     ap (option_and_then (admitted_as a)) is
@@ -286,78 +285,61 @@ limits_give us (Some g) (Some n) w = by_place (slice_get us g) refl
     by_place None e = refl
     by_place (Some u) e = limits_set us g u (give_back u n w) e refl
 
--- the first place at which a test waits, and no test before it does, also after one was admitted
-pub start_within : (start : ℕ) (seats : List Seat) → start ≡ position_or_len is_waiting seats → start ≤ length seats
-start_within start seats e = omega (arith, e, prefix_len-le-length (λ s. not (is_waiting s)) seats)
-
-pub none_waits : (start : ℕ) (seats : List Seat) (k : ℕ) (s : Seat) → start ≡ position_or_len is_waiting seats
-    → k < length seats → is_waiting s ≡ false → (j : ℕ) → j < start
-    → is_waiting (get_or (set seats k s) j Waiting) ≡ false
-none_waits start seats k s first inside not_so j h = by_place (j == k) refl
-  where
-    by_place : (b : Bool) → (j == k) ≡ b → is_waiting (get_or (set seats k s) j Waiting) ≡ false
-    by_place true e =
-        let is : j ≡ k = grind arith in ap is_waiting (get_or-set_at seats k j s Waiting is inside) ∙ not_so
-    by_place false e =
-        let apart : j ≢ k = grind arith in
-        ap is_waiting (get_or-set_other seats k j s Waiting apart)
-        ∙ fails_before_first is_waiting seats j Waiting (omega (arith, first))
-
 -- what is seen, part by part
 abbrev made : ℕ → List ℕ → List Claim → List Seat → Admissions
 made threads limits claims seats = record { threads = threads; limits = limits; claims = claims; seats = seats }
 
 -- after a test runs: what is kept, what is said of it, and what is seen
-pub run_kept : (start next : ℕ) (whole after : Use) (us afters : List Use) (claims : List Claim) (seats : List Seat)
+pub run_kept : (waiting next : ℕ) (whole after : Use) (us afters : List Use) (claims : List Claim) (seats : List Seat)
     (k n : ℕ)
-    (m : Option ℕ) (claim : Claim) → IsWhole start whole us claims seats
+    (m : Option ℕ) (claim : Claim) → IsWhole waiting whole us claims seats
     → candidate (seen whole us claims seats) ≡ Some (Fits k) → claim ≡ get_or claims k nobody.0 → n ≡ free_in whole
     → m ≡ free_within us claim.group → after ≡ take_of whole k claim.weight
-    → afters ≡ take_in us claim.group k claim.weight → next ≡ position_or_len is_waiting (set seats k (InUse n m))
+    → afters ≡ take_in us claim.group k claim.weight → next ≡ count_by is_waiting (set seats k (InUse n m))
     → IsWhole next after afters claims (set seats k (InUse n m))
-run_kept start next whole after us afters claims seats k n m claim w is of slot within all parts first =
+run_kept waiting next whole after us afters claims seats k n m claim w is of slot within all parts first =
     subst (λ u. IsWhole next u afters claims (set seats k (InUse n m)))
     (sym (all ∙ ap (λ c. take_of whole k c.weight) of))
     (subst (λ us. IsWhole next (take_of whole k (get_or claims k nobody.0).weight) us claims (set seats k (InUse n m)))
     (sym (parts ∙ ap (λ c. take_in us c.group k c.weight) of))
-    (run_whole start next whole us claims seats k n m w (can_run start whole us claims seats k w is) slot
+    (run_whole waiting next whole us claims seats k n m w (can_run waiting whole us claims seats k w is) slot
     (within ∙ ap (λ c. free_within us c.group) of) first))
 
-pub run_said : (start : ℕ) (whole : Use) (us : List Use) (claims : List Claim) (seats : List Seat) (k n : ℕ)
+pub run_said : (waiting : ℕ) (whole : Use) (us : List Use) (claims : List Claim) (seats : List Seat) (k n : ℕ)
     (m : Option ℕ)
-    (claim : Claim) → IsWhole start whole us claims seats → candidate (seen whole us claims seats) ≡ Some (Fits k)
+    (claim : Claim) → IsWhole waiting whole us claims seats → candidate (seen whole us claims seats) ≡ Some (Fits k)
     → claim ≡ get_or claims k nobody.0 → n ≡ free_in whole → m ≡ free_within us claim.group
     → admitted (seen whole us claims seats) ≡ Some (Run k n m)
-run_said start whole us claims seats k n m claim w is of slot within =
-    run_admitted start whole us claims seats k w is (can_run start whole us claims seats k w is).inside
+run_said waiting whole us claims seats k n m claim w is of slot within =
+    run_admitted waiting whole us claims seats k w is (can_run waiting whole us claims seats k w is).inside
     ∙ ap (λ n. Some (Run k n (free_within us (get_or claims k nobody.0).group))) (sym slot)
     ∙ ap (λ m. Some (Run k n m)) (sym (within ∙ ap (λ c. free_within us c.group) of))
 
-pub run_seen : (start : ℕ) (whole after : Use) (us afters : List Use) (claims : List Claim) (seats : List Seat)
+pub run_seen : (waiting : ℕ) (whole after : Use) (us afters : List Use) (claims : List Claim) (seats : List Seat)
     (k n : ℕ)
-    (m : Option ℕ) (claim : Claim) → IsWhole start whole us claims seats
+    (m : Option ℕ) (claim : Claim) → IsWhole waiting whole us claims seats
     → candidate (seen whole us claims seats) ≡ Some (Fits k) → claim ≡ get_or claims k nobody.0 → n ≡ free_in whole
     → m ≡ free_within us claim.group → after ≡ take_of whole k claim.weight
     → afters ≡ take_in us claim.group k claim.weight
     → seen after afters claims (set seats k (InUse n m)) ≡ after_admission (seen whole us claims seats)
-run_seen start whole after us afters claims seats k n m claim w is of slot within all parts =
+run_seen waiting whole after us afters claims seats k n m claim w is of slot within all parts =
     ap (λ u. seen u afters claims (set seats k (InUse n m))) all
     ∙ ap (λ us. seen (take_of whole k claim.weight) us claims (set seats k (InUse n m))) parts
     ∙ ap (λ l. made whole.limit l claims (set seats k (InUse n m))) (limits_take us claim.group k claim.weight)
     ∙ ap (λ o. made whole.limit (map (λ u. u.limit) us) claims (seats_after seats o))
-    (sym (run_said start whole us claims seats k n m claim w is of slot within))
+    (sym (run_said waiting whole us claims seats k n m claim w is of slot within))
 
 -- after a test was released
-pub release_kept : (start : ℕ) (whole after : Use) (us afters : List Use) (claims : List Claim) (seats : List Seat)
+pub release_kept : (waiting : ℕ) (whole after : Use) (us afters : List Use) (claims : List Claim) (seats : List Seat)
     (k n : ℕ)
-    (m : Option ℕ) (claim : Claim) → IsWhole start whole us claims seats → CanLeave whole us claims seats k n m
+    (m : Option ℕ) (claim : Claim) → IsWhole waiting whole us claims seats → CanLeave whole us claims seats k n m
     → claim ≡ get_or claims k nobody.0 → after ≡ give_back whole n claim.weight
-    → afters ≡ give_in us claim.group m claim.weight → IsWhole start after afters claims (set seats k Gone)
-release_kept start whole after us afters claims seats k n m claim w can of all parts =
-    subst (λ u. IsWhole start u afters claims (set seats k Gone)) (sym (all ∙ ap (λ c. give_back whole n c.weight) of))
-    (subst (λ us. IsWhole start (give_back whole n (get_or claims k nobody.0).weight) us claims (set seats k Gone))
+    → afters ≡ give_in us claim.group m claim.weight → IsWhole waiting after afters claims (set seats k Gone)
+release_kept waiting whole after us afters claims seats k n m claim w can of all parts =
+    subst (λ u. IsWhole waiting u afters claims (set seats k Gone)) (sym (all ∙ ap (λ c. give_back whole n c.weight) of))
+    (subst (λ us. IsWhole waiting (give_back whole n (get_or claims k nobody.0).weight) us claims (set seats k Gone))
     (sym (parts ∙ ap (λ c. give_in us c.group m c.weight) of))
-    (release_whole start whole us claims seats k n m w can))
+    (release_whole waiting whole us claims seats k n m w can))
 
 pub release_seen : (whole after : Use) (us afters : List Use) (claims : List Claim) (seats : List Seat) (k n : ℕ)
     (m : Option ℕ) (claim : Claim) → after ≡ give_back whole n claim.weight
@@ -374,10 +356,10 @@ in_use_inside [] k e = cc
 in_use_inside (s ∷ seats) zero e = omega arith
 in_use_inside (s ∷ seats) (suc k) e = let rest : k < length seats = in_use_inside seats k e in omega arith
 
-pub may_leave : (start : ℕ) (whole : Use) (us : List Use) (claims : List Claim) (seats : List Seat) (k n : ℕ)
+pub may_leave : (waiting : ℕ) (whole : Use) (us : List Use) (claims : List Claim) (seats : List Seat) (k n : ℕ)
     (m : Option ℕ)
-    (s : Seat) → IsWhole start whole us claims seats → is_in_use (get_or seats k Gone) ≡ true → s ≡ get_or seats k s
+    (s : Seat) → IsWhole waiting whole us claims seats → is_in_use (get_or seats k Gone) ≡ true → s ≡ get_or seats k s
     → s ≡ InUse n m → CanLeave whole us claims seats k n m
-may_leave start whole us claims seats k n m s w used read is =
+may_leave waiting whole us claims seats k n m s w used read is =
     let inside = in_use_inside seats k used in
-    can_leave start whole us claims seats k n m w inside (sym (get_or_read seats k s inside read Waiting) ∙ is)
+    can_leave waiting whole us claims seats k n m w inside (sym (get_or_read seats k s inside read Waiting) ∙ is)

@@ -1,11 +1,11 @@
 -- What is kept of the tests' weights and slots, as one test moves to another seat.
 use Rattle.std.proofs.Common.{◌≡◌, ℕ, zero, suc, ◌+◌, ◌<◌, ◌≤◌, ◌==◌, List, [], ◌∷◌, length, get_or, set, map, min}
 use Rattle.std.proofs.Common.{Bool, true, false, not, Option, Some, None, is_none, refl, ap, sym, subst, ◌∙◌, arith}
-use Rattle.std.proofs.Common.{zero-add, eq-eqb, ◌^◌}
+use Rattle.std.proofs.Common.{zero-add, eq-eqb, ◌^◌, count_by, is_some, nat_lt}
 use Rattle.std.proofs.Math.ListN.{get_or-map}
-use Rattle.std.proofs.lemmas.List.{length-map, map-set, set-get_or, get_or-map as inner_map}
+use Rattle.std.proofs.lemmas.List.{length-map, map-set, set-get_or, get_or_past, get_or-map as inner_map}
 use Rattle.std.specs.Option.{option_map_or}
-use Rattle.std.specs.List.{list_any, range_with_len, zip}
+use Rattle.std.specs.List.{list_any, position_or_len, range_with_len, zip}
 use Rattle.std.proofs.lemmas.List.Folds.{Any-from_list_any, list_any_at}
 use Rattle.std.proofs.lemmas.List.FromFn.{get_or-range_with_len, length-range_with_len}
 use Rattle.std.proofs.lemmas.List.Sums.{position_or_len_is, fails_before_first, passes_at_first, prefix_len-le-length}
@@ -18,7 +18,7 @@ use Rattle.run_admission.proofs.ListLemmas.{zip_set, get_or_zip, length_zip}
 use Rattle.run_admission.proofs.KeptLemmas.{take_kept, give_kept, none_there, can_take, can_give}
 
 -- a function of each test, at one place, and after the test there moved to another seat
-stood : {X : Type 0} (f : Test → X) (claims : List Claim) (seats : List Seat) (k : ℕ) → length claims ≡ length seats
+pub stood : {X : Type 0} (f : Test → X) (claims : List Claim) (seats : List Seat) (k : ℕ) → length claims ≡ length seats
     → k < length seats
     → get_or (map f (zip claims seats)) k (f nobody) ≡ f (get_or claims k nobody.0, get_or seats k Waiting)
 stood f claims seats k same inside =
@@ -57,17 +57,15 @@ stays u weight slot claims seats k s same inside light free kept =
     subst (λ ws. IsKept u ws (map slot (zip claims (set seats k s)))) weights (subst (IsKept u ws) slots kept)
 
 -- a test comes to use
-pub may_take : (u : Use) (weight : Test → ℕ) (slot : Test
-    → Option ℕ) (claims : List Claim) (seats : List Seat) (k heavy : ℕ)
-    → length claims ≡ length seats → k < length seats → length seats < 2 ^ 32 → slot nobody ≡ None
-    → slot (get_or claims k nobody.0, get_or seats k Waiting) ≡ None → u.used + min heavy u.limit ≤ u.limit
+pub may_take : (u : Use) (weight : Test → ℕ) (slot : Test → Option ℕ) (claims : List Claim) (seats : List Seat)
+    (heavy : ℕ)
+    → length claims ≡ length seats → length seats < 2 ^ 32
+    → count_by is_some (map slot (zip claims seats)) < length u.holders → u.used + min heavy u.limit ≤ u.limit
     → IsKept u (map weight (zip claims seats)) (map slot (zip claims seats)) → CanTake u heavy
-may_take u weight slot claims seats k heavy same inside few nobodys free fits kept =
+may_take u weight slot claims seats heavy same few free fits kept =
     let ss = map slot (zip claims seats) in
     let many : length ss ≡ length seats = length-map (zip claims seats) slot ∙ length_zip claims seats same in
-    let none : get_or ss k None ≡ None =
-    ap (get_or ss k) (sym nobodys) ∙ stood slot claims seats k same inside ∙ free in
-    can_take u (map weight (zip claims seats)) ss k heavy kept (omega arith) none (omega arith) fits
+    can_take u (map weight (zip claims seats)) ss heavy kept free (omega arith) fits
 
 pub takes : (u : Use) (weight : Test → ℕ) (slot : Test
     → Option ℕ) (claims : List Claim) (seats : List Seat) (k heavy : ℕ) (s : Seat)
@@ -150,6 +148,15 @@ stands_inside [] n k e = cc
 stands_inside (x ∷ xs) zero k e = omega arith
 stands_inside (x ∷ xs) (suc n) k e = let rest : n < length xs = stands_inside xs n k e in omega arith
 
+-- none is at the first place of none, or past the end
+first_none : (xs : List (Option ℕ)) → get_or xs (position_or_len is_none xs) None ≡ None
+first_none xs = by_place (nat_lt (position_or_len is_none xs) (length xs)) refl
+  where
+    by_place : (b : Bool) → nat_lt (position_or_len is_none xs) (length xs) ≡ b
+        → get_or xs (position_or_len is_none xs) None ≡ None
+    by_place true e = none_there _ (passes_at_first is_none xs None (grind (arith, e)))
+    by_place false e = get_or_past xs (position_or_len is_none xs) None (grind (arith, e))
+
 -- the first slot that no test holds is the least free number
 pub least_is : (u : Use) (ws : List ℕ) (slot : Test → Option ℕ) (ts : List Test) → slot nobody ≡ None
     → IsKept u ws (map slot ts) → least_free slot ts ≡ free_in u
@@ -161,8 +168,8 @@ least_is u ws slot ts nobodys kept =
     (λ h. let few : free_in u < length ts = omega (arith, length-range_with_len 0 (length ts)) in
     ap (λ n. not (list_any (holds slot n) ts)) (at (free_in u) few) ∙ ap not (here few))
   where
-    many : length u.holders ≡ length ts
-    many = kept.places ∙ length-map ts slot
+    many : length u.holders ≤ length ts
+    many = omega (arith, kept.places, length-map ts slot)
 
     within : free_in u ≤ length u.holders
     within = prefix_len-le-length (λ x. not (is_none x)) u.holders
@@ -184,7 +191,7 @@ least_is u ws slot ts nobodys kept =
     here few = by_case (list_any (holds slot (free_in u)) ts) refl
       where
         none : get_or u.holders (free_in u) None ≡ None
-        none = none_there _ (passes_at_first is_none u.holders None (omega (arith, many)))
+        none = first_none u.holders
 
         by_case : (b : Bool) → list_any (holds slot (free_in u)) ts ≡ b → b ≡ false
         by_case true e =

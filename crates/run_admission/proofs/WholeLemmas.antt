@@ -2,13 +2,12 @@
 use Rattle.std.proofs.Common.{◌≡◌, ◌≢◌, ℕ, zero, suc, ◌<◌, ◌==◌, List, [], ◌∷◌, length, get_or, set}
 use Rattle.std.proofs.Common.{Bool, true, false, if◌then◌else◌, Option, Some, None, is_some, refl, ap, sym, subst, ◌∙◌}
 use Rattle.std.proofs.Common.{arith}
-use Rattle.std.proofs.Common.{slice_get, ◌⊎◌, inl, inr, get_or-set_other}
+use Rattle.std.proofs.Common.{count_by, slice_get, ◌⊎◌, inl, inr, get_or-set_other}
 use Rattle.std.proofs.Math.ListN.{length-set}
 use Rattle.std.specs.Option.{option_map_or}
-use Rattle.std.specs.List.{position_or_len, zip}
+use Rattle.std.specs.List.{zip}
 use Rattle.std.proofs.lemmas.Grind.{get_or-set_at}
 use Rattle.std.proofs.lemmas.Option.{same_Some, slice_get-get_or}
-use Rattle.std.proofs.lemmas.List.Folds.{position_or_len-set}
 use Rattle.run_admission.specs.declared.seat.Claim.{Claim}
 use Rattle.run_admission.specs.declared.seat.Seat.{Seat}
 use Rattle.run_admission.specs.declared.seat.Seat.TheVariants.{Waiting, InUse, Gone}
@@ -16,7 +15,8 @@ use Rattle.run_admission.specs.InUse.{taken, taken_in, slot_of, slot_in, is_of, 
 use Rattle.run_admission.specs.Kept.{Use, IsWhole, IsOfGroup, IsSeated, CanTake, CanGive, nobody, free_in}
 use Rattle.run_admission.specs.Kept.{free_within, take_of, take_in, give_back, give_in}
 use Rattle.run_admission.proofs.ListLemmas.{zip_set, length_zip, get_or_zip}
-use Rattle.run_admission.proofs.ScanLemmas.{free_is, take_is, give_is}
+use Rattle.run_admission.proofs.GroupLemmas.{free_is, take_is, give_is}
+use Rattle.run_admission.proofs.WaitLemmas.{none_fewer}
 use Rattle.run_admission.proofs.TestLemmas.{stays, takes, gives, may_give}
 
 -- what stands at a place, after one was set
@@ -78,6 +78,34 @@ length_give_in us (Some g) (Some n) w = by_place (slice_get us g)
     by_place None = refl
     by_place (Some u) = length-set us g (give_back u n w)
 
+-- a group has as many slots as before
+as_many_taken : {many : ℕ → ℕ} (g : ℕ) (u : Use) (us : List Use) (o : Option ℕ) (k w : ℕ)
+    → ((h : ℕ) → o ≡ Some h → h < length us)
+    → ((h : ℕ) (v : Use) → slice_get us h ≡ Some v → length v.holders ≡ many h)
+    → slice_get (take_in us o k w) g ≡ Some u → length u.holders ≡ many g
+as_many_taken g u us None k w there old e = old g u e
+as_many_taken {many = many} g u us (Some h) k w there old e =
+    let v = limit_at us h (there h refl) in
+    elim (set_found us h g u (take_of v.0 k w) (sym (ap (λ l. slice_get l g) (take_is us h k w v.0 v.1)) ∙ e)) [
+      | inl p ↦ subst (λ u. length u.holders ≡ many g) p.1
+          (length-set v.0.holders (free_in v.0) (Some k) ∙ old h v.0 v.1 ∙ ap many (sym p.0))
+      | inr p ↦ old g u p.1
+    ]
+
+as_many_given : {many : ℕ → ℕ} (g : ℕ) (u : Use) (us : List Use) (o m : Option ℕ) (w : ℕ)
+    → ((h : ℕ) → o ≡ Some h → h < length us)
+    → ((h : ℕ) (v : Use) → slice_get us h ≡ Some v → length v.holders ≡ many h)
+    → slice_get (give_in us o m w) g ≡ Some u → length u.holders ≡ many g
+as_many_given g u us None m w there old e = old g u e
+as_many_given g u us (Some h) None w there old e = old g u e
+as_many_given {many = many} g u us (Some h) (Some n) w there old e =
+    let v = limit_at us h (there h refl) in
+    elim (set_found us h g u (give_back v.0 n w) (sym (ap (λ l. slice_get l g) (give_is us h n w v.0 v.1)) ∙ e)) [
+      | inl p ↦ subst (λ u. length u.holders ≡ many g) p.1
+          (length-set v.0.holders n None ∙ old h v.0 v.1 ∙ ap many (sym p.0))
+      | inr p ↦ old g u p.1
+    ]
+
 -- each test's slot fits its group, after one moved to a seat that does
 seated_after : (claims : List Claim) (seats : List Seat) (k : ℕ) (s : Seat) → length claims ≡ length seats
     → k < length seats → ((j : ℕ) → IsSeated (get_or (zip claims seats) j nobody))
@@ -100,17 +128,19 @@ seated_after claims seats k s same inside all new j =
         (all j)
 
 -- a test is skipped
-pub skip_whole : (start next : ℕ) (whole : Use) (us : List Use) (claims : List Claim) (seats : List Seat) (k : ℕ)
-    → IsWhole start whole us claims seats → k < length seats → get_or seats k Waiting ≡ Waiting
-    → next ≡ position_or_len is_waiting (set seats k Gone) → IsWhole next whole us claims (set seats k Gone)
-skip_whole start next whole us claims seats k w inside waits is = record {
+pub skip_whole : (waiting next : ℕ) (whole : Use) (us : List Use) (claims : List Claim) (seats : List Seat) (k : ℕ)
+    → IsWhole waiting whole us claims seats → k < length seats → get_or seats k Waiting ≡ Waiting
+    → next ≡ count_by is_waiting (set seats k Gone) → IsWhole next whole us claims (set seats k Gone)
+skip_whole waiting next whole us claims seats k w inside waits is = record {
   few = omega (arith, w.few, length-set seats k Gone);
   paired = omega (arith, w.paired, length-set seats k Gone);
-  first = is;
+  waits = is;
   all = stays whole (taken whole.limit) slot_of claims seats k Gone w.paired inside
       (ap (λ s. taken whole.limit (claim, s)) waits) (ap (λ s. slot_of (claim, s)) waits) w.all;
   groups = λ g u e. stays u (taken_in g u.limit) (slot_in g) claims seats k Gone w.paired inside
       (ap (λ s. taken_in g u.limit (claim, s)) waits) (ap (λ s. slot_in g (claim, s)) waits) (w.groups g u e);
+  slots = w.slots ∙ sym (length-set seats k Gone);
+  places = w.places;
   members = w.members;
   seated = seated_after claims seats k Gone w.paired inside w.seated (λ e. absurd_seat e);
 }
@@ -125,6 +155,7 @@ skip_whole start next whole us claims seats k w inside waits is = record {
 pub record CanRun (whole : Use) (us : List Use) (claims : List Claim) (seats : List Seat) (k : ℕ) : Type 0 where
   pub inside : k < length seats
   pub waits : get_or seats k Waiting ≡ Waiting
+  pub matched : (get_or claims k nobody.0).matched ≡ true
   pub can : CanTake whole (get_or claims k nobody.0).weight
   pub cans : (g : ℕ) (u : Use) → (get_or claims k nobody.0).group ≡ Some g → slice_get us g ≡ Some u
       → CanTake u (get_or claims k nobody.0).weight
@@ -176,23 +207,26 @@ seat_of us (Some h) there =
     let v = limit_at us h (there h refl) in ap is_some (free_is us h v.0 v.1)
 
 -- a test runs
-pub run_whole : (start next : ℕ) (whole : Use) (us : List Use) (claims : List Claim) (seats : List Seat) (k n : ℕ)
+pub run_whole : (waiting next : ℕ) (whole : Use) (us : List Use) (claims : List Claim) (seats : List Seat) (k n : ℕ)
     (m : Option ℕ)
-    → IsWhole start whole us claims seats → CanRun whole us claims seats k → n ≡ free_in whole
+    → IsWhole waiting whole us claims seats → CanRun whole us claims seats k → n ≡ free_in whole
     → m ≡ free_within us (get_or claims k nobody.0).group
-    → next ≡ position_or_len is_waiting (set seats k (InUse n m))
+    → next ≡ count_by is_waiting (set seats k (InUse n m))
     → IsWhole next (take_of whole k (get_or claims k nobody.0).weight)
     (take_in us (get_or claims k nobody.0).group k (get_or claims k nobody.0).weight) claims (set seats k (InUse n m))
-run_whole start next whole us claims seats k n m w can slot slot_within is = record {
+run_whole waiting next whole us claims seats k n m w can slot slot_within is = record {
   few = omega (arith, w.few, length-set seats k (InUse n m));
   paired = omega (arith, w.paired, length-set seats k (InUse n m));
-  first = is;
+  waits = is;
   all = takes whole (taken whole.limit) slot_of claims seats k claim.weight (InUse n m) w.paired can.inside refl refl
       (ap (λ s. taken whole.limit (claim, s)) can.waits) (ap (λ s. slot_of (claim, s)) can.waits) refl
       (ap (λ n. Some n) slot) can.can w.all;
   groups = λ g u e. group_run g n m u us claims seats k claim.group w.paired can.inside can.waits refl (w.members k)
       slot_within
       can.cans w.groups e;
+  slots =
+      length-set whole.holders (free_in whole) (Some k) ∙ w.slots ∙ sym (length-set seats k (InUse n m));
+  places = λ g u e. as_many_taken g u us claim.group k claim.weight (w.members k) w.places e;
   members = λ j g e. omega (arith, w.members j g e, length_take_in us claim.group k claim.weight);
   seated = seated_after claims seats k (InUse n m) w.paired can.inside w.seated
       (λ e. ap is_some slot_within ∙ seat_of us claim.group (w.members k));
@@ -210,11 +244,11 @@ pub record CanLeave (whole : Use) (us : List Use) (claims : List Claim) (seats :
   pub cans : (g j : ℕ) (u : Use) → (get_or claims k nobody.0).group ≡ Some g → m ≡ Some j → slice_get us g ≡ Some u
       → CanGive u j (get_or claims k nobody.0).weight
 
-pub can_leave : (start : ℕ) (whole : Use) (us : List Use) (claims : List Claim) (seats : List Seat) (k n : ℕ)
+pub can_leave : (waiting : ℕ) (whole : Use) (us : List Use) (claims : List Claim) (seats : List Seat) (k n : ℕ)
     (m : Option ℕ)
-    → IsWhole start whole us claims seats → k < length seats → get_or seats k Waiting ≡ InUse n m
+    → IsWhole waiting whole us claims seats → k < length seats → get_or seats k Waiting ≡ InUse n m
     → CanLeave whole us claims seats k n m
-can_leave start whole us claims seats k n m w inside used = record {
+can_leave waiting whole us claims seats k n m w inside used = record {
   inside = inside;
   used = used;
   can = may_give whole (taken whole.limit) slot_of claims seats k n claim.weight w.paired inside refl refl
@@ -272,20 +306,22 @@ group_release g n (Some j) u us claims seats k (Some h) same inside used of seat
         of_it = of_same g h _ of is
 
 -- a test is released
-pub release_whole : (start : ℕ) (whole : Use) (us : List Use) (claims : List Claim) (seats : List Seat) (k n : ℕ)
+pub release_whole : (waiting : ℕ) (whole : Use) (us : List Use) (claims : List Claim) (seats : List Seat) (k n : ℕ)
     (m : Option ℕ)
-    → IsWhole start whole us claims seats → CanLeave whole us claims seats k n m
-    → IsWhole start (give_back whole n (get_or claims k nobody.0).weight)
+    → IsWhole waiting whole us claims seats → CanLeave whole us claims seats k n m
+    → IsWhole waiting (give_back whole n (get_or claims k nobody.0).weight)
     (give_in us (get_or claims k nobody.0).group m (get_or claims k nobody.0).weight) claims (set seats k Gone)
-release_whole start whole us claims seats k n m w can = record {
+release_whole waiting whole us claims seats k n m w can = record {
   few = omega (arith, w.few, length-set seats k Gone);
   paired = omega (arith, w.paired, length-set seats k Gone);
-  first = w.first ∙ sym (position_or_len-set is_waiting seats k Gone Waiting (sym (ap is_waiting can.used)));
+  waits = w.waits ∙ sym (none_fewer seats k Gone can.inside (ap is_waiting can.used) refl);
   all = gives whole (taken whole.limit) slot_of claims seats k n claim.weight Gone w.paired can.inside refl refl
       (ap (λ s. taken whole.limit (claim, s)) can.used) (ap (λ s. slot_of (claim, s)) can.used) refl refl can.can w.all;
   groups = λ g u e. group_release g n m u us claims seats k claim.group w.paired can.inside can.used refl seated
       (w.members k)
       can.cans w.groups e;
+  slots = length-set whole.holders n None ∙ w.slots ∙ sym (length-set seats k Gone);
+  places = λ g u e. as_many_given g u us claim.group m claim.weight (w.members k) w.places e;
   members = λ j g e. omega (arith, w.members j g e, length_give_in us claim.group m claim.weight);
   seated = seated_after claims seats k Gone w.paired can.inside w.seated (λ e. absurd_seat e);
 }

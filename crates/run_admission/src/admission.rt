@@ -6,9 +6,12 @@ ghost use Rattle.run_admission.specs.InUse.{begun, candidate, admitted, after_ad
 ghost use Rattle.run_admission.specs.InUse.{is_done};
 ghost use Rattle.run_admission.specs.Laws.{KeepsLimits, HasOwnSlots};
 
-use crate::claims::{claims_of, rooms_of};
+use crate::claims::{claims_of, members_of, rooms_of};
+use crate::draft::lines_of;
+use crate::groups::{candidate_at, give_in_group, line_of, room_of, take_in_group};
+use crate::lines::Lines;
+use crate::min_tree::NONE;
 use crate::room::Room;
-use crate::scan::{candidate_at, first_to_come, first_waiting, give_in_group, take_in_group};
 use crate::seat::{Admitted, Candidate, Claim, Seat};
 use run_capture::Mem;
 use run_events::{Group, PlanTest};
@@ -19,12 +22,13 @@ use std::marker::Model;
 /// where the weight in use and its own, both cut so, are within the limit. Contracts see the record `Admissions`.
 #[derive(Drop)]
 pub struct Admission {
-    /// The first place at which a test waits, or how many tests there are.
-    first: usize,
+    /// How many tests wait.
+    waiting: usize,
     /// The limit on all tests.
     whole: Room,
     /// The limits of the groups.
     groups: Vec<Room>,
+    lines: Lines,
     claims: Vec<Claim>,
     seats: Vec<Seat>,
 }
@@ -34,11 +38,12 @@ impl Model for Admission {
 
     ghost Value = { Admissions };
 
-    ghost use Rattle.run_admission.specs.Kept.{IsWhole, seen};
+    ghost use Rattle.run_admission.specs.Kept.{seen};
+    ghost use Rattle.run_admission.specs.Lined.{IsReady};
 
     ghost view = { λ a. seen a.whole a.groups.items a.claims.items a.seats.items };
 
-    ghost invariant = { λ a. IsWhole a.first a.whole a.groups.items a.claims.items a.seats.items };
+    ghost invariant = { λ a. IsReady a.waiting a.whole a.groups.items a.lines a.claims.items a.seats.items };
 }
 
 impl Admission {
@@ -48,13 +53,16 @@ impl Admission {
         ensures { IfOk result (λ a. a ≡ begun threads groups.now tests.now) }
     {
         let whole = Room::new(alloc, threads, tests.len())?;
-        let rooms = rooms_of(alloc, groups, tests.len())?;
         let claims = claims_of(alloc, groups, tests)?;
+        let members = members_of(alloc, groups.len(), &claims)?;
+        let rooms = rooms_of(alloc, groups, &members)?;
+        let lines = lines_of(alloc, &rooms, &claims)?;
         let seats = vec![in alloc; Seat::Waiting; tests.len()]?;
         Ok(Admission {
-            first: 0,
+            waiting: tests.len(),
             whole,
             groups: rooms,
+            lines,
             claims,
             seats,
         })
@@ -65,13 +73,12 @@ impl Admission {
     pub fn candidate(&self) -> Option<Candidate>
         ensures { result ≡ candidate self.now }
     {
-        match first_to_come(self.first, &self.groups, &self.claims, &self.seats) {
-            Some(place) => {
-                let claim = &self.claims[place];
-                Some(candidate_at(&self.whole, place as u32, claim))
-            }
-            None => None,
+        let first = self.lines.first();
+        if first == NONE {
+            return None;
         }
+        let claim = &self.claims[first];
+        Some(candidate_at(&self.whole, first as u32, claim))
     }
 
     /// Admits the candidate, unless it is blocked.
@@ -94,8 +101,12 @@ impl Admission {
         requires { candidate self.old ≡ Some (Skip test) }
         ensures { self.new ≡ after_admission self.old }
     {
+        let line = line_of(&self.groups, &self.claims[test as usize]);
+        let room = room_of(&self.groups, line);
+        self.lines.leave(line, test as usize);
+        self.lines.refresh(line, room);
         self.seats[test as usize] = Seat::Gone;
-        self.first = first_waiting(self.first, &self.seats);
+        self.waiting -= 1;
     }
 
     // The candidate runs.
@@ -105,10 +116,14 @@ impl Admission {
         ensures after { self.new ≡ after_admission self.old }
     {
         let claim = self.claims[test as usize];
+        let line = line_of(&self.groups, &claim);
         let global = self.whole.take(test, claim.weight);
         let group = take_in_group(&mut self.groups, claim.group, test, claim.weight);
+        let room = room_of(&self.groups, line);
+        self.lines.leave(line, test as usize);
+        self.lines.refresh(line, room);
         self.seats[test as usize] = Seat::InUse { global, group };
-        self.first = first_waiting(self.first, &self.seats);
+        self.waiting -= 1;
         Admitted::Run {
             test,
             global_slot: global,
@@ -125,6 +140,9 @@ impl Admission {
             let claim = self.claims[test as usize];
             self.whole.give_back(global, claim.weight);
             give_in_group(&mut self.groups, claim.group, group, claim.weight);
+            let line = claim.group.unwrap_or(self.groups.len());
+            let room = room_of(&self.groups, line);
+            self.lines.refresh(line, room);
             self.seats[test as usize] = Seat::Gone;
         }
     }
@@ -133,7 +151,7 @@ impl Admission {
     pub fn done(&self) -> bool
         ensures { result ≡ is_done self.now }
     {
-        self.first == self.seats.len()
+        self.waiting == 0
     }
 
     /// A law: after any admissions and releases no limit is passed.

@@ -5,8 +5,13 @@
 
 mod admission;
 mod claims;
+mod draft;
+mod groups;
+mod line;
+mod lines;
+mod min_tree;
+mod names;
 mod room;
-mod scan;
 mod seat;
 mod values;
 

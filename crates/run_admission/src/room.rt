@@ -1,11 +1,9 @@
 // One limit on tests, with how much of it is in use, and which test holds each slot.
-ghost use Rattle.std.specs.Prelude.{◌≡◌, ◌<◌, ◌≤◌, ◌+◌, ◌-◌, ◌^◌, min, length, is_none, nat_le, slice_set, IfOk, Some};
-ghost use Rattle.std.specs.Prelude.{None};
-ghost use Rattle.std.specs.Prelude.{replicate, position};
-ghost use Rattle.std.specs.List.{position_or_len};
+ghost use Rattle.std.specs.Prelude.{◌≡◌, ◌<◌, ◌≤◌, ◌+◌, ◌-◌, ◌^◌, min, length, IfOk};
 ghost use Rattle.run_admission.specs.InUse.{fits_beside};
-ghost use Rattle.run_admission.specs.Kept.{CanTake, CanGive, unused, free_in, take_of, give_back};
+ghost use Rattle.run_admission.specs.Kept.{CanTake, CanGive, AreNumbers, unused, free_in, take_of, give_back};
 
+use crate::min_tree::{MinTree, NONE};
 use run_capture::Mem;
 use std::alloc::Global;
 use std::marker::Model;
@@ -16,40 +14,45 @@ pub struct Room {
     limit: u32,
     used: u32,
     holders: Vec<Option<u32>>,
+    /// At the place of each free slot its number, and at another `NONE`.
+    free: MinTree,
 }
 
 impl Model for Room {
-    ghost use Rattle.run_admission.specs.Kept.{Use};
+    ghost use Rattle.run_admission.specs.Kept.{Use, IsMarked};
 
     ghost Value = { Use };
 
     ghost view = { λ r. record { limit = r.limit; used = r.used; holders = r.holders.items } };
+
+    ghost invariant = { λ r. IsMarked r.holders.items r.free };
 }
 
-// The first slot that no test holds.
-fn first_free(holders: &[Option<u32>]) -> Option<usize>
-    ensures { result ≡ position is_none holders.now }
+// The numbers of so many slots.
+fn numbers(alloc: Global, slots: usize) -> Mem<Vec<usize>>
+    ensures { IfOk result (λ v. AreNumbers slots v.items) }
 {
-    holders.iter().position(|holder| holder.is_none())
-}
-
-// The first slot that no test holds, or how many there are.
-fn free_or_len(holders: &[Option<u32>]) -> usize
-    ensures { result ≡ position_or_len is_none holders.now }
-{
-    first_free(holders).unwrap_or(holders.len())
+    let mut numbers = Vec::new(alloc);
+    for slot in 0..slots {
+        numbers.push(slot)?;
+    }
+    Ok(numbers)
 }
 
 impl Room {
     /// A limit of which nothing is in use, with so many slots.
     pub fn new(alloc: Global, limit: u32, slots: usize) -> Mem<Room>
+        requires { slots < 2 ^ 32 }
         ensures { IfOk result (λ r. r ≡ unused slots limit) }
     {
         let holders = vec![in alloc; None; slots]?;
+        let slots = numbers(alloc, slots)?;
+        let free = MinTree::new(alloc, &slots)?;
         Ok(Room {
             limit,
             used: 0,
             holders,
+            free,
         })
     }
 
@@ -58,14 +61,30 @@ impl Room {
         requires { self.now.used ≤ self.now.limit }
         ensures { result ≡ fits_beside self.now.used self.now.limit weight }
     {
-        weight.min(self.limit) <= self.limit - self.used
+        self.cut(weight) <= self.left()
+    }
+
+    /// How much of the limit is left.
+    pub fn left(&self) -> u32
+        requires { self.now.used ≤ self.now.limit }
+        ensures { result ≡ self.now.limit - self.now.used }
+    {
+        self.limit - self.used
+    }
+
+    /// What a test of this weight takes of the limit.
+    pub fn cut(&self, weight: u32) -> u32
+        ensures { result ≡ min weight self.now.limit }
+    {
+        weight.min(self.limit)
     }
 
     /// The first slot that no test holds.
     fn free_slot(&self) -> usize
+        requires { free_in self.now < length self.now.holders }
         ensures { result ≡ free_in self.now }
     {
-        free_or_len(&self.holders)
+        self.free.least(0, self.holders.len())
     }
 
     /// A test takes the first free slot, and its weight of the limit.
@@ -76,6 +95,7 @@ impl Room {
     {
         let slot = self.free_slot();
         self.holders[slot] = Some(test);
+        self.free.set(slot, NONE);
         self.used += weight.min(self.limit);
         slot as u32
     }
@@ -86,6 +106,7 @@ impl Room {
         ensures { self.new ≡ give_back self.old slot weight }
     {
         self.holders[slot as usize] = None;
+        self.free.set(slot as usize, slot as usize);
         self.used -= weight.min(self.limit);
     }
 }

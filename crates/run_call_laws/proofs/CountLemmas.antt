@@ -79,7 +79,7 @@ pub at_most : (p : Settings) (backward : List Entry) → IsLegalBackward p backw
 at_most p backward legal k =
     subst (λ events. IsToldAtMostOnce p events k) (sym (one_run p backward legal).same.told)
     (bounds p (is_over (history p backward)) (clock (history p backward)) (sub_run (history p backward)) k
-    (holds p backward legal))
+    (holds p backward legal).run)
 
 -- beyond the plan no unit is mismatched
 matches_beyond : (p : Settings) (k : ℕ) → units_in p ≤ k → is_mismatched p k ≡ false
@@ -129,7 +129,7 @@ at_end p backward legal over k =
     by_plan true inside = by_fate p run k inside (fates p backward legal over k (within p k inside))
     by_plan false outside =
         by_none p run k outside
-        (bounds p (is_over (history p backward)) (clock (history p backward)) run k (holds p backward legal))
+        (bounds p (is_over (history p backward)) (clock (history p backward)) run k (holds p backward legal).run)
 
 -- and where nothing stopped it
 and_true : (b : Bool) → (b && true) ≡ b

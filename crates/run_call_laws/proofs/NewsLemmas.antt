@@ -10,7 +10,7 @@ use Rattle.run_model.specs.Accounts.{News, account_of, failed, finished}
 use Rattle.run_model.specs.Accounts.{retried, skipped, started, tried, tried_from}
 use Rattle.run_model.specs.Fates.{account, but_last, failures, retold}
 use Rattle.run_model.specs.Story.{is_at_retry, is_at_start}
-use Rattle.run_model.specs.Unit.{last_status}
+use Rattle.run_model.specs.Ending.{last_status}
 use Rattle.run_model.specs.Words.{finishes, starts}
 use Rattle.run_laws.proofs.told.Running.{is_finish, is_start}
 use Rattle.run_call_laws.specs.Counts.{finishes_told, skips_told, skips_unit, starts_told}

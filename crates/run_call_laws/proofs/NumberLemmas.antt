@@ -126,7 +126,7 @@ numbered p backward legal =
     of_kind = subst (All (HasKind p)) same (kinds p backward legal)
 
     of_plan : All (IsInside p) (told run)
-    of_plan = all_inside p (is_over (history p backward)) (clock (history p backward)) run (holds p backward legal)
+    of_plan = all_inside p (is_over (history p backward)) (clock (history p backward)) run (holds p backward legal).run
 
     number : (e : ReporterEvent) → HasKind p e → IsInside p e → HasNumber p e
     number e kind plan = record {

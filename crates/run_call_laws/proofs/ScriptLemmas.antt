@@ -1,5 +1,5 @@
 -- A script that failed is a cause, so that an event tells that the run is cancelled.
-use Rattle.std.proofs.Common.{◌≡◌, ℕ, ◌||◌, List, [], ◌∷◌, ◌++◌, Bool, true, false, not, if◌then◌else◌, Option, Some}
+use Rattle.std.proofs.Common.{◌≡◌, ◌||◌, List, [], ◌∷◌, ◌++◌, Bool, true, false, not, if◌then◌else◌, Option, Some}
 use Rattle.std.proofs.Common.{None, is_some, option_map, option_to_list, refl, ap, sym, subst, ◌∙◌}
 use Rattle.std.specs.Prelude.{IfSome}
 use Rattle.std.specs.Cmp.{second_so}
@@ -10,7 +10,10 @@ use Rattle.run_events.specs.declared.cancel.CancelReason.{CancelReason}
 use Rattle.run_events.specs.declared.events.ReporterEvent.{ReporterEvent}
 use Rattle.run_events.specs.declared.events.ReporterEvent.TheVariants.{Tick, Test}
 use Rattle.run_events.specs.declared.events.TestEventKind.{TestEventKind}
-use Rattle.run_events.specs.declared.events.TestEventKind.TheVariants.{RunBeginCancel, RunBeginKill}
+use Rattle.run_events.specs.declared.events.TestEventKind.TheVariants.{RunBeginCancel, RunBeginKill, RunPaused}
+use Rattle.run_events.specs.declared.events.TestEventKind.TheVariants.{RunContinued, InfoStarted, InfoFinished}
+use Rattle.run_events.specs.declared.events.TestEventKind.TheVariants.{InfoResponse as InfoAnswer, InputEnter}
+use Rattle.run_events.specs.Hearing.{heard_key}
 use Rattle.run_events.specs.declared.message.Message.{Message}
 use Rattle.run_events.specs.declared.message.Message.TheVariants.{ScriptStart, ScriptSlow, ScriptFinish, Start, Slow}
 use Rattle.run_events.specs.declared.message.Message.TheVariants.{AttemptFailed, Retry, Skip, Finish}
@@ -24,12 +27,14 @@ use Rattle.run_model.specs.declared.happening.Happening.{Happening}
 use Rattle.run_model.specs.Admission.{Newcomer, newcomer}
 use Rattle.run_model.specs.Board.{Board, Deed, board}
 use Rattle.run_model.specs.Cancel.{cause_of, caused, script_cause, script_failed}
-use Rattle.run_model.specs.Dispatch.{event, go_of, may_go, told_of}
+use Rattle.run_model.specs.Dispatch.{Moment, event, go_of, heard_by, may_go, moment_by, told_of}
 use Rattle.run_model.specs.Journal.{IsLegalBackward, history}
 use Rattle.run_model.specs.Turns.{admission, answer_to, deed_on, delivered_as, delivery, done_by, enabled, event_of}
-use Rattle.run_model.specs.Turns.{happening, starting, takes_turn, tally_with, turn_of_unit}
+use Rattle.run_model.specs.Turns.{happening, live_in, oldest_of, starting, takes_turn, tally_with, turn_of_unit}
 use Rattle.run_model.specs.Words.{is_over, reason, sub_run, told}
 use Rattle.run_laws.proofs.board.ByTurn.{by_turn}
+use Rattle.run_laws.proofs.told.Asides.{IsAside, IsAsideEvent, IsAsideKind, answer_aside, by_signal, inform_aside}
+use Rattle.run_laws.proofs.told.Asides.{key_aside, tick_aside}
 use Rattle.run_laws.proofs.told.Cancels.{IsCancel, IsCancelKind}
 use Rattle.run_call_laws.specs.Stops.{tells_cancel}
 use Rattle.run_call_laws.specs.Success.{fails_script, fails_script_in}
@@ -42,12 +47,12 @@ use Rattle.run_call_laws.proofs.WholeLemmas.{one_run}
 abbrev IsCausing : Option CancelReason → Option ReporterEvent → Type 0
 IsCausing cause o = IfSome o (λ e. fails_script e ≡ true → is_some cause ≡ true)
 
-when : (now : ℕ) (cause : Option CancelReason) (go : Bool) (kind : TestEventKind) → fails_script_in kind ≡ false
+when : (now : Moment) (cause : Option CancelReason) (go : Bool) (kind : TestEventKind) → fails_script_in kind ≡ false
     → IsCausing cause (option_map (event now) (if go then Some kind else None))
 when now cause true kind passes = λ fails. let never : false ≡ true = sym passes ∙ fails in cc
 when now cause false kind passes = tt
 
-script_causes : (now : ℕ) (t : Tally) (result : ExecutionResult) (d : Deed) → not (is_success result) ≡ true
+script_causes : (now : Moment) (t : Tally) (result : ExecutionResult) (d : Deed) → not (is_success result) ≡ true
     → is_some (caused now t (script_cause result) d).cause ≡ true
 script_causes now t result d fails = by_success (is_success result) fails
   where
@@ -56,7 +61,7 @@ script_causes now t result d fails = by_success (is_success result) fails
     by_success true fails = cc
     by_success false fails = refl
 
-message_causes : (now : ℕ) (rules : CancelRules) (t u : Tally) (m : Message) (d : Deed)
+message_causes : (now : Moment) (rules : CancelRules) (t u : Tally) (m : Message) (d : Deed)
     → IsCausing (caused now u (cause_of rules u m) d).cause (option_map (event now) (told_of t m))
 message_causes now rules t u (ScriptStart start) d = when now _ (may_go t) _ refl
 message_causes now rules t u (ScriptSlow slow) d = λ fails. cc
@@ -74,12 +79,29 @@ delivery_causes b (m ∷ rest) =
     let u : Tally = tally_with b (event_of b m) in
     let d : Deed = delivered_as b m (answer_to b (starting m) (go_of b.dispatcher.tally m)) in
     subst (IsCausing (delivery b (m ∷ rest)).cause)
-    (sym (told_is b.clock u (cause_of b.dispatcher.rules u m) d))
-    (message_causes b.clock b.dispatcher.rules b.dispatcher.tally u m d)
+    (sym (told_is (moment_by b.clock b.dispatcher.watch) u (cause_of b.dispatcher.rules u m) d))
+    (message_causes (moment_by b.clock b.dispatcher.watch) b.dispatcher.rules b.dispatcher.tally u m d)
 
 admission_causes : (o : Option Newcomer) → IsCausing (admission o).cause (admission o).told
 admission_causes None = tt
 admission_causes (Some new) = tt
+
+aside_causes : (d : Deed) → IsAside d → IsCausing d.cause d.told
+aside_causes d aside = by_told d.told aside.told
+  where
+    by_kind : (kind : TestEventKind) → IsAsideKind kind → fails_script_in kind ≡ false
+    by_kind (RunPaused event) h = refl
+    by_kind (RunContinued event) h = refl
+    by_kind (InfoStarted event) h = refl
+    by_kind (InfoAnswer event) h = refl
+    by_kind (InfoFinished missing) h = refl
+    by_kind (InputEnter event) h = refl
+    by_kind kind h = absurd h
+
+    by_told : (o : Option ReporterEvent) → IfSome o IsAsideEvent → IsCausing d.cause o
+    by_told None h = tt
+    by_told (Some Tick) h = λ fails. cc
+    by_told (Some (Test event)) h = λ fails. let never : false ≡ true = sym (by_kind event.kind h) ∙ fails in cc
 
 causes : (p : Settings) (past : List Happening) (turn : Turn) → enabled p past turn ≡ true
     → IsCausing (deed_on p (board p past) turn).cause (deed_on p (board p past) turn).told
@@ -92,11 +114,17 @@ causes p past turn en =
       deliver = λ en. delivery_causes b b.queue;
       named = λ turn k to other en. tt;
       clock = λ ns en. tt;
-      signal = λ signal en. tt;
+      signal = λ signal en. by_signal (λ d. IsCausing d.cause d.told) b.clock (live_in b.units) b.dispatcher signal
+          (heard_by b.dispatcher.rules.hearing signal) tt aside_causes;
       global_due = λ en. tt;
       report_cancel = λ en. tt;
       end = λ en fails. cc;
-      unbuilt = λ turn never en. let no_turn : false ≡ true = sym (never p b) ∙ en in cc;
+      key = λ key en. aside_causes _ (key_aside b.clock (live_in b.units) b.dispatcher
+          (heard_key b.dispatcher.rules.hearing.input key));
+      tick = λ en. aside_causes _ tick_aside;
+      stop_wait_due = λ en. tt;
+      answer = λ en. aside_causes _ (answer_aside b (oldest_of b.answers));
+      info_due = λ en. aside_causes _ (inform_aside b.clock b.dispatcher);
     })
     turn (second_so (not (is_over past)) (takes_turn p b turn (turn_of_unit turn)) en)
   where

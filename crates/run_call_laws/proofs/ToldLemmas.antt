@@ -14,13 +14,13 @@ use Rattle.run_events.specs.declared.settings.Settings.{Settings}
 use Rattle.run_model.specs.declared.entry.Entry.{Entry}
 use Rattle.run_model.specs.declared.happening.Happening.{Happening}
 use Rattle.run_model.specs.Board.{Deed, board}
-use Rattle.run_model.specs.Dispatch.{having_told}
 use Rattle.run_model.specs.Journal.{IsLegalBackward, history}
 use Rattle.run_model.specs.Turns.{deed_on, happening}
-use Rattle.run_model.specs.Words.{clock, reason, sub_run, tally, told}
+use Rattle.run_model.specs.Words.{clock, is_over, reason, sub_run, told}
 use Rattle.run_laws.specs.Cancels.{IsCancelled, reason_told, rises}
 use Rattle.run_laws.proofs.told.Cancelled.{cancels}
-use Rattle.run_laws.proofs.told.Cancels.{IsCancel, cancel_is}
+use Rattle.run_laws.proofs.told.Cancels.{IsCancel}
+use Rattle.run_laws.proofs.board.DeedFits.{cancel_told}
 use Rattle.run_laws.proofs.board.Kept.{IsBeforeRuns, IsOfRun, does_after, holds, where_joins}
 use Rattle.run_call_laws.specs.Stops.{AreCausesTold, IsUnstopped, latest_reason, tells_cancel}
 use Rattle.run_call_laws.proofs.StopLemmas.{unstopped}
@@ -37,8 +37,8 @@ pub tells : (p : Settings) (e : Entry) (before : List Entry) → IsLegalBackward
     → Tells p (sub_run (history p before)) (happening p (history p before) e)
 tells p e before legal = record {
   own = own p past e.turn (holds p before legal.2) legal.0;
-  cancel = subst IsCancel (sym (does_after p past e (holds p before legal.2) legal.0).marks.cancel)
-      (cancel_is (clock past) (having_told (tally p (sub_run past)) d.told) d.cause);
+  cancel = cancel_told p (is_over past) (clock past) (sub_run past) d
+      (does_after p past e (holds p before legal.2) legal.0).marks;
   caused = subst (λ b. IsCancelled p (sub_run (history p b)) (happening p (history p b) e)) (reverse-reverse before)
       (cancels p (reverse before) e (subst (IsLegalBackward p) (sym entries) legal));
 }

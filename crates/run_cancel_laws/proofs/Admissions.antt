@@ -19,14 +19,16 @@ use Rattle.run_model.specs.Admission.{Newcomer, is_done, is_last, newcomer, open
 use Rattle.run_model.specs.Admission.{scripts_of, scripts_over, test_newcomer, script_view, started_newcomer}
 use Rattle.run_model.specs.Board.{Board, Deed, said}
 use Rattle.run_model.specs.Cancel.{Cause, cause_of, caused}
-use Rattle.run_model.specs.Dispatch.{go_of}
+use Rattle.run_model.specs.Dispatch.{Moment, go_of, heard_by, moment_by}
 use Rattle.run_model.specs.Environment.{number}
 use Rattle.run_model.specs.Turns.{admission, answer_to, deed_on, delivered_as, delivery, done_by, event_of, starting}
-use Rattle.run_model.specs.Turns.{taken_by, takes_turn, tally_with, turn_of_unit}
+use Rattle.run_model.specs.Turns.{live_in, oldest_of, taken_by, takes_turn, tally_with, turn_of_unit}
+use Rattle.run_events.specs.Hearing.{heard_key}
 use Rattle.run_model.specs.Unit.{reach, row}
 use Rattle.run_model.specs.Words.{unit_after, unit_of, units}
 use Rattle.run_laws.proofs.board.ByTurn.{by_turn}
 use Rattle.run_laws.proofs.board.DeedFits.{PartFits}
+use Rattle.run_laws.proofs.told.Asides.{answer_aside, by_signal, key_aside}
 use Rattle.run_laws.proofs.board.OnBoard.{units-at}
 use Rattle.run_laws.proofs.board.Ordered.{board_over, done_reach, over_kept}
 
@@ -97,14 +99,15 @@ acts_not : (b : Board) (k : ℕ) (turn : UnitTurn) (v : Option UnitView) (first 
 acts_not b k turn None first is = cc
 acts_not b k turn (Some u) first is = let never : Acts k turn ≡ Joins first = same_Some _ _ is in cc
 
-caused_part : (now : ℕ) (t : _) (o : Option Cause) (d : Deed) → (caused now t o d).part ≡ d.part
+caused_part : (now : Moment) (t : _) (o : Option Cause) (d : Deed) → (caused now t o d).part ≡ d.part
 caused_part now t None d = refl
 caused_part now t (Some cause) d = refl
 
 delivery_not : (b : Board) (q : List Message) (first : UnitView) → (delivery b q).part ≡ Some (Joins first) → ⊥
 delivery_not b [] first is = cc
 delivery_not b (m ∷ rest) first is =
-    by_answer (starting m) (go_of b.dispatcher.tally m) (sym (caused_part b.clock (tally_with b (event_of b m))
+    by_answer (starting m) (go_of b.dispatcher.tally m)
+    (sym (caused_part (moment_by b.clock b.dispatcher.watch) (tally_with b (event_of b m))
     (cause_of b.dispatcher.rules (tally_with b (event_of b m)) m)
     (delivered_as b m (answer_to b (starting m) (go_of b.dispatcher.tally m)))) ∙ is)
   where
@@ -124,15 +127,25 @@ joins_is p b turn first en is =
       admit = λ en is. admits (newcomer p b.units) refl is;
       deliver = λ en is. absurd (delivery_not b b.queue first is);
       clock = λ ns en is. cc;
-      signal = λ signal en is. cc;
+      signal = λ signal en is. aside_not _
+          (by_signal (λ d. d.part ≡ None) b.clock (live_in b.units) b.dispatcher signal
+          (heard_by b.dispatcher.rules.hearing signal) refl (λ d aside. aside.part)) is;
       global_due = λ en is. cc;
       report_cancel = λ en is. cc;
       end = λ en is. cc;
       named = λ turn k to other en is. absurd (acts_not b k to _ first is);
-      unbuilt = λ turn never en is. let no_turn : false ≡ true = sym (never p b) ∙ en in cc;
+      key = λ key en is. aside_not _ (key_aside b.clock (live_in b.units) b.dispatcher
+          (heard_key b.dispatcher.rules.hearing.input key)).part is;
+      tick = λ en is. cc;
+      stop_wait_due = λ en is. cc;
+      answer = λ en is. aside_not _ (answer_aside b (oldest_of b.answers)).part is;
+      info_due = λ en is. cc;
     })
     turn en is
   where
+    aside_not : (part : Option UnitPart) → part ≡ None → part ≡ Some (Joins first) → Came p b first
+    aside_not part none is = let never : None ≡ Some (Joins first) = sym none ∙ is in cc
+
     admits : (o : Option Newcomer) → newcomer p b.units ≡ o → (admission o).part ≡ Some (Joins first) → Came p b first
     admits None at is = cc
     admits (Some new) at is =

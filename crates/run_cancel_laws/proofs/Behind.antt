@@ -21,8 +21,10 @@ use Rattle.run_model.specs.declared.unit_view.UnitView.{UnitView}
 use Rattle.run_model.specs.Accounts.{News, pending_in, pending_of}
 use Rattle.run_model.specs.Admission.{is_done, is_last, start_message}
 use Rattle.run_model.specs.Environment.{number, number_of}
-use Rattle.run_model.specs.Unit.{Row, at_moment, failure_message, finish_message, last_status, next_delay}
-use Rattle.run_model.specs.Unit.{retry_message, row, row_at, script_finish, takes, takes_at}
+use Rattle.run_model.specs.Ending.{last_status}
+use Rattle.run_model.specs.Row.{Row}
+use Rattle.run_model.specs.Retries.{failure_message, finish_message, next_delay, retry_message, script_finish}
+use Rattle.run_model.specs.Unit.{at_moment, row, row_at, takes, takes_at}
 use Rattle.run_model.specs.Words.{unit_of}
 use Rattle.run_laws.proofs.units.AccountLemmas.{IsFirst}
 use Rattle.run_laws.proofs.board.DeedFits.{IsSentAs, PartFits}

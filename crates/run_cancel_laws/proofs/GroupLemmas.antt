@@ -3,15 +3,21 @@ use Rattle.std.proofs.Common.{◌≡◌, ◌⊎◌, inl, inr, ℕ, ◌+◌, ◌|
 use Rattle.std.proofs.Common.{Option, Some, None, option_map, option_to_list, refl, ap, sym, subst, ◌∙◌}
 use Rattle.std.specs.Prelude.{IfSome, if◌then◌else◌}
 use Rattle.std.specs.List.{All}
+use Rattle.std.proofs.Common.{◌++◌, reverse}
+use Rattle.std.proofs.lemmas.List.{reverse-append}
 use Rattle.std.proofs.lemmas.List.Elements.{All-nil, All-cons, All-append}
 use Rattle.run_commands.specs.declared.interceptor.Interceptor.{Interceptor}
 use Rattle.run_commands.specs.declared.interceptor.Interceptor.TheVariants as under
 use Rattle.run_commands.specs.Interceptor.{has_process_group}
 use Rattle.run_events.specs.declared.ask.Ask.{Ask}
+use Rattle.run_events.specs.declared.ask.Ask.TheVariants.{StopSelf}
 use Rattle.run_events.specs.declared.request.Request.{Request}
-use Rattle.run_events.specs.declared.request.Request.TheVariants.{Shutdown, OtherCancel}
+use Rattle.run_events.specs.declared.request.Request.TheVariants.{Stop, Continue, Shutdown, OtherCancel, GetInfo}
 use Rattle.run_events.specs.declared.request.TermSignal.{TermSignal}
 use Rattle.run_events.specs.declared.request.TermSignal.TheVariants.{Interrupt, Term, Hangup, Quit, Kill}
+use Rattle.run_events.specs.declared.request.ChildSignal.{ChildSignal}
+use Rattle.run_events.specs.declared.request.ChildSignal.TheVariants.{Tstp, Cont}
+use Rattle.run_events.specs.declared.request.TerminateReason.{TerminateReason}
 use Rattle.run_events.specs.declared.request.TerminateReason.TheVariants.{Signal}
 use Rattle.run_events.specs.declared.result.ExecuteStatus.{ExecuteStatus}
 use Rattle.run_events.specs.declared.settings.Settings.{Settings}
@@ -27,16 +33,18 @@ use Rattle.run_model.specs.declared.unit_turn.UnitTurn.TheVariants.{Answered, St
 use Rattle.run_model.specs.declared.unit_turn.UnitTurn.TheVariants.{Piece, StreamEnd, ReadError, Env, Due, Take, Decide}
 use Rattle.run_model.specs.declared.unit_view.UnitView.{UnitView}
 use Rattle.run_model.specs.Accounts.{News, HasAccount, HasAccountAt, HasSkipIn, is_mismatched, account_of, pending_of}
-use Rattle.run_model.specs.Board.{board}
+use Rattle.run_model.specs.Board.{Deed, board}
 use Rattle.run_model.specs.Environment.{number, start_ask}
-use Rattle.run_model.specs.Journal.{history, IsLegalBackward}
+use Rattle.run_model.specs.Journal.{history, past_of, IsLegal, IsLegalBackward}
 use Rattle.run_model.specs.Slow.{is_out_of_time, one_more}
 use Rattle.run_model.specs.Story.{was_left}
 use Rattle.run_model.specs.Terminate.{terminate_method}
 use Rattle.run_model.specs.Turns.{deed_on, happening}
-use Rattle.run_model.specs.Unit.{Row, asked_to_end, at_moment, decide_row, delayed, decided, has_retry, in_grace}
-use Rattle.run_model.specs.Unit.{out_of_time, next_delay, requested, row, row_at, slow_again, slow_row, take_row, takes}
-use Rattle.run_model.specs.Unit.{takes_at}
+use Rattle.run_model.specs.Pauses.{is_paused}
+use Rattle.run_model.specs.Row.{Row, child_ask}
+use Rattle.run_model.specs.Retries.{decide_row, delayed, decided, has_retry, next_delay}
+use Rattle.run_model.specs.Requests.{asked_to_end, continue_ask, requested, stop_ask, take_row}
+use Rattle.run_model.specs.Unit.{at_moment, in_grace, out_of_time, row, row_at, slow_again, slow_row, takes, takes_at}
 use Rattle.run_model.specs.Words.{asked, clock, is_over, queue, sub_run, told, units}
 use Rattle.run_laws.proofs.board.DeedFits.{Does, PartFits, asked_by}
 use Rattle.run_laws.proofs.units.FaceLemmas.{face}
@@ -46,6 +54,9 @@ use Rattle.run_laws.proofs.board.Newcomers.{IsPlanned}
 use Rattle.run_laws.proofs.told.PlannedTurns.{HasStarts, IsPlannedIf}
 use Rattle.run_laws.proofs.units.Rows.{takes_moment}
 use Rattle.run_laws.proofs.told.StartLemmas.{has_starts}
+use Rattle.run_cancel_laws.specs.Enabled.{is_stop_wait_due}
+use Rattle.run_cancel_laws.specs.Pauses.{asks_stop}
+use Rattle.run_cancel_laws.proofs.RunnerLemmas.{stops_is}
 use Rattle.run_cancel_laws.specs.Groups.{group_asked, group_by, IsOfItsGroup, test_group}
 
 -- a row asks for its own unit, and for the group that this has
@@ -59,15 +70,36 @@ starts_own : (u : UnitView) → AsksOf (number u) u.around.group (Some (start_as
 unfolding start_ask
 starts_own u = refl
 
-ends_own : (now : ℕ) (signal : TermSignal) (u : UnitView) → AsksOfOwn u (asked_to_end now signal u)
-ends_own now Interrupt u = refl
-ends_own now Term u = refl
-ends_own now Hangup u = refl
-ends_own now Quit u = refl
-ends_own now Kill u = refl
+ends_own : (now : ℕ) (reason : TerminateReason) (signal : TermSignal) (u : UnitView)
+    → AsksOfOwn u (asked_to_end now reason signal u)
+ends_own now reason Interrupt u = refl
+ends_own now reason Term u = refl
+ends_own now reason Hangup u = refl
+ends_own now reason Quit u = refl
+ends_own now reason Kill u = refl
+
+-- its child is to stop, or to go on
+child_own : (asks : Bool) (signal : ChildSignal) (u : UnitView)
+    → AsksOf (number u) u.around.group (if asks then Some (child_ask signal u) else None)
+child_own true signal u = refl
+child_own false signal u = tt
+
+stop_own : (ph : Phase) (u : UnitView) → AsksOf (number u) u.around.group (stop_ask ph u)
+stop_own Running u = child_own u.terms.stops Tstp u
+stop_own Grace u = refl
+stop_own ph u = tt
+
+continue_own : (ph : Phase) (u : UnitView) → AsksOf (number u) u.around.group (continue_ask ph u)
+continue_own Running u = child_own (is_paused u.timers) Cont u
+continue_own Grace u = refl
+continue_own ph u = tt
 
 requests_own : (now : ℕ) (ph : Phase) (request : Request) (u : UnitView) → AsksOfOwn u (requested now ph request u)
-requests_own now Running (Shutdown request) u = ends_own now (terminate_method (Signal request) u.terms.slow.grace) u
+requests_own now ph (Stop round) u = stop_own ph u
+requests_own now ph Continue u = continue_own ph u
+requests_own now ph (GetInfo round) u = tt
+requests_own now Running (Shutdown request) u =
+    ends_own now (Signal request) (terminate_method (Signal request) u.terms.slow.grace) u
 requests_own now Grace (Shutdown request) u = refl
 requests_own now Delay (Shutdown request) u = tt
 requests_own now Delay OtherCancel u = tt
@@ -209,11 +241,55 @@ groups p (e ∷ before) legal = by_run (groups p before legal.2) (where_joins p 
     one None is = All-nil Fine
     one (Some ask) is = All-cons Fine (length (sub_run past), ask) [] is (All-nil Fine)
 
+    by_stop : (b : Bool)
+        → IfSome (if b then Some StopSelf else asked_by (clock past) (sub_run past) x.part) (IsOfItsGroup p)
+    by_stop true = tt
+    by_stop false =
+        part_asks p (is_over past) (clock past) (sub_run past) x.part h.run (has_starts p before legal.2) does.part
+
     by_run : All Fine (asked (sub_run past)) → IsOfRun p past e ⊎ IsBeforeRuns p past e
         → All Fine (asked (sub_run (x ∷ past)))
     by_run was (inl of) = subst (λ run. All Fine (asked run)) (sym of.joins)
         (All-append Fine (asked (sub_run past)) (map (λ ask. (length (sub_run past), ask)) (option_to_list x.asked))
         was
-        (one x.asked (subst (λ o. IfSome o (IsOfItsGroup p)) (sym does.asks)
-        (part_asks p (is_over past) (clock past) (sub_run past) x.part h (has_starts p before legal.2) does.part))))
+        (one x.asked (subst (λ o. IfSome o (IsOfItsGroup p)) (sym does.asks) (by_stop x.stops))))
     by_run was (inr none) = subst (λ run. All Fine (asked run)) (sym none.still) (All-nil Fine)
+
+-- the runner is asked to stop itself where a deed says so: no row asks that
+no_stop : (k : ℕ) (group : Bool) (o : Option Ask) → AsksOf k group o → asks_stop o ≡ false
+no_stop k group None is = refl
+no_stop k group (Some StopSelf) is = cc
+no_stop k group (Some ask) is = refl
+
+part_stops : (p : Settings) (now : ℕ) (run : List Happening) (part : Option UnitPart) → PartFits p now run part
+    → asks_stop (asked_by now run part) ≡ false
+part_stops p now run None fits = refl
+part_stops p now run (Some (Joins first)) fits = refl
+part_stops p now run (Some (Acts k turn)) taken =
+    rw taken.is (no_stop (number u) u.around.group (row now turn u).asked
+    (row_own now u.phase turn (at_moment now u) (takes_moment now u.phase u turn taken.takes)))
+  where
+    u : UnitView
+    u = taken.unit
+
+pub runner_asked : (p : Settings) (journal : List Entry) (e : Entry) → IsLegal p (journal ++ e ∷ [])
+    → asks_stop (happening p (past_of p journal) e).asked ≡ is_stop_wait_due e.turn
+runner_asked p journal e legal =
+    ap asks_stop does.asks ∙ by_stop d.stops refl ∙ stops_is p (board p past) e.turn
+  where
+    past : List Happening
+    past = past_of p journal
+
+    backward : IsLegalBackward p (e ∷ reverse journal)
+    backward = subst (IsLegalBackward p) (reverse-append journal (e ∷ [])) legal
+
+    d : Deed
+    d = deed_on p (board p past) e.turn
+
+    does : Does p (is_over past) (clock past) (sub_run past) d
+    does = does_after p past e (holds p (reverse journal) backward.2) backward.0
+
+    by_stop : (b : Bool) → d.stops ≡ b
+        → asks_stop (if b then Some StopSelf else asked_by (clock past) (sub_run past) d.part) ≡ b
+    by_stop true is = refl
+    by_stop false is = part_stops p (clock past) (sub_run past) d.part does.part

@@ -1,4 +1,10 @@
+mod CauseTurns
+mod RunnerLemmas
+mod RoundTurns
+mod TimerLemmas
 mod RequestLemmas
+mod PauseLemmas
+mod AlternateLemmas
 mod EnabledLemmas
 mod ReachLemmas
 mod GroupLemmas

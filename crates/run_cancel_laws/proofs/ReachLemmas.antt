@@ -26,8 +26,8 @@ use Rattle.run_model.specs.Unit.{is_live, reach}
 use Rattle.run_model.specs.Words.{clock, is_over, queue, sub_run, told, unit_after, unit_of}
 use Rattle.run_laws.proofs.units.AttemptLemmas.{HasPieces, IsMade, IsMadeIf}
 use Rattle.run_laws.proofs.units.GoingLemmas.{ended_statuses-past, next_status}
-use Rattle.run_laws.proofs.board.Holds.{HasEndedAs, HasLine, HasLineIn, Holds, IsOnWay, IsOnWayAt, IsOnWayIn, IsOverWith, Way}
-use Rattle.run_laws.proofs.board.Holds.{way_of}
+use Rattle.run_laws.proofs.board.Holds.{HasEndedAs, HasLine, HasLineIn, Holds, IsOnWay, IsOnWayAt, IsOnWayIn}
+use Rattle.run_laws.proofs.board.Holds.{IsOverWith, Way, way_of}
 use Rattle.run_laws.proofs.board.Kept.{holds, IsOfRun, IsBeforeRuns, where_joins}
 use Rattle.run_laws.proofs.units.MadeLemmas.{IsOver}
 use Rattle.run_cancel_laws.specs.Reach.{IsReached, broadcast_by, is_finished, is_live_by, was_let_go}
@@ -219,7 +219,8 @@ broadcast_so p (e ∷ before) legal k =
     x = happening p past e
 
     live : is_live_unit (unit_of k (sub_run (x ∷ past))) ≡ is_live_by p k (sub_run (x ∷ past))
-    live = live_so p (is_over (x ∷ past)) (clock (x ∷ past)) (sub_run (x ∷ past)) k (holds p (e ∷ before) legal)
+    live = live_so p (is_over (x ∷ past)) (clock (x ∷ past)) (sub_run (x ∷ past)) k
+        (holds p (e ∷ before) legal).run
 
     one_more : broadcast_to k (sub_run past) ≡ broadcast_by p k (sub_run past)
         → is_live_unit (unit_of k (x ∷ sub_run past)) ≡ is_live_by p k (x ∷ sub_run past)
@@ -241,11 +242,11 @@ broadcast_so p (e ∷ before) legal k =
 pub reached : (p : Settings) (backward : List Entry) → IsLegalBackward p backward → (k : ℕ)
     → IsReached p (sub_run (history p backward)) k
 reached p backward legal k = record {
-  live = live_so p (is_over past) (clock past) (sub_run past) k (holds p backward legal);
+  live = live_so p (is_over past) (clock past) (sub_run past) k (holds p backward legal).run;
   broadcast = broadcast_so p backward legal k;
-  line = λ live. line_so p (is_over past) (clock past) (sub_run past) k (holds p backward legal)
+  line = λ live. line_so p (is_over past) (clock past) (sub_run past) k (holds p backward legal).run
       (broadcast_so p backward legal k)
-      (live_so p (is_over past) (clock past) (sub_run past) k (holds p backward legal) ∙ live);
+      (live_so p (is_over past) (clock past) (sub_run past) k (holds p backward legal).run ∙ live);
 }
   where
     past : List Happening

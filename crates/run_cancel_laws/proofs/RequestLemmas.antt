@@ -1,15 +1,13 @@
 -- Each turn asks what is asked for its cause.
-use Rattle.std.proofs.Common.{◌≡◌, ℕ, ◌==◌, ◌++◌, List, [], ◌∷◌, nat_le, Bool, true, false, not, ◌&&◌, if◌then◌else◌}
-use Rattle.std.proofs.Common.{Option, Some, None, reverse, refl, ap, sym, subst, ◌∙◌}
-use Rattle.std.specs.Prelude.{⊤, nat_lt}
-use Rattle.std.specs.Cmp.{first_so, second_so}
+use Rattle.std.proofs.Common.{◌≡◌, ℕ, ◌==◌, ◌++◌, List, [], ◌∷◌, nat_le, Bool, true, false, if◌then◌else◌}
+use Rattle.std.proofs.Common.{Option, Some, None, is_some, reverse, refl, ap, sym, subst, ◌∙◌}
+use Rattle.std.specs.Prelude.{⊤}
 use Rattle.std.proofs.lemmas.List.{reverse-append}
 use Rattle.run_events.specs.Outcome.{failed_count}
 use Rattle.run_events.specs.Result.{is_success}
 use Rattle.run_events.specs.declared.cancel.CancelReason.{CancelReason}
 use Rattle.run_events.specs.declared.message.Message.{Message}
 use Rattle.run_events.specs.declared.message.Message.TheVariants.{Finish, ScriptFinish}
-use Rattle.run_events.specs.declared.plan.Hearing.{Hearing}
 use Rattle.run_events.specs.declared.request.Request.{Request}
 use Rattle.run_events.specs.declared.result.ExecutionResult.{ExecutionResult}
 use Rattle.run_events.specs.declared.retry_policy.MaxFail.{MaxFail}
@@ -23,36 +21,48 @@ use Rattle.run_events.specs.declared.signal.SignalHandlerKind.{SignalHandlerKind
 use Rattle.run_events.specs.declared.signal.SignalHandlerKind.TheVariants as handlers
 use Rattle.run_events.specs.declared.stats.RunStats.{RunStats}
 use Rattle.run_events.specs.declared.turn.Turn.{Turn}
-use Rattle.run_events.specs.declared.turn.Turn.TheVariants.{Admit, Deliver, GlobalDue, ReportCancel, Signal}
-use Rattle.run_events.specs.Hearing.{heard_signal}
+use Rattle.run_events.specs.declared.turn.Turn.TheVariants.{Admit, Answer, Deliver, GlobalDue, Key, ReportCancel}
+use Rattle.run_events.specs.declared.turn.Turn.TheVariants.{Signal}
+use Rattle.run_events.specs.Hearing.{heard_key, heard_signal}
+use Rattle.run_events.specs.declared.events.TestEventKind.TheVariants.{RunPaused, RunContinued}
+use Rattle.run_events.specs.declared.info.InfoResponse.{InfoResponse}
+use Rattle.run_events.specs.declared.input.InputEvent.{InputEvent}
+use Rattle.run_events.specs.declared.input.InputEvent.TheVariants as inputs
+use Rattle.run_events.specs.declared.request.Request.TheVariants.{Stop, Continue, GetInfo}
+use Rattle.run_clock.specs.Counted.{Act, pause, resume, other, is_paused_after}
+use Rattle.run_clock.specs.Stopwatch.{Watch}
+use Rattle.run_model.specs.declared.dispatcher_view.DispatcherView.{DispatcherView}
 use Rattle.run_model.specs.declared.dispatcher_view.Tally.{Tally}
 use Rattle.run_model.specs.declared.entry.Entry.{Entry}
 use Rattle.run_model.specs.declared.happening.Happening.{Happening}
 use Rattle.run_model.specs.Admission.{Newcomer, newcomer}
-use Rattle.run_model.specs.Board.{Board, Deed, board}
+use Rattle.run_model.specs.Board.{Board, Deed, board, dispatcher_of}
 use Rattle.run_model.specs.Cancel.{Cause, caused, event_refused, failure_cause, is_above, script_cause, script_failed}
 use Rattle.run_model.specs.Cancel.{signal_cause, time_is_up, too_many_failed}
-use Rattle.run_model.specs.Dispatch.{having_told, is_shutdown, shuts_down, go_of}
+use Rattle.run_model.specs.Dispatch.{Moment, having_told, go_of, is_halted, moment_by}
 use Rattle.run_model.specs.Journal.{history, past_of, IsLegal, IsLegalBackward}
-use Rattle.run_model.specs.Turns.{admission, answer_to, deed_on, delivered_as, delivery, enabled, event_of, happening}
-use Rattle.run_model.specs.Turns.{nothing_done, starting, tally_with}
-use Rattle.run_model.specs.Words.{clock, is_on, is_over, queue, reason, signals_heard, sub_run, tally, told, units}
-use Rattle.run_model.specs.Words.{was_refused}
+use Rattle.run_model.specs.Pauses.{watch_closed}
+use Rattle.run_model.specs.Rounds.{act_of, answers_waiting, round_count, run_watch, watch_after}
+use Rattle.run_model.specs.Turns.{admission, answer_to, answered_by, asks_at, cancels_for, deed_on, delivered_as}
+use Rattle.run_model.specs.Turns.{delivery, enabled, event_of, happening, job_deed, job_event, key_deed, live_in}
+use Rattle.run_model.specs.Turns.{nothing_done, oldest_of, signal_deed, starting, tally_with, tells}
+use Rattle.run_model.specs.Words.{clock, is_over, is_run_paused, queue, reason, sub_run, tally, told, units}
 use Rattle.run_laws.specs.Cancels.{rises}
 use Rattle.run_laws.proofs.board.Boards.{counts-more}
 use Rattle.run_laws.proofs.board.DeedFits.{Does}
 use Rattle.run_laws.proofs.board.Facts.{stats-reason}
 use Rattle.run_laws.proofs.board.Kept.{HoldsAfter, does_after, holds}
-use Rattle.run_laws.proofs.board.OnBoard.{board_with}
-use Rattle.run_cancel_laws.specs.Requests.{AsksForItsCause, request_for}
+use Rattle.run_laws.proofs.board.Whole.{IsAlike}
+use Rattle.run_cancel_laws.specs.Requests.{AsksForItsCause, job_request, key_request, request_besides, request_for}
+use Rattle.run_cancel_laws.specs.Requests.{signal_request}
 
--- what is asked for a cause with this reason as the one that stands
-abbrev asked_for : Turn → Option CancelReason → Option CancelReason → Option Request
-asked_for turn why cause = if rises why cause then request_for turn cause else None
+-- what is asked for a cause with this reason as the one that stands, and else this
+abbrev asked_for : Turn → Option CancelReason → Option CancelReason → Option Request → Option Request
+asked_for turn why cause besides = if rises why cause then request_for turn cause else besides
 
 -- a deed asks that, by the counts after its own event
-abbrev AsksBy : Tally → Turn → Deed → Type 0
-AsksBy t turn d = d.request ≡ asked_for turn (having_told t d.told).stats.cancel_reason d.cause
+abbrev AsksBy : Tally → Turn → Option Request → Deed → Type 0
+AsksBy t turn besides d = d.request ≡ asked_for turn (having_told t d.told).stats.cancel_reason d.cause besides
 
 -- a cause that a turn may be asks what is asked for its reason
 abbrev IsCauseOf : Turn → Option Cause → Type 0
@@ -63,18 +73,19 @@ rises_above : (why : Option CancelReason) (r : CancelReason) → rises why (Some
 rises_above None r = refl
 rises_above (Some why) r = refl
 
--- so a deed with such a cause asks that
-caused_asks : (now : ℕ) (t : Tally) (turn : Turn) (o : Option Cause) (d : Deed) → d.cause ≡ None → d.request ≡ None
-    → IsCauseOf turn o → AsksBy t turn (caused now (having_told t d.told) o d)
+-- so a deed with such a cause asks that, which does nothing else
+caused_asks : (now : Moment) (t : Tally) (turn : Turn) (o : Option Cause) (d : Deed) → d.cause ≡ None
+    → d.request ≡ None → IsCauseOf turn o → AsksBy t turn None (caused now (having_told t d.told) o d)
 caused_asks now t turn None d cause request fits = rw cause request
 caused_asks now t turn (Some cause) d none request fits =
     ap (λ r. if is_above (having_told t d.told).stats.cancel_reason cause.reason then r else None) fits
     ∙ ap (λ b. if b then request_for turn (Some cause.reason) else None)
     (sym (rises_above (having_told t d.told).stats.cancel_reason cause.reason))
 
--- one without a cause asks nothing
-quiet_asks : (t : Tally) (turn : Turn) (d : Deed) → d.cause ≡ None → d.request ≡ None → AsksBy t turn d
-quiet_asks t turn d cause request = rw cause request
+-- one without a cause asks what it asks besides
+quiet_asks : (t : Tally) (turn : Turn) (besides : Option Request) (d : Deed) → d.cause ≡ None → d.request ≡ besides
+    → AsksBy t turn besides d
+quiet_asks t turn besides d cause request = rw cause request
 
 -- the causes that a delivery may be
 script_fits : (result : ExecutionResult) → IsCauseOf Deliver (script_cause result)
@@ -94,83 +105,150 @@ failures_fit (Count most mode) stats = by_count (nat_le most (failed_count stats
     by_count false mode = tt
 
 -- the cause that a signal is
-second_fits : (signal : SignalKind) → IsCauseOf (Signal signal) (Some (signal_cause 1 signal))
-second_fits Int = refl
-second_fits Hup = refl
-second_fits Term = refl
-second_fits Quit = refl
-second_fits signal = refl
-
-first_fits : (kind : SignalHandlerKind) (info : Bool) (signal : SignalKind)
-    → is_shutdown (heard_signal kind info signal) ≡ true
-    → IsCauseOf (Signal signal) (Some (signal_cause 0 signal))
-first_fits kind info Int hears = refl
-first_fits kind info Hup hears = refl
-first_fits kind info Term hears = refl
-first_fits kind info Quit hears = refl
-first_fits handlers.Standard info Tstp hears = cc
-first_fits handlers.Standard info Cont hears = cc
-first_fits handlers.Standard info Usr1 hears = cc
-first_fits handlers.DebuggerMode info Tstp hears = cc
-first_fits handlers.DebuggerMode info Cont hears = cc
-first_fits handlers.DebuggerMode info Usr1 hears = cc
-first_fits handlers.Noop info signal hears = cc
-
-signal_fits : (hearing : Hearing) (heard : ℕ) (signal : SignalKind) → shuts_down hearing signal ≡ true
+signal_fits : (heard : ℕ) (signal : SignalKind) → IsCauseOf (Signal signal) (Some (signal_cause 0 signal))
+    → IsCauseOf (Signal signal) (Some (signal_cause 1 signal))
     → IsCauseOf (Signal signal) (Some (signal_cause heard signal))
-signal_fits hearing heard signal hears = by_first (heard == 0)
+signal_fits heard signal first second = by_first (heard == 0)
   where
     by_first : (b : Bool)
         → IsCauseOf (Signal signal) (Some (if b then signal_cause 0 signal else signal_cause 1 signal))
-    by_first true = first_fits hearing.signals hearing.quit_is_info signal hears
-    by_first false = second_fits signal
+    by_first true = first
+    by_first false = second
+
+-- a pause, a continue and a round of queries
+pub paused_is : (run : List Happening) → is_some (run_watch run).opened ≡ is_run_paused run
+paused_is [] = refl
+paused_is (x ∷ run) = by_act (act_of x.told) (paused_is run)
+  where
+    closed : (o : Option ℕ) → o ≡ (run_watch run).opened
+        → is_some (watch_closed x.moment o (run_watch run)).opened ≡ false
+    closed None is = ap is_some (sym is)
+    closed (Some opened) is = refl
+
+    by_act : (act : Act) → is_some (run_watch run).opened ≡ is_run_paused run
+        → is_some (watch_after x.moment act (run_watch run)).opened ≡ is_paused_after act (is_run_paused run)
+    by_act pause was = refl
+    by_act resume was = closed (run_watch run).opened refl
+    by_act other was = was
+
+-- a board that has the pause and the rounds of a sub-run
+record IsAsIn (run : List Happening) (d : DispatcherView) : Type 0 where
+  halted : is_halted d ≡ is_run_paused run
+  count : d.rounds.count ≡ round_count run
+
+job_asks : (run : List Happening) (now : ℕ) (d : DispatcherView) (t : Tally) (turn : Turn) → IsAsIn run d
+    → AsksBy t turn (job_request run Tstp) (job_deed now d Tstp)
+    × AsksBy t turn (job_request run Cont) (job_deed now d Cont)
+job_asks run now d t turn same = (
+  rw (sym same.halted, sym same.count) (stops (is_halted d)),
+  rw (sym same.halted) (goes_on (is_halted d)),
+)
+  where
+    stops : (b : Bool) → AsksBy t turn (if b then None else Some (Stop d.rounds.count)) (if b then nothing_done
+        else record (tells now d (RunPaused (job_event d.tally))) { request = Some (Stop d.rounds.count) })
+    stops true = refl
+    stops false = refl
+
+    goes_on : (b : Bool) → AsksBy t turn (if b then Some Continue else None) (if b
+        then record (tells now d (RunContinued (job_event d.tally))) { request = Some Continue }
+        else nothing_done)
+    goes_on true = refl
+    goes_on false = refl
+
+-- what a signal asks, by what the run hears it as
+heard_asks : (run : List Happening) (now live : ℕ) (d : DispatcherView) → IsAsIn run d
+    → (kind : SignalHandlerKind) (info : Bool) (signal : SignalKind)
+    → AsksBy d.tally (Signal signal) (signal_request run signal (heard_signal kind info signal))
+    (signal_deed now live d signal (heard_signal kind info signal))
+heard_asks run now live d same kind info signal = by_kind kind info signal
+  where
+    cancels : (signal : SignalKind) → IsCauseOf (Signal signal) (Some (signal_cause 0 signal))
+        → IsCauseOf (Signal signal) (Some (signal_cause 1 signal))
+        → AsksBy d.tally (Signal signal) None (cancels_for now d (signal_cause d.causes.signals signal))
+    cancels signal first second =
+        caused_asks (moment_by now d.watch) d.tally (Signal signal) (Some (signal_cause d.causes.signals signal))
+        nothing_done refl refl (signal_fits d.causes.signals signal first second)
+
+    queries : (signal : SignalKind)
+        → AsksBy d.tally (Signal signal) (Some (GetInfo (round_count run))) (asks_at now live d)
+    queries signal = ap (λ n. Some (GetInfo n)) same.count
+
+    by_kind : (kind : SignalHandlerKind) (info : Bool) (signal : SignalKind)
+        → AsksBy d.tally (Signal signal) (signal_request run signal (heard_signal kind info signal))
+        (signal_deed now live d signal (heard_signal kind info signal))
+    by_kind handlers.Standard info Int = cancels Int refl refl
+    by_kind handlers.Standard info Hup = cancels Hup refl refl
+    by_kind handlers.Standard info Term = cancels Term refl refl
+    by_kind handlers.Standard true Quit = queries Quit
+    by_kind handlers.Standard false Quit = cancels Quit refl refl
+    by_kind handlers.Standard info Tstp = (job_asks run now d d.tally (Signal Tstp) same).0
+    by_kind handlers.Standard info Cont = (job_asks run now d d.tally (Signal Cont) same).1
+    by_kind handlers.Standard info Usr1 = queries Usr1
+    by_kind handlers.DebuggerMode info Int = refl
+    by_kind handlers.DebuggerMode info Hup = cancels Hup refl refl
+    by_kind handlers.DebuggerMode info Term = cancels Term refl refl
+    by_kind handlers.DebuggerMode info Quit = refl
+    by_kind handlers.DebuggerMode info Tstp = (job_asks run now d d.tally (Signal Tstp) same).0
+    by_kind handlers.DebuggerMode info Cont = (job_asks run now d d.tally (Signal Cont) same).1
+    by_kind handlers.DebuggerMode info Usr1 = refl
+    by_kind handlers.Noop info signal = refl
+
+-- the board after a history has the pause and the rounds of its newest sub-run
+as_in : (p : Settings) (past : List Happening) → IsAlike past (sub_run past)
+    → IsAsIn (sub_run past) (dispatcher_of p past)
+as_in p past alike = record {
+  halted = ap (λ (w : Watch). is_some w.opened) alike.watch ∙ paused_is (sub_run past);
+  count = alike.count;
+}
 
 -- so each enabled turn asks that
-delivery_asks : (p : Settings) (over refused : Bool) (now : ℕ) (run : List Happening) (q : List Message)
-    → AsksBy (tally p run) Deliver (delivery (board_with p refused over now run) q)
-delivery_asks p over refused now run [] = refl
-delivery_asks p over refused now run (ScriptFinish finish ∷ rest) =
-    let b : Board = board_with p refused over now run in
+delivery_asks : (b : Board) (q : List Message) → AsksBy b.dispatcher.tally Deliver None (delivery b q)
+delivery_asks b [] = refl
+delivery_asks b (ScriptFinish finish ∷ rest) =
     let d : Deed = delivered_as b (ScriptFinish finish)
-    (answer_to b (starting (ScriptFinish finish)) (go_of (tally p run) (ScriptFinish finish))) in
-    caused_asks now (tally p run) Deliver (script_cause finish.status.result) d refl refl
-    (script_fits finish.status.result)
-delivery_asks p over refused now run (Finish finish ∷ rest) =
-    let b : Board = board_with p refused over now run in
+    (answer_to b (starting (ScriptFinish finish)) (go_of b.dispatcher.tally (ScriptFinish finish))) in
+    caused_asks (moment_by b.clock b.dispatcher.watch) b.dispatcher.tally Deliver (script_cause finish.status.result) d
+    refl refl (script_fits finish.status.result)
+delivery_asks b (Finish finish ∷ rest) =
     let t : Tally = tally_with b (event_of b (Finish finish)) in
     let d : Deed = delivered_as b (Finish finish)
-    (answer_to b (starting (Finish finish)) (go_of (tally p run) (Finish finish))) in
-    caused_asks now (tally p run) Deliver (failure_cause p.max_fail t.stats) d refl refl
-    (failures_fit p.max_fail t.stats)
-delivery_asks p over refused now run (m ∷ rest) = refl
+    (answer_to b (starting (Finish finish)) (go_of b.dispatcher.tally (Finish finish))) in
+    caused_asks (moment_by b.clock b.dispatcher.watch) b.dispatcher.tally Deliver
+    (failure_cause b.dispatcher.rules.max_fail t.stats) d refl refl (failures_fit b.dispatcher.rules.max_fail t.stats)
+delivery_asks b (m ∷ rest) = refl
 
-admission_asks : (t : Tally) (o : Option Newcomer) → AsksBy t Admit (admission o)
+admission_asks : (t : Tally) (o : Option Newcomer) → AsksBy t Admit None (admission o)
 admission_asks t None = refl
 admission_asks t (Some new) = refl
 
-deed_asks : (p : Settings) (over refused : Bool) (now : ℕ) (run : List Happening) (turn : Turn)
-    → ((signal : SignalKind) → turn ≡ Signal signal → shuts_down p.plan.hearing signal ≡ true)
-    → AsksBy (tally p run) turn (deed_on p (board_with p refused over now run) turn)
-deed_asks p over refused now run Admit hears = admission_asks (tally p run) (newcomer p (units p run))
-deed_asks p over refused now run Deliver hears = delivery_asks p over refused now run (queue run)
-deed_asks p over refused now run (Signal signal) hears =
-    caused_asks now (tally p run) (Signal signal) (Some (signal_cause (signals_heard run) signal)) nothing_done refl
-    refl (signal_fits p.plan.hearing (signals_heard run) signal (hears signal refl))
-deed_asks p over refused now run GlobalDue hears =
-    caused_asks now (tally p run) GlobalDue (Some time_is_up) nothing_done refl refl refl
-deed_asks p over refused now run ReportCancel hears =
-    caused_asks now (tally p run) ReportCancel (Some event_refused) nothing_done refl refl refl
-deed_asks p over refused now run turn hears = refl
+answer_asks : (b : Board) (t : Tally) (o : Option InfoResponse) → AsksBy t Answer None (answered_by b o)
+answer_asks b t None = refl
+answer_asks b t (Some response) = refl
 
--- a signal is heard where it is enabled
-heard_so : (p : Settings) (past : List Happening) (turn : Turn) → enabled p past turn ≡ true → (signal : SignalKind)
-    → turn ≡ Signal signal → shuts_down p.plan.hearing signal ≡ true
-heard_so p past turn en signal is =
-    let on : Bool = is_on (sub_run past) in
-    let hears : Bool = shuts_down p.plan.hearing signal in
-    let few : Bool = nat_lt (signals_heard (sub_run past)) 2 in
-    let at : enabled p past (Signal signal) ≡ true = ap (enabled p past) (sym is) ∙ en in
-    second_so on hears (first_so (on && hears) few (second_so (not (is_over past)) (on && hears && few) at))
+key_asks : (run : List Happening) (now live : ℕ) (d : DispatcherView) (t : Tally) (turn : Turn) → IsAsIn run d
+    → (event : Option InputEvent) → AsksBy t turn (key_request run event) (key_deed now live d event)
+key_asks run now live d t turn same (Some inputs.Enter) = refl
+key_asks run now live d t turn same (Some inputs.Info) = ap (λ n. Some (GetInfo n)) same.count
+key_asks run now live d t turn same None = refl
+
+deed_asks : (p : Settings) (past : List Happening) (turn : Turn) → IsAlike past (sub_run past)
+    → AsksBy (tally p (sub_run past)) turn (request_besides p (sub_run past) turn) (deed_on p (board p past) turn)
+deed_asks p past Admit alike = admission_asks (tally p (sub_run past)) (newcomer p (units p (sub_run past)))
+deed_asks p past Deliver alike = delivery_asks (board p past) (queue (sub_run past))
+deed_asks p past (Signal signal) alike =
+    heard_asks (sub_run past) (clock past) (live_in (units p (sub_run past))) (dispatcher_of p past)
+    (as_in p past alike) p.plan.hearing.signals p.plan.hearing.quit_is_info signal
+deed_asks p past (Key key) alike =
+    key_asks (sub_run past) (clock past) (live_in (units p (sub_run past))) (dispatcher_of p past)
+    (tally p (sub_run past)) (Key key) (as_in p past alike) (heard_key p.plan.hearing.input key)
+deed_asks p past GlobalDue alike =
+    caused_asks (moment_by (clock past) (run_watch past)) (tally p (sub_run past)) GlobalDue (Some time_is_up)
+    nothing_done refl refl refl
+deed_asks p past ReportCancel alike =
+    caused_asks (moment_by (clock past) (run_watch past)) (tally p (sub_run past)) ReportCancel (Some event_refused)
+    nothing_done refl refl refl
+deed_asks p past Answer alike = answer_asks (board p past) (tally p (sub_run past)) (oldest_of (answers_waiting past))
+deed_asks p past turn alike = refl
 
 -- the counts after a deed's own event have the reason of those before
 reason_stays : (p : Settings) (over : Bool) (now : ℕ) (run : List Happening) (d : Deed) → Does p over now run d
@@ -180,10 +258,10 @@ reason_stays p over now run d does =
     ∙ stats-reason p (reason run) _ _
 
 asks_after : (p : Settings) (past : List Happening) (e : Entry) → HoldsAfter p past → enabled p past e.turn ≡ true
-    → AsksForItsCause (sub_run past) (happening p past e)
+    → AsksForItsCause p (sub_run past) (happening p past e)
 asks_after p past e h en =
-    deed_asks p (is_over past) (was_refused past) (clock past) run e.turn (heard_so p past e.turn en)
-    ∙ ap (λ why. asked_for e.turn why d.cause)
+    deed_asks p past e.turn h.alike
+    ∙ ap (λ why. asked_for e.turn why d.cause (request_besides p run e.turn))
     (reason_stays p (is_over past) (clock past) run d (does_after p past e h en))
   where
     run : List Happening
@@ -193,7 +271,7 @@ asks_after p past e h en =
     d = deed_on p (board p past) e.turn
 
 pub requests : (p : Settings) (journal : List Entry) (e : Entry) → IsLegal p (journal ++ e ∷ [])
-    → AsksForItsCause (sub_run (past_of p journal)) (happening p (past_of p journal) e)
+    → AsksForItsCause p (sub_run (past_of p journal)) (happening p (past_of p journal) e)
 requests p journal e legal =
     let backward : IsLegalBackward p (e ∷ reverse journal) =
     subst (IsLegalBackward p) (reverse-append journal (e ∷ [])) legal in

@@ -28,18 +28,17 @@ use Rattle.run_model.specs.Accounts.{account_of, pending_in, pending_of}
 use Rattle.run_model.specs.Admission.{is_done, is_last, is_script, scripts_in, script_terms_if, unit_terms}
 use Rattle.run_model.specs.Backoff.{retry_count}
 use Rattle.run_model.specs.Board.{Deed, board, deed_events, said}
-use Rattle.run_model.specs.Dispatch.{having_told}
 use Rattle.run_model.specs.Environment.{number}
 use Rattle.run_model.specs.Journal.{history, IsLegalBackward}
 use Rattle.run_model.specs.Story.{Attempt, cut, pieces, story_of, is_at_start, is_at_retry, was_left}
 use Rattle.run_model.specs.Attempts.{result_in}
 use Rattle.run_events.specs.Result.{is_success}
 use Rattle.run_model.specs.Turns.{deed_on, enabled, takes_turn, turn_of_unit}
-use Rattle.run_model.specs.Words.{clock, finishes, is_over, queue, starts, starts_in, sub_run, tally, told, unit_after}
+use Rattle.run_model.specs.Words.{clock, finishes, is_over, queue, starts, starts_in, sub_run, told, unit_after}
 use Rattle.run_model.specs.Words.{unit_of}
 use Rattle.run_laws.proofs.units.AttemptLemmas.{HasPieces, IsMade, IsMadeIf}
-use Rattle.run_laws.proofs.told.Cancels.{IsCancel, cancel_apart, cancel_is}
-use Rattle.run_laws.proofs.board.DeedFits.{Does, IsInOrder, ToldFits, ToldFitsIn}
+use Rattle.run_laws.proofs.told.Cancels.{IsCancel, cancel_apart}
+use Rattle.run_laws.proofs.board.DeedFits.{Does, IsInOrder, cancel_told, ToldFits, ToldFitsIn}
 use Rattle.run_laws.proofs.board.Facts.{Waits, itself, start_waits}
 use Rattle.run_laws.proofs.board.Holds.{Holds, HasEndedAs, IsOnWay, IsOnWayIn, IsOverWith, Way, way_of}
 use Rattle.run_laws.proofs.board.Kept.{HoldsAfter, does_after, holds, IsOfRun, IsBeforeRuns, where_joins}
@@ -257,7 +256,7 @@ told_after p over now run d h does was =
     (with_cancel (told run ++ option_to_list d.told) d.cancel cancels (with_own d.told does.tells does.order))
   where
     cancels : IsCancel d.cancel
-    cancels = subst IsCancel (sym does.marks.cancel) (cancel_is now (having_told (tally p run) d.told) d.cause)
+    cancels = cancel_told p over now run d does.marks
 
     by_event : (x : ReporterEvent) → ToldFits p (told run) (Some x) → IsInOrder p run x → (j k : ℕ) → j < scripts_in p
         → k < scripts_in p → starts k x ≡ true → list_any (starts j) (told run) ≡ true
@@ -303,8 +302,8 @@ in_turn-cons p past e h en was = record {
   over = λ j k below within some. over_after p (clock past) run e d j does.part
       (each_over p (clock past) run d.part j k joins (was.over j k below within) below within
       (some_before d.request (unit_after (clock past) k d.part (unit_of k run)) some));
-  behind = λ j k below within. behind_after p (is_over past) (clock past) run e d j k h does was below within;
-  told = told_after p (is_over past) (clock past) run d h does was;
+  behind = λ j k below within. behind_after p (is_over past) (clock past) run e d j k h.run does was below within;
+  told = told_after p (is_over past) (clock past) run d h.run does was;
 }
   where
     run : List Happening
@@ -388,7 +387,7 @@ done_so p over now run k h below done = by_unit (unit_of k run) refl done
 pub admitted_in_turn : (p : Settings) (backward : List Entry) → IsLegalBackward p backward
     → AreAdmittedInTurn p (sub_run (history p backward))
 admitted_in_turn p backward legal j k before below some =
-    done_so p (is_over past) (clock past) (sub_run past) j (holds p backward legal) (omega arith)
+    done_so p (is_over past) (clock past) (sub_run past) j (holds p backward legal).run (omega arith)
     ((in_turn p backward legal).over j k before below some)
   where
     past : List Happening

@@ -1,35 +1,82 @@
-// Theorems on causes over every legal journal.
+// Theorems on causes, pauses and rounds over every legal journal.
 ghost use Rattle.run_cancel_laws.specs.Groups.{SignalsGoToGroups};
+ghost use Rattle.run_cancel_laws.specs.Pauses.{PausedRunsGoOn, PausesAlternate, PausesAreOfSignals};
+ghost use Rattle.run_cancel_laws.specs.Pauses.{RunnerIsAskedToStop};
 ghost use Rattle.run_cancel_laws.specs.Reach.{RequestsReachTheLive};
 ghost use Rattle.run_cancel_laws.specs.Requests.{RequestsAreOfCauses};
+ghost use Rattle.run_cancel_laws.specs.Rounds.{AnswersAreTold, QueriesAreWaitedFor, StopsAreWaitedFor};
+ghost use Rattle.run_cancel_laws.specs.Rounds.{KeysAreHeard, TicksAreFree};
 ghost use Rattle.run_cancel_laws.specs.Scripts.{ScriptsAreAdmittedInTurn, ScriptsComeOneByOne};
-ghost use Rattle.run_cancel_laws.specs.Enabled.{GlobalTimerIsCounted, RefusalsAreReportedOnce, SignalsAreHeardTwice};
+ghost use Rattle.run_cancel_laws.specs.Enabled.{GlobalTimerIsCounted, RefusalsAreReportedOnce};
+ghost use Rattle.run_cancel_laws.specs.Enabled.{SignalsAreHeardTwice};
 
 /// Each turn of a legal journal that is a cause, for a reason above each reason before it in its sub-run, asks of each
-/// live unit what is asked for that: a first signal to end its child by that signal, a second one to kill it, the global
-/// timer to end it by a term, too many failures to end it where the plan says at once; a failed script, too many
-/// failures else, and a refused event to start no further attempt. Each other turn asks nothing of them.
+/// live unit what is asked for that: a first signal to end its child by that signal, a second one to kill it, the
+/// global timer to end it by a term, too many failures to end it where the plan says at once; a failed script, too many
+/// failures else, and a refused event to start no further attempt. A tstp asks of them to stop where the run isn't
+/// paused, and a cont to go on where it is; a signal or a key that asks what the run is doing asks that of them. Each
+/// stop and each query says its round, and all rounds are counted on from 0. Each other turn asks nothing of them.
 pub fn requests_are_of_causes()
     ensures { RequestsAreOfCauses }
 {}
 
-/// After every legal journal the global timer is due exactly where the newest sub-run goes on, the plan has a limit and
-/// there is no interceptor, the nanoseconds by which the turns of the sub-run moved the clock reach the limit, and it
-/// was not due before in the sub-run.
+/// After every legal journal the global timer is due exactly where the newest sub-run goes on, no round of stops or of
+/// queries is open and the runner isn't stopped, the plan has a limit and there is no interceptor, the nanoseconds by
+/// which the turns of the sub-run moved the clock while the runner wasn't stopped reach the limit, and it was not due
+/// before in the sub-run.
 pub fn the_global_timer_is_counted()
     ensures { GlobalTimerIsCounted }
 {}
 
-/// After every legal journal the report of a refused event is enabled exactly where the newest sub-run goes on, the
-/// reporter refused an event, and none was reported before in the sub-run.
+/// After every legal journal the report of a refused event is enabled exactly where the newest sub-run goes on, no
+/// round of stops or of queries is open, the reporter refused an event, and none was reported before in the sub-run.
 pub fn refusals_are_reported_once()
     ensures { RefusalsAreReportedOnce }
 {}
 
-/// After every legal journal a signal is enabled exactly where the newest sub-run goes on, the signal shuts a run
-/// down by the handlers of the plan, and at most one came before in the sub-run.
+/// After every legal journal a signal is enabled exactly where the newest sub-run goes on, no round of stops or of
+/// queries is open, and by the handlers of the plan the signal shuts a run down, and at most one that does so came
+/// before in the sub-run, or it is heard as one that pauses the run, lets it go on or asks what it is doing.
 pub fn signals_are_heard_twice()
     ensures { SignalsAreHeardTwice }
+{}
+
+/// Each turn of a legal journal tells that the run is paused exactly where it is a tstp that comes while the run isn't
+/// paused, and that it goes on exactly where it is a cont that comes while it is. A tstp and a cont tell and ask
+/// nothing else: so a tstp in a pause, and a cont outside of one, tells and asks nothing at all. And the pauses and
+/// continues that a legal journal tells alternate, beginning with a pause.
+pub fn pauses_are_of_signals()
+    ensures signals { PausesAreOfSignals }
+    ensures alternate { PausesAlternate }
+{}
+
+/// After every legal journal the run can end exactly where the newest sub-run goes on, no round of stops or of queries
+/// is open, each message was delivered, each script and each test was admitted and is over, and the run isn't paused.
+pub fn a_paused_run_goes_on()
+    ensures { PausedRunsGoOn }
+{}
+
+/// Each turn of a legal journal asks of the runner to stop itself exactly where it is the end of the wait for stopped
+/// units.
+pub fn the_runner_stops_itself()
+    ensures { RunnerIsAskedToStop }
+{}
+
+/// After every legal journal the wait for stopped units can be over exactly where the newest sub-run goes on, a round
+/// of stops is open, and no unit has its stop in its line, or the round began 100 ms ago. A round of queries can be
+/// over exactly where one is open, and no unit has its query in its line and no answer waits, or the round began, or
+/// told its latest answer, 100 ms ago. And an answer can be told exactly where a round of queries is open and one waits.
+pub fn rounds_are_waited_for()
+    ensures stops { StopsAreWaitedFor }
+    ensures queries { QueriesAreWaitedFor }
+    ensures answers { AnswersAreTold }
+{}
+
+/// After every legal journal a key that the handlers of the plan hear, and a tick, can come exactly where the newest
+/// sub-run goes on and no round of stops or of queries is open, and no other key can.
+pub fn keys_and_ticks_come_freely()
+    ensures keys { KeysAreHeard }
+    ensures ticks { TicksAreFree }
 {}
 
 /// After every legal journal each script and test of the newest sub-run is live exactly where its own turns say so:
@@ -40,8 +87,9 @@ pub fn requests_reach_the_live()
     ensures { RequestsReachTheLive }
 {}
 
-/// Each start and each signal that is asked in the newest sub-run of a legal journal is for a child with a group of
-/// processes of its own exactly where the child is a script's, or no debugger stands before the tests.
+/// Each start and each signal that is asked in the newest sub-run of a legal journal, be it one that ends a child,
+/// stops it or lets it go on, is for a child with a group of processes of its own exactly where the child is a
+/// script's, or no debugger stands before the tests.
 pub fn signals_go_to_groups()
     ensures { SignalsGoToGroups }
 {}

@@ -9,7 +9,7 @@ use Rattle.run_events.specs.declared.plan.Plan.{Plan}
 use Rattle.run_events.specs.declared.plan.PlanScript.{PlanScript}
 use Rattle.run_events.specs.declared.plan.PlanTest.{PlanTest}
 use Rattle.run_events.specs.declared.plan.RunHead.{RunHead}
-use Rattle.run_events.specs.declared.signal.SignalHandlerKind.{SignalHandlerKind}
+use Rattle.run_events.specs.declared.plan.Hearing.{Hearing}
 use Rattle.run_events.specs.declared.turn.Turn.{Turn}
 use Rattle.run_events.specs.declared.outcome.RunOutcome.{RunOutcome}
 use Rattle.run_events.specs.declared.settings.Settings.{Settings}
@@ -83,7 +83,7 @@ abbrev pub IsFew : Plan → Type 0
 IsFew plan = length plan.scripts + length plan.tests < 2 ^ 32
 
 -- a plan with few scripts and tests has few units
-few_plan : (rules : SignalHandlerKind × Option ℕ) (frame : RunHead × TargetRunner)
+few_plan : (rules : Hearing × Option ℕ) (frame : RunHead × TargetRunner)
     (lists : List Group × List PlanScript × List PlanTest)
     → length lists.1 + length lists.2 < 2 ^ 32 → IsFew (plan_with rules frame lists)
 few_plan rules frame lists few = few

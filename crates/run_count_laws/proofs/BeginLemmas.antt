@@ -1,5 +1,5 @@
 -- Which turns tell that the run starts.
-use Rattle.std.proofs.Common.{◌≡◌, ℕ, ◌||◌, List, [], ◌∷◌, ◌++◌, Bool, true, false, not, if◌then◌else◌, Option, Some}
+use Rattle.std.proofs.Common.{◌≡◌, ◌||◌, List, [], ◌∷◌, ◌++◌, Bool, true, false, not, if◌then◌else◌, Option, Some}
 use Rattle.std.proofs.Common.{None, is_some, option_map, option_and_then, option_to_list, reverse, refl, ap, sym, subst}
 use Rattle.std.proofs.Common.{◌∙◌}
 use Rattle.std.specs.Prelude.{IfSome}
@@ -10,7 +10,7 @@ use Rattle.std.proofs.lemmas.List.Elements.{All-nil, All-cons, All-append}
 use Rattle.std.proofs.lemmas.List.Folds.{list_any-append}
 use Rattle.run_events.specs.declared.settings.Settings.{Settings}
 use Rattle.run_events.specs.declared.turn.Turn.{Turn}
-use Rattle.run_events.specs.declared.turn.Turn.TheVariants.{Admit, Deliver}
+use Rattle.run_events.specs.declared.turn.Turn.TheVariants.{Admit, Deliver, Signal, Key, Answer}
 use Rattle.run_events.specs.declared.message.Message.{Message}
 use Rattle.run_events.specs.declared.message.Message.TheVariants.{ScriptStart, Start, Retry}
 use Rattle.run_events.specs.declared.events.ReporterEvent.{ReporterEvent}
@@ -18,21 +18,26 @@ use Rattle.run_events.specs.declared.events.ReporterEvent.TheVariants.{Tick, Tes
 use Rattle.run_events.specs.declared.events.RunStarted.{RunStarted}
 use Rattle.run_events.specs.declared.events.TestEventKind.{TestEventKind}
 use Rattle.run_events.specs.declared.events.TestEventKind.TheVariants.{RunBeginCancel, RunBeginKill, SetupScriptStarted}
+use Rattle.run_events.specs.declared.events.TestEventKind.TheVariants.{RunPaused, RunContinued, InfoStarted}
+use Rattle.run_events.specs.declared.events.TestEventKind.TheVariants.{InfoResponse as InfoAnswer, InfoFinished}
+use Rattle.run_events.specs.declared.events.TestEventKind.TheVariants.{InputEnter}
+use Rattle.run_events.specs.Hearing.{heard_key}
 use Rattle.run_model.specs.declared.dispatcher_view.Tally.{Tally}
 use Rattle.run_model.specs.declared.entry.Entry.{Entry}
 use Rattle.run_model.specs.declared.happening.Happening.{Happening}
-use Rattle.run_model.specs.Words.{clock, is_over, sub_run, tally}
+use Rattle.run_model.specs.Words.{clock, is_over, sub_run}
 use Rattle.run_model.specs.Admission.{Newcomer, newcomer}
-use Rattle.run_model.specs.Dispatch.{event, head_of, may_go, having_told, told_of, go_of, started_event, retried_event}
-use Rattle.run_model.specs.Dispatch.{with_start}
+use Rattle.run_model.specs.Dispatch.{Moment, moment_by, heard_by, event, head_of, may_go, told_of, go_of}
+use Rattle.run_model.specs.Dispatch.{started_event, retried_event, with_start}
 use Rattle.run_model.specs.Board.{Board, Deed, board}
 use Rattle.run_model.specs.Cancel.{Cause, cause_of, caused}
 use Rattle.run_model.specs.Turns.{enabled_on, takes_turn, turn_of_unit, admission, starting, answer_to, event_of}
-use Rattle.run_model.specs.Turns.{tally_with, delivered_as, delivery, done_by, deed_on, happening}
+use Rattle.run_model.specs.Turns.{tally_with, delivered_as, delivery, done_by, deed_on, happening, live_in, oldest_of}
 use Rattle.run_model.specs.Journal.{past_of, IsLegal, IsLegalBackward}
 use Rattle.run_laws.proofs.board.ByTurn.{by_turn}
-use Rattle.run_laws.proofs.told.Cancels.{IsCancel, IsCancelKind, cancel_is}
-use Rattle.run_laws.proofs.board.DeedFits.{Does}
+use Rattle.run_laws.proofs.told.Cancels.{IsCancel, IsCancelKind}
+use Rattle.run_laws.proofs.told.Asides.{IsAside, IsAsideEvent, IsAsideKind, answer_aside, by_signal, key_aside}
+use Rattle.run_laws.proofs.board.DeedFits.{Does, cancel_told}
 use Rattle.run_laws.proofs.board.Kept.{does_after, holds}
 use Rattle.run_count_laws.specs.RunStart.{run_start_in, run_start, is_begin, IsStartOf, TellsRunStart}
 
@@ -45,18 +50,18 @@ abbrev TellsStart : RunStarted → Deed → Type 0
 TellsStart head d = start_of d.told ≡ (if d.begins then Some head else None)
 
 -- the delivery of a message tells no such thing
-if_going : (now : ℕ) (go : Bool) (kind : TestEventKind) → run_start_in kind ≡ None
+if_going : (now : Moment) (go : Bool) (kind : TestEventKind) → run_start_in kind ≡ None
     → start_of (option_map (event now) (if go then Some kind else None)) ≡ None
 if_going now true kind h = h
 if_going now false kind h = refl
 
-message_starts : (now : ℕ) (t : Tally) (m : Message) → start_of (option_map (event now) (told_of t m)) ≡ None
+message_starts : (now : Moment) (t : Tally) (m : Message) → start_of (option_map (event now) (told_of t m)) ≡ None
 message_starts now t (ScriptStart start) = if_going now (may_go t) (SetupScriptStarted start) refl
 message_starts now t (Start start) = if_going now (may_go t) (started_event start (with_start t)) refl
 message_starts now t (Retry retry) = if_going now (may_go t) (retried_event retry t) refl
 message_starts now t m = refl
 
-caused_starts : (head : RunStarted) (now : ℕ) (t : Tally) (o : Option Cause) (d : Deed) → TellsStart head d
+caused_starts : (head : RunStarted) (now : Moment) (t : Tally) (o : Option Cause) (d : Deed) → TellsStart head d
     → TellsStart head (caused now t o d)
 caused_starts head now t None d h = h
 caused_starts head now t (Some cause) d h = h
@@ -65,13 +70,32 @@ delivery_starts : (b : Board) (q : List Message) → TellsStart b.dispatcher.hea
 delivery_starts b [] = refl
 delivery_starts b (m ∷ rest) =
     let tells : Option ReporterEvent = event_of b m in
-    caused_starts b.dispatcher.head b.clock (tally_with b tells) (cause_of b.dispatcher.rules (tally_with b tells) m)
+    caused_starts b.dispatcher.head (moment_by b.clock b.dispatcher.watch) (tally_with b tells)
+    (cause_of b.dispatcher.rules (tally_with b tells) m)
     (delivered_as b m (answer_to b (starting m) (go_of b.dispatcher.tally m)))
-    (message_starts b.clock b.dispatcher.tally m)
+    (message_starts (moment_by b.clock b.dispatcher.watch) b.dispatcher.tally m)
 
 admission_starts : (b : Board) (o : Option Newcomer) → TellsStart b.dispatcher.head (admission o)
 admission_starts b None = refl
 admission_starts b (Some new) = refl
+
+aside_starts : (head : RunStarted) (d : Deed) → IsAside d → TellsStart head d
+aside_starts head d aside =
+    by_told d.told aside.told ∙ ap (λ b. if b then Some head else None) (sym aside.begins)
+  where
+    by_kind : (kind : TestEventKind) → IsAsideKind kind → run_start_in kind ≡ None
+    by_kind (RunPaused event) h = refl
+    by_kind (RunContinued event) h = refl
+    by_kind (InfoStarted event) h = refl
+    by_kind (InfoAnswer event) h = refl
+    by_kind (InfoFinished missing) h = refl
+    by_kind (InputEnter event) h = refl
+    by_kind kind h = absurd h
+
+    by_told : (o : Option ReporterEvent) → IfSome o IsAsideEvent → start_of o ≡ None
+    by_told None h = refl
+    by_told (Some Tick) h = refl
+    by_told (Some (Test event)) h = by_kind event.kind h
 
 starts_run : (p : Settings) (b : Board) (turn : Turn) → enabled_on p b turn ≡ true
     → TellsStart b.dispatcher.head (deed_on p b turn)
@@ -83,16 +107,22 @@ starts_run p b turn en =
       deliver = λ en. delivery_starts b b.queue;
       named = λ turn k to other en. refl;
       clock = λ ns en. refl;
-      signal = λ signal en. refl;
+      signal = λ signal en. by_signal (TellsStart b.dispatcher.head) b.clock (live_in b.units) b.dispatcher signal
+          (heard_by b.dispatcher.rules.hearing signal) refl (aside_starts b.dispatcher.head);
       global_due = λ en. refl;
       report_cancel = λ en. refl;
       end = λ en. refl;
-      unbuilt = λ turn never en. let no_turn : false ≡ true = sym (never p b) ∙ en in cc;
+      key = λ key en. aside_starts b.dispatcher.head _ (key_aside b.clock (live_in b.units) b.dispatcher
+          (heard_key b.dispatcher.rules.hearing.input key));
+      tick = λ en. refl;
+      stop_wait_due = λ en. refl;
+      answer = λ en. aside_starts b.dispatcher.head _ (answer_aside b (oldest_of b.answers));
+      info_due = λ en. refl;
     })
     turn (second_so (not b.dispatcher.over) (takes_turn p b turn (turn_of_unit turn)) en)
 
 -- a sub-run begins with a begin
-caused_begins : (now : ℕ) (t : Tally) (o : Option Cause) (d : Deed) → (caused now t o d).begins ≡ d.begins
+caused_begins : (now : Moment) (t : Tally) (o : Option Cause) (d : Deed) → (caused now t o d).begins ≡ d.begins
 caused_begins now t None d = refl
 caused_begins now t (Some cause) d = refl
 
@@ -100,7 +130,8 @@ delivery_begins : (b : Board) (q : List Message) → (delivery b q).begins ≡ f
 delivery_begins b [] = refl
 delivery_begins b (m ∷ rest) =
     let tells : Option ReporterEvent = event_of b m in
-    caused_begins b.clock (tally_with b tells) (cause_of b.dispatcher.rules (tally_with b tells) m)
+    caused_begins (moment_by b.clock b.dispatcher.watch) (tally_with b tells)
+    (cause_of b.dispatcher.rules (tally_with b tells) m)
     (delivered_as b m (answer_to b (starting m) (go_of b.dispatcher.tally m)))
 
 admission_begins : (o : Option Newcomer) → (admission o).begins ≡ false
@@ -110,6 +141,12 @@ admission_begins (Some new) = refl
 begins-is : (p : Settings) (b : Board) (turn : Turn) → (deed_on p b turn).begins ≡ is_begin turn
 begins-is p b Admit = admission_begins (newcomer p b.units)
 begins-is p b Deliver = delivery_begins b b.queue
+begins-is p b (Signal signal) =
+    by_signal (λ d. d.begins ≡ false) b.clock (live_in b.units) b.dispatcher signal
+    (heard_by b.dispatcher.rules.hearing signal) refl (λ d aside. aside.begins)
+begins-is p b (Key key) =
+    (key_aside b.clock (live_in b.units) b.dispatcher (heard_key b.dispatcher.rules.hearing.input key)).begins
+begins-is p b Answer = (answer_aside b (oldest_of b.answers)).begins
 begins-is p b turn = refl
 
 -- the event of a cause tells no such thing
@@ -183,9 +220,7 @@ run_starts p journal e legal = record {
     begins = begins-is p (board p past) e.turn
 
     none : start_of d.cancel ≡ None
-    none = cancel_starts d.cancel
-        (subst IsCancel (sym does.marks.cancel)
-        (cancel_is (clock past) (having_told (tally p (sub_run past)) d.told) d.cause))
+    none = cancel_starts d.cancel (cancel_told p (is_over past) (clock past) (sub_run past) d does.marks)
 
     or_false : (b : Bool) → (b || false) ≡ b
     or_false true = refl

@@ -11,14 +11,18 @@ use Rattle.run_events.specs.declared.events.ReporterEvent.{ReporterEvent}
 use Rattle.run_model.specs.declared.dispatcher_view.Tally.{Tally}
 use Rattle.run_model.specs.declared.entry.Entry.{Entry}
 use Rattle.run_model.specs.declared.happening.Happening.{Happening}
-use Rattle.run_model.specs.Words.{clock, events_in, is_over, reason, sub_run, told, tally}
-use Rattle.run_model.specs.Dispatch.{having_told}
+use Rattle.run_model.specs.Words.{clock, elapsed, events_in, is_over, reason, sub_run, told, tally}
+use Rattle.run_model.specs.Dispatch.{having_told, moment_by}
 use Rattle.run_model.specs.Board.{Board, Deed, board, with_cause}
 use Rattle.run_model.specs.Turns.{enabled, deed_on, happening}
 use Rattle.run_model.specs.Journal.{history, past_of, IsLegal, IsLegalBackward}
 use Rattle.run_laws.proofs.board.Boards.{counts, counts-more, board-steps}
-use Rattle.run_laws.proofs.told.Cancels.{IsCancel, cancel_is, cancel_tallied}
-use Rattle.run_laws.proofs.board.DeedFits.{Does}
+use Rattle.run_laws.proofs.told.Cancels.{IsCancel, cancel_for, cancel_tallied}
+use Rattle.run_laws.proofs.board.DeedFits.{Does, cancel_told}
+use Rattle.run_laws.proofs.board.OnBoard.{moment_in}
+use Rattle.run_clock.specs.Stopwatch.{active_by}
+use Rattle.run_model.specs.Rounds.{run_watch}
+use Rattle.run_count_laws.proofs.ActiveLemmas.{active_is}
 use Rattle.run_laws.proofs.board.Kept.{HoldsAfter, does_after, IsOfRun, IsBeforeRuns, where_joins, holds}
 use Rattle.run_count_laws.specs.Moments.{SaysMoment}
 use Rattle.run_count_laws.specs.Counts.{SaysCounts, TellsCounts}
@@ -37,16 +41,20 @@ all_if P (Some x) h = All-cons P x [] h (All-nil P)
 -- what an enabled turn tells after a legal journal
 record TellsAfter (p : Settings) (past : List Happening) (x : Happening) : Type 0 where
   own : TellsBoard (board p past) x.told
-  cause : IfSome x.cancel (SaysAt (clock past) (with_cause x.cause (having_told (tally p (sub_run past)) x.told)))
+  cause : IfSome x.cancel (SaysAt (moment_in (clock past) past)
+      (with_cause x.cause (having_told (tally p (sub_run past)) x.told)))
 
 tells_after : (p : Settings) (before : List Entry) (e : Entry) → IsLegalBackward p before
     → enabled p (history p before) e.turn ≡ true
     → TellsAfter p (history p before) (happening p (history p before) e)
 tells_after p before e legal en = record {
   own = own_tells p (board p past) e.turn en;
-  cause = subst (λ o. IfSome o (SaysAt (clock past) (with_cause d.cause (having_told (tally p (sub_run past)) d.told))))
-      (sym does.marks.cancel)
-      (cause_says (clock past) (having_told (tally p (sub_run past)) d.told) d.cause);
+  cause = subst (λ o. IfSome o (SaysAt (moment_in (clock past) past)
+      (with_cause d.cause (having_told (tally p (sub_run past)) d.told))))
+      (sym (does.marks.cancel
+      ∙ ap (λ w. cancel_for (moment_by (clock past) w) (having_told (tally p (sub_run past)) d.told) d.cause)
+      (sym (holds p before legal).alike.watch)))
+      (cause_says (moment_in (clock past) past) (having_told (tally p (sub_run past)) d.told) d.cause);
 }
   where
     past : List Happening
@@ -65,14 +73,17 @@ backward_of p journal e legal = subst (IsLegalBackward p) (reverse-append journa
 
 -- so each event says its moment
 pub moments : (p : Settings) (journal : List Entry) (e : Entry) → IsLegal p (journal ++ e ∷ [])
-    → All (SaysMoment (clock (past_of p journal))) (events_in (happening p (past_of p journal) e))
+    → All (SaysMoment (clock (past_of p journal)) (elapsed (past_of p journal)))
+    (events_in (happening p (past_of p journal) e))
 moments p journal e legal =
     let backward = backward_of p journal e legal in
     let it = tells_after p (reverse journal) e backward.2 backward.0 in
-    let x : Happening = happening p (past_of p journal) e in
-    let says : ReporterEvent → Type 0 = SaysMoment (clock (past_of p journal)) in
-    All-append says (option_to_list x.told) (option_to_list x.cancel) (all_if says x.told it.own.moment)
-    (all_if says x.cancel (if_some_map _ says x.cancel (λ e says. says.moment) it.cause))
+    let past : List Happening = past_of p journal in
+    let x : Happening = happening p past e in
+    let says : ReporterEvent → Type 0 = SaysMoment (clock past) (active_by (run_watch past) (clock past)) in
+    subst (λ active. All (SaysMoment (clock past) active) (events_in x)) (active_is p (reverse journal))
+    (All-append says (option_to_list x.told) (option_to_list x.cancel) (all_if says x.told it.own.moment)
+    (all_if says x.cancel (if_some_map _ says x.cancel (λ e says. says.moment) it.cause)))
 
 -- what the dispatcher counts is what was told
 says_counts : (p : Settings) (why : Option CancelReason) (events : List ReporterEvent) (o : Option ReporterEvent)
@@ -112,8 +123,7 @@ counts_told p journal e legal = record {
     it = tells_after p (reverse journal) e backward.2 backward.0
 
     cancels : IsCancel x.cancel
-    cancels = subst IsCancel (sym does.marks.cancel)
-        (cancel_is (clock past) (having_told (tally p run) x.told) x.cause)
+    cancels = cancel_told p (is_over past) (clock past) run (deed_on p (board p past) e.turn) does.marks
 
     stepped : tally p (sub_run (x ∷ past)) ≡ with_cause x.cause (having_told (tally p run) x.told)
     stepped =
@@ -125,7 +135,7 @@ counts_told p journal e legal = record {
         let t : Tally = with_cause x.cause (having_told (tally p run) x.told) in
         let same : tally p (x ∷ run) ≡ t = ap (tally p) (sym of.joins) ∙ stepped in
         subst (λ t. IfSome x.cancel (SaysTally t)) (sym same)
-        (if_some_map (SaysAt (clock past) t) (SaysTally t) x.cancel (λ e says. says.counts) it.cause)
+        (if_some_map (SaysAt (moment_in (clock past) past) t) (SaysTally t) x.cancel (λ e says. says.counts) it.cause)
     by_run (inr before) =
         let none : x.cancel ≡ None = ap (λ (d : Deed). d.cancel) before.idle in
         subst (λ o. IfSome o (SaysTally (tally p (x ∷ run)))) (sym none) tt

@@ -1,3 +1,4 @@
+pub mod ActiveLemmas
 pub mod OwnEvents
 pub mod CauseEvents
 pub mod CountLemmas

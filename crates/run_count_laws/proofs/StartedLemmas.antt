@@ -1,5 +1,5 @@
 -- The starts that are told have the slots that the plan gives.
-use Rattle.std.proofs.Common.{◌≡◌, ◌⊎◌, inl, inr, ℕ, ◌<◌, List, [], ◌∷◌, ◌++◌, Bool, true, false, not, Option, Some}
+use Rattle.std.proofs.Common.{◌≡◌, ◌⊎◌, inl, inr, ℕ, ◌<◌, List, [], ◌∷◌, ◌++◌, Bool, true, not, Option, Some}
 use Rattle.std.proofs.Common.{None, option_and_then, option_to_list, refl, ap, sym, subst, ◌∙◌}
 use Rattle.std.specs.Prelude.{⊤, IfSome}
 use Rattle.std.specs.Cmp.{second_so}
@@ -23,17 +23,19 @@ use Rattle.run_model.specs.declared.unit_turn.UnitTurn.{UnitTurn}
 use Rattle.run_model.specs.declared.unit_turn.UnitTurn.TheVariants.{Answered}
 use Rattle.run_model.specs.declared.unit_view.UnitView.{UnitView}
 use Rattle.run_model.specs.Unit.{at_moment, row}
-use Rattle.run_model.specs.Words.{clock, delivered, is_over, queue, sent, sub_run, told, tally}
+use Rattle.run_model.specs.Words.{clock, delivered, is_over, queue, sent, sub_run, told}
 use Rattle.run_model.specs.Admission.{scripts_in, Newcomer, newcomer}
-use Rattle.run_model.specs.Dispatch.{having_told, go_of}
+use Rattle.run_model.specs.Dispatch.{Moment, moment_by, heard_by, go_of}
 use Rattle.run_model.specs.Board.{Board, Deed, board, said, unit_in}
 use Rattle.run_model.specs.Cancel.{Cause, cause_of, caused}
 use Rattle.run_model.specs.Turns.{enabled_on, takes_turn, turn_of_unit, admission, starting, answer_to, event_of}
-use Rattle.run_model.specs.Turns.{tally_with, taken_by, delivered_as, delivery, done_by, deed_on}
+use Rattle.run_model.specs.Turns.{tally_with, taken_by, delivered_as, delivery, done_by, deed_on, live_in, oldest_of}
 use Rattle.run_model.specs.Journal.{history, IsLegalBackward}
 use Rattle.run_laws.proofs.board.ByTurn.{by_turn}
-use Rattle.run_laws.proofs.told.Cancels.{IsCancel, IsCancelKind, cancel_is}
-use Rattle.run_laws.proofs.board.DeedFits.{ToldFits, ToldFitsIn, IsInOrder, PartFits, IsSentAs, Does}
+use Rattle.run_laws.proofs.told.Cancels.{IsCancel, IsCancelKind}
+use Rattle.run_laws.proofs.told.Asides.{IsAside, answer_aside, by_signal, key_aside}
+use Rattle.run_events.specs.Hearing.{heard_key}
+use Rattle.run_laws.proofs.board.DeedFits.{cancel_told, ToldFits, ToldFitsIn, IsInOrder, PartFits, IsSentAs, Does}
 use Rattle.run_laws.proofs.units.FaceLemmas.{said_in, SendsNoStart, row_sends_none}
 use Rattle.run_laws.proofs.board.Kept.{HoldsAfter, does_after, IsOfRun, IsBeforeRuns, where_joins, holds}
 use Rattle.run_laws.proofs.units.Rows.{takes_moment}
@@ -43,7 +45,7 @@ use Rattle.run_count_laws.proofs.SlotLemmas.{StartFits, MessageFits, newcomer_fi
 JoinsFit : Settings → Deed → Type 0
 JoinsFit p d = (first : UnitView) → d.part ≡ Some (Joins first) → IfSome d.sent (MessageFits p)
 
-caused_joins : (p : Settings) (now : ℕ) (t : Tally) (o : Option Cause) (d : Deed) → JoinsFit p d
+caused_joins : (p : Settings) (now : Moment) (t : Tally) (o : Option Cause) (d : Deed) → JoinsFit p d
     → JoinsFit p (caused now t o d)
 unfolding JoinsFit
 caused_joins p now t None d h = h
@@ -71,9 +73,14 @@ unfolding JoinsFit
 delivery_joins p b [] = λ first e. cc
 delivery_joins p b (m ∷ rest) =
     let tells : Option ReporterEvent = event_of b m in
-    caused_joins p b.clock (tally_with b tells) (cause_of b.dispatcher.rules (tally_with b tells) m)
+    caused_joins p (moment_by b.clock b.dispatcher.watch) (tally_with b tells)
+    (cause_of b.dispatcher.rules (tally_with b tells) m)
     (delivered_as b m (answer_to b (starting m) (go_of b.dispatcher.tally m)))
     (answer_joins p b m (starting m) (go_of b.dispatcher.tally m))
+
+aside_joins : (p : Settings) (d : Deed) → IsAside d → JoinsFit p d
+unfolding JoinsFit
+aside_joins p d aside = λ first e. let never : None ≡ Some (Joins first) = sym aside.part ∙ e in cc
 
 joins_fit : (p : Settings) (b : Board) (turn : Turn) → enabled_on p b turn ≡ true → JoinsFit p (deed_on p b turn)
 unfolding JoinsFit
@@ -85,11 +92,17 @@ joins_fit p b turn en =
       deliver = λ en. delivery_joins p b b.queue;
       named = λ turn k to other en. taken_joins p b.clock k to (unit_in b k);
       clock = λ ns en first e. cc;
-      signal = λ signal en first e. cc;
+      signal = λ signal en. by_signal (JoinsFit p) b.clock (live_in b.units) b.dispatcher signal
+          (heard_by b.dispatcher.rules.hearing signal) (λ first e. cc) (aside_joins p);
       global_due = λ en first e. cc;
       report_cancel = λ en first e. cc;
       end = λ en first e. cc;
-      unbuilt = λ turn never en. let no_turn : false ≡ true = sym (never p b) ∙ en in cc;
+      key = λ key en. aside_joins p _ (key_aside b.clock (live_in b.units) b.dispatcher
+          (heard_key b.dispatcher.rules.hearing.input key));
+      tick = λ en first e. cc;
+      stop_wait_due = λ en first e. cc;
+      answer = λ en. aside_joins p _ (answer_aside b (oldest_of b.answers));
+      info_due = λ en first e. cc;
     })
     turn (second_so (not b.dispatcher.over) (takes_turn p b turn (turn_of_unit turn)) en)
 
@@ -168,7 +181,7 @@ fit-cons p over now run e d does joins was = record {
 }
   where
     cancels : IsCancel d.cancel
-    cancels = subst IsCancel (sym does.marks.cancel) (cancel_is now (having_told (tally p run) d.told) d.cause)
+    cancels = cancel_told p over now run d does.marks
 
 fit-nil : (p : Settings) → AreFit p []
 fit-nil p = record { sends = All-nil (MessageFits p); tells = All-nil (EventFits p) }

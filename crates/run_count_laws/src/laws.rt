@@ -5,8 +5,9 @@ ghost use Rattle.run_count_laws.specs.Idle.{IdleRunsAdmit};
 ghost use Rattle.run_count_laws.specs.PlanLimits.{LimitsAreOfPlan};
 ghost use Rattle.run_count_laws.specs.RunStart.{RunStartsWithPlan};
 
-/// Each event that a turn of a legal journal tells says the moment of that turn, which is the sum of what the turns
-/// before it moved the clock, and as much active time.
+/// Each event that a turn of a legal journal tells, but a tick, says the moment of that turn, which is the sum of what
+/// the turns before it moved the clock, and the run's active time, which is the part of it that lies in no pause of the
+/// run.
 pub fn events_say_their_moment()
     ensures { EventsSayMoment }
 {}

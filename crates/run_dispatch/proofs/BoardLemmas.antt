@@ -4,13 +4,13 @@ use Rattle.run_events.specs.declared.message.Message.{Message}
 use Rattle.run_events.specs.declared.turn.Turn.{Turn}
 use Rattle.run_model.specs.Board.{Board, Deed, deed_events, dispatched}
 use Rattle.run_model.specs.Cancel.{Cause, cause_of, caused}
-use Rattle.run_model.specs.Dispatch.{is_third}
+use Rattle.run_model.specs.Dispatch.{moment_by, is_third}
 use Rattle.run_model.specs.Turns.{delivered_as, delivers, delivery_of, event_of, tally_with, is_third_signal, nothing_done}
 
 -- a delivery tells, asks and leaves the same whatever its unit does
 with_told : (b : Board) (m : Message) (answer : Deed) (cause : Option Cause)
-    → deed_events (caused b.clock (tally_with b (event_of b m)) cause (delivered_as b m answer))
-    ≡ deed_events (caused b.clock (tally_with b (event_of b m)) cause (delivered_as b m nothing_done))
+    → deed_events (caused (moment_by b.clock b.dispatcher.watch) (tally_with b (event_of b m)) cause (delivered_as b m answer))
+    ≡ deed_events (caused (moment_by b.clock b.dispatcher.watch) (tally_with b (event_of b m)) cause (delivered_as b m nothing_done))
 with_told b m answer None = refl
 with_told b m answer (Some cause) = refl
 
@@ -19,8 +19,8 @@ pub delivery-told : (b : Board) (m : Message) (answer : Deed)
 delivery-told b m answer = with_told b m answer (cause_of b.dispatcher.rules (tally_with b (event_of b m)) m)
 
 with_request : (b : Board) (m : Message) (answer : Deed) (cause : Option Cause)
-    → (caused b.clock (tally_with b (event_of b m)) cause (delivered_as b m answer)).request
-    ≡ (caused b.clock (tally_with b (event_of b m)) cause (delivered_as b m nothing_done)).request
+    → (caused (moment_by b.clock b.dispatcher.watch) (tally_with b (event_of b m)) cause (delivered_as b m answer)).request
+    ≡ (caused (moment_by b.clock b.dispatcher.watch) (tally_with b (event_of b m)) cause (delivered_as b m nothing_done)).request
 with_request b m answer None = refl
 with_request b m answer (Some cause) = refl
 
@@ -29,9 +29,9 @@ pub delivery-request : (b : Board) (m : Message) (answer : Deed)
 delivery-request b m answer = with_request b m answer (cause_of b.dispatcher.rules (tally_with b (event_of b m)) m)
 
 with_dispatched : (b : Board) (m : Message) (answer : Deed) (cause : Option Cause)
-    → dispatched b.clock b.dispatcher (caused b.clock (tally_with b (event_of b m)) cause (delivered_as b m answer))
+    → dispatched b.clock b.dispatcher (caused (moment_by b.clock b.dispatcher.watch) (tally_with b (event_of b m)) cause (delivered_as b m answer))
     ≡ dispatched b.clock b.dispatcher
-    (caused b.clock (tally_with b (event_of b m)) cause (delivered_as b m nothing_done))
+    (caused (moment_by b.clock b.dispatcher.watch) (tally_with b (event_of b m)) cause (delivered_as b m nothing_done))
 with_dispatched b m answer None = refl
 with_dispatched b m answer (Some cause) = refl
 

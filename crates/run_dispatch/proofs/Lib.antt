@@ -1,3 +1,4 @@
+mod CurrentLemmas
 pub mod BoardLemmas
 mod FinishLemmas
 mod SignalLemmas

@@ -10,5 +10,6 @@ pub record Does (now : ℕ) (old : DispatcherView) (deed : Deed) (answer : Optio
     : Type 0 where
   pub told : effects.events ≡ deed_events deed
   pub request : effects.request ≡ deed.request
+  pub asked : effects.asked ≡ deed.asked
   pub go : effects.go ≡ answer
   pub after : new ≡ dispatched now old deed

@@ -4,29 +4,17 @@ ghost use Rattle.std.specs.Prelude.{option_map, option_to_list};
 ghost use Rattle.run_model.specs.Board.{deed_events, with_cause};
 ghost use Rattle.run_model.specs.Cancel.{is_above, cancelled_for, cancel_event, caused, signal_cause};
 ghost use Rattle.run_model.specs.Cancel.{time_is_up, event_refused};
-ghost use Rattle.run_model.specs.Dispatch.{shuts_down};
+ghost use Rattle.run_model.specs.Dispatch.{moment_by};
 ghost use Rattle.run_model.specs.Turns.{nothing_done, cancels_for};
 ghost use Rattle.run_dispatch.specs.Deeds.{Does};
 
 use crate::cause::Cause;
 use crate::effects::{DispatchEffects, Fx, event_at, telling};
 use run_capture::List;
-use run_events::{
-    CancelReason, Heard, Hearing, ReporterEvent, RunCancelled, RunStats, Signal, TestEventKind,
-    hears_signal,
-};
+use run_clock::StopwatchStart;
+use run_events::{CancelReason, ReporterEvent, RunCancelled, RunStats, Signal, TestEventKind};
 use run_model::{DispatcherView, Tally};
 use std::alloc::Global;
-
-/// Whether a signal shuts a run with these handlers down.
-pub fn shuts_down(hearing: &Hearing, signal: Signal) -> bool
-    ensures { result ≡ shuts_down hearing.now signal }
-{
-    matches!(
-        hears_signal(hearing.signals, hearing.quit_is_info, signal),
-        Some(Heard::Shutdown)
-    )
-}
 
 // Whether a reason is above the current one.
 fn is_above(current: Option<CancelReason>, reason: CancelReason) -> bool
@@ -75,18 +63,21 @@ fn cancel_event(reason: CancelReason, tally: Tally) -> TestEventKind
     }
 }
 
-/// What is told and asked for a cause, after these events and by the counts after them: nothing where its reason isn't
+/// What is told and asked for a cause in a run with this stopwatch, after these events and by the counts after them: nothing where its reason isn't
 /// above the current one.
 pub fn add_cause(
     alloc: Global,
     mut events: List<ReporterEvent>,
     cause: &Cause,
+    watch: &StopwatchStart,
     tally: Tally,
     now: u64,
 ) -> Fx
+    requires { watch.now.latest ≤ now }
     ensures { IfOk result (λ fx. fx ≡ record {
-      events = events ++ option_to_list (caused now tally (Some cause.now) nothing_done).cancel;
-      request = (caused now tally (Some cause.now) nothing_done).request;
+      events = events ++ option_to_list (caused (moment_by now watch.now) tally (Some cause.now) nothing_done).cancel;
+      request = (caused (moment_by now watch.now) tally (Some cause.now) nothing_done).request;
+      asked = None;
       go = None;
     }) }
 {
@@ -95,10 +86,11 @@ pub fn add_cause(
         return Ok(telling(events, None));
     }
     let kind = cancel_event(reason, cancelled_for(reason, tally));
-    events.push(alloc, event_at(now, kind))?;
+    events.push(alloc, event_at(watch, now, kind))?;
     Ok(DispatchEffects {
         events,
         request: Some(cause.request()),
+        asked: None,
         go: None,
     })
 }
@@ -112,9 +104,11 @@ pub fn heed(
     tally: Tally,
     now: u64,
 ) -> Fx
+    requires { view.old.watch.latest ≤ now }
     ensures gives { IfOk result (λ fx. fx ≡ record {
-      events = events ++ option_to_list (caused now tally cause nothing_done).cancel;
-      request = (caused now tally cause nothing_done).request;
+      events = events ++ option_to_list (caused (moment_by now view.old.watch) tally cause nothing_done).cancel;
+      request = (caused (moment_by now view.old.watch) tally cause nothing_done).request;
+      asked = None;
       go = None;
     }) }
     ensures after { OnOk result (view.new ≡ record view.old {
@@ -125,7 +119,7 @@ pub fn heed(
 {
     match cause {
         Some(cause) => {
-            let effects = add_cause(alloc, events, &cause, tally, now)?;
+            let effects = add_cause(alloc, events, &cause, &view.watch, tally, now)?;
             view.tally = with_cause(cause.reason(), tally);
             view.latest = now;
             Ok(effects)
@@ -140,9 +134,11 @@ pub fn heed(
 
 // A cause alone: its reason is the run's where it is above the current one.
 fn cancel_for(alloc: Global, view: &mut DispatcherView, cause: &Cause, now: u64) -> Fx
+    requires { view.old.watch.latest ≤ now }
     ensures told { IfOk result (λ fx. fx ≡ record {
       events = deed_events (cancels_for now view.old cause.now);
       request = (cancels_for now view.old cause.now).request;
+      asked = None;
       go = None;
     }) }
     ensures after { OnOk result (view.new ≡ record view.old {
@@ -151,15 +147,16 @@ fn cancel_for(alloc: Global, view: &mut DispatcherView, cause: &Cause, now: u64)
     }) }
     ensures err { OnErr result (view.new ≡ view.old) }
 {
-    let effects = add_cause(alloc, List::new(), cause, view.tally, now)?;
+    let effects = add_cause(alloc, List::new(), cause, &view.watch, view.tally, now)?;
     view.tally = with_cause(cause.reason(), view.tally);
     view.latest = now;
     Ok(effects)
 }
 
 /// A shutdown signal came.
-pub fn hear_signal(alloc: Global, view: &mut DispatcherView, signal: Signal, now: u64) -> Fx
+pub fn shut_down(alloc: Global, view: &mut DispatcherView, signal: Signal, now: u64) -> Fx
     requires few { view.old.causes.signals < 2 }
+    requires timed { view.old.watch.latest ≤ now }
     ensures does { IfOk result
         (Does now view.old (cancels_for now view.old (signal_cause view.old.causes.signals signal)) None view.new) }
     ensures err { OnErr result (view.new ≡ view.old) }
@@ -171,7 +168,9 @@ pub fn hear_signal(alloc: Global, view: &mut DispatcherView, signal: Signal, now
 }
 
 /// The reporter refused an event.
+#[tactic(auto, using(crate::proofs::SignalLemmas::refused_after))]
 pub fn refuse(alloc: Global, view: &mut DispatcherView, now: u64) -> Fx
+    requires { view.old.watch.latest ≤ now }
     ensures does { IfOk result (Does now view.old (cancels_for now view.old event_refused) None view.new) }
     ensures err { OnErr result (view.new ≡ view.old) }
 {
@@ -181,7 +180,9 @@ pub fn refuse(alloc: Global, view: &mut DispatcherView, now: u64) -> Fx
 }
 
 /// The sub-run has run out of its time.
+#[tactic(auto, using(crate::proofs::SignalLemmas::run_out_after))]
 pub fn run_out(alloc: Global, view: &mut DispatcherView, now: u64) -> Fx
+    requires { view.old.watch.latest ≤ now }
     ensures does { IfOk result (Does now view.old (cancels_for now view.old time_is_up) None view.new) }
     ensures err { OnErr result (view.new ≡ view.old) }
 {

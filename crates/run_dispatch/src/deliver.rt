@@ -1,8 +1,8 @@
 // The delivery of a message.
-ghost use Rattle.std.specs.Prelude.{◌≡◌, ◌+◌, ◌<◌, ◌^◌, length, ◌∷◌, [], IfOk, OnErr};
+ghost use Rattle.std.specs.Prelude.{◌≡◌, ◌+◌, ◌<◌, ◌≤◌, ◌^◌, length, ◌∷◌, [], IfOk, OnErr};
 ghost use Rattle.run_events.specs.Stats.{AreBelow};
 ghost use Rattle.run_events.specs.declared.message.Message.TheVariants as messages;
-ghost use Rattle.run_model.specs.Dispatch.{CanDeliver, go_of, event, finished_event};
+ghost use Rattle.run_model.specs.Dispatch.{CanDeliver, go_of, moment_by, event, finished_event};
 ghost use Rattle.run_model.specs.Turns.{nothing_done, delivers};
 ghost use Rattle.run_dispatch.specs.Deeds.{Does};
 
@@ -12,6 +12,7 @@ use crate::effects::{Fx, one_event, telling};
 use crate::scripts::{hear_script_finish, hear_script_slow, hear_script_start};
 use crate::tally::{with_finish, with_skip, with_start};
 use run_capture::{List, Mem};
+use run_clock::StopwatchStart;
 use run_events::{
     AttemptFailed, AttemptFailedWillRetry, Message, ReporterEvent, RetryStarted, TestEventKind,
     TestFinish, TestFinished, TestRetry, TestSkip, TestSlow, TestStart, TestStarted,
@@ -24,6 +25,7 @@ use std::alloc::Global;
 /// is the last failure, cancels the run.
 pub fn hear(alloc: Global, view: &mut DispatcherView, message: Message, now: u64) -> Fx
     requires fits { CanDeliver view.old message }
+    requires timed { view.old.watch.latest ≤ now }
     ensures does { IfOk result
         (Does now view.old (delivers now view.old message nothing_done) (go_of view.old.tally message) view.new) }
     ensures err { OnErr result (view.new ≡ view.old) }
@@ -43,7 +45,8 @@ pub fn hear(alloc: Global, view: &mut DispatcherView, message: Message, now: u64
 
 // A start is told and let go, unless a reason cancels the run.
 fn hear_start(alloc: Global, view: &mut DispatcherView, start: TestStart, now: u64) -> Fx
-    requires { view.old.tally.running + 1 < 2 ^ 32 }
+    requires few { view.old.tally.running + 1 < 2 ^ 32 }
+    requires timed { view.old.watch.latest ≤ now }
     ensures does { IfOk result (Does now view.old (delivers now view.old (messages.Start start) nothing_done)
         (go_of view.old.tally (messages.Start start)) view.new) }
     ensures err { OnErr result (view.new ≡ view.old) }
@@ -58,24 +61,26 @@ fn hear_start(alloc: Global, view: &mut DispatcherView, start: TestStart, now: u
         running: tally.running,
         stats: tally.stats,
     });
-    let events = one_event(alloc, now, kind)?;
+    let events = one_event(alloc, &view.watch, now, kind)?;
     view.tally = tally;
     view.latest = now;
     Ok(telling(events, Some(true)))
 }
 
 fn hear_slow(alloc: Global, view: &mut DispatcherView, slow: TestSlow, now: u64) -> Fx
+    requires timed { view.old.watch.latest ≤ now }
     ensures does { IfOk result (Does now view.old (delivers now view.old (messages.Slow slow) nothing_done)
         (go_of view.old.tally (messages.Slow slow)) view.new) }
     ensures err { OnErr result (view.new ≡ view.old) }
 {
-    let events = one_event(alloc, now, TestEventKind::TestSlow(slow))?;
+    let events = one_event(alloc, &view.watch, now, TestEventKind::TestSlow(slow))?;
     view.latest = now;
     Ok(telling(events, None))
 }
 
 // The failure of an attempt that is tried again is told.
 fn hear_failed(alloc: Global, view: &mut DispatcherView, failed: AttemptFailed, now: u64) -> Fx
+    requires timed { view.old.watch.latest ≤ now }
     ensures does { IfOk result (Does now view.old (delivers now view.old (messages.AttemptFailed failed) nothing_done)
         (go_of view.old.tally (messages.AttemptFailed failed)) view.new) }
     ensures err { OnErr result (view.new ≡ view.old) }
@@ -84,13 +89,14 @@ fn hear_failed(alloc: Global, view: &mut DispatcherView, failed: AttemptFailed, 
         failed,
         running: view.tally.running,
     });
-    let events = one_event(alloc, now, kind)?;
+    let events = one_event(alloc, &view.watch, now, kind)?;
     view.latest = now;
     Ok(telling(events, None))
 }
 
 // A retry is told and let go, unless a reason cancels the run.
 fn hear_retry(alloc: Global, view: &mut DispatcherView, retry: TestRetry, now: u64) -> Fx
+    requires timed { view.old.watch.latest ≤ now }
     ensures does { IfOk result (Does now view.old (delivers now view.old (messages.Retry retry) nothing_done)
         (go_of view.old.tally (messages.Retry retry)) view.new) }
     ensures err { OnErr result (view.new ≡ view.old) }
@@ -103,18 +109,19 @@ fn hear_retry(alloc: Global, view: &mut DispatcherView, retry: TestRetry, now: u
         retry,
         running: view.tally.running,
     });
-    let events = one_event(alloc, now, kind)?;
+    let events = one_event(alloc, &view.watch, now, kind)?;
     view.latest = now;
     Ok(telling(events, Some(true)))
 }
 
 fn hear_skip(alloc: Global, view: &mut DispatcherView, skip: TestSkip, now: u64) -> Fx
-    requires { view.old.tally.stats.skipped < 2 ^ 32 }
+    requires few { view.old.tally.stats.skipped < 2 ^ 32 }
+    requires timed { view.old.watch.latest ≤ now }
     ensures does { IfOk result (Does now view.old (delivers now view.old (messages.Skip skip) nothing_done)
         (go_of view.old.tally (messages.Skip skip)) view.new) }
     ensures err { OnErr result (view.new ≡ view.old) }
 {
-    let events = one_event(alloc, now, TestEventKind::TestSkipped(skip))?;
+    let events = one_event(alloc, &view.watch, now, TestEventKind::TestSkipped(skip))?;
     view.tally = with_skip(view.tally);
     view.latest = now;
     Ok(telling(events, None))
@@ -124,12 +131,13 @@ fn hear_finish(alloc: Global, view: &mut DispatcherView, finish: TestFinish, now
     requires counts { AreBelow (2 ^ 32) view.old.tally.stats }
     requires attempts { 0 < length finish.statuses }
     requires runs { 0 < view.old.tally.running }
+    requires timed { view.old.watch.latest ≤ now }
     ensures does { IfOk result (Does now view.old (delivers now view.old (messages.Finish finish) nothing_done)
         (go_of view.old.tally (messages.Finish finish)) view.new) }
     ensures err { OnErr result (view.new ≡ view.old) }
 {
     let tally = with_finish(view.tally, &finish);
-    let events = told_finish(alloc, tally, finish, now)?;
+    let events = told_finish(alloc, &view.watch, tally, finish, now)?;
     let cause = Cause::failure(view.rules.max_fail, &tally.stats);
     heed(alloc, view, events, cause, tally, now)
 }
@@ -137,16 +145,18 @@ fn hear_finish(alloc: Global, view: &mut DispatcherView, finish: TestFinish, now
 // The event of a finish, with the counts after it.
 fn told_finish(
     alloc: Global,
+    watch: &StopwatchStart,
     tally: Tally,
     finish: TestFinish,
     now: u64,
 ) -> Mem<List<ReporterEvent>>
-    ensures { IfOk result (λ events. events ≡ event now (finished_event finish tally) ∷ []) }
+    requires { watch.now.latest ≤ now }
+    ensures { IfOk result (λ events. events ≡ event (moment_by now watch.now) (finished_event finish tally) ∷ []) }
 {
     let kind = TestEventKind::TestFinished(TestFinished {
         finish,
         running: tally.running,
         stats: tally.stats,
     });
-    one_event(alloc, now, kind)
+    one_event(alloc, watch, now, kind)
 }

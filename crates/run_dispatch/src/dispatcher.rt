@@ -1,28 +1,34 @@
 // The dispatcher and its rows.
-ghost use Rattle.std.specs.Prelude.{◌≡◌, ◌<◌, ◌≤◌, ◌^◌, IfOk, OnErr, None, true, false};
+ghost use Rattle.std.specs.Prelude.{ℕ, ◌≡◌, ◌+◌, ◌<◌, ◌≤◌, ◌^◌, ◌||◌, IfOk, OnErr, None, true, false};
 ghost use Rattle.run_clock.specs.Sleep.{IsDueFrom};
-ghost use Rattle.run_events.specs.declared.turn.Turn.TheVariants.{GlobalDue};
+ghost use Rattle.run_events.specs.declared.turn.Turn.TheVariants.{GlobalDue, StopWaitDue, InfoDue};
 ghost use Rattle.run_model.specs.Admission.{tests_in};
-ghost use Rattle.run_model.specs.Cancel.{time_is_up, event_refused, signal_cause};
-ghost use Rattle.run_model.specs.Dispatch.{head_of, unbegun, dispatch_takes, go_of, is_third, shuts_down, CanDeliver};
+ghost use Rattle.run_model.specs.Cancel.{time_is_up, event_refused};
+ghost use Rattle.run_model.specs.Dispatch.{head_of, unbegun, dispatch_takes, go_of, is_third, CanDeliver};
+ghost use Rattle.run_model.specs.Dispatch.{heard_by, takes_signal, is_halted};
 ghost use Rattle.run_model.specs.Words.{armed, time_limit};
 ghost use Rattle.run_model.specs.Turns.{nothing_done, begins_at, ends_at, delivers, cancels_for};
+ghost use Rattle.run_model.specs.Turns.{signals_at, keys_at, ticks, stops_itself, answers_at, informs_at};
 ghost use Rattle.run_model.specs.declared.dispatcher_view.Facts.{Facts};
 ghost use Rattle.run_dispatch.specs.Deeds.{Does};
 ghost use Rattle.run_dispatch.specs.Dispatch.{state_of};
 
-use crate::cancel::{hear_signal, refuse, run_out, shuts_down};
+use crate::cancel::{refuse, run_out};
 use crate::deliver::hear;
-use crate::effects::{Fx, one_event, telling};
+use crate::effects::{DispatchEffects, Fx, one_event, telling};
+use crate::enabled::{is_main, round_due, takes_turn};
+use crate::hearing::{hear_signal, heard_by, shuts_down};
+use crate::info::{end_round, hear_key, tell_answer, tick};
+use crate::jobs::{is_halted, stop_itself};
 use crate::tally::count_matched;
 use crate::view::DispatchState;
 use run_capture::{Duplicate, Mem};
-use run_clock::{PausableSleep, due_from, fires_now};
+use run_clock::{PausableSleep, StopwatchStart, due_from};
 use run_events::{
-    CancelReason, Message, RunFinished, RunFinishedStats, RunStarted, RunStats, Settings, Signal,
-    TestEventKind, Turn,
+    CancelReason, InfoResponse, Key, Message, Request, RunFinished, RunFinishedStats, RunStarted,
+    RunStats, Settings, Signal, TestEventKind, Turn, hears_key,
 };
-use run_model::{CancelRules, Causes, DispatcherView, Facts, Tally};
+use run_model::{CancelRules, Causes, DispatcherView, Facts, Rounds, Tally};
 use std::alloc::Global;
 use std::marker::Model;
 
@@ -100,20 +106,39 @@ impl Dispatcher {
                     scripts_running: 0,
                     stats: RunStats::started(scripts, matched),
                 },
+                watch: StopwatchStart::new(0),
+                rounds: no_rounds(),
                 latest: 0,
             },
         })
     }
 
-    /// Whether a sub-run is on.
+    /// What it waits for.
     pub fn state(&self) -> DispatchState
         ensures { result ≡ state_of self.now }
     {
-        if self.view.on {
-            DispatchState::Main
-        } else {
-            DispatchState::Idle
+        if !self.view.on {
+            return DispatchState::Idle;
         }
+        match self.view.rounds.asks {
+            Some(Request::Stop { .. }) => DispatchState::StopWait,
+            Some(_) => DispatchState::InfoRound,
+            None => DispatchState::Main,
+        }
+    }
+
+    /// Whether the run is paused.
+    pub fn is_paused(&self) -> bool
+        ensures { result ≡ is_halted self.now }
+    {
+        is_halted(&self.view)
+    }
+
+    /// What the open round asks of each live unit, where one is open.
+    pub fn round_request(&self) -> Option<Request>
+        ensures { result ≡ self.now.rounds.asks }
+    {
+        self.view.rounds.asks
     }
 
     /// Whether the run has ended.
@@ -150,32 +175,29 @@ impl Dispatcher {
         requires later { self.now.latest ≤ now }
         ensures { result ≡ dispatch_takes self.now facts now turn.now }
     {
-        match turn {
-            Turn::Begin => !self.view.on && !self.view.over,
-            Turn::Deliver => self.view.on && facts.message_waits,
-            Turn::Signal { signal } => {
-                self.view.on
-                    && shuts_down(&self.view.rules.hearing, *signal)
-                    && self.view.causes.signals < 2
-            }
-            Turn::GlobalDue => self.view.on && fires_now(&self.view.causes.global, now),
-            Turn::ReportCancel => self.view.on && facts.refused && !self.view.causes.reported,
-            Turn::End => self.view.on && facts.complete,
-            _ => false,
-        }
+        takes_turn(&self.view, turn, facts, now)
     }
 
     /// The least moment of the run's clock at which the global timer is due, whatever the facts of the rest of the run:
-    /// none where it isn't set, and none while no sub-run is on.
+    /// none where it isn't set or is paused, and none outside of the main state.
     pub fn next_due(&self) -> Option<u64>
         ensures { (facts : Facts)
             → IsDueFrom (λ now. dispatch_takes self.now facts now GlobalDue) result }
     {
-        if self.view.on {
+        if is_main(&self.view) {
             due_from(&self.view.causes.global)
         } else {
             None
         }
+    }
+
+    /// The least moment of the run's clock at which the wait of the open round is over, by these facts of the rest of the
+    /// run: none where no round is open.
+    pub fn round_due(&self, facts: Facts) -> Option<u64>
+        ensures { IsDueFrom (λ now. dispatch_takes self.now facts now StopWaitDue
+            || dispatch_takes self.now facts now InfoDue) result }
+    {
+        round_due(&self.view, facts)
     }
 
     /// Whether a turn is a shutdown signal that would be taken, but that two came before it.
@@ -185,7 +207,7 @@ impl Dispatcher {
         match turn {
             Turn::Signal { signal } => {
                 !self.view.over
-                    && self.view.on
+                    && is_main(&self.view)
                     && shuts_down(&self.view.rules.hearing, *signal)
                     && self.view.causes.signals >= 2
             }
@@ -202,7 +224,12 @@ impl Dispatcher {
         ensures err { OnErr result (self.new ≡ self.old) }
     {
         let head = self.view.head.copy(alloc)?;
-        let events = one_event(alloc, now, TestEventKind::RunStarted(head))?;
+        let events = one_event(
+            alloc,
+            &self.view.watch,
+            now,
+            TestEventKind::RunStarted(head),
+        )?;
         self.view.on = true;
         self.view.causes.global = armed(now, self.view.rules.global_timeout);
         self.view.latest = now;
@@ -222,17 +249,66 @@ impl Dispatcher {
         hear(alloc, &mut self.view, message, now)
     }
 
-    /// A shutdown signal came: the first asks each child to end, and the second kills it.
-    pub fn signal(&mut self, alloc: Global, signal: Signal, now: u64) -> Fx
-        requires on { self.old.on ≡ true }
-        requires shuts_down { shuts_down self.old.rules.hearing signal ≡ true }
-        requires few { self.old.causes.signals < 2 }
+    /// A signal came, while so many units are live as the facts say: the first that shuts the run down asks each child to
+    /// end, and the second kills it; a stop pauses the run where it isn't paused, and a continue lets it go on; one that
+    /// asks for information asks each live unit what it is doing.
+    pub fn signal(&mut self, alloc: Global, signal: Signal, facts: Facts, now: u64) -> Fx
+        requires taken { takes_signal self.old.causes.signals (heard_by self.old.rules.hearing signal) ≡ true }
+        requires few { self.old.rounds.count + 1 < 2 ^ 32 }
         requires later { self.old.latest ≤ now }
         ensures does { IfOk result
-            (Does now self.old (cancels_for now self.old (signal_cause self.old.causes.signals signal)) None self.new) }
+            (Does now self.old (signals_at now facts.live self.old signal) None self.new) }
         ensures err { OnErr result (self.new ≡ self.old) }
     {
-        hear_signal(alloc, &mut self.view, signal, now)
+        let heard = heard_by(&self.view.rules.hearing, signal);
+        hear_signal(alloc, &mut self.view, signal, heard, facts.live, now)
+    }
+
+    /// A key was pressed: an empty line is told, or each of so many live units asked what it is doing.
+    pub fn key(&mut self, alloc: Global, key: Key, facts: Facts, now: u64) -> Fx
+        requires few { self.old.rounds.count + 1 < 2 ^ 32 }
+        requires later { self.old.latest ≤ now }
+        ensures does { IfOk result
+            (Does now self.old (keys_at now facts.live self.old key) None self.new) }
+        ensures err { OnErr result (self.new ≡ self.old) }
+    {
+        let heard = hears_key(self.view.rules.hearing.input, key);
+        hear_key(alloc, &mut self.view, heard, facts.live, now)
+    }
+
+    /// A display wants to draw anew: that is told.
+    pub fn tick(&mut self, alloc: Global) -> Fx
+        ensures does { IfOk result (λ fx. (now : ℕ) → Does now self.old ticks None self.new fx) }
+        ensures err { OnErr result (self.new ≡ self.old) }
+    {
+        tick(alloc, &self.view)
+    }
+
+    /// The wait for stopped units is over: the global timer pauses, and the runner is asked to stop itself.
+    pub fn stop_wait_due(&mut self, now: u64) -> DispatchEffects
+        requires later { self.old.latest ≤ now }
+        ensures { Does now self.old stops_itself None self.new result }
+    {
+        stop_itself(&mut self.view, now)
+    }
+
+    /// An answer is told, as the next of its round.
+    pub fn answer(&mut self, alloc: Global, response: InfoResponse, now: u64) -> Fx
+        requires few { self.old.rounds.told + 1 < 2 ^ 32 }
+        requires later { self.old.latest ≤ now }
+        ensures does { IfOk result (Does now self.old (answers_at now self.old response) None self.new) }
+        ensures err { OnErr result (self.new ≡ self.old) }
+    {
+        tell_answer(alloc, &mut self.view, response, now)
+    }
+
+    /// The round of queries is over: how many units gave no answer is told.
+    pub fn info_due(&mut self, alloc: Global, now: u64) -> Fx
+        requires later { self.old.latest ≤ now }
+        ensures does { IfOk result (Does now self.old (informs_at now self.old) None self.new) }
+        ensures err { OnErr result (self.new ≡ self.old) }
+    {
+        end_round(alloc, &mut self.view, now)
     }
 
     /// Cancels the run since the reporter refused an event.
@@ -264,7 +340,7 @@ impl Dispatcher {
             stats: RunFinishedStats::Single(self.view.tally.stats),
             not_seen: None,
         });
-        let events = one_event(alloc, now, kind)?;
+        let events = one_event(alloc, &self.view.watch, now, kind)?;
         self.view.on = false;
         self.view.over = true;
         self.view.latest = now;
@@ -279,5 +355,18 @@ fn armed(now: u64, timeout: Option<u64>) -> Option<PausableSleep>
     match timeout {
         Some(duration) => Some(PausableSleep::new(now, duration)),
         None => None,
+    }
+}
+
+// Before the first round.
+fn no_rounds() -> Rounds
+    ensures { result ≡ record { count = 0; asks = None; since = 0; total = 0; told = 0 } }
+{
+    Rounds {
+        count: 0,
+        asks: None,
+        since: 0,
+        total: 0,
+        told: 0,
     }
 }

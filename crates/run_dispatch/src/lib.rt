@@ -1,6 +1,6 @@
 //! The dispatcher of a run: it begins and ends the run, hears the messages of the units one by one, tells
-//! the events, counts the setup scripts and tests that run and that finished, lets units go or not, and
-//! cancels the run. Each acting call is a row of the dispatcher's table.
+//! the events, counts the setup scripts and tests that run and that finished, lets units go or not, stops
+//! the run and lets it go on, asks the units what they are doing, and cancels the run. Each acting call is a row of the dispatcher's table.
 #![tactic(auto)]
 
 mod cancel;
@@ -8,6 +8,10 @@ mod cause;
 mod deliver;
 mod dispatcher;
 mod effects;
+mod enabled;
+mod hearing;
+mod info;
+mod jobs;
 mod scripts;
 mod tally;
 mod view;

@@ -1,5 +1,5 @@
 // The delivery of a setup script's message.
-ghost use Rattle.std.specs.Prelude.{◌≡◌, ◌+◌, ◌<◌, ◌^◌, IfOk, OnErr};
+ghost use Rattle.std.specs.Prelude.{◌≡◌, ◌+◌, ◌<◌, ◌≤◌, ◌^◌, IfOk, OnErr};
 ghost use Rattle.run_events.specs.Stats.{AreBelow};
 ghost use Rattle.run_events.specs.declared.message.Message.TheVariants as messages;
 ghost use Rattle.run_model.specs.Dispatch.{go_of};
@@ -22,7 +22,8 @@ pub fn hear_script_start(
     start: ScriptStart,
     now: u64,
 ) -> Fx
-    requires { view.old.tally.scripts_running + 1 < 2 ^ 32 }
+    requires few { view.old.tally.scripts_running + 1 < 2 ^ 32 }
+    requires timed { view.old.watch.latest ≤ now }
     ensures does { IfOk result (Does now view.old (delivers now view.old (messages.ScriptStart start) nothing_done)
         (go_of view.old.tally (messages.ScriptStart start)) view.new) }
     ensures err { OnErr result (view.new ≡ view.old) }
@@ -31,7 +32,12 @@ pub fn hear_script_start(
         view.latest = now;
         return Ok(telling(List::new(), Some(false)));
     }
-    let events = one_event(alloc, now, TestEventKind::SetupScriptStarted(start))?;
+    let events = one_event(
+        alloc,
+        &view.watch,
+        now,
+        TestEventKind::SetupScriptStarted(start),
+    )?;
     view.tally = with_script(view.tally);
     view.latest = now;
     Ok(telling(events, Some(true)))
@@ -39,11 +45,17 @@ pub fn hear_script_start(
 
 /// That a script is slow is told.
 pub fn hear_script_slow(alloc: Global, view: &mut DispatcherView, slow: ScriptSlow, now: u64) -> Fx
+    requires timed { view.old.watch.latest ≤ now }
     ensures does { IfOk result (Does now view.old (delivers now view.old (messages.ScriptSlow slow) nothing_done)
         (go_of view.old.tally (messages.ScriptSlow slow)) view.new) }
     ensures err { OnErr result (view.new ≡ view.old) }
 {
-    let events = one_event(alloc, now, TestEventKind::SetupScriptSlow(slow))?;
+    let events = one_event(
+        alloc,
+        &view.watch,
+        now,
+        TestEventKind::SetupScriptSlow(slow),
+    )?;
     view.latest = now;
     Ok(telling(events, None))
 }
@@ -57,13 +69,19 @@ pub fn hear_script_finish(
 ) -> Fx
     requires counts { AreBelow (2 ^ 32) view.old.tally.stats }
     requires runs { 0 < view.old.tally.scripts_running }
+    requires timed { view.old.watch.latest ≤ now }
     ensures does { IfOk result (Does now view.old (delivers now view.old (messages.ScriptFinish finish) nothing_done)
         (go_of view.old.tally (messages.ScriptFinish finish)) view.new) }
     ensures err { OnErr result (view.new ≡ view.old) }
 {
     let ended = finish.status.result;
     let tally = with_script_finish(view.tally, ended);
-    let events = one_event(alloc, now, TestEventKind::SetupScriptFinished(finish))?;
+    let events = one_event(
+        alloc,
+        &view.watch,
+        now,
+        TestEventKind::SetupScriptFinished(finish),
+    )?;
     let cause = Cause::script_failure(ended);
     heed(alloc, view, events, cause, tally, now)
 }

@@ -1,16 +1,20 @@
-// Whether a sub-run is on.
+// What the dispatcher waits for.
 ghost use Rattle.std.specs.Prelude.{◌≡◌, IfOk};
 
 use run_capture::{Duplicate, Mem};
 use std::alloc::Global;
 
-/// Whether a sub-run is on.
+/// What the dispatcher waits for.
 #[derive(Clone, Copy, Debug, Drop, PartialEq, Eq)]
 pub enum DispatchState {
-    /// It hasn't begun, or it is over.
+    /// No sub-run is on.
     Idle,
     /// It takes turns.
     Main,
+    /// The live units were asked to stop, and are waited for.
+    StopWait,
+    /// The live units were asked what they are doing, and their answers are waited for.
+    InfoRound,
 }
 
 impl Duplicate for DispatchState {

@@ -5,7 +5,7 @@ ghost use Rattle.run_drive.specs.Worked.{Works};
 
 use crate::Spawner;
 use crate::listening::attend;
-use crate::settling::Access;
+use crate::settling::{Access, Steps};
 use run_capture::{List, Mem, OutOfMemory};
 use run_events::Reporter;
 use run_shared::{Receipt, SharedRun};
@@ -13,10 +13,33 @@ use std::alloc::Global;
 use std::sync::Wait;
 use std::sync::ledger::{Ledger, Share};
 
+// Takes a start, and attends to it. Answers whether one came.
+#[tactic(auto, using(crate::proofs::WorkedLemmas::works_none))]
+fn work_on<W: Spawner, X: Wait, L: Ledger, S: Steps<L>>(
+    rt: &X,
+    run: &S,
+    worker: &mut W,
+    share: &mut Share<L>,
+    receipts: &mut List<Receipt>,
+) -> Mem<bool>
+    requires { 0 < share.old.parts }
+    ensures works { OnOk result (Works W.has_said worker.old worker.new receipts.old receipts.new) }
+    ensures counted { OnOk result
+        (share.new.amount + length receipts.old ≡ share.old.amount + length receipts.new) }
+    ensures parts { share.new.parts ≡ share.old.parts }
+{
+    let Some(start) = run.next_start() else {
+        return Ok(false);
+    };
+    attend(rt, run, worker, share, &start, receipts)?;
+    Ok(true)
+}
+
 // Takes starts until none comes any more, and attends to each.
 #[tactic(auto, using(crate::proofs::WorkedLemmas::works_none, crate::proofs::WorkedLemmas::works_more))]
-fn work<W: Spawner, X: Wait, L: Ledger, R: Reporter>(
-    run: &Access<X, L, R>,
+fn work<W: Spawner, X: Wait, L: Ledger, S: Steps<L>>(
+    rt: &X,
+    run: &S,
     worker: &mut W,
     share: &mut Share<L>,
     receipts: &mut List<Receipt>,
@@ -27,11 +50,12 @@ fn work<W: Spawner, X: Wait, L: Ledger, R: Reporter>(
         (share.new.amount + length receipts.old ≡ share.old.amount + length receipts.new) }
     ensures parts { share.new.parts ≡ share.old.parts }
 {
-    for _ in run.rt.forever() {
-        let Some(start) = run.shared.next_start(run.rt) else {
-            return Ok(());
-        };
-        attend(run, worker, share, &start, receipts)?;
+    for _ in rt.forever() {
+        match work_on(rt, run, worker, share, receipts) {
+            Ok(true) => {}
+            Ok(false) => return Ok(()),
+            Err(OutOfMemory) => return Err(OutOfMemory),
+        }
     }
     unreachable!()
 }
@@ -60,7 +84,7 @@ pub fn drive<W: Spawner, L: Ledger, R: Reporter>(
         word,
     };
     let mut receipts = List::new();
-    let Ok(()) = work(&run, worker, share, &mut receipts) else {
+    let Ok(()) = work(rt, &run, worker, share, &mut receipts) else {
         drop(receipts);
         shared.give_up(rt);
         return Err(OutOfMemory);

@@ -2,10 +2,10 @@
 ghost use Rattle.std.specs.Prelude.{◌≡◌, ◌<◌, ◌+◌, length, OnOk};
 ghost use Rattle.run_drive.specs.Worked.{Begins, Listens, Works};
 
-use crate::settling::{Access, Answer, enter};
+use crate::settling::{Answer, Steps};
 use crate::{Begun, Said, Spawner};
-use run_capture::{List, Mem};
-use run_events::{ChildExit, Reporter, StartAsk};
+use run_capture::{List, Mem, OutOfMemory};
+use run_events::{ChildExit, StartAsk};
 use run_shared::Receipt;
 use std::sync::Wait;
 use std::sync::ledger::{Ledger, Share};
@@ -17,6 +17,13 @@ enum After {
     Leave,
     /// The child was a script that succeeded: its environment file is still to come.
     HearEnv,
+}
+
+impl After {
+    // The same, where the run may take further turns.
+    fn answered(self, answer: Answer) -> After {
+        if answer.goes_on() { self } else { After::Leave }
+    }
 }
 
 // What a worker does after a word. A script is a unit that has an environment file.
@@ -32,8 +39,8 @@ fn after_word(start: &StartAsk, said: &Said) -> After {
 
 // Steps with the next word of a child.
 #[tactic(auto, using(crate::proofs::WorkedLemmas::listens_one))]
-fn hear<W: Spawner, X: Wait, L: Ledger, R: Reporter>(
-    run: &Access<X, L, R>,
+fn hear<W: Spawner, L: Ledger, S: Steps<L>>(
+    run: &S,
     worker: &mut W,
     share: &mut Share<L>,
     start: &StartAsk,
@@ -46,19 +53,17 @@ fn hear<W: Spawner, X: Wait, L: Ledger, R: Reporter>(
         (share.new.amount + length receipts.old ≡ share.old.amount + length receipts.new) }
     ensures parts { share.new.parts ≡ share.old.parts }
 {
-    let said = worker.next(run.alloc)?;
+    let said = worker.next(run.alloc())?;
     let after = after_word(start, &said);
     let turn = said.into_turn(start.unit);
-    match enter(run, share, turn, receipts)? {
-        Answer::NoMore => Ok(After::Leave),
-        _ => Ok(after),
-    }
+    let answer = run.enter(share, turn, receipts)?;
+    Ok(after.answered(answer))
 }
 
 // Takes the next word of a script that succeeded, and steps with it where it is the environment file.
 #[tactic(auto, using(crate::proofs::WorkedLemmas::listens_one))]
-fn hear_env<W: Spawner, X: Wait, L: Ledger, R: Reporter>(
-    run: &Access<X, L, R>,
+fn hear_env<W: Spawner, L: Ledger, S: Steps<L>>(
+    run: &S,
     worker: &mut W,
     share: &mut Share<L>,
     unit: u32,
@@ -71,18 +76,46 @@ fn hear_env<W: Spawner, X: Wait, L: Ledger, R: Reporter>(
         (share.new.amount + length receipts.old ≡ share.old.amount + length receipts.new) }
     ensures parts { share.new.parts ≡ share.old.parts }
 {
-    let said = worker.next(run.alloc)?;
+    let said = worker.next(run.alloc())?;
     if matches!(said, Said::Env { .. }) {
         let turn = said.into_turn(unit);
-        enter(run, share, turn, receipts)?;
+        run.enter(share, turn, receipts)?;
     }
     Ok(())
 }
 
+// Steps with the next word of a child, and with the environment file of a script that succeeded. Answers whether the
+// child is to be listened to further.
+#[tactic(auto, using(crate::proofs::WorkedLemmas::listens_more))]
+fn hear_on<W: Spawner, L: Ledger, S: Steps<L>>(
+    run: &S,
+    worker: &mut W,
+    share: &mut Share<L>,
+    start: &StartAsk,
+    receipts: &mut List<Receipt>,
+) -> Mem<bool>
+    requires { 0 < share.old.parts }
+    ensures listens { OnOk result
+        (Listens W.has_said worker.old worker.new start.now.unit receipts.old receipts.new) }
+    ensures counted { OnOk result
+        (share.new.amount + length receipts.old ≡ share.old.amount + length receipts.new) }
+    ensures parts { share.new.parts ≡ share.old.parts }
+{
+    match hear(run, worker, share, start, receipts)? {
+        After::Listen => Ok(true),
+        After::Leave => Ok(false),
+        After::HearEnv => {
+            hear_env(run, worker, share, start.unit, receipts)?;
+            Ok(false)
+        }
+    }
+}
+
 // Steps with each word of a child, until the child is left.
 #[tactic(auto, using(crate::proofs::WorkedLemmas::listens_none, crate::proofs::WorkedLemmas::listens_more))]
-fn listen<W: Spawner, X: Wait, L: Ledger, R: Reporter>(
-    run: &Access<X, L, R>,
+fn listen<W: Spawner, X: Wait, L: Ledger, S: Steps<L>>(
+    rt: &X,
+    run: &S,
     worker: &mut W,
     share: &mut Share<L>,
     start: &StartAsk,
@@ -95,14 +128,11 @@ fn listen<W: Spawner, X: Wait, L: Ledger, R: Reporter>(
         (share.new.amount + length receipts.old ≡ share.old.amount + length receipts.new) }
     ensures parts { share.new.parts ≡ share.old.parts }
 {
-    for _ in run.rt.forever() {
-        match hear(run, worker, share, start, receipts)? {
-            After::Listen => {}
-            After::Leave => return Ok(()),
-            After::HearEnv => {
-                hear_env(run, worker, share, start.unit, receipts)?;
-                return Ok(());
-            }
+    for _ in rt.forever() {
+        match hear_on(run, worker, share, start, receipts) {
+            Ok(true) => {}
+            Ok(false) => return Ok(()),
+            Err(OutOfMemory) => return Err(OutOfMemory),
         }
     }
     unreachable!()
@@ -110,8 +140,8 @@ fn listen<W: Spawner, X: Wait, L: Ledger, R: Reporter>(
 
 // Asks for a start, and steps with the answer. Answers whether the child is to be listened to.
 #[tactic(auto, using(crate::proofs::WorkedLemmas::begins_one))]
-fn begin<W: Spawner, X: Wait, L: Ledger, R: Reporter>(
-    run: &Access<X, L, R>,
+fn begin<W: Spawner, L: Ledger, S: Steps<L>>(
+    run: &S,
     worker: &mut W,
     share: &mut Share<L>,
     start: &StartAsk,
@@ -124,19 +154,18 @@ fn begin<W: Spawner, X: Wait, L: Ledger, R: Reporter>(
         (share.new.amount + length receipts.old ≡ share.old.amount + length receipts.new) }
     ensures parts { share.new.parts ≡ share.old.parts }
 {
-    let begun = worker.start(run.alloc, start)?;
+    let begun = worker.start(run.alloc(), start)?;
     let runs = matches!(begun, Begun::Started { .. });
     let turn = begun.into_turn(start.unit);
-    match enter(run, share, turn, receipts)? {
-        Answer::NoMore => Ok(false),
-        _ => Ok(runs),
-    }
+    let answer = run.enter(share, turn, receipts)?;
+    Ok(runs && answer.goes_on())
 }
 
 // Starts a child, and steps with each of its words, until it is left.
 #[tactic(auto, using(crate::proofs::WorkedLemmas::works_begun, crate::proofs::WorkedLemmas::works_heard))]
-pub(crate) fn attend<W: Spawner, X: Wait, L: Ledger, R: Reporter>(
-    run: &Access<X, L, R>,
+pub(crate) fn attend<W: Spawner, X: Wait, L: Ledger, S: Steps<L>>(
+    rt: &X,
+    run: &S,
     worker: &mut W,
     share: &mut Share<L>,
     start: &StartAsk,
@@ -149,7 +178,7 @@ pub(crate) fn attend<W: Spawner, X: Wait, L: Ledger, R: Reporter>(
     ensures parts { share.new.parts ≡ share.old.parts }
 {
     if begin(run, worker, share, start, receipts)? {
-        listen(run, worker, share, start, receipts)
+        listen(rt, run, worker, share, start, receipts)
     } else {
         Ok(())
     }

@@ -6,7 +6,7 @@ ghost use Rattle.run_drive.specs.Added.{SettlesSome, Enters};
 
 use run_capture::{List, Mem, OutOfMemory};
 use run_engine::StepError;
-use run_events::{Reporter, Turn};
+use run_events::{Reporter, StartAsk, Turn};
 use run_shared::{Receipt, SharedRun};
 use std::alloc::Global;
 use std::sync::Wait;
@@ -41,6 +41,46 @@ pub(crate) enum Answer {
     NoMore,
 }
 
+impl Answer {
+    /// Whether the run took the turn.
+    pub(crate) fn is_taken(self) -> bool {
+        matches!(self, Answer::Taken)
+    }
+
+    /// Whether the run may take further turns.
+    pub(crate) fn goes_on(self) -> bool {
+        !matches!(self, Answer::NoMore)
+    }
+}
+
+/// What settles turns of a run.
+trait Settles<L: Ledger> {
+    /// Settles one turn, and adds its receipt; none where nothing is ready.
+    fn settle(&self, share: &mut Share<L>, receipts: &mut List<Receipt>) -> Mem<Answer>
+        requires { 0 < share.old.parts }
+        ensures settles { OnOk result (SettlesSome receipts.old receipts.new) }
+        ensures counted { OnOk result
+            (share.new.amount + length receipts.old ≡ share.old.amount + length receipts.new) }
+        ensures parts { share.new.parts ≡ share.old.parts };
+}
+
+/// What takes turns of a run. A type parameter of this kind keeps the proofs of all that take turns small.
+pub(crate) trait Steps<L: Ledger> {
+    /// Takes a turn, settles until nothing is ready, and adds the receipts.
+    fn enter(&self, share: &mut Share<L>, turn: Turn, receipts: &mut List<Receipt>) -> Mem<Answer>
+        requires { 0 < share.old.parts }
+        ensures enters { OnOk result (Enters receipts.old turn receipts.new) }
+        ensures counted { OnOk result
+            (share.new.amount + length receipts.old ≡ share.old.amount + length receipts.new) }
+        ensures parts { share.new.parts ≡ share.old.parts };
+
+    /// Waits for a start, and claims it; none where no start comes any more.
+    fn next_start(&self) -> Option<StartAsk>;
+
+    /// What memory is taken from.
+    fn alloc(&self) -> Global;
+}
+
 // Settles one turn, and adds its receipt; none where nothing is ready.
 #[tactic(auto, using(crate::proofs::AddedLemmas::settles_none, crate::proofs::AddedLemmas::settles_one))]
 fn settle_one<X: Wait, L: Ledger, R: Reporter>(
@@ -65,10 +105,17 @@ fn settle_one<X: Wait, L: Ledger, R: Reporter>(
     }
 }
 
+impl<'a, X: Wait, L: Ledger, R: Reporter> Settles<L> for Access<'a, X, L, R> {
+    fn settle(&self, share: &mut Share<L>, receipts: &mut List<Receipt>) -> Mem<Answer> {
+        settle_one(self, share, receipts)
+    }
+}
+
 // Settles until nothing is ready, and adds the receipts. Answers whether the run may take further turns.
 #[tactic(auto, using(crate::proofs::AddedLemmas::settles_none, crate::proofs::AddedLemmas::settles_more))]
-fn settle_all<X: Wait, L: Ledger, R: Reporter>(
-    run: &Access<X, L, R>,
+fn settle_all<X: Wait, L: Ledger, S: Settles<L>>(
+    rt: &X,
+    run: &S,
     share: &mut Share<L>,
     receipts: &mut List<Receipt>,
 ) -> Mem<bool>
@@ -78,11 +125,11 @@ fn settle_all<X: Wait, L: Ledger, R: Reporter>(
         (share.new.amount + length receipts.old ≡ share.old.amount + length receipts.new) }
     ensures parts { share.new.parts ≡ share.old.parts }
 {
-    for _ in run.rt.forever() {
-        match settle_one(run, share, receipts)? {
-            Answer::Taken => {}
-            Answer::NotEnabled => return Ok(true),
-            Answer::NoMore => return Ok(false),
+    for _ in rt.forever() {
+        match run.settle(share, receipts) {
+            Ok(Answer::Taken) => {}
+            Ok(answer) => return Ok(answer.goes_on()),
+            Err(OutOfMemory) => return Err(OutOfMemory),
         }
     }
     unreachable!()
@@ -113,25 +160,23 @@ fn take_turn<X: Wait, L: Ledger, R: Reporter>(
     }
 }
 
-// Takes a turn, settles until nothing is ready, and adds the receipts.
-#[tactic(auto, using(crate::proofs::AddedLemmas::enters_more))]
-pub(crate) fn enter<X: Wait, L: Ledger, R: Reporter>(
-    run: &Access<X, L, R>,
-    share: &mut Share<L>,
-    turn: Turn,
-    receipts: &mut List<Receipt>,
-) -> Mem<Answer>
-    requires { 0 < share.old.parts }
-    ensures enters { OnOk result (Enters receipts.old turn receipts.new) }
-    ensures counted { OnOk result
-        (share.new.amount + length receipts.old ≡ share.old.amount + length receipts.new) }
-    ensures parts { share.new.parts ≡ share.old.parts }
-{
-    let answer = take_turn(run, share, turn, receipts)?;
-    if settle_all(run, share, receipts)? {
-        Ok(answer)
-    } else {
-        Ok(Answer::NoMore)
+impl<'a, X: Wait, L: Ledger, R: Reporter> Steps<L> for Access<'a, X, L, R> {
+    #[tactic(auto, using(crate::proofs::AddedLemmas::enters_more))]
+    fn enter(&self, share: &mut Share<L>, turn: Turn, receipts: &mut List<Receipt>) -> Mem<Answer> {
+        let answer = take_turn(self, share, turn, receipts)?;
+        if settle_all(self.rt, self, share, receipts)? {
+            Ok(answer)
+        } else {
+            Ok(Answer::NoMore)
+        }
+    }
+
+    fn next_start(&self) -> Option<StartAsk> {
+        self.shared.next_start(self.rt)
+    }
+
+    fn alloc(&self) -> Global {
+        self.alloc
     }
 }
 
@@ -156,7 +201,7 @@ pub fn wind<L: Ledger, R: Reporter>(
         word,
     };
     let mut receipts = List::new();
-    let Ok(_) = settle_all(&run, share, &mut receipts) else {
+    let Ok(_) = settle_all(rt, &run, share, &mut receipts) else {
         drop(receipts);
         shared.give_up(rt);
         return Err(OutOfMemory);

@@ -4,7 +4,7 @@ ghost use Rattle.std.specs.List.{All};
 ghost use Rattle.run_drive.specs.Driven.{OfTicker};
 
 use crate::Ticker;
-use crate::settling::{Access, Answer, enter};
+use crate::settling::{Access, Steps};
 use run_capture::{List, Mem, OutOfMemory};
 use run_events::{Reporter, Turn};
 use run_shared::{Receipt, SharedRun};
@@ -12,10 +12,29 @@ use std::alloc::Global;
 use std::sync::Wait;
 use std::sync::ledger::{Ledger, Share};
 
-// Steps with each answer of the ticker, until a step is refused.
+// Steps with the next answer of the ticker. Answers whether the step was taken.
 #[tactic(auto, using(crate::proofs::AddedLemmas::ticks_more))]
-fn tick_all<T: Ticker, X: Wait, L: Ledger, R: Reporter>(
-    run: &Access<X, L, R>,
+fn tick_on<T: Ticker, L: Ledger, S: Steps<L>>(
+    run: &S,
+    ticker: &mut T,
+    share: &mut Share<L>,
+    receipts: &mut List<Receipt>,
+) -> Mem<bool>
+    requires { 0 < share.old.parts }
+    ensures kinds { OnOk result (All OfTicker receipts.old → All OfTicker receipts.new) }
+    ensures counted { OnOk result
+        (share.new.amount + length receipts.old ≡ share.old.amount + length receipts.new) }
+    ensures parts { share.new.parts ≡ share.old.parts }
+{
+    let turn = Turn::Clock { ns: ticker.next() };
+    let answer = run.enter(share, turn, receipts)?;
+    Ok(answer.is_taken())
+}
+
+// Steps with each answer of the ticker, until a step is refused.
+fn tick_all<T: Ticker, X: Wait, L: Ledger, S: Steps<L>>(
+    rt: &X,
+    run: &S,
     ticker: &mut T,
     share: &mut Share<L>,
     receipts: &mut List<Receipt>,
@@ -26,11 +45,11 @@ fn tick_all<T: Ticker, X: Wait, L: Ledger, R: Reporter>(
         (share.new.amount + length receipts.old ≡ share.old.amount + length receipts.new) }
     ensures parts { share.new.parts ≡ share.old.parts }
 {
-    for _ in run.rt.forever() {
-        let turn = Turn::Clock { ns: ticker.next() };
-        match enter(run, share, turn, receipts)? {
-            Answer::Taken => {}
-            _ => return Ok(()),
+    for _ in rt.forever() {
+        match tick_on(run, ticker, share, receipts) {
+            Ok(true) => {}
+            Ok(false) => return Ok(()),
+            Err(OutOfMemory) => return Err(OutOfMemory),
         }
     }
     unreachable!()
@@ -60,7 +79,7 @@ pub fn tick<T: Ticker, L: Ledger, R: Reporter>(
         word,
     };
     let mut receipts = first;
-    let Ok(()) = tick_all(&run, ticker, share, &mut receipts) else {
+    let Ok(()) = tick_all(rt, &run, ticker, share, &mut receipts) else {
         drop(receipts);
         shared.give_up(rt);
         return Err(OutOfMemory);

@@ -6,4 +6,5 @@ pub mod Settling
 pub mod Heard
 pub mod Refused
 pub mod Execution
+pub mod Handlers
 pub mod Builder

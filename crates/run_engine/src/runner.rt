@@ -7,6 +7,7 @@ ghost use Rattle.run_model.specs.Admission.{AreFew};
 ghost use Rattle.run_model.specs.Turns.{enabled};
 ghost use Rattle.run_engine.specs.World.{TakesTurn, IsUntouched, outside, history_of};
 ghost use Rattle.run_engine.specs.Refused.{IsRefused, IfNotMemory};
+ghost use Rattle.run_engine.specs.Handlers.{handler_status};
 ghost use Rattle.run_engine.specs.Standing.{sound};
 ghost use Rattle.run_engine.specs.Execution.{TakesTurns, Carries, Executes, AnswersCourse, UnlessMemory, StopsAt};
 ghost use Rattle.run_engine.specs.Execution.{IsFinal};
@@ -21,7 +22,9 @@ use crate::run::Run;
 use crate::tell::first_of;
 use jiff::Timestamp;
 use run_capture::{Duplicate, Mem, Whole};
-use run_events::{Children, EventLog, Reporter, RunOutcome, Settings, Turn};
+use run_events::{
+    Children, EventLog, InputHandlerKind, InputHandlerStatus, Reporter, RunOutcome, Settings, Turn,
+};
 use run_state::State;
 use std::alloc::Global;
 use std::convert::Infallible;
@@ -174,6 +177,16 @@ impl TestRunner {
         ensures { result ≡ self.now.plan.head.run_id }
     {
         self.settings.get().plan.head.run_id
+    }
+
+    /// Whether the run hears keys, and which one asks for information.
+    pub fn input_handler_status(&self) -> InputHandlerStatus
+        ensures { result ≡ handler_status self.now.plan.hearing.input }
+    {
+        match self.settings.get().plan.hearing.input {
+            InputHandlerKind::Standard => InputHandlerStatus::Enabled { info_char: 't' },
+            InputHandlerKind::Noop => InputHandlerStatus::Disabled,
+        }
     }
 
     /// The moment at which the run's clock is 0: the start of 1970 where the plan gives none.

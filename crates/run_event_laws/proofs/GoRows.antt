@@ -24,8 +24,10 @@ use Rattle.run_model.specs.declared.unit_view.UnitRole.TheVariants as roles
 use Rattle.run_model.specs.declared.unit_view.UnitView.{UnitView}
 use Rattle.run_model.specs.Admission.{runner_words, start_message}
 use Rattle.run_model.specs.Environment.{attempts, number_of, test_start}
-use Rattle.run_model.specs.Unit.{Row, failure_message, finish_message, last_status, next_delay, retry_message, row_at}
-use Rattle.run_model.specs.Unit.{script_finish, slow_message, slow_report, takes_at}
+use Rattle.run_model.specs.Ending.{last_status}
+use Rattle.run_model.specs.Row.{Row}
+use Rattle.run_model.specs.Retries.{failure_message, finish_message, next_delay, retry_message, script_finish}
+use Rattle.run_model.specs.Unit.{row_at, slow_message, slow_report, takes_at}
 use Rattle.run_laws.proofs.board.Facts.{itself}
 use Rattle.run_laws.proofs.units.OpenRows.{is_open, Moves}
 use Rattle.run_laws.proofs.units.Rows.{StaysOrGoes, Takes, answers, opens, decides, passes, again}

@@ -1,5 +1,5 @@
 -- A unit that joins is what an admission makes.
-use Rattle.std.proofs.Common.{◌≡◌, ℕ, List, [], ◌∷◌, Bool, true, false, not, Option, Some, None, refl, sym, ◌∙◌}
+use Rattle.std.proofs.Common.{◌≡◌, ℕ, List, [], ◌∷◌, Bool, true, not, Option, Some, None, refl, sym, ◌∙◌}
 use Rattle.std.specs.Cmp.{second_so}
 use Rattle.run_events.specs.declared.settings.Settings.{Settings}
 use Rattle.run_events.specs.declared.message.Message.{Message}
@@ -14,10 +14,13 @@ use Rattle.run_model.specs.Admission.{Newcomer, newcomer}
 use Rattle.run_model.specs.Board.{Board, Deed}
 use Rattle.run_model.specs.Cancel.{Cause, cause_of, caused}
 use Rattle.run_model.specs.Turns.{admission, deed_on, delivered_as, delivery, done_by, enabled_on, event_of}
-use Rattle.run_model.specs.Turns.{nothing_done, takes_turn, tally_with, taken_by, turn_of_unit}
+use Rattle.run_model.specs.Turns.{live_in, nothing_done, oldest_of, takes_turn, tally_with, taken_by, turn_of_unit}
+use Rattle.run_model.specs.Dispatch.{Moment, heard_by}
+use Rattle.run_events.specs.Hearing.{heard_key}
 use Rattle.run_model.specs.Words.{queue, units}
 use Rattle.run_laws.proofs.board.ByTurn.{by_turn}
-use Rattle.run_laws.proofs.board.OnBoard.{board_of, board_with}
+use Rattle.run_laws.proofs.board.OnBoard.{board_of, board_with, moment_in}
+use Rattle.run_laws.proofs.told.Asides.{IsAside, answer_aside, by_signal, key_aside}
 
 -- the unit that a deed lets join, and what it sends, are those of an admission
 abbrev pub IsAdmission : Option Newcomer → Deed → Type 0
@@ -33,7 +36,7 @@ acts_only : (o : Option Newcomer) (now k : ℕ) (turn : UnitTurn) (v : Option Un
 acts_only o now k turn None first is = cc
 acts_only o now k turn (Some u) first is = cc
 
-caused_part : (now : ℕ) (t : Tally) (o : Option Cause) (d : Deed) → (caused now t o d).part ≡ d.part
+caused_part : (now : Moment) (t : Tally) (o : Option Cause) (d : Deed) → (caused now t o d).part ≡ d.part
 caused_part now t None d = refl
 caused_part now t (Some c) d = refl
 
@@ -50,17 +53,20 @@ delivers p over now run o (Start start ∷ rest) first is = absurd (answered_onl
 delivers p over now run o (Retry retry ∷ rest) first is = absurd (answered_only now _ _ _ first is)
 delivers p over now run o (Finish finish ∷ rest) first is =
     let b : Board = board_of p over now run in
-    let part = caused_part now (tally_with b (event_of b (Finish finish)))
+    let part = caused_part (moment_in now run) (tally_with b (event_of b (Finish finish)))
     (cause_of b.dispatcher.rules (tally_with b (event_of b (Finish finish))) (Finish finish))
     (delivered_as b (Finish finish) nothing_done) in
     let never : None ≡ Some (Joins first) = sym part ∙ is in cc
 delivers p over now run o (ScriptFinish finish ∷ rest) first is =
     let b : Board = board_of p over now run in
-    let part = caused_part now (tally_with b (event_of b (ScriptFinish finish)))
+    let part = caused_part (moment_in now run) (tally_with b (event_of b (ScriptFinish finish)))
     (cause_of b.dispatcher.rules (tally_with b (event_of b (ScriptFinish finish))) (ScriptFinish finish))
     (delivered_as b (ScriptFinish finish) nothing_done) in
     let never : None ≡ Some (Joins first) = sym part ∙ is in cc
 delivers p over now run o (m ∷ rest) first is = cc
+
+aside_joins : (o : Option Newcomer) (d : Deed) → IsAside d → IsAdmission o d
+aside_joins o d aside first is = let never : None ≡ Some (Joins first) = sym aside.part ∙ is in cc
 
 pub joins_new : (p : Settings) (over refused : Bool) (now : ℕ) (run : List Happening) (turn : Turn)
     → enabled_on p (board_with p refused over now run) turn ≡ true
@@ -73,11 +79,17 @@ joins_new p over refused now run turn en =
       deliver = λ en. delivers p over now run new (queue run);
       named = λ turn k to other en. acts_only new now k to _;
       clock = λ ns en first is. cc;
-      signal = λ signal en first is. cc;
+      signal = λ signal en. by_signal (IsAdmission new) now (live_in b.units) b.dispatcher signal
+          (heard_by b.dispatcher.rules.hearing signal) (λ first is. cc) (λ d aside. aside_joins new d aside);
       global_due = λ en first is. cc;
       report_cancel = λ en first is. cc;
       end = λ en first is. cc;
-      unbuilt = λ turn never en first is. let no_turn : false ≡ true = sym (never p b) ∙ en in cc;
+      key = λ key en. aside_joins new _ (key_aside now (live_in b.units) b.dispatcher
+          (heard_key b.dispatcher.rules.hearing.input key));
+      tick = λ en first is. cc;
+      stop_wait_due = λ en first is. cc;
+      answer = λ en. aside_joins new _ (answer_aside b (oldest_of b.answers));
+      info_due = λ en first is. cc;
     })
     turn (second_so (not over) (takes_turn p b turn (turn_of_unit turn)) en)
   where

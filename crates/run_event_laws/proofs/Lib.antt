@@ -4,6 +4,9 @@ mod Joined
 mod RowMessages
 mod PlanUnits
 mod PlanMessages
+mod AnswersTold
+mod AnswerRows
+mod AnswersNamed
 mod InOrder
 mod GoRows
 mod Goes

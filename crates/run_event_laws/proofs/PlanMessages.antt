@@ -28,14 +28,15 @@ use Rattle.run_model.specs.Admission.{started_newcomer, unit_of_test}
 use Rattle.run_model.specs.Dispatch.{event}
 use Rattle.run_model.specs.Journal.{history, IsLegalBackward}
 use Rattle.run_model.specs.Turns.{deed_on}
-use Rattle.run_model.specs.Unit.{at_moment, failure_message, finish_message, last_status, retry_message, row}
-use Rattle.run_model.specs.Unit.{script_finish, slow_report}
+use Rattle.run_model.specs.Ending.{last_status}
+use Rattle.run_model.specs.Retries.{failure_message, finish_message, retry_message, script_finish}
+use Rattle.run_model.specs.Unit.{at_moment, row, slow_report}
 use Rattle.run_model.specs.Words.{sent, sub_run, told, units}
 use Rattle.run_laws.proofs.board.DeedFits.{IsSentAs, PartFits}
 use Rattle.run_laws.proofs.board.Newcomers.{Becomes, Newcomes, ScriptComes, newcomer_is}
 use Rattle.run_laws.proofs.board.OnBoard.{board_with}
 use Rattle.run_laws.proofs.units.Rows.{takes_moment}
-use Rattle.run_event_laws.specs.Names.{HasReason, IsScriptNamed, IsTestNamed, NamesThePlan, NamesThePlanIn}
+use Rattle.run_event_laws.specs.Names.{HasReason, IsScriptNamed, IsTestNamed}
 use Rattle.run_event_laws.specs.Names.{SaysAttempts, SaysFlaky, SlowSaysAttempts, SlowSaysAttemptsIn, FinishSaysFlaky}
 use Rattle.run_event_laws.specs.Names.{FinishSaysFlakyIn, planned_attempts, planned_flaky, test_named, test_of_unit}
 use Rattle.run_event_laws.proofs.ByJournal.{IsKept, by_journal}
@@ -58,7 +59,7 @@ SaysPlan p (Skip skip) = IsTestNamed p skip.test × HasReason p skip
 SaysPlan p (Finish finish) = IsTestNamed p finish.test × SaysFlaky p finish
 
 -- a unit of the plan is named so
-named : (p : Settings) (t : TestRole) (words : List (List ℕ)) (terms : AttemptTerms) → IsTestUnit p t words terms
+pub named : (p : Settings) (t : TestRole) (words : List (List ℕ)) (terms : AttemptTerms) → IsTestUnit p t words terms
     → IsTestNamed p t.test
 named p t words terms it = ap (option_map (test_named t.test.unit)) it.planned ∙ ap Some (sym it.name)
 
@@ -187,22 +188,6 @@ of_messages P Q one (e ∷ es) all = by_message (message_of e) refl all (λ rest
 abbrev pub SaysOf : Settings → ReporterEvent → Type 0
 SaysOf p e = IfSome (message_of e) (SaysPlan p)
 
-names : (p : Settings) (e : ReporterEvent) → SaysOf p e → NamesThePlan p e
-names p Tick it = tt
-names p (Test event) it = by_kind event.kind it
-  where
-    by_kind : (kind : TestEventKind) → IfSome (message_in kind) (SaysPlan p) → NamesThePlanIn p kind
-    by_kind (kinds.SetupScriptStarted start) it = it
-    by_kind (kinds.SetupScriptSlow slow) it = it
-    by_kind (kinds.SetupScriptFinished finish) it = it
-    by_kind (kinds.TestStarted event) it = it
-    by_kind (kinds.TestSlow slow) it = it.0
-    by_kind (kinds.TestAttemptFailedWillRetry event) it = it
-    by_kind (kinds.TestRetryStarted event) it = it
-    by_kind (kinds.TestFinished event) it = it.0
-    by_kind (kinds.TestSkipped skip) it = it
-    by_kind kind it = tt
-
 attempts : (p : Settings) (e : ReporterEvent) → SaysOf p e → SlowSaysAttempts p e
 attempts p Tick it = tt
 attempts p (Test event) it = by_kind event.kind it
@@ -219,15 +204,11 @@ flaky p (Test event) it = by_kind event.kind it
     by_kind (kinds.TestFinished event) it = it.1
     by_kind kind it = tt
 
-told_so : (p : Settings) (Q : ReporterEvent → Type 0) → ((e : ReporterEvent) → SaysOf p e → Q e)
+pub told_so : (p : Settings) (Q : ReporterEvent → Type 0) → ((e : ReporterEvent) → SaysOf p e → Q e)
     → (backward : List Entry) → IsLegalBackward p backward → All Q (told (sub_run (history p backward)))
 told_so p Q one backward legal =
     of_messages (SaysPlan p) Q one (told (sub_run (history p backward)))
     (told_among p (SaysPlan p) backward legal (plan_sent p backward legal))
-
-pub events_named : (p : Settings) (backward : List Entry) → IsLegalBackward p backward
-    → All (NamesThePlan p) (told (sub_run (history p backward)))
-events_named p backward legal = told_so p (NamesThePlan p) (names p) backward legal
 
 pub attempts_told : (p : Settings) (backward : List Entry) → IsLegalBackward p backward
     → All (SlowSaysAttempts p) (told (sub_run (history p backward)))

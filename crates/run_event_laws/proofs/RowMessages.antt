@@ -4,9 +4,10 @@ use Rattle.std.proofs.Common.{◌≡◌, ◌⊎◌, inl, inr, ℕ, ◌==◌, Lis
 use Rattle.std.proofs.Common.{Some, None, refl, sym, subst, ◌∙◌}
 use Rattle.run_events.specs.declared.message.Message.{Message}
 use Rattle.run_events.specs.declared.request.Request.{Request}
-use Rattle.run_events.specs.declared.request.Request.TheVariants.{Shutdown}
+use Rattle.run_events.specs.declared.request.Request.TheVariants.{Stop, Continue, Shutdown, GetInfo}
 use Rattle.run_events.specs.declared.request.TermSignal.{TermSignal}
 use Rattle.run_events.specs.declared.request.TermSignal.TheVariants.{Kill}
+use Rattle.run_events.specs.declared.request.TerminateReason.{TerminateReason}
 use Rattle.run_events.specs.declared.request.TerminateReason.TheVariants.{Signal as Signalled}
 use Rattle.run_model.specs.declared.phase.Phase.{Phase}
 use Rattle.run_model.specs.declared.phase.Phase.TheVariants.{StartSent, Starting, Running, Grace, KillWait, Leak}
@@ -17,9 +18,12 @@ use Rattle.run_model.specs.declared.unit_turn.UnitTurn.TheVariants.{Env, Due, Ta
 use Rattle.run_model.specs.declared.unit_view.UnitView.{UnitView}
 use Rattle.run_model.specs.Slow.{one_more, is_out_of_time}
 use Rattle.run_model.specs.Terminate.{terminate_method}
-use Rattle.run_model.specs.Unit.{Row, row_at, takes_at, asked_to_end, requested, take_row, running_row, waited_row}
-use Rattle.run_model.specs.Unit.{slow_message, slow_report, slow_row, slow_again, in_grace, out_of_time}
-use Rattle.run_model.specs.Unit.{failure_message, finish_message, last_status, next_delay, retry_message}
+use Rattle.run_model.specs.Ending.{last_status}
+use Rattle.run_model.specs.Row.{Row}
+use Rattle.run_model.specs.Retries.{failure_message, finish_message, next_delay, retry_message}
+use Rattle.run_model.specs.Requests.{asked_to_end, requested, take_row}
+use Rattle.run_model.specs.Unit.{row_at, takes_at, running_row, waited_row, slow_message, slow_report, slow_row}
+use Rattle.run_model.specs.Unit.{slow_again, in_grace, out_of_time}
 use Rattle.run_laws.proofs.units.OpenRows.{is_open}
 use Rattle.run_laws.proofs.units.Rows.{StaysOrGoes, Takes, answers, opens, decides, passes, again, decide_cases}
 use Rattle.run_laws.proofs.units.Rows.{row_passes, row_takes}
@@ -28,9 +32,10 @@ use Rattle.run_laws.proofs.units.Rows.{row_passes, row_takes}
 abbrev pub SaysSlow : UnitView → Row → Type 0
 SaysSlow u r = (r.sent ≡ None) ⊎ ((n : ℕ) × (r.sent ≡ slow_message n u))
 
-ends_quietly : (now : ℕ) (signal : TermSignal) (u v : UnitView) → SaysSlow u (asked_to_end now signal v)
-ends_quietly now Kill u v = inl refl
-ends_quietly now signal u v = inl refl
+ends_quietly : (now : ℕ) (reason : TerminateReason) (signal : TermSignal) (u v : UnitView)
+    → SaysSlow u (asked_to_end now reason signal v)
+ends_quietly now reason Kill u v = inl refl
+ends_quietly now reason signal u v = inl refl
 
 slows : (now n : ℕ) (u : UnitView) → SaysSlow u (slow_row now n u)
 slows now n u = by_time (is_out_of_time u.terms.slow n) (u.terms.slow.grace == 0)
@@ -48,10 +53,14 @@ requests now ph (request ∷ line) u on = by_request ph request on
   where
     by_request : (ph : Phase) (request : Request) → is_open ph ≡ true
         → SaysSlow u (requested now ph request (record u { line = line }))
-    by_request Running (Shutdown request) on =
-        ends_quietly now (terminate_method (Signalled request) u.terms.slow.grace) u (record u { line = line })
-    by_request Grace (Shutdown request) on = inl refl
     by_request Delay request on = cc
+    by_request ph (Stop round) on = inl refl
+    by_request ph Continue on = inl refl
+    by_request ph (GetInfo round) on = inl refl
+    by_request Running (Shutdown request) on =
+        ends_quietly now (Signalled request) (terminate_method (Signalled request) u.terms.slow.grace) u
+        (record u { line = line })
+    by_request Grace (Shutdown request) on = inl refl
     by_request ph request on = inl refl
 
 runs : (now : ℕ) (turn : UnitTurn) (u : UnitView) → SaysSlow u (running_row now turn u)

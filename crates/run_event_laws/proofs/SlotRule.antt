@@ -21,7 +21,7 @@ use Rattle.run_model.specs.Admission.{unit_of_test}
 use Rattle.run_model.specs.Board.{Deed, board, said}
 use Rattle.run_model.specs.Environment.{number}
 use Rattle.run_model.specs.Journal.{IsLegal, IsLegalBackward, history, past_of}
-use Rattle.run_model.specs.Turns.{deed_on, enabled, happening}
+use Rattle.run_model.specs.Turns.{deed_on, enabled, enabled_on, happening}
 use Rattle.run_model.specs.Unit.{is_live, reach}
 use Rattle.run_model.specs.Words.{clock, is_over, sub_run, unit_after, unit_of, units, was_refused}
 use Rattle.run_laws.specs.Limits.{limits_with}
@@ -31,6 +31,7 @@ use Rattle.run_laws.proofs.board.JoinSeats.{limits_on_board}
 use Rattle.run_laws.proofs.board.Kept.{HoldsAfter, does_after, holds}
 use Rattle.run_laws.proofs.board.Newcomers.{Becomes, Newcomes, ScriptComes, newcomer_is}
 use Rattle.run_laws.proofs.board.OnBoard.{board_with}
+use Rattle.run_laws.proofs.board.Whole.{board_now, board-is}
 use Rattle.run_laws.proofs.board.OpenSeats.{same_lower}
 use Rattle.run_laws.proofs.board.SeatMoves.{moves}
 use Rattle.run_event_laws.specs.Slots.{JoinsInSlots}
@@ -87,17 +88,26 @@ joins_so : (p : Settings) (past : List Happening) (e : Entry) → HoldsAfter p p
     → ArePlanUnits p (sub_run past) → AreKeptIn p (board_seat (sub_run past)) → (first : UnitView)
     → (happening p past e).part ≡ Some (Joins first) → JoinsInSlots p (sub_run past) first
 joins_so p past e h en plan kept first is =
-    by_new (joins_new p (is_over past) (was_refused past) (clock past) run e.turn en first is)
+    by_new (joins_new p (is_over past) (was_refused past) (clock past) run e.turn en_now first is_now)
   where
     run : List Happening
     run = sub_run past
+
+    same_board : board p past ≡ board_now p past
+    same_board = board-is p past h.alike
+
+    en_now : enabled_on p (board_now p past) e.turn ≡ true
+    en_now = subst (λ b. enabled_on p b e.turn ≡ true) same_board en
+
+    is_now : (deed_on p (board_now p past) e.turn).part ≡ Some (Joins first)
+    is_now = subst (λ b. (deed_on p b e.turn).part ≡ Some (Joins first)) same_board is
 
     fits : PartFits p (clock past) run (Some (Joins first))
     fits = subst (PartFits p (clock past) run) is (does_after p past e h en).part
 
     after : AreKeptIn p (seat_after (clock past) (Some (Joins first)) run)
-    after = subst (λ part. AreKeptIn p (seat_after (clock past) part run)) is
-        ((moves p (is_over past) (was_refused past) (clock past) run e.turn h en).keeps kept)
+    after = subst (λ part. AreKeptIn p (seat_after (clock past) part run)) is_now
+        ((moves p (is_over past) (was_refused past) (clock past) run e.turn h.run en_now).keeps kept)
 
     runs_so : (place global : ℕ) (slot : Option ℕ) (test : PlanTest) → slice_get p.plan.tests place ≡ Some test
         → admitted (limits_of p (units p run)) ≡ Some (Run place global slot)
@@ -112,7 +122,7 @@ joins_so p past e h en plan kept first is =
             λ matched. are_least p (is_over past) (clock past) run place global slot test
                 (first_view p (unit_of_test p place) (slots_of test global slot) (handed_to p (units p run) test) test)
                 (record {
-                  holds = h;
+                  holds = h.run;
                   units = plan;
                   planned = planned;
                   unit = refl;
@@ -144,7 +154,7 @@ joins_so p past e h en plan kept first is =
             runs_so found.place global slot found.test found.planned runs (same ∙ ap (λ (n : Newcomer). n.unit) made)
 
     by_new : (new : Newcomer) × ((newcomer p (units p run) ≡ Some new) × (first ≡ new.unit)
-        × ((deed_on p (board p past) e.turn).sent ≡ Some new.sent))
+        × ((deed_on p (board_now p past) e.turn).sent ≡ Some new.sent))
         → JoinsInSlots p run first
     by_new (new, (e, same, sent)) = by_kind new same (newcomer_is p (units p run) new e)
 

@@ -3,7 +3,8 @@ use Rattle.std.proofs.Common.{◌≡◌, ℕ, ◌||◌, List, [], ◌∷◌, ◌
 use Rattle.std.proofs.Common.{None, is_none, option_map, option_to_list, filter_map, refl, ap, sym, subst, ◌∙◌, arith}
 use Rattle.std.proofs.Common.{length-append}
 use Rattle.std.specs.Cmp.{second_so}
-use Rattle.std.specs.List.{All}
+use Rattle.std.specs.Prelude.{IfSome}
+use Rattle.std.specs.List.{All, cons_option}
 use Rattle.std.proofs.lemmas.List.Elements.{filter_map-append, All-nil, All-cons, All-append, All-drop, All-head}
 use Rattle.std.proofs.lemmas.List.{get_or_append_left}
 use Rattle.run_events.specs.declared.settings.Settings.{Settings}
@@ -21,15 +22,17 @@ use Rattle.run_model.specs.declared.happening.Happening.{Happening}
 use Rattle.run_model.specs.Admission.{Newcomer, newcomer}
 use Rattle.run_model.specs.Board.{Board, Deed, deed_events, said}
 use Rattle.run_model.specs.Cancel.{Cause, cause_of, caused, event_refused, signal_cause, time_is_up}
-use Rattle.run_model.specs.Dispatch.{event, may_go, retried_event, started_event, with_start}
+use Rattle.run_model.specs.Dispatch.{Moment, heard_by, event, may_go, retried_event, started_event, with_start}
 use Rattle.run_model.specs.Journal.{history, IsLegalBackward}
 use Rattle.run_model.specs.Turns.{admission, cancelled, deed_on, delivered_as, delivery, done_by, enabled_on, event_of}
-use Rattle.run_model.specs.Turns.{nothing_done, starting, takes_turn, tally_with, turn_of_unit}
+use Rattle.run_model.specs.Turns.{live_in, nothing_done, oldest_of, starting, takes_turn, tally_with, turn_of_unit}
+use Rattle.run_events.specs.Hearing.{heard_key}
 use Rattle.run_model.specs.Words.{queue, reason, sent, delivered, sub_run, tally, told, units}
 use Rattle.run_laws.proofs.board.ByTurn.{by_turn}
 use Rattle.run_laws.proofs.told.Cancels.{IsCancel, IsCancelKind, cancel_for, cancel_is}
 use Rattle.run_laws.proofs.board.Facts.{may_go-is}
-use Rattle.run_laws.proofs.board.OnBoard.{board_of, board_with}
+use Rattle.run_laws.proofs.board.OnBoard.{board_of, board_with, moment_in}
+use Rattle.run_laws.proofs.told.Asides.{IsAside, IsAsideEvent, IsAsideKind, answer_aside, by_signal, key_aside}
 use Rattle.run_event_laws.proofs.ByJournal.{IsKept, by_journal}
 
 -- the message whose delivery an event tells
@@ -69,12 +72,12 @@ cancel_none None h = refl
 cancel_none (Some Tick) h = absurd h
 cancel_none (Some (Test e)) h = by_kind e.kind h
   where
-    by_kind : (kind : TestEventKind) → IsCancelKind kind → messages_of (event 0 kind ∷ []) ≡ []
+    by_kind : (kind : TestEventKind) → IsCancelKind kind → cons_option (message_in kind) [] ≡ []
     by_kind (kinds.RunBeginCancel cancelled) h = refl
     by_kind (kinds.RunBeginKill cancelled) h = refl
     by_kind kind h = absurd h
 
-caused_tells : (go : Bool) (now : ℕ) (q : List Message) (t : Tally) (o : Option Cause) (d : Deed) → d.cancel ≡ None
+caused_tells : (go : Bool) (now : Moment) (q : List Message) (t : Tally) (o : Option Cause) (d : Deed) → d.cancel ≡ None
     → TellsOldest go q d → TellsOldest go q (caused now t o d)
 caused_tells go now q t None d none tells = tells
 caused_tells go now q t (Some c) d none tells =
@@ -87,14 +90,14 @@ admission_tells : (go : Bool) (q : List Message) (o : Option Newcomer) → Tells
 admission_tells go q None = refl
 admission_tells go q (Some new) = refl
 
-told_if : (now : ℕ) (kind : TestEventKind) (m : Message) (go : Bool) → message_in kind ≡ Some m
+told_if : (now : Moment) (kind : TestEventKind) (m : Message) (go : Bool) → message_in kind ≡ Some m
     → is_none (starting m) ≡ false
     → messages_of (option_to_list (option_map (event now) (if go then Some kind else None)) ++ [])
     ≡ (if is_told go m then m ∷ [] else [])
 told_if now kind m true is start = rw is refl
 told_if now kind m false is start = rw start refl
 
-told_so : (now : ℕ) (kind : TestEventKind) (m : Message) (go : Bool) → message_in kind ≡ Some m
+told_so : (now : Moment) (kind : TestEventKind) (m : Message) (go : Bool) → message_in kind ≡ Some m
     → is_none (starting m) ≡ true → messages_of (event now kind ∷ []) ≡ (if is_told go m then m ∷ [] else [])
 told_so now kind m true is start = rw is refl
 told_so now kind m false is start = rw (is, start) refl
@@ -103,24 +106,26 @@ delivery_tells : (p : Settings) (over : Bool) (now : ℕ) (run : List Happening)
     → TellsOldest (may_go (tally p run)) q (delivery (board_of p over now run) q)
 delivery_tells p over now run [] = refl
 delivery_tells p over now run (ScriptStart start ∷ rest) =
-    told_if now (kinds.SetupScriptStarted start) (ScriptStart start) (may_go (tally p run)) refl refl
+    told_if (moment_in now run) (kinds.SetupScriptStarted start) (ScriptStart start) (may_go (tally p run)) refl refl
 delivery_tells p over now run (Start start ∷ rest) =
-    told_if now (started_event start (with_start (tally p run))) (Start start) (may_go (tally p run)) refl refl
+    told_if (moment_in now run) (started_event start (with_start (tally p run))) (Start start) (may_go (tally p run))
+    refl refl
 delivery_tells p over now run (Retry retry ∷ rest) =
-    told_if now (retried_event retry (tally p run)) (Retry retry) (may_go (tally p run)) refl refl
+    told_if (moment_in now run) (retried_event retry (tally p run)) (Retry retry) (may_go (tally p run)) refl refl
 delivery_tells p over now run (ScriptSlow slow ∷ rest) =
-    told_so now (kinds.SetupScriptSlow slow) (ScriptSlow slow) (may_go (tally p run)) refl refl
+    told_so (moment_in now run) (kinds.SetupScriptSlow slow) (ScriptSlow slow) (may_go (tally p run)) refl refl
 delivery_tells p over now run (Slow slow ∷ rest) =
-    told_so now (kinds.TestSlow slow) (Slow slow) (may_go (tally p run)) refl refl
+    told_so (moment_in now run) (kinds.TestSlow slow) (Slow slow) (may_go (tally p run)) refl refl
 delivery_tells p over now run (Skip skip ∷ rest) =
-    told_so now (kinds.TestSkipped skip) (Skip skip) (may_go (tally p run)) refl refl
+    told_so (moment_in now run) (kinds.TestSkipped skip) (Skip skip) (may_go (tally p run)) refl refl
 delivery_tells p over now run (AttemptFailed failure ∷ rest) =
-    told_so now (kinds.TestAttemptFailedWillRetry (record { failed = failure; running = (tally p run).running }))
+    told_so (moment_in now run)
+    (kinds.TestAttemptFailedWillRetry (record { failed = failure; running = (tally p run).running }))
     (AttemptFailed failure) (may_go (tally p run)) refl refl
 delivery_tells p over now run (Finish finish ∷ rest) =
     let b : Board = board_of p over now run in
     let tells : Option ReporterEvent = event_of b (Finish finish) in
-    caused_tells (may_go (tally p run)) now (Finish finish ∷ rest) (tally_with b tells)
+    caused_tells (may_go (tally p run)) (moment_in now run) (Finish finish ∷ rest) (tally_with b tells)
     (cause_of b.dispatcher.rules (tally_with b tells) (Finish finish)) (delivered_as b (Finish finish) nothing_done)
     refl
     (by_go (may_go (tally p run)))
@@ -131,7 +136,7 @@ delivery_tells p over now run (Finish finish ∷ rest) =
 delivery_tells p over now run (ScriptFinish finish ∷ rest) =
     let b : Board = board_of p over now run in
     let tells : Option ReporterEvent = event_of b (ScriptFinish finish) in
-    caused_tells (may_go (tally p run)) now (ScriptFinish finish ∷ rest) (tally_with b tells)
+    caused_tells (may_go (tally p run)) (moment_in now run) (ScriptFinish finish ∷ rest) (tally_with b tells)
     (cause_of b.dispatcher.rules (tally_with b tells) (ScriptFinish finish))
     (delivered_as b (ScriptFinish finish) nothing_done) refl (by_go (may_go (tally p run)))
   where
@@ -139,6 +144,23 @@ delivery_tells p over now run (ScriptFinish finish ∷ rest) =
         → ScriptFinish finish ∷ [] ≡ (if is_told go (ScriptFinish finish) then ScriptFinish finish ∷ [] else [])
     by_go true = refl
     by_go false = refl
+
+aside_tells : (go : Bool) (q : List Message) (d : Deed) → IsAside d → TellsOldest go q d
+aside_tells go q d aside = rw (aside.taken, aside.cancel) (by_told d.told aside.told)
+  where
+    by_kind : (kind : TestEventKind) → IsAsideKind kind → message_in kind ≡ None
+    by_kind (kinds.RunPaused event) h = refl
+    by_kind (kinds.RunContinued event) h = refl
+    by_kind (kinds.InfoStarted event) h = refl
+    by_kind (kinds.InfoResponse event) h = refl
+    by_kind (kinds.InfoFinished missing) h = refl
+    by_kind (kinds.InputEnter event) h = refl
+    by_kind kind h = absurd h
+
+    by_told : (o : Option ReporterEvent) → IfSome o IsAsideEvent → messages_of (option_to_list o ++ []) ≡ []
+    by_told None h = refl
+    by_told (Some Tick) h = refl
+    by_told (Some (Test event)) h = rw (by_kind event.kind h) refl
 
 pub tells_oldest : (p : Settings) (over refused : Bool) (now : ℕ) (run : List Happening) (turn : Turn)
     → enabled_on p (board_with p refused over now run) turn ≡ true
@@ -151,11 +173,18 @@ tells_oldest p over refused now run turn en =
       deliver = λ en. delivery_tells p over now run (queue run);
       named = λ turn k to other en. refl;
       clock = λ ns en. refl;
-      signal = λ signal en. cancels (signal_cause b.dispatcher.causes.signals signal);
+      signal = λ signal en. by_signal (TellsOldest go (queue run)) now (live_in b.units) b.dispatcher signal
+          (heard_by b.dispatcher.rules.hearing signal) (cancels (signal_cause b.dispatcher.causes.signals signal))
+          (aside_tells go (queue run));
       global_due = λ en. cancels time_is_up;
       report_cancel = λ en. cancels event_refused;
       end = λ en. refl;
-      unbuilt = λ turn never en. let no_turn : false ≡ true = sym (never p b) ∙ en in cc;
+      key = λ key en. aside_tells go (queue run) _ (key_aside now (live_in b.units) b.dispatcher
+          (heard_key b.dispatcher.rules.hearing.input key));
+      tick = λ en. refl;
+      stop_wait_due = λ en. refl;
+      answer = λ en. aside_tells go (queue run) _ (answer_aside b (oldest_of b.answers));
+      info_due = λ en. refl;
     })
     turn (second_so (not over) (takes_turn p b turn (turn_of_unit turn)) en)
   where
@@ -166,7 +195,8 @@ tells_oldest p over refused now run turn en =
     go = may_go (tally p run)
 
     cancels : (cause : Cause) → TellsOldest go (queue run) (cancelled b cause)
-    cancels cause = caused_tells go now (queue run) b.dispatcher.tally (Some cause) nothing_done refl refl
+    cancels cause =
+        caused_tells go (moment_in now run) (queue run) b.dispatcher.tally (Some cause) nothing_done refl refl
 
 -- so what was told after one more turn is told of the oldest message
 pub told-more : (p : Settings) (over refused : Bool) (now : ℕ) (run : List Happening) (e : Entry)

@@ -275,7 +275,7 @@ tries_numbered p backward legal k =
     (pending_of k (queue run)) (way_of k run) (retries_told k events)
     (subst (λ rs. AreFrom 2 (retry_numbers rs)) (sym (retries_ordered p backward legal k))
     (retries_from p k _ (test_of_unit p k) (slots_told k events)))
-    (h.made k) (h.on_way k) (h.accounts k) (retried-told k events))
+    (h.run.made k) (h.run.on_way k) (h.run.accounts k) (retried-told k events))
   where
     run : List Happening
     run = sub_run (history p backward)

@@ -19,6 +19,9 @@ use Rattle.run_events.specs.declared.events.TestEventKind.TheVariants.{SetupScri
 use Rattle.run_events.specs.declared.events.TestEventKind.TheVariants.{SetupScriptFinished, TestStarted, TestSlow}
 use Rattle.run_events.specs.declared.events.TestEventKind.TheVariants.{TestAttemptFailedWillRetry, TestRetryStarted}
 use Rattle.run_events.specs.declared.events.TestEventKind.TheVariants.{TestFinished, TestSkipped}
+use Rattle.run_events.specs.declared.events.TestEventKind.TheVariants.{InfoResponse as InfoAnswer}
+use Rattle.run_events.specs.declared.info.InfoSubject.{InfoSubject}
+use Rattle.run_events.specs.declared.info.InfoSubject.TheVariants as subjects
 use Rattle.run_model.specs.declared.entry.Entry.{Entry}
 use Rattle.run_model.specs.Admission.{is_script, scripts_in}
 use Rattle.run_model.specs.Backoff.{retry_count}
@@ -51,6 +54,11 @@ IsTestNamed p unit = option_map (test_named unit.unit) (test_of_unit p unit.unit
 abbrev pub IsScriptNamed : Settings → ScriptUnit → Type 0
 IsScriptNamed p unit = option_map (script_named p unit.unit) (slice_get p.plan.scripts unit.unit) ≡ Some unit
 
+-- so is a unit that answers
+abbrev pub IsSubjectNamed : Settings → InfoSubject → Type 0
+IsSubjectNamed p (subjects.Test test attempt attempts) = IsTestNamed p test
+IsSubjectNamed p (subjects.Script script) = IsScriptNamed p script
+
 -- a test is skipped for the reason that the plan gives
 abbrev pub HasReason : Settings → TestSkip → Type 0
 HasReason p skip = option_and_then (λ test. test.skip) (test_of_unit p skip.test.unit) ≡ Some skip.reason
@@ -66,6 +74,7 @@ NamesThePlanIn p (TestAttemptFailedWillRetry event) = IsTestNamed p event.failed
 NamesThePlanIn p (TestRetryStarted event) = IsTestNamed p event.retry.start.test
 NamesThePlanIn p (TestFinished event) = IsTestNamed p event.finish.test
 NamesThePlanIn p (TestSkipped skip) = IsTestNamed p skip.test × HasReason p skip
+NamesThePlanIn p (InfoAnswer answer) = IsSubjectNamed p answer.response.subject
 NamesThePlanIn p _ = ⊤
 
 abbrev pub NamesThePlan : Settings → ReporterEvent → Type 0

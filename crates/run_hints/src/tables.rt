@@ -69,6 +69,7 @@ fn plan_leaf(key: &str) -> Option<Shape> {
         "global_timeout" => Some(Shape::U64),
         "nextest_version" | "recommended_version" | "required_version" => Some(Shape::Version),
         "profile" | "workspace_root" => Some(Shape::Text),
+        "quit_is_info" => Some(Shape::Truth),
         "run_id" => Some(Shape::Uuid),
         "started_at" => Some(Shape::Moment),
         "threads" => Some(Shape::U32),
@@ -81,6 +82,7 @@ fn plan_choice(key: &str) -> Option<Shape> {
     match key {
         "capture" => Some(Shape::Named(Names::Captures)),
         "flaky_result" => Some(Shape::Named(Names::Results)),
+        "input" => Some(Shape::Named(Names::Inputs)),
         "mode" => Some(Shape::Named(Names::Modes)),
         "signals" => Some(Shape::Named(Names::Handlers)),
         _ => None,

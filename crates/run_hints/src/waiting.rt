@@ -2,7 +2,7 @@
 use run_capture::Stream;
 use run_commands::EnvInput;
 use run_engine::{Phase, Run};
-use run_events::{ChildExit, Turn};
+use run_events::{ChildExit, Request, Turn};
 use std::alloc::{AllocError, Global};
 
 // What a unit may wait for, each by a turn that is enabled exactly where it does.
@@ -149,6 +149,12 @@ fn of_admit(alloc: Global, run: &Run) -> Result<String, AllocError> {
 
 // Why the run doesn't end.
 fn of_end(alloc: Global, run: &Run) -> Result<String, AllocError> {
+    if run.is_paused() {
+        return String::from_str(
+            alloc,
+            "a run that is paused does not end: a signal cont lets it go on",
+        );
+    }
     if run.is_enabled(&Turn::Deliver) {
         return String::from_str(alloc, "a message waits to be delivered");
     }
@@ -175,13 +181,33 @@ fn of_run(turn: &Turn) -> &'static str {
     match turn {
         Turn::Begin => "the run has begun",
         Turn::Deliver => "no message waits to be delivered",
-        Turn::Signal { .. } => {
-            "the run takes a signal that shuts it down, by the plan's \"signals\", and no other"
+        Turn::Signal { .. } => "the run does not hear this signal, by the plan's \"signals\"",
+        Turn::Key { .. } => {
+            "by the plan's \"input\" the run hears no key, or the press of enter and of t alone"
         }
         Turn::ReportCancel => "no event was refused, or a report-cancel was taken",
+        Turn::StopWaitDue => "no unit is waited for after a signal tstp",
+        Turn::InfoDue | Turn::Answer => "the units are not asked what they are doing",
         Turn::Clock { .. } => "the clock ends at 18446744073709551615 ns",
-        _ => "no run takes this turn yet",
+        _ => "the run takes no such turn now",
     }
+}
+
+// Why the run takes no turn of its main state: a round is open.
+fn of_round(request: Request) -> &'static str {
+    match request {
+        Request::Stop { .. } => {
+            "the run waits for its units to take their stops: within 100 ms the due of the timer stop comes"
+        }
+        _ => {
+            "the units are asked what they are doing: their answers come, and within 100 ms the due of the timer info"
+        }
+    }
+}
+
+// Whether a turn is one of the run's own that comes while a round is open.
+fn comes_in_a_round(turn: &Turn) -> bool {
+    matches!(turn, Turn::Admit | Turn::Clock { .. })
 }
 
 // The unit that a turn names.
@@ -222,6 +248,14 @@ fn of_named(alloc: Global, run: &Run, turn: &Turn, unit: u32) -> Result<String, 
 
 // Why a turn of the run's own isn't enabled.
 fn of_own(alloc: Global, run: &Run, turn: &Turn) -> Result<String, AllocError> {
+    match run.round() {
+        Some(request) if !comes_in_a_round(turn) => String::from_str(alloc, of_round(request)),
+        _ => of_main(alloc, run, turn),
+    }
+}
+
+// The same where no round is open, and of a turn that comes while one is.
+fn of_main(alloc: Global, run: &Run, turn: &Turn) -> Result<String, AllocError> {
     match turn {
         Turn::Admit => of_admit(alloc, run),
         Turn::End => of_end(alloc, run),

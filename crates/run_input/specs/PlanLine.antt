@@ -1,13 +1,16 @@
 -- What a plan line says.
 use Rattle.std.specs.Prelude.{ℕ, List, [], ◌∷◌, length, Option, Some, None, option_and_then, if◌then◌else◌, nat_eq, codes}
-use Rattle.std.specs.Prelude.{◌+◌, nat_lt}
+use Rattle.std.specs.Prelude.{◌+◌, nat_lt, false}
 use Rattle.serde_json.specs.Data.{Data, Items, no_items, item}
 use Rattle.serde_json.specs.Find.{get, as_str, as_array}
 use Rattle.run_capture.specs.declared.test_output.CaptureStrategy.{CaptureStrategy}
 use Rattle.run_capture.specs.declared.test_output.CaptureStrategy.TheVariants as capture
 use Rattle.run_commands.specs.declared.interceptor.Interceptor.TheVariants as under
 use Rattle.run_commands.specs.declared.target_runner.TargetRunner.{TargetRunner}
+use Rattle.run_events.specs.declared.input.InputHandlerKind.{InputHandlerKind}
+use Rattle.run_events.specs.declared.input.InputHandlerKind.TheVariants as inputs
 use Rattle.run_events.specs.declared.plan.Group.{Group}
+use Rattle.run_events.specs.declared.plan.Hearing.{Hearing}
 use Rattle.run_events.specs.declared.plan.Plan.{Plan}
 use Rattle.run_events.specs.declared.plan.PlanScript.{PlanScript}
 use Rattle.run_events.specs.declared.plan.PlanTest.{PlanTest}
@@ -20,9 +23,8 @@ use Rattle.run_events.specs.declared.retry_policy.TerminateMode.{TerminateMode}
 use Rattle.run_events.specs.declared.retry_policy.TerminateMode.TheVariants as modes
 use Rattle.run_events.specs.declared.signal.SignalHandlerKind.{SignalHandlerKind}
 use Rattle.run_events.specs.declared.signal.SignalHandlerKind.TheVariants as handlers
-use Rattle.run_events.specs.Usual.{usual_hearing}
 use Rattle.run_input.specs.declared.plan_line.RunnerKeys.{RunnerKeys}
-use Rattle.run_input.specs.Fields.{◌>>=◌, when, is_object_of, optional, or_usual, u32_of, u64_of}
+use Rattle.run_input.specs.Fields.{◌>>=◌, when, is_object_of, optional, or_usual, truth_of, u32_of, u64_of}
 use Rattle.run_input.specs.PlanHead.{frame_of}
 use Rattle.run_input.specs.PlanInterceptor.{interceptor_of}
 use Rattle.run_input.specs.PlanRetries.{retries_from, flaky_from}
@@ -101,12 +103,30 @@ signals_named name =
 abbrev pub signals_of : Data → Option SignalHandlerKind
 signals_of d = option_and_then signals_named (as_str d)
 
--- which signals a run hears, all of them where nothing is said, and how long it may take
-abbrev pub rules_from : Data → Option (SignalHandlerKind × Option ℕ)
-rules_from d = do
+-- the keys that a text names
+abbrev pub input_named : List ℕ → Option InputHandlerKind
+input_named name =
+    if pointwise nat_eq name (codes "standard") then Some inputs.Standard
+    else if pointwise nat_eq name (codes "noop") then Some inputs.Noop
+    else None
+
+abbrev pub input_of : Data → Option InputHandlerKind
+input_of d = option_and_then input_named (as_str d)
+
+-- which signals and keys a run hears, all of them where nothing is said, and whether a quit asks for information
+abbrev pub hearing_from : Data → Option Hearing
+hearing_from d = do
   signals ← or_usual handlers.Standard signals_of (get (codes "signals") d)
+  input ← or_usual inputs.Standard input_of (get (codes "input") d)
+  quit_is_info ← or_usual false truth_of (get (codes "quit_is_info") d)
+  Some (record { signals = signals; input = input; quit_is_info = quit_is_info })
+
+-- what a run hears, and how long it may take
+abbrev pub rules_from : Data → Option (Hearing × Option ℕ)
+rules_from d = do
+  hearing ← hearing_from d
   global_timeout ← optional u64_of (get (codes "global_timeout") d)
-  Some (signals, global_timeout)
+  Some (hearing, global_timeout)
 
 -- a group, with its limit
 unfoldable pub group_from : Data → Option Group
@@ -171,11 +191,11 @@ lists_of d = do
   Some (groups, scripts, tests)
 
 -- a plan with these rules, of this head and these runners, with these groups, scripts and tests
-abbrev pub plan_with : SignalHandlerKind × Option ℕ → RunHead × TargetRunner
+abbrev pub plan_with : Hearing × Option ℕ → RunHead × TargetRunner
     → List Group × List PlanScript × List PlanTest → Plan
 plan_with rules frame lists = record {
   head = frame.0;
-  hearing = record usual_hearing { signals = rules.0 };
+  hearing = rules.0;
   global_timeout = rules.1;
   groups = lists.0;
   runners = frame.1;
@@ -187,9 +207,9 @@ plan_with rules frame lists = record {
 abbrev pub plan_names : List (List ℕ)
 plan_names =
     codes "args" ∷ codes "capture" ∷ codes "flaky_result" ∷ codes "global_timeout" ∷ codes "groups"
-    ∷ codes "interceptor" ∷ codes "max_fail" ∷ codes "mode" ∷ codes "nextest_version" ∷ codes "profile"
-    ∷ codes "recommended_version" ∷ codes "required_version" ∷ codes "retries" ∷ codes "run_id" ∷ codes "runners"
-    ∷ codes "scripts" ∷ codes "signals" ∷ codes "started_at" ∷ codes "tests" ∷ codes "threads"
+    ∷ codes "input" ∷ codes "interceptor" ∷ codes "max_fail" ∷ codes "mode" ∷ codes "nextest_version" ∷ codes "profile"
+    ∷ codes "quit_is_info" ∷ codes "recommended_version" ∷ codes "required_version" ∷ codes "retries" ∷ codes "run_id"
+    ∷ codes "runners" ∷ codes "scripts" ∷ codes "signals" ∷ codes "started_at" ∷ codes "tests" ∷ codes "threads"
     ∷ codes "workspace_root" ∷ []
 
 -- the plan, without what is set of a runner

@@ -1,16 +1,17 @@
 // The keys of a plan line that say how its tests are run.
-ghost use Rattle.std.specs.Prelude.{◌≡◌, option_map, option_and_then};
+ghost use Rattle.std.specs.Prelude.{◌≡◌, option_map, option_and_then, false};
 ghost use Rattle.run_capture.specs.declared.test_output.CaptureStrategy.TheVariants as capture;
+ghost use Rattle.run_events.specs.declared.input.InputHandlerKind.TheVariants as inputs;
 ghost use Rattle.run_events.specs.declared.retry_policy.MaxFail.TheVariants.{All};
 ghost use Rattle.run_events.specs.declared.signal.SignalHandlerKind.TheVariants as handlers;
 ghost use Rattle.serde_json.specs.View.{view};
-ghost use Rattle.run_input.specs.PlanLine.{capture_of, max_fail_of, terminate_of, signals_of};
+ghost use Rattle.run_input.specs.PlanLine.{capture_of, max_fail_of, terminate_of, signals_of, input_of, hearing_from};
 ghost use Rattle.run_input.specs.Fields.{or_usual};
 
-use crate::fields::{str_at, u32_at};
+use crate::fields::{str_at, truth_or, u32_at};
 use crate::objects::has_keys_of;
 use run_capture::CaptureStrategy;
-use run_events::{MaxFail, SignalHandlerKind, TerminateMode};
+use run_events::{Hearing, InputHandlerKind, MaxFail, SignalHandlerKind, TerminateMode};
 use serde_json::Value;
 
 /// The way of capture that a text names, and split where there is none.
@@ -70,8 +71,8 @@ fn terminate_at(value: Option<&Value>) -> Option<TerminateMode>
     }
 }
 
-/// The signals that a text names, and all of them where there is none.
-pub fn signals_at(value: Option<&Value>) -> Option<SignalHandlerKind>
+// The signals that a text names, and all of them where there is none.
+fn signals_at(value: Option<&Value>) -> Option<SignalHandlerKind>
     ensures { result ≡ or_usual handlers.Standard signals_of (option_map (λ v. view v.now) value.entry) }
 {
     match value {
@@ -89,4 +90,38 @@ fn named_signals(value: Option<&Value>) -> Option<SignalHandlerKind>
         "noop" => Some(SignalHandlerKind::Noop),
         _ => None,
     }
+}
+
+// The keys that a text names, and all of them where there is none.
+fn input_at(value: Option<&Value>) -> Option<InputHandlerKind>
+    ensures { result ≡ or_usual inputs.Standard input_of (option_map (λ v. view v.now) value.entry) }
+{
+    match value {
+        Some(_) => named_input(value),
+        None => Some(InputHandlerKind::Standard),
+    }
+}
+
+fn named_input(value: Option<&Value>) -> Option<InputHandlerKind>
+    ensures { result ≡ option_and_then input_of (option_map (λ v. view v.now) value.entry) }
+{
+    match str_at(value)? {
+        "standard" => Some(InputHandlerKind::Standard),
+        "noop" => Some(InputHandlerKind::Noop),
+        _ => None,
+    }
+}
+
+/// Which signals and keys a run hears.
+pub fn hearing_from(value: &Value) -> Option<Hearing>
+    ensures { result ≡ hearing_from (view value.now) }
+{
+    let signals = signals_at(value.get("signals"))?;
+    let input = input_at(value.get("input"))?;
+    let quit_is_info = truth_or(false, value.get("quit_is_info"))?;
+    Some(Hearing {
+        signals,
+        input,
+        quit_is_info,
+    })
 }

@@ -11,6 +11,10 @@ pub mod Ordered
 pub mod DeedFits
 pub mod UnitDeeds
 pub mod Deeds
+pub mod RunDeeds
+pub mod RoundLemmas
+pub mod Whole
+pub mod KeptDeeds
 pub mod Kept
 pub mod Boards
 pub mod Ready

@@ -1,4 +1,5 @@
 -- The lemmas on what is told and asked: causes, reports, delays, starts, fates.
+pub mod Asides
 pub mod CauseLemmas
 pub mod Cancels
 pub mod Cancelled

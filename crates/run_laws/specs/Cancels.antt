@@ -31,6 +31,7 @@ use Rattle.run_events.specs.declared.settings.Settings.{Settings}
 use Rattle.run_model.specs.declared.entry.Entry.{Entry}
 use Rattle.run_model.specs.declared.happening.Happening.{Happening}
 use Rattle.run_model.specs.declared.unit_view.UnitView.{UnitView}
+use Rattle.run_model.specs.Dispatch.{shuts_down}
 use Rattle.run_model.specs.Unit.{is_live}
 use Rattle.run_model.specs.Story.{broadcast_to, taken_by, line_of}
 use Rattle.run_model.specs.Words.{reason, signals_heard, sub_run, unit_of}
@@ -99,7 +100,8 @@ delivery_reason most (Some (Test event)) = finish_reason most event.kind
 delivery_reason most _ = None
 
 abbrev pub cause_by : Settings → List Happening → Turn → Option ReporterEvent → Option CancelReason
-cause_by p before (Signal signal) told = Some (signal_reason (signals_heard before) signal)
+cause_by p before (Signal signal) told =
+    if shuts_down p.plan.hearing signal then Some (signal_reason (signals_heard before) signal) else None
 cause_by p before GlobalDue told = Some GlobalTimeout
 cause_by p before ReportCancel told = Some ReportError
 cause_by p before Deliver told = delivery_reason p.max_fail told

@@ -1,10 +1,10 @@
 -- When a turn can be taken, on a board.
 use Rattle.std.specs.Prelude.{ℕ, ◌≡◌, ◌+◌, ◌<◌, ◌≤◌, ◌^◌, List, [], ◌∷◌, length, Bool, true, false, Option, Some, None}
-use Rattle.std.specs.Prelude.{is_some, nat_lt, ⊤}
+use Rattle.std.specs.Prelude.{is_some, ⊤}
 use Rattle.run_events.specs.declared.settings.Settings.{Settings}
 use Rattle.run_events.specs.declared.turn.Turn.{Turn}
 use Rattle.run_events.specs.declared.turn.Turn.TheVariants.{Begin, Admit, Deliver, Clock, Signal, GlobalDue}
-use Rattle.run_events.specs.declared.turn.Turn.TheVariants.{ReportCancel, End}
+use Rattle.run_events.specs.declared.turn.Turn.TheVariants.{ReportCancel, End, Key, Tick, StopWaitDue, Answer, InfoDue}
 use Rattle.run_events.specs.declared.message.Message.{Message}
 use Rattle.run_model.specs.declared.entry.Entry.{Entry}
 use Rattle.run_model.specs.declared.unit_turn.UnitTurn.{UnitTurn}
@@ -15,9 +15,9 @@ use Rattle.run_model.specs.Words.{clock}
 use Rattle.run_model.specs.declared.happening.Happening.{Happening}
 use Rattle.run_model.specs.Environment.{number}
 use Rattle.run_model.specs.Admission.{units_in, newcomer}
-use Rattle.run_model.specs.Dispatch.{shuts_down, go_of, CanDeliver}
+use Rattle.run_model.specs.Dispatch.{heard_by, takes_signal, go_of, CanDeliver}
 use Rattle.run_model.specs.Board.{Board, board, unit_in}
-use Rattle.run_model.specs.Turns.{starting, enabled, turn_of_unit}
+use Rattle.run_model.specs.Turns.{starting, enabled, turn_of_unit, oldest_of}
 use Rattle.run_model.specs.Journal.{past_of, IsLegal}
 
 -- neither the dispatcher nor a unit took a turn later than the clock is
@@ -49,14 +49,27 @@ pub record CanAdmit (p : Settings) (b : Board) : Type 0 where
   pub candidate : is_some (newcomer p b.units) ≡ true
   pub whole : length b.units ≡ units_in p
 
+-- one more round can be numbered
+abbrev pub HasRound : Board → Type 0
+HasRound b = b.dispatcher.rounds.count + 1 < 2 ^ 32
+
+-- the oldest answer can be told
+abbrev pub CanAnswerNext : Board → Type 0
+CanAnswerNext b = (is_some (oldest_of b.answers) ≡ true) × (b.dispatcher.rounds.told + 1 < 2 ^ 32)
+
 -- a turn of the run's own can be taken
 abbrev pub CanRun : Settings → Board → Turn → Type 0
 CanRun p b Begin = b.dispatcher.on ≡ false
 CanRun p b Admit = CanAdmit p b
 CanRun p b Deliver = CanDeliverOldest b b.queue
 CanRun p b (Clock ns) = b.clock + ns < 2 ^ 64
-CanRun p b (Signal signal) = (b.dispatcher.on ≡ true) × (shuts_down b.dispatcher.rules.hearing signal ≡ true)
-    × (nat_lt b.dispatcher.causes.signals 2 ≡ true)
+CanRun p b (Signal signal) =
+    (takes_signal b.dispatcher.causes.signals (heard_by b.dispatcher.rules.hearing signal) ≡ true) × HasRound b
+CanRun p b (Key key) = HasRound b
+CanRun p b Tick = ⊤
+CanRun p b StopWaitDue = ⊤
+CanRun p b Answer = CanAnswerNext b
+CanRun p b InfoDue = ⊤
 CanRun p b GlobalDue = b.dispatcher.on ≡ true
 CanRun p b ReportCancel = b.dispatcher.on ≡ true
 CanRun p b End = b.dispatcher.on ≡ true

@@ -1,14 +1,18 @@
 -- The signals that are asked for the child of a unit, and the reports that it is slow, by its own turns alone, and as they
 -- were asked and told.
-use Rattle.std.specs.Prelude.{ℕ, ◌≡◌, ◌+◌, ◌==◌, List, [], ◌∷◌, ◌++◌, map, length, Bool, not, ◌&&◌, if◌then◌else◌, Option}
-use Rattle.std.specs.Prelude.{Some, None, option_to_list, filter_map}
+use Rattle.std.specs.Prelude.{ℕ, ◌≡◌, ◌+◌, ◌==◌, List, [], ◌∷◌, ◌++◌, length, Bool, not, ◌&&◌, ◌||◌, if◌then◌else◌}
+use Rattle.std.specs.Prelude.{Option, Some, None, option_map, option_to_list, filter_map}
+use Rattle.std.specs.Option.{option_or}
+use Rattle.run_clock.specs.Counted.{is_paused}
+use Rattle.run_commands.specs.Interceptor.{sends_sigtstp}
 use Rattle.run_events.specs.declared.plan.SlowTimeout.{SlowTimeout}
 use Rattle.run_events.specs.declared.settings.Settings.{Settings}
 use Rattle.run_events.specs.declared.ask.Ask.{Ask}
 use Rattle.run_events.specs.declared.ask.Ask.TheVariants.{Signal}
 use Rattle.run_events.specs.declared.request.ChildSignal.{ChildSignal}
-use Rattle.run_events.specs.declared.request.ChildSignal.TheVariants.{End}
-use Rattle.run_events.specs.declared.request.TermSignal.{TermSignal}
+use Rattle.run_events.specs.declared.request.ChildSignal.TheVariants.{End, Tstp, Cont}
+use Rattle.run_events.specs.declared.request.Request.{Request}
+use Rattle.run_events.specs.declared.request.Request.TheVariants.{Stop, Continue}
 use Rattle.run_events.specs.declared.request.TermSignal.TheVariants.{Kill}
 use Rattle.run_events.specs.declared.request.TerminateReason.TheVariants.{Timeout}
 use Rattle.run_events.specs.declared.message.Message.{Message}
@@ -23,29 +27,38 @@ use Rattle.run_model.specs.Slow.{slow_time}
 use Rattle.run_model.specs.Terminate.{terminate_method}
 use Rattle.run_model.specs.Story.{OwnTurn, Attempt, cut, any_is}
 use Rattle.run_model.specs.Timing.{ends_wait, signal_of, slow_count, has_timed_out, is_slow_turn, is_timeout, ends_grace}
+use Rattle.run_model.specs.Timing.{standing, pauses_in}
 use Rattle.run_model.specs.Attempts.{pieces_of}
 use Rattle.run_model.specs.Admission.{unit_terms}
 use Rattle.run_model.specs.Words.{sub_run, told, queue, asked}
 use Rattle.run_model.specs.Journal.{IsLegal, past_of}
 
+-- the signal of a stop or a continue that is taken after these turns: a stop is one where its child is given time to end,
+-- or is one that stops with the run; a continue where it is given time to end, or was stopped
+abbrev pub job_signal : Bool → SlowTimeout → Option Request → List OwnTurn → Option ChildSignal
+job_signal stops slow (Some (Stop round)) before = if (standing slow before).in_grace || stops then Some Tstp else None
+job_signal stops slow (Some Continue) before =
+    if (standing slow before).in_grace || is_paused (pauses_in before) then Some Cont else None
+job_signal stops slow request before = None
+
 -- the signal that comes with a turn of an attempt, after the turns before it: where it runs out of time its child is asked
 -- to end, or is killed where it is given no time for that; where that time is over it is killed; and else, while it is
 -- waited for, it gets the signal of the request that is taken
-abbrev pub signal_with : SlowTimeout → OwnTurn → List OwnTurn → Option TermSignal
-signal_with slow t before =
-    if is_timeout slow t before then Some (terminate_method Timeout slow.grace)
-    else if ends_grace slow t before then Some Kill
+abbrev pub signal_with : Bool → SlowTimeout → OwnTurn → List OwnTurn → Option ChildSignal
+signal_with stops slow t before =
+    if is_timeout slow t before then Some (End (terminate_method Timeout slow.grace))
+    else if ends_grace slow t before then Some (End Kill)
     else if any_is ends_wait before then None
-    else signal_of slow t.request
+    else option_or (option_map End (signal_of slow t.request)) (job_signal stops slow t.request before)
 
 -- the signals of an attempt, and of all attempts, in order
-abbrev pub signals_in : SlowTimeout → List OwnTurn → List TermSignal
-signals_in slow [] = []
-signals_in slow (t ∷ before) = signals_in slow before ++ option_to_list (signal_with slow t before)
+abbrev pub signals_in : Bool → SlowTimeout → List OwnTurn → List ChildSignal
+signals_in stops slow [] = []
+signals_in stops slow (t ∷ before) = signals_in stops slow before ++ option_to_list (signal_with stops slow t before)
 
-abbrev pub signals_by : SlowTimeout → List Attempt → List TermSignal
-signals_by slow [] = []
-signals_by slow (cut piece after ∷ earlier) = signals_by slow earlier ++ signals_in slow piece
+abbrev pub signals_by : Bool → SlowTimeout → List Attempt → List ChildSignal
+signals_by stops slow [] = []
+signals_by stops slow (cut piece after ∷ earlier) = signals_by stops slow earlier ++ signals_in stops slow piece
 
 -- a report that an attempt is slow: of this attempt, after this time, and whether it has run out of time with that
 pub record SlowReport : Type 0 where
@@ -116,7 +129,7 @@ reports_told k events = filter_map (report_of k) events
 -- the signals that were asked for the child of a unit are those of its own turns, and so are the slow reports of it that
 -- were told, followed by those that wait to be told
 pub record IsReportedByItsTurns (p : Settings) (run : List Happening) (k : ℕ) : Type 0 where
-  pub signals : signals_asked k run ≡ map End (signals_by (unit_terms p k).slow (pieces_of k run))
+  pub signals : signals_asked k run ≡ signals_by (sends_sigtstp p.interceptor) (unit_terms p k).slow (pieces_of k run)
   pub reports : reports_told k (told run) ++ reports_waiting k (queue run)
       ≡ reports_by (unit_terms p k).slow (pieces_of k run)
 

@@ -25,7 +25,8 @@ use Rattle.run_model.specs.declared.unit_view.UnitView.{UnitView}
 use Rattle.run_model.specs.Environment.{Variable, start_ask}
 use Rattle.run_model.specs.Admission.{is_script, scripts_in, global_slot, first_view, runner_words, script_view}
 use Rattle.run_model.specs.Admission.{start_message, variables_of}
-use Rattle.run_model.specs.Unit.{has_passed, last_status}
+use Rattle.run_model.specs.Ending.{last_status}
+use Rattle.run_model.specs.Retries.{has_passed}
 use Rattle.run_model.specs.Story.{OwnTurn, story_of}
 use Rattle.run_model.specs.Attempts.{env_in, pieces_of, statuses_of}
 use Rattle.run_model.specs.Words.{sub_run, told, asked}

@@ -1,1 +1,2 @@
 mod BackoffLemmas
+pub mod PauseLemmas

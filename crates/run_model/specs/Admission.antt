@@ -5,7 +5,7 @@ use Rattle.std.specs.Prelude.{option_and_then, map, length, take, drop, count_by
 use Rattle.std.specs.Prelude.{◌-◌, ◌==◌, nat_lt}
 use Rattle.std.specs.List.{list_all, list_any}
 use Rattle.run_commands.specs.Interceptor.{disables_timeouts, skips_leak_detection, has_process_group}
-use Rattle.run_commands.specs.Interceptor.{passes_stdin_through, interceptor_words}
+use Rattle.run_commands.specs.Interceptor.{passes_stdin_through, interceptor_words, sends_sigtstp}
 use Rattle.run_commands.specs.TargetRunner.{runner_for, binary_of, args_of}
 use Rattle.run_commands.specs.VersionEnvVars.{version_pairs}
 use Rattle.run_commands.specs.declared.target_runner.PlatformRunner.{PlatformRunner}
@@ -13,7 +13,6 @@ use Rattle.run_capture.specs.Output.{uncaptured}
 use Rattle.run_capture.specs.declared.test_output.CaptureStrategy.{CaptureStrategy}
 use Rattle.run_capture.specs.declared.test_output.CaptureStrategy.TheVariants as strategies
 use Rattle.run_capture.specs.Captured.{begun}
-use Rattle.run_clock.specs.Stopwatch.{started_at}
 use Rattle.run_events.specs.Usual.{usual_slow, usual_leak, no_retries}
 use Rattle.run_events.specs.declared.settings.Settings.{Settings}
 use Rattle.run_events.specs.declared.result.FlakyResult.{FlakyResult}
@@ -25,6 +24,7 @@ use Rattle.run_events.specs.declared.plan.PlanScript.{PlanScript}
 use Rattle.run_events.specs.declared.plan.PlanTest.{PlanTest}
 use Rattle.run_events.specs.declared.plan.GroupSlot.{GroupSlot}
 use Rattle.run_events.specs.declared.plan.TestSlotAssignment.{TestSlotAssignment}
+use Rattle.run_events.specs.declared.request.TerminateReason.TheVariants.{Timeout}
 use Rattle.run_events.specs.declared.message.Message.{Message}
 use Rattle.run_events.specs.declared.message.Message.TheVariants.{ScriptStart, Start, Skip}
 use Rattle.run_admission.specs.declared.seat.Seat.{Seat}
@@ -42,6 +42,7 @@ use Rattle.run_model.specs.declared.unit_view.UnitRole.{UnitRole}
 use Rattle.run_model.specs.declared.unit_view.UnitRole.TheVariants as roles
 use Rattle.run_model.specs.declared.unit_view.UnitView.{UnitView}
 use Rattle.run_model.specs.Backoff.{retry_count}
+use Rattle.run_model.specs.Pauses.{timers_from}
 use Rattle.run_model.specs.Environment.{Variable, test_start, script_start}
 
 -- whether a phase is the last one
@@ -114,6 +115,7 @@ terms_of p test = record {
   skips_leak_detection = skips_leak_detection p.interceptor;
   reads_env = false;
   retries = retries_of p test;
+  stops = sends_sigtstp p.interceptor;
 }
 
 abbrev pub terms_if : Settings → Option PlanTest → AttemptTerms
@@ -125,6 +127,7 @@ terms_if p None = record {
   skips_leak_detection = skips_leak_detection p.interceptor;
   reads_env = false;
   retries = no_retries;
+  stops = sends_sigtstp p.interceptor;
 }
 terms_if p (Some test) = terms_of p test
 
@@ -141,6 +144,7 @@ script_terms p script = record {
   skips_leak_detection = false;
   reads_env = true;
   retries = no_retries;
+  stops = sends_sigtstp p.interceptor;
 }
 
 abbrev pub script_terms_if : Settings → Option PlanScript → AttemptTerms
@@ -207,11 +211,14 @@ begun_view role command around terms = record {
   phase = StartSent;
   attempt = 1;
   delay = 0;
-  timers = record { stopwatch = started_at 0; slow = None; wait = None; slow_count = 0 };
+  timers = timers_from 0;
+  pid = 0;
+  ending = Timeout;
   line = [];
   latest = 0;
   capture = begun uncaptured;
   exit = None;
+  exit_result = None;
   leaked = false;
   env = Unread;
   statuses = [];

@@ -3,7 +3,7 @@
 use Rattle.std.specs.Prelude.{ℕ, ◌+◌, List, [], ◌∷◌, ◌++◌, length, Bool, true, false, not, ◌&&◌, ◌||◌, nat_lt, nat_le}
 use Rattle.std.specs.Prelude.{if◌then◌else◌, Option, Some, None, option_to_list, is_some, unwrap_or}
 use Rattle.std.specs.Option.{option_or}
-use Rattle.run_clock.specs.Counted.{Timer, counted_time, is_due as is_timer_due}
+use Rattle.run_clock.specs.Counted.{Mark, Timer, resume, mark_of, counted_time, is_due as is_timer_due}
 use Rattle.run_capture.specs.Heard.{is_stream}
 use Rattle.run_capture.specs.Captured.{read_error}
 use Rattle.run_capture.specs.declared.test_output.Stream.{Stream}
@@ -37,7 +37,7 @@ use Rattle.run_model.specs.Env.{env_of}
 use Rattle.run_model.specs.Environment.{attempts_by}
 use Rattle.run_model.specs.Story.{OwnTurn, Attempt, cut, story_of, pieces, begins_attempt, decides, first_said, any_is}
 use Rattle.run_model.specs.Timing.{ends_wait, is_due_turn, slow_count, has_timed_out, has_leaked, timer_of}
-use Rattle.run_model.specs.Timing.{is_timer_due_at}
+use Rattle.run_model.specs.Timing.{is_timer_due_at, pause_at, pauses_in}
 use Rattle.run_model.specs.Admission.{unit_terms}
 
 -- when an attempt began
@@ -158,9 +158,16 @@ end_of terms [] = None
 end_of terms (t ∷ before) =
     option_or (end_of terms before) (if has_ended terms (t ∷ before) then Some t.moment else None)
 
--- how long it took: the counted time from its start to its end, in which there is no pause yet
+-- its pauses: from where a stop is taken until a continue is, or until its child is done with
+abbrev pub attempt_pauses : AttemptTerms → List OwnTurn → List Mark
+attempt_pauses terms [] = []
+attempt_pauses terms (t ∷ before) =
+    (if is_settled terms (t ∷ before) then mark_of resume t.moment ∷ [] else pause_at t.moment t.request)
+    ++ attempt_pauses terms before
+
+-- how long it took: the counted time from its start to its end
 abbrev pub time_of : AttemptTerms → List OwnTurn → ℕ
-time_of terms piece = counted_time (start_of piece) [] (unwrap_or (end_of terms piece) 0)
+time_of terms piece = counted_time (start_of piece) (attempt_pauses terms piece) (unwrap_or (end_of terms piece) 0)
 
 -- what came of its child
 abbrev pub output_by : Option (List ℕ) → ChildOutput → List ChildFdError → ChildExecutionOutput
@@ -238,7 +245,7 @@ abbrev pub delay_timer : RetryPolicy → List OwnTurn → List Attempt → Timer
 delay_timer retries after attempts = record {
   set = decided_at after;
   duration = delay_after retries attempts;
-  past = [];
+  past = pauses_in after;
 }
 
 -- whether the timer of an attempt is due at a moment, whose child isn't done with, or after which a delay passes: it has

@@ -1,10 +1,12 @@
 -- The board: what a turn may read of a run, and what a deed does to it.
-use Rattle.std.specs.Prelude.{ℕ, ◌+◌, ◌||◌, ◌&&◌, not, List, ◌++◌, map, drop, Bool, if◌then◌else◌, Option, Some, None}
+use Rattle.std.specs.Prelude.{ℕ, ◌+◌, ◌||◌, ◌&&◌, not, List, [], ◌++◌, map, filter_map, drop, Bool, if◌then◌else◌}
+use Rattle.std.specs.Prelude.{Option, Some, None}
 use Rattle.std.specs.Prelude.{option_map, option_to_list, is_some, slice_index_or, slice_set}
 use Rattle.std.specs.List.{list_any}
 use Rattle.run_events.specs.Cancel.{greater}
 use Rattle.run_events.specs.declared.request.Request.{Request}
 use Rattle.run_events.specs.declared.settings.Settings.{Settings}
+use Rattle.run_events.specs.declared.info.InfoResponse.{InfoResponse}
 use Rattle.run_events.specs.declared.message.Message.{Message}
 use Rattle.run_events.specs.declared.ask.Ask.{Ask}
 use Rattle.run_events.specs.declared.cancel.CancelReason.{CancelReason}
@@ -14,6 +16,7 @@ use Rattle.run_model.specs.declared.entry.Entry.{Entry}
 use Rattle.run_model.specs.declared.dispatcher_view.CancelRules.{CancelRules}
 use Rattle.run_model.specs.declared.dispatcher_view.Causes.{Causes}
 use Rattle.run_model.specs.declared.dispatcher_view.DispatcherView.{DispatcherView}
+use Rattle.run_model.specs.declared.dispatcher_view.Rounds.{Rounds}
 use Rattle.run_model.specs.declared.dispatcher_view.Tally.{Tally}
 use Rattle.run_model.specs.declared.happening.Happening.{Happening}
 use Rattle.run_model.specs.declared.happening.UnitPart.{UnitPart}
@@ -23,13 +26,16 @@ use Rattle.run_model.specs.Environment.{number}
 use Rattle.run_model.specs.Unit.{row, reached}
 use Rattle.run_model.specs.Words.{clock, ns_of, is_on, is_over, sub_run, heard, queue, units, tally, was_refused, armed}
 use Rattle.run_model.specs.Words.{is_by_signal, is_by_report, is_by_time, causes_of}
+use Rattle.run_model.specs.Rounds.{act_of, asked_by, of_told, tells_answer, moves_time, global_act, watch_after, timer_after}
+use Rattle.run_model.specs.Rounds.{run_watch, opens_round, closes_round, rounds_of, answer_of, answers_waiting}
 use Rattle.run_model.specs.Dispatch.{head_of, rules_of, having_told}
 
--- what a turn may read: the units, the messages that wait, the dispatcher, the clock, and whether the reporter refused
--- an event
+-- what a turn may read: the units, the messages and the answers that wait, the dispatcher, the clock, and whether the
+-- reporter refused an event
 pub record Board : Type 0 where
   pub units : List (Option UnitView)
   pub queue : List Message
+  pub answers : List InfoResponse
   pub dispatcher : DispatcherView
   pub clock : ℕ
   pub refused : Bool
@@ -43,6 +49,8 @@ dispatcher_of p past = record {
   over = is_over past;
   causes = causes_of p (sub_run past);
   tally = tally p (sub_run past);
+  watch = run_watch past;
+  rounds = rounds_of past;
   latest = heard (sub_run past);
 }
 
@@ -50,6 +58,7 @@ abbrev pub board : Settings → List Happening → Board
 board p past = record {
   units = units p (sub_run past);
   queue = queue (sub_run past);
+  answers = answers_waiting past;
   dispatcher = dispatcher_of p past;
   clock = clock past;
   refused = was_refused past;
@@ -63,12 +72,14 @@ unit_in b k = slice_index_or b.units k None
 pub record Deed : Type 0 where
   pub part : Option UnitPart
   pub sent : Option Message
+  pub info : List (ℕ × InfoResponse)
   pub taken : Bool
   pub told : Option ReporterEvent
   pub cancel : Option ReporterEvent
   pub asked : Option Ask
   pub cause : Option CancelReason
   pub request : Option Request
+  pub stops : Bool
   pub begins : Bool
   pub ends : Bool
   pub over : Bool
@@ -81,12 +92,14 @@ said now e d = record {
   moment = now;
   part = d.part;
   sent = d.sent;
+  info = d.info;
   taken = d.taken;
   told = d.told;
   cancel = d.cancel;
   asked = d.asked;
   cause = d.cause;
   request = d.request;
+  stops = d.stops;
   begins = d.begins;
   ends = d.ends;
   over = d.over;
@@ -116,12 +129,34 @@ causes_after now rules c deed = record {
   global =
       if deed.begins then armed now rules.global_timeout
       else if is_by_time deed.cause then None
-      else c.global;
+      else timer_after now (global_act deed.stops deed.told) c.global;
 }
 
 -- the counts with the reason of a cause, where it is above the one that they have
 abbrev pub with_cause : Option CancelReason → Tally → Tally
 with_cause cause t = record t { stats = record t.stats { cancel_reason = greater t.stats.cancel_reason cause } }
+
+-- the rounds with a new one that a deed opens at a moment, and after any deed
+abbrev pub round_from : ℕ → Rounds → Deed → Rounds
+round_from now r deed = record {
+  count = r.count + 1;
+  asks = deed.request;
+  since = now;
+  total = of_told asked_by 0 deed.told;
+  told = 0;
+}
+
+abbrev pub rounds_after : ℕ → Rounds → Deed → Rounds
+rounds_after now r deed =
+    if opens_round deed.request then round_from now r deed
+    else if closes_round deed.stops deed.told then record r { asks = None }
+    else if tells_answer deed.told then record r { since = now; told = r.told + 1 }
+    else r
+
+-- whether a deed is one that the dispatcher notes the moment of
+abbrev pub is_noted : Deed → Bool
+is_noted deed =
+    deed.begins || deed.ends || deed.taken || is_some deed.cause || moves_time deed.stops deed.told
 
 -- the dispatcher after a deed at a moment
 abbrev pub dispatched : ℕ → DispatcherView → Deed → DispatcherView
@@ -130,14 +165,23 @@ dispatched now d deed = record d {
   over = deed.over || d.over;
   causes = causes_after now d.rules d.causes deed;
   tally = with_cause deed.cause (having_told (having_told d.tally deed.told) deed.cancel);
-  latest = if deed.begins || deed.ends || deed.taken || is_some deed.cause then now else d.latest;
+  watch = watch_after now (act_of deed.told) d.watch;
+  rounds = rounds_after now d.rounds deed;
+  latest = if is_noted deed then now else d.latest;
 }
+
+-- the answers that wait after a deed, of a round that asks this: with a new round, and where one closes, none do
+abbrev pub answers_after : Option Request → Deed → List InfoResponse → List InfoResponse
+answers_after asks deed waiting =
+    if opens_round deed.request || closes_round deed.stops deed.told then []
+    else drop (if tells_answer deed.told then 1 else 0) waiting ++ filter_map (answer_of asks) deed.info
 
 -- the board after a deed
 abbrev pub moved : Board → Deed → Board
 moved b d = record {
   units = reach_all d.request (units_after b.clock d.part b.units);
   queue = drop (if d.taken then 1 else 0) b.queue ++ option_to_list d.sent;
+  answers = answers_after b.dispatcher.rounds.asks d b.answers;
   dispatcher = dispatched b.clock b.dispatcher d;
   clock = b.clock;
   refused = b.refused;

@@ -23,7 +23,7 @@ use Rattle.run_events.specs.declared.signal.Signal.TheVariants.{Int, Hup, Quit}
 use Rattle.run_events.specs.declared.stats.RunStats.{RunStats}
 use Rattle.run_model.specs.declared.dispatcher_view.Tally.{Tally}
 use Rattle.run_model.specs.declared.dispatcher_view.CancelRules.{CancelRules}
-use Rattle.run_model.specs.Dispatch.{event}
+use Rattle.run_model.specs.Dispatch.{Moment, event}
 use Rattle.run_model.specs.Board.{Deed}
 
 -- a cause: its reason, and what is asked for it of each live unit
@@ -95,15 +95,15 @@ cancel_event reasons.SecondSignal t =
 cancel_event reason t =
     RunBeginCancel (record { running = t.running; scripts_running = t.scripts_running; stats = t.stats })
 
--- what a deed does with a cause, by the counts after all else that it does: a cause whose reason isn't above the current
+-- what a deed does with a cause at a moment, by the counts after all else that it does: a cause whose reason isn't above the current
 -- one does nothing
-abbrev pub caused : ℕ → Tally → Option Cause → Deed → Deed
-caused now t None d = d
-caused now t (Some cause) d = record d {
+abbrev pub caused : Moment → Tally → Option Cause → Deed → Deed
+caused moment t None d = d
+caused moment t (Some cause) d = record d {
   cause = Some cause.reason;
   cancel =
       if is_above t.stats.cancel_reason cause.reason
-      then Some (event now (cancel_event cause.reason (cancelled_for cause.reason t)))
+      then Some (event moment (cancel_event cause.reason (cancelled_for cause.reason t)))
       else None;
   request = if is_above t.stats.cancel_reason cause.reason then Some cause.request else None;
 }

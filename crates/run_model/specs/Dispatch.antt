@@ -1,12 +1,13 @@
 -- The dispatcher's table: which turns it takes, what each tells, and what it leaves.
+use Rattle.std.specs.Prelude.{⊤, ℕ, ◌≡◌, ◌+◌, ◌-◌, ◌<◌, ◌^◌, nat_lt, nat_le, length, Bool, true, false, ◌&&◌, ◌||◌, not}
+use Rattle.std.specs.Prelude.{if◌then◌else◌, Option, Some, None, is_none, is_some}
 use Rattle.run_clock.specs.Sleep.{fires_now}
-use Rattle.std.specs.Prelude.{⊤, ℕ, ◌≡◌, ◌+◌, ◌-◌, ◌<◌, ◌^◌, nat_lt, length, Bool, true, false, ◌&&◌, not, if◌then◌else◌, Option}
-use Rattle.std.specs.Prelude.{Some, None, is_none}
+use Rattle.run_clock.specs.Stopwatch.{Watch, started_at, active_by}
 use Rattle.run_events.specs.Stats.{AreBelow, plus}
 use Rattle.run_events.specs.declared.settings.Settings.{Settings}
 use Rattle.run_events.specs.declared.turn.Turn.{Turn}
-use Rattle.run_events.specs.declared.turn.Turn.TheVariants.{Begin, Deliver, GlobalDue, ReportCancel, End}
-use Rattle.run_events.specs.declared.turn.Turn.TheVariants.{Signal as SignalCame}
+use Rattle.run_events.specs.declared.turn.Turn.TheVariants.{Begin, Deliver, GlobalDue, StopWaitDue, InfoDue, Answer, Tick}
+use Rattle.run_events.specs.declared.turn.Turn.TheVariants.{ReportCancel, End, Signal as SignalCame, Key as KeyCame}
 use Rattle.run_events.specs.declared.message.Message.{Message}
 use Rattle.run_events.specs.declared.message.Message.TheVariants.{ScriptStart, ScriptSlow, ScriptFinish, Start, Slow}
 use Rattle.run_events.specs.declared.message.Message.TheVariants.{AttemptFailed, Retry, Skip, Finish}
@@ -24,8 +25,10 @@ use Rattle.run_events.specs.declared.events.TestEventKind.TheVariants.{TestSkipp
 use Rattle.run_events.specs.declared.events.TestEventKind.TheVariants.{TestRetryStarted}
 use Rattle.run_model.specs.declared.dispatcher_view.CancelRules.{CancelRules}
 use Rattle.run_model.specs.declared.dispatcher_view.DispatcherView.{DispatcherView}
-use Rattle.run_events.specs.Hearing.{heard_signal}
+use Rattle.run_events.specs.Hearing.{heard_signal, heard_key}
 use Rattle.run_events.specs.declared.plan.Hearing.{Hearing}
+use Rattle.run_events.specs.declared.request.Request.{Request}
+use Rattle.run_events.specs.declared.request.Request.TheVariants.{Stop, GetInfo}
 use Rattle.run_events.specs.declared.signal.Heard.{Heard}
 use Rattle.run_events.specs.declared.signal.Heard.TheVariants.{Shutdown}
 use Rattle.run_events.specs.declared.signal.Signal.{Signal}
@@ -61,37 +64,82 @@ unbegun p = record {
   over = false;
   causes = record { signals = 0; reported = false; global = None };
   tally = record { running = 0; scripts_running = 0; stats = initial_stats p };
+  watch = started_at 0;
+  rounds = record { count = 0; asks = None; since = 0; total = 0; told = 0 };
   latest = 0;
 }
 
--- whether a signal shuts a run with these handlers down
+-- what a signal is to a run with these handlers, and whether it shuts it down
 abbrev pub is_shutdown : Option Heard → Bool
 is_shutdown (Some Shutdown) = true
 is_shutdown _ = false
 
-abbrev pub shuts_down : Hearing → Signal → Bool
-shuts_down hearing signal = is_shutdown (heard_signal hearing.signals hearing.quit_is_info signal)
+abbrev pub heard_by : Hearing → Signal → Option Heard
+heard_by hearing signal = heard_signal hearing.signals hearing.quit_is_info signal
 
--- the dispatcher's part of the table of turns, at a moment: false for the turns that aren't its own. Two shutdown signals
--- are taken, and one report of a refused event
+abbrev pub shuts_down : Hearing → Signal → Bool
+shuts_down hearing signal = is_shutdown (heard_by hearing signal)
+
+-- whether a sub-run is on and no round is open; whether one of stops is, or one of queries
+abbrev pub is_main : DispatcherView → Bool
+is_main d = d.on && is_none d.rounds.asks
+
+abbrev pub stop_waits : Option Request → Bool
+stop_waits (Some (Stop round)) = true
+stop_waits request = false
+
+abbrev pub query_waits : Option Request → Bool
+query_waits (Some (GetInfo round)) = true
+query_waits request = false
+
+-- a round waits for units for 100 ms, from where it began or told its latest answer
+abbrev pub is_overdue : DispatcherView → ℕ → Bool
+is_overdue d now = nat_le (d.rounds.since + 100000000) now
+
+-- whether the run is paused
+abbrev pub is_halted : DispatcherView → Bool
+is_halted d = is_some d.watch.opened
+
+-- which signals are taken: two that shut the run down, and any other that is heard
+abbrev pub takes_signal : ℕ → Option Heard → Bool
+takes_signal before (Some Shutdown) = nat_lt before 2
+takes_signal before (Some heard) = true
+takes_signal before None = false
+
+-- the dispatcher's part of the table of turns, at a moment: false for the turns that aren't its own. One report of a
+-- refused event is taken, and a run that is paused doesn't end
 abbrev pub dispatch_takes : DispatcherView → Facts → ℕ → Turn → Bool
 dispatch_takes d facts now Begin = not d.on && not d.over
-dispatch_takes d facts now Deliver = d.on && facts.message_waits
-dispatch_takes d facts now (SignalCame signal) = d.on && shuts_down d.rules.hearing signal && nat_lt d.causes.signals 2
-dispatch_takes d facts now GlobalDue = d.on && fires_now now d.causes.global
-dispatch_takes d facts now ReportCancel = d.on && facts.refused && not d.causes.reported
-dispatch_takes d facts now End = d.on && facts.complete
+dispatch_takes d facts now Deliver = is_main d && facts.message_waits
+dispatch_takes d facts now (SignalCame signal) = is_main d && takes_signal d.causes.signals (heard_by d.rules.hearing signal)
+dispatch_takes d facts now (KeyCame key) = is_main d && is_some (heard_key d.rules.hearing.input key)
+dispatch_takes d facts now Tick = is_main d
+dispatch_takes d facts now GlobalDue = is_main d && fires_now now d.causes.global
+dispatch_takes d facts now StopWaitDue = d.on && stop_waits d.rounds.asks && (not facts.held || is_overdue d now)
+dispatch_takes d facts now InfoDue =
+    d.on && query_waits d.rounds.asks && (not (facts.answer_waits || facts.held) || is_overdue d now)
+dispatch_takes d facts now Answer = d.on && query_waits d.rounds.asks && facts.answer_waits
+dispatch_takes d facts now ReportCancel = is_main d && facts.refused && not d.causes.reported
+dispatch_takes d facts now End = is_main d && facts.complete && not (is_halted d)
 dispatch_takes d facts now _ = false
 
 -- a shutdown signal that would be taken, but that two came before it
 abbrev pub is_third : DispatcherView → Turn → Bool
 is_third d (SignalCame signal) =
-    not d.over && d.on && shuts_down d.rules.hearing signal && not (nat_lt d.causes.signals 2)
+    not d.over && is_main d && shuts_down d.rules.hearing signal && not (nat_lt d.causes.signals 2)
 is_third d _ = false
 
--- an event at a moment of a run that has never paused
-abbrev pub event : ℕ → TestEventKind → ReporterEvent
-event now kind = Test (record { clock = now; elapsed = now; kind = kind })
+-- a moment of a run: by its clock, and by its active time; and that of a run with this stopwatch
+pub record Moment : Type 0 where
+  pub clock : ℕ
+  pub elapsed : ℕ
+
+abbrev pub moment_by : ℕ → Watch → Moment
+moment_by now watch = record { clock = now; elapsed = active_by watch now }
+
+-- an event at a moment
+abbrev pub event : Moment → TestEventKind → ReporterEvent
+event moment kind = Test (record { clock = moment.clock; elapsed = moment.elapsed; kind = kind })
 
 -- a unit is let go where nothing cancels the run
 abbrev pub may_go : Tally → Bool

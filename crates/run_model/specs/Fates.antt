@@ -9,7 +9,7 @@ use Rattle.run_model.specs.declared.happening.Happening.{Happening}
 use Rattle.run_model.specs.Admission.{units_in, unit_terms}
 use Rattle.run_model.specs.Attempts.{none_goes_on, retries_in, pieces_of, statuses_of}
 use Rattle.run_model.specs.Story.{stopped_at}
-use Rattle.run_model.specs.Unit.{last_status}
+use Rattle.run_model.specs.Ending.{last_status}
 use Rattle.run_model.specs.Words.{told}
 use Rattle.run_model.specs.Accounts.{News, started, failed, finished, skipped, tried, account_of, is_mismatched}
 

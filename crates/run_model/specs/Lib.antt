@@ -3,7 +3,15 @@ pub mod Slow
 pub mod Env
 pub mod Environment
 pub mod Terminate
+pub mod Pauses
+pub mod Ending
+pub mod Row
+pub mod Info
+pub mod Retries
+pub mod Requests
 pub mod Unit
+pub mod Same
+pub mod Rounds
 pub mod Words
 pub mod Admission
 pub mod Dispatch

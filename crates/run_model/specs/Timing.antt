@@ -1,11 +1,11 @@
 -- The timing of an attempt by its own turns alone: how often it was slow, whether it ran out of time, when its child was
--- given time to end by itself, whether it leaked, and which timer it waits for. No pause exists yet.
-use Rattle.std.specs.Prelude.{ℕ, ◌==◌, List, [], ◌∷◌, Bool, true, false, not, ◌&&◌, ◌||◌, if◌then◌else◌, Option, Some}
+-- given time to end by itself, whether it leaked, when it was paused, and which timer it waits for.
+use Rattle.std.specs.Prelude.{ℕ, ◌==◌, List, [], ◌∷◌, ◌++◌, Bool, true, false, not, ◌&&◌, ◌||◌, if◌then◌else◌, Option, Some}
 use Rattle.std.specs.Prelude.{None, is_some}
-use Rattle.run_clock.specs.Counted.{Timer, is_due as is_timer_due}
+use Rattle.run_clock.specs.Counted.{Mark, Timer, pause, resume, mark_of, is_paused, is_due as is_timer_due}
 use Rattle.run_events.specs.declared.plan.SlowTimeout.{SlowTimeout}
 use Rattle.run_events.specs.declared.request.Request.{Request}
-use Rattle.run_events.specs.declared.request.Request.TheVariants.{Shutdown}
+use Rattle.run_events.specs.declared.request.Request.TheVariants.{Stop, Continue, Shutdown}
 use Rattle.run_events.specs.declared.request.TermSignal.{TermSignal}
 use Rattle.run_events.specs.declared.request.TermSignal.TheVariants.{Kill}
 use Rattle.run_events.specs.declared.request.TerminateReason.TheVariants.{Signal}
@@ -108,9 +108,40 @@ has_leaked piece = any_after ends_leak piece
 abbrev pub sets_slow : SlowTimeout → OwnTurn → List OwnTurn → Bool
 sets_slow slow t before = starts_child t.turn || is_slow_turn slow t before
 
--- a timer of this duration, set at the newest of these turns
+-- a stop that is taken is a pause from its moment on, and a continue that is taken a resume; and those of some turns
+abbrev pub pause_at : ℕ → Option Request → List Mark
+pause_at now (Some (Stop round)) = mark_of pause now ∷ []
+pause_at now (Some Continue) = mark_of resume now ∷ []
+pause_at now request = []
+
+abbrev pub pauses_in : List OwnTurn → List Mark
+pauses_in [] = []
+pauses_in (t ∷ before) = pause_at t.moment t.request ++ pauses_in before
+
+-- those of the turns after the newest of these
+abbrev pub pauses_since : (OwnTurn → List OwnTurn → Bool) → List OwnTurn → List Mark
+pauses_since sets [] = []
+pauses_since sets (t ∷ before) =
+    if sets t before then [] else pause_at t.moment t.request ++ pauses_since sets before
+
+-- a timer of this duration, set at the newest of these turns: pauses that opened before that aren't its own
 abbrev pub timer_since : (OwnTurn → List OwnTurn → Bool) → ℕ → List OwnTurn → Timer
-timer_since sets duration piece = record { set = newest_after sets piece; duration = duration; past = [] }
+timer_since sets duration piece =
+    record { set = newest_after sets piece; duration = duration; past = pauses_since sets piece }
+
+-- the pause that was open where the wait for its child was over: it goes on from there
+abbrev pub pause_left : List OwnTurn → List Mark
+pause_left [] = []
+pause_left (t ∷ before) =
+    if ends_wait t.turn
+    then (if is_paused (pauses_in before) then mark_of pause t.moment ∷ [] else [])
+    else pause_left before
+
+-- the timer until the streams of its ended child are waited for no more
+abbrev pub leak_timer : ℕ → List OwnTurn → Timer
+leak_timer period piece = record (timer_since (λ t before. ends_wait t.turn) period piece) {
+  past = pauses_since (λ t before. ends_wait t.turn) piece ++ pause_left piece;
+}
 
 -- the timer until an attempt is slow, from where its child started: none once it has run out of time, and none where
 -- slow timers are off
@@ -124,7 +155,7 @@ slow_timer terms piece =
 -- time to end by itself is over, where it is given some; and else until it is slow
 abbrev pub timer_of : AttemptTerms → List OwnTurn → Option Timer
 timer_of terms piece =
-    if any_is ends_wait piece then Some (timer_since (λ t before. ends_wait t.turn) terms.leak.period piece)
+    if any_is ends_wait piece then Some (leak_timer terms.leak.period piece)
     else if (standing terms.slow piece).in_grace
     then Some (timer_since (begins_grace terms.slow) terms.slow.grace piece)
     else slow_timer terms piece

@@ -1,17 +1,33 @@
 -- The tables of turns: which turn is enabled on a board, and what it does.
-use Rattle.std.specs.Prelude.{ℕ, ◌+◌, ◌^◌, nat_lt, List, [], ◌∷◌, Bool, true, false, ◌&&◌, not, Option, Some, None, is_some, option_map}
-use Rattle.std.specs.Prelude.{option_and_then}
-use Rattle.std.specs.List.{list_all}
+use Rattle.std.specs.Prelude.{ℕ, ◌+◌, ◌-◌, ◌^◌, nat_lt, List, [], ◌∷◌, count_by, Bool, true, false, ◌&&◌, not, Option, Some, None}
+use Rattle.std.specs.Prelude.{is_some, option_map, option_and_then, unwrap_or, if◌then◌else◌}
+use Rattle.std.specs.List.{list_all, list_any}
 use Rattle.run_events.specs.declared.settings.Settings.{Settings}
 use Rattle.run_events.specs.declared.turn.Turn.{Turn}
 use Rattle.run_events.specs.declared.turn.Turn.TheVariants.{Begin, Admit, Deliver, Started, StartFailed, Exit}
 use Rattle.run_events.specs.declared.turn.Turn.TheVariants.{WaitFailed, Piece, StreamEnd, ReadError, Env, Decide, Clock}
-use Rattle.run_events.specs.declared.turn.Turn.TheVariants.{End}
-use Rattle.run_events.specs.declared.turn.Turn.TheVariants.{UnitDue as TurnDue, Take, GlobalDue, Signal, ReportCancel}
+use Rattle.run_events.specs.declared.turn.Turn.TheVariants.{End, UnitDue as TurnDue, Take, GlobalDue, Signal, ReportCancel}
+use Rattle.run_events.specs.declared.turn.Turn.TheVariants.{StopWaitDue, InfoDue, Answer, Key as TurnKey, Tick as TurnTick}
+use Rattle.run_events.specs.Hearing.{heard_key}
+use Rattle.run_events.specs.declared.ask.Ask.TheVariants.{StopSelf}
+use Rattle.run_events.specs.declared.info.InfoResponse.{InfoResponse}
+use Rattle.run_events.specs.declared.input.InputEvent.{InputEvent}
+use Rattle.run_events.specs.declared.input.InputEvent.TheVariants as inputs
+use Rattle.run_events.specs.declared.input.Key.{Key}
+use Rattle.run_events.specs.declared.request.Request.{Request}
+use Rattle.run_events.specs.declared.request.Request.TheVariants.{Stop, Continue, GetInfo}
+use Rattle.run_events.specs.declared.signal.Heard.{Heard}
+use Rattle.run_events.specs.declared.signal.Heard.TheVariants.{Shutdown, JobControl, Info}
+use Rattle.run_events.specs.declared.signal.Signal.{Signal as SignalKind}
+use Rattle.run_events.specs.declared.signal.Signal.TheVariants.{Tstp}
 use Rattle.run_events.specs.declared.message.Message.{Message}
 use Rattle.run_events.specs.declared.message.Message.TheVariants.{ScriptStart, Start, Retry}
 use Rattle.run_events.specs.declared.events.TestEventKind.{TestEventKind}
-use Rattle.run_events.specs.declared.events.TestEventKind.TheVariants.{RunStarted, RunFinished}
+use Rattle.run_events.specs.declared.events.JobControlled.{JobControlled}
+use Rattle.run_events.specs.declared.events.ReporterEvent.TheVariants.{Tick}
+use Rattle.run_events.specs.declared.events.TestEventKind.TheVariants.{RunStarted, RunFinished, RunPaused, RunContinued}
+use Rattle.run_events.specs.declared.events.TestEventKind.TheVariants.{InfoStarted, InfoResponse as InfoAnswer, InfoFinished}
+use Rattle.run_events.specs.declared.events.TestEventKind.TheVariants.{InputEnter}
 use Rattle.run_events.specs.declared.events.RunFinishedStats.TheVariants.{Single}
 use Rattle.run_events.specs.declared.stats.RunStats.{RunStats}
 use Rattle.run_model.specs.declared.dispatcher_view.DispatcherView.{DispatcherView}
@@ -29,7 +45,9 @@ use Rattle.run_model.specs.declared.unit_turn.UnitTurn.TheVariants.{Take as Unit
 use Rattle.run_model.specs.declared.unit_view.UnitView.{UnitView}
 use Rattle.run_model.specs.Unit.{row, takes}
 use Rattle.run_model.specs.Admission.{is_done, Newcomer, newcomer}
-use Rattle.run_model.specs.Dispatch.{dispatch_takes, event, having_told, told_of, go_of, is_third}
+use Rattle.run_model.specs.Dispatch.{dispatch_takes, moment_by, event, having_told, told_of, go_of, is_third, heard_by, is_halted}
+use Rattle.run_model.specs.Same.{is_request}
+use Rattle.run_model.specs.Story.{is_live_unit}
 use Rattle.run_model.specs.Cancel.{Cause, time_is_up, event_refused, signal_cause, cause_of, caused}
 use Rattle.run_events.specs.declared.events.ReporterEvent.{ReporterEvent}
 use Rattle.run_model.specs.declared.dispatcher_view.Tally.{Tally}
@@ -61,13 +79,38 @@ abbrev pub is_empty : List Message → Bool
 is_empty [] = true
 is_empty _ = false
 
+-- the answer that waits for longest
+abbrev pub oldest_of : List InfoResponse → Option InfoResponse
+oldest_of [] = None
+oldest_of (answer ∷ rest) = Some answer
+
 -- each message was delivered, and each script and test was admitted and is over
 abbrev pub is_complete : Board → Bool
 is_complete b = is_empty b.queue && list_all is_done b.units
 
+-- how many units are live
+abbrev pub live_in : List (Option UnitView) → ℕ
+live_in us = count_by is_live_unit us
+
+-- whether a unit has this request in its line, and whether one of some has what the open round asks
+abbrev pub holds : Request → Option UnitView → Bool
+holds request None = false
+holds request (Some u) = list_any (is_request request) u.line
+
+abbrev pub is_held : Option Request → List (Option UnitView) → Bool
+is_held None us = false
+is_held (Some request) us = list_any (holds request) us
+
 -- what the dispatcher asks of the rest of the run
 abbrev pub facts : Board → Facts
-facts b = record { message_waits = not (is_empty b.queue); complete = is_complete b; refused = b.refused }
+facts b = record {
+  live = live_in b.units;
+  held = is_held b.dispatcher.rounds.asks b.units;
+  answer_waits = is_some (oldest_of b.answers);
+  message_waits = not (is_empty b.queue);
+  complete = is_complete b;
+  refused = b.refused;
+}
 
 -- which turns of the run's own are enabled where it isn't over; the clock moves while it fits in a u64
 abbrev pub run_takes : Settings → Board → Turn → Bool
@@ -89,12 +132,14 @@ abbrev pub nothing_done : Deed
 nothing_done = record {
   part = None;
   sent = None;
+  info = [];
   taken = false;
   told = None;
   cancel = None;
   asked = None;
   cause = None;
   request = None;
+  stops = false;
   begins = false;
   ends = false;
   over = false;
@@ -106,6 +151,7 @@ taken_by now k turn u = record nothing_done {
   part = option_map (λ v. Acts k turn) u;
   sent = option_and_then (λ v. (row now turn v).sent) u;
   asked = option_and_then (λ v. (row now turn v).asked) u;
+  info = unwrap_or (option_map (λ v. (row now turn v).info) u) [];
 }
 
 -- an admission makes a unit and sends its message
@@ -127,7 +173,7 @@ answer_to b _ _ = nothing_done
 
 -- the event that a message tells at a moment, and the counts after it
 abbrev pub told_by : ℕ → DispatcherView → Message → Option ReporterEvent
-told_by now d m = option_map (event now) (told_of d.tally m)
+told_by now d m = option_map (event (moment_by now d.watch)) (told_of d.tally m)
 
 abbrev pub tally_by : ℕ → DispatcherView → Message → Tally
 tally_by now d m = having_told d.tally (told_by now d m)
@@ -137,17 +183,19 @@ abbrev pub hears : ℕ → DispatcherView → Message → Deed → Deed
 hears now d m answer = record nothing_done {
   part = answer.part;
   sent = answer.sent;
+  info = answer.info;
   taken = true;
   told = told_by now d m;
   asked = answer.asked;
 }
 
 abbrev pub delivers : ℕ → DispatcherView → Message → Deed → Deed
-delivers now d m answer = caused now (tally_by now d m) (cause_of d.rules (tally_by now d m) m) (hears now d m answer)
+delivers now d m answer =
+    caused (moment_by now d.watch) (tally_by now d m) (cause_of d.rules (tally_by now d m) m) (hears now d m answer)
 
 -- a cause that tells nothing else
 abbrev pub cancels_for : ℕ → DispatcherView → Cause → Deed
-cancels_for now d cause = caused now d.tally (Some cause) nothing_done
+cancels_for now d cause = caused (moment_by now d.watch) d.tally (Some cause) nothing_done
 
 -- the end of a run: it tells the statistics
 abbrev pub finale : RunStats → TestEventKind
@@ -155,10 +203,74 @@ finale stats = RunFinished (record { stats = Single stats; not_seen = None })
 
 -- the begin and the end of a run
 abbrev pub begins_at : ℕ → DispatcherView → Deed
-begins_at now d = record nothing_done { told = Some (event now (RunStarted d.head)); begins = true }
+begins_at now d = record nothing_done { told = Some (event (moment_by now d.watch) (RunStarted d.head)); begins = true }
 
 abbrev pub ends_at : ℕ → DispatcherView → Deed
-ends_at now d = record nothing_done { told = Some (event now (finale d.tally.stats)); ends = true; over = true }
+ends_at now d = record nothing_done { told = Some (event (moment_by now d.watch) (finale d.tally.stats)); ends = true; over = true }
+
+-- a deed that tells an event alone
+abbrev pub tells : ℕ → DispatcherView → TestEventKind → Deed
+tells now d kind = record nothing_done { told = Some (event (moment_by now d.watch) kind) }
+
+-- the run is paused where it isn't, and each live unit asked to stop in a new round; it goes on where it is paused
+abbrev pub job_event : Tally → JobControlled
+job_event t = record { running = t.running; scripts_running = t.scripts_running }
+
+abbrev pub stops_at : ℕ → DispatcherView → Deed
+stops_at now d =
+    if is_halted d then nothing_done
+    else record (tells now d (RunPaused (job_event d.tally))) { request = Some (Stop d.rounds.count) }
+
+abbrev pub continues_at : ℕ → DispatcherView → Deed
+continues_at now d =
+    if is_halted d
+    then record (tells now d (RunContinued (job_event d.tally))) { request = Some Continue }
+    else nothing_done
+
+-- the wait for stopped units is over: the runner stops itself
+abbrev pub stops_itself : Deed
+stops_itself = record nothing_done { asked = Some StopSelf; stops = true }
+
+-- each of so many live units is asked what it is doing, in a new round; an answer of it is told; it is over
+abbrev pub asks_at : ℕ → ℕ → DispatcherView → Deed
+asks_at now live d = record (tells now d (InfoStarted (record {
+  total = live;
+  running = d.tally.running;
+  stats = d.tally.stats;
+}))) { request = Some (GetInfo d.rounds.count) }
+
+abbrev pub answers_at : ℕ → DispatcherView → InfoResponse → Deed
+answers_at now d response =
+    tells now d (InfoAnswer (record { response = response; index = d.rounds.told; total = d.rounds.total }))
+
+abbrev pub informs_at : ℕ → DispatcherView → Deed
+informs_at now d = tells now d (InfoFinished (d.rounds.total - d.rounds.told))
+
+-- what a signal does, by what it is to the run, and a key; and a display that wants to draw anew
+abbrev pub job_deed : ℕ → DispatcherView → SignalKind → Deed
+job_deed now d Tstp = stops_at now d
+job_deed now d signal = continues_at now d
+
+abbrev pub signal_deed : ℕ → ℕ → DispatcherView → SignalKind → Option Heard → Deed
+signal_deed now live d signal (Some Shutdown) = cancels_for now d (signal_cause d.causes.signals signal)
+signal_deed now live d signal (Some JobControl) = job_deed now d signal
+signal_deed now live d signal (Some Info) = asks_at now live d
+signal_deed now live d signal None = nothing_done
+
+abbrev pub signals_at : ℕ → ℕ → DispatcherView → SignalKind → Deed
+signals_at now live d signal = signal_deed now live d signal (heard_by d.rules.hearing signal)
+
+abbrev pub key_deed : ℕ → ℕ → DispatcherView → Option InputEvent → Deed
+key_deed now live d (Some inputs.Enter) =
+    tells now d (InputEnter (record { running = d.tally.running; stats = d.tally.stats }))
+key_deed now live d (Some inputs.Info) = asks_at now live d
+key_deed now live d None = nothing_done
+
+abbrev pub keys_at : ℕ → ℕ → DispatcherView → Key → Deed
+keys_at now live d key = key_deed now live d (heard_key d.rules.hearing.input key)
+
+abbrev pub ticks : Deed
+ticks = record nothing_done { told = Some Tick }
 
 -- the same on a board
 abbrev pub event_of : Board → Message → Option ReporterEvent
@@ -187,12 +299,22 @@ abbrev pub delivery : Board → List Message → Deed
 delivery b [] = nothing_done
 delivery b (m ∷ rest) = delivery_of b m (answer_to b (starting m) (go_of b.dispatcher.tally m))
 
+-- the oldest answer is told
+abbrev pub answered_by : Board → Option InfoResponse → Deed
+answered_by b None = nothing_done
+answered_by b (Some response) = answers_at b.clock b.dispatcher response
+
 -- what a turn of the run's own does; the clock does nothing but move
 abbrev pub run_turn : Settings → Board → Turn → Deed
 run_turn p b Begin = begun b
 run_turn p b Admit = admission (newcomer p b.units)
 run_turn p b Deliver = delivery b b.queue
-run_turn p b (Signal signal) = cancelled b (signal_cause b.dispatcher.causes.signals signal)
+run_turn p b (Signal signal) = signals_at b.clock (live_in b.units) b.dispatcher signal
+run_turn p b (TurnKey key) = keys_at b.clock (live_in b.units) b.dispatcher key
+run_turn p b TurnTick = ticks
+run_turn p b StopWaitDue = stops_itself
+run_turn p b Answer = answered_by b (oldest_of b.answers)
+run_turn p b InfoDue = informs_at b.clock b.dispatcher
 run_turn p b GlobalDue = cancelled b time_is_up
 run_turn p b ReportCancel = cancelled b event_refused
 run_turn p b End = ended b

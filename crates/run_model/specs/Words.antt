@@ -2,6 +2,7 @@
 use Rattle.std.specs.Prelude.{ℕ, ◌+◌, List, [], ◌∷◌, ◌++◌, map, length, drop, Bool, true, false, ◌&&◌, ◌||◌, not, ◌==◌}
 use Rattle.std.specs.Prelude.{if◌then◌else◌, Option, Some, None, option_map, option_to_list, filter_map, count_by, zip, is_some}
 use Rattle.std.specs.List.{range_with_len, list_any}
+use Rattle.run_clock.specs.Counted.{counted_time, is_paused}
 use Rattle.run_clock.specs.Sleep.{Sleep, set_at}
 use Rattle.run_commands.specs.Interceptor.{disables_timeouts}
 use Rattle.run_events.specs.Stats.{FinishedTest, nothing, adds_of, script_adds, total_by, last_or}
@@ -31,6 +32,7 @@ use Rattle.run_model.specs.declared.dispatcher_view.Tally.{Tally}
 use Rattle.run_model.specs.declared.dispatcher_view.Causes.{Causes}
 use Rattle.run_model.specs.Unit.{row, reach}
 use Rattle.run_model.specs.Environment.{number}
+use Rattle.run_model.specs.Rounds.{run_marks, global_act, timer_after, moves_time}
 use Rattle.run_model.specs.Admission.{scripts_in, tests_in, units_in, matched_in}
 
 -- how far a turn moves the clock, in nanoseconds
@@ -43,9 +45,12 @@ abbrev pub clock : List Happening → ℕ
 clock [] = 0
 clock (x ∷ past) = clock past + ns_of x.turn
 
--- the run's active time: no turn pauses it yet
+-- the run's active time: the counted time from its first turn on, and whether a pause of it is open
 abbrev pub elapsed : List Happening → ℕ
-elapsed past = clock past
+elapsed past = counted_time 0 (run_marks past) (clock past)
+
+abbrev pub is_run_paused : List Happening → Bool
+is_run_paused past = is_paused (run_marks past)
 
 -- a run is over where a turn ended it
 abbrev pub is_over : List Happening → Bool
@@ -67,9 +72,9 @@ abbrev pub is_on : List Happening → Bool
 is_on [] = false
 is_on (x ∷ past) = not x.ends && (x.begins || is_on past)
 
--- the moment of the latest turn that the dispatcher heard: a begin, an end, a delivery or a cause
+-- the moment of the latest turn that the dispatcher heard: a begin, an end, a delivery, a cause, a pause or a continue
 abbrev pub is_heard : Happening → Bool
-is_heard x = x.begins || x.ends || x.taken || is_some x.cause
+is_heard x = x.begins || x.ends || x.taken || is_some x.cause || moves_time x.stops x.told
 
 abbrev pub heard : List Happening → ℕ
 heard [] = 0
@@ -148,7 +153,7 @@ was_reported past = list_any (λ x. is_by_report x.cause) past
 abbrev pub time_limit : Settings → Option ℕ
 time_limit p = if disables_timeouts p.interceptor then None else p.plan.global_timeout
 
--- the timer of a sub-run: it is set where that begins, and is gone once it was due
+-- the timer of a sub-run: it is set where that begins, pauses with the runner, and is gone once it was due
 abbrev pub armed : ℕ → Option ℕ → Option Sleep
 armed now None = None
 armed now (Some duration) = Some (set_at now duration)
@@ -158,7 +163,7 @@ global_timer p [] = None
 global_timer p (x ∷ past) =
     if x.begins then armed x.moment (time_limit p)
     else if is_by_time x.cause then None
-    else global_timer p past
+    else timer_after x.moment (global_act x.stops x.told) (global_timer p past)
 
 -- what came by now that cancels a run
 abbrev pub causes_of : Settings → List Happening → Causes

@@ -1,10 +1,16 @@
 // A dispatcher as its table sees it.
-use run_clock::PausableSleep;
-use run_events::{Hearing, MaxFail, RunStarted, RunStats};
+use run_clock::{PausableSleep, StopwatchStart};
+use run_events::{Hearing, MaxFail, Request, RunStarted, RunStats};
 
 /// What a dispatcher asks of the rest of the run, to say which turns are enabled.
 #[derive(Clone, Copy, Drop)]
 pub struct Facts {
+    /// How many units are live: they were let go and aren't over.
+    pub live: u32,
+    /// Whether one of them has the request of the open round in its line.
+    pub held: bool,
+    /// Whether an answer of the open round was given that isn't told.
+    pub answer_waits: bool,
     /// Whether a message was sent that isn't delivered.
     pub message_waits: bool,
     /// Whether each script and test was admitted and is over, and each message was delivered.
@@ -44,6 +50,21 @@ pub struct Causes {
     pub global: Option<PausableSleep>,
 }
 
+/// The rounds in which the live units are stopped, or asked what they are doing.
+#[derive(Drop)]
+pub struct Rounds {
+    /// How many there were.
+    pub count: u32,
+    /// What the open one asks: a stop or a query; none where none is open.
+    pub asks: Option<Request>,
+    /// When the latest one began or told its latest answer.
+    pub since: u64,
+    /// How many units that one asked.
+    pub total: u32,
+    /// How many answers it told.
+    pub told: u32,
+}
+
 /// A dispatcher, as its table sees it.
 #[derive(Drop)]
 pub struct DispatcherView {
@@ -56,6 +77,9 @@ pub struct DispatcherView {
     pub over: bool,
     pub causes: Causes,
     pub tally: Tally,
+    /// The run's active time.
+    pub watch: StopwatchStart,
+    pub rounds: Rounds,
     /// When it heard its latest turn, by the run's clock.
     pub latest: u64,
 }

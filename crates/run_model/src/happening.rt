@@ -1,7 +1,7 @@
 // What one turn did.
 use crate::{UnitTurn, UnitView};
 use run_capture::List;
-use run_events::{Ask, CancelReason, Message, ReporterEvent, Request, Turn};
+use run_events::{Ask, CancelReason, InfoResponse, Message, ReporterEvent, Request, Turn};
 
 /// Whose turn it was, and as what.
 #[derive(Drop)]
@@ -23,6 +23,8 @@ pub struct Happening {
     pub part: Option<UnitPart>,
     /// The message that it sent.
     pub sent: Option<Message>,
+    /// The answers that it gave, each with the round of its query, in order.
+    pub info: List<(u32, InfoResponse)>,
     /// Whether it delivered the oldest message.
     pub taken: bool,
     /// The event that it told of its own.
@@ -35,6 +37,8 @@ pub struct Happening {
     pub cause: Option<CancelReason>,
     /// What it asked of each unit that was let go and wasn't over.
     pub request: Option<Request>,
+    /// Whether the runner is asked to stop itself with it.
+    pub stops: bool,
     /// Whether a sub-run begins with it.
     pub begins: bool,
     /// Whether a sub-run ends with it.

@@ -14,7 +14,7 @@ mod unit_view;
 mod values;
 
 pub use backoff::{BackoffIter, delay_by, retry_count};
-pub use dispatcher_view::{CancelRules, Causes, DispatcherView, Facts, Tally};
+pub use dispatcher_view::{CancelRules, Causes, DispatcherView, Facts, Rounds, Tally};
 pub use entry::Entry;
 pub use happening::{Happening, UnitPart};
 pub use phase::Phase;

@@ -3,8 +3,8 @@ use crate::Phase;
 use run_capture::{ChildAccumulator, List, Text};
 use run_clock::{PausableSleep, StopwatchStart};
 use run_events::{
-    ChildExit, ExecuteStatus, FlakyResult, LeakTimeout, Request, RetryPolicy, RunMode, ScriptEnv,
-    ScriptUnit, SlowTimeout, TestSlotAssignment, TestUnit,
+    ChildExit, ExecuteStatus, ExecutionResult, FlakyResult, LeakTimeout, Request, RetryPolicy,
+    RunMode, ScriptEnv, ScriptUnit, SlowTimeout, TerminateReason, TestSlotAssignment, TestUnit,
 };
 use uuid::Uuid;
 
@@ -33,6 +33,8 @@ pub struct AttemptTerms {
     pub reads_env: bool,
     /// How often it is tried again where it fails, and after which delays.
     pub retries: RetryPolicy,
+    /// Whether its child, where it runs, is asked to stop where the run stops.
+    pub stops: bool,
 }
 
 /// What is the same for the children of all tests of a run, or of all its setup scripts.
@@ -78,6 +80,8 @@ pub struct Timers {
     /// It is due where the time to end by itself, the wait for the streams, or the delay before a retry is over; none
     /// outside of these.
     pub wait: Option<PausableSleep>,
+    /// How long that was waited for: it runs from where that timer was set.
+    pub waiting: StopwatchStart,
     /// How often it was slow.
     pub slow_count: u32,
 }
@@ -132,6 +136,10 @@ pub struct UnitView {
     /// nanoseconds.
     pub delay: u64,
     pub timers: Timers,
+    /// The process id of its child, from where that started.
+    pub pid: u32,
+    /// Why its child was asked to end, while it is given time for that.
+    pub ending: TerminateReason,
     /// The requests that wait for it, the oldest first.
     pub line: List<Request>,
     /// When it took its latest turn.
@@ -140,6 +148,9 @@ pub struct UnitView {
     pub capture: ChildAccumulator,
     /// How its child ended, while its attempt goes on after that; none where the wait for it failed.
     pub exit: Option<ChildExit>,
+    /// The result by that and by what was captured until then, while its streams are waited for: none after a failed
+    /// wait that didn't time out.
+    pub exit_result: Option<ExecutionResult>,
     /// Whether it left a captured stream open for too long, while its environment file is to be read.
     pub leaked: bool,
     /// What came of its environment file: it is unread of a test.
@@ -160,10 +171,13 @@ impl Drop for UnitView {
             attempt: _,
             delay: _,
             timers: _,
+            pid: _,
+            ending: _,
             line: _,
             latest: _,
             capture: _,
             exit: _,
+            exit_result: _,
             leaked: _,
             env: _,
             statuses: _,

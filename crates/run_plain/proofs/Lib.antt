@@ -3,3 +3,4 @@ mod Cuts
 mod DelayLemmas
 mod AdmissionLemmas
 mod OutcomeLemmas
+mod StatusLemmas

@@ -1,21 +1,26 @@
 // What came of each attempt of a unit, by its own turns.
-ghost use Rattle.std.specs.Prelude.{◌≡◌, ◌+◌, ◌<◌, ◌^◌, ◌∷◌, ◌++◌, [], length, if◌then◌else◌, IfOk};
+ghost use Rattle.std.specs.Prelude.{◌≡◌, ◌+◌, ◌<◌, ◌^◌, ◌∷◌, ◌++◌, [], length, map, not, ◌&&◌, if◌then◌else◌, IfOk, OnOk};
 ghost use Rattle.run_model.specs.Attempts.{awaits_env_file, end_of, ended_statuses, has_ended, is_due_in, is_retried};
-ghost use Rattle.run_model.specs.Attempts.{is_settled, moment_if, none_goes_on, result_in, status_of};
+ghost use Rattle.run_model.specs.Attempts.{attempt_pauses, is_settled, moment_if, none_goes_on, result_in, status_of, time_of};
+ghost use Rattle.run_model.specs.Attempts.{delay_timer, is_delay_over};
 ghost use Rattle.run_model.specs.Backoff.{retry_count};
+ghost use Rattle.run_clock.specs.Counted.{is_due};
 ghost use Rattle.run_model.specs.Story.{begins_attempt, first_said, pieces};
+ghost use Rattle.run_model.specs.Timing.{is_timer_due_at, timer_of};
+ghost use Rattle.run_plain.specs.Marks.{at_most, with_time};
 
 use crate::OwnTurn;
-use crate::delays::{delay_after, is_delay_due, is_delay_over, retry_count};
+use crate::delays::{delay_after, delay_timer, is_delay_over, retry_count};
 use crate::env::{has_env_fault, is_env_read};
 use crate::outcomes::{child_output, child_result, is_refused};
+use crate::pauses::{Act, Mark, add, add_request, counted_time};
 use crate::results::passes;
 use crate::standing::{is_wait_over, slow_count};
 use crate::story::{begins_attempt, count_attempts, newest_attempt};
 use crate::streams::are_streams_done;
-use crate::timing::{has_leaked, is_timer_due_at, timer_of};
+use crate::timing::{has_leaked, is_due_at, is_timer_due_at, timer_of};
 use run_capture::{List, Mem};
-use run_events::{ExecuteStatus, ExecutionResult};
+use run_events::{ExecuteStatus, ExecutionResult, RetryPolicy};
 use run_model::AttemptTerms;
 use std::alloc::Global;
 
@@ -75,6 +80,37 @@ fn result_in(alloc: Global, terms: AttemptTerms, piece: &[OwnTurn]) -> Mem<Execu
     }
 }
 
+// Adds its pauses: from where a stop is taken until a continue is, or until its child is done with.
+fn add_pauses(
+    alloc: Global,
+    marks: &mut List<Mark>,
+    terms: AttemptTerms,
+    piece: &[OwnTurn],
+) -> Mem<()>
+    ensures { OnOk result (marks.new ≡ marks.old ++ attempt_pauses terms piece.now) }
+{
+    let [turn, before @ ..] = piece else {
+        return Ok(());
+    };
+    if is_settled(terms, piece) {
+        add(alloc, marks, turn.moment, Act::Resume)?;
+    } else {
+        add_request(alloc, marks, turn.moment, turn.request)?;
+    }
+    add_pauses(alloc, marks, terms, before)
+}
+
+// How long it took, in nanoseconds.
+fn time_of(alloc: Global, terms: AttemptTerms, piece: &[OwnTurn]) -> Mem<u64>
+    ensures { IfOk result (λ time. time ≡ at_most (time_of terms piece.now)) }
+{
+    let mut pauses = List::new();
+    add_pauses(alloc, &mut pauses, terms, piece)?;
+    let start = begun_at(piece).unwrap_or(0);
+    let end = ended_at(terms, piece).unwrap_or(0);
+    Ok(counted_time(start, pauses.as_slice(), end))
+}
+
 // The status of an attempt of this number, after this delay.
 fn status_of(
     alloc: Global,
@@ -84,12 +120,11 @@ fn status_of(
     piece: &[OwnTurn],
 ) -> Mem<ExecuteStatus>
     requires few { retry_count terms.retries + 1 < 2 ^ 32 }
-    ensures { IfOk result (λ s. s ≡ status_of terms delay attempt piece.now) }
+    ensures { IfOk result (λ s. s ≡ with_time (status_of terms delay attempt piece.now)) }
 {
     let outcome = result_in(alloc, terms, piece)?;
     let output = child_output(alloc, terms.streams, piece)?;
-    let start = begun_at(piece).unwrap_or(0);
-    let end = ended_at(terms, piece).unwrap_or(0);
+    let time = time_of(alloc, terms, piece)?;
     Ok(ExecuteStatus {
         attempt,
         attempts: retry_count(terms.retries) + 1,
@@ -97,8 +132,8 @@ fn status_of(
         result: outcome,
         output,
         slow: slow_count(terms.slow, piece) > 0,
-        start,
-        time: end.saturating_sub(start),
+        start: begun_at(piece).unwrap_or(0),
+        time,
     })
 }
 
@@ -113,7 +148,7 @@ fn with_status(
 ) -> Mem<List<ExecuteStatus>>
     requires few { retry_count terms.retries + 1 < 2 ^ 32 }
     ensures { IfOk result (λ l. l ≡ statuses
-        ++ (if has_ended terms piece.now then status_of terms delay attempt piece.now ∷ [] else [])) }
+        ++ (if has_ended terms piece.now then with_time (status_of terms delay attempt piece.now) ∷ [] else [])) }
 {
     let mut statuses = statuses;
     if has_ended(terms, piece) {
@@ -124,7 +159,7 @@ fn with_status(
 }
 
 /// What came of the attempts of a unit that have ended, in order, by its story, the newest turn first. They run on these
-/// terms.
+/// terms. A time above the greatest `u64`, which no legal run has, is that.
 pub fn statuses_of(
     alloc: Global,
     terms: AttemptTerms,
@@ -132,7 +167,7 @@ pub fn statuses_of(
 ) -> Mem<List<ExecuteStatus>>
     requires short { length story.now < 2 ^ 32 }
     requires few { retry_count terms.retries + 1 < 2 ^ 32 }
-    ensures { IfOk result (λ l. l ≡ ended_statuses terms (pieces story.now)) }
+    ensures { IfOk result (λ l. l ≡ map with_time (ended_statuses terms (pieces story.now))) }
 {
     let Some(newest) = newest_attempt(story) else {
         return Ok(List::new());
@@ -151,6 +186,32 @@ fn is_retried(alloc: Global, terms: AttemptTerms, attempt: u32, piece: &[OwnTurn
     Ok(!passes(outcome) && attempt <= retry_count(terms.retries))
 }
 
+// Whether the timer of an attempt that goes on is due at a moment: one whose child is done with has none.
+fn is_attempt_due(alloc: Global, terms: AttemptTerms, now: u64, piece: &[OwnTurn]) -> Mem<bool>
+    ensures { IfOk result (λ due. due
+        ≡ (not (is_settled terms piece.now) && is_timer_due_at now (timer_of terms piece.now))) }
+{
+    let timer = timer_of(alloc, terms, piece)?;
+    Ok(!is_settled(terms, piece) && is_timer_due_at(now, &timer))
+}
+
+// Whether the delay after the newest attempt of a story is due at a moment, the newest of which was decided on with the
+// first of these turns.
+fn is_delay_due(
+    alloc: Global,
+    policy: RetryPolicy,
+    now: u64,
+    after: &[OwnTurn],
+    story: &[OwnTurn],
+) -> Mem<bool>
+    requires { length story.now < 2 ^ 32 }
+    ensures { IfOk result (λ due. due ≡ (not (is_delay_over after.now)
+        && is_due (delay_timer policy after.now (pieces story.now)) now)) }
+{
+    let timer = delay_timer(alloc, policy, after, story)?;
+    Ok(!is_delay_over(after) && is_due_at(now, &timer))
+}
+
 /// Whether the timer of a unit is due at a moment, by its story, the newest turn first: that of its attempt, or of the
 /// delay before the next. An attempt whose child is done with has none until it is decided that it is tried again.
 pub fn is_due(alloc: Global, terms: AttemptTerms, now: u64, story: &[OwnTurn]) -> Mem<bool>
@@ -161,13 +222,12 @@ pub fn is_due(alloc: Global, terms: AttemptTerms, now: u64, story: &[OwnTurn]) -
         return Ok(false);
     };
     if newest.after.is_empty() {
-        let timer = timer_of(terms, newest.piece);
-        return Ok(!is_settled(terms, newest.piece) && is_timer_due_at(now, timer));
+        return is_attempt_due(alloc, terms, now, newest.piece);
     }
     let attempt = count_attempts(newest.before) as u32 + 1;
     let retried = is_retried(alloc, terms, attempt, newest.piece)?;
-    let delay = delay_after(terms.retries, story);
-    Ok(retried && !is_delay_over(newest.after) && is_delay_due(now, newest.after, delay))
+    let due = is_delay_due(alloc, terms.retries, now, newest.after, story)?;
+    Ok(retried && due)
 }
 
 /// Whether no attempt of a unit goes on, by its story, the newest turn first.

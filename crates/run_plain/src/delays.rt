@@ -1,15 +1,19 @@
 // The delays between the attempts of a unit, by its own turns.
-ghost use Rattle.std.specs.Prelude.{◌≡◌, ◌*◌, ◌-◌, ◌^◌, ◌<◌, min, length, []};
-ghost use Rattle.run_clock.specs.Counted.{is_due};
+ghost use Rattle.std.specs.Prelude.{◌≡◌, ◌*◌, ◌-◌, ◌^◌, ◌<◌, min, length, IfOk};
 ghost use Rattle.run_model.specs.Backoff.{retry_count, has_jitter, whole_delay, jittered, delay_by};
-ghost use Rattle.run_model.specs.Attempts.{cancels, decided_at, delay_after, is_delay_over, moment_if, word_in, drawn_word};
+ghost use Rattle.run_model.specs.Attempts.{cancels, decided_at, delay_after, delay_timer, is_delay_over, moment_if, word_in};
+ghost use Rattle.run_model.specs.Attempts.{drawn_word};
 ghost use Rattle.run_model.specs.Story.{decides, first_said, pieces};
 
 use crate::OwnTurn;
+use crate::pauses::add_all;
 use crate::standing::is_due_turn;
 use crate::story::{count_attempts, decides, newest_attempt};
+use crate::timing::Timer;
+use run_capture::{List, Mem};
 use run_events::{Request, RetryPolicy};
 use run_model::UnitTurn;
+use std::alloc::Global;
 
 // How many retries a test has at most.
 pub fn retry_count(policy: RetryPolicy) -> u32
@@ -143,9 +147,22 @@ pub fn is_delay_over(after: &[OwnTurn]) -> bool
     is_due_turn(&turn.turn) || cancels(turn.request) || is_delay_over(before)
 }
 
-// Whether a delay that was decided on so is due at a moment.
-pub fn is_delay_due(now: u64, after: &[OwnTurn], delay: u64) -> bool
-    ensures { result ≡ is_due (record { set = decided_at after.now; duration = delay; past = [] }) now }
+/// The timer of the delay before the attempt that comes after those of a story, the newest of which was decided on with
+/// the first of these turns.
+pub fn delay_timer(
+    alloc: Global,
+    policy: RetryPolicy,
+    after: &[OwnTurn],
+    story: &[OwnTurn],
+) -> Mem<Timer>
+    requires { length story.now < 2 ^ 32 }
+    ensures { IfOk result (λ timer. timer ≡ delay_timer policy after.now (pieces story.now)) }
 {
-    delay <= now.saturating_sub(decided_at(after))
+    let mut pauses = List::new();
+    add_all(alloc, &mut pauses, after)?;
+    Ok(Timer {
+        set: decided_at(after),
+        duration: delay_after(policy, story),
+        pauses,
+    })
 }

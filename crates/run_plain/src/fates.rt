@@ -4,7 +4,7 @@ ghost use Rattle.std.specs.Prelude.{IfOk, IsTrue};
 ghost use Rattle.std.specs.List.{list_all};
 ghost use Rattle.run_events.specs.Result.{is_success};
 ghost use Rattle.run_model.specs.Accounts.{failed, finished, tried_from};
-ghost use Rattle.run_model.specs.Unit.{last_status};
+ghost use Rattle.run_model.specs.Ending.{last_status};
 ghost use Rattle.run_plain.specs.declared.accounts.News.TheVariants.{Failed};
 ghost use Rattle.run_model.specs.Fates.{HasRetryLeft, MeetsAttemptLaw, account, but_last, retold};
 ghost use Rattle.run_plain.specs.News.{defined};

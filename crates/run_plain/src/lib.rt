@@ -13,6 +13,7 @@ mod env;
 mod fates;
 mod front;
 mod outcomes;
+mod pauses;
 mod results;
 mod slots;
 mod standing;

@@ -11,6 +11,8 @@ use Rattle.run_model.specs.declared.unit_turn.UnitTurn.{UnitTurn}
 use Rattle.run_events.specs.declared.request.Request.{Request}
 use Rattle.run_model.specs.Unit.{takes, takes_at, is_live, reached}
 use Rattle.run_model.specs.Admission.{is_last}
+use Rattle.run_model.specs.Story.{is_live_unit}
+use Rattle.run_model.specs.Turns.{live_in}
 use Rattle.run_state.specs.Counted.{is_left}
 
 -- of units none of which was admitted all are left
@@ -73,7 +75,7 @@ set_left us k left v over e is inside ends =
     less true more = omega arith
     less false more = omega arith
 
--- a request leaves which units are left
+-- a request leaves which units are left, and which are live
 reached_left : (request : Request) (v : Option UnitView) → is_left (option_map (reached request) v) ≡ is_left v
 reached_left request None = refl
 reached_left request (Some u) = by_live (is_live u.phase)
@@ -83,28 +85,59 @@ reached_left request (Some u) = by_live (is_live u.phase)
     by_live true = refl
     by_live false = refl
 
-all_reached_left : (request : Request) (us : List (Option UnitView))
-    → count_by is_left (map (option_map (reached request)) us) ≡ count_by is_left us
-all_reached_left request [] = refl
-all_reached_left request (u ∷ us) =
-    sum_by-cons (λ u. cond (is_left u) 1 0) (option_map (reached request) u) (map (option_map (reached request)) us)
-    ∙ ap (λ b. cond b 1 0 + count_by is_left (map (option_map (reached request)) us)) (reached_left request u)
-    ∙ ap (λ n. cond (is_left u) 1 0 + n) (all_reached_left request us)
-    ∙ sym (sum_by-cons (λ u. cond (is_left u) 1 0) u us)
+reached_live : (request : Request) (v : Option UnitView)
+    → is_live_unit (option_map (reached request) v) ≡ is_live_unit v
+reached_live request None = refl
+reached_live request (Some u) = by_live (is_live u.phase)
+  where
+    by_live : (b : Bool)
+        → is_live_unit (Some (if b then record u { line = u.line ++ request ∷ [] } else u)) ≡ is_live_unit (Some u)
+    by_live true = refl
+    by_live false = refl
+
+-- what it leaves of each unit it leaves of the count
+all_reached : (f : Option UnitView → Bool) (request : Request) (us : List (Option UnitView))
+    → ((v : Option UnitView) → f (option_map (reached request) v) ≡ f v)
+    → count_by f (map (option_map (reached request)) us) ≡ count_by f us
+all_reached f request [] same = refl
+all_reached f request (u ∷ us) same =
+    sum_by-cons (λ u. cond (f u) 1 0) (option_map (reached request) u) (map (option_map (reached request)) us)
+    ∙ ap (λ b. cond b 1 0 + count_by f (map (option_map (reached request)) us)) (same u)
+    ∙ ap (λ n. cond (f u) 1 0 + n) (all_reached f request us same)
+    ∙ sym (sum_by-cons (λ u. cond (f u) 1 0) u us)
 
 -- also where the first ones alone were reached
-pub some_reached_left : (request : Request) (n : ℕ) (us : List (Option UnitView))
-    → count_by is_left (map (option_map (reached request)) (take n us) ++ drop n us) ≡ count_by is_left us
-some_reached_left request n us =
-    sum_by-append (λ u. cond (is_left u) 1 0) (map (option_map (reached request)) (take n us)) (drop n us)
-    ∙ ap (λ m. m + count_by is_left (drop n us)) (all_reached_left request (take n us))
-    ∙ sym (sum_by-append (λ u. cond (is_left u) 1 0) (take n us) (drop n us))
-    ∙ ap (count_by is_left) (take-append-drop n us)
+some_reached : (f : Option UnitView → Bool) (request : Request) (n : ℕ) (us : List (Option UnitView))
+    → ((v : Option UnitView) → f (option_map (reached request) v) ≡ f v)
+    → count_by f (map (option_map (reached request)) (take n us) ++ drop n us) ≡ count_by f us
+some_reached f request n us same =
+    sum_by-append (λ u. cond (f u) 1 0) (map (option_map (reached request)) (take n us)) (drop n us)
+    ∙ ap (λ m. m + count_by f (drop n us)) (all_reached f request (take n us) same)
+    ∙ sym (sum_by-append (λ u. cond (f u) 1 0) (take n us) (drop n us))
+    ∙ ap (count_by f) (take-append-drop n us)
 
 -- and where one of the rest was set to what it was
+failed : (f : Option UnitView → Bool) (request : Request) (n : ℕ) (us vs : List (Option UnitView)) (k : ℕ)
+    (new d : Option UnitView)
+    → ((v : Option UnitView) → f (option_map (reached request) v) ≡ f v)
+    → vs ≡ map (option_map (reached request)) (take n us) ++ drop n us → new ≡ get_or vs k d
+    → count_by f (set vs k new) ≡ count_by f us
+failed f request n us vs k new d same vs-is kept =
+    ap (λ v. count_by f (set vs k v)) kept ∙ ap (count_by f) (set-get_or vs k d)
+    ∙ ap (count_by f) vs-is ∙ some_reached f request n us same
+
 pub failed_left : (request : Request) (n : ℕ) (us vs : List (Option UnitView)) (k : ℕ) (new d : Option UnitView)
     → vs ≡ map (option_map (reached request)) (take n us) ++ drop n us → new ≡ get_or vs k d
     → count_by is_left (set vs k new) ≡ count_by is_left us
-failed_left request n us vs k new d vs-is same =
-    ap (λ v. count_by is_left (set vs k v)) same ∙ ap (count_by is_left) (set-get_or vs k d)
-    ∙ ap (count_by is_left) vs-is ∙ some_reached_left request n us
+failed_left request n us vs k new d vs-is kept =
+    failed is_left request n us vs k new d (reached_left request) vs-is kept
+
+pub failed_live : (request : Request) (n : ℕ) (us vs : List (Option UnitView)) (k : ℕ) (new d : Option UnitView)
+    → vs ≡ map (option_map (reached request)) (take n us) ++ drop n us → new ≡ get_or vs k d
+    → live_in (set vs k new) ≡ live_in us
+failed_live request n us vs k new d vs-is kept =
+    failed is_live_unit request n us vs k new d (reached_live request) vs-is kept
+
+pub some_live : (request : Request) (n : ℕ) (us vs : List (Option UnitView))
+    → vs ≡ map (option_map (reached request)) (take n us) ++ drop n us → live_in vs ≡ live_in us
+some_live request n us vs vs-is = ap live_in vs-is ∙ some_reached is_live_unit request n us (reached_live request)

@@ -1,8 +1,9 @@
--- What a delivery does in its parts, and what a cause leaves of the limits.
-use Rattle.std.proofs.Common.{◌≡◌, ◌+◌, ℕ, zero, suc, List, [], ◌∷◌, ◌++◌, map, drop, Option, Some, None, option_map}
+-- What a delivery does in its parts, and what a turn of the run's own leaves of the limits.
+use Rattle.std.proofs.Common.{◌≡◌, ◌+◌, ℕ, zero, suc, List, [], ◌∷◌, ◌++◌, map, drop, filter_map, Option, Some, None, option_map}
 use Rattle.std.proofs.Common.{Bool, true, false, if◌then◌else◌, refl, ap, ap₂, sym, ◌∙◌, arith}
 use Rattle.std.proofs.Common.{Result, Ok, Err, IfOk, OnOk}
 use Rattle.run_events.specs.declared.ask.Ask.{Ask}
+use Rattle.run_events.specs.declared.info.InfoResponse.{InfoResponse}
 use Rattle.run_events.specs.declared.message.Message.{Message}
 use Rattle.run_events.specs.declared.request.Request.{Request}
 use Rattle.run_events.specs.declared.settings.Settings.{Settings}
@@ -10,17 +11,18 @@ use Rattle.run_model.specs.declared.dispatcher_view.DispatcherView.{DispatcherVi
 use Rattle.run_model.specs.declared.happening.UnitPart.{UnitPart}
 use Rattle.run_model.specs.declared.unit_view.UnitView.{UnitView}
 use Rattle.run_model.specs.Admission.{seat_of, limits_of, scripts_in}
-use Rattle.run_model.specs.Board.{Board, deed_events, dispatched, moved, reach_all, units_after}
+use Rattle.run_model.specs.Board.{Board, Deed, deed_events, dispatched, moved, reach_all, units_after}
 use Rattle.run_model.specs.Cancel.{Cause, cause_of, caused}
-use Rattle.run_model.specs.Dispatch.{go_of}
-use Rattle.run_model.specs.Turns.{answer_to, cancelled, delivered_as, delivers, delivery, delivery_of, event_of}
-use Rattle.run_model.specs.Turns.{nothing_done}
+use Rattle.run_model.specs.Dispatch.{go_of, moment_by}
+use Rattle.run_model.specs.Rounds.{answer_of}
+use Rattle.run_model.specs.Turns.{answer_to, delivered_as, delivers, delivery, delivery_of, event_of, nothing_done}
 use Rattle.run_model.specs.Turns.{starting, tally_with}
 use Rattle.run_model.specs.Unit.{is_live, reached}
 use Rattle.run_laws.proofs.board.Boards.{with_cause-none}
 use Rattle.run_dispatch.proofs.BoardLemmas.{delivery-told}
-use Rattle.run_state.specs.declared.turns.Effects.{Effects}
-use Rattle.run_state.specs.Cancelled.{Cancels}
+use Rattle.run_state.proofs.RoundLemmas.{LeavesRound, answers_kept, asks_kept, delivery_leaves}
+use Rattle.run_state.specs.declared.effects.Effects.{Effects}
+use Rattle.run_state.specs.Done.{Done}
 use Rattle.run_state.specs.Held.{Held, KeepsSeats}
 
 -- the board once the oldest message was taken, and the dispatcher has heard it
@@ -35,11 +37,18 @@ abbrev pub answered : Board → Message → List Message → Board
 answered b m rest = moved (heard b m rest) (answer_to (heard b m rest) (starting m) (go_of b.dispatcher.tally m))
 
 -- what a unit alone does leaves the dispatcher as it was
-idle : (now : ℕ) (part : Option UnitPart) (sent : Option Message) (asked : Option Ask) (d : DispatcherView)
-    → dispatched now d (record nothing_done { part = part; sent = sent; asked = asked }) ≡ d
-idle now part sent asked d =
+pub idle : (now : ℕ) (part : Option UnitPart) (sent : Option Message) (info : List (ℕ × InfoResponse)) (asked : Option Ask)
+    (d : DispatcherView)
+    → dispatched now d (record nothing_done { part = part; sent = sent; info = info; asked = asked }) ≡ d
+idle now part sent info asked d =
     let none : d.causes.signals + 0 ≡ d.causes.signals = omega arith in
     ap₂ (λ t n. record d { tally = t; causes = record d.causes { signals = n } }) (with_cause-none d.tally) none
+
+-- a delivery leaves what the open round asks
+pub delivery_asks : (now : ℕ) (d : DispatcherView) (m : Message) (answer : Deed)
+    → (dispatched now d (delivers now d m answer)).rounds.asks ≡ d.rounds.asks
+delivery_asks now d m answer =
+    let leaves = delivery_leaves now d m answer in asks_kept now d (delivers now d m answer) leaves.opens leaves.closes
 
 -- then each unit is reached, and the delivery is done
 pub delivery-is : (b : Board) (m : Message) (rest : List Message) → b.queue ≡ m ∷ rest
@@ -50,27 +59,52 @@ delivery-is b m rest waits =
     by_answer (starting m) (go_of b.dispatcher.tally m)
     ∙ sym (ap (λ q. moved (record b { queue = q }) (delivery (record b { queue = q }) q)) waits)
   where
-    by_cause : (part : Option UnitPart) (sent : Option Message) (asked : Option Ask) (cause : Option Cause)
+    by_cause : (part : Option UnitPart) (sent : Option Message) (info : List (ℕ × InfoResponse)) (asked : Option Ask)
+        (cause : Option Cause)
+        → LeavesRound (caused (moment_by b.clock b.dispatcher.watch) (tally_with b (event_of b m)) cause
+        (delivered_as b m (record nothing_done { part = part; sent = sent; info = info; asked = asked })))
+        → (dispatched b.clock b.dispatcher (caused (moment_by b.clock b.dispatcher.watch) (tally_with b (event_of b m)) cause
+        (delivered_as b m nothing_done))).rounds.asks ≡ b.dispatcher.rounds.asks
         → record (moved (record b {
           queue = rest;
           dispatcher = dispatched b.clock b.dispatcher
-              (caused b.clock (tally_with b (event_of b m)) cause (delivered_as b m nothing_done));
-        }) (record nothing_done { part = part; sent = sent; asked = asked })) {
-          units = reach_all (caused b.clock (tally_with b (event_of b m)) cause (delivered_as b m nothing_done)).request
+              (caused (moment_by b.clock b.dispatcher.watch) (tally_with b (event_of b m)) cause
+              (delivered_as b m nothing_done));
+        }) (record nothing_done { part = part; sent = sent; info = info; asked = asked })) {
+          units = reach_all (caused (moment_by b.clock b.dispatcher.watch) (tally_with b (event_of b m)) cause
+              (delivered_as b m nothing_done)).request
               (units_after b.clock part b.units);
         }
-        ≡ moved (record b { queue = m ∷ rest }) (caused b.clock (tally_with b (event_of b m)) cause
-        (delivered_as b m (record nothing_done { part = part; sent = sent; asked = asked })))
-    by_cause part sent asked None =
-        ap (λ d. record (moved (record b { queue = m ∷ rest }) (caused b.clock (tally_with b (event_of b m)) None
-        (delivered_as b m (record nothing_done { part = part; sent = sent; asked = asked })))) { dispatcher = d })
-        (idle b.clock part sent asked (dispatched b.clock b.dispatcher (caused b.clock (tally_with b (event_of b m)) None
+        ≡ moved (record b { queue = m ∷ rest })
+        (caused (moment_by b.clock b.dispatcher.watch) (tally_with b (event_of b m)) cause
+        (delivered_as b m (record nothing_done { part = part; sent = sent; info = info; asked = asked })))
+    by_cause part sent info asked None leaves asks =
+        let deed : Deed = delivered_as b m (record nothing_done { part = part; sent = sent; info = info; asked = asked }) in
+        ap₂ (λ answers d. record (moved (record b { queue = m ∷ rest }) deed) { answers = answers; dispatcher = d })
+        (ap (λ asks. b.answers ++ filter_map (answer_of asks) info) asks
+        ∙ answers_kept b.dispatcher.rounds.asks deed b.answers leaves.opens leaves.closes leaves.tells)
+        (idle b.clock part sent info asked (dispatched b.clock b.dispatcher (delivered_as b m nothing_done)))
+    by_cause part sent info asked (Some cause) leaves asks =
+        let deed : Deed = caused (moment_by b.clock b.dispatcher.watch) (tally_with b (event_of b m)) (Some cause)
+        (delivered_as b m (record nothing_done { part = part; sent = sent; info = info; asked = asked })) in
+        ap₂ (λ answers d. record (moved (record b { queue = m ∷ rest }) deed) { answers = answers; dispatcher = d })
+        (ap (λ asks. b.answers ++ filter_map (answer_of asks) info) asks
+        ∙ answers_kept b.dispatcher.rounds.asks deed b.answers leaves.opens leaves.closes leaves.tells)
+        (idle b.clock part sent info asked (dispatched b.clock b.dispatcher
+        (caused (moment_by b.clock b.dispatcher.watch) (tally_with b (event_of b m)) (Some cause)
         (delivered_as b m nothing_done))))
-    by_cause part sent asked (Some cause) =
-        ap (λ d. record (moved (record b { queue = m ∷ rest }) (caused b.clock (tally_with b (event_of b m)) (Some cause)
-        (delivered_as b m (record nothing_done { part = part; sent = sent; asked = asked })))) { dispatcher = d })
-        (idle b.clock part sent asked (dispatched b.clock b.dispatcher (caused b.clock (tally_with b (event_of b m))
-        (Some cause) (delivered_as b m nothing_done))))
+
+    parts : (part : Option UnitPart) (sent : Option Message) (info : List (ℕ × InfoResponse)) (asked : Option Ask)
+        → record (moved (heard b m rest) (record nothing_done { part = part; sent = sent; info = info; asked = asked })) {
+          units = reach_all (delivers b.clock b.dispatcher m nothing_done).request (units_after b.clock part b.units);
+        }
+        ≡ moved (record b { queue = m ∷ rest }) (delivery_of (record b { queue = m ∷ rest }) m
+        (record nothing_done { part = part; sent = sent; info = info; asked = asked }))
+    parts part sent info asked =
+        by_cause part sent info asked (cause_of b.dispatcher.rules (tally_with b (event_of b m)) m)
+        (delivery_leaves b.clock b.dispatcher m
+        (record nothing_done { part = part; sent = sent; info = info; asked = asked }))
+        (delivery_asks b.clock b.dispatcher m nothing_done)
 
     by_answer : (unit : Option ℕ) (go : Option Bool)
         → record (moved (heard b m rest) (answer_to (heard b m rest) unit go)) {
@@ -78,11 +112,11 @@ delivery-is b m rest waits =
               (moved (heard b m rest) (answer_to (heard b m rest) unit go)).units;
         }
         ≡ moved (record b { queue = m ∷ rest }) (delivery_of (record b { queue = m ∷ rest }) m (answer_to b unit go))
-    by_answer None go = by_cause None None None (cause_of b.dispatcher.rules (tally_with b (event_of b m)) m)
-    by_answer (Some k) None = by_cause None None None (cause_of b.dispatcher.rules (tally_with b (event_of b m)) m)
+    by_answer None go = parts None None [] None
+    by_answer (Some k) None = parts None None [] None
     by_answer (Some k) (Some go) =
-        by_cause (answer_to b (Some k) (Some go)).part (answer_to b (Some k) (Some go)).sent
-        (answer_to b (Some k) (Some go)).asked (cause_of b.dispatcher.rules (tally_with b (event_of b m)) m)
+        parts (answer_to b (Some k) (Some go)).part (answer_to b (Some k) (Some go)).sent
+        (answer_to b (Some k) (Some go)).info (answer_to b (Some k) (Some go)).asked
 
 -- so do the calls of a delivery, one after another
 pub delivered : (b x mid left : Board) (m : Message) (rest : List Message) (unit : Option ℕ) (go : Option Bool)
@@ -129,15 +163,17 @@ limits-reached p None us = refl
 limits-reached p (Some request) us =
     ap (λ seats. record (limits_of p us) { seats = seats }) (seats-reached request (scripts_in p) us)
 
--- so a cause does
-cancels_seated : (p : Settings) (old new : Held) (cause : Cause) → KeepsSeats p old
-    → new.board ≡ moved old.board (cancelled old.board cause) → new.limits ≡ old.limits → KeepsSeats p new
-cancels_seated p old new cause seated after limits =
-    limits ∙ seated ∙ sym (limits-reached p (cancelled old.board cause).request old.board.units)
+-- so does a turn of the run's own
+pub done_seated : (p : Settings) (old new : Held) (deed : Deed) → KeepsSeats p old → deed.part ≡ None
+    → new.board ≡ moved old.board deed → new.limits ≡ old.limits → KeepsSeats p new
+done_seated p old new deed seated none after limits =
+    limits ∙ seated ∙ sym (limits-reached p deed.request old.board.units)
+    ∙ sym (ap (λ part. limits_of p (reach_all deed.request (units_after old.board.clock part old.board.units))) none)
     ∙ sym (ap (λ (b : Board). limits_of p b.units) after)
 
--- so does a call that answers what a cause gives
-pub answer_seated : {E : Type 0} (p : Settings) (old new : Held) (cause : Cause) (answer : Result Effects E)
-    → KeepsSeats p old → IfOk answer (Cancels old cause new) → OnOk answer (KeepsSeats p new)
-answer_seated p old new cause (Ok effects) seated does = cancels_seated p old new cause seated does.after does.limits
-answer_seated p old new cause (Err lack) seated does = tt
+-- so does a call that answers what it gives
+pub answer_seated : {E : Type 0} (p : Settings) (old new : Held) (deed : Deed) (answer : Result Effects E)
+    → KeepsSeats p old → deed.part ≡ None → IfOk answer (Done old deed new) → OnOk answer (KeepsSeats p new)
+answer_seated p old new deed (Ok effects) seated none does =
+    done_seated p old new deed seated none does.after does.limits
+answer_seated p old new deed (Err lack) seated none does = tt

@@ -5,12 +5,12 @@ use Rattle.std.specs.List.{list_any, range_with_len}
 use Rattle.run_clock.specs.Sleep.{IsDueFrom}
 use Rattle.run_events.specs.declared.settings.Settings.{Settings}
 use Rattle.run_events.specs.declared.turn.Turn.{Turn}
-use Rattle.run_events.specs.declared.turn.Turn.TheVariants.{GlobalDue, UnitDue}
+use Rattle.run_events.specs.declared.turn.Turn.TheVariants.{GlobalDue, InfoDue, StopWaitDue, UnitDue}
 use Rattle.run_model.specs.declared.unit_turn.UnitTurn.TheVariants.{Due}
 use Rattle.run_model.specs.Admission.{units_in}
 use Rattle.run_model.specs.Board.{Board}
 use Rattle.run_model.specs.Dispatch.{dispatch_takes}
-use Rattle.run_model.specs.Turns.{enabled_on, unit_takes, facts}
+use Rattle.run_model.specs.Turns.{enabled_on, facts, unit_takes}
 use Rattle.run_model.specs.declared.unit_view.UnitView.{UnitView}
 use Rattle.run_state.specs.Counted.{is_working, places, working_in}
 use Rattle.run_state.specs.Due.{is_any_due}
@@ -80,17 +80,33 @@ any-each f t g i (u ∷ us) same =
     ap₂ (λ a b. a || b) (same 0 i (omega arith))
     (any-each f t g (i + 1) us (λ k n at. same (suc k) n (omega arith)))
 
--- a due turn is that of the run's timer, or of a unit's, in a run that isn't over
+-- a due turn is that of the run's timer, of the open round's wait, or of a unit's timer, in a run that isn't over
+or_assoc : (a b c d : Bool) → ((a || (b || c)) || d) ≡ (a || (b || (c || d)))
+or_assoc true b c d = refl
+or_assoc false true c d = refl
+or_assoc false false c d = refl
+
 pub any-due : (p : Settings) (b : Board) (now : ℕ) → b.dispatcher.over ≡ false → length b.units ≡ units_in p
-    → (dispatch_takes b.dispatcher (facts b) now GlobalDue || list_any (λ u. unit_takes now u Due) b.units)
+    → ((dispatch_takes b.dispatcher (facts b) now GlobalDue
+    || (dispatch_takes b.dispatcher (facts b) now StopWaitDue || dispatch_takes b.dispatcher (facts b) now InfoDue))
+    || list_any (λ u. unit_takes now u Due) b.units)
     ≡ is_any_due p b now
-any-due p b now going whole = ap₂ (λ a c. a || c) global each
+any-due p b now going whole =
+    or_assoc (dispatch_takes b.dispatcher (facts b) now GlobalDue) (dispatch_takes b.dispatcher (facts b) now StopWaitDue)
+    (dispatch_takes b.dispatcher (facts b) now InfoDue) (list_any (λ u. unit_takes now u Due) b.units)
+    ∙ ap₂ (λ a c. a || c) global (ap₂ (λ a c. a || c) stop (ap₂ (λ a c. a || c) info each))
   where
     at : Board
     at = record b { clock = now }
 
     global : dispatch_takes b.dispatcher (facts b) now GlobalDue ≡ enabled_on p at GlobalDue
     global = rw going refl
+
+    stop : dispatch_takes b.dispatcher (facts b) now StopWaitDue ≡ enabled_on p at StopWaitDue
+    stop = rw going refl
+
+    info : dispatch_takes b.dispatcher (facts b) now InfoDue ≡ enabled_on p at InfoDue
+    info = rw going refl
 
     one : (k : ℕ) → enabled_on p at (UnitDue k) ≡ unit_takes now (get_or b.units k None) Due
     one k = rw going refl
@@ -108,4 +124,5 @@ none_of f [] none = refl
 none_of f (t ∷ ts) none = rw (none t) (none_of f ts none)
 
 pub over-due : (p : Settings) (b : Board) (now : ℕ) → b.dispatcher.over ≡ true → is_any_due p b now ≡ false
-over-due p b now over = none_of (enabled_on p (record b { clock = now })) (GlobalDue ∷ of_each p UnitDue) (λ t. rw over refl)
+over-due p b now over = none_of (enabled_on p (record b { clock = now })) (GlobalDue ∷ StopWaitDue ∷ InfoDue ∷ of_each p UnitDue)
+    (λ t. rw over refl)

@@ -1,7 +1,10 @@
+pub mod AnswerLemmas
 pub mod CountedLemmas
 pub mod DeedLemmas
 pub mod DueLemmas
+pub mod HoldersLemmas
 pub mod PlaceLemmas
+pub mod RoundLemmas
 pub mod ScriptLemmas
 pub mod SeatLemmas
 pub mod SettleLemmas

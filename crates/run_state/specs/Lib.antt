@@ -1,7 +1,7 @@
 pub mod Counted
 pub mod Placed
 pub mod Held
-pub mod Cancelled
+pub mod Done
 pub mod Settle
 pub mod UnitTurns
 pub mod Due

@@ -1,7 +1,7 @@
 // Which turns are enabled.
 ghost use Rattle.std.specs.Prelude.{◌≤◌, ◌≡◌, length, pos, IfOk, option_map};
 ghost use Rattle.run_model.specs.Admission.{units_in};
-ghost use Rattle.run_model.specs.Turns.{turn_of_unit, unit_takes, is_empty, facts, run_takes, enabled_on};
+ghost use Rattle.run_model.specs.Turns.{turn_of_unit, unit_takes, run_takes, enabled_on};
 ghost use Rattle.run_model.specs.Board.{unit_in};
 ghost use Rattle.run_laws.specs.Ready.{IsTimelyBoard};
 ghost use Rattle.run_state.specs.Held.{KeepsSeats};
@@ -17,7 +17,7 @@ use run_capture::{Blob, Duplicate, Mem, Stream, Text};
 use run_commands::EnvInput;
 use run_dispatch::DispatchState;
 use run_events::{ChildExit, Settings, Turn};
-use run_model::{Facts, UnitTurn};
+use run_model::UnitTurn;
 use std::alloc::Global;
 
 /// The unit that a turn names, with what the turn is to it.
@@ -90,23 +90,11 @@ fn env(alloc: Global, unit: u32, input: &EnvInput) -> Mem<Option<(u32, UnitTurn)
     Ok(Some((unit, UnitTurn::Env { input })))
 }
 
-// Whether no message waits.
-fn is_queue_empty(state: &State) -> bool
-    ensures { result ≡ is_empty state.now.board.queue }
+// Whether a sub-run has begun and not ended.
+fn is_on(state: &State) -> bool
+    ensures { result ≡ state.now.board.dispatcher.on }
 {
-    state.queue.is_empty()
-}
-
-// What the dispatcher asks of the rest of the run.
-fn facts_of(state: &State) -> Facts
-    ensures { result ≡ facts state.now.board }
-{
-    let message_waits = !is_queue_empty(state);
-    Facts {
-        message_waits,
-        complete: !message_waits && state.units.are_over(),
-        refused: state.refused,
-    }
+    !matches!(state.dispatcher.state(), DispatchState::Idle)
 }
 
 // Whether a turn of the run's own is enabled where the run isn't over.
@@ -117,12 +105,9 @@ fn is_run_enabled(settings: &Settings, state: &State, turn: &Turn) -> bool
     ensures { result ≡ run_takes settings.now state.now.board turn.now }
 {
     match turn {
-        Turn::Admit => {
-            state.dispatcher.state() == DispatchState::Main
-                && can_admit(settings, &state.units, &state.admission)
-        }
+        Turn::Admit => is_on(state) && can_admit(settings, &state.units, &state.admission),
         Turn::Clock { ns } => state.clock.checked_add(*ns).is_some(),
-        _ => state.dispatcher.enabled(turn, facts_of(state), state.clock),
+        _ => state.dispatcher.enabled(turn, state.facts(), state.clock),
     }
 }
 

@@ -4,15 +4,23 @@
 
 mod admission;
 mod broadcast;
+mod counts;
+mod delivery;
+mod effects;
 mod enabled;
+mod joining;
+mod rounds;
+mod run_turns;
 mod scripts;
 mod settle;
 mod state;
 mod turns;
+mod unit_turns;
 mod units;
 mod working;
 
+pub use effects::Effects;
 pub use enabled::{is_enabled, turn_of_unit};
 pub use settle::{Settled, next_settled};
 pub use state::State;
-pub use turns::{Effects, advance};
+pub use turns::advance;

@@ -5,7 +5,8 @@ ghost use Rattle.run_events.specs.declared.settings.Settings.{Settings};
 ghost use Rattle.run_model.specs.Admission.{units_in};
 ghost use Rattle.std.specs.List.{list_any};
 ghost use Rattle.run_model.specs.Board.{board, answered, unit_in};
-ghost use Rattle.run_model.specs.Turns.{is_third_signal};
+ghost use Rattle.run_model.specs.Dispatch.{is_halted};
+ghost use Rattle.run_model.specs.Turns.{facts, is_held, is_third_signal};
 ghost use Rattle.run_state.specs.Due.{is_any_due};
 ghost use Rattle.run_state.specs.Held.{held};
 
@@ -14,8 +15,8 @@ use run_admission::Admission;
 use run_capture::Mem;
 use run_clock::sooner;
 use run_dispatch::Dispatcher;
-use run_events::{Message, RunStats, Settings, Turn};
-use run_model::Phase;
+use run_events::{InfoResponse, Message, Request, RunStats, Settings, Turn};
+use run_model::{Facts, Phase};
 use std::alloc::Global;
 use std::collections::VecDeque;
 use std::marker::Model;
@@ -28,7 +29,11 @@ pub struct State {
     pub(crate) units: Units,
     /// The messages that wait, the oldest first.
     pub(crate) queue: VecDeque<Message>,
+    /// The answers of the open round of queries that wait to be told, the oldest first.
+    pub(crate) answers: VecDeque<InfoResponse>,
     pub(crate) dispatcher: Dispatcher,
+    /// How many units have in their lines what the open round asks.
+    pub(crate) holders: u32,
     /// The run's clock, in nanoseconds.
     pub(crate) clock: u64,
     /// Whether the reporter refused an event.
@@ -38,6 +43,8 @@ pub struct State {
 }
 
 impl Model for State {
+    ghost use Rattle.std.specs.Prelude.{◌≡◌};
+    ghost use Rattle.run_state.specs.Counted.{holders_in};
     ghost use Rattle.run_state.specs.Held.{Held};
     ghost use Rattle.run_state.specs.Placed.{AreTests};
 
@@ -47,6 +54,7 @@ impl Model for State {
       board = record {
         units = s.units;
         queue = s.queue.items;
+        answers = s.answers.items;
         dispatcher = s.dispatcher;
         clock = s.clock;
         refused = s.refused;
@@ -54,7 +62,8 @@ impl Model for State {
       limits = s.admission;
     } };
 
-    ghost invariant = { λ s. AreTests s.units s.admission };
+    ghost invariant = { λ s. AreTests s.units s.admission
+        × (s.holders ≡ holders_in s.dispatcher.rounds.asks s.units) };
 }
 
 // Whether one of these was refused.
@@ -81,7 +90,9 @@ impl State {
         Ok(State {
             units: Units::new(alloc, units),
             queue: VecDeque::new(alloc),
+            answers: VecDeque::new(alloc),
             dispatcher,
+            holders: 0,
             clock: 0,
             refused: false,
             admission,
@@ -130,8 +141,44 @@ impl State {
         self.units.phase(unit)
     }
 
-    /// The least moment of the run's clock at which a timer is due: that of the run, or of a unit. It looks at the units
-    /// that were admitted and aren't over.
+    /// What the dispatcher asks of the rest of the run. Takes no look at all units.
+    pub(crate) fn facts(&self) -> Facts
+        ensures { result ≡ facts self.now.board }
+    {
+        let message_waits = !self.queue.is_empty();
+        Facts {
+            live: self.units.live(),
+            held: self.is_held(),
+            answer_waits: !self.answers.is_empty(),
+            message_waits,
+            complete: !message_waits && self.units.are_over(),
+            refused: self.refused,
+        }
+    }
+
+    // Whether a unit has in its line what the open round asks.
+    fn is_held(&self) -> bool
+        ensures { result ≡ is_held self.now.board.dispatcher.rounds.asks self.now.board.units }
+    {
+        self.holders > 0
+    }
+
+    /// Whether the run is paused.
+    pub fn is_paused(&self) -> bool
+        ensures { result ≡ is_halted self.now.board.dispatcher }
+    {
+        self.dispatcher.is_paused()
+    }
+
+    /// What the open round asks of each live unit, where one is open.
+    pub fn round(&self) -> Option<Request>
+        ensures { result ≡ self.now.board.dispatcher.rounds.asks }
+    {
+        self.dispatcher.round_request()
+    }
+
+    /// The least moment of the run's clock at which a timer is due: that of the run, of the open round, or of a unit. It
+    /// looks at the units that were admitted and aren't over.
     pub fn next_due(&self) -> Option<u64>
         ensures { (p : Settings) → length self.now.board.units ≡ units_in p
             → IsDueFrom (is_any_due p self.now.board) result }
@@ -139,6 +186,10 @@ impl State {
         if self.dispatcher.is_over() {
             return None;
         }
-        sooner(self.dispatcher.next_due(), self.units.next_due())
+        let own = sooner(
+            self.dispatcher.next_due(),
+            self.dispatcher.round_due(self.facts()),
+        );
+        sooner(own, self.units.next_due())
     }
 }

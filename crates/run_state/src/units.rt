@@ -1,18 +1,20 @@
 // The units of a run, with what is counted of them.
 ghost use Rattle.std.specs.Prelude.{◌≡◌, ◌<◌, ◌≤◌, ℕ, length, take, slice_index_or, slice_set, IfOk, OnOk, OnErr, Some};
-ghost use Rattle.std.specs.Prelude.{None, true, ◌-◌, cond, map, option_map};
+ghost use Rattle.std.specs.Prelude.{None, true, ◌+◌, ◌-◌, ◌^◌, cond, map, option_map};
 ghost use Rattle.std.specs.List.{list_all, list_any};
 ghost use Rattle.run_clock.specs.Sleep.{IsDueFrom};
 ghost use Rattle.run_model.specs.declared.unit_turn.UnitTurn.TheVariants.{Due};
 ghost use Rattle.run_model.specs.declared.unit_view.UnitView.{UnitView};
 ghost use Rattle.run_model.specs.Admission.{handed_from, is_done, is_last, open_script};
 ghost use Rattle.run_model.specs.Board.{reach_all, units_after};
-ghost use Rattle.run_model.specs.Turns.{unit_takes};
-ghost use Rattle.run_state.specs.Counted.{working_in};
+ghost use Rattle.run_model.specs.Story.{is_live_unit};
+ghost use Rattle.run_model.specs.Turns.{live_in, unit_takes};
+ghost use Rattle.run_state.specs.Counted.{holders_in, holds_asked, working_in};
 ghost use Rattle.run_state.specs.Placed.{is_no_script};
 ghost use Rattle.run_state.specs.UnitTurns.{MayTake, unit_deed, unit_next};
 
-use crate::broadcast::reach_each;
+use crate::broadcast::{holders, holds_asked, reach_each};
+use crate::counts::{count_after, left_after};
 use crate::scripts::{handed_from, open_script};
 use crate::working::{admit, leave};
 use run_capture::{List, Mem, OutOfMemory, Text};
@@ -23,20 +25,24 @@ use run_unit::{Unit, UnitEffects};
 use std::alloc::Global;
 use std::marker::Model;
 
-/// Each script and test of the plan, once it was admitted, with a count of those that aren't over and the numbers of
-/// those that were admitted and aren't over, so that no turn looks at all. Contracts see the list of the units.
+/// Each script and test of the plan, once it was admitted, with counts of those that aren't over and of those that are
+/// live, and the numbers of those that were admitted and aren't over, so that no turn looks at all but one that asks
+/// something of all. Contracts see the list of the units.
 #[derive(Drop)]
 pub struct Units {
     items: Vec<Option<Unit>>,
     /// How many aren't over.
     left: usize,
+    /// How many are live.
+    live: u32,
     /// The numbers of those that were admitted and aren't over, in ascending order.
     working: Vec<u32>,
 }
 
 impl Model for Units {
-    ghost use Rattle.std.specs.Prelude.{◌≡◌, List, Option, count_by};
+    ghost use Rattle.std.specs.Prelude.{◌≡◌, ◌<◌, ◌^◌, List, Option, count_by, length};
     ghost use Rattle.run_model.specs.declared.unit_view.UnitView.{UnitView};
+    ghost use Rattle.run_model.specs.Turns.{live_in};
     ghost use Rattle.run_state.specs.Counted.{is_left, working_in};
 
     ghost Value = { List (Option UnitView) };
@@ -44,7 +50,9 @@ impl Model for Units {
     ghost view = { λ u. u.items.items };
 
     ghost invariant = { λ u. (u.left ≡ count_by is_left u.items.items)
-        × (u.working.items ≡ working_in u.items.items) };
+        × (u.working.items ≡ working_in u.items.items)
+        × (u.live ≡ live_in u.items.items)
+        × (length u.items.items < 2 ^ 32) };
 }
 
 fn unit_is_done(unit: &Option<Unit>) -> bool
@@ -66,13 +74,15 @@ fn are_done(units: &[Option<Unit>]) -> bool
 impl Units {
     /// Units none of which was admitted.
     pub fn new(alloc: Global, items: Vec<Option<Unit>>) -> Units
-        requires { (k : ℕ) → slice_index_or items.items k None ≡ None }
+        requires none { (k : ℕ) → slice_index_or items.items k None ≡ None }
+        requires few { length items.items < 2 ^ 32 }
         ensures { result ≡ items.items }
     {
         let left = items.len();
         Units {
             items,
             left,
+            live: 0,
             working: Vec::new(alloc),
         }
     }
@@ -129,6 +139,32 @@ impl Units {
         }
     }
 
+    /// How many are live.
+    pub fn live(&self) -> u32
+        ensures { result ≡ live_in self.now }
+    {
+        let _ = &self.items;
+        self.live
+    }
+
+    /// Whether one has in its line what the open round asks.
+    pub fn holds(&self, unit: u32, asks: Option<Request>) -> bool
+        ensures holds { result ≡ holds_asked asks (slice_index_or self.now unit None) }
+        ensures few { length self.now < 2 ^ 32 }
+    {
+        match self.items.get(unit as usize) {
+            Some(unit) => holds_asked(unit, asks),
+            None => false,
+        }
+    }
+
+    /// How many have in their lines what the open round asks. Each is looked at.
+    pub fn holders(&self, asks: Option<Request>) -> u32
+        ensures { result ≡ holders_in asks self.now }
+    {
+        holders(self.items.as_slice(), asks)
+    }
+
     /// Whether each was admitted and is over.
     pub fn are_over(&self) -> bool
         ensures { result ≡ list_all is_done self.now }
@@ -175,18 +211,21 @@ impl Units {
             IfOk result (λ e. e.sent ≡ deed.sent) }
         ensures asked { let deed = unit_deed now unit turn self.old in
             IfOk result (λ e. e.asked ≡ deed.asked) }
+        ensures info { let deed = unit_deed now unit turn self.old in
+            IfOk result (λ e. e.info ≡ deed.info) }
         ensures over { let next = unit_next now unit turn self.old in
             IfOk result (λ e. e.over ≡ is_done next) }
         ensures err { OnErr result (self.new ≡ self.old) }
     {
+        let was_live = is_live_at(self.items.as_slice(), unit);
         let effects = step_at(&mut self.items, alloc, unit as usize, turn, now)?;
         self.left = left_after(self.left, effects.over);
+        self.live = count_after(self.live, was_live, is_live_at(self.items.as_slice(), unit));
         leave(&mut self.working, unit, effects.over);
         Ok(effects)
     }
 
-    /// A request reaches each unit that was let go and isn't over: it stands in its line. Each unit is looked at, but at
-    /// most eight times in a sub-run, since the reason of each broadcast is above that of the one before.
+    /// A request reaches each unit that was let go and isn't over: it stands in its line. Each unit is looked at.
     pub fn broadcast(&mut self, alloc: Global, request: Request) -> Mem<()>
         ensures ok { OnOk result (self.new ≡ reach_all (Some request) self.old) }
         ensures scripts { map is_no_script self.new ≡ map is_no_script self.old }
@@ -202,11 +241,13 @@ impl Units {
         ensures err { OnErr result (self.new ≡ self.old) }
     {
         let over = is_over(&unit);
+        let live = unit.is_live();
         let Ok(()) = admit(&mut self.working, place, over) else {
             drop(unit);
             return Err(OutOfMemory);
         };
         self.left = left_after(self.left, over);
+        self.live = count_after(self.live, false, live);
         put(&mut self.items, place as usize, unit);
         Ok(())
     }
@@ -227,6 +268,8 @@ fn step_at(
         IfOk result (λ e. e.sent ≡ deed.sent) }
     ensures asked { let deed = unit_deed now unit turn units.old.items in
         IfOk result (λ e. e.asked ≡ deed.asked) }
+    ensures info { let deed = unit_deed now unit turn units.old.items in
+        IfOk result (λ e. e.info ≡ deed.info) }
     ensures over { let next = unit_next now unit turn units.old.items in
         IfOk result (λ e. e.over ≡ is_done next) }
     ensures err { OnErr result (units.new.items ≡ units.old.items) }
@@ -240,12 +283,14 @@ fn step_at(
     }
 }
 
-// How many aren't over, after one of them was set, which is over or not.
-fn left_after(left: usize, over: bool) -> usize
-    requires { over ≡ true → 1 ≤ left }
-    ensures { result ≡ left - cond over 1 0 }
+// Whether the unit of a number is live.
+fn is_live_at(units: &[Option<Unit>], unit: u32) -> bool
+    ensures { result ≡ is_live_unit (slice_index_or units.now unit None) }
 {
-    if over { left - 1 } else { left }
+    match units.get(unit as usize) {
+        Some(Some(unit)) => unit.is_live(),
+        _ => false,
+    }
 }
 
 fn is_over(unit: &Unit) -> bool

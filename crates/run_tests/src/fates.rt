@@ -3,12 +3,10 @@ ghost use Rattle.std.specs.Prelude.{◌≤◌};
 ghost use Rattle.run_model.specs.Backoff.{retry_count};
 
 use crate::made::{MEMORY, text};
-use crate::plan::{Tests, retries, retry_count};
+use crate::plan::{Tests, retries, retry_count, slow};
 use crate::steps::Walk;
 use run_capture::{ChildFdError, List, Text};
-use run_events::{
-    ChildExecutionOutput, ExecuteStatus, LeakTimeout, ReporterEvent, SlowTimeout, TestEventKind,
-};
+use run_events::{ChildExecutionOutput, ExecuteStatus, LeakTimeout, ReporterEvent, TestEventKind};
 use run_model::{AttemptTerms, CapturedStreams, UnitTurn};
 use run_plain::{
     News, OwnTurn, account, account_of, has_retry_left, meets_attempt_law, none_goes_on,
@@ -26,12 +24,13 @@ pub fn usual_terms(of: Tests) -> AttemptTerms
             stdout: false,
             stderr: false,
         },
-        slow: SlowTimeout::usual(),
+        slow: slow(of),
         leak: LeakTimeout::usual(),
         disables_timeouts: false,
         skips_leak_detection: false,
         reads_env: false,
         retries: retries(of),
+        stops: true,
     }
 }
 
@@ -256,7 +255,7 @@ pub fn have_fates(rt: &impl Abort, alloc: Global, of: Tests, walk: &Walk) -> boo
         return true;
     }
     match of {
-        Tests::One | Tests::Retried => has_first_fate(rt, alloc, of, walk),
+        Tests::One | Tests::Retried | Tests::Timed => has_first_fate(rt, alloc, of, walk),
         Tests::OneAndSkipped => {
             has_first_fate(rt, alloc, of, walk) && has_second_fate(rt, alloc, walk)
         }

@@ -8,7 +8,11 @@
 #![tactic(auto)]
 
 #[cfg(test)]
+mod broadcasts;
+#[cfg(test)]
 mod built;
+#[cfg(test)]
+mod cuts;
 #[cfg(test)]
 mod delays;
 #[cfg(test)]

@@ -5,7 +5,9 @@ ghost use Rattle.run_model.specs.Backoff.{retry_count};
 use crate::made::{MEMORY, one, text};
 use run_capture::{CaptureStrategy, List, Text};
 use run_engine::{TestRunner, TestRunnerBuilder};
-use run_events::{ChildExit, Plan, PlanTest, RetryPolicy, Signal, TestInstanceId, Turn};
+use run_events::{
+    ChildExit, Plan, PlanTest, RetryPolicy, Signal, SlowTimeout, TestInstanceId, Turn,
+};
 use std::alloc::Global;
 use std::process::Abort;
 use uuid::Uuid;
@@ -19,6 +21,8 @@ pub enum Tests {
     OneAndSkipped,
     // One that matches, and is tried again once where it fails.
     Retried,
+    // The same, after a delay, and it runs out of time.
+    Timed,
 }
 
 // How often the first test is tried again where it fails.
@@ -27,17 +31,38 @@ pub fn retry_count(of: Tests) -> u32
 {
     match of {
         Tests::One | Tests::OneAndSkipped => 0,
-        Tests::Retried => 1,
+        Tests::Retried | Tests::Timed => 1,
     }
 }
 
-// The retries of the first test: at once.
+// A second, in nanoseconds.
+pub const SECOND: u64 = 1_000_000_000;
+
+// How long the delay before a retry is.
+fn delay(of: Tests) -> u64 {
+    match of {
+        Tests::Timed => SECOND,
+        _ => 0,
+    }
+}
+
+// When the first test is slow, and what comes of that.
+pub fn slow(of: Tests) -> SlowTimeout {
+    let mut slow = SlowTimeout::usual();
+    if let Tests::Timed = of {
+        slow.period = SECOND;
+        slow.terminate_after = Some(1);
+    }
+    slow
+}
+
+// The retries of the first test.
 pub fn retries(of: Tests) -> RetryPolicy
     ensures { retry_count result ≤ 1 }
 {
     RetryPolicy::Fixed {
         count: retry_count(of),
-        delay: 0,
+        delay: delay(of),
         jitter: false,
     }
 }
@@ -57,6 +82,7 @@ fn skipped(rt: &impl Abort, alloc: Global) -> PlanTest {
 fn first(rt: &impl Abort, alloc: Global, of: Tests) -> PlanTest {
     let mut test = planned(rt, alloc, "t", None);
     test.retries = retries(of);
+    test.slow = slow(of);
     test
 }
 
@@ -85,11 +111,11 @@ pub fn runner(rt: &impl Abort, alloc: Global, of: Tests) -> TestRunner {
     builder.build(alloc, plan(rt, alloc, of)).expect(rt, MEMORY)
 }
 
-fn exit(unit: u32, exit: ChildExit) -> Turn {
+pub fn exit(unit: u32, exit: ChildExit) -> Turn {
     Turn::Exit { unit, exit }
 }
 
-fn put(rt: &impl Abort, turns: &mut Vec<Turn>, turn: Turn) {
+pub fn put(rt: &impl Abort, turns: &mut Vec<Turn>, turn: Turn) {
     turns.push(turn).expect(rt, MEMORY);
 }
 
@@ -155,7 +181,7 @@ fn put_all(rt: &impl Abort, alloc: Global, turns: &mut Vec<Turn>, of: Tests) {
             put_ends(rt, turns);
         }
         Tests::OneAndSkipped => put_second(rt, alloc, turns),
-        Tests::Retried => put_retry(rt, turns),
+        Tests::Retried | Tests::Timed => put_retry(rt, turns),
     }
 }
 

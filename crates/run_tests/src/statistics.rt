@@ -18,6 +18,9 @@ fn told_in(event: &ReporterEvent) -> Option<&RunStats> {
             TestEventKind::TestStarted(event) => Some(&event.stats),
             TestEventKind::TestFinished(event) => Some(&event.stats),
             TestEventKind::RunBeginCancel(event) => Some(&event.stats),
+            TestEventKind::RunBeginKill(event) => Some(&event.stats),
+            TestEventKind::InfoStarted(event) => Some(&event.stats),
+            TestEventKind::InputEnter(event) => Some(&event.stats),
             TestEventKind::RunFinished(event) => single(&event.stats),
             _ => None,
         },
@@ -32,28 +35,27 @@ fn last_told(events: &[ReporterEvent]) -> Option<&RunStats> {
     }
 }
 
-// Why the run is cancelled, if it is: nothing else does it.
-fn reason(is_interrupted: bool) -> Option<CancelReason> {
-    is_interrupted.then_some(CancelReason::Interrupt)
-}
-
-// Whether these are the statistics that the events come to.
+// Whether these are the statistics that the events come to, of a run that is cancelled for this reason, if it is.
 fn are_of(
     settings: &Settings,
     events: &[ReporterEvent],
-    is_interrupted: bool,
+    reason: Option<CancelReason>,
     stats: &RunStats,
 ) -> bool {
     if settings.plan.tests.len() > 100 || events.len() > 100 {
         return false;
     }
-    *stats == stats_told(settings, reason(is_interrupted), events)
+    *stats == stats_told(settings, reason, events)
 }
 
 // Whether the statistics that the last event tells are those of all events told.
-pub fn are_counted(settings: &Settings, events: &[ReporterEvent], is_interrupted: bool) -> bool {
+pub fn are_counted(
+    settings: &Settings,
+    events: &[ReporterEvent],
+    reason: Option<CancelReason>,
+) -> bool {
     match last_told(events) {
-        Some(stats) => are_of(settings, events, is_interrupted, stats),
+        Some(stats) => are_of(settings, events, reason, stats),
         None => true,
     }
 }

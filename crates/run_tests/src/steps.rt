@@ -1,11 +1,12 @@
 // A run by the engine.
+use crate::broadcasts::{Broadcasts, no_broadcasts};
 use crate::fates::usual_terms;
 use crate::made::{MEMORY, copied};
 use crate::plan::{Tests, runner};
 use crate::statistics::are_counted;
 use crate::units::{Taken, put_own};
-use run_engine::{Run, StepError, TestRunnerExecuteErrors};
-use run_events::{AskList, EventLog, ReporterEvent, RunOutcome, Turn};
+use run_engine::{Phase, Run, StepError, TestRunnerExecuteErrors};
+use run_events::{AskList, EventLog, ReporterEvent, Request, RunOutcome, Turn};
 use run_plain::{OwnTurn, is_due};
 use std::alloc::Global;
 use std::process::Abort;
@@ -33,8 +34,8 @@ pub struct Walk {
     pub ends: Ends,
     // The first unit's own turns, the newest first.
     pub story: Vec<OwnTurn>,
-    // Whether it was interrupted.
-    pub is_interrupted: bool,
+    // What the turns of the run's own did.
+    pub broadcasts: Broadcasts,
     // Whether the statistics told by each turn are those that the events come to.
     pub counted: bool,
     // Whether the first unit's timer was due exactly where its own turns say so.
@@ -48,18 +49,26 @@ pub fn new_walk(alloc: Global) -> Walk {
         outcome: None,
         ends: no_ends(),
         story: Vec::new(alloc),
-        is_interrupted: false,
+        broadcasts: no_broadcasts(alloc),
         counted: true,
         timed: true,
     }
 }
 
-// Whether the first unit's timer is due, by its own turns.
-fn is_timer_due(rt: &impl Abort, alloc: Global, of: Tests, story: &[OwnTurn]) -> bool {
+// Whether the first unit's timer is due at a moment, by its own turns.
+fn is_timer_due(rt: &impl Abort, alloc: Global, of: Tests, now: u64, story: &[OwnTurn]) -> bool {
     if story.len() > 100 {
         return false;
     }
-    is_due(alloc, usual_terms(of), 0, story).expect(rt, MEMORY)
+    is_due(alloc, usual_terms(of), now, story).expect(rt, MEMORY)
+}
+
+// Whether the first unit was let go and isn't over.
+fn is_first_live(run: &Run) -> bool {
+    !matches!(
+        run.phase(0),
+        None | Some(Phase::StartSent) | Some(Phase::Over)
+    )
 }
 
 // Whether a turn was taken.
@@ -67,7 +76,7 @@ fn takes(rt: &impl Abort, alloc: Global, run: &mut Run, turn: &Turn, ends: &mut 
     let turn = copied(rt, alloc, turn);
     match run.step(alloc, turn, &mut ends.asks, &mut ends.log) {
         Ok(_) => true,
-        Err(StepError::NotEnabled) => false,
+        Err(StepError::NotEnabled | StepError::ThirdSignal) => false,
         Err(_) => rt.panic(MEMORY),
     }
 }
@@ -77,17 +86,26 @@ impl Walk {
         self.ends.log.events()
     }
 
+    // The request that the first unit takes with a turn.
+    fn request_with(&mut self, turn: &Turn) -> Option<Request> {
+        match turn {
+            Turn::Take { unit: 0 } => self.broadcasts.take(),
+            _ => None,
+        }
+    }
+
     // Keeps what is seen of a turn that was taken after so many events.
     fn see(&mut self, rt: &impl Abort, alloc: Global, turn: &Turn, told: usize) {
+        let request = self.request_with(turn);
         let events = self.ends.log.events();
         let taken = Taken {
             turn,
             events,
             is_quiet: events.len() == told,
-            is_interrupted: self.is_interrupted,
+            is_cancelled: self.broadcasts.reason.is_some(),
+            moment: self.broadcasts.clock,
         };
-        put_own(rt, alloc, &mut self.story, taken);
-        self.is_interrupted = self.is_interrupted || matches!(turn, Turn::Signal { .. });
+        put_own(rt, alloc, &mut self.story, taken, request);
     }
 
     fn take(&mut self, rt: &impl Abort, alloc: Global, run: &mut Run, turn: &Turn) {
@@ -95,6 +113,7 @@ impl Walk {
         self.enabled = takes(rt, alloc, run, turn, &mut self.ends);
         if self.enabled {
             self.see(rt, alloc, turn, told);
+            self.broadcasts.hear(rt, turn, is_first_live(run));
         }
     }
 
@@ -107,7 +126,8 @@ impl Walk {
         run: &mut Run,
         turn: &Turn,
     ) {
-        let due = is_timer_due(rt, alloc, of, self.story.as_slice());
+        let now = self.broadcasts.clock;
+        let due = is_timer_due(rt, alloc, of, now, self.story.as_slice());
         self.take(rt, alloc, run, turn);
         let differs = matches!(turn, Turn::UnitDue { unit: 0 }) && self.enabled != due;
         self.timed = self.timed && !differs;
@@ -123,7 +143,7 @@ impl Walk {
     ) {
         for turn in turns {
             self.take_timed(rt, alloc, of, run, turn);
-            let counted = are_counted(run.settings(), self.events(), self.is_interrupted);
+            let counted = are_counted(run.settings(), self.events(), self.broadcasts.reason);
             self.counted = self.counted && counted;
         }
         self.outcome = run.outcome();

@@ -1,7 +1,7 @@
 // A unit's own turns, as they are seen in a run.
 use crate::made::{MEMORY, copied};
 use run_capture::Text;
-use run_events::{ReporterEvent, Request, ShutdownRequest, TestEventKind, Turn};
+use run_events::{ReporterEvent, Request, TestEventKind, Turn};
 use run_model::UnitTurn;
 use run_plain::OwnTurn;
 use std::alloc::Global;
@@ -43,14 +43,16 @@ pub struct Taken<'a> {
     pub turn: &'a Turn,
     pub events: &'a [ReporterEvent],
     pub is_quiet: bool,
-    // Whether the run was interrupted before it.
-    pub is_interrupted: bool,
+    // Whether the run was cancelled before it.
+    pub is_cancelled: bool,
+    // When it came, in nanoseconds of the run's clock.
+    pub moment: u64,
 }
 
 // What a turn is to the first unit. It is the only one that starts, and a start, or a retry, whose delivery tells nothing
 // is one that comes to nothing: the unit is let go exactly where nothing cancelled the run before.
 fn own_turn(rt: &impl Abort, alloc: Global, taken: Taken<'_>) -> Option<UnitTurn> {
-    let go = !taken.is_interrupted;
+    let go = !taken.is_cancelled;
     match taken.turn {
         Turn::Deliver if taken.is_quiet || last_starts_first(taken.events) => {
             Some(UnitTurn::Answered { go })
@@ -66,26 +68,21 @@ fn own_turn(rt: &impl Abort, alloc: Global, taken: Taken<'_>) -> Option<UnitTurn
     }
 }
 
-// The request that a turn takes: a run is interrupted once at most.
-fn request_of(turn: &UnitTurn) -> Option<Request> {
-    match turn {
-        UnitTurn::Take => Some(Request::Shutdown(ShutdownRequest::Interrupt)),
-        _ => None,
-    }
-}
-
-// A turn of the first unit's own. No turn that is tried moves the clock.
-fn first_turn(turn: UnitTurn) -> OwnTurn {
-    OwnTurn {
-        moment: 0,
-        request: request_of(&turn),
-        turn,
-    }
-}
-
-// Puts a turn before the first unit's story, the newest turn first, where it is its own.
-pub fn put_own(rt: &impl Abort, alloc: Global, story: &mut Vec<OwnTurn>, taken: Taken<'_>) {
+// Puts a turn before the first unit's story, the newest turn first, where it is its own, with the request that it takes.
+pub fn put_own(
+    rt: &impl Abort,
+    alloc: Global,
+    story: &mut Vec<OwnTurn>,
+    taken: Taken<'_>,
+    request: Option<Request>,
+) {
     if let Some(turn) = own_turn(rt, alloc, taken) {
-        story.insert(0, first_turn(turn)).expect(rt, MEMORY);
+        let moment = taken.moment;
+        let own = OwnTurn {
+            moment,
+            turn,
+            request,
+        };
+        story.insert(0, own).expect(rt, MEMORY);
     }
 }

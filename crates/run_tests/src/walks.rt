@@ -58,7 +58,7 @@ fn compared_on(
     (same, walk.enabled)
 }
 
-fn compared(rt: &impl Abort, alloc: Global, of: Tests, turns: &[Turn]) -> (bool, bool) {
+pub fn compared(rt: &impl Abort, alloc: Global, of: Tests, turns: &[Turn]) -> (bool, bool) {
     let mut walk = new_walk(alloc);
     let compared = compared_on(rt, alloc, of, turns, &mut walk);
     drop(walk);
@@ -70,7 +70,7 @@ fn add(rt: &impl Abort, alloc: Global, turns: &mut Vec<Turn>, turn: &Turn) {
 }
 
 // Copies of turns, and of one more.
-fn with_turn(rt: &impl Abort, alloc: Global, turns: &[Turn], turn: &Turn) -> Vec<Turn> {
+pub fn with_turn(rt: &impl Abort, alloc: Global, turns: &[Turn], turn: &Turn) -> Vec<Turn> {
     let mut longer = Vec::new(alloc);
     for turn in turns {
         add(rt, alloc, &mut longer, turn);

@@ -1,4 +1,6 @@
+mod AnswerLemmas
 mod RetryLemmas
 mod SlowLemmas
+mod TakenLemmas
 mod TimelyLemmas
 mod TriedLemmas

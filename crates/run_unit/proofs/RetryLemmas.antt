@@ -2,7 +2,7 @@
 use Rattle.std.proofs.Common.{suc, ◌≡◌, ◌-◌, List, [], ◌∷◌, length, refl, ap, ◌∙◌, arith}
 use Rattle.std.specs.Prelude.{slice_get}
 use Rattle.run_events.specs.declared.result.ExecuteStatus.{ExecuteStatus}
-use Rattle.run_model.specs.Unit.{last_status}
+use Rattle.run_model.specs.Ending.{last_status}
 
 -- the last status stands at the last place
 pub last_given : (ss : List ExecuteStatus) → last_status ss ≡ slice_get ss (length ss - 1)

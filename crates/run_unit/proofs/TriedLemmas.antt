@@ -5,7 +5,8 @@ use Rattle.std.specs.Prelude.{slice_get}
 use Rattle.run_capture.specs.Captured.{Captured, is_done, with_wait_error}
 use Rattle.run_events.specs.declared.plan.PlanTest.{PlanTest}
 use Rattle.run_events.specs.declared.request.Request.{Request}
-use Rattle.run_events.specs.declared.request.Request.TheVariants.{Shutdown, OtherCancel}
+use Rattle.run_events.specs.declared.request.Request.TheVariants.{Stop, Continue, Shutdown, OtherCancel, GetInfo}
+use Rattle.run_events.specs.declared.request.TerminateReason.{TerminateReason}
 use Rattle.run_events.specs.declared.request.TerminateReason.TheVariants.{Signal}
 use Rattle.run_events.specs.declared.request.TermSignal.{TermSignal}
 use Rattle.run_events.specs.declared.request.TermSignal.TheVariants.{Kill}
@@ -24,10 +25,11 @@ use Rattle.run_model.specs.Backoff.{retry_count}
 use Rattle.run_model.specs.Environment.{attempts}
 use Rattle.run_model.specs.Slow.{one_more, is_out_of_time}
 use Rattle.run_model.specs.Terminate.{terminate_method}
-use Rattle.run_model.specs.Unit.{row_at, running_row, slow_row, slow_again, in_grace, out_of_time, settled, exited}
-use Rattle.run_model.specs.Unit.{result_of, awaits_env, awaiting_env, ended}
-use Rattle.run_model.specs.Unit.{leaking, heard_with, having_heard, asked_to_end, requested, take_row}
-use Rattle.run_model.specs.Unit.{has_retry, next_delay, delayed, decided}
+use Rattle.run_model.specs.Ending.{settled, exited, result_of, awaits_env, awaiting_env, ended, leaking}
+use Rattle.run_model.specs.Retries.{has_retry, next_delay, delayed, decided}
+use Rattle.run_model.specs.Requests.{asked_to_end, requested, take_row}
+use Rattle.run_model.specs.Unit.{row_at, running_row, slow_row, slow_again, in_grace, out_of_time, heard_with}
+use Rattle.run_model.specs.Unit.{having_heard}
 use Rattle.run_unit.specs.Timely.{last_in, IsTried}
 
 -- the attempts of a test of a plan fit where those of the plan do
@@ -58,7 +60,7 @@ exited_tried : (now : ℕ) (exit : Option ChildExit) (leaked : Bool) (c : Captur
 exited_tried now exit leaked c u h =
     elim (awaits_env (result_of exit c.errors leaked u) u) as
     (λ b. IsTried (if b
-    then awaiting_env exit leaked c u
+    then awaiting_env now exit leaked c u
     else ended now (result_of exit c.errors leaked u) (Output c.output c.errors) u))
     [ true ↦ tried_on u h | false ↦ tried_on u h ]
 
@@ -98,15 +100,19 @@ running_tried now (WaitFailed error) u h = settled_tried now None (with_wait_err
 running_tried now turn u h = h
 
 -- where its child gets a signal that ends it
-asked_tried : (now : ℕ) (signal : TermSignal) (u : UnitView) → IsTried u → IsTried (asked_to_end now signal u).next
-asked_tried now Kill u h = h
-asked_tried now signal u h = tried_on u h
+asked_tried : (now : ℕ) (reason : TerminateReason) (signal : TermSignal) (u : UnitView) → IsTried u
+    → IsTried (asked_to_end now reason signal u).next
+asked_tried now reason Kill u h = h
+asked_tried now reason signal u h = tried_on u h
 
 -- where it takes a request
 requested_tried : (now : ℕ) (ph : Phase) (request : Request) (u : UnitView) → u.phase ≡ ph → IsTried u
     → IsTried (requested now ph request u).next
+requested_tried now ph (Stop round) u is h = h
+requested_tried now ph Continue u is h = h
+requested_tried now ph (GetInfo round) u is h = h
 requested_tried now Running (Shutdown request) u is h =
-    asked_tried now (terminate_method (Signal request) u.terms.slow.grace) u h
+    asked_tried now (Signal request) (terminate_method (Signal request) u.terms.slow.grace) u h
 requested_tried now Grace (Shutdown request) u is h = tried_on u h
 requested_tried now Delay (Shutdown request) u is h = tried_in Delay u is h
 requested_tried now Delay OtherCancel u is h = tried_in Delay u is h

@@ -1,4 +1,4 @@
 pub mod Effects
 pub mod Heard
-pub mod Same
+pub mod Taken
 pub mod Timely

@@ -1,6 +1,7 @@
 // Which row of the unit table a turn is.
 ghost use Rattle.std.specs.Prelude.{◌≡◌, ◌≤◌, OnErr, IfOk, true, false};
-ghost use Rattle.run_model.specs.Unit.{row_at, takes_at, started, quiet as quiet_row};
+ghost use Rattle.run_model.specs.Row.{quiet as quiet_row};
+ghost use Rattle.run_model.specs.Unit.{row_at, takes_at, started};
 ghost use Rattle.run_model.specs.declared.phase.Phase.TheVariants as phases;
 ghost use Rattle.run_model.specs.declared.unit_turn.UnitTurn.TheVariants as turns;
 ghost use Rattle.run_unit.specs.Effects.{IsRow};
@@ -52,7 +53,7 @@ pub fn is_enabled(view: &UnitView, turn: &UnitTurn, now: u64) -> bool
 /// Takes a turn now by the row of its phase.
 pub fn act(alloc: Global, view: &mut UnitView, turn: UnitTurn, now: u64) -> Mem<UnitEffects>
     requires enabled { takes_at now view.old.phase view.old turn ≡ true }
-    requires later { view.old.timers.stopwatch.latest ≤ now }
+    requires timely { IsTimely view.old.timers now }
     requires tried { IsTried view.old }
     ensures row { IfOk result (IsRow (row_at now view.old.phase turn view.old) view.new) }
     ensures err { OnErr result (view.new ≡ view.old) }
@@ -87,14 +88,14 @@ fn hear_turn(alloc: Global, view: &mut UnitView, turn: UnitTurn, now: u64) -> Me
 fn act_itself(alloc: Global, view: &mut UnitView, turn: UnitTurn, now: u64) -> Mem<UnitEffects>
     requires other { is_of_stream turn ≡ false }
     requires enabled { takes_at now view.old.phase view.old turn ≡ true }
-    requires later { view.old.timers.stopwatch.latest ≤ now }
+    requires timely { IsTimely view.old.timers now }
     requires tried { IsTried view.old }
     ensures row { IfOk result (IsRow (row_at now view.old.phase turn view.old) view.new) }
     ensures err { OnErr result (view.new ≡ view.old) }
 {
     match turn {
         UnitTurn::Answered { go } => answer(alloc, view, go, now),
-        UnitTurn::Started { .. } => Ok(start(view, now)),
+        UnitTurn::Started { pid } => Ok(start(view, pid, now)),
         UnitTurn::StartFailed { error } => fail_start(alloc, view, error, now),
         UnitTurn::Exit { exit } => end_child(alloc, view, exit, now),
         UnitTurn::WaitFailed { error } => end_wait(alloc, view, error, now),
@@ -133,11 +134,12 @@ fn answer_start(alloc: Global, view: &mut UnitView, go: bool, now: u64) -> Mem<U
     Ok(quiet(true))
 }
 
-// Its child has started, and may be slow from now on.
-fn start(view: &mut UnitView, now: u64) -> UnitEffects
-    ensures { IsRow (quiet_row (started now view.old)) view.new result }
+// Its child has started, as this process, and may be slow from now on.
+fn start(view: &mut UnitView, pid: u32, now: u64) -> UnitEffects
+    ensures { IsRow (quiet_row (started now pid view.old)) view.new result }
 {
     view.phase = Phase::Running;
+    view.pid = pid;
     view.timers.slow = slow_timer_at(now, &view.terms);
     quiet(false)
 }

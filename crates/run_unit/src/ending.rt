@@ -3,9 +3,9 @@ ghost use Rattle.std.specs.Prelude.{◌≡◌, ◌≤◌, ◌<◌, ◌^◌, [], 
 ghost use Rattle.std.specs.Prelude.{vec_len, vec_capacity};
 ghost use Rattle.run_model.specs.Environment.{attempts as attempts_of};
 ghost use Rattle.run_events.specs.declared.result.ChildExecutionOutput.TheVariants.{Output};
-ghost use Rattle.run_model.specs.Unit.{row_at, running_row, waited_row, ended, exited, awaits_env, awaiting_env};
-ghost use Rattle.run_model.specs.Unit.{settled, hears, heard_with};
-ghost use Rattle.run_model.specs.Unit.{having_heard, quiet as quiet_row};
+ghost use Rattle.run_model.specs.Ending.{ended, exited, awaits_env, awaiting_env, leaking, settled};
+ghost use Rattle.run_model.specs.Row.{quiet as quiet_row};
+ghost use Rattle.run_model.specs.Unit.{row_at, running_row, waited_row, hears, heard_with, having_heard};
 ghost use Rattle.run_model.specs.Admission.{is_last};
 ghost use Rattle.run_model.specs.declared.phase.Phase.TheVariants as phases;
 ghost use Rattle.run_model.specs.declared.unit_turn.UnitTurn.TheVariants as turns;
@@ -13,9 +13,9 @@ ghost use Rattle.run_unit.specs.Effects.{IsRow};
 
 use crate::effects::{UnitEffects, quiet};
 use crate::hearing::hear;
-use crate::status::{close, result_of, status_at};
+use crate::pauses::{close_timers, leak_from};
+use crate::status::{close, result_of, result_so_far, status_at};
 use run_capture::{ChildAccumulator, List, Mem, OutOfMemory, Text};
-use run_clock::PausableSleep;
 use run_events::{ChildExecutionOutput, ChildExit, ExecuteStatus, ExecutionResult};
 use run_model::{Phase, UnitTurn, UnitView};
 use std::alloc::Global;
@@ -31,7 +31,7 @@ pub fn fail_start(alloc: Global, view: &mut UnitView, error: Text, now: u64) -> 
     let output = ChildExecutionOutput::StartError(error);
     let status = status_at(view, ExecutionResult::ExecFail, output, now);
     view.statuses.push(alloc, status)?;
-    close(view);
+    close(view, now);
     Ok(quiet(false))
 }
 
@@ -129,11 +129,19 @@ fn settle(view: &mut UnitView, attempts: Vec<ExecuteStatus>, exit: Option<ChildE
         be_done(view, attempts, exit, false, now);
     } else {
         view.statuses = List::from_vec(attempts);
-        view.phase = Phase::Leak;
-        view.timers.slow = None;
-        view.timers.wait = Some(PausableSleep::new(now, view.terms.leak.period));
-        view.exit = exit;
+        wait_for_streams(view, exit, now);
     }
+}
+
+// It waits for its streams from now on, with how its child ended.
+fn wait_for_streams(view: &mut UnitView, exit: Option<ChildExit>, now: u64)
+    requires { view.old.timers.stopwatch.latest ≤ now }
+    ensures { view.new ≡ leaking now exit view.old.capture view.old }
+{
+    view.exit_result = result_so_far(view, exit);
+    view.exit = exit;
+    view.phase = Phase::Leak;
+    leak_from(&mut view.timers, now, view.terms.leak.period);
 }
 
 // It heard a turn of a stream: its attempt ends, after these, where all its streams are done.
@@ -170,7 +178,7 @@ fn be_done(
     let outcome = result_of(view, exit, view.capture.errors(), leaked);
     if awaits_env(view, outcome) {
         view.statuses = List::from_vec(attempts);
-        await_env(view, exit, leaked);
+        await_env(view, exit, leaked, now);
     } else {
         end_attempt(view, attempts, outcome, now);
     }
@@ -184,13 +192,14 @@ fn awaits_env(view: &UnitView, outcome: ExecutionResult) -> bool
 }
 
 // It waits for that, with how its child ended.
-fn await_env(view: &mut UnitView, exit: Option<ChildExit>, leaked: bool)
-    ensures { view.new ≡ awaiting_env exit leaked view.old.capture view.old }
+fn await_env(view: &mut UnitView, exit: Option<ChildExit>, leaked: bool, now: u64)
+    requires { view.old.timers.stopwatch.latest ≤ now }
+    ensures { view.new ≡ awaiting_env now exit leaked view.old.capture view.old }
 {
     view.phase = Phase::EnvWait;
-    view.timers.slow = None;
-    view.timers.wait = None;
+    close_timers(&mut view.timers, now);
     view.exit = exit;
+    view.exit_result = None;
     view.leaked = leaked;
 }
 
@@ -214,5 +223,5 @@ pub fn end_attempt(
     let status = status_at(view, outcome, output, now);
     attempts.push_reserved(status);
     view.statuses = List::from_vec(attempts);
-    close(view);
+    close(view, now);
 }

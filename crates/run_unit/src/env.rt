@@ -2,7 +2,8 @@
 ghost use Rattle.std.specs.Prelude.{◌≡◌, ◌≤◌, ◌<◌, ◌^◌, OnErr, IfOk, vec_len, vec_capacity};
 ghost use Rattle.run_model.specs.Env.{env_of};
 ghost use Rattle.run_model.specs.Environment.{attempts as attempts_of};
-ghost use Rattle.run_model.specs.Unit.{env_row, ended_with, result_with};
+ghost use Rattle.run_model.specs.Ending.{ended_with, result_with};
+ghost use Rattle.run_model.specs.Unit.{env_row};
 ghost use Rattle.run_unit.specs.Effects.{IsRow};
 
 use crate::effects::{UnitEffects, quiet};

@@ -5,11 +5,13 @@ ghost use Rattle.run_model.specs.Admission.{begun_view, flaky_of, retries_of, te
 ghost use Rattle.run_model.specs.Admission.{streams_by, test_role, first_view};
 
 use crate::messages::test_unit;
+use crate::pauses::timers_from;
 use crate::start::with_command;
-use crate::timing::timers_from;
 use run_capture::{CaptureStrategy, ChildAccumulator, Duplicate, List, Mem, Text};
 use run_commands::PlatformRunner;
-use run_events::{FlakyResult, PlanTest, RetryPolicy, ScriptEnv, Settings, TestSlotAssignment};
+use run_events::{
+    FlakyResult, PlanTest, RetryPolicy, ScriptEnv, Settings, TerminateReason, TestSlotAssignment,
+};
 use run_model::{AttemptTerms, CapturedStreams, Phase, Surroundings, TestRole, UnitRole, UnitView};
 use std::alloc::Global;
 
@@ -31,10 +33,13 @@ pub fn begun_view(
         attempt: 1,
         delay: 0,
         timers: timers_from(0),
+        pid: 0,
+        ending: TerminateReason::Timeout,
         line: List::new(),
         latest: 0,
         capture: ChildAccumulator::uncaptured(),
         exit: None,
+        exit_result: None,
         leaked: false,
         env: ScriptEnv::Unread,
         statuses: List::new(),
@@ -91,6 +96,7 @@ fn terms_of(settings: &Settings, test: &PlanTest) -> AttemptTerms
         skips_leak_detection: interceptor.should_skip_leak_detection(),
         reads_env: false,
         retries: retries_of(settings, test),
+        stops: interceptor.should_send_sigtstp(),
     }
 }
 

@@ -4,9 +4,10 @@ ghost use Rattle.run_events.specs.declared.message.Message.TheVariants as messag
 ghost use Rattle.run_model.specs.Admission.{start_message, skip_message};
 ghost use Rattle.run_model.specs.Backoff.{retry_count};
 ghost use Rattle.run_model.specs.Environment.{attempts, number_of, test_start};
-ghost use Rattle.run_model.specs.Unit.{slow_report, test_slow, failure_message, failed_message};
-ghost use Rattle.run_model.specs.Unit.{retry_message, test_retry, finish_message, test_finish, script_finish};
-ghost use Rattle.run_model.specs.Unit.{last_status};
+ghost use Rattle.run_model.specs.Ending.{last_status};
+ghost use Rattle.run_model.specs.Retries.{failure_message, failed_message, retry_message, test_retry, finish_message};
+ghost use Rattle.run_model.specs.Retries.{test_finish, script_finish};
+ghost use Rattle.run_model.specs.Unit.{slow_report, test_slow};
 
 use crate::script::{script_finish, script_slow, script_start};
 use crate::slow::{is_out_of_time, slow_time};

@@ -1,20 +1,25 @@
 // The attempts after the first: whether an attempt is tried again, after which delay, and from when on.
-ghost use Rattle.std.specs.Prelude.{ℕ, ◌≡◌, ◌≤◌, ◌<◌, ◌^◌, OnErr, IfOk, Some, true};
+ghost use Rattle.std.specs.Prelude.{◌≡◌, ◌≤◌, ◌<◌, ◌^◌, OnErr, IfOk, Some, true};
 ghost use Rattle.run_model.specs.Attempts.{cancels};
 ghost use Rattle.run_model.specs.Backoff.{retry_count};
 ghost use Rattle.run_model.specs.Environment.{attempts};
-ghost use Rattle.run_model.specs.Unit.{has_passed, has_retry, last_status};
-ghost use Rattle.run_model.specs.Unit.{decide_row, decided, delayed, retried, has_request, take_row, row_at, begun_row, at_next};
+ghost use Rattle.run_model.specs.Ending.{last_status};
+ghost use Rattle.run_model.specs.Retries.{has_passed, has_retry, decide_row, decided, delayed, retried, left};
+ghost use Rattle.run_model.specs.Requests.{take_row};
+ghost use Rattle.run_model.specs.Story.{oldest};
+ghost use Rattle.run_model.specs.Unit.{row_at, begun_row, at_next};
 ghost use Rattle.run_model.specs.declared.phase.Phase.TheVariants as phases;
 ghost use Rattle.run_model.specs.declared.unit_turn.UnitTurn.TheVariants as turns;
 ghost use Rattle.run_unit.specs.Effects.{IsRow};
+ghost use Rattle.run_unit.specs.Timely.{IsTried};
 
-use crate::effects::{UnitEffects, quiet};
+use crate::effects::{UnitEffects, acting};
+use crate::info::{exited_answers, stops_in};
 use crate::messages::{failure_message, finish_message, retry_message};
+use crate::pauses::wait_from;
 use crate::requests::take_oldest;
 use crate::start::let_go;
 use run_capture::{List, Mem};
-use run_clock::PausableSleep;
 use run_events::{ExecuteStatus, Request};
 use run_model::{Phase, UnitView, delay_by, retry_count};
 use std::alloc::Global;
@@ -22,6 +27,7 @@ use std::alloc::Global;
 /// It decides: where its attempt failed and a retry is left, it is tried again after a delay, drawn with this word.
 pub fn decide(alloc: Global, view: &mut UnitView, word: u32, now: u64) -> Mem<UnitEffects>
     requires first { 1 ≤ view.old.attempt }
+    requires few { attempts view.old < 2 ^ 32 }
     ensures row { IfOk result (IsRow (decide_row now word view.old) view.new) }
     ensures err { OnErr result (view.new ≡ view.old) }
 {
@@ -51,17 +57,22 @@ fn has_passed(statuses: &[ExecuteStatus]) -> bool
     }
 }
 
-// It is done: its attempts are told, and what waits in its line is taken no more.
+// It is done: its attempts are told, each query in its line is answered, and each stop is gone.
 fn finish(alloc: Global, view: &mut UnitView) -> Mem<UnitEffects>
+    requires { attempts view.old < 2 ^ 32 }
     ensures row { IfOk result (IsRow (decided view.old) view.new) }
     ensures err { OnErr result (view.new ≡ view.old) }
 {
+    let info = exited_answers(alloc, view)?;
     let sent = finish_message(alloc, view)?;
+    let acks = stops_in(view.line.as_slice());
     view.phase = Phase::Over;
     view.line = List::new();
     Ok(UnitEffects {
         sent,
         asked: None,
+        info,
+        acks,
         over: true,
     })
 }
@@ -73,13 +84,9 @@ fn wait_for_retry(alloc: Global, view: &mut UnitView, delay: u64, now: u64) -> M
 {
     let sent = failure_message(alloc, view, delay)?;
     view.phase = Phase::Delay;
-    view.timers.wait = Some(PausableSleep::new(now, delay));
+    wait_from(&mut view.timers, now, delay);
     view.delay = delay;
-    Ok(UnitEffects {
-        sent,
-        asked: None,
-        over: false,
-    })
+    Ok(acting(sent, None))
 }
 
 /// The delay before its next attempt is over: its retry is told, and it waits to be let go.
@@ -92,30 +99,22 @@ pub fn retry(alloc: Global, view: &mut UnitView) -> Mem<UnitEffects>
     let sent = retry_message(alloc, view)?;
     view.phase = Phase::RetrySent;
     view.timers.wait = None;
-    Ok(UnitEffects {
-        sent,
-        asked: None,
-        over: false,
-    })
+    Ok(acting(sent, None))
 }
 
-/// It takes the oldest request of its line in a delay, which one that cancels the run ends.
-pub fn take_in_delay(alloc: Global, view: &mut UnitView) -> Mem<UnitEffects>
-    requires waits { has_request view.old.line ≡ true }
+/// It takes this request, the oldest of its line, in a delay, and ends that for it.
+#[tactic(auto, using(crate::proofs::TakenLemmas::ends_delay))]
+pub fn end_delay(alloc: Global, view: &mut UnitView, request: Request, now: u64) -> Mem<UnitEffects>
+    requires oldest { oldest view.old.line ≡ Some request }
+    requires cancels { cancels (Some request) ≡ true }
     requires phase { view.old.phase ≡ phases.Delay }
-    requires few { attempts view.old < 2 ^ 32 }
-    requires left { view.old.attempt ≤ retry_count view.old.terms.retries }
-    ensures row { IfOk result (λ effects. (now : ℕ) → IsRow (take_row now phases.Delay view.old.line view.old) view.new effects) }
+    requires tried { IsTried view.old }
+    ensures row { IfOk result (IsRow (take_row now view.old.phase view.old.line view.old) view.new) }
     ensures err { OnErr result (view.new ≡ view.old) }
 {
-    if ends_delay(view.line.as_slice()[0]) {
-        let effects = retry(alloc, view)?;
-        take_oldest(alloc, &mut view.line);
-        Ok(effects)
-    } else {
-        take_oldest(alloc, &mut view.line);
-        Ok(quiet(false))
-    }
+    let effects = retry(alloc, view)?;
+    take_oldest(alloc, &mut view.line);
+    Ok(effects)
 }
 
 /// Its retry was told: it is let go for its next attempt, or left.
@@ -126,11 +125,26 @@ pub fn answer_retry(alloc: Global, view: &mut UnitView, go: bool, now: u64) -> M
     ensures err { OnErr result (view.new ≡ view.old) }
 {
     if go {
-        return go_again(alloc, view, now);
+        go_again(alloc, view, now)
+    } else {
+        Ok(leave(view))
     }
+}
+
+// It isn't let go for its next attempt: what waits in its line is dropped.
+fn leave(view: &mut UnitView) -> UnitEffects
+    ensures { IsRow (left view.old) view.new result }
+{
+    let acks = stops_in(view.line.as_slice());
     view.phase = Phase::Over;
     view.line = List::new();
-    Ok(quiet(true))
+    UnitEffects {
+        sent: None,
+        asked: None,
+        info: List::new(),
+        acks,
+        over: true,
+    }
 }
 
 // It is let go for its next attempt.
@@ -149,11 +163,4 @@ fn go_again(alloc: Global, view: &mut UnitView, now: u64) -> Mem<UnitEffects>
             Err(error)
         }
     }
-}
-
-// Whether a request ends a delay: it cancels the run.
-fn ends_delay(request: Request) -> bool
-    ensures { result ≡ cancels (Some request) }
-{
-    matches!(request, Request::Shutdown(_) | Request::OtherCancel)
 }

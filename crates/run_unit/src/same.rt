@@ -1,6 +1,6 @@
 // Whether two requests are the same.
 ghost use Rattle.std.specs.Prelude.{◌≡◌};
-ghost use Rattle.run_unit.specs.Same.{is_request, is_for};
+ghost use Rattle.run_model.specs.Same.{is_request, is_for};
 
 use run_events::{Request, ShutdownRequest};
 

@@ -4,7 +4,8 @@ ghost use Rattle.run_events.specs.declared.message.Message.TheVariants as messag
 ghost use Rattle.run_model.specs.Admission.{scripts_in, script_streams, script_terms, script_surroundings};
 ghost use Rattle.run_model.specs.Admission.{script_role, script_view};
 ghost use Rattle.run_model.specs.Environment.{script_start};
-ghost use Rattle.run_model.specs.Unit.{script_slow, script_status, script_finish};
+ghost use Rattle.run_model.specs.Retries.{script_status, script_finish};
+ghost use Rattle.run_model.specs.Unit.{script_slow};
 
 use crate::first::{begun_view, surroundings_of};
 use crate::slow::{is_out_of_time, slow_time};
@@ -49,6 +50,7 @@ fn script_terms(settings: &Settings, script: &PlanScript) -> AttemptTerms
         skips_leak_detection: false,
         reads_env: true,
         retries: RetryPolicy::none(),
+        stops: settings.interceptor.should_send_sigtstp(),
     }
 }
 

@@ -3,15 +3,17 @@ ghost use Rattle.std.specs.Prelude.{◌≡◌, ◌<◌, ◌^◌, OnErr, IfOk, So
 ghost use Rattle.run_model.specs.Admission.{is_last};
 ghost use Rattle.run_model.specs.Environment.{attempts};
 ghost use Rattle.run_model.specs.Slow.{one_more, is_out_of_time, slow_time};
-ghost use Rattle.run_model.specs.Unit.{signal_ask, slow_message, slow_row, killed};
+ghost use Rattle.run_model.specs.Row.{child_ask, signal_ask};
+ghost use Rattle.run_model.specs.Requests.{killed};
+ghost use Rattle.run_model.specs.Unit.{slow_message, slow_row};
 ghost use Rattle.run_unit.specs.Effects.{IsRow};
 
-use crate::effects::UnitEffects;
+use crate::effects::{UnitEffects, acting};
 use crate::messages::{number_of, slow_report};
+use crate::requests::give_time;
 use crate::timing::slow_timer_at;
 use run_capture::Mem;
-use run_clock::PausableSleep;
-use run_events::{Ask, ChildSignal, Message, SignalAsk, SlowTimeout, TermSignal};
+use run_events::{Ask, ChildSignal, Message, SignalAsk, SlowTimeout, TermSignal, TerminateReason};
 use run_model::{Phase, UnitView};
 use std::alloc::Global;
 
@@ -26,7 +28,7 @@ pub fn is_out_of_time(slow: &SlowTimeout, count: u32) -> bool
 }
 
 /// Its timer is due while its child runs: it is slow once more.
-#[tactic(auto, using(crate::proofs::SlowLemmas::slow_sent))]
+#[tactic(auto, using(crate::proofs::SlowLemmas::slow_sent, crate::proofs::SlowLemmas::slow_info, crate::proofs::SlowLemmas::slow_acks))]
 pub fn be_slow(alloc: Global, view: &mut UnitView, now: u64) -> Mem<UnitEffects>
     requires few { attempts view.old < 2 ^ 32 }
     requires going { is_last view.old.phase ≡ false }
@@ -36,11 +38,7 @@ pub fn be_slow(alloc: Global, view: &mut UnitView, now: u64) -> Mem<UnitEffects>
     let count = view.timers.slow_count.saturating_add(1);
     let sent = slow_message(alloc, view, count)?;
     let asked = count_slow(view, count, now);
-    Ok(UnitEffects {
-        sent,
-        asked,
-        over: false,
-    })
+    Ok(acting(sent, asked))
 }
 
 /// Its time to end by itself is over.
@@ -49,11 +47,7 @@ pub fn kill(view: &mut UnitView) -> UnitEffects
 {
     view.phase = Phase::Running;
     view.timers.wait = None;
-    UnitEffects {
-        sent: None,
-        asked: Some(signal_ask(view, TermSignal::Kill)),
-        over: false,
-    }
+    acting(None, Some(signal_ask(view, TermSignal::Kill)))
 }
 
 // The message that its attempt was slow so often, where it is given some time to end by itself.
@@ -76,14 +70,21 @@ pub fn slow_time(slow: &SlowTimeout, count: u32) -> u64
 }
 
 /// A signal that is asked for its child, and for the group of its child's processes where it has one of its own.
-pub fn signal_ask(view: &UnitView, signal: TermSignal) -> Ask
-    ensures { result ≡ signal_ask signal view.now }
+pub fn child_ask(view: &UnitView, signal: ChildSignal) -> Ask
+    ensures { result ≡ child_ask signal view.now }
 {
     Ask::Signal(SignalAsk {
         unit: number_of(&view.role),
-        signal: ChildSignal::End(signal),
+        signal,
         group: view.around.group,
     })
+}
+
+/// One that ends its child.
+pub fn signal_ask(view: &UnitView, signal: TermSignal) -> Ask
+    ensures { result ≡ signal_ask signal view.now }
+{
+    child_ask(view, ChildSignal::End(signal))
 }
 
 // It was slow so often, and goes on or is ended for it: what it asks for that.
@@ -115,7 +116,6 @@ fn run_out(view: &mut UnitView, count: u32, now: u64) -> Ask
         view.phase = Phase::KillWait;
         return signal_ask(view, TermSignal::Kill);
     }
-    view.phase = Phase::Grace;
-    view.timers.wait = Some(PausableSleep::new(now, view.terms.slow.grace));
+    give_time(view, TerminateReason::Timeout, now);
     signal_ask(view, TermSignal::Term)
 }

@@ -6,10 +6,10 @@ ghost use Rattle.run_model.specs.Environment.{split_streams, streams_of};
 ghost use Rattle.run_model.specs.Unit.{begun_row, nothing_captured};
 ghost use Rattle.run_unit.specs.Effects.{IsRow};
 
-use crate::effects::UnitEffects;
+use crate::effects::{UnitEffects, acting};
 use crate::environment::{environment, followed_by};
 use crate::messages::number_of;
-use crate::timing::timers_from;
+use crate::pauses::timers_from;
 use run_capture::{CaptureStrategy, ChildAccumulator, Duplicate, List, Mem, Stream, Text};
 use run_events::{Ask, StartAsk};
 use run_model::{CapturedStreams, Phase, UnitRole, UnitView};
@@ -128,9 +128,5 @@ pub fn let_go(alloc: Global, view: &mut UnitView, now: u64) -> Mem<UnitEffects>
     view.phase = Phase::Starting;
     view.timers = timers_from(now);
     view.capture = capture;
-    Ok(UnitEffects {
-        sent: None,
-        asked: Some(ask),
-        over: false,
-    })
+    Ok(acting(None, Some(ask)))
 }

@@ -3,10 +3,12 @@ ghost use Rattle.std.specs.Prelude.{◌≡◌, ◌≤◌, ◌<◌, ◌^◌, None
 ghost use Rattle.run_capture.specs.Output.{uncaptured};
 ghost use Rattle.run_capture.specs.Captured.{begun};
 ghost use Rattle.run_model.specs.Environment.{attempts};
-ghost use Rattle.run_model.specs.Unit.{result_of, status_at, silent};
+ghost use Rattle.run_model.specs.Ending.{result_of, result_so_far, status_at};
+ghost use Rattle.run_model.specs.Pauses.{closed};
 ghost use Rattle.run_model.specs.declared.phase.Phase.TheVariants as phases;
 
 use crate::messages::attempts;
+use crate::pauses::close_timers;
 use crate::slow::is_out_of_time;
 use run_capture::{ChildAccumulator, ChildFdError};
 use run_events::{
@@ -38,21 +40,23 @@ pub fn status_at(
     }
 }
 
-/// Its attempt is over: no timer is due and nothing is captured any more.
-pub fn close(view: &mut UnitView)
+/// Its attempt is over now: no timer is due and nothing is captured any more.
+pub fn close(view: &mut UnitView, now: u64)
+    requires { view.old.timers.stopwatch.latest ≤ now }
     ensures { view.new ≡ record view.old {
       phase = phases.Deciding;
-      timers = silent view.old.timers;
+      timers = closed now view.old.timers;
       capture = begun uncaptured;
       exit = None;
+      exit_result = None;
       leaked = false;
     } }
 {
     view.phase = Phase::Deciding;
-    view.timers.slow = None;
-    view.timers.wait = None;
+    close_timers(&mut view.timers, now);
     view.capture = ChildAccumulator::uncaptured();
     view.exit = None;
+    view.exit_result = None;
     view.leaked = false;
 }
 
@@ -71,5 +75,17 @@ pub fn result_of(
         }
     } else {
         create_execution_result(exit, errors, leaked, view.terms.leak.result)
+    }
+}
+
+/// The result by how its child ended and by what was captured of it: none where the wait for it failed, unless its attempt
+/// has run out of time.
+pub fn result_so_far(view: &UnitView, exit: Option<ChildExit>) -> Option<ExecutionResult>
+    ensures { result ≡ result_so_far exit view.now.capture view.now }
+{
+    if is_out_of_time(&view.terms.slow, view.timers.slow_count) || exit.is_some() {
+        Some(result_of(view, exit, view.capture.errors(), false))
+    } else {
+        None
     }
 }

@@ -1,25 +1,12 @@
 // The timers of a unit.
-ghost use Rattle.std.specs.Prelude.{◌≡◌, ◌≤◌, IfSome, None};
+ghost use Rattle.std.specs.Prelude.{◌≡◌, ◌≤◌, IfSome};
 ghost use Rattle.run_clock.specs.Sleep.{IsDueFrom};
-ghost use Rattle.run_clock.specs.Stopwatch.{started_at};
 ghost use Rattle.run_model.specs.Unit.{takes_at, slow_timer_at};
 ghost use Rattle.run_model.specs.declared.unit_turn.UnitTurn.TheVariants.{Due};
 ghost use Rattle.run_unit.specs.Timely.{IsTimely};
 
-use run_clock::{PausableSleep, StopwatchStart, due_from, fires_now};
-use run_model::{AttemptTerms, Phase, Timers, UnitView};
-
-/// The timers of an attempt that is let go now.
-pub fn timers_from(now: u64) -> Timers
-    ensures { result ≡ record { stopwatch = started_at now; slow = None; wait = None; slow_count = 0 } }
-{
-    Timers {
-        stopwatch: StopwatchStart::new(now),
-        slow: None,
-        wait: None,
-        slow_count: 0,
-    }
-}
+use run_clock::{PausableSleep, due_from, fires_now};
+use run_model::{AttemptTerms, Phase, UnitView};
 
 /// The timer until an attempt on these terms is slow, set now: none where slow timers are off.
 pub fn slow_timer_at(now: u64, terms: &AttemptTerms) -> Option<PausableSleep>

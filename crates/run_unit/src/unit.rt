@@ -9,7 +9,7 @@ ghost use Rattle.run_model.specs.Backoff.{retry_count};
 ghost use Rattle.run_model.specs.declared.phase.Phase.TheVariants as phases;
 ghost use Rattle.run_model.specs.declared.unit_turn.UnitTurn.TheVariants.{Due};
 ghost use Rattle.run_unit.specs.Effects.{IsRow};
-ghost use Rattle.run_unit.specs.Same.{is_request};
+ghost use Rattle.run_model.specs.Same.{is_request};
 
 use crate::acting::{act, is_enabled};
 use crate::effects::UnitEffects;

@@ -2,6 +2,7 @@
 ghost use Rattle.std.specs.Prelude.{◌≡◌, ◌&&◌, ◌||◌, length, nat_le, not, if◌then◌else◌, option_map, Some, None, true, false};
 ghost use Rattle.run_clock.specs.Sleep.{IsDueFrom};
 ghost use Rattle.run_model.specs.Board.{board, unit_in};
+ghost use Rattle.run_model.specs.Dispatch.{is_halted};
 ghost use Rattle.run_model.specs.Journal.{outcome};
 ghost use Rattle.run_model.specs.Turns.{enabled};
 ghost use Rattle.run_model.specs.Words.{is_over, sub_run, stats, running};
@@ -10,7 +11,7 @@ ghost use Rattle.run_engine.specs.Standing.{IsRunnable};
 ghost use Rattle.run_engine.specs.World.{history_of};
 
 use crate::run::{MOST_TURNS, Run};
-use run_events::{RunOutcome, RunStats, Turn};
+use run_events::{Request, RunOutcome, RunStats, Turn};
 use run_model::Phase;
 use run_state::is_enabled;
 
@@ -55,8 +56,8 @@ impl Run {
     }
 
     /// The least moment of the run's clock, in nanoseconds, at which a timer is due: with the clock there the turn of the
-    /// run's timer or of a unit's is enabled, and with the clock at an earlier moment none is. None where none is due at
-    /// any moment of a `u64`, and of a broken run.
+    /// run's timer, of the open round's wait or of a unit's timer is enabled, and with the clock at an earlier moment none
+    /// is. None where none is due at any moment of a `u64`, and of a broken run.
     pub fn next_due(&self) -> Option<u64>
         ensures due { self.now.broken ≡ false → IsDueFrom
             (is_any_due self.now.settings (board self.now.settings (history_of self.now))) result }
@@ -66,6 +67,25 @@ impl Run {
             return None;
         }
         self.state.next_due()
+    }
+
+    /// Whether the run is stopped; a broken run isn't.
+    pub fn is_paused(&self) -> bool
+        ensures { result ≡ (not self.now.broken && is_halted
+            (board self.now.settings (history_of self.now)).dispatcher) }
+    {
+        !self.broken && self.state.is_paused()
+    }
+
+    /// What the open round asks of each live unit: none where no round is open, and in a broken run.
+    pub fn round(&self) -> Option<Request>
+        ensures { result ≡ (if self.now.broken then None
+            else (board self.now.settings (history_of self.now)).dispatcher.rounds.asks) }
+    {
+        if self.broken {
+            return None;
+        }
+        self.state.round()
     }
 
     /// The statistics of the newest sub-run so far, none of a broken run.

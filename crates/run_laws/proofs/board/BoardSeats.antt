@@ -25,8 +25,11 @@ use Rattle.run_model.specs.declared.unit_view.UnitRole.{UnitRole}
 use Rattle.run_model.specs.declared.unit_view.UnitRole.TheVariants as roles
 use Rattle.run_model.specs.declared.unit_view.UnitView.{UnitView}
 use Rattle.run_model.specs.Environment.{number_of, number}
-use Rattle.run_model.specs.Unit.{Row, at_moment, row, row_at, takes, takes_at, decided, delayed, next_delay}
-use Rattle.run_model.specs.Unit.{failure_message, retry_message, finish_message, script_finish, last_status}
+use Rattle.run_model.specs.Ending.{last_status}
+use Rattle.run_model.specs.Row.{Row}
+use Rattle.run_model.specs.Retries.{decided, delayed, next_delay, failure_message, retry_message, finish_message}
+use Rattle.run_model.specs.Retries.{script_finish}
+use Rattle.run_model.specs.Unit.{at_moment, row, row_at, takes, takes_at}
 use Rattle.run_model.specs.Words.{unit_of, unit_after}
 use Rattle.run_model.specs.Admission.{is_last, seat_as, seat_of, tests_in, unit_of_test}
 use Rattle.run_laws.specs.Limits.{limits_with}

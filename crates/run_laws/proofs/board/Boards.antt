@@ -1,7 +1,7 @@
 -- The board after one more turn: a field at a time.
 use Rattle.std.proofs.Common.{◌≡◌, ◌≢◌, ◌⊎◌, inl, inr, ℕ, add-zero, ◌+◌, ◌<◌, ◌≤◌, ◌==◌, ◌||◌, List, [], ◌∷◌, ◌++◌}
 use Rattle.std.proofs.Common.{length, get_or, set, Bool, true, false, if◌then◌else◌, Option, Some, None, option_map}
-use Rattle.std.proofs.Common.{option_to_list, filter_map, count_by, sum_by, cond, refl, ap, sym, subst, ◌∙◌, arith}
+use Rattle.std.proofs.Common.{option_to_list, filter_map, count_by, sum_by, cond, refl, ap, sym, ◌∙◌, arith}
 use Rattle.std.proofs.Common.{get_or-set_other}
 use Rattle.std.proofs.Math.ListN.{length-set}
 use Rattle.std.proofs.lemmas.List.{append-nil, append_assoc, get_or-map, length-map}
@@ -29,14 +29,13 @@ use Rattle.run_model.specs.declared.happening.Happening.{Happening}
 use Rattle.run_model.specs.declared.happening.UnitPart.{UnitPart}
 use Rattle.run_model.specs.declared.happening.UnitPart.TheVariants.{Joins, Acts}
 use Rattle.run_model.specs.declared.unit_view.UnitView.{UnitView}
-use Rattle.run_model.specs.Unit.{row}
+use Rattle.run_model.specs.Unit.{row, reached, reach}
 use Rattle.run_model.specs.Words.{clock, ns_of, is_over, sub_run, told, reason, unit_after, unit_of, units, finish_of}
 use Rattle.run_model.specs.Words.{FinishedUnit, a_test, a_script, adds_by, finished_test, skips, stats_after, tally}
 use Rattle.run_model.specs.Words.{was_refused, is_by_signal, is_by_report, is_by_time, signals_heard, was_reported}
 use Rattle.run_model.specs.Words.{armed, time_limit, global_timer, causes_of}
 use Rattle.run_model.specs.Environment.{number}
 use Rattle.run_model.specs.Admission.{scripts_in, tests_in, units_in}
-use Rattle.run_model.specs.Unit.{reached, reach}
 use Rattle.run_model.specs.Dispatch.{rules_of, tallied, having_told}
 use Rattle.run_model.specs.Board.{Board, Deed, deed_events, board, said, units_after, reach_all, causes_after}
 use Rattle.run_model.specs.Board.{with_cause, step, answered}
@@ -45,10 +44,14 @@ use Rattle.run_model.specs.Journal.{history, IsLegalBackward}
 use Rattle.run_laws.proofs.board.Queue.{queue-cons}
 use Rattle.run_laws.proofs.told.Running.{running_in_told, running-started, running-finished, running-apart}
 use Rattle.run_laws.proofs.told.Running.{running-kept}
+use Rattle.run_laws.proofs.board.RoundLemmas.{rounds-cons, answers-cons}
+use Rattle.run_model.specs.Rounds.{global_act, timer_after}
 use Rattle.run_laws.proofs.board.OnBoard.{board_of, units-length, units-at}
-use Rattle.run_laws.proofs.told.Cancels.{IsCancel, IsCancelKind, cancel_is}
-use Rattle.run_laws.proofs.board.DeedFits.{ToldFits, ToldFitsIn, Does}
-use Rattle.run_laws.proofs.board.Kept.{HoldsAfter, does_after, IsOfRun, IsBeforeRuns, where_joins, holds}
+use Rattle.run_laws.proofs.told.Cancels.{IsCancel, IsCancelKind}
+use Rattle.run_laws.proofs.board.DeedFits.{cancel_told, ToldFits, ToldFitsIn, Does}
+use Rattle.run_laws.proofs.board.Holds.{HasRounds}
+use Rattle.run_laws.proofs.board.Whole.{board-is}
+use Rattle.run_laws.proofs.board.Kept.{HoldsAfter, does_after, IsOfRun, IsBeforeRuns, where_joins, kept, holds}
 
 -- the list of units after a part, at one of them
 at_part : (now : ℕ) (part : Option UnitPart) (us : List (Option UnitView)) (k : ℕ) → k < length us
@@ -249,7 +252,7 @@ tally-cons p over now run e d does =
     (ap (counts p (reason run)) (sym (append_assoc (told run) (option_to_list d.told) (option_to_list d.cancel)))
     ∙ counts-more p (reason run) d.cancel (told run ++ option_to_list d.told)
     (cancel_fits p (told run ++ option_to_list d.told) d.cancel
-    (subst IsCancel (sym does.marks.cancel) (cancel_is now (having_told (tally p run) d.told) d.cause)))
+    (cancel_told p over now run d does.marks))
     ∙ ap (λ t. having_told t d.cancel) (counts-more p (reason run) d.told (told run) does.tells))
 
 -- what cancels the run after one more deed
@@ -262,7 +265,7 @@ causes-cons p now run e d =
       global =
           if d.begins then armed now (time_limit p)
           else if is_by_time d.cause then None
-          else global_timer p run;
+          else timer_after now (global_act d.stops d.told) (global_timer p run);
     }) (sum_by-cons (λ (x : Happening). cond (is_by_signal x.cause) 1 0) (said now e d) run
     ∙ one_first (cond (is_by_signal d.cause) 1 0) (signals_heard run))
   where
@@ -271,14 +274,16 @@ causes-cons p now run e d =
 
 -- the board after one more deed
 board-cons : (p : Settings) (over : Bool) (now : ℕ) (run : List Happening) (e : Entry) (d : Deed)
-    → Does p over now run d
+    → HasRounds run → Does p over now run d
     → board_of p (d.over || over) (now + ns_of e.turn) (said now e d ∷ run) ≡ step (board_of p over now run) e.turn d
-board-cons p over now run e d does =
+board-cons p over now run e d rounds does =
     rw (
       sym (units-cons p (said now e d) run),
       queue-cons (said now e d) run does.room,
       tally-cons p over now run e d does,
       causes-cons p now run e d,
+      rounds-cons now run e d does.marks.stops,
+      answers-cons p over now run e d rounds does.marks,
     ) refl
 
 -- where nothing has begun, a turn that does nothing moves the clock alone
@@ -302,8 +307,10 @@ board_step : (p : Settings) (past : List Happening) (e : Entry) → HoldsAfter p
     → board p (happening p past e ∷ past)
     ≡ answered (step (board p past) e.turn (deed_on p (board p past) e.turn)) e.refused
 board_step p past e h en =
-    ap (λ (b : Board). record b { refused = was_refused (happening p past e ∷ past) })
+    board-is p (happening p past e ∷ past) later.alike
+    ∙ ap (λ (b : Board). record b { refused = was_refused (happening p past e ∷ past) })
     (by_run (where_joins p past e h en))
+    ∙ ap (λ (b : Board). answered (step b e.turn d) e.refused) (sym (board-is p past h.alike))
   where
     d : Deed
     d = deed_on p (board p past) e.turn
@@ -314,11 +321,14 @@ board_step p past e h en =
     after : List Happening → Board
     after run = board_of p (d.over || is_over past) (clock past + ns_of e.turn) run
 
+    later : HoldsAfter p (happening p past e ∷ past)
+    later = kept p past e h en
+
     by_run : IsOfRun p past e ⊎ IsBeforeRuns p past e
         → after (sub_run (happening p past e ∷ past)) ≡ step (before (sub_run past)) e.turn d
     by_run (inl of) =
         ap after of.joins
-        ∙ board-cons p (is_over past) (clock past) (sub_run past) e d (does_after p past e h en)
+        ∙ board-cons p (is_over past) (clock past) (sub_run past) e d h.run.rounds (does_after p past e h en)
     by_run (inr idle) =
         ap after idle.still
         ∙ ap (λ (d : Deed). board_of p (d.over || is_over past) (clock past + ns_of e.turn) []) idle.idle

@@ -1,25 +1,20 @@
 -- A turn is one of the run's own, or a unit's.
 use Rattle.std.proofs.Common.{◌≡◌, ℕ, Bool, true, false, Option, Some, None, refl}
-use Rattle.run_events.specs.declared.settings.Settings.{Settings}
 use Rattle.run_events.specs.declared.turn.Turn.{Turn}
 use Rattle.run_events.specs.declared.turn.Turn.TheVariants.{Begin, Admit, Deliver, Started, StartFailed, Exit}
 use Rattle.run_events.specs.declared.turn.Turn.TheVariants.{WaitFailed, Piece, StreamEnd, ReadError, Env, Decide}
 use Rattle.run_events.specs.declared.turn.Turn.TheVariants.{UnitDue, Take, Clock, GlobalDue, Signal, ReportCancel}
-use Rattle.run_events.specs.declared.turn.Turn.TheVariants.{End}
+use Rattle.run_events.specs.declared.turn.Turn.TheVariants.{End, Key, Tick, StopWaitDue, Answer, InfoDue}
+use Rattle.run_events.specs.declared.input.Key.{Key as KeyName}
 use Rattle.run_events.specs.declared.signal.Signal.{Signal as SignalName}
 use Rattle.run_model.specs.declared.unit_turn.UnitTurn.{UnitTurn}
 use Rattle.run_model.specs.declared.unit_turn.UnitTurn.TheVariants.{Answered}
-use Rattle.run_model.specs.Board.{Board}
-use Rattle.run_model.specs.Turns.{turn_of_unit, run_takes}
+use Rattle.run_model.specs.Turns.{turn_of_unit}
 
 -- whether a turn is the answer to a start message
 abbrev pub is_answer : UnitTurn → Bool
 is_answer (Answered go) = true
 is_answer _ = false
-
--- a turn that is never enabled: it isn't built yet
-abbrev pub IsUnbuilt : Turn → Type 0
-IsUnbuilt turn = (p : Settings) (b : Board) → run_takes p b turn ≡ false
 
 -- what holds of each of the run's own turns, and of any turn of a unit, holds of every turn
 pub record Cases (P : Turn → Option (ℕ × UnitTurn) → Type 0) : Type 0 where
@@ -31,8 +26,12 @@ pub record Cases (P : Turn → Option (ℕ × UnitTurn) → Type 0) : Type 0 whe
   pub global_due : P GlobalDue None
   pub report_cancel : P ReportCancel None
   pub end : P End None
+  pub key : (key : KeyName) → P (Key key) None
+  pub tick : P Tick None
+  pub stop_wait_due : P StopWaitDue None
+  pub answer : P Answer None
+  pub info_due : P InfoDue None
   pub named : (turn : Turn) (k : ℕ) (to : UnitTurn) → is_answer to ≡ false → P turn (Some (k, to))
-  pub unbuilt : (turn : Turn) → IsUnbuilt turn → P turn None
 
 pub by_turn : (P : Turn → Option (ℕ × UnitTurn) → Type 0) → Cases P → (turn : Turn) → P turn (turn_of_unit turn)
 by_turn P c Begin = c.begin
@@ -54,4 +53,8 @@ by_turn P c (Signal signal) = c.signal signal
 by_turn P c GlobalDue = c.global_due
 by_turn P c ReportCancel = c.report_cancel
 by_turn P c End = c.end
-by_turn P c turn = c.unbuilt turn (λ p b. refl)
+by_turn P c (Key key) = c.key key
+by_turn P c Tick = c.tick
+by_turn P c StopWaitDue = c.stop_wait_due
+by_turn P c Answer = c.answer
+by_turn P c InfoDue = c.info_due

@@ -1,13 +1,14 @@
 -- What it is that a deed fits a sub-run.
 use Rattle.std.proofs.Common.{◌≡◌, ℕ, ◌+◌, ◌<◌, ◌≤◌, ◌||◌, List, [], ◌∷◌, ◌++◌, length, drop, Bool, true, false}
 use Rattle.std.proofs.Common.{if◌then◌else◌, Option, Some, None, option_to_list, is_none, is_some, ◌&&◌}
-use Rattle.std.proofs.Common.{option_and_then, refl, ap, sym}
+use Rattle.std.proofs.Common.{option_and_then, refl, ap, sym, subst}
 use Rattle.std.specs.Prelude.{⊤, IfSome}
 use Rattle.std.specs.List.{list_any}
 use Rattle.std.specs.Option.{option_or}
 use Rattle.run_events.specs.declared.settings.Settings.{Settings}
 use Rattle.run_events.specs.declared.turn.Turn.TheVariants.{End}
 use Rattle.run_events.specs.declared.ask.Ask.{Ask}
+use Rattle.run_events.specs.declared.ask.Ask.TheVariants.{StopSelf}
 use Rattle.run_events.specs.declared.message.Message.{Message}
 use Rattle.run_events.specs.declared.events.ReporterEvent.{ReporterEvent}
 use Rattle.run_events.specs.declared.events.ReporterEvent.TheVariants.{Test}
@@ -23,19 +24,20 @@ use Rattle.run_model.specs.declared.unit_view.UnitView.{UnitView}
 use Rattle.run_model.specs.Unit.{row, takes}
 use Rattle.run_model.specs.Story.{lets_go, deliveries, is_at_retry, stopped_at, was_left}
 use Rattle.run_model.specs.Words.{is_on, is_running, reason, sent, delivered, queue, told, unit_of, unit_after, tally}
+use Rattle.run_model.specs.Rounds.{tells_answer, opens_round, open_round, answers_told, answers_given}
 use Rattle.run_model.specs.Admission.{scripts_in, units_in, unit_terms}
 use Rattle.run_model.specs.Dispatch.{event, having_told}
 use Rattle.run_model.specs.Board.{Deed, deed_events}
 use Rattle.run_model.specs.Turns.{is_complete, nothing_done, run_turn}
 use Rattle.run_model.specs.Accounts.{HasAccount, is_mismatched, account_of, pending_of}
-use Rattle.run_laws.proofs.told.Cancels.{cancel_for}
+use Rattle.run_laws.proofs.told.Cancels.{cancel_for, IsCancel, cancel_is}
 use Rattle.run_laws.proofs.units.AccountLemmas.{IsFirst}
 use Rattle.run_laws.proofs.units.RowSends.{IsOfKindIf, IsAsRole}
 use Rattle.run_laws.proofs.board.Order.{AreSettled}
 use Rattle.run_laws.specs.Scripts.{starts_test}
 use Rattle.run_laws.proofs.units.FaceLemmas.{said_of}
 use Rattle.run_laws.proofs.told.Reported.{DoesReport}
-use Rattle.run_laws.proofs.board.OnBoard.{board_of}
+use Rattle.run_laws.proofs.board.OnBoard.{board_of, moment_in}
 use Rattle.run_laws.proofs.board.Newcomers.{IsNew}
 
 -- what an answer says
@@ -70,14 +72,25 @@ ToldFits p es (Some (Test e)) = ToldFitsIn p es e.kind
 ToldFits p es _ = ⊤
 
 -- a deed tells of its cause after all else; a sub-run begins with it where nothing has happened, and else one is on, or
--- nothing has happened and nothing is done; it ends the run only as the end of a complete run does
+-- nothing has happened and nothing is done; it ends the run only as the end of a complete run does. The runner stops
+-- itself with one that tells nothing; a round is opened where a sub-run is on; and an answer is told that was given and
+-- wasn't told
 pub record Marks (p : Settings) (over : Bool) (now : ℕ) (run : List Happening) (d : Deed) : Type 0 where
-  pub cancel : d.cancel ≡ cancel_for now (having_told (tally p run) d.told) d.cause
+  pub cancel : d.cancel ≡ cancel_for (moment_in now run) (having_told (tally p run) d.told) d.cause
   pub begins : d.begins ≡ true → run ≡ []
   pub still : (d.begins || is_on run) ≡ false → (run ≡ []) × (d ≡ nothing_done)
   pub finishes : d.over ≡ d.ends
   pub ends : d.ends ≡ true → (d ≡ run_turn p (board_of p over now run) End)
       × (is_complete (board_of p over now run) ≡ true)
+  pub stops : d.stops ≡ true → d.told ≡ None
+  pub opens : opens_round d.request ≡ true → is_on run ≡ true
+  pub answers : tells_answer d.told ≡ true → answers_told run < length (answers_given (open_round run) run)
+
+-- what it tells of its cause is that the run is cancelled
+pub cancel_told : (p : Settings) (over : Bool) (now : ℕ) (run : List Happening) (d : Deed) → Marks p over now run d
+    → IsCancel d.cancel
+cancel_told p over now run d marks =
+    subst IsCancel (sym marks.cancel) (cancel_is (moment_in now run) (having_told (tally p run) d.told) d.cause)
 
 -- whether unit k was left, after one more turn with this part
 abbrev pub left_with : ℕ → List Happening → Option UnitPart → Bool
@@ -125,10 +138,13 @@ pub record IsInOrder (p : Settings) (run : List Happening) (e : ReporterEvent) :
   pub script : starts_script e ≡ true → list_any starts_test (told run) ≡ false
   pub said : (m : Message) → said_of e ≡ Some m → (rest : List Message) × (queue run ≡ m ∷ rest)
 
--- what is asked is what the row of its part asks
+-- what is asked is what the row of its part asks, or that the runner stops itself
 abbrev pub asked_by : ℕ → List Happening → Option UnitPart → Option Ask
 asked_by now run (Some (Acts j turn)) = option_and_then (λ v. (row now turn v).asked) (unit_of j run)
 asked_by now run _ = None
+
+abbrev pub asked_with : ℕ → List Happening → Deed → Option Ask
+asked_with now run d = if d.stops then Some StopSelf else asked_by now run d.part
 
 -- what is sent is the first message of a unit that joins, or what the row of its part sends
 abbrev pub IsSentAs : ℕ → List Happening → Option UnitPart → Option Message → Type 0
@@ -147,9 +163,9 @@ pub record Does (p : Settings) (over : Bool) (now : ℕ) (run : List Happening) 
       (unit_after now k d.part (unit_of k run))
       (account_of k (told run) ++ account_of k (deed_events d))
       (pending_of k (drop (if d.taken then 1 else 0) (queue run) ++ option_to_list d.sent))
-  pub reported : (k : ℕ) → DoesReport (unit_terms p k).slow k now run d
+  pub reported : (k : ℕ) → DoesReport (unit_terms p k) k now run d
   pub source : IsSentFor run d.part d.sent
-  pub asks : d.asked ≡ asked_by now run d.part
+  pub asks : d.asked ≡ asked_with now run d
   pub sent_as : IsSentAs now run d.part d.sent
   pub order : IfSome d.told (IsInOrder p run)
   pub marks : Marks p over now run d

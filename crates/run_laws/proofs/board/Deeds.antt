@@ -1,7 +1,6 @@
 -- What each enabled turn does fits the sub-run before it: the one place where the turns are gone through.
-use Rattle.std.proofs.Common.{◌≡◌, ℕ, ◌||◌, List, [], ◌∷◌, ◌++◌, drop, get_or, Bool, true, false, not}
-use Rattle.std.proofs.Common.{if◌then◌else◌, Option, Some, None, option_to_list, is_some, nat_lt, ◌&&◌, refl, ap, sym}
-use Rattle.std.proofs.Common.{subst, ◌∙◌, arith}
+use Rattle.std.proofs.Common.{is_none, ◌≡◌, ℕ, List, [], ◌∷◌, get_or, Bool, true, false, not, Option, Some, None}
+use Rattle.std.proofs.Common.{is_some, ◌&&◌, refl, ap, sym, subst, ◌∙◌, arith}
 use Rattle.std.specs.List.{list_any}
 use Rattle.std.specs.Cmp.{first_so, second_so}
 use Rattle.std.proofs.lemmas.List.{append-nil}
@@ -20,84 +19,43 @@ use Rattle.run_events.specs.declared.events.TestEventKind.TheVariants.{SetupScri
 use Rattle.run_model.specs.declared.happening.Happening.{Happening}
 use Rattle.run_clock.specs.Sleep.{fires_now}
 use Rattle.run_model.specs.Story.{was_left}
-use Rattle.run_model.specs.Words.{is_on, finished_test, sent, delivered, queue, told, unit_of, a_test, units}
-use Rattle.run_model.specs.Words.{unit_after, tally}
+use Rattle.run_model.specs.Words.{is_on, finished_test, sent, delivered, queue, told, unit_of, a_test, units, tally}
 use Rattle.run_model.specs.Admission.{newcomer}
-use Rattle.run_model.specs.Dispatch.{shuts_down, may_go, event, having_told, with_start, with_finish, started_event}
-use Rattle.run_model.specs.Dispatch.{finished_event}
-use Rattle.run_model.specs.Board.{Board, Deed}
-use Rattle.run_model.specs.Turns.{enabled_on, is_empty, is_complete, takes_turn, turn_of_unit, nothing_done}
-use Rattle.run_model.specs.Turns.{cancelled, event_of, tally_with, delivered_as, delivery, run_turn, done_by, deed_on}
-use Rattle.run_model.specs.Accounts.{finished, HasAccount, is_mismatched, attempt_of, account_of, news_in, pending_in}
-use Rattle.run_model.specs.Accounts.{pending_of}
-use Rattle.run_model.specs.Cancel.{Cause, cause_of, caused}
-use Rattle.run_model.specs.Words.{signals_heard, was_reported, global_timer}
-use Rattle.run_model.specs.declared.dispatcher_view.Tally.{Tally}
+use Rattle.run_events.specs.Hearing.{heard_key}
+use Rattle.run_events.specs.declared.turn.Turn.TheVariants.{End}
+use Rattle.run_model.specs.Rounds.{is_answer, open_round, answers_waiting}
+use Rattle.run_model.specs.Dispatch.{heard_by, is_main, stop_waits, query_waits, is_halted, may_go, with_start}
+use Rattle.run_model.specs.Dispatch.{with_finish, started_event, finished_event}
+use Rattle.run_model.specs.Board.{Board}
+use Rattle.run_model.specs.Turns.{live_in, enabled_on, is_empty, is_complete, takes_turn, turn_of_unit, nothing_done}
+use Rattle.run_model.specs.Turns.{event_of, tally_with, delivered_as, delivery, run_turn, done_by, deed_on}
+use Rattle.run_model.specs.Accounts.{finished, is_mismatched, attempt_of, account_of, news_in, pending_in}
+use Rattle.run_model.specs.Cancel.{cause_of}
+use Rattle.run_model.specs.Words.{was_reported, global_timer}
 use Rattle.run_laws.proofs.board.Holds.{Holds}
-use Rattle.run_laws.proofs.told.Cancels.{cancel_for, IsCancel, cancel_is, account_with, reports_with}
 use Rattle.run_laws.proofs.board.Queue.{lt-from_queue}
 use Rattle.run_laws.proofs.board.ByTurn.{by_turn}
-use Rattle.run_laws.proofs.units.AccountLemmas.{of_slow, of_failed, of_finish, of_skip, begins, news_for}
+use Rattle.run_laws.proofs.units.AccountLemmas.{of_slow, of_failed, of_finish, of_skip, news_for}
 use Rattle.run_laws.proofs.board.Order.{is_of_script, AreSorted, sorted-drop, none_behind, oldest_not}
 use Rattle.run_laws.specs.Scripts.{starts_test}
-use Rattle.run_laws.specs.Reports.{report_in, report_of_kind, reports_waiting}
+use Rattle.run_laws.specs.Reports.{report_in, report_of_kind}
 use Rattle.run_laws.proofs.told.Reported.{still_reports, told_report}
-use Rattle.run_laws.proofs.board.OnBoard.{board_of, board_with, unit_in-is}
+use Rattle.run_laws.proofs.board.OnBoard.{moment_in, event_in, board_of, board_with, unit_in-is}
 use Rattle.run_laws.proofs.board.Facts.{finish_follows, finish_own, script_finish_own, may_go-is, oldest_kind}
 use Rattle.run_laws.proofs.board.Facts.{script_below, test_above}
-use Rattle.run_laws.proofs.board.DeedFits.{ToldFitsIn, Marks, left_with, IsInOrder, Does}
+use Rattle.run_laws.proofs.board.DeedFits.{ToldFitsIn, IsInOrder, Does}
+use Rattle.run_laws.proofs.board.RunDeeds.{caused_does, nothing_does, idles, cancels_does, signal_does, key_does}
+use Rattle.run_laws.proofs.board.RunDeeds.{stops_does, answer_does, informs_does, ticks_does}
 use Rattle.run_laws.proofs.board.UnitDeeds.{quiet, admits, unit_does, start_does, retry_does}
-
--- a cause adds nothing to what a deed does but its event
-caused_does : (p : Settings) (over : Bool) (now : ℕ) (run : List Happening) (o : Option Cause) (d : Deed)
-    → is_on run ≡ true → d.cause ≡ None → d.cancel ≡ None → d.begins ≡ false → d.over ≡ false → d.ends ≡ false
-    → Does p over now run d → Does p over now run (caused now (having_told (tally p run) d.told) o d)
-caused_does p over now run None d on cause cancel begins over_not ends does = does
-caused_does p over now run (Some c) d on cause cancel begins over_not ends does = record {
-  part = does.part;
-  room = does.room;
-  sends = does.sends;
-  tells = does.tells;
-  accounts = λ k. subst (λ news. HasAccount (is_mismatched p k) (left_with k run d.part)
-      (unit_after now k d.part (unit_of k run)) (account_of k (told run) ++ news)
-      (pending_of k (drop (if d.taken then 1 else 0) (queue run) ++ option_to_list d.sent)))
-      (account_with k (option_to_list d.told) d.cancel plain
-      ∙ sym (account_with k (option_to_list d.told) (cancel_for now t (Some c.reason)) (cancel_is now t (Some c.reason))))
-      (does.accounts k);
-  source = does.source;
-  asks = does.asks;
-  sent_as = does.sent_as;
-  order = does.order;
-  reported = λ k. let it = does.reported k in
-      record {
-        asks = it.asks;
-        sends = it.sends;
-        tells = ap (λ rs. rs ++ reports_waiting k (drop (if d.taken then 1 else 0) (queue run)))
-            (reports_with k (option_to_list d.told) (cancel_for now t (Some c.reason)) (cancel_is now t (Some c.reason))
-            ∙ sym (reports_with k (option_to_list d.told) d.cancel plain)) ∙ it.tells;
-      };
-  marks = record {
-    cancel = refl;
-    begins = does.marks.begins;
-    still = λ off. let never : true ≡ false = sym (ap (λ b. b || is_on run) begins ∙ on) ∙ off in cc;
-    finishes = does.marks.finishes;
-    ends = λ h. let never : false ≡ true = sym ends ∙ h in cc;
-  };
-}
-  where
-    t : Tally
-    t = having_told (tally p run) d.told
-
-    plain : IsCancel d.cancel
-    plain = subst IsCancel (sym cancel) tt
 
 -- what the delivery of a slow report does
 slow_does : (p : Settings) (over : Bool) (now : ℕ) (run : List Happening) (m : Message) (kind : TestEventKind)
     (rest : List Message) → Holds p over now run → is_on run ≡ true → queue run ≡ m ∷ rest
     → ((k : ℕ) → pending_in k m ≡ None) → ((k : ℕ) → news_in k kind ≡ None)
-    → ((k : ℕ) → report_of_kind k kind ≡ report_in k m) → ToldFitsIn p (told run) kind → IsInOrder p run (event now kind)
-    → Does p over now run (record nothing_done { taken = true; told = Some (event now kind) })
-slow_does p over now run m kind rest h on eq pends news same fits order = record {
+    → ((k : ℕ) → report_of_kind k kind ≡ report_in k m) → is_answer kind ≡ false
+    → ToldFitsIn p (told run) kind → IsInOrder p run (event_in now run kind)
+    → Does p over now run (record nothing_done { taken = true; told = Some (event_in now run kind) })
+slow_does p over now run m kind rest h on eq pends news same no_answer fits order = record {
   source = tt;
   asks = refl;
   sent_as = refl;
@@ -106,20 +64,21 @@ slow_does p over now run m kind rest h on eq pends news same fits order = record
   room = lt-from_queue (delivered run) (sent run) rest _ eq;
   sends = tt;
   tells = fits;
-  accounts = λ k. rw eq (of_slow (is_mismatched p k) (was_left k run) now k (unit_of k run)
+  accounts = λ k. rw eq (of_slow (is_mismatched p k) (was_left k run) (moment_in now run) k (unit_of k run)
       (account_of k (told run)) rest m kind (pends k) (news k) (rw eq at (h.accounts k)));
-  reported = λ k. still_reports _ k now run _ refl refl refl (rw eq (told_report k now m kind rest (same k)));
-  marks = quiet p over now run _ on refl refl refl refl refl;
+  reported = λ k. still_reports _ k now run _ refl refl refl
+      (rw eq (told_report k (moment_in now run) m kind rest (same k)));
+  marks = quiet p over now run _ on refl refl refl refl refl refl no_answer;
 }
 
 -- what the delivery of a finish does, apart from its cause
 finish_does : (p : Settings) (over : Bool) (now : ℕ) (run : List Happening) (i : ℕ) (m : Message) (kind : TestEventKind)
     (fs : List ExecuteStatus) (rest : List Message) → Holds p over now run → is_on run ≡ true → queue run ≡ m ∷ rest
     → ((k : ℕ) → pending_in k m ≡ news_for i (finished fs) k) → ((k : ℕ) → news_in k kind ≡ news_for i (finished fs) k)
-    → ((k : ℕ) → report_in k m ≡ None) → ((k : ℕ) → report_of_kind k kind ≡ None) → ToldFitsIn p (told run) kind
-    → IsInOrder p run (event now kind)
-    → Does p over now run (record nothing_done { taken = true; told = Some (event now kind) })
-finish_does p over now run i m kind fs rest h on eq pends news silent quiet_kind fits order = record {
+    → ((k : ℕ) → report_in k m ≡ None) → ((k : ℕ) → report_of_kind k kind ≡ None) → is_answer kind ≡ false
+    → ToldFitsIn p (told run) kind → IsInOrder p run (event_in now run kind)
+    → Does p over now run (record nothing_done { taken = true; told = Some (event_in now run kind) })
+finish_does p over now run i m kind fs rest h on eq pends news silent quiet_kind no_answer fits order = record {
   source = tt;
   asks = refl;
   sent_as = refl;
@@ -128,10 +87,10 @@ finish_does p over now run i m kind fs rest h on eq pends news silent quiet_kind
   room = lt-from_queue (delivered run) (sent run) rest _ eq;
   sends = tt;
   tells = fits;
-  accounts = λ k. rw eq (of_finish (is_mismatched p k) (was_left k run) now k i fs (unit_of k run)
+  accounts = λ k. rw eq (of_finish (is_mismatched p k) (was_left k run) (moment_in now run) k i fs (unit_of k run)
       (account_of k (told run)) rest m kind (pends k) (news k) (rw eq at (h.accounts k)));
   reported = λ k. still_reports _ k now run _ refl refl refl (rw eq (rw (silent k, quiet_kind k) refl));
-  marks = quiet p over now run _ on refl refl refl refl refl;
+  marks = quiet p over now run _ on refl refl refl refl refl refl no_answer;
 }
 
 -- where the oldest message is a script's no test was told started, and none of a script waits where it is a test's
@@ -159,6 +118,7 @@ delivers p over now run [] h on eq en = cc
 delivers p over now run (ScriptStart start ∷ rest) h on eq en =
     start_does p over now run start.script.unit (ScriptStart start) (SetupScriptStarted start) rest (may_go (tally p run))
     (get_or (units p run) start.script.unit None) h on (may_go-is p run) eq (λ k. refl) (λ k. refl) (λ k. refl) (λ k. refl)
+    refl
     (λ untold below. (script_below p start.script.unit (oldest_kind p over now run (ScriptStart start) rest h eq), untold))
     (λ admitted. record {
       test = λ e. cc;
@@ -169,7 +129,7 @@ delivers p over now run (ScriptStart start ∷ rest) h on eq en =
 delivers p over now run (Start start ∷ rest) h on eq en =
     start_does p over now run start.test.unit (Start start) (started_event start (with_start (tally p run))) rest
     (may_go (tally p run)) (get_or (units p run) start.test.unit None) h on (may_go-is p run) eq (λ k. refl) (λ k. refl)
-    (λ k. refl) (λ k. refl)
+    (λ k. refl) (λ k. refl) refl
     (λ untold below. (test_above p start.test.unit (oldest_kind p over now run (Start start) rest h eq), below, untold))
     (λ admitted. record {
       test = λ e. (
@@ -192,10 +152,10 @@ delivers p over now run (AttemptFailed failure ∷ rest) h on eq en = record {
   room = lt-from_queue (delivered run) (sent run) rest _ eq;
   sends = tt;
   tells = tt;
-  accounts = λ k. rw eq (of_failed (is_mismatched p k) (was_left k run) now k (unit_of k run)
+  accounts = λ k. rw eq (of_failed (is_mismatched p k) (was_left k run) (moment_in now run) k (unit_of k run)
       (account_of k (told run)) rest failure (tally p run) (rw eq at (h.accounts k)));
   reported = λ k. still_reports _ k now run _ refl refl refl (rw eq refl);
-  marks = quiet p over now run _ on refl refl refl refl refl;
+  marks = quiet p over now run _ on refl refl refl refl refl refl refl;
 }
 delivers p over now run (Skip skip ∷ rest) h on eq en = record {
   source = tt;
@@ -206,16 +166,17 @@ delivers p over now run (Skip skip ∷ rest) h on eq en = record {
   room = lt-from_queue (delivered run) (sent run) rest _ eq;
   sends = tt;
   tells = tt;
-  accounts = λ k. rw eq (of_skip (is_mismatched p k) (was_left k run) now k (unit_of k run)
+  accounts = λ k. rw eq (of_skip (is_mismatched p k) (was_left k run) (moment_in now run) k (unit_of k run)
       (account_of k (told run)) rest skip (rw eq at (h.accounts k)));
   reported = λ k. still_reports _ k now run _ refl refl refl (rw eq refl);
-  marks = quiet p over now run _ on refl refl refl refl refl;
+  marks = quiet p over now run _ on refl refl refl refl refl refl refl;
 }
 delivers p over now run (Slow slow ∷ rest) h on eq en =
-    slow_does p over now run (Slow slow) (TestSlowed slow) rest h on eq (λ k. refl) (λ k. refl) (λ k. refl) tt
+    slow_does p over now run (Slow slow) (TestSlowed slow) rest h on eq (λ k. refl) (λ k. refl) (λ k. refl) refl tt
     (record { test = λ e. cc; script = λ e. cc; said = λ m e. cc })
 delivers p over now run (ScriptSlow slow ∷ rest) h on eq en =
-    slow_does p over now run (ScriptSlow slow) (SetupScriptSlow slow) rest h on eq (λ k. refl) (λ k. refl) (λ k. refl) tt
+    slow_does p over now run (ScriptSlow slow) (SetupScriptSlow slow) rest h on eq (λ k. refl) (λ k. refl) (λ k. refl)
+    refl tt
     (record { test = λ e. cc; script = λ e. cc; said = λ m e. cc })
 delivers p over now run (Finish finish ∷ rest) h on eq en =
     let follows = finish_follows p over now run finish.test.unit (Finish finish) finish.statuses rest h eq (finish_own finish) in
@@ -225,7 +186,7 @@ delivers p over now run (Finish finish ∷ rest) h on eq en =
     (delivered_as b (Finish finish) nothing_done) on refl refl refl refl refl
     (finish_does p over now run finish.test.unit (Finish finish)
     (finished_event finish (with_finish (tally p run) (a_test (finished_test finish)))) finish.statuses rest h on eq (λ k. refl)
-    (λ k. refl) (λ k. refl) (λ k. refl)
+    (λ k. refl) (λ k. refl) (λ k. refl) refl
     (test_above p finish.test.unit (oldest_kind p over now run (Finish finish) rest h eq), follows.below, follows.runs)
     (record { test = λ e. cc; script = λ e. cc; said = λ m e. cc }))
 delivers p over now run (ScriptFinish finish ∷ rest) h on eq en =
@@ -237,7 +198,7 @@ delivers p over now run (ScriptFinish finish ∷ rest) h on eq en =
     (delivered_as b (ScriptFinish finish) nothing_done) on refl refl refl refl refl
     (finish_does p over now run finish.script.unit (ScriptFinish finish) (SetupScriptFinished finish)
     (attempt_of finish.status ∷ []) rest h on eq (λ k. refl) (λ k. refl) (λ k. refl) (λ k. refl)
-    (script_below p finish.script.unit (oldest_kind p over now run (ScriptFinish finish) rest h eq), follows.runs)
+    refl (script_below p finish.script.unit (oldest_kind p over now run (ScriptFinish finish) rest h eq), follows.runs)
     (record {
       test = λ e. cc;
       script = λ e. cc;
@@ -255,17 +216,24 @@ does p over refused now run turn h en =
       admit = λ en. admits p over now run (newcomer p (units p run)) h
           (first_so (is_on run) (is_some (newcomer p (units p run))) en) refl
           (second_so (is_on run) (is_some (newcomer p (units p run))) en);
-      deliver = λ en. delivers p over now run (queue run) h (first_so (is_on run) (not (is_empty (queue run))) en) refl
-          (second_so (is_on run) (not (is_empty (queue run))) en);
+      deliver = λ en. delivers p over now run (queue run) h (main (not (is_empty (queue run))) en) refl
+          (second_so (is_main b.dispatcher) (not (is_empty (queue run))) en);
       named = λ turn k to other en. unit_does p over now run k to _ h going (sym (unit_in-is p over now run k h)) en
           other;
       clock = λ ns en. passes (is_on run) refl;
-      signal = λ signal en. cancels _
-          (first_so (is_on run) (shuts_down p.plan.hearing signal)
-          (first_so (is_on run && shuts_down p.plan.hearing signal) (nat_lt (signals_heard run) 2) en));
-      global_due = λ en. cancels _ (first_so (is_on run) (fires_now now (global_timer p run)) en);
-      report_cancel = λ en. cancels _
-          (first_so (is_on run) refused (first_so (is_on run && refused) (not (was_reported run)) en));
+      signal = λ signal en. signal_does p over now (live_in (units p run)) run signal
+          (heard_by p.plan.hearing signal) h (main _ en);
+      key = λ key en. key_does p over now (live_in (units p run)) run (heard_key p.plan.hearing.input key) h
+          (main _ en);
+      tick = λ en. ticks_does p over now run h (first_so (is_on run) (is_none (open_round run)) en);
+      stop_wait_due = λ en. stops_does p over now run h
+          (first_so (is_on run) (stop_waits (open_round run))
+          (first_so (is_on run && stop_waits (open_round run)) _ en));
+      answer = λ en. answer_does p over now run (answers_waiting run) h (asked _ en) refl;
+      info_due = λ en. informs_does p over now run h (asked _ en);
+      global_due = λ en. cancels_does p over now run _ h (main (fires_now now (global_timer p run)) en);
+      report_cancel = λ en. cancels_does p over now run _ h
+          (main refused (first_so (is_main b.dispatcher && refused) (not (was_reported run)) en));
       end = λ en. record {
         part = tt;
         room = omega (arith, h.fits);
@@ -280,12 +248,14 @@ does p over refused now run turn h en =
         marks = record {
           cancel = refl;
           begins = λ h. cc;
-          still = λ off. let never : true ≡ false = sym (first_so (is_on run) (is_complete b) en) ∙ off in cc;
+          still = λ off. let never : true ≡ false = sym (main (is_complete b) (ending en)) ∙ off in cc;
           finishes = refl;
-          ends = λ _. (refl, second_so (is_on run) (is_complete b) en);
+          ends = λ _. (refl, second_so (is_main b.dispatcher) (is_complete b) (ending en));
+          stops = λ h. cc;
+          opens = λ h. cc;
+          answers = λ h. cc;
         };
       };
-      unbuilt = λ turn never en. let no : false ≡ true = sym (never p b) ∙ en in cc;
     })
     turn (second_so (not over) (takes_turn p b turn (turn_of_unit turn)) en)
   where
@@ -299,34 +269,30 @@ does p over refused now run turn h en =
     going : over ≡ false
     going = not_true over (first_so (not over) (takes_turn p b turn (turn_of_unit turn)) en)
 
-    passes : (b : Bool) → is_on run ≡ b → Does p over now run nothing_done
-    passes b on = record {
-      part = tt;
-      room = omega (arith, h.fits);
-      sends = tt;
-      tells = tt;
-      accounts = λ k. simp append-nil (h.accounts k);
-      reported = λ k. still_reports _ k now run _ refl refl refl refl;
-      source = tt;
-      asks = refl;
-      sent_as = refl;
-      order = tt;
-      marks = by_on b on;
-    }
-      where
-        by_on : (b : Bool) → is_on run ≡ b → Marks p over now run nothing_done
-        by_on true on = quiet p over now run nothing_done on refl refl refl refl refl
-        by_on false off = record {
-          cancel = refl;
-          begins = λ h. cc;
-          still = λ _. (h.fresh off going, refl);
-          finishes = refl;
-          ends = λ h. cc;
-        }
+    -- a sub-run is on where its dispatcher is in its main state, or waits for answers
+    main : (more : Bool) → (is_main b.dispatcher && more) ≡ true → is_on run ≡ true
+    main more en = first_so (is_on run) (is_none (open_round run)) (first_so (is_main b.dispatcher) more en)
 
-    cancels : (cause : Cause) → is_on run ≡ true → Does p over now run (cancelled b cause)
-    cancels cause on =
-        caused_does p over now run (Some cause) nothing_done on refl refl refl refl refl (passes true on)
+    asked : (more : Bool) → (is_on run && query_waits (open_round run) && more) ≡ true → is_on run ≡ true
+    asked more en =
+        first_so (is_on run) (query_waits (open_round run))
+        (first_so (is_on run && query_waits (open_round run)) more en)
+
+    ending : takes_turn p b End None ≡ true → (is_main b.dispatcher && is_complete b) ≡ true
+    ending en = first_so (is_main b.dispatcher && is_complete b) (not (is_halted b.dispatcher)) en
+
+    passes : (b : Bool) → is_on run ≡ b → Does p over now run nothing_done
+    passes true on = idles p over now run h on
+    passes false off = nothing_does p over now run h (record {
+      cancel = refl;
+      begins = λ h. cc;
+      still = λ _. (h.fresh off going, refl);
+      finishes = refl;
+      ends = λ h. cc;
+      stops = λ h. cc;
+      opens = λ h. cc;
+      answers = λ h. cc;
+    })
 
     begun : run ≡ [] → Does p over now run (run_turn p b Begin)
     begun empty = record {
@@ -346,5 +312,8 @@ does p over refused now run turn h en =
         still = λ off. cc;
         finishes = refl;
         ends = λ h. cc;
+        stops = λ h. cc;
+        opens = λ h. cc;
+        answers = λ h. cc;
       };
     }

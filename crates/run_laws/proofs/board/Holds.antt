@@ -1,25 +1,25 @@
 -- What holds of the newest sub-run after every legal journal.
-use Rattle.std.specs.Prelude.{ℕ, ◌≡◌, ◌+◌, ◌<◌, ◌≤◌, List, [], ◌∷◌, ◌++◌, map, length, Bool, true, false, not, Option}
-use Rattle.std.specs.Prelude.{Some, None, is_some}
+use Rattle.std.specs.Prelude.{ℕ, ◌≡◌, ◌+◌, ◌<◌, ◌≤◌, List, [], ◌∷◌, ◌++◌, length, Bool, true, false, not, Option}
+use Rattle.std.specs.Prelude.{Some, None, is_some, ⊤}
 use Rattle.std.specs.List.{All, list_all, list_any}
 use Rattle.run_events.specs.Result.{is_success}
 use Rattle.run_events.specs.declared.message.Message.{Message}
 use Rattle.run_events.specs.declared.message.Message.TheVariants.{ScriptStart, ScriptSlow, ScriptFinish, Start, Slow}
 use Rattle.run_events.specs.declared.message.Message.TheVariants.{AttemptFailed, Retry, Skip, Finish}
-use Rattle.run_events.specs.declared.plan.SlowTimeout.{SlowTimeout}
-use Rattle.run_events.specs.declared.request.ChildSignal.TheVariants.{End}
 use Rattle.run_events.specs.declared.settings.Settings.{Settings}
 use Rattle.run_events.specs.declared.request.Request.{Request}
 use Rattle.run_events.specs.declared.result.ExecuteStatus.{ExecuteStatus}
 use Rattle.run_model.specs.declared.happening.Happening.{Happening}
 use Rattle.run_model.specs.declared.phase.Phase.{Phase}
 use Rattle.run_model.specs.declared.phase.Phase.TheVariants.{StartSent, Deciding, Delay, RetrySent, Over}
+use Rattle.run_model.specs.declared.unit_view.AttemptTerms.{AttemptTerms}
 use Rattle.run_model.specs.declared.unit_view.UnitRole.{UnitRole}
 use Rattle.run_model.specs.declared.unit_view.UnitRole.TheVariants as roles
 use Rattle.run_model.specs.declared.unit_view.UnitView.{UnitView}
 use Rattle.run_model.specs.Environment.{number}
 use Rattle.run_model.specs.Admission.{is_script, units_in, unit_terms}
 use Rattle.run_model.specs.Words.{is_on, heard, sent, delivered, queue, told, skipped, finished, unit_of}
+use Rattle.run_model.specs.Rounds.{round_count, open_round, answers_told, answers_given}
 use Rattle.run_model.specs.Accounts.{HasLast, is_mismatched, IsAccounted}
 use Rattle.run_model.specs.Backoff.{retry_count}
 use Rattle.run_model.specs.Story.{story_of, line_of, taken_by, broadcast_to, pieces, deliveries, stopped_at}
@@ -112,21 +112,34 @@ IsOnWay mm None w = IsWaiting w
 IsOnWay mm (Some u) w = IsOnWayAt mm u w
 
 -- the signals asked for unit k, and its slow reports that were told or wait, are those of its own turns
-pub record IsReported (slow : SlowTimeout) (k : ℕ) (run : List Happening) : Type 0 where
-  pub signals : signals_asked k run ≡ map End (signals_by slow (pieces (story_of k run)))
+pub record IsReported (terms : AttemptTerms) (k : ℕ) (run : List Happening) : Type 0 where
+  pub signals : signals_asked k run ≡ signals_by terms.stops terms.slow (pieces (story_of k run))
   pub reports : reports_told k (told run) ++ reports_waiting k (queue run)
-      ≡ reports_by slow (pieces (story_of k run))
+      ≡ reports_by terms.slow (pieces (story_of k run))
+
+-- a count over some turns is at most the number of those before the newest
+abbrev pub IsFewer : (List Happening → ℕ) → List Happening → Type 0
+IsFewer count [] = ⊤
+IsFewer count (x ∷ run) = count (x ∷ run) ≤ length run
+
+-- a sub-run has more turns than it opened rounds, and than its latest round told answers; and of the open round no more
+-- answers were told than given
+pub record HasRounds (run : List Happening) : Type 0 where
+  pub opened : IsFewer round_count run
+  pub told : IsFewer answers_told run
+  pub given : is_some (open_round run) ≡ true → answers_told run ≤ length (answers_given (open_round run) run)
 
 -- of a sub-run at this moment, by whether the run is over: no more messages are delivered than sent, no more skips and
--- finishes are told than it has turns, the dispatcher heard none later, units are named, each has its account, and its
--- attempts, signals and slow reports are its own turns
+-- finishes are told than it has turns, the dispatcher heard none later, its rounds are as above, units are named, each
+-- has its account, and its attempts, signals and slow reports are its own turns
 pub record Holds (p : Settings) (over : Bool) (now : ℕ) (run : List Happening) : Type 0 where
   pub fits : delivered run ≤ length (sent run)
   pub counted : skipped run + length (finished run) ≤ length run
   pub heard : heard run ≤ now
+  pub rounds : HasRounds run
   pub named : (k : ℕ) → IsNamed p now k (unit_of k run)
   pub accounts : (k : ℕ) → IsAccounted p k run
-  pub reported : (k : ℕ) → IsReported (unit_terms p k).slow k run
+  pub reported : (k : ℕ) → IsReported (unit_terms p k) k run
   pub made : (k : ℕ) → IsMadeIf (unit_terms p k) (unit_of k run) (story_of k run)
   -- before a sub-run is on, and the run not over, nothing has happened: no further sub-run begins yet
   pub fresh : is_on run ≡ false → over ≡ false → run ≡ []

@@ -15,9 +15,8 @@ use Rattle.run_model.specs.declared.entry.Entry.{Entry}
 use Rattle.run_model.specs.declared.happening.Happening.{Happening}
 use Rattle.run_events.specs.Cancel.{greater, rank}
 use Rattle.run_events.specs.declared.cancel.CancelReason.{CancelReason}
-use Rattle.run_model.specs.Words.{clock, is_over, sub_run, reason, queue, told, unit_of, unit_after, tally, was_refused}
+use Rattle.run_model.specs.Words.{clock, is_over, sub_run, reason, queue, told, unit_of, unit_after, was_refused}
 use Rattle.run_model.specs.Admission.{tests_in, seat_of}
-use Rattle.run_model.specs.Dispatch.{having_told}
 use Rattle.run_model.specs.Unit.{is_live, reach}
 use Rattle.run_model.specs.declared.unit_view.UnitView.{UnitView}
 use Rattle.run_events.specs.declared.request.Request.{Request}
@@ -26,9 +25,10 @@ use Rattle.run_model.specs.Turns.{deed_on}
 use Rattle.run_model.specs.Journal.{history, IsLegalBackward}
 use Rattle.run_laws.specs.Limits.{seat_told, limits_with}
 use Rattle.run_laws.proofs.board.Queue.{queue-cons}
-use Rattle.run_laws.proofs.told.Cancels.{IsCancel, cancel_is, cancel_apart}
-use Rattle.run_laws.proofs.board.DeedFits.{Does}
-use Rattle.run_laws.proofs.board.Kept.{HoldsAfter, does_after, IsOfRun, IsBeforeRuns, where_joins, holds}
+use Rattle.run_laws.proofs.told.Cancels.{IsCancel, cancel_apart}
+use Rattle.run_laws.proofs.board.DeedFits.{cancel_told, Does}
+use Rattle.run_laws.proofs.board.Kept.{HoldsAfter, on_board_now, does_after, IsOfRun, IsBeforeRuns, where_joins}
+use Rattle.run_laws.proofs.board.Kept.{holds}
 use Rattle.run_laws.proofs.board.OpenSeats.{opened, at_last, Along, AreLower, same_lower, along-now, along-lower}
 use Rattle.run_laws.proofs.board.OpenSeats.{along-append, along-drop, at_last-lower, at_last-append, at_last-drop}
 use Rattle.run_laws.proofs.board.BoardSeats.{board_seat, seat_after, AreKeptIn, kept_fewer}
@@ -127,7 +127,7 @@ open-cons p over now run e d does moves o = record {
     events = append_assoc (told run) (option_to_list d.told) (option_to_list d.cancel)
 
     cancels : IsCancel d.cancel
-    cancels = subst IsCancel (sym does.marks.cancel) (cancel_is now (having_told (tally p run) d.told) d.cause)
+    cancels = cancel_told p over now run d does.marks
 
     after_own : AreLower after (seat_told own)
     after_own = same_lower _ _ (λ k. ap (λ es. seat_told es k) (sym events) ∙ seat_told-cancel k own d.cancel cancels)
@@ -230,7 +230,8 @@ opens p (e ∷ before) legal = one_more (opens p before legal.2) (holds p before
             (open-cons p (is_over past) (clock past) (sub_run past) e
             (deed_on p (board p past) e.turn)
             (does_after p past e h legal.0)
-            (moves p (is_over past) (was_refused past) (clock past) (sub_run past) e.turn h legal.0)
+            (on_board_now p past e.turn (MovesSeats p (clock past) (sub_run past)) h legal.0
+            (moves p (is_over past) (was_refused past) (clock past) (sub_run past) e.turn h.run))
             o)
         by_run (inr before) = subst (AreOpen p) (sym before.still) (open-nil p)
 

@@ -8,15 +8,20 @@ use Rattle.run_model.specs.declared.happening.Happening.{Happening}
 use Rattle.run_model.specs.declared.unit_view.UnitView.{UnitView}
 use Rattle.run_model.specs.Words.{is_on, heard, queue, unit_of, units, tally, causes_of}
 use Rattle.run_model.specs.Admission.{units_in}
-use Rattle.run_model.specs.Dispatch.{head_of, rules_of}
+use Rattle.run_model.specs.Rounds.{run_watch, rounds_of, answers_waiting}
+use Rattle.run_events.specs.declared.events.ReporterEvent.{ReporterEvent}
+use Rattle.run_events.specs.declared.events.TestEventKind.{TestEventKind}
+use Rattle.run_model.specs.Dispatch.{Moment, moment_by, event, head_of, rules_of}
 use Rattle.run_model.specs.Board.{Board}
 use Rattle.run_laws.proofs.board.Holds.{Holds}
 
--- the board after a sub-run at a moment, by whether the run is over, where the reporter refused no event
+-- the board after a sub-run at a moment, by whether the run is over, where the reporter refused no event, and no turn
+-- before the sub-run did anything
 abbrev pub board_of : Settings → Bool → ℕ → List Happening → Board
 board_of p over now run = record {
   units = units p run;
   queue = queue run;
+  answers = answers_waiting run;
   dispatcher = record {
     head = head_of p;
     rules = rules_of p;
@@ -24,6 +29,8 @@ board_of p over now run = record {
     over = over;
     causes = causes_of p run;
     tally = tally p run;
+    watch = run_watch run;
+    rounds = rounds_of run;
     latest = heard run;
   };
   clock = now;
@@ -33,6 +40,14 @@ board_of p over now run = record {
 -- the same where the reporter refused an event, or none
 abbrev pub board_with : Settings → Bool → Bool → ℕ → List Happening → Board
 board_with p refused over now run = record (board_of p over now run) { refused = refused }
+
+-- a moment of the clock, with the active time of the run
+abbrev pub moment_in : ℕ → List Happening → Moment
+moment_in now run = moment_by now (run_watch run)
+
+-- and an event that is told then
+abbrev pub event_in : ℕ → List Happening → TestEventKind → ReporterEvent
+event_in now run kind = event (moment_in now run) kind
 
 -- the units of a plan, one by one
 pub units-length : (p : Settings) (run : List Happening) → length (units p run) ≡ units_in p

@@ -24,13 +24,12 @@ use Rattle.run_model.specs.declared.unit_turn.UnitTurn.{UnitTurn}
 use Rattle.run_model.specs.declared.unit_view.UnitView.{UnitView}
 use Rattle.run_model.specs.Admission.{is_done, is_last, is_script, scripts_in, scripts_over}
 use Rattle.run_model.specs.Board.{Deed, deed_events, said}
-use Rattle.run_model.specs.Dispatch.{having_told}
 use Rattle.run_model.specs.Environment.{number}
 use Rattle.run_model.specs.Unit.{row, takes, takes_at, is_live, reach}
-use Rattle.run_model.specs.Words.{queue, sent, tally, told, unit_after, unit_of, units}
+use Rattle.run_model.specs.Words.{queue, sent, told, unit_after, unit_of, units}
 use Rattle.run_laws.specs.Scripts.{starts_test, starts_test_in}
-use Rattle.run_laws.proofs.told.Cancels.{IsCancel, IsCancelKind, cancel_is}
-use Rattle.run_laws.proofs.board.DeedFits.{PartFits, IsSentFor, IsSentBy, IsInOrder, Does}
+use Rattle.run_laws.proofs.told.Cancels.{IsCancel, IsCancelKind}
+use Rattle.run_laws.proofs.board.DeedFits.{cancel_told, PartFits, IsSentFor, IsSentBy, IsInOrder, Does}
 use Rattle.run_laws.proofs.board.Holds.{Holds}
 use Rattle.run_laws.proofs.board.OnBoard.{units-at, units-length}
 use Rattle.run_laws.proofs.board.Order.{is_of_script, no_test, AreSorted, AreScriptsOver, AreSettled, all_at}
@@ -205,7 +204,7 @@ ordered_after p over now run e d h does = record {
         (subst (IsSentFor run d.part) is does.source) script)
 
     cancels : IsCancel d.cancel
-    cancels = subst IsCancel (sym does.marks.cancel) (cancel_is now (having_told (tally p run) d.told) d.cause)
+    cancels = cancel_told p over now run d does.marks
 
     by_event : (o : Option ReporterEvent) → IfSome o (IsInOrder p run) → list_any starts_test (option_to_list o) ≡ true
         → AreSettled p run

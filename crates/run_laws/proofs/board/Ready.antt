@@ -1,7 +1,7 @@
 -- An enabled turn can be taken: what the tables allow is what the parts need.
 use Rattle.std.proofs.Common.{◌≡◌, ℕ, suc, reverse, ◌+◌, ◌^◌, ◌<◌, ◌≤◌, List, [], ◌∷◌, ◌++◌, length, get_or, Bool}
-use Rattle.std.proofs.Common.{true, false, ◌&&◌, nat_lt, not, if◌then◌else◌, Option, Some, None, is_some, sum_by}
-use Rattle.std.proofs.Common.{refl, ap, sym, ◌∙◌, arith, rules}
+use Rattle.std.proofs.Common.{true, false, ◌&&◌, not, if◌then◌else◌, Option, Some, None, is_some, sum_by, refl, ap}
+use Rattle.std.proofs.Common.{sym, ◌∙◌, arith, rules}
 use Rattle.std.specs.List.{range_with_len}
 use Rattle.std.specs.Cmp.{first_so, second_so}
 use Rattle.std.proofs.lemmas.List.{length-reverse}
@@ -27,22 +27,31 @@ use Rattle.run_model.specs.declared.unit_turn.UnitTurn.TheVariants.{Answered}
 use Rattle.run_model.specs.declared.unit_view.UnitView.{UnitView}
 use Rattle.run_clock.specs.Sleep.{fires_now}
 use Rattle.run_model.specs.Unit.{takes_at}
-use Rattle.run_model.specs.Words.{ns_of, was_refused, signals_heard, was_reported, global_timer, clock, is_on}
-use Rattle.run_model.specs.Words.{is_over, joined_run, sub_run, told, queue, reason, units, skipped, finished}
-use Rattle.run_model.specs.Words.{FinishedUnit, a_test, a_script, adds_by, stats_after, is_running, tally}
+use Rattle.run_model.specs.Words.{ns_of, was_refused, was_reported, global_timer, clock, is_on, is_over, joined_run}
+use Rattle.run_model.specs.Words.{sub_run, told, queue, reason, units, skipped, finished, FinishedUnit, a_test}
+use Rattle.run_model.specs.Words.{a_script, adds_by, stats_after, is_running, tally}
 use Rattle.run_model.specs.Admission.{is_matched, scripts_in, tests_in, units_in, newcomer}
 use Rattle.run_model.specs.Accounts.{started, attempt_of, pending_in}
-use Rattle.run_model.specs.Dispatch.{shuts_down, event, may_go, started_event, finished_event}
+use Rattle.run_events.specs.Hearing.{heard_key}
+use Rattle.run_model.specs.Rounds.{round_count, open_round, answers_told, answers_waiting}
+use Rattle.run_model.specs.Board.{Board}
+use Rattle.run_model.specs.Turns.{oldest_of}
+use Rattle.std.proofs.Common.{is_none, subst}
+use Rattle.run_model.specs.Words.{signals_heard}
+use Rattle.run_model.specs.Dispatch.{heard_by, is_main, query_waits, is_halted, takes_signal, may_go, started_event}
+use Rattle.run_model.specs.Dispatch.{finished_event}
 use Rattle.run_model.specs.Board.{board}
 use Rattle.run_model.specs.Turns.{enabled, enabled_on, takes_turn, turn_of_unit, unit_takes, is_empty, is_complete}
 use Rattle.run_model.specs.Journal.{history, past_of, IsLegal}
 use Rattle.run_laws.proofs.board.Holds.{Holds}
-use Rattle.run_laws.specs.Ready.{moved_by, IsTimelyBoard, CanTakeTurn, CanDeliverOldest, CanAdvance}
+use Rattle.run_laws.specs.Ready.{HasRound, moved_by, IsTimelyBoard, CanTakeTurn, CanDeliverOldest, CanAdvance}
 use Rattle.run_laws.proofs.board.ByTurn.{by_turn}
-use Rattle.run_laws.proofs.board.OnBoard.{board_of, board_with, units-length, unit_in-is}
+use Rattle.run_laws.proofs.board.OnBoard.{event_in, board_of, board_with, units-length, unit_in-is}
 use Rattle.run_laws.proofs.board.Facts.{start_waits, start_own, script_own, retry_waits, finish_follows, finish_own}
 use Rattle.run_laws.proofs.board.Facts.{script_finish_own, oldest_kind, script_below, test_above}
-use Rattle.run_laws.proofs.board.Kept.{holds}
+use Rattle.run_laws.proofs.board.RoundLemmas.{below_length}
+use Rattle.run_laws.proofs.board.Whole.{board_now, board-is}
+use Rattle.run_laws.proofs.board.Kept.{HoldsAfter, holds}
 use Rattle.run_laws.proofs.told.Running.{running_in_told, running-started, running-finished}
 
 -- an admitted unit is one of them, and was let go before now
@@ -128,7 +137,7 @@ oldest_ready : (p : Settings) (over refused : Bool) (now : ℕ) (run : List Happ
 oldest_ready p over refused now run [] h on few short eq en = cc
 oldest_ready p over refused now run (ScriptStart start ∷ rest) h on few short eq en =
     let k : ℕ = start.script.unit in
-    let e = event 0 (SetupScriptStarted start) in
+    let e = event_in 0 [] (SetupScriptStarted start) in
     let waits = start_waits p over now run k (ScriptStart start) rest h eq (script_own start) in
     let below = script_below p k (oldest_kind p over now run (ScriptStart start) rest h eq) in
     let more = running-started 0 (scripts_in p) k (told run) e (omega arith) (omega (arith, below)) waits.untold (λ k. refl)
@@ -137,7 +146,7 @@ oldest_ready p over refused now run (ScriptStart start ∷ rest) h on few short 
     ((on, omega arith), start_ready p over refused now run k (ScriptStart start) rest h eq (script_own start))
 oldest_ready p over refused now run (Start start ∷ rest) h on few short eq en =
     let k : ℕ = start.test.unit in
-    let e = event 0 (started_event start (tally p run)) in
+    let e = event_in 0 [] (started_event start (tally p run)) in
     let waits = start_waits p over now run k (Start start) rest h eq (start_own start) in
     let above = test_above p k (oldest_kind p over now run (Start start) rest h eq) in
     let more = running-started (scripts_in p) (tests_in p) k (told run) e above waits.below waits.untold (λ k. refl)
@@ -162,7 +171,7 @@ oldest_ready p over refused now run (ScriptFinish finish ∷ rest) h on few shor
     let follows = finish_follows p over now run k (ScriptFinish finish) (attempt_of finish.status ∷ []) rest h eq
     (script_finish_own finish) in
     let below = script_below p k (oldest_kind p over now run (ScriptFinish finish) rest h eq) in
-    let less = running-finished 0 (scripts_in p) k (told run) (event 0 (SetupScriptFinished finish)) (omega arith)
+    let less = running-finished 0 (scripts_in p) k (told run) (event_in 0 [] (SetupScriptFinished finish)) (omega arith)
     (omega (arith, below)) follows.runs (λ k. refl) (λ k. refl) in
     let counted = h.counted in (
       (
@@ -175,8 +184,8 @@ oldest_ready p over refused now run (Finish finish ∷ rest) h on few short eq e
     let k : ℕ = finish.test.unit in
     let follows = finish_follows p over now run k (Finish finish) finish.statuses rest h eq (finish_own finish) in
     let above = test_above p k (oldest_kind p over now run (Finish finish) rest h eq) in
-    let less = running-finished (scripts_in p) (tests_in p) k (told run) (event 0 (finished_event finish (tally p run))) above
-    follows.below follows.runs (λ k. refl) (λ k. refl) in
+    let less = running-finished (scripts_in p) (tests_in p) k (told run)
+    (event_in 0 [] (finished_event finish (tally p run))) above follows.below follows.runs (λ k. refl) (λ k. refl) in
     let counted = h.counted in (
       (
         on,
@@ -208,28 +217,54 @@ ready p over refused now run turn h few short en =
       );
       deliver = λ en. (
         h.heard,
-        oldest_ready p over refused now run (queue run) h (first_so (is_on run) (not (is_empty (queue run))) en) few short refl
-            (second_so (is_on run) (not (is_empty (queue run))) en),
+        oldest_ready p over refused now run (queue run) h (main (not (is_empty (queue run))) en) few short refl
+            (second_so (is_main b.dispatcher) (not (is_empty (queue run))) en),
       );
       named = λ turn k to other en. take_ready p over refused now run k to _ h refl en;
       clock = λ ns en. (h.heard, grind (arith, en));
       signal = λ signal en.
-          let two = first_so (is_on run) (shuts_down p.plan.hearing signal)
-          (first_so (is_on run && shuts_down p.plan.hearing signal) (nat_lt (signals_heard run) 2) en) in
-          let hears = second_so (is_on run) (shuts_down p.plan.hearing signal)
-          (first_so (is_on run && shuts_down p.plan.hearing signal) (nat_lt (signals_heard run) 2) en) in
-          let few_signals = second_so (is_on run && shuts_down p.plan.hearing signal) (nat_lt (signals_heard run) 2) en in
-          (h.heard, (two, hears, few_signals));
-      global_due = λ en. (h.heard, first_so (is_on run) (fires_now now (global_timer p run)) en);
+          let takes : Bool = takes_signal (signals_heard run) (heard_by p.plan.hearing signal) in
+          (h.heard, (second_so (is_main b.dispatcher) takes en, room (main takes en)));
+      key = λ key en. (h.heard, room (main (is_some (heard_key p.plan.hearing.input key)) en));
+      tick = λ en. (h.heard, tt);
+      stop_wait_due = λ en. (h.heard, tt);
+      answer = λ en. (
+        h.heard,
+        (
+          second_so (is_on run && query_waits (open_round run)) (is_some (oldest_of (answers_waiting run))) en,
+          let on = asked (is_some (oldest_of (answers_waiting run))) en in
+              let fewer = below_length answers_told run h.rounds.told on in
+              omega arith,
+        ),
+      );
+      info_due = λ en. (h.heard, tt);
+      global_due = λ en. (h.heard, main (fires_now now (global_timer p run)) en);
       report_cancel = λ en. (
         h.heard,
-        first_so (is_on run) refused (first_so (is_on run && refused) (not (was_reported run)) en),
+        main refused (first_so (is_main b.dispatcher && refused) (not (was_reported run)) en),
       );
-      end = λ en. (h.heard, first_so (is_on run) (is_complete (board_of p over now run)) en);
-      unbuilt = λ turn never en. let no : false ≡ true = sym (never p (board_with p refused over now run)) ∙ en in cc;
+      end = λ en. (
+        h.heard,
+        main (is_complete b) (first_so (is_main b.dispatcher && is_complete b) (not (is_halted b.dispatcher)) en),
+      );
     })
     turn (second_so (not over) (takes_turn p (board_with p refused over now run) turn (turn_of_unit turn)) en)
   where
+    b : Board
+    b = board_with p refused over now run
+
+    main : (more : Bool) → (is_main b.dispatcher && more) ≡ true → is_on run ≡ true
+    main more en = first_so (is_on run) (is_none (open_round run)) (first_so (is_main b.dispatcher) more en)
+
+    asked : (more : Bool) → (is_on run && query_waits (open_round run) && more) ≡ true → is_on run ≡ true
+    asked more en =
+        first_so (is_on run) (query_waits (open_round run))
+        (first_so (is_on run && query_waits (open_round run)) more en)
+
+    -- one more round can be numbered
+    room : is_on run ≡ true → HasRound b
+    room on = let fewer = below_length round_count run h.rounds.opened on in omega arith
+
     off : (b c : Bool) → (not b && c) ≡ true → b ≡ false
     off true c e = cc
     off false c e = refl
@@ -263,16 +298,26 @@ timely_board p over now run h = record {
 pub timely : (p : Settings) (journal : List Entry) → IsLegal p journal → IsTimelyBoard (board p (past_of p journal))
 timely p journal legal =
     let past : List Happening = past_of p journal in
-    let it = timely_board p (is_over past) (clock past) (sub_run past) (holds p (reverse journal) legal) in
+    let it = timely_board p (is_over past) (clock past) (sub_run past) (holds p (reverse journal) legal).run in
     record { dispatcher = it.dispatcher; units = it.units }
 
 pub ready_after : (p : Settings) (journal : List Entry) (turn : Turn) → IsLegal p journal → units_in p < 2 ^ 32
     → length journal < 2 ^ 32
     → enabled p (past_of p journal) turn ≡ true → CanAdvance p (board p (past_of p journal)) turn (turn_of_unit turn)
 ready_after p journal turn legal few short en =
-    let past : List Happening = past_of p journal in
-    ready p (is_over past) (was_refused past) (clock past) (sub_run past) turn (holds p (reverse journal) legal) few
-    (omega (arith, past_of-length p journal, sub_run-length past)) en
+    subst (λ b. CanAdvance p b turn (turn_of_unit turn)) (sym same)
+    (ready p (is_over past) (was_refused past) (clock past) (sub_run past) turn h.run few
+    (omega (arith, past_of-length p journal, sub_run-length past))
+    (subst (λ b. enabled_on p b turn ≡ true) same en))
+  where
+    past : List Happening
+    past = past_of p journal
+
+    h : HoldsAfter p past
+    h = holds p (reverse journal) legal
+
+    same : board p past ≡ board_now p past
+    same = board-is p past h.alike
 
 -- the clock moves by its turns
 moved-is : (turn : Turn) → ns_of turn ≡ moved_by turn

@@ -12,19 +12,37 @@ use Rattle.run_events.specs.declared.events.ReporterEvent.{ReporterEvent}
 use Rattle.run_admission.specs.declared.seat.Seat.{Seat}
 use Rattle.run_admission.specs.declared.seat.Seat.TheVariants.{Gone}
 use Rattle.run_admission.proofs.FewerLemmas.{IsBelow}
+use Rattle.run_events.specs.Hearing.{heard_key}
+use Rattle.run_events.specs.declared.request.Request.{Request}
+use Rattle.run_events.specs.declared.request.Request.TheVariants.{Stop, Continue}
+use Rattle.run_events.specs.declared.signal.Signal.{Signal as SignalKind}
+use Rattle.run_events.specs.declared.signal.Signal.TheVariants.{Tstp}
+use Rattle.run_events.specs.declared.signal.Heard.{Heard}
+use Rattle.run_events.specs.declared.signal.Heard.TheVariants.{Shutdown, JobControl, Info}
+use Rattle.run_events.specs.declared.input.InputEvent.{InputEvent}
+use Rattle.run_events.specs.declared.input.InputEvent.TheVariants as inputs
+use Rattle.run_events.specs.declared.info.InfoResponse.{InfoResponse}
+use Rattle.run_events.specs.declared.events.ReporterEvent.TheVariants.{Tick}
+use Rattle.run_events.specs.declared.events.TestEventKind.TheVariants.{RunPaused, RunContinued}
+use Rattle.run_model.specs.declared.dispatcher_view.DispatcherView.{DispatcherView}
+use Rattle.run_model.specs.Rounds.{answers_waiting}
+use Rattle.run_model.specs.Board.{Deed}
+use Rattle.run_model.specs.Turns.{tells, job_event, job_deed, stops_itself, signal_deed, key_deed, answered_by}
+use Rattle.run_model.specs.Turns.{oldest_of, live_in}
+use Rattle.run_model.specs.Dispatch.{heard_by, is_main, is_halted}
 use Rattle.run_model.specs.Cancel.{signal_cause, time_is_up, event_refused, cause_of}
+use Rattle.run_model.specs.declared.dispatcher_view.Tally.{Tally}
 use Rattle.run_model.specs.declared.happening.Happening.{Happening}
-use Rattle.run_model.specs.Words.{is_on, a_test, finished_test, queue, told, starts, finishes, units, tally}
-use Rattle.run_model.specs.Words.{signals_heard}
+use Rattle.run_model.specs.Words.{a_test, finished_test, queue, told, starts, finishes, units, tally, signals_heard}
 use Rattle.run_model.specs.Admission.{newcomer}
-use Rattle.run_model.specs.Dispatch.{may_go, event, with_finish, finished_event}
+use Rattle.run_model.specs.Dispatch.{may_go, with_finish, finished_event}
 use Rattle.run_model.specs.Board.{Board}
 use Rattle.run_model.specs.Turns.{enabled_on, is_empty, takes_turn, turn_of_unit, nothing_done, event_of, tally_with}
 use Rattle.run_model.specs.Turns.{delivered_as, delivery, done_by, deed_on}
 use Rattle.run_laws.specs.Limits.{seat_told}
 use Rattle.run_laws.proofs.board.Holds.{Holds}
 use Rattle.run_laws.proofs.board.ByTurn.{by_turn}
-use Rattle.run_laws.proofs.board.OnBoard.{board_of, board_with, unit_in-is}
+use Rattle.run_laws.proofs.board.OnBoard.{moment_in, event_in, board_of, board_with, unit_in-is}
 use Rattle.run_laws.proofs.board.Facts.{may_go-is}
 use Rattle.run_laws.proofs.board.OpenSeats.{opened, at_last, same_lower}
 use Rattle.run_laws.proofs.told.ToldSeats.{seat_told-other, seat_told-finished}
@@ -59,11 +77,12 @@ delivers p over now run (ScriptSlow slow ∷ rest) h eq en =
 delivers p over now run (ScriptFinishes finish ∷ rest) h eq en =
     let b : Board = board_of p over now run in
     let tells : Option ReporterEvent = event_of b (ScriptFinishes finish) in
-    caused_moves p now run (cause_of b.dispatcher.rules (tally_with b tells) (ScriptFinishes finish)) (tally_with b tells)
+    caused_moves p now run (moment_in now run)
+    (cause_of b.dispatcher.rules (tally_with b tells) (ScriptFinishes finish)) (tally_with b tells)
     (delivered_as b (ScriptFinishes finish) nothing_done) (record {
-      tells = λ k used. script_finished k now (told run) finish used
+      tells = λ k used. script_finished k (moment_in now run) (told run) finish used
           ∙ ap (λ q. at_last (seat_told (told run)) (take 1 q) k) (sym eq);
-      opens_none = λ cause k. script_finished k now (told run) finish;
+      opens_none = λ cause k. script_finished k (moment_in now run) (told run) finish;
       keeps = λ kept. kept;
       sends = λ calm below. below;
     })
@@ -79,25 +98,93 @@ delivers p over now run (AttemptFailed failure ∷ rest) h eq en =
 delivers p over now run (Finish finish ∷ rest) h eq en =
     let b : Board = board_of p over now run in
     let tells : Option ReporterEvent = event_of b (Finish finish) in
-    caused_moves p now run (cause_of b.dispatcher.rules (tally_with b tells) (Finish finish)) (tally_with b tells)
-    (delivered_as b (Finish finish) nothing_done) (record {
-      tells = same_lower _ _ (λ k.
-          seat_told-finished k now (told run) finish (with_finish (tally p run) (a_test (finished_test finish)))
+    caused_moves p now run (moment_in now run) (cause_of b.dispatcher.rules (tally_with b tells) (Finish finish))
+    (tally_with b tells) (delivered_as b (Finish finish) nothing_done) (record {
+      tells = same_lower _ _ (λ k. seat_told-finished k (moment_in now run) (told run) finish after
           ∙ ap (λ q. at_last (seat_told (told run)) (take 1 q) k) (sym eq));
       opens_none = λ cause k. closes k;
       keeps = λ kept. kept;
       sends = λ calm below. below;
     })
   where
-    closes : (k : ℕ) → IsBelow (seat_told (told run ++ event now (finished_event finish
-        (with_finish (tally p run) (a_test (finished_test finish)))) ∷ []) k) (seat_told (told run) k)
+    after : Tally
+    after = with_finish (tally p run) (a_test (finished_test finish))
+
+    closes : (k : ℕ) → IsBelow (seat_told (told run ++ event_in now run (finished_event finish after) ∷ []) k)
+        (seat_told (told run) k)
     closes k = subst (λ s. IsBelow s (seat_told (told run) k))
-        (sym (seat_told-finished k now (told run) finish (with_finish (tally p run) (a_test (finished_test finish)))))
+        (sym (seat_told-finished k (moment_in now run) (told run) finish after))
         (by_unit (finish.test.unit == k))
       where
         by_unit : (b : Bool) → IsBelow (if b then Gone else seat_told (told run) k) (seat_told (told run) k)
         by_unit true used = cc
         by_unit false used = refl
+
+-- a deed that tells nothing, or an event that neither starts nor finishes a test, and does nothing else to them
+silent_moves : (p : Settings) (now : ℕ) (run : List Happening) (d : Deed) → d.part ≡ None → d.sent ≡ None
+    → d.taken ≡ false → d.told ≡ None → MovesSeats p now run d
+silent_moves p now run d part sent taken none = record {
+  tells = rw (none, taken) (tells_nothing run);
+  opens_none = λ cause. rw none (tells_nothing run);
+  keeps = λ kept. rw part kept;
+  sends = λ calm below. rw (part, sent) below;
+}
+
+aside_moves : (p : Settings) (now : ℕ) (run : List Happening) (e : ReporterEvent) (request : Option Request)
+    → ((k : ℕ) → starts k e ≡ false) → ((k : ℕ) → finishes k e ≡ false)
+    → MovesSeats p now run (record nothing_done { told = Some e; request = request })
+aside_moves p now run e request s f = record {
+  tells = same_lower _ _ (λ k. seat_told-other k (told run) e (s k) (f k));
+  opens_none = λ cause. same_lower _ _ (λ k. seat_told-other k (told run) e (s k) (f k));
+  keeps = λ kept. kept;
+  sends = λ calm below. below;
+}
+
+-- so are a stop, a continue, a query and an answer
+idle_moves : (p : Settings) (now : ℕ) (run : List Happening) → MovesSeats p now run nothing_done
+idle_moves p now run = silent_moves p now run nothing_done refl refl refl refl
+
+job_moves : (p : Settings) (over : Bool) (now : ℕ) (run : List Happening) (signal : SignalKind)
+    → MovesSeats p now run (job_deed now (board_of p over now run).dispatcher signal)
+job_moves p over now run signal = by_signal signal
+  where
+    d : DispatcherView
+    d = (board_of p over now run).dispatcher
+
+    stops : (halted : Bool) → MovesSeats p now run (if halted then nothing_done
+        else record (tells now d (RunPaused (job_event d.tally))) { request = Some (Stop d.rounds.count) })
+    stops true = idle_moves p now run
+    stops false = aside_moves p now run _ _ (λ k. refl) (λ k. refl)
+
+    continues : (halted : Bool) → MovesSeats p now run (if halted
+        then record (tells now d (RunContinued (job_event d.tally))) { request = Some Continue } else nothing_done)
+    continues true = aside_moves p now run _ _ (λ k. refl) (λ k. refl)
+    continues false = idle_moves p now run
+
+    by_signal : (signal : SignalKind) → MovesSeats p now run (job_deed now d signal)
+    by_signal Tstp = stops (is_halted d)
+    by_signal signal = continues (is_halted d)
+
+signal_moves : (p : Settings) (over : Bool) (now live : ℕ) (run : List Happening) (signal : SignalKind)
+    (heard : Option Heard)
+    → MovesSeats p now run (signal_deed now live (board_of p over now run).dispatcher signal heard)
+signal_moves p over now live run signal (Some Shutdown) =
+    caused_moves p now run (moment_in now run) (Some (signal_cause (signals_heard run) signal)) (tally p run)
+    nothing_done (idle_moves p now run)
+signal_moves p over now live run signal (Some JobControl) = job_moves p over now run signal
+signal_moves p over now live run signal (Some Info) = aside_moves p now run _ _ (λ k. refl) (λ k. refl)
+signal_moves p over now live run signal None = idle_moves p now run
+
+key_moves : (p : Settings) (over : Bool) (now live : ℕ) (run : List Happening) (heard : Option InputEvent)
+    → MovesSeats p now run (key_deed now live (board_of p over now run).dispatcher heard)
+key_moves p over now live run (Some inputs.Enter) = aside_moves p now run _ _ (λ k. refl) (λ k. refl)
+key_moves p over now live run (Some inputs.Info) = aside_moves p now run _ _ (λ k. refl) (λ k. refl)
+key_moves p over now live run None = idle_moves p now run
+
+answer_moves : (p : Settings) (over : Bool) (now : ℕ) (run : List Happening) (answer : Option InfoResponse)
+    → MovesSeats p now run (answered_by (board_of p over now run) answer)
+answer_moves p over now run None = idle_moves p now run
+answer_moves p over now run (Some response) = aside_moves p now run _ _ (λ k. refl) (λ k. refl)
 
 -- what each enabled turn does to the seats
 pub moves : (p : Settings) (over refused : Bool) (now : ℕ) (run : List Happening) (turn : Turn) → Holds p over now run
@@ -114,30 +201,30 @@ moves p over refused now run turn h en =
       };
       admit = λ en. admits p now run (newcomer p (units p run)) refl;
       deliver = λ en. delivers p over now run (queue run) h refl
-          (second_so (is_on run) (not (is_empty (queue run))) en);
+          (second_so (is_main b.dispatcher) (not (is_empty (queue run))) en);
       named = λ turn k to other en. unit_moves p over now run k to _ h (sym (unit_in-is p over now run k h)) en other;
       clock = λ ns en. still;
-      signal = λ signal en. caused_moves p now run (Some (signal_cause (signals_heard run) signal)) (tally p run)
-          nothing_done still;
-      global_due = λ en. caused_moves p now run (Some time_is_up) (tally p run) nothing_done still;
-      report_cancel = λ en. caused_moves p now run (Some event_refused) (tally p run) nothing_done still;
+      signal = λ signal en. signal_moves p over now (live_in (units p run)) run signal
+          (heard_by p.plan.hearing signal);
+      key = λ key en. key_moves p over now (live_in (units p run)) run (heard_key p.plan.hearing.input key);
+      tick = λ en. aside_moves p now run Tick None (λ k. refl) (λ k. refl);
+      stop_wait_due = λ en. silent_moves p now run stops_itself refl refl refl refl;
+      answer = λ en. answer_moves p over now run (oldest_of (answers_waiting run));
+      info_due = λ en. aside_moves p now run _ None (λ k. refl) (λ k. refl);
+      global_due = λ en. caused_moves p now run (moment_in now run) (Some time_is_up) (tally p run) nothing_done still;
+      report_cancel = λ en.
+          caused_moves p now run (moment_in now run) (Some event_refused) (tally p run) nothing_done still;
       end = λ en. record {
         tells = same_lower _ _ (λ k. seat_told-other k (told run) _ refl refl);
         opens_none = λ cause. same_lower _ _ (λ k. seat_told-other k (told run) _ refl refl);
         keeps = λ kept. kept;
         sends = λ calm below. below;
       };
-      unbuilt = λ turn never en. let no : false ≡ true = sym (never p b) ∙ en in cc;
     })
     turn (second_so (not over) (takes_turn p b turn (turn_of_unit turn)) en)
   where
     still : MovesSeats p now run nothing_done
-    still = record {
-      tells = tells_nothing run;
-      opens_none = λ cause. tells_nothing run;
-      keeps = λ kept. kept;
-      sends = λ calm below. below;
-    }
+    still = idle_moves p now run
 
     b : Board
     b = board_with p refused over now run

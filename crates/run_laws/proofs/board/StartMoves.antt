@@ -31,7 +31,8 @@ use Rattle.run_model.specs.Unit.{row, takes, takes_at}
 use Rattle.run_model.specs.Words.{is_running, reason, queue, told, starts, finishes, unit_of, units, tally}
 use Rattle.std.specs.Option.{option_or}
 use Rattle.run_model.specs.Admission.{Newcomer, newcomer}
-use Rattle.run_model.specs.Dispatch.{event, with_start, started_event, retried_event}
+use Rattle.run_laws.proofs.board.OnBoard.{moment_in, event_in}
+use Rattle.run_model.specs.Dispatch.{Moment, event, with_start, started_event, retried_event}
 use Rattle.run_model.specs.Board.{Deed}
 use Rattle.run_model.specs.Turns.{unit_takes, taken_by, admission}
 use Rattle.run_laws.specs.Limits.{slots_told, seat_in, seat_told}
@@ -100,10 +101,11 @@ unit_moves p over now run j turn (Some u) h e en other = record {
 }
 
 -- a cause leaves the seats
-pub caused_moves : (p : Settings) (now : ℕ) (run : List Happening) (o : Option Cause) (t : Tally) (d : Deed)
-    → MovesSeats p now run d → MovesSeats p now run (caused now t o d)
-caused_moves p now run None t d moves = moves
-caused_moves p now run (Some cause) t d moves = record {
+pub caused_moves : (p : Settings) (now : ℕ) (run : List Happening) (moment : Moment) (o : Option Cause) (t : Tally)
+    (d : Deed)
+    → MovesSeats p now run d → MovesSeats p now run (caused moment t o d)
+caused_moves p now run moment None t d moves = moves
+caused_moves p now run moment (Some cause) t d moves = record {
   tells = moves.tells;
   opens_none = moves.opens_none;
   keeps = moves.keeps;
@@ -165,7 +167,7 @@ pub start_moves : (p : Settings) (over : Bool) (now : ℕ) (run : List Happening
     → go ≡ is_none (reason run) → unit_of start.test.unit run ≡ w
     → MovesSeats p now run (record (taken_by now start.test.unit (Answered go) w) {
       taken = true;
-      told = option_map (event now) (if go then Some (started_event start (with_start (tally p run))) else None);
+      told = option_map (event_in now run) (if go then Some (started_event start (with_start (tally p run))) else None);
     })
 start_moves p over now run start rest go None h eq goes ew =
     let waits = start_waits p over now run start.test.unit (Start start) rest h eq (start_own start) in
@@ -177,7 +179,8 @@ start_moves p over now run start rest true (Some u) h eq goes ew =
     ap (λ (u : UnitView). takes now u (Answered true)) (sym same)
     ∙ ap (λ ph. takes_at now ph waits.unit (Answered true)) waits.phase in
     record {
-      tells = same_lower _ _ (λ k. seat_told-started k now (told run) start (with_start (tally p run)) waits.untold
+      tells = same_lower _ _ (λ k.
+          seat_told-started k (moment_in now run) (told run) start (with_start (tally p run)) waits.untold
           ∙ ap (λ q. at_last (seat_told (told run)) (take 1 q) k) (sym eq));
       opens_none = λ cause. absurd (let never = goes_on (reason run) cause (sym goes) in cc);
       keeps = λ kept. kept_fewer p _ (board_seat run) (acts_lower now start.test.unit (Answered true) run) kept;
@@ -212,12 +215,13 @@ start_moves p over now run start rest false (Some u) h eq goes ew =
     refused_tells k false e none used = rw e (seat_told-nothing k (told run))
 
 -- a script that is told started is in no seat, and neither is one that is told finished
-script_started : (k now : ℕ) (es : List ReporterEvent) (start : ScriptStart) → account_of start.script.unit es ≡ []
-    → IsBelow (seat_told (es ++ event now (SetupScriptStarted start) ∷ []) k) (seat_told es k)
-script_started k now es start none = by_unit (start.script.unit == k) refl
+script_started : (k : ℕ) (moment : Moment) (es : List ReporterEvent) (start : ScriptStart)
+    → account_of start.script.unit es ≡ []
+    → IsBelow (seat_told (es ++ event moment (SetupScriptStarted start) ∷ []) k) (seat_told es k)
+script_started k moment es start none = by_unit (start.script.unit == k) refl
   where
     e : ReporterEvent
-    e = event now (SetupScriptStarted start)
+    e = event moment (SetupScriptStarted start)
 
     by_unit : (b : Bool) → (start.script.unit == k) ≡ b → IsBelow (seat_told (es ++ e ∷ []) k) (seat_told es k)
     by_unit true is used =
@@ -235,12 +239,12 @@ script_started k now es start none = by_unit (start.script.unit == k) refl
         either false = refl
     by_unit false is used = seat_told-other k es e is refl
 
-pub script_finished : (k now : ℕ) (es : List ReporterEvent) (finish : ScriptFinish)
-    → IsBelow (seat_told (es ++ event now (SetupScriptFinished finish) ∷ []) k) (seat_told es k)
-script_finished k now es finish = by_unit (finish.script.unit == k) refl
+pub script_finished : (k : ℕ) (moment : Moment) (es : List ReporterEvent) (finish : ScriptFinish)
+    → IsBelow (seat_told (es ++ event moment (SetupScriptFinished finish) ∷ []) k) (seat_told es k)
+script_finished k moment es finish = by_unit (finish.script.unit == k) refl
   where
     e : ReporterEvent
-    e = event now (SetupScriptFinished finish)
+    e = event moment (SetupScriptFinished finish)
 
     by_unit : (b : Bool) → (finish.script.unit == k) ≡ b → IsBelow (seat_told (es ++ e ∷ []) k) (seat_told es k)
     by_unit true is used =
@@ -254,7 +258,7 @@ pub script_moves : (p : Settings) (over : Bool) (now : ℕ) (run : List Happenin
     → go ≡ is_none (reason run) → unit_of start.script.unit run ≡ w
     → MovesSeats p now run (record (taken_by now start.script.unit (Answered go) w) {
       taken = true;
-      told = option_map (event now) (if go then Some (SetupScriptStarted start) else None);
+      told = option_map (event_in now run) (if go then Some (SetupScriptStarted start) else None);
     })
 script_moves p over now run start rest go None h eq goes ew =
     let waits = start_waits p over now run start.script.unit (ScriptStarts start) rest h eq (script_own start) in
@@ -272,9 +276,9 @@ script_moves p over now run start rest go (Some u) h eq goes ew =
     }
   where
     tells : (go : Bool) (k : ℕ) → account_of start.script.unit (told run) ≡ []
-        → IsBelow (seat_told (told run ++ option_to_list (option_map (event now)
+        → IsBelow (seat_told (told run ++ option_to_list (option_map (event_in now run)
         (if go then Some (SetupScriptStarted start) else None))) k) (seat_told (told run) k)
-    tells true k untold used = script_started k now (told run) start untold used
+    tells true k untold used = script_started k (moment_in now run) (told run) start untold used
     tells false k untold used = seat_told-nothing k (told run)
 
     by_go : (go : Bool) → u.phase ≡ StartSent → go ≡ true → {seat : ℕ → Seat} → AreLower seat (board_seat run)
@@ -287,7 +291,7 @@ script_moves p over now run start rest go (Some u) h eq goes ew =
 
 -- the delivery of a retry leaves the seats by what was told
 retry_told : (run : List Happening) (now : ℕ) (retry : TestRetry) (t : Tally) (go : Bool) (k : ℕ)
-    → seat_told (told run ++ option_to_list (option_map (event now)
+    → seat_told (told run ++ option_to_list (option_map (event_in now run)
     (if go then Some (retried_event retry t) else None))) k ≡ seat_told (told run) k
 retry_told run now retry t true k = seat_told-other k (told run) _ refl refl
 retry_told run now retry t false k = seat_told-nothing k (told run)
@@ -297,7 +301,7 @@ pub retry_moves : (p : Settings) (over : Bool) (now : ℕ) (run : List Happening
     → go ≡ is_none (reason run) → unit_of retry.start.test.unit run ≡ w
     → MovesSeats p now run (record (taken_by now retry.start.test.unit (Answered go) w) {
       taken = true;
-      told = option_map (event now) (if go then Some (retried_event retry (tally p run)) else None);
+      told = option_map (event_in now run) (if go then Some (retried_event retry (tally p run)) else None);
     })
 retry_moves p over now run retry rest go w h eq goes ew = record {
   tells = same_lower _ _ (λ k. retry_told run now retry (tally p run) go k

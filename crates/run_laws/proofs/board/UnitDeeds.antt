@@ -1,6 +1,6 @@
 -- What a unit's own turn does, and the delivery of its start and of its retry, fits the sub-run before it.
-use Rattle.std.proofs.Common.{◌≡◌, ℕ, zero, suc, ◌<◌, ◌||◌, ◌==◌, List, [], ◌∷◌, ◌++◌, drop, Bool, true, false}
-use Rattle.std.proofs.Common.{not, if◌then◌else◌, Option, Some, None, option_to_list, option_map, is_none, is_some}
+use Rattle.std.proofs.Common.{◌≡◌, ℕ, zero, suc, ◌<◌, ◌||◌, ◌==◌, List, [], ◌∷◌, ◌++◌, drop, Bool, true, false, not}
+use Rattle.std.proofs.Common.{if◌then◌else◌, Option, Some, None, option_to_list, option_map, is_none, is_some}
 use Rattle.std.proofs.Common.{option_and_then, refl, ap, sym, subst, ◌∙◌, arith}
 use Rattle.std.specs.Prelude.{IfSome}
 use Rattle.std.specs.Option.{option_or}
@@ -25,7 +25,8 @@ use Rattle.run_model.specs.declared.phase.Phase.TheVariants.{StartSent, RetrySen
 use Rattle.run_model.specs.Story.{story_of, line_of, lets_go, deliveries, is_at_retry, stopped_at, was_left}
 use Rattle.run_model.specs.Words.{is_on, reason, sent, delivered, queue, told, unit_of, units, unit_after, tally}
 use Rattle.run_model.specs.Admission.{is_script, units_in, unit_terms, start_message, Newcomer, newcomer}
-use Rattle.run_model.specs.Dispatch.{event, having_told, retried_event}
+use Rattle.run_model.specs.Rounds.{tells_answer, is_answer as is_told_answer}
+use Rattle.run_model.specs.Dispatch.{Moment, event, having_told, retried_event}
 use Rattle.run_model.specs.Board.{Deed, deed_events}
 use Rattle.run_model.specs.Turns.{unit_takes, taken_by, admission}
 use Rattle.run_model.specs.Accounts.{started, HasAccount, is_mismatched, account_of, news_in, pending_in, pending_of}
@@ -42,19 +43,24 @@ use Rattle.run_laws.proofs.units.Rows.{takes_moment}
 use Rattle.run_laws.specs.Reports.{report_in, report_of_kind, reports_told, reports_waiting}
 use Rattle.run_laws.proofs.told.Reported.{DoesReport, still_reports, acts_report}
 use Rattle.run_laws.proofs.board.Newcomers.{new_unit}
+use Rattle.run_laws.proofs.board.OnBoard.{moment_in, event_in}
 use Rattle.run_laws.proofs.board.Facts.{itself, start_waits, retry_waits, unleft, unstopped, undelivered}
 use Rattle.run_laws.proofs.board.Facts.{delivered_once, delay_number}
 use Rattle.run_laws.proofs.board.DeedFits.{go_in, ToldFitsIn, ToldFits, Marks, left_with, IsSentFor, IsInOrder, Does}
 
 -- a deed that neither cancels nor begins nor ends
 pub quiet : (p : Settings) (over : Bool) (now : ℕ) (run : List Happening) (d : Deed) → is_on run ≡ true
-    → d.cause ≡ None → d.cancel ≡ None → d.begins ≡ false → d.over ≡ false → d.ends ≡ false → Marks p over now run d
-quiet p over now run d on cause cancel begins over_not ends = record {
-  cancel = cancel ∙ sym (ap (cancel_for now (having_told (tally p run) d.told)) cause);
+    → d.cause ≡ None → d.cancel ≡ None → d.begins ≡ false → d.over ≡ false → d.ends ≡ false → d.stops ≡ false
+    → tells_answer d.told ≡ false → Marks p over now run d
+quiet p over now run d on cause cancel begins over_not ends stops answers = record {
+  cancel = cancel ∙ sym (ap (cancel_for (moment_in now run) (having_told (tally p run) d.told)) cause);
   begins = λ h. cc;
   still = λ off. let never : true ≡ false = sym (ap (λ b. b || is_on run) begins ∙ on) ∙ off in cc;
   finishes = over_not ∙ sym ends;
   ends = λ h. cc;
+  stops = λ h. cc;
+  opens = λ _. on;
+  answers = λ h. cc;
 }
 
 -- what a unit's own turn asks and reports, in a deed that tells no report
@@ -63,7 +69,7 @@ acts_reported : (p : Settings) (over : Bool) (now : ℕ) (run : List Happening) 
     → d.part ≡ Some (Acts j turn) → d.asked ≡ (row now turn u).asked → d.sent ≡ (row now turn u).sent
     → reports_told k (deed_events d) ++ reports_waiting k (drop (if d.taken then 1 else 0) (queue run))
     ≡ reports_waiting k (queue run)
-    → DoesReport (unit_terms p k).slow k now run d
+    → DoesReport (unit_terms p k) k now run d
 acts_reported p over now run j turn u k d h is en part asked sent tells =
     let it = acts_report (unit_terms p k) k now j turn u (unit_of k run) (line_of k run) (story_of k run) en
     (h.named j u is).2 (tried_once p over now run j u h is) (h.named j u is).0
@@ -105,7 +111,7 @@ admits p over now run (Some new) h on e en =
       asks = refl;
       sent_as = (_, it.first);
       order = tt;
-      marks = quiet p over now run _ on refl refl refl refl refl;
+      marks = quiet p over now run _ on refl refl refl refl refl refl refl;
     }
 
 -- a turn that is no answer delivers no start, nor a retry
@@ -163,7 +169,7 @@ unit_does p over now run j turn (Some u) h going e en other = record {
   asks = sym (ap (option_and_then (λ v. (row now turn v).asked)) e);
   sent_as = sym (ap (option_and_then (λ v. (row now turn v).sent)) e);
   order = tt;
-  marks = quiet p over now run _ (by_on (is_on run) refl) refl refl refl refl refl;
+  marks = quiet p over now run _ (by_on (is_on run) refl) refl refl refl refl refl refl refl;
 }
   where
     own : (k : ℕ) → (j == k) ≡ true → unit_of k run ≡ Some u
@@ -177,23 +183,29 @@ unit_does p over now run j turn (Some u) h going e en other = record {
     by_on false is = let none : unit_of j run ≡ None = ap (unit_of j) (h.fresh is going) in
         let never : None ≡ Some u = sym none ∙ e in cc
 
+-- a start that is told, or isn't, is no answer to a query
+tells_none : (go : Bool) (moment : Moment) (kind : TestEventKind) → is_told_answer kind ≡ false
+    → tells_answer (option_map (event moment) (if go then Some kind else None)) ≡ false
+tells_none true moment kind none = none
+tells_none false moment kind none = refl
+
 -- what the delivery of a start message does, which tells an event of this kind where its unit is let go
 pub start_does : (p : Settings) (over : Bool) (now : ℕ) (run : List Happening) (i : ℕ) (m : Message) (kind : TestEventKind)
     (rest : List Message) (go : Bool) (w : Option UnitView)
     → Holds p over now run → is_on run ≡ true → go ≡ is_none (reason run) → queue run ≡ m ∷ rest
     → ((k : ℕ) → pending_in k m ≡ news_for i started k) → ((k : ℕ) → news_in k kind ≡ news_for i started k)
-    → ((k : ℕ) → report_in k m ≡ None) → ((k : ℕ) → report_of_kind k kind ≡ None)
+    → ((k : ℕ) → report_in k m ≡ None) → ((k : ℕ) → report_of_kind k kind ≡ None) → is_told_answer kind ≡ false
     → (account_of i (told run) ≡ [] → i < units_in p → ToldFitsIn p (told run) kind)
-    → (is_some (unit_of i run) ≡ true → IsInOrder p run (event now kind))
+    → (is_some (unit_of i run) ≡ true → IsInOrder p run (event_in now run kind))
     → unit_of i run ≡ w
     → Does p over now run (record (taken_by now i (Answered go) w) {
       taken = true;
-      told = option_map (event now) (if go then Some kind else None);
+      told = option_map (event_in now run) (if go then Some kind else None);
     })
-start_does p over now run i m kind rest go None h on goes eq pends news silent quiet_kind fits order ew =
+start_does p over now run i m kind rest go None h on goes eq pends news silent quiet_kind no_answer fits order ew =
     let waits = start_waits p over now run i m rest h eq (pends i ∙ rw (itself i) refl) in
     let never : None ≡ Some waits.unit = sym ew ∙ waits.is in cc
-start_does p over now run i m kind rest go (Some u) h on goes eq pends news silent quiet_kind fits order ew =
+start_does p over now run i m kind rest go (Some u) h on goes eq pends news silent quiet_kind no_answer fits order ew =
     let waits = start_waits p over now run i m rest h eq (pends i ∙ rw (itself i) refl) in
     let same : waits.unit ≡ u = cc (sym waits.is ∙ ew) in
     let at : u.phase ≡ StartSent = ap (λ (u : UnitView). u.phase) (sym same) ∙ waits.phase in
@@ -210,7 +222,7 @@ start_does p over now run i m kind rest go (Some u) h on goes eq pends news sile
           (takes_moment now u.phase u (Answered go) waiting);
       tells = start_told go (fits waits.untold waits.below);
       accounts = λ k. rw (eq, told_events go, left_still k u ew at)
-          (of_start (is_mismatched p k) (was_left k run) now k i go u (unit_of k run)
+          (of_start (is_mismatched p k) (was_left k run) now (moment_in now run) k i go u (unit_of k run)
           (account_of k (told run)) rest m kind (pends k) (news k) at (λ same. own k u ew same)
           (λ same. unleft (is_mismatched p k) now u (Answered go)
           (way_of k run) waiting (on_way k u ew same))
@@ -222,7 +234,8 @@ start_does p over now run i m kind rest go (Some u) h on goes eq pends news sile
       asks = sym (ap (option_and_then (λ v. (row now (Answered go) v).asked)) ew);
       sent_as = sym (ap (option_and_then (λ v. (row now (Answered go) v).sent)) ew);
       order = in_order go (order (ap is_some ew));
-      marks = quiet p over now run _ on refl refl refl refl refl;
+      marks = quiet p over now run _ on refl refl refl refl refl refl
+          (tells_none go _ _ no_answer);
     }
   where
     own : (k : ℕ) (u : UnitView) → unit_of i run ≡ Some u → (i == k) ≡ true → unit_of k run ≡ Some u
@@ -251,23 +264,23 @@ start_does p over now run i m kind rest go (Some u) h on goes eq pends news sile
         by_unit false e = left_apart k run (Some (Acts i (Answered go))) e
 
     start_told : (go : Bool) → ToldFitsIn p (told run) kind
-        → ToldFits p (told run) (option_map (event now) (if go then Some kind else None))
+        → ToldFits p (told run) (option_map (event_in now run) (if go then Some kind else None))
     start_told true fits = fits
     start_told false fits = tt
 
-    in_order : (go : Bool) → IsInOrder p run (event now kind)
-        → IfSome (option_map (event now) (if go then Some kind else None)) (IsInOrder p run)
+    in_order : (go : Bool) → IsInOrder p run (event_in now run kind)
+        → IfSome (option_map (event_in now run) (if go then Some kind else None)) (IsInOrder p run)
     in_order true order = order
     in_order false order = tt
 
     told_events : (go : Bool)
-        → option_to_list (option_map (event now) (if go then Some kind else None)) ++ []
-        ≡ option_to_list (if go then Some (event now kind) else None)
+        → option_to_list (option_map (event_in now run) (if go then Some kind else None)) ++ []
+        ≡ option_to_list (if go then Some (event_in now run kind) else None)
     told_events true = refl
     told_events false = refl
 
     start_reports : (k : ℕ) (go : Bool)
-        → reports_told k (option_to_list (option_map (event now) (if go then Some kind else None)) ++ [])
+        → reports_told k (option_to_list (option_map (event_in now run) (if go then Some kind else None)) ++ [])
         ++ reports_waiting k rest ≡ reports_waiting k (m ∷ rest)
     start_reports k true = rw (silent k, quiet_kind k) refl
     start_reports k false = rw (silent k) refl
@@ -282,7 +295,7 @@ pub retry_does : (p : Settings) (over : Bool) (now : ℕ) (run : List Happening)
     → unit_of retry.start.test.unit run ≡ w
     → Does p over now run (record (taken_by now retry.start.test.unit (Answered go) w) {
       taken = true;
-      told = option_map (event now) (if go then Some (retried_event retry (tally p run)) else None);
+      told = option_map (event_in now run) (if go then Some (retried_event retry (tally p run)) else None);
     })
 retry_does p over now run retry rest go None h on goes eq ew =
     let waits = retry_waits p over now run retry rest h eq in
@@ -304,8 +317,8 @@ retry_does p over now run retry rest go (Some u) h on goes eq ew =
           (kind_of p over now run retry.start.test.unit u h ew) refl (takes_moment now u.phase u (Answered go) waiting);
       tells = retry_told go;
       accounts = λ k. rw (eq, told_events go) (of_retry (is_mismatched p k) (was_left k run)
-          (left_with k run (Some (Acts retry.start.test.unit (Answered go)))) now k go u (unit_of k run)
-          (account_of k (told run)) rest retry (tally p run) at (λ same. own k u ew same)
+          (left_with k run (Some (Acts retry.start.test.unit (Answered go)))) now (moment_in now run) k go u
+          (unit_of k run) (account_of k (told run)) rest retry (tally p run) at (λ same. own k u ew same)
           (λ same. left_now k u ew at waits.matched same (unstopped (is_mismatched p k) now u (Answered go)
           (way_of k run) waiting (on_way k u ew same)))
           (left_apart k run (Some (Acts retry.start.test.unit (Answered go))))
@@ -317,7 +330,8 @@ retry_does p over now run retry rest go (Some u) h on goes eq ew =
       asks = sym (ap (option_and_then (λ v. (row now (Answered go) v).asked)) ew);
       sent_as = sym (ap (option_and_then (λ v. (row now (Answered go) v).sent)) ew);
       order = in_order go;
-      marks = quiet p over now run _ on refl refl refl refl refl;
+      marks = quiet p over now run _ on refl refl refl refl refl refl
+          (tells_none go _ _ refl);
     }
   where
     own : (k : ℕ) (u : UnitView) → unit_of retry.start.test.unit run ≡ Some u → (retry.start.test.unit == k) ≡ true
@@ -352,23 +366,25 @@ retry_does p over now run retry rest go (Some u) h on goes eq ew =
         by_go true (suc n) some = refl
 
     in_order : (go : Bool)
-        → IfSome (option_map (event now) (if go then Some (retried_event retry (tally p run)) else None)) (IsInOrder p run)
+        → IfSome (option_map (event_in now run) (if go then Some (retried_event retry (tally p run)) else None))
+        (IsInOrder p run)
     in_order true = record { test = λ e. cc; script = λ e. cc; said = λ m e. cc }
     in_order false = tt
 
     retry_told : (go : Bool) → ToldFits p (told run)
-        (option_map (event now) (if go then Some (retried_event retry (tally p run)) else None))
+        (option_map (event_in now run) (if go then Some (retried_event retry (tally p run)) else None))
     retry_told true = tt
     retry_told false = tt
 
     told_events : (go : Bool)
-        → option_to_list (option_map (event now) (if go then Some (retried_event retry (tally p run)) else None)) ++ []
-        ≡ option_to_list (if go then Some (event now (retried_event retry (tally p run))) else None)
+        → option_to_list (option_map (event_in now run)
+        (if go then Some (retried_event retry (tally p run)) else None)) ++ []
+        ≡ option_to_list (if go then Some (event_in now run (retried_event retry (tally p run))) else None)
     told_events true = refl
     told_events false = refl
 
     retry_reports : (k : ℕ) (go : Bool)
-        → reports_told k (option_to_list (option_map (event now)
+        → reports_told k (option_to_list (option_map (event_in now run)
         (if go then Some (retried_event retry (tally p run)) else None)) ++ [])
         ++ reports_waiting k rest ≡ reports_waiting k (Retry retry ∷ rest)
     retry_reports k true = refl

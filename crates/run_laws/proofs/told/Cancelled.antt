@@ -1,17 +1,15 @@
 -- What each enabled turn tells as a cause.
-use Rattle.std.proofs.Common.{◌≡◌, ℕ, ◌++◌, List, [], ◌∷◌, Bool, true, false, not, if◌then◌else◌, Option, Some, None}
+use Rattle.std.proofs.Common.{◌≡◌, ℕ, ◌++◌, List, [], ◌∷◌, Bool, true, false, if◌then◌else◌, Option, Some, None}
 use Rattle.std.proofs.Common.{option_map, is_none, is_some, reverse, refl, ap, sym, subst, ◌∙◌}
 use Rattle.std.specs.Prelude.{IfSome}
-use Rattle.std.specs.Cmp.{second_so}
 use Rattle.std.proofs.lemmas.List.{reverse-append}
 use Rattle.run_events.specs.declared.ask.Ask.{Ask}
 use Rattle.run_events.specs.declared.ask.Ask.TheVariants.{Start as StartAsked, Signal as SignalAsked, StopSelf}
 use Rattle.run_events.specs.declared.settings.Settings.{Settings}
 use Rattle.run_events.specs.declared.turn.Turn.{Turn}
 use Rattle.run_events.specs.declared.message.Message.{Message}
-use Rattle.run_events.specs.declared.message.Message.TheVariants.{ScriptStart as ScriptStarts, ScriptSlow}
-use Rattle.run_events.specs.declared.message.Message.TheVariants.{ScriptFinish, Start, Slow, AttemptFailed, Retry}
-use Rattle.run_events.specs.declared.message.Message.TheVariants.{Skip, Finish}
+use Rattle.run_events.specs.declared.message.Message.TheVariants.{ScriptStart as ScriptStarts, ScriptSlow, ScriptFinish}
+use Rattle.run_events.specs.declared.message.Message.TheVariants.{Start, Slow, AttemptFailed, Retry, Skip, Finish}
 use Rattle.run_events.specs.declared.message.TestStart.{TestStart}
 use Rattle.run_events.specs.declared.message.TestRetry.{TestRetry}
 use Rattle.run_events.specs.declared.cancel.CancelReason.{CancelReason}
@@ -29,23 +27,31 @@ use Rattle.run_model.specs.declared.unit_turn.UnitTurn.TheVariants.{Answered}
 use Rattle.run_model.specs.declared.unit_view.UnitView.{UnitView}
 use Rattle.run_model.specs.Story.{begins_attempt}
 use Rattle.run_model.specs.Unit.{at_moment, row, takes}
-use Rattle.run_model.specs.Words.{is_on, is_over, clock, sub_run, queue, reason, told, units, tally, was_refused}
+use Rattle.run_model.specs.Words.{is_over, clock, sub_run, queue, reason, told, units, tally}
 use Rattle.run_model.specs.Admission.{Newcomer, newcomer}
-use Rattle.run_model.specs.Dispatch.{event, having_told, with_start, may_go, started_event, retried_event}
+use Rattle.run_model.specs.Dispatch.{Moment, moment_by, heard_by, event, having_told, with_start, may_go, started_event}
+use Rattle.run_model.specs.Dispatch.{retried_event}
 use Rattle.run_model.specs.Cancel.{Cause, cause_of, is_above, cancelled_for, cancel_event, caused}
 use Rattle.run_model.specs.Board.{Board, Deed, board}
-use Rattle.run_model.specs.Turns.{enabled, enabled_on, is_empty, takes_turn, turn_of_unit, admission, event_of}
-use Rattle.run_model.specs.Turns.{tally_with, delivered_as, delivery, nothing_done, done_by, deed_on, happening}
+use Rattle.run_model.specs.Turns.{enabled, admission, event_of, live_in, oldest_of, tally_with, delivered_as, delivery}
+use Rattle.run_model.specs.Turns.{nothing_done, done_by, deed_on, happening}
 use Rattle.run_model.specs.Journal.{history, past_of, IsLegal, IsLegalBackward}
-use Rattle.run_laws.specs.Cancels.{reason_told, kills, tells_start, rises, is_second, asks_start, IsCancelled}
-use Rattle.run_laws.proofs.board.Holds.{Holds}
+use Rattle.run_laws.specs.Cancels.{reason_in, begins_in, reason_told, kills, tells_start, rises, is_second, asks_start}
+use Rattle.run_laws.specs.Cancels.{IsCancelled}
 use Rattle.run_laws.proofs.board.ByTurn.{by_turn}
-use Rattle.run_laws.proofs.board.OnBoard.{board_of, board_with}
+use Rattle.run_laws.proofs.board.OnBoard.{moment_in}
 use Rattle.run_laws.proofs.board.Facts.{may_go-is, stats-reason}
 use Rattle.run_events.specs.declared.message.ScriptStart.{ScriptStart}
-use Rattle.run_events.specs.declared.events.TestEventKind.TheVariants.{SetupScriptStarted}
+use Rattle.run_events.specs.declared.events.ReporterEvent.TheVariants.{Tick, Test}
+use Rattle.run_events.specs.declared.events.TestEventKind.{TestEventKind}
+use Rattle.run_events.specs.declared.events.TestEventKind.TheVariants.{SetupScriptStarted, RunPaused, RunContinued}
+use Rattle.run_events.specs.declared.events.TestEventKind.TheVariants.{InfoStarted, InfoResponse as InfoAnswer}
+use Rattle.run_events.specs.declared.events.TestEventKind.TheVariants.{InfoFinished, InputEnter}
+use Rattle.run_events.specs.Hearing.{heard_key}
 use Rattle.run_laws.proofs.told.Cancels.{cancel_for}
 use Rattle.run_laws.proofs.told.CauseLemmas.{cause_is}
+use Rattle.run_laws.proofs.told.Asides.{IsAside, IsAsideKind, IsAsideEvent, by_signal, key_aside, tick_aside}
+use Rattle.run_laws.proofs.told.Asides.{stop_aside, answer_aside, inform_aside}
 use Rattle.run_laws.proofs.board.DeedFits.{Does, PartFits, asked_by}
 use Rattle.run_laws.proofs.units.OpenRows.{IsNoStart}
 use Rattle.run_laws.proofs.units.Rows.{row_starts_none, takes_moment}
@@ -57,7 +63,7 @@ abbrev TellsOwn : List Happening → Option ReporterEvent → Type 0
 TellsOwn run o =
     IfSome o (λ event. reason_told event ≡ None) × IfSome o (λ event. tells_start event ≡ true → reason run ≡ None)
 
-caused_own : (run : List Happening) (now : ℕ) (t : Tally) (o : Option Cause) (d : Deed) → TellsOwn run d.told
+caused_own : (run : List Happening) (now : Moment) (t : Tally) (o : Option Cause) (d : Deed) → TellsOwn run d.told
     → TellsOwn run (caused now t o d).told
 caused_own run now t None d own = own
 caused_own run now t (Some cause) d own = own
@@ -73,69 +79,95 @@ no_reason : (why : Option CancelReason) → is_none why ≡ true → why ≡ Non
 no_reason None e = refl
 no_reason (Some r) e = cc
 
-start_own : (p : Settings) (now : ℕ) (run : List Happening) (start : TestStart) (go : Bool)
+start_own : (p : Settings) (now : Moment) (run : List Happening) (start : TestStart) (go : Bool)
     → go ≡ is_none (reason run)
     → TellsOwn run (option_map (event now) (if go then Some (started_event start (with_start (tally p run))) else None))
 start_own p now run start true goes = (refl, λ e. no_reason (reason run) (sym goes))
 start_own p now run start false goes = (tt, tt)
 
-script_own : (now : ℕ) (run : List Happening) (start : ScriptStart) (go : Bool) → go ≡ is_none (reason run)
+script_own : (now : Moment) (run : List Happening) (start : ScriptStart) (go : Bool) → go ≡ is_none (reason run)
     → TellsOwn run (option_map (event now) (if go then Some (SetupScriptStarted start) else None))
 script_own now run start true goes = (refl, λ e. no_reason (reason run) (sym goes))
 script_own now run start false goes = (tt, tt)
 
-retry_own : (p : Settings) (now : ℕ) (run : List Happening) (retry : TestRetry) (go : Bool)
+retry_own : (p : Settings) (now : Moment) (run : List Happening) (retry : TestRetry) (go : Bool)
     → go ≡ is_none (reason run)
     → TellsOwn run (option_map (event now) (if go then Some (retried_event retry (tally p run)) else None))
 retry_own p now run retry true goes = (refl, λ e. no_reason (reason run) (sym goes))
 retry_own p now run retry false goes = (tt, tt)
 
-delivers_own : (p : Settings) (over : Bool) (now : ℕ) (run : List Happening) (q : List Message) → Holds p over now run
-    → queue run ≡ q → not (is_empty q) ≡ true → TellsOwn run (delivery (board_of p over now run) q).told
-delivers_own p over now run [] h eq en = cc
-delivers_own p over now run (Start start ∷ rest) h eq en =
-    start_own p now run start (may_go (tally p run)) (may_go-is p run)
-delivers_own p over now run (ScriptStarts start ∷ rest) h eq en =
-    script_own now run start (may_go (tally p run)) (may_go-is p run)
-delivers_own p over now run (ScriptSlow slow ∷ rest) h eq en = (refl, λ e. cc)
-delivers_own p over now run (ScriptFinish finish ∷ rest) h eq en =
-    let b : Board = board_of p over now run in
+delivers_own : (p : Settings) (past : List Happening) (q : List Message)
+    → TellsOwn (sub_run past) (delivery (board p past) q).told
+delivers_own p past [] = (tt, tt)
+delivers_own p past (Start start ∷ rest) =
+    start_own p _ (sub_run past) start (may_go (tally p (sub_run past))) (may_go-is p (sub_run past))
+delivers_own p past (ScriptStarts start ∷ rest) =
+    script_own _ (sub_run past) start (may_go (tally p (sub_run past))) (may_go-is p (sub_run past))
+delivers_own p past (ScriptSlow slow ∷ rest) = (refl, λ e. cc)
+delivers_own p past (ScriptFinish finish ∷ rest) =
+    let b : Board = board p past in
     let tells : Option ReporterEvent = event_of b (ScriptFinish finish) in
-    caused_own run now (tally_with b tells) (cause_of b.dispatcher.rules (tally_with b tells) (ScriptFinish finish))
+    caused_own (sub_run past) (moment_by b.clock b.dispatcher.watch) (tally_with b tells)
+    (cause_of b.dispatcher.rules (tally_with b tells) (ScriptFinish finish))
     (delivered_as b (ScriptFinish finish) nothing_done) (refl, λ e. cc)
-delivers_own p over now run (Retry retry ∷ rest) h eq en =
-    retry_own p now run retry (may_go (tally p run)) (may_go-is p run)
-delivers_own p over now run (AttemptFailed failure ∷ rest) h eq en = (refl, λ e. cc)
-delivers_own p over now run (Skip skip ∷ rest) h eq en = (refl, λ e. cc)
-delivers_own p over now run (Slow slow ∷ rest) h eq en = (refl, λ e. cc)
-delivers_own p over now run (Finish finish ∷ rest) h eq en =
-    let b : Board = board_of p over now run in
+delivers_own p past (Retry retry ∷ rest) =
+    retry_own p _ (sub_run past) retry (may_go (tally p (sub_run past))) (may_go-is p (sub_run past))
+delivers_own p past (AttemptFailed failure ∷ rest) = (refl, λ e. cc)
+delivers_own p past (Skip skip ∷ rest) = (refl, λ e. cc)
+delivers_own p past (Slow slow ∷ rest) = (refl, λ e. cc)
+delivers_own p past (Finish finish ∷ rest) =
+    let b : Board = board p past in
     let tells : Option ReporterEvent = event_of b (Finish finish) in
-    caused_own run now (tally_with b tells) (cause_of b.dispatcher.rules (tally_with b tells) (Finish finish))
+    caused_own (sub_run past) (moment_by b.clock b.dispatcher.watch) (tally_with b tells)
+    (cause_of b.dispatcher.rules (tally_with b tells) (Finish finish))
     (delivered_as b (Finish finish) nothing_done) (refl, λ e. cc)
 
-own : (p : Settings) (over refused : Bool) (now : ℕ) (run : List Happening) (turn : Turn) → Holds p over now run
-    → enabled_on p (board_with p refused over now run) turn ≡ true
-    → TellsOwn run (deed_on p (board_with p refused over now run) turn).told
-own p over refused now run turn h en =
-    by_turn (λ turn named. takes_turn p b turn named ≡ true → TellsOwn run (done_by p b turn named).told)
+aside_own : (run : List Happening) (d : Deed) → IsAside d → TellsOwn run d.told
+aside_own run d aside = by_told d.told aside.told
+  where
+    by_kind : (kind : TestEventKind) → IsAsideKind kind → (reason_in kind ≡ None) × (begins_in kind ≡ false)
+    by_kind (RunPaused event) h = (refl, refl)
+    by_kind (RunContinued event) h = (refl, refl)
+    by_kind (InfoStarted event) h = (refl, refl)
+    by_kind (InfoAnswer event) h = (refl, refl)
+    by_kind (InfoFinished missing) h = (refl, refl)
+    by_kind (InputEnter event) h = (refl, refl)
+    by_kind kind h = absurd h
+
+    by_told : (o : Option ReporterEvent) → IfSome o IsAsideEvent → TellsOwn run o
+    by_told None h = (tt, tt)
+    by_told (Some Tick) h = (refl, λ e. cc)
+    by_told (Some (Test event)) h =
+        let it = by_kind event.kind h in
+        (it.0, λ e. let never : false ≡ true = sym it.1 ∙ e in cc)
+
+own : (p : Settings) (past : List Happening) (turn : Turn) → TellsOwn (sub_run past) (deed_on p (board p past) turn).told
+own p past turn = by_turn (λ turn named. TellsOwn run (done_by p b turn named).told)
     (record {
-      begin = λ en. (refl, λ e. cc);
-      admit = λ en. admits_own run (newcomer p (units p run));
-      deliver = λ en. delivers_own p over now run (queue run) h refl
-          (second_so (is_on run) (not (is_empty (queue run))) en);
-      named = λ turn k to other en. (tt, tt);
-      clock = λ ns en. (tt, tt);
-      signal = λ signal en. (tt, tt);
-      global_due = λ en. (tt, tt);
-      report_cancel = λ en. (tt, tt);
-      end = λ en. (refl, λ e. cc);
-      unbuilt = λ turn never en. let no_turn : false ≡ true = sym (never p b) ∙ en in cc;
+      begin = (refl, λ e. cc);
+      admit = admits_own run (newcomer p (units p run));
+      deliver = delivers_own p past (queue run);
+      named = λ turn k to other. (tt, tt);
+      clock = λ ns. (tt, tt);
+      signal = λ signal. by_signal (λ d. TellsOwn run d.told) (clock past) (live_in (units p run)) b.dispatcher signal
+          (heard_by p.plan.hearing signal) (tt, tt) (aside_own run);
+      global_due = (tt, tt);
+      report_cancel = (tt, tt);
+      end = (refl, λ e. cc);
+      key = λ key. aside_own run _ (key_aside (clock past) (live_in (units p run)) b.dispatcher
+          (heard_key p.plan.hearing.input key));
+      tick = aside_own run _ tick_aside;
+      stop_wait_due = aside_own run _ stop_aside;
+      answer = aside_own run _ (answer_aside b (oldest_of b.answers));
+      info_due = aside_own run _ (inform_aside (clock past) b.dispatcher);
     })
-    turn (second_so (not over) (takes_turn p b turn (turn_of_unit turn)) en)
+    turn
   where
     b : Board
-    b = board_with p refused over now run
+    b = board p past
+
+    run : List Happening
+    run = sub_run past
 
 -- a start is asked only where no cause came
 abbrev AsksFirst : List Happening → Option Ask → Type 0
@@ -172,7 +204,7 @@ asks_first now run p (Some (Acts j turn)) taken = rw taken.is (by_turn_of turn t
     by_turn_of turn en answers = others turn en refl
 
 -- the event of a cause has its reason, and is that of a kill for a second signal
-event_reason : (now : ℕ) (r : CancelReason) (t : Tally)
+event_reason : (now : Moment) (r : CancelReason) (t : Tally)
     → reason_told (event now (cancel_event r (cancelled_for r t))) ≡ Some r
 event_reason now SetupScriptFailure t = refl
 event_reason now TestFailure t = refl
@@ -183,7 +215,7 @@ event_reason now Signal t = refl
 event_reason now Interrupt t = refl
 event_reason now SecondSignal t = refl
 
-event_kills : (now : ℕ) (r : CancelReason) (t : Tally)
+event_kills : (now : Moment) (r : CancelReason) (t : Tally)
     → kills (event now (cancel_event r (cancelled_for r t))) ≡ is_second (Some r)
 event_kills now SetupScriptFailure t = refl
 event_kills now TestFailure t = refl
@@ -205,7 +237,7 @@ record TellsCause (why cause : Option CancelReason) (o : Option ReporterEvent) :
   with_reason : IfSome o (λ event. reason_told event ≡ cause)
   killing : IfSome o (λ event. kills event ≡ is_second cause)
 
-tells_cause : (now : ℕ) (t : Tally) (cause : Option CancelReason)
+tells_cause : (now : Moment) (t : Tally) (cause : Option CancelReason)
     → TellsCause t.stats.cancel_reason cause (cancel_for now t cause)
 tells_cause now t None = record { exactly = refl; with_reason = tt; killing = tt }
 tells_cause now t (Some r) = by_rank (is_above t.stats.cancel_reason r) refl
@@ -235,13 +267,13 @@ reason_kept p over now run d does =
 pub cancelled_after : (p : Settings) (past : List Happening) (e : Entry) → HoldsAfter p past
     → enabled p past e.turn ≡ true → IsCancelled p (sub_run past) (happening p past e)
 cancelled_after p past e h en = record {
-  cause = cause_is p (is_over past) (was_refused past) (clock past) run e.turn;
+  cause = cause_is p past e.turn;
   exactly = told_cause.exactly;
   with_reason = told_cause.with_reason;
   kills = told_cause.killing;
   own = tells.0;
   starts = tells.1;
-  asks = subst (AsksFirst run) (sym does.asks) (asks_first (clock past) run p d.part does.part);
+  asks = subst (AsksFirst run) (sym does.asks) (asks_so d.stops);
 }
   where
     run : List Happening
@@ -253,14 +285,18 @@ cancelled_after p past e h en = record {
     does : Does p (is_over past) (clock past) run d
     does = does_after p past e h en
 
+    asks_so : (b : Bool) → AsksFirst run (if b then Some StopSelf else asked_by (clock past) run d.part)
+    asks_so true = λ e. cc
+    asks_so false = asks_first (clock past) run p d.part does.part
+
     told_cause : TellsCause (reason run) d.cause d.cancel
     told_cause =
         subst (λ why. TellsCause why d.cause d.cancel) (reason_kept p (is_over past) (clock past) run d does)
         (subst (TellsCause (having_told (tally p run) d.told).stats.cancel_reason d.cause) (sym does.marks.cancel)
-        (tells_cause (clock past) (having_told (tally p run) d.told) d.cause))
+        (tells_cause (moment_in (clock past) run) (having_told (tally p run) d.told) d.cause))
 
     tells : TellsOwn run d.told
-    tells = own p (is_over past) (was_refused past) (clock past) run e.turn h en
+    tells = own p past e.turn
 
 pub cancels : (p : Settings) (journal : List Entry) (e : Entry) → IsLegal p (journal ++ e ∷ [])
     → IsCancelled p (sub_run (past_of p journal)) (happening p (past_of p journal) e)

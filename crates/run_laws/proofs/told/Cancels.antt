@@ -14,17 +14,17 @@ use Rattle.run_events.specs.declared.events.TestEventKind.{TestEventKind}
 use Rattle.run_events.specs.declared.events.TestEventKind.TheVariants.{RunBeginCancel, RunBeginKill}
 use Rattle.run_model.specs.declared.dispatcher_view.Tally.{Tally}
 use Rattle.run_model.specs.Words.{finish_of, finish_in, skips, skips_in, starts, starts_in, finishes, finishes_in}
-use Rattle.run_model.specs.Dispatch.{event, tallied, having_told}
+use Rattle.run_model.specs.Dispatch.{Moment, event, tallied, having_told}
 use Rattle.run_model.specs.Accounts.{news_of, news_in, account_of}
 use Rattle.run_model.specs.Cancel.{is_above, cancelled_for, cancel_event}
 use Rattle.run_laws.specs.Reports.{report_of, report_of_kind, reports_told}
 
 -- the event that a cause tells with these counts: none where its reason isn't above theirs
-abbrev pub cancel_for : ℕ → Tally → Option CancelReason → Option ReporterEvent
-cancel_for now t None = None
-cancel_for now t (Some reason) =
+abbrev pub cancel_for : Moment → Tally → Option CancelReason → Option ReporterEvent
+cancel_for moment t None = None
+cancel_for moment t (Some reason) =
     if is_above t.stats.cancel_reason reason
-    then Some (event now (cancel_event reason (cancelled_for reason t)))
+    then Some (event moment (cancel_event reason (cancelled_for reason t)))
     else None
 
 -- an event that the run is cancelled, or none
@@ -48,12 +48,12 @@ kind_cancels Signal t = tt
 kind_cancels Interrupt t = tt
 kind_cancels SecondSignal t = tt
 
-pub cancel_is : (now : ℕ) (t : Tally) (cause : Option CancelReason) → IsCancel (cancel_for now t cause)
-cancel_is now t None = tt
-cancel_is now t (Some reason) = by_rank (is_above t.stats.cancel_reason reason)
+pub cancel_is : (moment : Moment) (t : Tally) (cause : Option CancelReason) → IsCancel (cancel_for moment t cause)
+cancel_is moment t None = tt
+cancel_is moment t (Some reason) = by_rank (is_above t.stats.cancel_reason reason)
   where
     by_rank : (b : Bool)
-        → IsCancel (if b then Some (event now (cancel_event reason (cancelled_for reason t))) else None)
+        → IsCancel (if b then Some (event moment (cancel_event reason (cancelled_for reason t))) else None)
     by_rank true = kind_cancels reason (cancelled_for reason t)
     by_rank false = tt
 

@@ -1,16 +1,19 @@
 -- The delays that are told with failed attempts are those of a unit's own turns.
-use Rattle.std.proofs.Common.{◌≡◌, ◌⊎◌, inl, inr, ℕ, ◌==◌, List, [], ◌∷◌, ◌++◌, drop, Bool, true, false}
-use Rattle.std.proofs.Common.{if◌then◌else◌, not, Option, Some, None, option_and_then, option_map, option_to_list}
-use Rattle.std.proofs.Common.{refl, ap, sym, subst, ◌∙◌, arith, append-nil, append_assoc}
-use Rattle.std.specs.Cmp.{second_so}
+use Rattle.std.proofs.Common.{◌≡◌, ◌⊎◌, inl, inr, ℕ, ◌==◌, List, [], ◌∷◌, ◌++◌, drop, Bool, true, false, if◌then◌else◌}
+use Rattle.std.proofs.Common.{Option, Some, None, option_and_then, option_map, option_to_list, refl, ap, sym, subst}
+use Rattle.std.proofs.Common.{◌∙◌, arith, append-nil, append_assoc}
+use Rattle.std.specs.Prelude.{IfSome}
+use Rattle.run_events.specs.Hearing.{heard_key}
 use Rattle.std.specs.List.{cons_option}
 use Rattle.std.proofs.lemmas.List.Elements.{filter_map-append}
 use Rattle.run_events.specs.declared.settings.Settings.{Settings}
 use Rattle.run_events.specs.declared.events.ReporterEvent.{ReporterEvent}
 use Rattle.run_events.specs.declared.events.ReporterEvent.TheVariants.{Tick, Test}
 use Rattle.run_events.specs.declared.events.TestEventKind.{TestEventKind}
-use Rattle.run_events.specs.declared.events.TestEventKind.TheVariants.{RunBeginCancel, RunBeginKill}
-use Rattle.run_events.specs.declared.events.TestEventKind.TheVariants.{SetupScriptStarted as ScriptStarted}
+use Rattle.run_events.specs.declared.events.TestEventKind.TheVariants.{RunBeginCancel, RunBeginKill, RunPaused}
+use Rattle.run_events.specs.declared.events.TestEventKind.TheVariants.{RunContinued, InfoStarted}
+use Rattle.run_events.specs.declared.events.TestEventKind.TheVariants.{InfoResponse as InfoAnswer, InfoFinished}
+use Rattle.run_events.specs.declared.events.TestEventKind.TheVariants.{InputEnter, SetupScriptStarted as ScriptStarted}
 use Rattle.run_events.specs.declared.message.Message.{Message}
 use Rattle.run_events.specs.declared.message.Message.TheVariants.{ScriptStart, ScriptSlow, ScriptFinish, Start, Slow}
 use Rattle.run_events.specs.declared.message.Message.TheVariants.{AttemptFailed, Retry, Skip, Finish}
@@ -32,24 +35,28 @@ use Rattle.run_model.specs.Admission.{start_message, unit_terms, Newcomer, newco
 use Rattle.run_model.specs.Attempts.{pieces_of}
 use Rattle.run_model.specs.Board.{Board, Deed, board, deed_events, said}
 use Rattle.run_model.specs.Cancel.{Cause, cause_of, caused, event_refused, signal_cause, time_is_up}
-use Rattle.run_model.specs.Dispatch.{event, failed_event, may_go, retried_event, started_event, with_start}
+use Rattle.run_model.specs.Dispatch.{Moment, moment_by, heard_by, event, failed_event, may_go, retried_event}
+use Rattle.run_model.specs.Dispatch.{started_event, with_start}
 use Rattle.run_model.specs.Journal.{history, IsLegalBackward}
 use Rattle.run_model.specs.Story.{OwnTurn, own_turn, story_of, line_of, request_of, pieces}
-use Rattle.run_model.specs.Turns.{admission, cancelled, deed_on, delivered_as, delivery, done_by, enabled_on}
-use Rattle.run_model.specs.Turns.{event_of, nothing_done, takes_turn, tally_with, turn_of_unit}
-use Rattle.run_model.specs.Unit.{at_moment, failure_message, last_status, next_delay, row, row_at, takes_at}
-use Rattle.run_model.specs.Words.{clock, is_over, queue, sent, sub_run, tally, told, unit_of, units, was_refused}
+use Rattle.run_model.specs.Turns.{live_in, oldest_of, admission, cancelled, deed_on, delivered_as, delivery, done_by}
+use Rattle.run_model.specs.Turns.{event_of, nothing_done, tally_with}
+use Rattle.run_model.specs.Ending.{last_status}
+use Rattle.run_model.specs.Retries.{failure_message, next_delay}
+use Rattle.run_model.specs.Unit.{at_moment, row, row_at, takes_at}
+use Rattle.run_model.specs.Words.{clock, is_over, queue, sent, sub_run, told, unit_of}
 use Rattle.run_laws.specs.Delays.{AreDelaysOwn, delay_in, delay_of_kind, delay_told, delays_by, delays_told}
 use Rattle.run_laws.specs.Delays.{delays_waiting}
 use Rattle.run_laws.proofs.units.AccountLemmas.{IsFirst}
 use Rattle.run_laws.proofs.units.AttemptLemmas.{HasPieces, IsMade, IsMadeIf}
 use Rattle.run_laws.proofs.board.ByTurn.{by_turn}
+use Rattle.run_laws.proofs.told.Asides.{IsAside, IsAsideKind, IsAsideEvent, by_signal, key_aside, tick_aside}
+use Rattle.run_laws.proofs.told.Asides.{stop_aside, answer_aside, inform_aside}
 use Rattle.run_laws.proofs.told.Cancels.{IsCancel, IsCancelKind, cancel_for, cancel_is}
 use Rattle.run_laws.proofs.board.DeedFits.{PartFits, IsSentAs, Does}
 use Rattle.run_laws.proofs.board.Holds.{Holds}
 use Rattle.run_laws.proofs.board.Kept.{HoldsAfter, does_after, IsOfRun, IsBeforeRuns, where_joins, holds}
 use Rattle.run_laws.proofs.units.MadeLemmas.{later_pieces}
-use Rattle.run_laws.proofs.board.OnBoard.{board_of, board_with}
 use Rattle.run_laws.proofs.units.OneOff.{tried_once, once_later}
 use Rattle.run_laws.proofs.board.Queue.{queue-cons}
 use Rattle.run_laws.proofs.units.Rows.{Takes, answers, opens, decides as decides_now, passes, again, continues}
@@ -142,7 +149,7 @@ cancel_none k None h = refl
 cancel_none k (Some Tick) h = absurd h
 cancel_none k (Some (Test e)) h = by_kind e.kind h
   where
-    by_kind : (kind : TestEventKind) → IsCancelKind kind → delays_told k (event 0 kind ∷ []) ≡ []
+    by_kind : (kind : TestEventKind) → IsCancelKind kind → cons_option (delay_of_kind k kind) [] ≡ []
     by_kind (RunBeginCancel cancelled) h = refl
     by_kind (RunBeginKill cancelled) h = refl
     by_kind kind h = absurd h
@@ -151,7 +158,7 @@ abbrev KeepsDelays : ℕ → List Message → Deed → Type 0
 KeepsDelays k q d =
     delays_told k (deed_events d) ++ delays_waiting k (drop (if d.taken then 1 else 0) q) ≡ delays_waiting k q
 
-caused_keeps : (k now : ℕ) (q : List Message) (t : Tally) (o : Option Cause) (d : Deed) → d.cancel ≡ None
+caused_keeps : (k : ℕ) (now : Moment) (q : List Message) (t : Tally) (o : Option Cause) (d : Deed) → d.cancel ≡ None
     → KeepsDelays k q d → KeepsDelays k q (caused now t o d)
 caused_keeps k now q t None d none keeps = keeps
 caused_keeps k now q t (Some c) d none keeps =
@@ -165,14 +172,14 @@ admission_keeps : (k : ℕ) (q : List Message) (o : Option Newcomer) → KeepsDe
 admission_keeps k q None = refl
 admission_keeps k q (Some new) = refl
 
-told_if : (k now : ℕ) (kind : TestEventKind) (m : Message) (rest : List Message) (go : Bool)
+told_if : (k : ℕ) (now : Moment) (kind : TestEventKind) (m : Message) (rest : List Message) (go : Bool)
     → delay_of_kind k kind ≡ None → delay_in k m ≡ None
     → delays_told k (option_to_list (option_map (event now) (if go then Some kind else None)) ++ [])
     ++ delays_waiting k rest ≡ delays_waiting k (m ∷ rest)
 told_if k now kind m rest true none quiet_message = rw (none, quiet_message) refl
 told_if k now kind m rest false none quiet_message = rw quiet_message refl
 
-told_so : (k now : ℕ) (kind : TestEventKind) (m : Message) (rest : List Message) → delay_of_kind k kind ≡ delay_in k m
+told_so : (k : ℕ) (now : Moment) (kind : TestEventKind) (m : Message) (rest : List Message) → delay_of_kind k kind ≡ delay_in k m
     → delays_told k (event now kind ∷ []) ++ delays_waiting k rest ≡ delays_waiting k (m ∷ rest)
 told_so k now kind m rest same = rw same (by_delay (delay_in k m))
   where
@@ -180,56 +187,75 @@ told_so k now kind m rest same = rw same (by_delay (delay_in k m))
     by_delay None = refl
     by_delay (Some delay) = refl
 
-delivery_keeps : (p : Settings) (over : Bool) (now : ℕ) (run : List Happening) (k : ℕ) (q : List Message)
-    → KeepsDelays k q (delivery (board_of p over now run) q)
-delivery_keeps p over now run k [] = refl
-delivery_keeps p over now run k (ScriptStart start ∷ rest) =
-    told_if k now (ScriptStarted start) (ScriptStart start) rest (may_go (tally p run)) refl refl
-delivery_keeps p over now run k (Start start ∷ rest) =
-    told_if k now (started_event start (with_start (tally p run))) (Start start) rest (may_go (tally p run)) refl refl
-delivery_keeps p over now run k (Retry retry ∷ rest) =
-    told_if k now (retried_event retry (tally p run)) (Retry retry) rest (may_go (tally p run)) refl refl
-delivery_keeps p over now run k (ScriptSlow slow ∷ rest) = refl
-delivery_keeps p over now run k (Slow slow ∷ rest) = refl
-delivery_keeps p over now run k (Skip skip ∷ rest) = refl
-delivery_keeps p over now run k (AttemptFailed failure ∷ rest) =
-    told_so k now (failed_event failure (tally p run)) (AttemptFailed failure) rest refl
-delivery_keeps p over now run k (Finish finish ∷ rest) =
-    let b : Board = board_of p over now run in
+delivery_keeps : (k : ℕ) (b : Board) (q : List Message) → KeepsDelays k q (delivery b q)
+delivery_keeps k b [] = refl
+delivery_keeps k b (ScriptStart start ∷ rest) =
+    told_if k _ (ScriptStarted start) (ScriptStart start) rest (may_go b.dispatcher.tally) refl refl
+delivery_keeps k b (Start start ∷ rest) =
+    told_if k _ (started_event start (with_start b.dispatcher.tally)) (Start start) rest (may_go b.dispatcher.tally) refl
+    refl
+delivery_keeps k b (Retry retry ∷ rest) =
+    told_if k _ (retried_event retry b.dispatcher.tally) (Retry retry) rest (may_go b.dispatcher.tally) refl refl
+delivery_keeps k b (ScriptSlow slow ∷ rest) = refl
+delivery_keeps k b (Slow slow ∷ rest) = refl
+delivery_keeps k b (Skip skip ∷ rest) = refl
+delivery_keeps k b (AttemptFailed failure ∷ rest) =
+    told_so k (moment_by b.clock b.dispatcher.watch) (failed_event failure b.dispatcher.tally) (AttemptFailed failure) rest refl
+delivery_keeps k b (Finish finish ∷ rest) =
     let tells : Option ReporterEvent = event_of b (Finish finish) in
-    caused_keeps k now (Finish finish ∷ rest) (tally_with b tells)
+    caused_keeps k (moment_by b.clock b.dispatcher.watch) (Finish finish ∷ rest) (tally_with b tells)
     (cause_of b.dispatcher.rules (tally_with b tells) (Finish finish)) (delivered_as b (Finish finish) nothing_done) refl refl
-delivery_keeps p over now run k (ScriptFinish finish ∷ rest) =
-    let b : Board = board_of p over now run in
+delivery_keeps k b (ScriptFinish finish ∷ rest) =
     let tells : Option ReporterEvent = event_of b (ScriptFinish finish) in
-    caused_keeps k now (ScriptFinish finish ∷ rest) (tally_with b tells)
+    caused_keeps k (moment_by b.clock b.dispatcher.watch) (ScriptFinish finish ∷ rest) (tally_with b tells)
     (cause_of b.dispatcher.rules (tally_with b tells) (ScriptFinish finish))
     (delivered_as b (ScriptFinish finish) nothing_done) refl refl
 
-keeps : (p : Settings) (over refused : Bool) (now : ℕ) (run : List Happening) (k : ℕ) (turn : Turn)
-    → enabled_on p (board_with p refused over now run) turn ≡ true
-    → KeepsDelays k (queue run) (deed_on p (board_with p refused over now run) turn)
-keeps p over refused now run k turn en =
-    by_turn (λ turn named. takes_turn p b turn named ≡ true → KeepsDelays k (queue run) (done_by p b turn named))
-    (record {
-      begin = λ en. refl;
-      admit = λ en. admission_keeps k (queue run) (newcomer p (units p run));
-      deliver = λ en. delivery_keeps p over now run k (queue run);
-      named = λ turn k to other en. refl;
-      clock = λ ns en. refl;
-      signal = λ signal en. cancels (signal_cause b.dispatcher.causes.signals signal);
-      global_due = λ en. cancels time_is_up;
-      report_cancel = λ en. cancels event_refused;
-      end = λ en. refl;
-      unbuilt = λ turn never en. let no_turn : false ≡ true = sym (never p b) ∙ en in cc;
-    })
-    turn (second_so (not over) (takes_turn p b turn (turn_of_unit turn)) en)
+aside_keeps : (k : ℕ) (q : List Message) (d : Deed) → IsAside d → KeepsDelays k q d
+aside_keeps k q d aside =
+    rw (aside.taken, aside.cancel) (ap (λ ds. ds ++ delays_waiting k q) (by_told d.told aside.told))
   where
-    b : Board
-    b = board_with p refused over now run
+    by_kind : (kind : TestEventKind) → IsAsideKind kind → delay_of_kind k kind ≡ None
+    by_kind (RunPaused event) h = refl
+    by_kind (RunContinued event) h = refl
+    by_kind (InfoStarted event) h = refl
+    by_kind (InfoAnswer event) h = refl
+    by_kind (InfoFinished missing) h = refl
+    by_kind (InputEnter event) h = refl
+    by_kind kind h = absurd h
 
-    cancels : (cause : Cause) → KeepsDelays k (queue run) (cancelled b cause)
-    cancels cause = caused_keeps k now (queue run) b.dispatcher.tally (Some cause) nothing_done refl refl
+    by_told : (o : Option ReporterEvent) → IfSome o IsAsideEvent → delays_told k (option_to_list o ++ []) ≡ []
+    by_told None h = refl
+    by_told (Some Tick) h = refl
+    by_told (Some (Test event)) h = rw (by_kind event.kind h) refl
+
+keeps : (p : Settings) (b : Board) (k : ℕ) (turn : Turn) → KeepsDelays k b.queue (deed_on p b turn)
+keeps p b k turn =
+    by_turn (λ turn named. KeepsDelays k b.queue (done_by p b turn named))
+    (record {
+      begin = refl;
+      admit = admission_keeps k b.queue (newcomer p b.units);
+      deliver = delivery_keeps k b b.queue;
+      named = λ turn k to other. refl;
+      clock = λ ns. refl;
+      signal = λ signal. by_signal (KeepsDelays k b.queue) b.clock (live_in b.units) b.dispatcher signal
+          (heard_by b.dispatcher.rules.hearing signal) (cancels (signal_cause b.dispatcher.causes.signals signal))
+          (aside_keeps k b.queue);
+      global_due = cancels time_is_up;
+      report_cancel = cancels event_refused;
+      end = refl;
+      key = λ key. aside_keeps k b.queue _ (key_aside b.clock (live_in b.units) b.dispatcher
+          (heard_key b.dispatcher.rules.hearing.input key));
+      tick = aside_keeps k b.queue _ tick_aside;
+      stop_wait_due = aside_keeps k b.queue _ stop_aside;
+      answer = aside_keeps k b.queue _ (answer_aside b (oldest_of b.answers));
+      info_due = aside_keeps k b.queue _ (inform_aside b.clock b.dispatcher);
+    })
+    turn
+  where
+    cancels : (cause : Cause) → KeepsDelays k b.queue (cancelled b cause)
+    cancels cause = caused_keeps k (moment_by b.clock b.dispatcher.watch) b.queue b.dispatcher.tally (Some cause)
+        nothing_done refl refl
 
 -- so the delays are those of own turns after one more deed
 delays-cons : (p : Settings) (over : Bool) (now : ℕ) (run : List Happening) (e : Entry) (d : Deed) (k : ℕ)
@@ -266,7 +292,7 @@ own_delays p (e ∷ before) legal k = one_more (own_delays p before legal.2 k) (
       where
         by_run : IsOfRun p past e ⊎ IsBeforeRuns p past e → AreDelaysOwn p (sub_run (history p (e ∷ before))) k
         by_run (inl of) = subst (λ run. AreDelaysOwn p run k) (sym of.joins)
-            (delays-cons p (is_over past) (clock past) (sub_run past) e (deed_on p (board p past) e.turn) k h
+            (delays-cons p (is_over past) (clock past) (sub_run past) e (deed_on p (board p past) e.turn) k h.run
             (does_after p past e h legal.0)
-            (keeps p (is_over past) (was_refused past) (clock past) (sub_run past) k e.turn legal.0) was)
+            (keeps p (board p past) k e.turn) was)
         by_run (inr none) = subst (λ run. AreDelaysOwn p run k) (sym none.still) refl

@@ -1,6 +1,6 @@
 -- Every test of a sub-run that has ended has its fate.
-use Rattle.std.proofs.Common.{◌≡◌, ◌≢◌, ◌⊎◌, inl, inr, ℕ, zero, suc, ◌<◌, ◌||◌, List, [], ◌∷◌, ◌++◌, length, Bool}
-use Rattle.std.proofs.Common.{true, false, not, if◌then◌else◌, Option, Some, None, refl, ap, sym, subst, ◌∙◌, arith}
+use Rattle.std.proofs.Common.{◌≡◌, ◌≢◌, ◌⊎◌, inl, inr, ℕ, zero, suc, ◌<◌, ◌||◌, List, [], ◌∷◌, ◌++◌, length, Bool, true}
+use Rattle.std.proofs.Common.{false, not, if◌then◌else◌, Option, Some, None, refl, ap, sym, subst, ◌∙◌, arith}
 use Rattle.std.specs.Prelude.{IsTrue}
 use Rattle.std.specs.List.{list_all, All, Contains}
 use Rattle.std.specs.Option.{option_or}
@@ -19,12 +19,12 @@ use Rattle.run_model.specs.declared.unit_view.AttemptTerms.{AttemptTerms}
 use Rattle.run_model.specs.declared.unit_view.UnitView.{UnitView}
 use Rattle.run_model.specs.Words.{clock, is_over, sub_run, ended_runs, queue, told, unit_of, units}
 use Rattle.run_model.specs.Admission.{is_done, is_last, units_in, unit_terms}
-use Rattle.run_model.specs.Board.{Deed, board, said}
+use Rattle.run_model.specs.Board.{Board, Deed, board, said}
 use Rattle.run_model.specs.Turns.{enabled, is_complete, is_empty, takes_turn, turn_of_unit, run_turn, deed_on}
 use Rattle.run_model.specs.Turns.{happening}
 use Rattle.run_model.specs.Journal.{history, IsLegalBackward}
-use Rattle.run_model.specs.Accounts.{News, started, failed, finished, skipped, tried, news_of, HasAccount}
-use Rattle.run_model.specs.Accounts.{HasAccountAt, is_mismatched, account_of}
+use Rattle.run_model.specs.Accounts.{News, started, failed, finished, skipped, tried, news_of, HasAccount, HasAccountAt}
+use Rattle.run_model.specs.Accounts.{is_mismatched, account_of}
 use Rattle.run_model.specs.Backoff.{retry_count}
 use Rattle.run_model.specs.Story.{OwnTurn, story_of, pieces, is_at_retry, stopped_at, was_left}
 use Rattle.run_model.specs.Attempts.{none_goes_on, retries_in, ended_statuses, statuses_of}
@@ -194,12 +194,15 @@ ends_fates : (p : Settings) (past : List Happening) (e : Entry) (j : ℕ) → Ho
 ends_fates p past e j h en ends below =
     let end = (does_after p past e h en).marks.ends ends in by_run end (where_joins p past e h en)
   where
-    by_run : (deed_on p (board p past) e.turn ≡ run_turn p (board p past) End) × (is_complete (board p past) ≡ true)
+    b : Board
+    b = board_of p (is_over past) (clock past) (sub_run past)
+
+    by_run : (deed_on p (board p past) e.turn ≡ run_turn p b End) × (is_complete b ≡ true)
         → IsOfRun p past e ⊎ IsBeforeRuns p past e → HasFate p (sub_run (happening p past e ∷ past)) j
     by_run end (inl of) =
         subst (λ run. HasFate p run j) (sym of.joins)
         (subst (λ d. HasFate p (said (clock past) e d ∷ sub_run past) j) (sym end.0)
-        (end_fates p (is_over past) (clock past) (sub_run past) e j h below end.1))
+        (end_fates p (is_over past) (clock past) (sub_run past) e j h.run below end.1))
     by_run end (inr before) =
         let never : false ≡ true = sym (ap (λ (d : Deed). d.ends) before.idle) ∙ ends in cc
 

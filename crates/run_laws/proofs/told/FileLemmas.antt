@@ -36,13 +36,16 @@ use Rattle.run_model.specs.Dispatch.{having_told}
 use Rattle.run_model.specs.Journal.{history, IsLegalBackward}
 use Rattle.run_model.specs.Story.{story_of}
 use Rattle.run_model.specs.Turns.{deed_on}
-use Rattle.run_model.specs.Unit.{Row, at_moment, failure_message, finish_message, is_live, last_status, next_delay}
-use Rattle.run_model.specs.Unit.{reach, retry_message, row, row_at, script_finish, takes_at}
+use Rattle.run_model.specs.Ending.{last_status}
+use Rattle.run_model.specs.Row.{Row}
+use Rattle.run_model.specs.Retries.{failure_message, finish_message, next_delay, retry_message, script_finish}
+use Rattle.run_model.specs.Unit.{at_moment, is_live, reach, row, row_at, takes_at}
 use Rattle.run_model.specs.Words.{clock, delivered, is_over, sent, sub_run, tally, told, unit_after, unit_of}
 use Rattle.run_laws.specs.Scripts.{IsToldAsRead, script_told, script_told_in}
 use Rattle.run_laws.specs.Starts.{env_said}
 use Rattle.run_laws.proofs.units.AccountLemmas.{IsFirst}
 use Rattle.run_laws.proofs.told.Cancels.{IsCancel, IsCancelKind, cancel_is}
+use Rattle.run_laws.proofs.board.OnBoard.{moment_in}
 use Rattle.run_laws.proofs.board.DeedFits.{PartFits, IsInOrder, IsSentAs, Does}
 use Rattle.run_laws.proofs.units.FaceLemmas.{said_in, said_of}
 use Rattle.run_laws.proofs.board.Facts.{itself}
@@ -236,7 +239,7 @@ finishes-cons p over now run e d h does was = record {
       (λ x it. stays (script_told x) it) (told run) was.tells)
       (All-append (λ x. IfSome (script_told x) Later) (option_to_list d.told) (option_to_list d.cancel)
       (by_told d.told does.order) (by_cancel d.cancel
-      (subst IsCancel (sym does.marks.cancel) (cancel_is now (having_told (tally p run) d.told) d.cause))));
+      (subst IsCancel (sym does.marks.cancel) (cancel_is (moment_in now run) (having_told (tally p run) d.told) d.cause))));
 }
   where
     Later : ScriptFinish → Type 0
@@ -290,7 +293,7 @@ has_finishes p (e ∷ before) legal = one_more (has_finishes p before legal.2) (
       where
         by_run : IsOfRun p past e ⊎ IsBeforeRuns p past e → HasFinishes (sub_run (history p (e ∷ before)))
         by_run (inl of) = subst HasFinishes (sym of.joins)
-            (finishes-cons p (is_over past) (clock past) (sub_run past) e (deed_on p (board p past) e.turn) h
+            (finishes-cons p (is_over past) (clock past) (sub_run past) e (deed_on p (board p past) e.turn) h.run
             (does_after p past e h legal.0) has)
         by_run (inr none) = subst HasFinishes (sym none.still) finishes-none
 

@@ -1,6 +1,6 @@
 -- Scripts are told finished before any test is told started, and have their fates.
-use Rattle.std.proofs.Common.{◌≡◌, ◌⊎◌, inl, inr, ℕ, zero, suc, ◌<◌, ◌≤◌, ◌==◌, List, [], ◌∷◌, ◌++◌, length, Bool}
-use Rattle.std.proofs.Common.{true, false, ◌||◌, Option, Some, None, option_to_list, refl, ap, sym, subst, ◌∙◌, arith}
+use Rattle.std.proofs.Common.{◌≡◌, ◌⊎◌, inl, inr, ℕ, zero, suc, ◌<◌, ◌≤◌, ◌==◌, List, [], ◌∷◌, ◌++◌, length, Bool, true}
+use Rattle.std.proofs.Common.{false, ◌||◌, Option, Some, None, option_to_list, refl, ap, sym, subst, ◌∙◌, arith}
 use Rattle.std.proofs.Common.{append-nil, append_assoc}
 use Rattle.std.specs.Prelude.{IfSome}
 use Rattle.std.specs.List.{All, list_any}
@@ -34,6 +34,7 @@ use Rattle.run_model.specs.Words.{clock, delivered, ended_runs, finishes, is_ove
 use Rattle.run_model.specs.Words.{sub_run, tally, told, unit_of}
 use Rattle.run_laws.specs.Scripts.{ComeFirst, HasScriptFate, starts_test, starts_test_in}
 use Rattle.run_laws.proofs.told.Cancels.{IsCancel, cancel_is, cancel_apart}
+use Rattle.run_laws.proofs.board.OnBoard.{moment_in}
 use Rattle.run_laws.proofs.board.DeedFits.{Does, IsInOrder, ToldFits, ToldFitsIn, starts_script_in}
 use Rattle.run_laws.proofs.told.FateLemmas.{ended_fates}
 use Rattle.run_laws.proofs.board.Holds.{HasEndedAs, Holds, IsOfKind, IsOnWayIn, Way, way_of}
@@ -214,7 +215,7 @@ first_after p over now run d h does first =
     (with_cancel (told run ++ option_to_list d.told) d.cancel cancels (with_own d.told does.tells does.order))
   where
     cancels : IsCancel d.cancel
-    cancels = subst IsCancel (sym does.marks.cancel) (cancel_is now (having_told (tally p run) d.told) d.cause)
+    cancels = subst IsCancel (sym does.marks.cancel) (cancel_is (moment_in now run) (having_told (tally p run) d.told) d.cause)
 
     with_own : (o : Option ReporterEvent) → ToldFits p (told run) o → IfSome o (IsInOrder p run)
         → ComeFirst p (told run ++ option_to_list o)
@@ -248,7 +249,7 @@ come_first p (e ∷ before) legal = one_more (come_first p before legal.2) (hold
         by_run : IsOfRun p past e ⊎ IsBeforeRuns p past e → ComeFirst p (told (sub_run (history p (e ∷ before))))
         by_run (inl of) =
             subst (λ run. ComeFirst p (told run)) (sym of.joins)
-            (first_after p (is_over past) (clock past) (sub_run past) (deed_on p (board p past) e.turn) h
+            (first_after p (is_over past) (clock past) (sub_run past) (deed_on p (board p past) e.turn) h.run
             (does_after p past e h legal.0) first)
         by_run (inr none) = subst (λ run. ComeFirst p (told run)) (sym none.still) (first_none p)
 

@@ -15,7 +15,7 @@ use Rattle.run_model.specs.Accounts.{IsAccounted, account_of, is_mismatched}
 use Rattle.run_model.specs.Admission.{is_done, is_last}
 use Rattle.run_model.specs.Attempts.{statuses_of}
 use Rattle.run_model.specs.Story.{was_left}
-use Rattle.run_model.specs.Unit.{last_status}
+use Rattle.run_model.specs.Ending.{last_status}
 use Rattle.run_model.specs.Words.{told as told_events, unit_of}
 use Rattle.run_laws.specs.Laws.{Extends}
 use Rattle.run_model.specs.Fates.{told_ended}

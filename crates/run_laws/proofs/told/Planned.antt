@@ -8,11 +8,12 @@ use Rattle.std.proofs.lemmas.List.Elements.{All-nil, All-cons, All-append, All-d
 use Rattle.std.proofs.lemmas.List.Elements.{filter_map-append}
 use Rattle.std.proofs.lemmas.Option.{same_Some}
 use Rattle.run_events.specs.declared.ask.Ask.{Ask}
+use Rattle.run_events.specs.declared.ask.Ask.TheVariants.{StopSelf}
 use Rattle.run_events.specs.declared.events.ReporterEvent.{ReporterEvent}
 use Rattle.run_events.specs.declared.events.ReporterEvent.TheVariants.{Tick, Test}
 use Rattle.run_events.specs.declared.events.TestEventKind.{TestEventKind}
-use Rattle.run_events.specs.declared.events.TestEventKind.TheVariants.{SetupScriptStarted, TestStarted}
-use Rattle.run_events.specs.declared.events.TestEventKind.TheVariants.{RunBeginCancel, RunBeginKill}
+use Rattle.run_events.specs.declared.events.TestEventKind.TheVariants.{SetupScriptStarted, TestStarted, RunBeginCancel}
+use Rattle.run_events.specs.declared.events.TestEventKind.TheVariants.{RunBeginKill}
 use Rattle.run_events.specs.declared.message.Message.{Message}
 use Rattle.run_events.specs.declared.plan.PlanTest.{PlanTest}
 use Rattle.run_events.specs.declared.request.Request.{Request}
@@ -34,7 +35,8 @@ use Rattle.run_model.specs.Words.{asked, delivered, sent, told, tally, unit_afte
 use Rattle.run_laws.specs.Starts.{start_for, starts_by, starts_asked, start_told, start_told_in}
 use Rattle.run_laws.proofs.units.AccountLemmas.{IsFirst}
 use Rattle.run_laws.proofs.told.Cancels.{IsCancel, IsCancelKind, cancel_is}
-use Rattle.run_laws.proofs.board.DeedFits.{PartFits, IsInOrder, IsSentAs, Does}
+use Rattle.run_laws.proofs.board.OnBoard.{moment_in}
+use Rattle.run_laws.proofs.board.DeedFits.{asked_by, PartFits, IsInOrder, IsSentAs, Does}
 use Rattle.run_laws.proofs.units.FaceLemmas.{face, face_reach, face_row, message_face, starts_in, is_start}
 use Rattle.run_laws.proofs.units.FaceLemmas.{SendsNoStart, row_sends_none, said_in, said_of, handed-to, given-same}
 use Rattle.run_laws.proofs.board.Facts.{itself}
@@ -280,11 +282,13 @@ asked_one k n (Some ask) = refl
 
 -- so all of that holds after one more deed
 pub starts-cons : (p : Settings) (over : Bool) (now : ℕ) (run : List Happening) (e : Entry) (d : Deed)
-    → Holds p over now run → Does p over now run d → HasStarts p run → HasStarts p (said now e d ∷ run)
-starts-cons p over now run e d h does was = record {
+    → Holds p over now run → Does p over now run d → (d.stops ≡ true → d.part ≡ None) → HasStarts p run
+    → HasStarts p (said now e d ∷ run)
+starts-cons p over now run e d h does alone was = record {
   asked = λ k. filter_map-append (λ (a : ℕ × Ask). start_for k a.1) (asked run)
       (map (λ ask. (length run, ask)) (option_to_list d.asked))
-      ∙ ap (λ s. starts_asked k run ++ s) (asked_one k (length run) d.asked ∙ ap (starts_in k) does.asks)
+      ∙ ap (λ s. starts_asked k run ++ s) (asked_one k (length run) d.asked
+      ∙ ap (starts_in k) does.asks ∙ by_stop k d.stops refl)
       ∙ asked_after p over now run k d.part h does.part (was.asked k)
       ∙ sym (ap (λ v. starts_by v (length (pieces_of k (said now e d ∷ run))))
       (face_reach d.request (unit_after now k d.part (unit_of k run))));
@@ -301,9 +305,14 @@ starts-cons p over now run e d h does was = record {
       (λ x. IfSome (start_told x) (IsStartOfUnit p (said now e d ∷ run)))
       (λ x it. stays (start_told x) it) (told run) was.told)
       (told_after p over now run e d does.part was.sent does.order
-      (subst IsCancel (sym does.marks.cancel) (cancel_is now (having_told (tally p run) d.told) d.cause)));
+      (subst IsCancel (sym does.marks.cancel) (cancel_is (moment_in now run) (having_told (tally p run) d.told) d.cause)));
 }
   where
+    by_stop : (k : ℕ) (b : Bool) → d.stops ≡ b
+        → starts_in k (if b then Some StopSelf else asked_by now run d.part) ≡ starts_in k (asked_by now run d.part)
+    by_stop k true stops = ap (λ part. starts_in k (asked_by now run part)) (sym (alone stops))
+    by_stop k false stops = refl
+
     stays : (o : Option Message) → IfSome o (IsStartOfUnit p run) → IfSome o (IsStartOfUnit p (said now e d ∷ run))
     stays None it = tt
     stays (Some m) it = start_stays p now run e d m does.part it

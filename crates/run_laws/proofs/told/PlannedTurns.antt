@@ -24,7 +24,9 @@ use Rattle.run_model.specs.declared.unit_view.UnitView.{UnitView}
 use Rattle.run_model.specs.Environment.{number}
 use Rattle.run_model.specs.Admission.{unit_terms}
 use Rattle.run_model.specs.Accounts.{is_mismatched}
-use Rattle.run_model.specs.Unit.{at_moment, has_passed, is_live, last_status, reach, row, takes, takes_at}
+use Rattle.run_model.specs.Ending.{last_status}
+use Rattle.run_model.specs.Retries.{has_passed}
+use Rattle.run_model.specs.Unit.{at_moment, is_live, reach, row, takes, takes_at}
 use Rattle.run_model.specs.Story.{OwnTurn, Attempt, cut, begins_attempt, decides, own_turn, story_of, line_of}
 use Rattle.run_model.specs.Story.{request_of, pieces, with_turn}
 use Rattle.run_model.specs.Attempts.{attempt_in, env_in, pieces_of}

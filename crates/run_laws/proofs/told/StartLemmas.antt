@@ -1,7 +1,7 @@
 -- The starts that are asked and told are those of the plan.
-use Rattle.std.proofs.Common.{◌≡◌, ◌≢◌, ◌⊎◌, inl, inr, ℕ, zero, suc, ◌<◌, ◌==◌, ◌||◌, List, [], ◌∷◌, length, Bool}
-use Rattle.std.proofs.Common.{true, false, if◌then◌else◌, Option, Some, None, option_map, is_some, refl, ap, sym}
-use Rattle.std.proofs.Common.{subst, ◌∙◌, arith}
+use Rattle.std.proofs.Common.{◌≡◌, ◌≢◌, ◌⊎◌, inl, inr, ℕ, zero, suc, ◌<◌, ◌==◌, ◌||◌, List, [], ◌∷◌, length, Bool, true}
+use Rattle.std.proofs.Common.{false, if◌then◌else◌, Option, Some, None, option_map, is_some, refl, ap, sym, subst, ◌∙◌}
+use Rattle.std.proofs.Common.{arith}
 use Rattle.std.specs.Prelude.{IfSome}
 use Rattle.std.specs.List.{All, list_any}
 use Rattle.std.specs.Option.{option_or}
@@ -38,7 +38,8 @@ use Rattle.run_model.specs.Board.{board}
 use Rattle.run_model.specs.Journal.{history, IsLegalBackward}
 use Rattle.run_model.specs.Story.{Attempt, pieces, story_of, was_left}
 use Rattle.run_model.specs.Turns.{deed_on}
-use Rattle.run_model.specs.Unit.{has_passed, last_status}
+use Rattle.run_model.specs.Ending.{last_status}
+use Rattle.run_model.specs.Retries.{has_passed}
 use Rattle.run_model.specs.Words.{clock, is_over, queue, starts, starts_in, sub_run, told, unit_of, units}
 use Rattle.run_laws.specs.Limits.{slots_in, slots_by, slots_told}
 use Rattle.run_laws.specs.Starts.{AreStartsPlanned, IsPlannedStart, env_said, given_by, given_to, message_of}
@@ -54,6 +55,7 @@ use Rattle.run_laws.proofs.told.PlannedTurns.{HasStarts, IsStartOfUnit, HasReadI
 use Rattle.run_laws.proofs.told.Planned.{starts-cons, starts-none}
 use Rattle.run_laws.proofs.units.ReadLemmas.{is_given, HasRead}
 use Rattle.run_laws.proofs.told.Running.{is_start, starts-account}
+use Rattle.run_laws.proofs.told.Asides.{stops_alone}
 
 -- a start that an event tells is that of a unit, and that of the plan
 abbrev IsToldOfUnit : Settings → List Happening → ReporterEvent → Type 0
@@ -338,8 +340,8 @@ has_starts p (e ∷ before) legal = one_more (has_starts p before legal.2) (hold
       where
         by_run : IsOfRun p past e ⊎ IsBeforeRuns p past e → HasStarts p (sub_run (history p (e ∷ before)))
         by_run (inl of) = subst (HasStarts p) (sym of.joins)
-            (starts-cons p (is_over past) (clock past) (sub_run past) e (deed_on p (board p past) e.turn) h
-            (does_after p past e h legal.0) has)
+            (starts-cons p (is_over past) (clock past) (sub_run past) e (deed_on p (board p past) e.turn) h.run
+            (does_after p past e h legal.0) (stops_alone p (board p past) e.turn) has)
         by_run (inr none) = subst (HasStarts p) (sym none.still) (starts-none p)
 
 pub starts_planned : (p : Settings) (backward : List Entry) → IsLegalBackward p backward
@@ -352,8 +354,8 @@ starts_planned p backward legal = record {
     past : List Happening
     past = history p backward
 
-    h : HoldsAfter p past
-    h = holds p backward legal
+    h : Holds p (is_over past) (clock past) (sub_run past)
+    h = (holds p backward legal).run
 
     has : HasStarts p (sub_run past)
     has = has_starts p backward legal

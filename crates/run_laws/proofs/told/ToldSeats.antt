@@ -12,7 +12,7 @@ use Rattle.run_events.specs.declared.message.TestStart.{TestStart}
 use Rattle.run_events.specs.declared.message.TestFinish.{TestFinish}
 use Rattle.run_model.specs.declared.dispatcher_view.Tally.{Tally}
 use Rattle.run_model.specs.Words.{starts, finishes, is_running}
-use Rattle.run_model.specs.Dispatch.{event, started_event, finished_event}
+use Rattle.run_model.specs.Dispatch.{Moment, event, started_event, finished_event}
 use Rattle.run_model.specs.Accounts.{account_of}
 use Rattle.run_admission.specs.declared.seat.Seat.TheVariants.{Gone}
 use Rattle.run_laws.specs.Limits.{slots_by, slots_told, seat_in, seat_told}
@@ -62,14 +62,14 @@ pub seat_told-nothing : (k : ℕ) (es : List ReporterEvent) → seat_told (es ++
 seat_told-nothing k es = ap (λ es. seat_told es k) (append-nil es)
 
 -- after its start was told, a test of which nothing was told before is in use in its slots; other seats stay
-pub seat_told-started : (k now : ℕ) (es : List ReporterEvent) (start : TestStart) (tally : Tally)
+pub seat_told-started : (k : ℕ) (moment : Moment) (es : List ReporterEvent) (start : TestStart) (tally : Tally)
     → account_of start.test.unit es ≡ []
-    → seat_told (es ++ event now (started_event start tally) ∷ []) k
+    → seat_told (es ++ event moment (started_event start tally) ∷ []) k
     ≡ (if start.test.unit == k then seat_in (Some start.slot) else seat_told es k)
-seat_told-started k now es start tally none = by_unit (start.test.unit == k) refl
+seat_told-started k moment es start tally none = by_unit (start.test.unit == k) refl
   where
     by_unit : (b : Bool) → (start.test.unit == k) ≡ b
-        → seat_told (es ++ event now (started_event start tally) ∷ []) k
+        → seat_told (es ++ event moment (started_event start tally) ∷ []) k
         ≡ (if b then seat_in (Some start.slot) else seat_told es k)
     by_unit true is =
         let same : start.test.unit ≡ k = grind arith in
@@ -78,15 +78,15 @@ seat_told-started k now es start tally none = by_unit (start.test.unit == k) ref
         let no_finish : list_any (finishes k) es ≡ false =
         finishes-account k es ∙ ap (λ k. list_any is_finish (account_of k es)) (sym same)
         ∙ ap (list_any is_finish) none in
-        let runs : is_running (es ++ event now (started_event start tally) ∷ []) k ≡ true =
+        let runs : is_running (es ++ event moment (started_event start tally) ∷ []) k ≡ true =
         simp (list_any-append, no_start, no_finish, is) refl in
-        let slots : slots_told k (es ++ event now (started_event start tally) ∷ []) ≡ Some start.slot =
-        slots_told-append k es (event now (started_event start tally) ∷ [])
-        ∙ ap (λ o. option_or o (slots_told k (event now (started_event start tally) ∷ []))) (none_told k es no_start)
+        let slots : slots_told k (es ++ event moment (started_event start tally) ∷ []) ≡ Some start.slot =
+        slots_told-append k es (event moment (started_event start tally) ∷ [])
+        ∙ ap (λ o. option_or o (slots_told k (event moment (started_event start tally) ∷ []))) (none_told k es no_start)
         ∙ ap (λ b. option_or (if b then Some start.slot else None) None) is in
-        ap (λ b. if b then seat_in (slots_told k (es ++ event now (started_event start tally) ∷ [])) else Gone) runs
+        ap (λ b. if b then seat_in (slots_told k (es ++ event moment (started_event start tally) ∷ [])) else Gone) runs
         ∙ ap seat_in slots
-    by_unit false is = seat_told-other k es (event now (started_event start tally)) is refl
+    by_unit false is = seat_told-other k es (event moment (started_event start tally)) is refl
 
 -- after its finish was told, a unit is not in use
 pub finished_gone : (k : ℕ) (es : List ReporterEvent) (e : ReporterEvent) → finishes k e ≡ true
@@ -108,12 +108,12 @@ finished_gone k es e is =
     and_false false = refl
 
 -- the same of a test; other seats stay
-pub seat_told-finished : (k now : ℕ) (es : List ReporterEvent) (finish : TestFinish) (tally : Tally)
-    → seat_told (es ++ event now (finished_event finish tally) ∷ []) k
+pub seat_told-finished : (k : ℕ) (moment : Moment) (es : List ReporterEvent) (finish : TestFinish) (tally : Tally)
+    → seat_told (es ++ event moment (finished_event finish tally) ∷ []) k
     ≡ (if finish.test.unit == k then Gone else seat_told es k)
-seat_told-finished k now es finish tally = by_unit (finish.test.unit == k) refl
+seat_told-finished k moment es finish tally = by_unit (finish.test.unit == k) refl
   where
     by_unit : (b : Bool) → (finish.test.unit == k) ≡ b
-        → seat_told (es ++ event now (finished_event finish tally) ∷ []) k ≡ (if b then Gone else seat_told es k)
-    by_unit true is = finished_gone k es (event now (finished_event finish tally)) is
-    by_unit false is = seat_told-other k es (event now (finished_event finish tally)) refl is
+        → seat_told (es ++ event moment (finished_event finish tally) ∷ []) k ≡ (if b then Gone else seat_told es k)
+    by_unit true is = finished_gone k es (event moment (finished_event finish tally)) is
+    by_unit false is = seat_told-other k es (event moment (finished_event finish tally)) refl is

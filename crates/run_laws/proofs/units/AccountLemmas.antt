@@ -25,7 +25,7 @@ use Rattle.run_model.specs.Environment.{number_of, number}
 use Rattle.run_model.specs.Unit.{at_moment, row, row_at, takes}
 use Rattle.run_model.specs.Words.{unit_after}
 use Rattle.run_model.specs.Admission.{is_script, start_message}
-use Rattle.run_model.specs.Dispatch.{event, failed_event, retried_event}
+use Rattle.run_model.specs.Dispatch.{Moment, event, failed_event, retried_event}
 use Rattle.run_laws.proofs.board.Holds.{IsOfKind, is_script_role}
 use Rattle.run_laws.proofs.board.ByTurn.{is_answer}
 use Rattle.run_model.specs.Accounts.{News, started, failed, retried, finished, skipped, tried, HasAccount}
@@ -99,15 +99,15 @@ abbrev pub news_for : ℕ → News → ℕ → Option News
 news_for i n k = if i == k then Some n else None
 
 -- the delivery of the start message of unit i keeps the account of unit k, v, let go or not
-pub of_start : (mm left : Bool) (now k i : ℕ) (go : Bool) (u : UnitView) (v : Option UnitView) (t : List News)
-    (rest : List Message) (m : Message) (kind : TestEventKind)
+pub of_start : (mm left : Bool) (now : ℕ) (moment : Moment) (k i : ℕ) (go : Bool) (u : UnitView)
+    (v : Option UnitView) (t : List News) (rest : List Message) (m : Message) (kind : TestEventKind)
     → pending_in k m ≡ news_for i started k → news_in k kind ≡ news_for i started k
     → u.phase ≡ StartSent → ((i == k) ≡ true → v ≡ Some u) → ((i == k) ≡ true → left ≡ false)
     → HasAccount mm left v t (pending_of k (m ∷ rest))
     → HasAccount mm left (unit_after now k (Some (Acts i (Answered go))) v)
-    (t ++ account_of k (option_to_list (if go then Some (event now kind) else None)))
+    (t ++ account_of k (option_to_list (if go then Some (event moment kind) else None)))
     (pending_of k (rest ++ option_to_list (row now (Answered go) u).sent))
-of_start mm left now k i go u v t rest m kind pends news at same unleft h = by_unit (i == k) refl
+of_start mm left now moment k i go u v t rest m kind pends news at same unleft h = by_unit (i == k) refl
   where
     unsent : (go : Bool) → (row_at now StartSent (Answered go) (at_moment now u)).sent ≡ None
     unsent true = refl
@@ -119,7 +119,7 @@ of_start mm left now k i go u v t rest m kind pends news at same unleft h = by_u
         ∙ ap (λ m. pending_of k (rest ++ option_to_list m)) (unsent go) ∙ ap (pending_of k) (append-nil rest)
 
     tells : (b go : Bool) → (i == k) ≡ b
-        → account_of k (option_to_list (if go then Some (event now kind) else None))
+        → account_of k (option_to_list (if go then Some (event moment kind) else None))
         ≡ (if b then (if go then started ∷ [] else []) else [])
     tells true true e = rw (news, e) refl
     tells false true e = rw (news, e) refl
@@ -128,7 +128,7 @@ of_start mm left now k i go u v t rest m kind pends news at same unleft h = by_u
 
     by_unit : (b : Bool) → (i == k) ≡ b
         → HasAccount mm left (unit_after now k (Some (Acts i (Answered go))) v)
-        (t ++ account_of k (option_to_list (if go then Some (event now kind) else None)))
+        (t ++ account_of k (option_to_list (if go then Some (event moment kind) else None)))
         (pending_of k (rest ++ option_to_list (row now (Answered go) u).sent))
     by_unit true e =
         rw (sends, tells true go e, e, same e) (start_accounted mm left now go u t (pending_of k rest) at (unleft e)
@@ -172,15 +172,16 @@ retry_accounted mm left now n go u t q at h = by_stand (stands mm left u.phase u
     by_stand (skips mm at none told waits) = cc
 
 -- the delivery of the retry message of a unit keeps the account of unit k, v, let go or left
-pub of_retry : (mm left later : Bool) (now k : ℕ) (go : Bool) (u : UnitView) (v : Option UnitView) (t : List News)
-    (rest : List Message) (retry : TestRetry) (tally : Tally)
+pub of_retry : (mm left later : Bool) (now : ℕ) (moment : Moment) (k : ℕ) (go : Bool) (u : UnitView)
+    (v : Option UnitView) (t : List News) (rest : List Message) (retry : TestRetry) (tally : Tally)
     → u.phase ≡ RetrySent → ((retry.start.test.unit == k) ≡ true → v ≡ Some u)
     → ((retry.start.test.unit == k) ≡ true → later ≡ not go) → ((retry.start.test.unit == k) ≡ false → later ≡ left)
     → HasAccount mm left v t (pending_of k (Retry retry ∷ rest))
     → HasAccount mm later (unit_after now k (Some (Acts retry.start.test.unit (Answered go))) v)
-    (t ++ account_of k (option_to_list (if go then Some (event now (retried_event retry tally)) else None)))
+    (t ++ account_of k (option_to_list (if go then Some (event moment (retried_event retry tally)) else None)))
     (pending_of k (rest ++ option_to_list (row now (Answered go) u).sent))
-of_retry mm left later now k go u v t rest retry tally at same here there h = by_unit (retry.start.test.unit == k) refl
+of_retry mm left later now moment k go u v t rest retry tally at same here there h =
+    by_unit (retry.start.test.unit == k) refl
   where
     unsent : (go : Bool) → (row_at now RetrySent (Answered go) (at_moment now u)).sent ≡ None
     unsent true = refl
@@ -192,7 +193,7 @@ of_retry mm left later now k go u v t rest retry tally at same here there h = by
         ∙ ap (λ m. pending_of k (rest ++ option_to_list m)) (unsent go) ∙ ap (pending_of k) (append-nil rest)
 
     tells : (b go : Bool) → (retry.start.test.unit == k) ≡ b
-        → account_of k (option_to_list (if go then Some (event now (retried_event retry tally)) else None))
+        → account_of k (option_to_list (if go then Some (event moment (retried_event retry tally)) else None))
         ≡ (if b then (if go then retried retry.attempt ∷ [] else []) else [])
     tells true true e = rw e refl
     tells false true e = rw e refl
@@ -201,7 +202,7 @@ of_retry mm left later now k go u v t rest retry tally at same here there h = by
 
     by_unit : (b : Bool) → (retry.start.test.unit == k) ≡ b
         → HasAccount mm later (unit_after now k (Some (Acts retry.start.test.unit (Answered go))) v)
-        (t ++ account_of k (option_to_list (if go then Some (event now (retried_event retry tally)) else None)))
+        (t ++ account_of k (option_to_list (if go then Some (event moment (retried_event retry tally)) else None)))
         (pending_of k (rest ++ option_to_list (row now (Answered go) u).sent))
     by_unit true e =
         rw (here e, sends, tells true go e, e, same e)
@@ -209,11 +210,11 @@ of_retry mm left later now k go u v t rest retry tally at same here there h = by
     by_unit false e = rw (there e, sends, tells false go e, e, append-nil t) (rw e at h)
 
 -- the delivery of a slow report keeps the account of each unit
-pub of_slow : (mm left : Bool) (now k : ℕ) (v : Option UnitView) (t : List News) (rest : List Message) (m : Message)
-    (kind : TestEventKind) → pending_in k m ≡ None → news_in k kind ≡ None
+pub of_slow : (mm left : Bool) (moment : Moment) (k : ℕ) (v : Option UnitView) (t : List News) (rest : List Message)
+    (m : Message) (kind : TestEventKind) → pending_in k m ≡ None → news_in k kind ≡ None
     → HasAccount mm left v t (pending_of k (m ∷ rest))
-    → HasAccount mm left v (t ++ account_of k (event now kind ∷ [])) (pending_of k (rest ++ []))
-of_slow mm left now k v t rest m kind pends news h = rw (news, append-nil t, append-nil rest) (rw pends at h)
+    → HasAccount mm left v (t ++ account_of k (event moment kind ∷ [])) (pending_of k (rest ++ []))
+of_slow mm left moment k v t rest m kind pends news h = rw (news, append-nil t, append-nil rest) (rw pends at h)
 
 -- the delivery of the failure of an attempt keeps the account of each unit
 failure_told : (mm left : Bool) (v : Option UnitView) (t q : List News) (f : ExecuteStatus)
@@ -237,14 +238,15 @@ failure_told mm left (Some u) t q f h = by_stand (stands mm left u.phase u.statu
     by_stand (finishes mm_not at unleft early s e told waits) = cc
     by_stand (skips mm at none told waits) = cc
 
-pub of_failed : (mm left : Bool) (now k : ℕ) (v : Option UnitView) (t : List News) (rest : List Message)
+pub of_failed : (mm left : Bool) (moment : Moment) (k : ℕ) (v : Option UnitView) (t : List News) (rest : List Message)
     (failure : Failure) (tally : Tally)
     → HasAccount mm left v t (pending_of k (AttemptFailed failure ∷ rest))
-    → HasAccount mm left v (t ++ account_of k (event now (failed_event failure tally) ∷ [])) (pending_of k (rest ++ []))
-of_failed mm left now k v t rest failure tally h = by_unit (failure.test.unit == k) refl
+    → HasAccount mm left v (t ++ account_of k (event moment (failed_event failure tally) ∷ []))
+    (pending_of k (rest ++ []))
+of_failed mm left moment k v t rest failure tally h = by_unit (failure.test.unit == k) refl
   where
     by_unit : (b : Bool) → (failure.test.unit == k) ≡ b → HasAccount mm left v
-        (t ++ account_of k (event now (failed_event failure tally) ∷ [])) (pending_of k (rest ++ []))
+        (t ++ account_of k (event moment (failed_event failure tally) ∷ [])) (pending_of k (rest ++ []))
     by_unit true e = rw (e, append-nil rest) (failure_told mm left v t (pending_of k rest) failure.status (rw e at h))
     by_unit false e = rw (e, append-nil rest, append-nil t) (rw e at h)
 
@@ -268,15 +270,15 @@ finish_told mm left (Some u) t q fs h = by_stand (stands mm left u.phase u.statu
     by_stand (retries mm_not at early s e told waits) = cc
     by_stand (skips mm at none told waits) = cc
 
-pub of_finish : (mm left : Bool) (now k i : ℕ) (fs : List ExecuteStatus) (v : Option UnitView) (t : List News)
-    (rest : List Message) (m : Message) (kind : TestEventKind)
+pub of_finish : (mm left : Bool) (moment : Moment) (k i : ℕ) (fs : List ExecuteStatus) (v : Option UnitView)
+    (t : List News) (rest : List Message) (m : Message) (kind : TestEventKind)
     → pending_in k m ≡ news_for i (finished fs) k → news_in k kind ≡ news_for i (finished fs) k
     → HasAccount mm left v t (pending_of k (m ∷ rest))
-    → HasAccount mm left v (t ++ account_of k (event now kind ∷ [])) (pending_of k (rest ++ []))
-of_finish mm left now k i fs v t rest m kind pends news h = by_unit (i == k) refl
+    → HasAccount mm left v (t ++ account_of k (event moment kind ∷ [])) (pending_of k (rest ++ []))
+of_finish mm left moment k i fs v t rest m kind pends news h = by_unit (i == k) refl
   where
     by_unit : (b : Bool) → (i == k) ≡ b → HasAccount mm left v
-        (t ++ account_of k (event now kind ∷ [])) (pending_of k (rest ++ []))
+        (t ++ account_of k (event moment kind ∷ [])) (pending_of k (rest ++ []))
     by_unit true e =
         rw (news, e, append-nil rest) (finish_told mm left v t (pending_of k rest) fs (rw (pends, e) at h))
     by_unit false e = rw (news, e, append-nil rest, append-nil t) (rw (pends, e) at h)
@@ -299,13 +301,14 @@ skip_told mm left (Some u) t q h = by_stand (stands mm left u.phase u.statuses t
     by_stand (retries mm_not at early s e told waits) = cc
     by_stand (finishes mm_not at unleft early s e told waits) = cc
 
-pub of_skip : (mm left : Bool) (now k : ℕ) (v : Option UnitView) (t : List News) (rest : List Message) (skip : TestSkip)
+pub of_skip : (mm left : Bool) (moment : Moment) (k : ℕ) (v : Option UnitView) (t : List News) (rest : List Message)
+    (skip : TestSkip)
     → HasAccount mm left v t (pending_of k (Skip skip ∷ rest))
-    → HasAccount mm left v (t ++ account_of k (event now (TestSkipped skip) ∷ [])) (pending_of k (rest ++ []))
-of_skip mm left now k v t rest skip h = by_unit (skip.test.unit == k) refl
+    → HasAccount mm left v (t ++ account_of k (event moment (TestSkipped skip) ∷ [])) (pending_of k (rest ++ []))
+of_skip mm left moment k v t rest skip h = by_unit (skip.test.unit == k) refl
   where
     by_unit : (b : Bool) → (skip.test.unit == k) ≡ b
-        → HasAccount mm left v (t ++ account_of k (event now (TestSkipped skip) ∷ [])) (pending_of k (rest ++ []))
+        → HasAccount mm left v (t ++ account_of k (event moment (TestSkipped skip) ∷ [])) (pending_of k (rest ++ []))
     by_unit true e = rw (e, append-nil rest) (skip_told mm left v t (pending_of k rest) (rw e at h))
     by_unit false e = rw (e, append-nil rest, append-nil t) (rw e at h)
 

@@ -16,9 +16,11 @@ use Rattle.run_model.specs.declared.unit_view.UnitRole.{UnitRole}
 use Rattle.run_model.specs.declared.unit_view.UnitRole.TheVariants as roles
 use Rattle.run_model.specs.declared.unit_view.UnitView.{UnitView}
 use Rattle.run_model.specs.Environment.{number_of, number}
-use Rattle.run_model.specs.Unit.{Row, row_at, takes_at, finish_message, failed_message, retry_message, last_status}
-use Rattle.run_model.specs.Unit.{next_delay, decide_row, has_retry, failure_message, script_status, script_finish}
-use Rattle.run_model.specs.Unit.{test_finish, test_retry}
+use Rattle.run_model.specs.Ending.{last_status}
+use Rattle.run_model.specs.Row.{Row}
+use Rattle.run_model.specs.Retries.{finish_message, failed_message, retry_message, next_delay, decide_row, has_retry}
+use Rattle.run_model.specs.Retries.{failure_message, script_status, script_finish, test_finish, test_retry}
+use Rattle.run_model.specs.Unit.{row_at, takes_at}
 use Rattle.run_laws.proofs.board.ByTurn.{is_answer}
 use Rattle.run_model.specs.Accounts.{News, started, failed, retried, finished, skipped, tried, tried_from}
 use Rattle.run_model.specs.Accounts.{HasAccountAt, IsDone, IsFailing, IsRetrying, IsFinishing, attempt_of, pending_in}

@@ -31,8 +31,10 @@ use Rattle.run_model.specs.Environment.{Variable, number, start_ask, environment
 use Rattle.run_model.specs.Environment.{identity_variables, place_variables, script_variables}
 use Rattle.run_model.specs.Admission.{begun_view, handed_by, handed_from, handed_to, scripts_in, start_message}
 use Rattle.run_model.specs.Admission.{units_in}
-use Rattle.run_model.specs.Unit.{Row, at_moment, failure_message, finish_message, is_live, last_status, next_delay}
-use Rattle.run_model.specs.Unit.{reach, retry_message, row, row_at, script_finish, takes_at}
+use Rattle.run_model.specs.Ending.{last_status}
+use Rattle.run_model.specs.Row.{Row}
+use Rattle.run_model.specs.Retries.{failure_message, finish_message, next_delay, retry_message, script_finish}
+use Rattle.run_model.specs.Unit.{at_moment, is_live, reach, row, row_at, takes_at}
 use Rattle.run_model.specs.Story.{begins_attempt}
 use Rattle.run_model.specs.Words.{unit_of, units}
 use Rattle.run_laws.specs.Starts.{given_from, start_at, start_for, message_of}

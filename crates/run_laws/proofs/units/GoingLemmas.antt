@@ -1,7 +1,7 @@
 -- An attempt that goes on, and one that has ended, after one more turn.
 use Rattle.std.proofs.Common.{◌≡◌, ℕ, ◌+◌, ◌≤◌, List, [], ◌∷◌, ◌++◌, length, Bool, true, false, ◌&&◌, ◌||◌}
-use Rattle.std.proofs.Common.{if◌then◌else◌, Option, Some, None, not, refl, ap, sym, ◌∙◌}
-use Rattle.run_clock.specs.Stopwatch.{started_at}
+use Rattle.std.proofs.Common.{if◌then◌else◌, Option, Some, None, not, unwrap_or, refl, ap, sym, subst, ◌∙◌}
+use Rattle.std.specs.Option.{option_or}
 use Rattle.run_capture.specs.Captured.{Captured, is_done}
 use Rattle.run_events.specs.declared.request.Request.{Request}
 use Rattle.run_events.specs.declared.result.ChildExit.{ChildExit}
@@ -17,15 +17,19 @@ use Rattle.run_model.specs.declared.unit_turn.UnitTurn.TheVariants.{StartFailed,
 use Rattle.run_model.specs.declared.unit_view.AttemptTerms.{AttemptTerms}
 use Rattle.run_model.specs.declared.unit_view.UnitView.{UnitView}
 use Rattle.run_model.specs.Env.{env_of}
-use Rattle.run_model.specs.Unit.{at_moment, result_of, result_with, status_at, ended, ended_with, awaits_env}
-use Rattle.run_model.specs.Unit.{awaiting_env}
+use Rattle.run_model.specs.Ending.{result_of, result_with, status_at, ended, ended_with, awaits_env, awaiting_env}
+use Rattle.run_model.specs.Pauses.{watch_resumed}
+use Rattle.run_model.specs.Unit.{at_moment}
 use Rattle.run_model.specs.Story.{OwnTurn, Attempt, cut}
 use Rattle.run_model.specs.Attempts.{env_in, env_read, is_settled, awaits_env_file, has_ended, end_of, status_of}
-use Rattle.run_model.specs.Attempts.{delay_after, ended_statuses}
+use Rattle.run_model.specs.Attempts.{delay_after, ended_statuses, attempt_pauses}
+use Rattle.run_model.specs.Timing.{pauses_in}
 use Rattle.run_laws.proofs.units.CaptureLemmas.{taken}
 use Rattle.run_laws.proofs.units.TimerLemmas.{HasTimer, timer_later}
+use Rattle.run_laws.proofs.units.WatchLemmas.{IsTimed, timed_later, timed_settled, time_settled, pauses_unsettled}
+use Rattle.run_laws.proofs.units.WatchLemmas.{resumed_start}
 use Rattle.run_laws.proofs.units.PieceLemmas.{IsAt, at_more, settled_as, awaits_as, end_more, status_as, refused_as}
-use Rattle.run_laws.proofs.units.PieceLemmas.{refused_ends, quiet_said}
+use Rattle.run_laws.proofs.units.PieceLemmas.{refused_ends, quiet_said, time_is}
 
 -- the attempt of a piece hasn't ended, and no environment file was read
 abbrev pub IsUnended : AttemptTerms → List OwnTurn → Type 0
@@ -38,7 +42,8 @@ pub record IsGoing (terms : AttemptTerms) (ph : Phase) (waited : Bool) (exit : O
   pub is_at : IsAt terms u.timers.stopwatch.start waited exit false u.timers.slow_count u.capture piece
   pub not_ended : IsUnended terms piece
   pub unsettled : is_settled terms piece ≡ false
-  pub watch : u.timers.stopwatch ≡ started_at u.timers.stopwatch.start
+  pub watch : IsTimed terms u.timers.stopwatch u.latest piece
+  pub pauses : attempt_pauses terms piece ≡ pauses_in piece
   pub timer : HasTimer terms ph u.timers u.latest piece
 
 -- the statuses of a unit, and the delay before its current attempt, are those of the attempts before that
@@ -58,7 +63,8 @@ going_later terms ph waited exit now u piece le on = record {
   is_at = on.is_at;
   not_ended = on.not_ended;
   unsettled = on.unsettled;
-  watch = on.watch;
+  watch = timed_later terms u.timers.stopwatch u.latest now piece le on.watch;
+  pauses = on.pauses;
   timer = timer_later terms ph u.timers u.latest now piece le on.timer;
 }
 
@@ -71,6 +77,7 @@ going_lined terms ph waited exit line u piece on = record {
   not_ended = on.not_ended;
   unsettled = on.unsettled;
   watch = on.watch;
+  pauses = on.pauses;
   timer = on.timer;
 }
 
@@ -96,17 +103,19 @@ pub going_more : (terms : AttemptTerms) (ph : Phase) (waited : Bool) (exit : Opt
     → IsAt terms u.timers.stopwatch.start waited exit false u.timers.slow_count u.capture (t ∷ before)
     → IsUnended terms before → env_in t.turn ≡ None
     → (waited && (terms.skips_leak_detection || is_done u.capture)) ≡ false
-    → u.timers.stopwatch ≡ started_at u.timers.stopwatch.start
+    → (is_settled terms (t ∷ before) ≡ false → IsTimed terms u.timers.stopwatch u.latest (t ∷ before))
+    → attempt_pauses terms before ≡ pauses_in before
     → HasTimer terms ph u.timers u.latest (t ∷ before)
     → IsGoing terms ph waited exit u (t ∷ before)
-going_more terms ph waited exit u t before it none quiet goes watch timer = record {
+going_more terms ph waited exit u t before it none quiet goes watch pauses timer = record {
   is_at = it;
   not_ended = (
     end_more terms t before false none.0 (ended_not _ (awaits_env_file terms (t ∷ before)) still),
     unread_more t before none.1 quiet,
   );
   unsettled = still;
-  watch = watch;
+  watch = watch still;
+  pauses = pauses_unsettled terms t before still pauses;
   timer = timer;
 }
   where
@@ -183,7 +192,7 @@ pub past_exited : (now : ℕ) (exit : Option ChildExit) (leaked : Bool) (c : Cap
     → IsAt u.terms u.timers.stopwatch.start true exit leaked u.timers.slow_count c (taken now turn None ∷ piece)
     → IsUnended u.terms piece → env_in turn ≡ None → (u.terms.skips_leak_detection || is_done c || leaked) ≡ true
     → awaits_env (result_of exit c.errors leaked u) u ≡ false
-    → u.timers.stopwatch ≡ started_at u.timers.stopwatch.start → u.attempt ≡ length earlier + 1
+    → IsTimed u.terms u.timers.stopwatch now piece → u.attempt ≡ length earlier + 1
     → Follows u.terms u earlier
     → IsPast u.terms (ended now (result_of exit c.errors leaked u) (Output c.output c.errors) u)
     (taken now turn None ∷ piece) earlier
@@ -192,17 +201,21 @@ past_exited now exit leaked c turn u piece earlier it none quiet done awaits wat
   past_with u.terms u.statuses
       (status_at now (result_of exit c.errors leaked u) (Output c.output c.errors) u) (taken now turn None ∷ piece) earlier ends
       (status_as Unread true exit leaked c now (delay_after u.terms.retries earlier) (length earlier + 1)
-      (taken now turn None ∷ piece) u it watch (rw unread refl) end a delay) ss,
+      (taken now turn None ∷ piece) u it (time_settled u.terms u.timers.stopwatch (taken now turn None) piece still watch)
+      (rw unread refl) end a delay) ss,
 )
   where
+    still : is_settled u.terms (taken now turn None ∷ piece) ≡ true
+    still =
+        settled_as u.terms u.timers.stopwatch.start true exit leaked u.timers.slow_count c (taken now turn None ∷ piece) it
+        ∙ done
+
     unread : env_read (taken now turn None ∷ piece) ≡ None
     unread = unread_more (taken now turn None) piece none.1 quiet
 
     ends : has_ended u.terms (taken now turn None ∷ piece) ≡ true
     ends =
-        ends_settled _ _
-        (settled_as u.terms u.timers.stopwatch.start true exit leaked u.timers.slow_count c (taken now turn None ∷ piece) it
-        ∙ done)
+        ends_settled _ _ still
         (awaits_as u.timers.stopwatch.start true exit leaked c (taken now turn None ∷ piece) u it unread ∙ awaits)
 
     end : end_of u.terms (taken now turn None ∷ piece) ≡ Some now
@@ -213,7 +226,7 @@ pub record IsAwaiting (terms : AttemptTerms) (u : UnitView) (piece : List OwnTur
   pub is_at : IsAt terms u.timers.stopwatch.start true u.exit u.leaked u.timers.slow_count u.capture piece
   pub not_ended : IsUnended terms piece
   pub settled : is_settled terms piece ≡ true
-  pub watch : u.timers.stopwatch ≡ started_at u.timers.stopwatch.start
+  pub watch : IsTimed terms u.timers.stopwatch u.latest piece
 
 -- so where it ended well
 ended_awaiting : (settled awaits : Bool) → awaits ≡ true → (settled && not awaits) ≡ false
@@ -226,32 +239,39 @@ pub awaiting_exited : (now : ℕ) (exit : Option ChildExit) (leaked : Bool) (c :
     → IsAt u.terms u.timers.stopwatch.start true exit leaked u.timers.slow_count c (taken now turn None ∷ piece)
     → IsUnended u.terms piece → env_in turn ≡ None → (u.terms.skips_leak_detection || is_done c || leaked) ≡ true
     → awaits_env (result_of exit c.errors leaked u) u ≡ true
-    → u.timers.stopwatch ≡ started_at u.timers.stopwatch.start
-    → IsAwaiting u.terms (awaiting_env exit leaked c u) (taken now turn None ∷ piece)
-awaiting_exited now exit leaked c turn u piece it none quiet done awaits watch = record {
-  is_at = it;
+    → u.latest ≡ now → IsTimed u.terms u.timers.stopwatch now piece
+    → IsAwaiting u.terms (awaiting_env now exit leaked c u) (taken now turn None ∷ piece)
+awaiting_exited now exit leaked c turn u piece it none quiet done awaits latest watch = record {
+  is_at =
+      subst (λ start. IsAt u.terms start true exit leaked u.timers.slow_count c (taken now turn None ∷ piece))
+      (sym (resumed_start u.timers.stopwatch now)) it;
   not_ended = (
     end_more u.terms (taken now turn None) piece false none.0 (ended_awaiting _ _
         (awaits_as u.timers.stopwatch.start true exit leaked c (taken now turn None ∷ piece) u it unread ∙ awaits)),
     unread,
   );
-  settled =
-      settled_as u.terms u.timers.stopwatch.start true exit leaked u.timers.slow_count c (taken now turn None ∷ piece) it
-      ∙ done;
-  watch = watch;
+  settled = still;
+  watch =
+      subst (λ latest. IsTimed u.terms (watch_resumed now u.timers.stopwatch) latest (taken now turn None ∷ piece)) (sym latest)
+      (timed_settled u.terms u.timers.stopwatch (taken now turn None) piece still watch);
 }
   where
+    still : is_settled u.terms (taken now turn None ∷ piece) ≡ true
+    still =
+        settled_as u.terms u.timers.stopwatch.start true exit leaked u.timers.slow_count c (taken now turn None ∷ piece) it
+        ∙ done
+
     unread : env_read (taken now turn None ∷ piece) ≡ None
     unread = unread_more (taken now turn None) piece none.1 quiet
 
 -- the moment of the latest turn may be later, and the requests that wait for it say nothing of it
-pub awaiting_later : (terms : AttemptTerms) (now : ℕ) (u : UnitView) (piece : List OwnTurn)
+pub awaiting_later : (terms : AttemptTerms) (now : ℕ) (u : UnitView) (piece : List OwnTurn) → u.latest ≤ now
     → IsAwaiting terms u piece → IsAwaiting terms (at_moment now u) piece
-awaiting_later terms now u piece on = record {
+awaiting_later terms now u piece le on = record {
   is_at = on.is_at;
   not_ended = on.not_ended;
   settled = on.settled;
-  watch = on.watch;
+  watch = timed_later terms u.timers.stopwatch u.latest now piece le on.watch;
 }
 
 pub awaiting_lined : (terms : AttemptTerms) (line : List Request) (u : UnitView) (piece : List OwnTurn)
@@ -270,15 +290,18 @@ reads_no_more true false = refl
 reads_no_more false success = refl
 
 pub past_read : (now : ℕ) (input : EnvInput) (u : UnitView) (piece : List OwnTurn) (earlier : List Attempt)
-    → IsAwaiting u.terms u piece → u.attempt ≡ length earlier + 1 → Follows u.terms u earlier
+    → u.latest ≡ now → IsAwaiting u.terms u piece → u.attempt ≡ length earlier + 1 → Follows u.terms u earlier
     → IsPast u.terms (ended_with now (env_of input) u.exit u.leaked u.capture u) (taken now (Env input) None ∷ piece) earlier
-past_read now input u piece earlier on a (ss, delay) = (
+past_read now input u piece earlier latest on a (ss, delay) = (
   ends,
   past_with u.terms u.statuses
       (status_at now (result_with (env_of input) (result_of u.exit u.capture.errors u.leaked u))
       (Output u.capture.output u.capture.errors) u) (taken now (Env input) None ∷ piece) earlier ends
       (status_as (env_of input) true u.exit u.leaked u.capture now (delay_after u.terms.retries earlier) (length earlier + 1)
-      (taken now (Env input) None ∷ piece) u it on.watch (rw on.not_ended.1 refl) end a delay) ss,
+      (taken now (Env input) None ∷ piece) u it
+      (time_settled u.terms u.timers.stopwatch (taken now (Env input) None) piece still
+      (subst (λ latest. IsTimed u.terms u.timers.stopwatch latest piece) latest on.watch))
+      (rw on.not_ended.1 refl) end a delay) ss,
 )
   where
     it : IsAt u.terms u.timers.stopwatch.start true u.exit u.leaked u.timers.slow_count u.capture
@@ -302,16 +325,26 @@ past_read now input u piece earlier on a (ss, delay) = (
 
 -- it ends where its start was refused
 pub past_refused : (now : ℕ) (error : List ℕ) (exit : Option ChildExit) (u : UnitView) (piece : List OwnTurn)
-    (earlier : List Attempt) → IsGoing u.terms Starting false exit u piece
+    (earlier : List Attempt) → u.latest ≡ now → IsGoing u.terms Starting false exit u piece
     → u.attempt ≡ length earlier + 1 → Follows u.terms u earlier
     → IsPast u.terms (ended now ExecFail (StartError error) u) (taken now (StartFailed error) None ∷ piece) earlier
-past_refused now error exit u piece earlier on a (ss, delay) = (
+past_refused now error exit u piece earlier latest on a (ss, delay) = (
   ends,
   past_with u.terms u.statuses (status_at now ExecFail (StartError error) u)
       (taken now (StartFailed error) None ∷ piece) earlier ends
       (refused_as now (delay_after u.terms.retries earlier) (length earlier + 1) error exit u.capture piece u on.is_at
-      on.watch on.not_ended.1 on.not_ended.0 a delay) ss,
+      (time_settled u.terms u.timers.stopwatch (taken now (StartFailed error) None) piece still
+      (subst (λ latest. IsTimed u.terms u.timers.stopwatch latest piece) latest on.watch)
+      ∙ sym (time_is u.terms (taken now (StartFailed error) None ∷ piece) u.timers.stopwatch.start now
+      (ap (λ o. unwrap_or (option_or o None) 0) on.is_at.let_go) end))
+      on.not_ended.1 on.not_ended.0 a delay) ss,
 )
   where
+    still : is_settled u.terms (taken now (StartFailed error) None ∷ piece) ≡ true
+    still = rw on.is_at.not_refused refl
+
     ends : has_ended u.terms (taken now (StartFailed error) None ∷ piece) ≡ true
     ends = refused_ends u.terms now error piece on.is_at.not_refused
+
+    end : end_of u.terms (taken now (StartFailed error) None ∷ piece) ≡ Some now
+    end = end_more u.terms (taken now (StartFailed error) None) piece true on.not_ended.0 ends

@@ -25,8 +25,10 @@ use Rattle.run_model.specs.declared.unit_turn.UnitTurn.TheVariants.{Answered, Du
 use Rattle.run_model.specs.declared.unit_view.UnitView.{UnitView}
 use Rattle.run_model.specs.Environment.{number}
 use Rattle.run_model.specs.Backoff.{retry_count}
-use Rattle.run_model.specs.Unit.{Row, at_moment, row, row_at, takes, takes_at, is_live, reach, last_status}
-use Rattle.run_model.specs.Unit.{has_passed, has_retry, decide_row}
+use Rattle.run_model.specs.Ending.{last_status}
+use Rattle.run_model.specs.Row.{Row}
+use Rattle.run_model.specs.Retries.{has_passed, has_retry, decide_row}
+use Rattle.run_model.specs.Unit.{at_moment, row, row_at, takes, takes_at, is_live, reach}
 use Rattle.run_model.specs.Words.{unit_of, unit_after, reason}
 use Rattle.run_model.specs.Accounts.{News, HasAccount, HasAccountAt, is_mismatched}
 use Rattle.run_model.specs.Story.{is_at_retry, lets_go}
@@ -193,11 +195,11 @@ passed_on_way u r w it h = by_way it.way
     by_way (inl stays) = rw (stays.0, it.keeps.terms, it.attempt, it.statuses) h
     by_way (inr goes) = rw (goes.0, it.keeps.terms, it.attempt, it.statuses) h
 
-and_false : (b : Bool) → (b && false) ≡ false
+pub and_false : (b : Bool) → (b && false) ≡ false
 and_false true = refl
 and_false false = refl
 
-and_true : (b : Bool) → (b && true) ≡ b
+pub and_true : (b : Bool) → (b && true) ≡ b
 and_true true = refl
 and_true false = refl
 
@@ -300,7 +302,7 @@ own_on_way false now turn u t q w why en go a h = by_take (row_takes now u.phase
         (retried_on_way now go_now v w why (go go_now to) (in_phase RetrySent at)))
 
 -- whose start or retry a part delivers
-lets_go-is : (j k : ℕ) (turn : UnitTurn) → lets_go k (Some (Acts j turn)) ≡ (is_answer turn && (j == k))
+pub lets_go-is : (j k : ℕ) (turn : UnitTurn) → lets_go k (Some (Acts j turn)) ≡ (is_answer turn && (j == k))
 lets_go-is j k (Answered go) = refl
 lets_go-is j k turn = refl
 

@@ -19,7 +19,7 @@ use Rattle.run_laws.proofs.units.Lines.{is_take, takes_request-is, own_line, own
 use Rattle.run_laws.proofs.board.DeedFits.{PartFits}
 
 -- the line of a unit after a part
-part_line : (p : Settings) (run : List Happening) (now k : ℕ) (part : Option UnitPart)
+pub part_line : (p : Settings) (run : List Happening) (now k : ℕ) (part : Option UnitPart)
     → HasLine (unit_of k run) (line_of k run) → taken_by k run ≤ length (broadcast_to k run) → PartFits p now run part
     → HasLine (unit_after now k part (unit_of k run))
     (drop (taken_by k run + (if takes_request k part then 1 else 0)) (broadcast_to k run))

@@ -7,9 +7,10 @@ use Rattle.run_capture.specs.Captured.{Captured, is_done, with_wait_error}
 use Rattle.run_events.specs.declared.result.ChildExit.{ChildExit}
 use Rattle.run_events.specs.declared.result.ChildExecutionOutput.TheVariants.{Output}
 use Rattle.run_events.specs.declared.request.Request.{Request}
-use Rattle.run_events.specs.declared.request.Request.TheVariants.{Shutdown, OtherCancel}
+use Rattle.run_events.specs.declared.request.Request.TheVariants.{Stop, Continue, Shutdown, OtherCancel, GetInfo}
 use Rattle.run_events.specs.declared.request.TermSignal.{TermSignal}
 use Rattle.run_events.specs.declared.request.TermSignal.TheVariants.{Kill}
+use Rattle.run_events.specs.declared.request.TerminateReason.{TerminateReason}
 use Rattle.run_events.specs.declared.request.TerminateReason.TheVariants.{Signal as Signalled}
 use Rattle.run_model.specs.declared.happening.UnitPart.TheVariants.{Acts}
 use Rattle.run_model.specs.declared.phase.Phase.{Phase}
@@ -21,9 +22,11 @@ use Rattle.run_model.specs.declared.unit_turn.UnitTurn.TheVariants.{Piece, Strea
 use Rattle.run_model.specs.declared.unit_view.UnitView.{UnitView}
 use Rattle.run_model.specs.Terminate.{terminate_method}
 use Rattle.run_model.specs.Slow.{one_more, is_out_of_time}
-use Rattle.run_model.specs.Unit.{Row, at_moment, row, row_at, takes, takes_at, settled, exited, leaking, having_heard}
-use Rattle.run_model.specs.Unit.{heard_with, slow_row, slow_again, in_grace, out_of_time, asked_to_end, requested}
-use Rattle.run_model.specs.Unit.{take_row, is_live, reach, has_request, awaits_env, awaiting_env, ended, result_of}
+use Rattle.run_model.specs.Ending.{settled, exited, leaking, awaits_env, awaiting_env, ended, result_of}
+use Rattle.run_model.specs.Row.{Row}
+use Rattle.run_model.specs.Requests.{asked_to_end, requested, take_row, has_request}
+use Rattle.run_model.specs.Unit.{at_moment, row, row_at, takes, takes_at, having_heard, heard_with, slow_row}
+use Rattle.run_model.specs.Unit.{slow_again, in_grace, out_of_time, is_live, reach}
 use Rattle.run_model.specs.Story.{is_live_unit, oldest, request_of, takes_request}
 use Rattle.run_laws.proofs.board.Holds.{HasLineIn, HasLine}
 use Rattle.run_laws.proofs.units.OpenRows.{is_open, Moves}
@@ -41,7 +44,7 @@ exited_line : (now : ℕ) (exit : Option ChildExit) (leaked : Bool) (c : Capture
 exited_line now exit leaked c u = by_env (awaits_env (result_of exit c.errors leaked u) u)
   where
     by_env : (b : Bool) → (if b
-        then awaiting_env exit leaked c u
+        then awaiting_env now exit leaked c u
         else ended now (result_of exit c.errors leaked u) (Output c.output c.errors) u).line ≡ u.line
     by_env true = refl
     by_env false = refl
@@ -69,15 +72,19 @@ slow_line now n u = by_time (is_out_of_time u.terms.slow n) (u.terms.slow.grace 
     by_time true true = refl
     by_time true false = refl
 
-taken_line : (now : ℕ) (ph : Phase) (u : UnitView) → (take_row now ph u.line u).next.line ≡ drop 1 u.line
+pub taken_line : (now : ℕ) (ph : Phase) (u : UnitView) → (take_row now ph u.line u).next.line ≡ drop 1 u.line
 taken_line now ph u = by_line u.line refl
   where
-    by_signal : (signal : TermSignal) (v : UnitView) → (asked_to_end now signal v).next.line ≡ v.line
-    by_signal Kill v = refl
-    by_signal signal v = refl
+    by_signal : (reason : TerminateReason) (signal : TermSignal) (v : UnitView)
+        → (asked_to_end now reason signal v).next.line ≡ v.line
+    by_signal reason Kill v = refl
+    by_signal reason signal v = refl
 
     by_request : (ph : Phase) (request : Request) (v : UnitView) → (requested now ph request v).next.line ≡ v.line
-    by_request Running (Shutdown request) v = by_signal (terminate_method (Signalled request) v.terms.slow.grace) v
+    by_request ph (Stop round) v = refl
+    by_request ph Continue v = refl
+    by_request ph (GetInfo round) v = refl
+    by_request Running (Shutdown request) v = by_signal (Signalled request) (terminate_method (Signalled request) v.terms.slow.grace) v
     by_request Grace (Shutdown request) v = refl
     by_request Delay (Shutdown request) v = refl
     by_request Delay OtherCancel v = refl

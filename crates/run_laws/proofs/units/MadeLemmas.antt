@@ -16,10 +16,10 @@ use Rattle.run_model.specs.Unit.{at_moment, takes, takes_at}
 use Rattle.run_model.specs.Story.{OwnTurn, Attempt, cut}
 use Rattle.run_model.specs.Timing.{timer_of, is_timer_due_at}
 use Rattle.run_model.specs.Attempts.{is_settled, awaits_env_file, end_of, delay_after, ended_statuses, attempt_in}
-use Rattle.run_model.specs.Attempts.{start_in, is_retried, is_delay_over, decided_at, delay_timer, is_due_in}
+use Rattle.run_model.specs.Attempts.{start_in, is_retried, is_delay_over, delay_timer, is_due_in}
 use Rattle.run_model.specs.Attempts.{none_goes_on}
 use Rattle.run_model.specs.Admission.{is_last}
-use Rattle.run_laws.proofs.units.TimerLemmas.{waits, due_as, sleep_of, set_by_later}
+use Rattle.run_laws.proofs.units.TimerLemmas.{waits, KeepsSome, IsSetBy, due_as, set_by_later}
 use Rattle.run_laws.proofs.units.PieceLemmas.{unended_has}
 use Rattle.run_laws.proofs.units.GoingLemmas.{IsGoing, IsAwaiting, Follows, IsPast, next_status, ended_statuses-past}
 use Rattle.run_laws.proofs.units.GoingLemmas.{going_later, going_lined, awaiting_later, awaiting_lined}
@@ -38,8 +38,8 @@ IsRetried terms u piece after earlier =
 abbrev pub IsDelayed : AttemptTerms → UnitView → List OwnTurn → List OwnTurn → List Attempt → Type 0
 IsDelayed terms u piece after earlier =
     IsRetried terms u piece after earlier × (is_delay_over after ≡ false)
-    × (u.timers.wait ≡ Some (sleep_of (delay_timer terms.retries after (cut piece after ∷ earlier))))
-    × (decided_at after ≤ u.latest)
+    × KeepsSome (Some (delay_timer terms.retries after (cut piece after ∷ earlier))) u.timers.wait
+    × IsSetBy u.latest (Some (delay_timer terms.retries after (cut piece after ∷ earlier)))
 
 abbrev pub IsAwaited : AttemptTerms → UnitView → List OwnTurn → List OwnTurn → List Attempt → Type 0
 IsAwaited terms u piece after earlier =
@@ -154,8 +154,8 @@ made_due terms u ps made now le = by_phase u.phase ps made.has
         → fires_now now (waits ph u.timers) ≡ (not (is_settled terms piece) && is_timer_due_at now (timer_of terms piece))
     on_timer ph waited exit piece on =
         rw on.unsettled
-        (ap (fires_now now) on.timer.waits_for
-        ∙ due_as now (timer_of terms piece) (set_by_later u.latest now le (timer_of terms piece) on.timer.set_by))
+        (due_as now (timer_of terms piece) (waits ph u.timers)
+        (set_by_later u.latest now le (timer_of terms piece) on.timer.set_by) on.timer.waits_for)
 
     decided : (settled awaits due : Bool) → (settled && not awaits) ≡ true → false ≡ (not settled && due)
     decided true awaits due e = refl
@@ -177,9 +177,10 @@ made_due terms u ps made now le = by_phase u.phase ps made.has
     by_phase EnvWait (cut piece [] ∷ earlier) (on, is) = rw on.settled refl
     by_phase Deciding (cut piece [] ∷ earlier) h = decided _ (awaits_env_file terms piece) _ h.0
     by_phase Delay (cut piece (d ∷ after) ∷ earlier) (again, not_over, wait, set) =
-        rw (again.1, not_over) (ap (fires_now now) wait
-        ∙ due_as now (Some (delay_timer terms.retries (d ∷ after) (cut piece (d ∷ after) ∷ earlier)))
-        (refl, omega arith))
+        rw (again.1, not_over)
+        (due_as now (Some (delay_timer terms.retries (d ∷ after) (cut piece (d ∷ after) ∷ earlier))) u.timers.wait
+        (set_by_later u.latest now le (Some (delay_timer terms.retries (d ∷ after) (cut piece (d ∷ after) ∷ earlier))) set)
+        wait)
     by_phase RetrySent (cut piece (d ∷ after) ∷ earlier) (again, is_over) = rw (again.1, is_over) refl
     by_phase Over [] h = refl
     by_phase Over (cut piece (d ∷ after) ∷ earlier) h = over _ _ _ h.1
@@ -199,10 +200,14 @@ later_pieces terms now KillWait u (cut piece [] ∷ earlier) le (on, ss) =
     (going_later terms KillWait false None now u piece le on, ss)
 later_pieces terms now Leak u (cut piece [] ∷ earlier) le (on, ss) =
     (going_later terms Leak true u.exit now u piece le on, ss)
-later_pieces terms now EnvWait u (cut piece [] ∷ earlier) le (on, ss) = (awaiting_later terms now u piece on, ss)
+later_pieces terms now EnvWait u (cut piece [] ∷ earlier) le (on, ss) = (awaiting_later terms now u piece le on, ss)
 later_pieces terms now Deciding u (cut piece [] ∷ earlier) le h = h
-later_pieces terms now Delay u (cut piece (d ∷ after) ∷ earlier) le (again, not_over, wait, set) =
-    (again, not_over, wait, omega arith)
+later_pieces terms now Delay u (cut piece (d ∷ after) ∷ earlier) le (again, not_over, wait, set) = (
+  again,
+  not_over,
+  wait,
+  set_by_later u.latest now le (Some (delay_timer terms.retries (d ∷ after) (cut piece (d ∷ after) ∷ earlier))) set,
+)
 later_pieces terms now RetrySent u (cut piece (d ∷ after) ∷ earlier) le h = h
 later_pieces terms now Over u [] le h = h
 later_pieces terms now Over u (cut piece (d ∷ after) ∷ earlier) le h = h

@@ -16,7 +16,9 @@ use Rattle.run_model.specs.Admission.{is_script, script_terms_if, unit_terms}
 use Rattle.run_model.specs.Attempts.{status_of}
 use Rattle.run_model.specs.Backoff.{retry_count}
 use Rattle.run_model.specs.Story.{Attempt, cut, pieces, story_of}
-use Rattle.run_model.specs.Unit.{at_moment, has_passed, last_status, script_status}
+use Rattle.run_model.specs.Ending.{last_status}
+use Rattle.run_model.specs.Retries.{has_passed, script_status}
+use Rattle.run_model.specs.Unit.{at_moment}
 use Rattle.run_model.specs.Words.{unit_of}
 use Rattle.run_laws.proofs.units.AccountRows.{IsOneOff, IsTriedOnce}
 use Rattle.run_laws.proofs.units.AttemptLemmas.{HasPieces, IsMade, IsMadeIf}

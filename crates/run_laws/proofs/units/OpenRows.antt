@@ -8,9 +8,12 @@ use Rattle.run_events.specs.declared.result.ExecuteStatus.{ExecuteStatus}
 use Rattle.run_events.specs.declared.ask.Ask.{Ask}
 use Rattle.run_events.specs.declared.ask.Ask.TheVariants.{Signal, Start}
 use Rattle.run_events.specs.declared.request.Request.{Request}
-use Rattle.run_events.specs.declared.request.Request.TheVariants.{Shutdown}
+use Rattle.run_events.specs.declared.request.ChildSignal.{ChildSignal}
+use Rattle.run_events.specs.declared.request.ChildSignal.TheVariants.{Tstp, Cont}
+use Rattle.run_events.specs.declared.request.Request.TheVariants.{Stop, Continue, Shutdown, GetInfo}
 use Rattle.run_events.specs.declared.request.TermSignal.{TermSignal}
 use Rattle.run_events.specs.declared.request.TermSignal.TheVariants.{Kill}
+use Rattle.run_events.specs.declared.request.TerminateReason.{TerminateReason}
 use Rattle.run_events.specs.declared.request.TerminateReason.TheVariants.{Signal as Signalled}
 use Rattle.run_events.specs.declared.message.Message.{Message}
 use Rattle.run_events.specs.declared.message.Message.TheVariants.{ScriptSlow, Slow}
@@ -31,10 +34,12 @@ use Rattle.run_model.specs.Env.{env_of}
 use Rattle.run_model.specs.Environment.{number_of, number}
 use Rattle.run_model.specs.Terminate.{terminate_method}
 use Rattle.run_model.specs.Slow.{one_more, is_out_of_time}
-use Rattle.run_model.specs.Unit.{Row, row_at, settled, exited, leaking, having_heard, heard_with, ended, awaits_env}
-use Rattle.run_model.specs.Unit.{awaiting_env, result_of, result_with, slow_report, running_row, asked_to_end}
-use Rattle.run_model.specs.Unit.{requested, take_row, waited_row, slow_message, slow_row, slow_again, in_grace}
-use Rattle.run_model.specs.Unit.{out_of_time, quiet}
+use Rattle.run_model.specs.Ending.{settled, exited, leaking, ended, awaits_env, awaiting_env, result_of, result_with}
+use Rattle.run_model.specs.Pauses.{is_paused}
+use Rattle.run_model.specs.Row.{Row, quiet, child_ask}
+use Rattle.run_model.specs.Requests.{asked_to_end, requested, take_row, stop_ask, continue_ask}
+use Rattle.run_model.specs.Unit.{row_at, having_heard, heard_with, slow_report, running_row, waited_row, slow_message}
+use Rattle.run_model.specs.Unit.{slow_row, slow_again, in_grace, out_of_time}
 
 -- whether an attempt goes on in a phase
 abbrev pub is_open : Phase → Bool
@@ -126,7 +131,7 @@ ends : (now : ℕ) (exit : Option ChildExit) (leaked : Bool) (c : Captured) (u :
 ends now exit leaked c u = by_env (awaits_env (result_of exit c.errors leaked u) u)
   where
     by_env : (b : Bool) → IsOwn u (quiet (if b
-        then awaiting_env exit leaked c u
+        then awaiting_env now exit leaked c u
         else ended now (result_of exit c.errors leaked u) (Output c.output c.errors) u))
     by_env true = record {
       keeps = record { role = refl; command = refl; around = refl; terms = refl; latest = refl };
@@ -216,15 +221,16 @@ waits now Due u on = ends now u.exit true u.capture u
 waits now turn u on = hears now (having_heard u.capture turn) u on
 
 -- it takes a request
-ends_by : (now : ℕ) (signal : TermSignal) (u v : UnitView) → Keeps u v → v.role ≡ u.role → is_open v.phase ≡ true
-    → v.attempt ≡ u.attempt → v.statuses ≡ u.statuses → IsOwn u (asked_to_end now signal v)
-ends_by now Kill u v keeps same on at ss = record {
+ends_by : (now : ℕ) (reason : TerminateReason) (signal : TermSignal) (u v : UnitView) → Keeps u v → v.role ≡ u.role
+    → is_open v.phase ≡ true → v.attempt ≡ u.attempt → v.statuses ≡ u.statuses
+    → IsOwn u (asked_to_end now reason signal v)
+ends_by now reason Kill u v keeps same on at ss = record {
   keeps = keeps;
   moves = inl (record { phase = on; attempt = at; statuses = ss; sent = tt });
   asks = (ap number_of same, tt);
   reports = no_report u.role;
 }
-ends_by now signal u v keeps same on at ss = record {
+ends_by now reason signal u v keeps same on at ss = record {
   keeps = record {
     role = keeps.role;
     command = keeps.command;
@@ -236,6 +242,23 @@ ends_by now signal u v keeps same on at ss = record {
   asks = (ap number_of same, tt);
   reports = no_report u.role;
 }
+
+-- what it asks of its child where that is to stop, and where it is to go on
+asks_where : (asks : Bool) (signal : ChildSignal) (u : UnitView)
+    → IsForOwn (number u) (if asks then Some (child_ask signal u) else None)
+    × IsNoStart (if asks then Some (child_ask signal u) else None)
+asks_where true signal u = (refl, tt)
+asks_where false signal u = (tt, tt)
+
+stop_own : (ph : Phase) (u : UnitView) → IsForOwn (number u) (stop_ask ph u) × IsNoStart (stop_ask ph u)
+stop_own Running u = asks_where u.terms.stops Tstp u
+stop_own Grace u = (refl, tt)
+stop_own ph u = (tt, tt)
+
+continue_own : (ph : Phase) (u : UnitView) → IsForOwn (number u) (continue_ask ph u) × IsNoStart (continue_ask ph u)
+continue_own Running u = asks_where (is_paused u.timers) Cont u
+continue_own Grace u = (refl, tt)
+continue_own ph u = (tt, tt)
 
 requests : (now : ℕ) (ph : Phase) (u : UnitView) → is_open u.phase ≡ true → is_open ph ≡ true
     → IsOwn u (take_row now ph u.line u)
@@ -251,8 +274,27 @@ requests now ph u on ph_on = by_line u.line
 
     by_request : (ph : Phase) (request : Request) (line : List Request) → is_open ph ≡ true
         → IsOwn u (requested now ph request (record u { line = line }))
+    by_request Delay request line ph_on = cc
+    by_request ph (Stop round) line ph_on = record {
+      keeps = record { role = refl; command = refl; around = refl; terms = refl; latest = refl };
+      moves = inl (record { phase = on; attempt = refl; statuses = refl; sent = tt });
+      asks = stop_own ph (record u { line = line });
+      reports = no_report u.role;
+    }
+    by_request ph Continue line ph_on = record {
+      keeps = record { role = refl; command = refl; around = refl; terms = refl; latest = refl };
+      moves = inl (record { phase = on; attempt = refl; statuses = refl; sent = tt });
+      asks = continue_own ph (record u { line = line });
+      reports = no_report u.role;
+    }
+    by_request ph (GetInfo round) line ph_on = record {
+      keeps = record { role = refl; command = refl; around = refl; terms = refl; latest = refl };
+      moves = inl (record { phase = on; attempt = refl; statuses = refl; sent = tt });
+      asks = (tt, tt);
+      reports = no_report u.role;
+    }
     by_request Running (Shutdown request) line ph_on =
-        ends_by now (terminate_method (Signalled request) u.terms.slow.grace) u (record u { line = line })
+        ends_by now (Signalled request) (terminate_method (Signalled request) u.terms.slow.grace) u (record u { line = line })
         (record { role = refl; command = refl; around = refl; terms = refl; latest = refl }) refl on refl refl
     by_request Grace (Shutdown request) line ph_on = record {
       keeps = record { role = refl; command = refl; around = refl; terms = refl; latest = refl };
@@ -260,7 +302,6 @@ requests now ph u on ph_on = by_line u.line
       asks = (refl, tt);
       reports = no_report u.role;
     }
-    by_request Delay request line ph_on = cc
     by_request ph request line ph_on = still line
 
     by_line : (line : List Request) → IsOwn u (take_row now ph line u)

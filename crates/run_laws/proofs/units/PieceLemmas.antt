@@ -1,8 +1,9 @@
 -- An attempt after the turns of a piece of a story.
 use Rattle.std.proofs.Common.{◌≡◌, ℕ, List, [], ◌∷◌, Bool, true, false, not, ◌&&◌, ◌||◌, if◌then◌else◌, Option, Some}
-use Rattle.std.proofs.Common.{None, is_some, refl, ap, sym, ◌∙◌}
+use Rattle.std.proofs.Common.{None, is_some, unwrap_or, refl, ap, sym, ◌∙◌}
 use Rattle.std.specs.Option.{option_or}
-use Rattle.run_clock.specs.Stopwatch.{started_at}
+use Rattle.run_clock.specs.Counted.{counted_time}
+use Rattle.run_clock.specs.Stopwatch.{active_by}
 use Rattle.run_capture.specs.Captured.{Captured, is_done}
 use Rattle.run_events.specs.declared.request.Request.{Request}
 use Rattle.run_events.specs.declared.result.ChildExit.{ChildExit}
@@ -16,14 +17,14 @@ use Rattle.run_model.specs.declared.unit_turn.UnitTurn.{UnitTurn}
 use Rattle.run_model.specs.declared.unit_turn.UnitTurn.TheVariants.{StartFailed, Due}
 use Rattle.run_model.specs.declared.unit_view.AttemptTerms.{AttemptTerms}
 use Rattle.run_model.specs.declared.unit_view.UnitView.{UnitView}
-use Rattle.run_model.specs.Unit.{result_of, result_with, status_at, awaits_env}
+use Rattle.run_model.specs.Ending.{result_of, result_with, status_at, awaits_env}
 use Rattle.run_model.specs.Story.{OwnTurn, begins_attempt, first_said, any_is}
 use Rattle.run_model.specs.Timing.{ends_wait, is_due_turn, slow_count, has_leaked}
 use Rattle.run_model.specs.Attempts.{moment_if, start_error_in, start_error_of, exit_in, exit_of, result_by, env_read}
 use Rattle.run_model.specs.Attempts.{env_by, is_fault, is_settled, awaits_env_file, has_ended, end_of, status_of}
+use Rattle.run_model.specs.Attempts.{attempt_pauses, start_of, time_of}
 use Rattle.run_laws.proofs.units.CaptureLemmas.{captured_by, heard_by, taken, captured_more, done_as}
 use Rattle.run_laws.proofs.units.StandingLemmas.{count_still}
-use Rattle.run_laws.proofs.units.TimerLemmas.{active_since}
 
 -- an attempt after the turns of a piece: it was let go at this moment and not refused; whether its child is waited for
 -- no more, how that ended, whether it leaked, how often it was slow, and what was captured of it
@@ -114,6 +115,13 @@ end_more terms t before b none is =
     ap (λ e. option_or e (if has_ended terms (t ∷ before) then Some t.moment else None)) none
     ∙ ap (λ b. if b then Some t.moment else None) is
 
+-- how long it took, by where it began and ended
+pub time_is : (terms : AttemptTerms) (piece : List OwnTurn) (start now : ℕ) → start_of piece ≡ start
+    → end_of terms piece ≡ Some now → time_of terms piece ≡ counted_time start (attempt_pauses terms piece) now
+time_is terms piece start now begins ends =
+    ap (λ s. counted_time s (attempt_pauses terms piece) (unwrap_or (end_of terms piece) 0)) begins
+    ∙ ap (λ e. counted_time start (attempt_pauses terms piece) (unwrap_or e 0)) ends
+
 -- a result with what came of its environment file
 with_is : (env : ScriptEnv) (result : ExecutionResult) → result_with env result ≡ (if is_fault env then ExecFail else result)
 with_is Unread result = refl
@@ -124,14 +132,14 @@ with_is (Fault fault) result = refl
 pub status_as : (env : ScriptEnv) (waited : Bool) (exit : Option ChildExit) (leaked : Bool) (c : Captured) (now d k : ℕ)
     (piece : List OwnTurn) (u : UnitView)
     → IsAt u.terms u.timers.stopwatch.start waited exit leaked u.timers.slow_count c piece
-    → u.timers.stopwatch ≡ started_at u.timers.stopwatch.start
+    → active_by u.timers.stopwatch now ≡ counted_time u.timers.stopwatch.start (attempt_pauses u.terms piece) now
     → env_by piece ≡ env → end_of u.terms piece ≡ Some now → u.attempt ≡ k → u.delay ≡ d
     → status_at now (result_with env (result_of exit c.errors leaked u)) (Output c.output c.errors) u
     ≡ status_of u.terms d k piece
-status_as env waited exit leaked c now d k piece u it watch reads end at delay =
+status_as env waited exit leaked c now d k piece u it time reads end at delay =
     ap (λ r. status_at now r (Output c.output c.errors) u) (with_is env (result_of exit c.errors leaked u))
     ∙ rw (
-      active_since u.timers.stopwatch now watch,
+      time,
       reads,
       it.captured,
       it.not_refused,
@@ -158,12 +166,12 @@ refused_ends terms now error piece none =
 pub refused_as : (now d k : ℕ) (error : List ℕ) (exit : Option ChildExit) (c : Captured) (piece : List OwnTurn)
     (u : UnitView)
     → IsAt u.terms u.timers.stopwatch.start false exit false u.timers.slow_count c piece
-    → u.timers.stopwatch ≡ started_at u.timers.stopwatch.start
+    → active_by u.timers.stopwatch now ≡ time_of u.terms (taken now (StartFailed error) None ∷ piece)
     → env_read piece ≡ None → end_of u.terms piece ≡ None → u.attempt ≡ k → u.delay ≡ d
     → status_at now ExecFail (StartError error) u ≡ status_of u.terms d k (taken now (StartFailed error) None ∷ piece)
-refused_as now d k error exit c piece u it watch unread end at delay =
+refused_as now d k error exit c piece u it time unread end at delay =
     rw (
-      active_since u.timers.stopwatch now watch,
+      time,
       unread,
       it.not_refused,
       count,

@@ -6,7 +6,7 @@ use Rattle.std.specs.Cmp.{first_so, second_so}
 use Rattle.run_capture.specs.Captured.{Captured, is_done, with_wait_error}
 use Rattle.run_events.specs.Result.{is_success}
 use Rattle.run_events.specs.declared.request.Request.{Request}
-use Rattle.run_events.specs.declared.request.Request.TheVariants.{Shutdown, OtherCancel}
+use Rattle.run_events.specs.declared.request.Request.TheVariants.{Stop, Continue, Shutdown, OtherCancel, GetInfo}
 use Rattle.run_events.specs.declared.request.TermSignal.{TermSignal}
 use Rattle.run_events.specs.declared.request.TermSignal.TheVariants.{Kill}
 use Rattle.run_events.specs.declared.result.ChildExit.{ChildExit}
@@ -25,13 +25,16 @@ use Rattle.run_model.specs.declared.unit_turn.UnitTurn.TheVariants.{Decide}
 use Rattle.run_model.specs.declared.unit_view.UnitView.{UnitView}
 use Rattle.run_model.specs.Env.{env_of}
 use Rattle.run_model.specs.Terminate.{terminate_method}
+use Rattle.run_events.specs.declared.request.TerminateReason.{TerminateReason}
 use Rattle.run_events.specs.declared.request.TerminateReason.TheVariants.{Signal as Signalled}
 use Rattle.run_model.specs.Slow.{one_more, is_out_of_time}
 use Rattle.run_model.specs.Attempts.{env_in}
-use Rattle.run_model.specs.Unit.{row_at, takes_at, settled, exited, leaking, having_heard, ended, awaits_env}
-use Rattle.run_model.specs.Unit.{awaiting_env, result_of, result_with, status_at, has_passed, last_status}
-use Rattle.run_model.specs.Unit.{running_row, asked_to_end, requested, take_row, waited_row, slow_row, slow_again}
-use Rattle.run_model.specs.Unit.{in_grace, out_of_time, has_retry}
+use Rattle.run_model.specs.Ending.{settled, exited, leaking, ended, awaits_env, awaiting_env, result_of, result_with}
+use Rattle.run_model.specs.Ending.{status_at, last_status}
+use Rattle.run_model.specs.Retries.{has_passed, has_retry}
+use Rattle.run_model.specs.Requests.{asked_to_end, requested, take_row}
+use Rattle.run_model.specs.Unit.{row_at, takes_at, having_heard, running_row, waited_row, slow_row, slow_again}
+use Rattle.run_model.specs.Unit.{in_grace, out_of_time}
 use Rattle.run_laws.proofs.units.Rows.{decide_cases}
 
 -- whether variables were read
@@ -96,7 +99,7 @@ leaves_exited : (now : ℕ) (exit : Option ChildExit) (leaked : Bool) (c : Captu
 leaves_exited now exit leaked c u = by_env (awaits_env (result_of exit c.errors leaked u) u) refl
   where
     by_env : (b : Bool) → awaits_env (result_of exit c.errors leaked u) u ≡ b → Leaves u (if b
-        then awaiting_env exit leaked c u
+        then awaiting_env now exit leaked c u
         else ended now (result_of exit c.errors leaked u) (Output c.output c.errors) u)
     by_env true e = record { env = refl; ready = second_so u.terms.reads_env _ e }
     by_env false e = record { env = refl; ready = tt }
@@ -135,13 +138,17 @@ leaves_slow now n u off = by_time (is_out_of_time u.terms.slow n) (u.terms.slow.
 leaves_taken : (now : ℕ) (ph : Phase) (u : UnitView) → awaits u.phase ≡ false → Leaves u (take_row now ph u.line u).next
 leaves_taken now ph u off = by_line u.line
   where
-    ends : (signal : TermSignal) (line : List Request) → Leaves u (asked_to_end now signal (record u { line = line })).next
-    ends Kill line = record { env = refl; ready = unready u.phase _ off }
-    ends signal line = record { env = refl; ready = tt }
+    ends : (reason : TerminateReason) (signal : TermSignal) (line : List Request)
+        → Leaves u (asked_to_end now reason signal (record u { line = line })).next
+    ends reason Kill line = record { env = refl; ready = unready u.phase _ off }
+    ends reason signal line = record { env = refl; ready = tt }
 
     by_request : (ph : Phase) (request : Request) (line : List Request)
         → Leaves u (requested now ph request (record u { line = line })).next
-    by_request Running (Shutdown request) line = ends (terminate_method (Signalled request) u.terms.slow.grace) line
+    by_request ph (Stop round) line = record { env = refl; ready = unready u.phase _ off }
+    by_request ph Continue line = record { env = refl; ready = unready u.phase _ off }
+    by_request ph (GetInfo round) line = record { env = refl; ready = unready u.phase _ off }
+    by_request Running (Shutdown request) line = ends (Signalled request) (terminate_method (Signalled request) u.terms.slow.grace) line
     by_request Grace (Shutdown request) line = record { env = refl; ready = tt }
     by_request Delay (Shutdown request) line = record { env = refl; ready = tt }
     by_request Delay OtherCancel line = record { env = refl; ready = tt }

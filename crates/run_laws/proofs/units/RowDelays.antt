@@ -18,8 +18,11 @@ use Rattle.run_model.specs.Environment.{number_of, number}
 use Rattle.run_model.specs.Attempts.{attempt_in, delay_after, ended_statuses, is_retried, word_in}
 use Rattle.run_model.specs.Backoff.{delay_by}
 use Rattle.run_model.specs.Story.{OwnTurn, Attempt, cut, begins_attempt, decides}
-use Rattle.run_model.specs.Unit.{Row, failed_message, failure_message, finish_message, has_retry, last_status}
-use Rattle.run_model.specs.Unit.{next_delay, retry_message, row_at, script_finish, takes_at}
+use Rattle.run_model.specs.Ending.{last_status}
+use Rattle.run_model.specs.Row.{Row}
+use Rattle.run_model.specs.Retries.{failed_message, failure_message, finish_message, has_retry, next_delay}
+use Rattle.run_model.specs.Retries.{retry_message, script_finish}
+use Rattle.run_model.specs.Unit.{row_at, takes_at}
 use Rattle.run_model.specs.Words.{sent}
 use Rattle.run_laws.specs.Delays.{delays_by, delays_waiting}
 use Rattle.run_laws.proofs.units.AccountRows.{IsTriedOnce}
@@ -27,7 +30,7 @@ use Rattle.run_laws.proofs.units.AttemptLemmas.{HasPieces, more}
 use Rattle.run_laws.proofs.board.Facts.{itself}
 use Rattle.run_laws.proofs.units.GoingLemmas.{next_status, ended_statuses-past}
 use Rattle.run_laws.proofs.units.ReadLemmas.{last_more}
-use Rattle.run_laws.proofs.units.RowLemmas.{delay_kept, retry_as}
+use Rattle.run_laws.proofs.units.AfterLemmas.{delay_kept, retry_as}
 use Rattle.run_laws.proofs.units.OpenRows.{is_open, IsReport}
 use Rattle.run_laws.proofs.units.Rows.{StaysOrGoes, Takes, answers, opens, decides as decides_now, passes, again}
 use Rattle.run_laws.proofs.units.Rows.{continues, decide_cases, row_moves, row_passes, row_takes}

@@ -16,8 +16,11 @@ use Rattle.run_model.specs.declared.unit_view.UnitRole.{UnitRole}
 use Rattle.run_model.specs.declared.unit_view.UnitRole.TheVariants as roles
 use Rattle.run_model.specs.declared.unit_view.UnitView.{UnitView}
 use Rattle.run_model.specs.Environment.{number_of, number}
-use Rattle.run_model.specs.Unit.{Row, row_at, takes_at, finish_message, failed_message, retry_message, last_status}
-use Rattle.run_model.specs.Unit.{next_delay, failure_message, script_finish, test_finish, test_retry}
+use Rattle.run_model.specs.Ending.{last_status}
+use Rattle.run_model.specs.Row.{Row}
+use Rattle.run_model.specs.Retries.{finish_message, failed_message, retry_message, next_delay, failure_message}
+use Rattle.run_model.specs.Retries.{script_finish, test_finish, test_retry}
+use Rattle.run_model.specs.Unit.{row_at, takes_at}
 use Rattle.run_model.specs.Admission.{is_script}
 use Rattle.run_laws.proofs.board.Holds.{IsOfKind, is_script_role}
 use Rattle.run_laws.proofs.board.Order.{is_of_script}

@@ -3,7 +3,7 @@ use Rattle.std.proofs.Common.{◌≡◌, ◌⊎◌, inl, inr, ℕ, List, [], ◌
 use Rattle.std.proofs.Common.{None, option_map, refl, ap, sym, subst, ◌∙◌}
 use Rattle.run_events.specs.declared.result.ExecuteStatus.{ExecuteStatus}
 use Rattle.run_events.specs.declared.request.Request.{Request}
-use Rattle.run_events.specs.declared.request.Request.TheVariants.{Shutdown, OtherCancel}
+use Rattle.run_events.specs.declared.request.Request.TheVariants.{Stop, Continue, Shutdown, OtherCancel, GetInfo}
 use Rattle.run_model.specs.declared.phase.Phase.{Phase}
 use Rattle.run_model.specs.declared.phase.Phase.TheVariants.{StartSent, Starting, Running, Grace, KillWait, Leak}
 use Rattle.run_model.specs.declared.phase.Phase.TheVariants.{EnvWait, Deciding, Delay, RetrySent, Over}
@@ -13,9 +13,12 @@ use Rattle.run_model.specs.declared.unit_view.UnitRole.{UnitRole}
 use Rattle.run_model.specs.declared.unit_view.UnitRole.TheVariants as roles
 use Rattle.run_model.specs.declared.unit_view.UnitView.{UnitView}
 use Rattle.run_model.specs.Environment.{number, start_ask}
-use Rattle.run_model.specs.Unit.{Row, at_moment, row_at, takes_at, finish_message, failure_message, script_finish}
-use Rattle.run_model.specs.Unit.{requested, take_row, quiet, has_retry, next_delay, delayed, decided, decide_row}
-use Rattle.run_model.specs.Unit.{retry_message, retried, at_next, last_status}
+use Rattle.run_model.specs.Ending.{last_status}
+use Rattle.run_model.specs.Row.{Row, quiet}
+use Rattle.run_model.specs.Retries.{finish_message, failure_message, script_finish, has_retry, next_delay, delayed}
+use Rattle.run_model.specs.Retries.{decided, decide_row, retry_message, retried}
+use Rattle.run_model.specs.Requests.{requested, take_row}
+use Rattle.run_model.specs.Unit.{at_moment, row_at, takes_at, at_next}
 use Rattle.run_model.specs.Admission.{is_last}
 use Rattle.run_model.specs.Story.{begins_attempt}
 use Rattle.run_laws.proofs.units.OpenRows.{is_open, Keeps, same, IsReport, Moves, IsForOwn, IsNoStart, IsReportOf}
@@ -72,7 +75,27 @@ row_passes now Take u is = by_line u.line
         → Passes u (requested now Delay request (record u { line = line }))
     by_request (Shutdown request) line = over (Shutdown request) line refl
     by_request OtherCancel line = over OtherCancel line refl
-    by_request request line = still line
+    by_request (Stop round) line = record {
+      keeps = record { role = refl; command = refl; around = refl; terms = refl; latest = refl };
+      attempt = refl;
+      statuses = refl;
+      asked = refl;
+      way = inl (is, refl);
+    }
+    by_request Continue line = record {
+      keeps = record { role = refl; command = refl; around = refl; terms = refl; latest = refl };
+      attempt = refl;
+      statuses = refl;
+      asked = refl;
+      way = inl (is, refl);
+    }
+    by_request (GetInfo round) line = record {
+      keeps = record { role = refl; command = refl; around = refl; terms = refl; latest = refl };
+      attempt = refl;
+      statuses = refl;
+      asked = refl;
+      way = inl (is, refl);
+    }
 
     by_line : (line : List Request) → Passes u (take_row now Delay line u)
     by_line [] = still u.line

@@ -1,5 +1,5 @@
 -- The timer of an attempt that is slow, as its unit keeps it and as its turns say.
-use Rattle.std.proofs.Common.{◌≡◌, ℕ, ◌≤◌, List, [], ◌∷◌, Bool, true, false, ◌==◌, Some, None, option_map, refl, ap}
+use Rattle.std.proofs.Common.{◌≡◌, ℕ, ◌≤◌, List, [], ◌∷◌, Bool, true, false, ◌==◌, Some, None, refl, ap}
 use Rattle.std.proofs.Common.{sym, subst, ◌∙◌}
 use Rattle.run_clock.specs.Sleep.{set_at, fires_now}
 use Rattle.run_model.specs.declared.phase.Phase.TheVariants.{Running, Grace, KillWait}
@@ -10,9 +10,10 @@ use Rattle.run_model.specs.Slow.{one_more, is_out_of_time}
 use Rattle.run_model.specs.Unit.{slow_timer_at}
 use Rattle.run_model.specs.Story.{OwnTurn, any_is}
 use Rattle.run_model.specs.Timing.{ends_wait, starts_child, slow_count, has_timed_out, slow_timer, timer_of}
+use Rattle.run_model.proofs.PauseLemmas.{keeps_set}
 use Rattle.run_laws.proofs.units.CaptureLemmas.{taken}
 use Rattle.run_laws.proofs.units.StandingLemmas.{is_in_grace, grace_next, slow_timer_by, count_slow}
-use Rattle.run_laws.proofs.units.TimerLemmas.{HasTimer, timer_known, timer_of-runs, timer_of-grace, sleep_of, IsSetBy}
+use Rattle.run_laws.proofs.units.TimerLemmas.{HasTimer, timer_known, timer_of-runs, timer_of-grace, KeepsSome, IsSetBy}
 use Rattle.run_laws.proofs.units.TimerLemmas.{set_now, set_now_by, set_now_sleeps}
 
 -- where its timer is due while its child runs, it has not run out of time
@@ -26,7 +27,7 @@ in_time terms t now latest piece waited h due = by_out (has_timed_out terms.slow
     by_out true e =
         let over : timer_of terms piece ≡ None
         = timer_of-runs terms piece waited h.stage.1 ∙ slow_timer_by terms piece true e in
-        let none : t.slow ≡ None = h.waits_for ∙ ap (option_map sleep_of) over in
+        let none : t.slow ≡ None = subst (λ timer. KeepsSome timer t.slow) over h.waits_for in
         let never : false ≡ true = rw none at due in
         cc
 
@@ -54,7 +55,7 @@ timer_again terms after now latest piece le slow is next =
     (timer_of-runs terms (t ∷ piece) is.waited runs
     ∙ slow_timer_by terms (t ∷ piece) false (out_next terms now piece false is next)
     ∙ rw (is.waited, is.grace, is.in_time, is.child) refl) (set_now_by terms now latest le)
-    (slow ∙ set_now_sleeps terms now) (is.child, runs)
+    (subst (KeepsSome (set_now terms now)) (sym slow) (set_now_sleeps terms now)) (is.child, runs)
   where
     t : OwnTurn
     t = taken now Due None
@@ -71,8 +72,9 @@ timer_grace terms after now latest piece le wait slow is next some =
     timer_known terms Grace after latest (t ∷ piece)
     (Some (record { set = now; duration = terms.slow.grace; past = [] }))
     (timer_of-grace terms (t ∷ piece) is.waited given
-    ∙ rw (is.waited, is.grace, is.in_time, next, some) refl) (refl, le) wait
-    (is.child, given, slow ∙ sym (ap (option_map sleep_of) none), subst (IsSetBy latest) (sym none) tt)
+    ∙ rw (is.waited, is.grace, is.in_time, next, some) refl) le
+    (set_at now terms.slow.grace, (wait, keeps_set now terms.slow.grace))
+    (is.child, given, subst (λ timer. KeepsSome timer after.slow) (sym none) slow, subst (IsSetBy latest) (sym none) tt)
   where
     t : OwnTurn
     t = taken now Due None

@@ -1,14 +1,14 @@
 -- How an attempt stands after one more turn: how often it was slow, and whether its child is given time to end.
-use Rattle.std.proofs.Common.{◌≡◌, ◌||◌, ℕ, List, ◌∷◌, Bool, true, false, not, ◌&&◌, if◌then◌else◌, Option, Some}
-use Rattle.std.proofs.Common.{None, is_some, refl, ap, ◌∙◌, arith}
-use Rattle.run_clock.specs.Counted.{Timer}
+use Rattle.std.proofs.Common.{◌≡◌, ◌||◌, ℕ, List, [], ◌∷◌, Bool, true, false, not, ◌&&◌, if◌then◌else◌, Option, Some}
+use Rattle.std.proofs.Common.{None, option_map, is_some, refl, ap, ◌∙◌, arith}
+use Rattle.run_clock.specs.Counted.{Timer, Act, mark_of, marked}
 use Rattle.run_events.specs.declared.plan.SlowTimeout.{SlowTimeout}
 use Rattle.run_model.specs.declared.unit_turn.UnitTurn.TheVariants.{Due}
 use Rattle.run_model.specs.declared.unit_view.AttemptTerms.{AttemptTerms}
 use Rattle.run_model.specs.Slow.{one_more, ends_after, is_out_of_time}
 use Rattle.run_model.specs.Story.{OwnTurn, any_is}
 use Rattle.run_model.specs.Timing.{ends_wait, starts_child, is_due_turn, signal_of, gives_time, Standing, standing}
-use Rattle.run_model.specs.Timing.{standing_after, slow_count, has_timed_out, sets_slow, timer_since, slow_timer}
+use Rattle.run_model.specs.Timing.{standing_after, slow_count, has_timed_out, sets_slow, timer_since, slow_timer, pause_at}
 use Rattle.run_laws.proofs.units.CaptureLemmas.{taken}
 
 -- whether its child is given time to end by itself
@@ -102,18 +102,47 @@ pub slow_timer_by : (terms : AttemptTerms) (piece : List OwnTurn) (out : Bool) �
     → slow_timer terms piece ≡ slow_timer_if terms piece out
 slow_timer_by terms piece out e = ap (slow_timer_if terms piece) e
 
--- a turn that isn't due says nothing of it, unless its child starts
+-- a turn that isn't due, and takes no stop and no continue, says nothing of it, unless its child starts
 pub slow_timer-still : (terms : AttemptTerms) (t : OwnTurn) (piece : List OwnTurn) → is_due_turn t.turn ≡ false
-    → starts_child t.turn ≡ false → slow_timer terms (t ∷ piece) ≡ slow_timer terms piece
-slow_timer-still terms t piece due starts =
+    → starts_child t.turn ≡ false → pause_at t.moment t.request ≡ []
+    → slow_timer terms (t ∷ piece) ≡ slow_timer terms piece
+slow_timer-still terms t piece due starts goes_on =
     slow_timer_by terms (t ∷ piece) (has_timed_out terms.slow piece)
     (ap (is_out_of_time terms.slow) (count_still terms.slow t piece due))
     ∙ by_wait (any_is ends_wait piece) refl
   where
     by_wait : (w : Bool) → any_is ends_wait piece ≡ w
         → slow_timer_if terms (t ∷ piece) (has_timed_out terms.slow piece) ≡ slow_timer terms piece
-    by_wait true e = rw (e, starts) refl
-    by_wait false e = rw (e, due, starts) refl
+    by_wait true e = rw (e, starts, goes_on) refl
+    by_wait false e = rw (e, due, starts, goes_on) refl
+
+-- one that takes a stop or a continue marks it
+marked_either : (mark : Timer → Timer) (none started : Bool) (timer : Timer)
+    → (if none then None else if started then Some (mark timer) else None)
+    ≡ option_map mark (if none then None else if started then Some timer else None)
+marked_either mark true started timer = refl
+marked_either mark false true timer = refl
+marked_either mark false false timer = refl
+
+pub slow_timer-marked : (terms : AttemptTerms) (act : Act) (t : OwnTurn) (piece : List OwnTurn)
+    → is_due_turn t.turn ≡ false → starts_child t.turn ≡ false
+    → pause_at t.moment t.request ≡ mark_of act t.moment ∷ []
+    → slow_timer terms (t ∷ piece) ≡ option_map (marked act t.moment) (slow_timer terms piece)
+slow_timer-marked terms act t piece due starts marks =
+    slow_timer_by terms (t ∷ piece) (has_timed_out terms.slow piece)
+    (ap (is_out_of_time terms.slow) (count_still terms.slow t piece due))
+    ∙ by_wait (any_is ends_wait piece) refl
+    ∙ marked_either (marked act t.moment) (has_timed_out terms.slow piece || terms.disables_timeouts)
+    (any_is starts_child piece) (timer_since (sets_slow terms.slow) terms.slow.period piece)
+  where
+    by_wait : (w : Bool) → any_is ends_wait piece ≡ w
+        → slow_timer_if terms (t ∷ piece) (has_timed_out terms.slow piece)
+        ≡ (if has_timed_out terms.slow piece || terms.disables_timeouts then None
+        else if any_is starts_child piece
+        then Some (marked act t.moment (timer_since (sets_slow terms.slow) terms.slow.period piece))
+        else None)
+    by_wait true e = rw (e, starts, marks) refl
+    by_wait false e = rw (e, due, starts, marks) refl
 
 -- within the time that its child is given it isn't slow once more
 pub count_killed : (slow : SlowTimeout) (t : OwnTurn) (piece : List OwnTurn) → is_in_grace slow piece ≡ true
@@ -128,17 +157,17 @@ count_killed slow t piece grace = by_case (any_is ends_wait piece) (is_due_turn 
 
 -- and the timer until it is slow stays as it was
 pub slow_timer-killed : (terms : AttemptTerms) (t : OwnTurn) (piece : List OwnTurn) → is_in_grace terms.slow piece ≡ true
-    → any_is ends_wait piece ≡ false → starts_child t.turn ≡ false
+    → any_is ends_wait piece ≡ false → starts_child t.turn ≡ false → pause_at t.moment t.request ≡ []
     → slow_timer terms (t ∷ piece) ≡ slow_timer terms piece
-slow_timer-killed terms t piece grace waited starts =
+slow_timer-killed terms t piece grace waited starts goes_on =
     slow_timer_by terms (t ∷ piece) (has_timed_out terms.slow piece)
     (ap (is_out_of_time terms.slow) (count_killed terms.slow t piece grace))
     ∙ by_due (is_due_turn t.turn) refl
   where
     by_due : (d : Bool) → is_due_turn t.turn ≡ d
         → slow_timer_if terms (t ∷ piece) (has_timed_out terms.slow piece) ≡ slow_timer terms piece
-    by_due true e = rw (waited, e, starts, grace) refl
-    by_due false e = rw (waited, e, starts) refl
+    by_due true e = rw (waited, e, starts, grace, goes_on) refl
+    by_due false e = rw (waited, e, starts, goes_on) refl
 
 -- where its timer is due, and it has not run out of time, it is slow once more
 pub count_slow : (slow : SlowTimeout) (now : ℕ) (piece : List OwnTurn) → any_is ends_wait piece ≡ false

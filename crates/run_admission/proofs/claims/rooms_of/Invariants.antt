@@ -1,6 +1,7 @@
 use Rattle.std.proofs.Common.{◌≡◌, map, take}
+use Rattle.std.specs.List.{zip}
 use Rattle.run_admission.specs.Kept.{unused}
 use Rattle.run_admission.proofs.claims.rooms_of.Given as goal
 
-abbrev pub invariant-loop-group : goal.invariant-loop-group
-invariant-loop-group l = l.rooms.items ≡ map (λ g. unused l.slots g.limit) (take l.group-index l.groups)
+abbrev pub invariant-loop-place : goal.invariant-loop-place
+invariant-loop-place l = l.rooms.items ≡ map (λ r. unused r.0 r.1.limit) (take l.place (zip l.slots l.groups))

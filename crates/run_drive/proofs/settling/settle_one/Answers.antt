@@ -1,4 +1,4 @@
-use Rattle.std.proofs.Common.{◌≡◌, List, [], ◌∷◌, length, length-append, sym, subst, ap, arith}
+use Rattle.std.proofs.Common.{List, [], ◌∷◌, length, length-append, sym, subst, ap, arith}
 use Rattle.run_shared.specs.declared.shared.Receipt.{Receipt}
 use Rattle.run_drive.specs.Added.{SettlesSome}
 use Rattle.run_drive.proofs.AddedLemmas.{settles_one}

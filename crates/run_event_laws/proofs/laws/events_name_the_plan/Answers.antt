@@ -1,5 +1,5 @@
 use Rattle.std.proofs.Common.{reverse}
-use Rattle.run_event_laws.proofs.PlanMessages.{events_named}
+use Rattle.run_event_laws.proofs.AnswersNamed.{events_named}
 use Rattle.run_event_laws.proofs.laws.events_name_the_plan.Goals as goal
 
 pub returns : goal.returns

@@ -1,7 +1,7 @@
 use Rattle.std.proofs.Common.{option_map}
 use Rattle.std.proofs.lemmas.List.Edits.{map_over_more}
 use Rattle.run_model.specs.Unit.{reached}
-use Rattle.run_state.proofs.CountedLemmas.{failed_left}
+use Rattle.run_state.proofs.CountedLemmas.{failed_left, failed_live, some_live}
 use Rattle.run_state.proofs.PlaceLemmas.{kinds-failed, kinds-some}
 use Rattle.run_state.proofs.WorkingLemmas.{working-failed, working-some}
 use Rattle.run_state.proofs.broadcast.reach_each.Goals as goal
@@ -33,3 +33,12 @@ returns-in_err-reach-clause-working c =
 pub returns-clause-working : goal.returns-clause-working
 returns-clause-working c =
     working-some c.args.request c.loop-unit.unit-index c.args.units.now c.loop-unit.units c.loop-unit.invariant
+
+pub returns-in_err-reach-clause-live : goal.returns-in_err-reach-clause-live
+returns-in_err-reach-clause-live c =
+    failed_live c.args.request c.loop-unit.unit-index c.args.units.now c.loop-unit.units c.loop-unit.unit-index
+    c.reach.new.unit c.unit-item.result c.loop-unit.invariant c.in_err-reach.ensures.err
+
+pub returns-clause-live : goal.returns-clause-live
+returns-clause-live c =
+    some_live c.args.request c.loop-unit.unit-index c.args.units.now c.loop-unit.units c.loop-unit.invariant

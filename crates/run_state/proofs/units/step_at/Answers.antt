@@ -1,4 +1,4 @@
-use Rattle.std.proofs.Common.{◌≡◌, Some, sym, ap, ◌∙◌, option_and_then, option_map, slice_set}
+use Rattle.std.proofs.Common.{◌≡◌, [], Some, sym, ap, ◌∙◌, option_and_then, option_map, slice_set, unwrap_or}
 use Rattle.std.proofs.lemmas.Option.{same_Some}
 use Rattle.run_model.specs.declared.unit_view.UnitView.{UnitView}
 use Rattle.run_model.specs.Admission.{is_done}
@@ -35,6 +35,17 @@ returns-clause-asked c =
     ∙ stands_same us c.args.unit u c.index_mut.result.now c.requires.1 in
     c.in_ok-effects-in-Some.ensures.row.asked
     ∙ sym (ap (option_and_then (λ (v : UnitView). (row c.args.now c.args.turn v).asked)) (c.requires.1 ∙ sym same))
+
+pub returns-clause-info : goal.returns-clause-info
+returns-clause-info c =
+    let us = c.args.units.now.items in
+    let u = c.requires.0 in
+    let same : Some c.in-Some.member ≡ Some u =
+    sym c.in-Some.is ∙ c.index_mut.ensures.value
+    ∙ stands_same us c.args.unit u c.index_mut.result.now c.requires.1 in
+    c.in_ok-effects-in-Some.ensures.row.info
+    ∙ sym (ap (λ o. unwrap_or (option_map (λ (v : UnitView). (row c.args.now c.args.turn v).info) o) [])
+    (c.requires.1 ∙ sym same))
 
 pub returns-clause-over : goal.returns-clause-over
 returns-clause-over c =

@@ -1,5 +1,9 @@
 use Rattle.std.proofs.Common.{◌≡◌, length, ap, sym, subst, ◌∙◌, arith, slice_get}
+use Rattle.std.proofs.Common.{set, unwrap_or}
 use Rattle.std.specs.Vec.{with_items}
+use Rattle.run_admission.specs.Lined.{room_of}
+use Rattle.run_admission.specs.declared.seat.Seat.TheVariants.{Gone}
+use Rattle.run_admission.proofs.ReadyLemmas.{line_low, release_ready, within_of}
 use Rattle.std.proofs.lemmas.List.{get_or_read, with_items_is}
 use Rattle.run_admission.specs.declared.seat.Claim.{Claim}
 use Rattle.run_admission.specs.InUse.{is_test_in_use, released}
@@ -11,58 +15,98 @@ use Rattle.run_admission.proofs.admission.Admission.release.Goals as goal
 pub give_back-requires : goal.give_back-requires
 give_back-requires c =
     let v = c.self.inside in
-    let can = may_leave v.first v.whole v.groups.items v.claims.items v.seats.items c.args.test _ _ c.index.result.now
-    c.self.invariant (ap (λ a. is_test_in_use a c.args.test) c.self.view_is
+    let can = may_leave v.waiting v.whole v.groups.items v.claims.items v.seats.items c.args.test _ _ c.index.result.now
+    c.self.invariant.kept (ap (λ a. is_test_in_use a c.args.test) c.self.view_is
     ∙ c.requires) c.index.ensures c.in-InUse.is in
     let of = get_or_read v.claims.items c.args.test c.index-claim.result.now
-    (omega (arith, can.inside, c.self.invariant.paired))
+    (omega (arith, can.inside, c.self.invariant.kept.paired))
     c.index-claim.ensures nobody.0 in
     subst (λ (d : Claim). CanGive v.whole c.in-InUse.global d.weight) (sym of) can.can
 
 pub give_in_group-requires-clause-there : goal.give_in_group-requires-clause-there
 give_in_group-requires-clause-there c =
     let v = c.self.inside in
-    let can = may_leave v.first v.whole v.groups.items v.claims.items v.seats.items c.args.test _ _ c.index.result.now
-    c.self.invariant (ap (λ a. is_test_in_use a c.args.test) c.self.view_is
+    let can = may_leave v.waiting v.whole v.groups.items v.claims.items v.seats.items c.args.test _ _ c.index.result.now
+    c.self.invariant.kept (ap (λ a. is_test_in_use a c.args.test) c.self.view_is
     ∙ c.requires) c.index.ensures c.in-InUse.is in
     let of = get_or_read v.claims.items c.args.test c.index-claim.result.now
-    (omega (arith, can.inside, c.self.invariant.paired))
+    (omega (arith, can.inside, c.self.invariant.kept.paired))
     c.index-claim.ensures nobody.0 in
     λ g e. omega (
       arith,
-      c.self.invariant.members c.args.test g (ap (λ (d : Claim). d.group) (sym of) ∙ e),
+      c.self.invariant.kept.members c.args.test g (ap (λ (d : Claim). d.group) (sym of) ∙ e),
       ap length c.deref_mut.ensures.value,
     )
 
 pub give_in_group-requires-clause-held : goal.give_in_group-requires-clause-held
 give_in_group-requires-clause-held c =
     let v = c.self.inside in
-    let can = may_leave v.first v.whole v.groups.items v.claims.items v.seats.items c.args.test _ _ c.index.result.now
-    c.self.invariant (ap (λ a. is_test_in_use a c.args.test) c.self.view_is
+    let can = may_leave v.waiting v.whole v.groups.items v.claims.items v.seats.items c.args.test _ _ c.index.result.now
+    c.self.invariant.kept (ap (λ a. is_test_in_use a c.args.test) c.self.view_is
     ∙ c.requires) c.index.ensures c.in-InUse.is in
     let of = get_or_read v.claims.items c.args.test c.index-claim.result.now
-    (omega (arith, can.inside, c.self.invariant.paired))
+    (omega (arith, can.inside, c.self.invariant.kept.paired))
     c.index-claim.ensures nobody.0 in
     λ g n u e slot at. subst (λ (d : Claim). CanGive u n d.weight) (sym of)
     (can.cans g n u (ap (λ (d : Claim). d.group) (sym of) ∙ e) slot
     (ap (λ l. slice_get l g) (sym c.deref_mut.ensures.value) ∙ at))
 
-pub invariant_of-self : goal.invariant_of-self
-invariant_of-self c =
+pub room_of-room-requires : goal.room_of-room-requires
+room_of-room-requires c =
     let v = c.self.inside in
-    let can = may_leave v.first v.whole v.groups.items v.claims.items v.seats.items c.args.test _ _ c.index.result.now
-    c.self.invariant (ap (λ a. is_test_in_use a c.args.test) c.self.view_is
-    ∙ c.requires) c.index.ensures c.in-InUse.is in
+    let w = c.self.invariant in
+    let can = may_leave v.waiting v.whole v.groups.items v.claims.items v.seats.items c.args.test _ _ c.index.result.now
+    w.kept (ap (λ a. is_test_in_use a c.args.test) c.self.view_is ∙ c.requires) c.index.ensures c.in-InUse.is in
     let claim = c.index-claim.result.now in
-    let of = get_or_read v.claims.items c.args.test claim (omega (arith, can.inside, c.self.invariant.paired))
+    let of = get_or_read v.claims.items c.args.test claim (omega (arith, can.inside, w.kept.paired))
     c.index-claim.ensures nobody.0 in
     let after : c.give_in_group.new.groups ≡ give_in v.groups.items claim.group c.in-InUse.group claim.weight =
     c.give_in_group.ensures ∙ ap (λ l. give_in l claim.group c.in-InUse.group claim.weight) c.deref_mut.ensures.value in
     let many : length c.give_in_group.new.groups ≡ v.groups.len =
     omega (arith, ap length after, length_give_in v.groups.items claim.group c.in-InUse.group claim.weight) in
-    release_kept v.first v.whole _ v.groups.items (with_items v.groups c.give_in_group.new.groups).items v.claims.items
-    v.seats.items c.args.test _ _ claim c.self.invariant can of c.give_back.ensures
-    (with_items_is v.groups c.give_in_group.new.groups many ∙ after)
+    λ g u e. within_of v.waiting c.give_back.new.self (with_items v.groups c.give_in_group.new.groups).items v.claims.items (set v.seats.items c.args.test Gone)
+    (release_kept v.waiting v.whole c.give_back.new.self v.groups.items (with_items v.groups c.give_in_group.new.groups).items v.claims.items v.seats.items c.args.test _ _
+    claim w.kept can of c.give_back.ensures (with_items_is v.groups c.give_in_group.new.groups many ∙ after)) g u
+    (ap (λ l. slice_get l g) (sym c.deref.ensures.value) ∙ e)
+
+pub refresh-requires : goal.refresh-requires
+refresh-requires c =
+    let v = c.self.inside in
+    let w = c.self.invariant in
+    let can = may_leave v.waiting v.whole v.groups.items v.claims.items v.seats.items c.args.test _ _ c.index.result.now
+    w.kept (ap (λ a. is_test_in_use a c.args.test) c.self.view_is ∙ c.requires) c.index.ensures c.in-InUse.is in
+    let claim = c.index-claim.result.now in
+    let of = get_or_read v.claims.items c.args.test claim (omega (arith, can.inside, w.kept.paired))
+    c.index-claim.ensures nobody.0 in
+    let after : c.give_in_group.new.groups ≡ give_in v.groups.items claim.group c.in-InUse.group claim.weight =
+    c.give_in_group.ensures ∙ ap (λ l. give_in l claim.group c.in-InUse.group claim.weight) c.deref_mut.ensures.value in
+    let many : length c.give_in_group.new.groups ≡ v.groups.len =
+    omega (arith, ap length after, length_give_in v.groups.items claim.group c.in-InUse.group claim.weight) in
+    line_low v.waiting v.whole v.groups.items v.lines v.claims.items v.seats.items c.args.test claim c.len.result w of
+    (omega (arith, many, ap length after, length_give_in v.groups.items claim.group c.in-InUse.group claim.weight))
+    c.unwrap_or-line.result c.unwrap_or-line.ensures
+
+pub invariant_of-self : goal.invariant_of-self
+invariant_of-self c =
+    let v = c.self.inside in
+    let w = c.self.invariant in
+    let can = may_leave v.waiting v.whole v.groups.items v.claims.items v.seats.items c.args.test _ _ c.index.result.now
+    w.kept (ap (λ a. is_test_in_use a c.args.test) c.self.view_is ∙ c.requires) c.index.ensures c.in-InUse.is in
+    let claim = c.index-claim.result.now in
+    let of = get_or_read v.claims.items c.args.test claim (omega (arith, can.inside, w.kept.paired))
+    c.index-claim.ensures nobody.0 in
+    let after : c.give_in_group.new.groups ≡ give_in v.groups.items claim.group c.in-InUse.group claim.weight =
+    c.give_in_group.ensures ∙ ap (λ l. give_in l claim.group c.in-InUse.group claim.weight) c.deref_mut.ensures.value in
+    let many : length c.give_in_group.new.groups ≡ v.groups.len =
+    omega (arith, ap length after, length_give_in v.groups.items claim.group c.in-InUse.group claim.weight) in
+    let low = line_low v.waiting v.whole v.groups.items v.lines v.claims.items v.seats.items c.args.test claim
+    c.len.result w of
+    (omega (arith, many, ap length after, length_give_in v.groups.items claim.group c.in-InUse.group claim.weight))
+    c.unwrap_or-line.result c.unwrap_or-line.ensures in
+    release_ready v.waiting v.whole _ v.groups.items (with_items v.groups c.give_in_group.new.groups).items v.lines c.refresh.new.self v.claims.items v.seats.items
+    c.args.test _ c.unwrap_or-line.result c.room_of-room.result _ claim w can of c.give_back.ensures (with_items_is v.groups c.give_in_group.new.groups many ∙ after) low
+    (λ h e. c.unwrap_or-line.ensures ∙ ap (λ o. unwrap_or o c.len.result) e)
+    (c.room_of-room.ensures ∙ ap (λ l. room_of l c.unwrap_or-line.result) c.deref.ensures.value) c.refresh.ensures
 
 pub returns-in-InUse : goal.returns-in-InUse
 returns-in-InUse c =

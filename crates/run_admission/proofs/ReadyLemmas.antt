@@ -1,0 +1,290 @@
+-- The lines, as a test is skipped, runs and is released.
+use Rattle.std.proofs.Common.{◌≡◌, ◌≢◌, ℕ, zero, suc, ◌<◌, ◌==◌, ◌&&◌, ◌||◌, List, [], ◌∷◌, length, get_or, set, map, Bool, true}
+use Rattle.std.proofs.Common.{if◌then◌else◌, Some}
+use Rattle.std.specs.Option.{option_map_or}
+use Rattle.std.proofs.Common.{false, not, ◌+◌, ◌-◌, Option, None, replicate, unwrap_or, slice_get, refl, ap, sym, subst, ◌∙◌, arith, get_or-set_other}
+use Rattle.std.proofs.Math.ListN.{length-set}
+use Rattle.std.proofs.lemmas.Grind.{get_or-set_at}
+use Rattle.std.proofs.lemmas.List.{length-map}
+use Rattle.run_admission.specs.declared.seat.Claim.{Claim}
+use Rattle.run_admission.specs.declared.seat.Seat.{Seat}
+use Rattle.run_admission.specs.declared.seat.Seat.TheVariants.{Waiting, InUse, Gone}
+use Rattle.run_admission.specs.declared.seat.Candidate.TheVariants.{Skip, Fits}
+use Rattle.run_admission.specs.InUse.{candidate, is_waiting}
+use Rattle.run_admission.specs.Kept.{Use, IsWhole, nobody, comes, fits_in, seen, free_in, free_within, take_of, take_in}
+use Rattle.run_admission.specs.Kept.{give_back, give_in}
+use Rattle.run_admission.specs.Lined.{Queue, Queues, IsFirst, IsLined, IsQueued, IsReady, empty}
+use Rattle.run_admission.specs.Lined.{without, line_of, room_of}
+use Rattle.run_admission.proofs.LineLemmas.{AreWithin, comes_other, head_is, line_inside, lined_leave, lined_moves}
+use Rattle.run_admission.proofs.QueueLemmas.{AreThere, queued_after, take_other, give_other}
+use Rattle.run_admission.proofs.WaitLemmas.{one_fewer}
+use Rattle.run_admission.proofs.WholeLemmas.{CanRun, CanLeave, skip_whole}
+use Rattle.run_admission.proofs.RuleLemmas.{can_skip, can_run, run_kept, release_kept, limits_take, limits_give}
+
+pub within_of : (waiting : ℕ) (whole : Use) (us : List Use) (claims : List Claim) (seats : List Seat)
+    → IsWhole waiting whole us claims seats → AreWithin us
+within_of waiting whole us claims seats w g u e = (w.groups g u e).within
+
+-- as many groups where the limits are the same
+same_many : (us afters : List Use) → map (λ u. u.limit) afters ≡ map (λ u. u.limit) us → length afters ≡ length us
+same_many us afters is =
+    omega (arith, ap length is, length-map afters (λ (u : Use). u.limit), length-map us (λ (u : Use). u.limit))
+
+-- a test leaves its line, as its group's limit changes or stays
+pub queued_leave : (us afters : List Use) (claims : List Claim) (seats : List Seat) (q : Queues) (t line room first : ℕ)
+    (s : Seat) (lines : List Queue) → length claims ≡ length seats → AreThere us claims → IsQueued us claims seats q
+    → map (λ u. u.limit) afters ≡ map (λ u. u.limit) us → AreWithin afters → t < length claims → is_waiting s ≡ false
+    → line ≡ line_of (map (λ u. u.limit) us) (get_or claims t nobody.0)
+    → ((g : ℕ) → g ≢ line → slice_get afters g ≡ slice_get us g)
+    → lines ≡ set q.lines line (without (get_or q.lines line empty) (get_or q.places t 0))
+    → room ≡ room_of afters line → IsFirst (get_or lines line empty) room first
+    → IsQueued afters claims (set seats t s)
+    (record { lines = lines; places = q.places; firsts = set q.firsts line first })
+queued_leave us afters claims seats q t line room first s lines paired there queued limits within inside gone of others
+    is left found =
+    queued_after us afters claims seats (set seats t s) q lines line first queued limits lined low same
+    (head_is afters (map (λ u. u.limit) us) claims (set seats t s) lines q.places line room first limits within
+    (λ k g e. omega (arith, there k g e, same_many us afters limits)) lined low left found)
+  where
+    known : line_of (map (λ u. u.limit) us) (get_or claims t nobody.0) < length q.lines
+    known =
+        omega (
+          arith,
+          line_inside (map (λ (u : Use). u.limit) us) (get_or claims t nobody.0)
+              (λ g e. omega (arith, there t g e, length-map us (λ (u : Use). u.limit))),
+          queued.lined.count,
+        )
+
+    lined : IsLined (map (λ u. u.limit) us) claims (set seats t s) lines q.places
+    lined =
+        subst (λ l. IsLined (map (λ u. u.limit) us) claims (set seats t s) l q.places)
+        (sym (is ∙ ap (λ x. set q.lines x (without (get_or q.lines x empty) (get_or q.places t 0))) of))
+        (lined_leave (map (λ u. u.limit) us) claims seats q.lines q.places t s queued.lined paired inside known gone)
+
+    low : line < length lines
+    low =
+        omega (
+          arith,
+          known,
+          of,
+          ap length is,
+          length-set q.lines line (without (get_or q.lines line empty) (get_or q.places t 0)),
+        )
+
+    same : (k : ℕ) → k < length claims → line_of (map (λ u. u.limit) us) (get_or claims k nobody.0) ≢ line
+        → comes afters (get_or claims k nobody.0, get_or (set seats t s) k Gone)
+        ≡ comes us (get_or claims k nobody.0, get_or seats k Gone)
+    same k k_in apart =
+        let other : k ≢ t =
+        λ e. apart (ap (λ k. line_of (map (λ (u : Use). u.limit) us) (get_or claims k nobody.0)) e ∙ sym of) in
+        ap (λ s. comes afters (get_or claims k nobody.0, s)) (get_or-set_other seats t k s Gone other)
+        ∙ comes_other us afters (map (λ u. u.limit) us) line (get_or claims k nobody.0) (get_or seats k Gone) others
+        apart
+
+-- of a test that doesn't wait, and moves to another seat in which it doesn't, and of all others
+waits_same : (seats : List Seat) (t k : ℕ) → t < length seats → is_waiting (get_or seats t Gone) ≡ false
+    → is_waiting (get_or (set seats t Gone) k Gone) ≡ is_waiting (get_or seats k Gone)
+waits_same seats t k inside was = by_place (k == t) refl
+  where
+    by_place : (b : Bool) → (k == t) ≡ b → is_waiting (get_or (set seats t Gone) k Gone) ≡ is_waiting (get_or seats k Gone)
+    by_place true e =
+        let is : k ≡ t = grind arith in
+        ap is_waiting (get_or-set_at seats t k Gone Gone is inside) ∙ sym was
+        ∙ ap (λ k. is_waiting (get_or seats k Gone)) (sym is)
+    by_place false e =
+        let apart : k ≢ t = grind arith in ap is_waiting (get_or-set_other seats t k Gone Gone apart)
+
+-- a test of a group is released
+pub queued_release : (us afters : List Use) (claims : List Claim) (seats : List Seat) (q : Queues)
+    (t line room first : ℕ) → length claims ≡ length seats → AreThere us claims → IsQueued us claims seats q
+    → map (λ u. u.limit) afters ≡ map (λ u. u.limit) us → AreWithin afters → t < length claims
+    → is_waiting (get_or seats t Gone) ≡ false → line < length q.lines
+    → ((g : ℕ) → g ≢ line → slice_get afters g ≡ slice_get us g)
+    → room ≡ room_of afters line → IsFirst (get_or q.lines line empty) room first
+    → IsQueued afters claims (set seats t Gone)
+    (record { lines = q.lines; places = q.places; firsts = set q.firsts line first })
+queued_release us afters claims seats q t line room first paired there queued limits within inside was low others left found =
+    queued_after us afters claims seats (set seats t Gone) q q.lines line first queued limits lined low same
+    (head_is afters (map (λ u. u.limit) us) claims (set seats t Gone) q.lines q.places line room first limits within
+    (λ k g e. omega (arith, there k g e, same_many us afters limits)) lined low left found)
+  where
+    still : (k : ℕ) → is_waiting (get_or (set seats t Gone) k Gone) ≡ is_waiting (get_or seats k Gone)
+    still k = waits_same seats t k (omega arith) was
+
+    lined : IsLined (map (λ u. u.limit) us) claims (set seats t Gone) q.lines q.places
+    lined = lined_moves (map (λ u. u.limit) us) claims seats (set seats t Gone) q.lines q.places still queued.lined
+
+    same : (k : ℕ) → k < length claims → line_of (map (λ u. u.limit) us) (get_or claims k nobody.0) ≢ line
+        → comes afters (get_or claims k nobody.0, get_or (set seats t Gone) k Gone)
+        ≡ comes us (get_or claims k nobody.0, get_or seats k Gone)
+    same k k_in apart =
+        let c = get_or claims k nobody.0 in
+        ap (λ b. b && (not c.matched || fits_in afters c)) (still k)
+        ∙ comes_other us afters (map (λ u. u.limit) us) line c (get_or seats k Gone) others apart
+
+-- the line of a test that matches is that of its group
+pub line_matched : (limits : List ℕ) (c : Claim) (g : ℕ) → c.matched ≡ true → c.group ≡ Some g → line_of limits c ≡ g
+line_matched limits c g is of =
+    ap (λ m. if m then option_map_or (λ g. g) c.group (length limits) else length limits) is
+    ∙ ap (λ o. option_map_or (λ g. g) o (length limits)) of
+
+-- a seat at one of the places, whatever stands past the end
+pub get_default : {X : Type 0} (xs : List X) (i : ℕ) (d e : X) → i < length xs → get_or xs i d ≡ get_or xs i e
+get_default [] i d e h = absurd (omega arith)
+get_default (x ∷ xs) zero d e h = refl
+get_default (x ∷ xs) (suc i) d e h = get_default xs i d e (omega arith)
+
+-- a test stands in its line
+pub record InLine (q : Queues) (t line : ℕ) : Type 0 where
+  pub low : line < length q.lines
+  pub known : t < length q.places
+  pub here : get_or q.places t 0 < length (get_or q.lines line empty).tests
+
+pub in_line : (waiting : ℕ) (whole : Use) (us : List Use) (q : Queues) (claims : List Claim) (seats : List Seat)
+    (t line : ℕ) → IsReady waiting whole us q claims seats → t < length seats
+    → line ≡ line_of (map (λ u. u.limit) us) (get_or claims t nobody.0) → InLine q t line
+in_line waiting whole us q claims seats t line w inside of = record {
+  low =
+      omega (
+        arith,
+        line_inside (map (λ (u : Use). u.limit) us) (get_or claims t nobody.0)
+            (λ g e. omega (arith, w.kept.members t g e, length-map us (λ (u : Use). u.limit))),
+        w.queued.lined.count,
+        of,
+      );
+  known = omega (arith, w.queued.lined.all, w.kept.paired);
+  here = omega (
+    arith,
+    w.queued.lined.inside t (omega (arith, w.kept.paired)),
+    ap (λ l. length (get_or q.lines l empty).tests) of,
+  );
+}
+
+-- the lines after a test left its own
+pub leave_queued : (waiting : ℕ) (whole : Use) (us afters : List Use) (q next after : Queues) (claims : List Claim)
+    (seats : List Seat) (t line room : ℕ) (s : Seat) → IsReady waiting whole us q claims seats
+    → map (λ u. u.limit) afters ≡ map (λ u. u.limit) us → AreWithin afters → t < length seats → is_waiting s ≡ false
+    → line ≡ line_of (map (λ u. u.limit) us) (get_or claims t nobody.0)
+    → ((g : ℕ) → g ≢ line → slice_get afters g ≡ slice_get us g)
+    → next ≡ record q { lines = set q.lines line (without (get_or q.lines line empty) (get_or q.places t 0)) }
+    → room ≡ room_of afters line
+    → (first : ℕ) × IsFirst (get_or next.lines line empty) room first
+    × (after ≡ record next { firsts = set next.firsts line first })
+    → IsQueued afters claims (set seats t s) after
+leave_queued waiting whole us afters q next after claims seats t line room s w limits within inside gone of others is
+    left found =
+    subst (IsQueued afters claims (set seats t s))
+    (sym (found.2 ∙ ap (λ (x : Queues). renewed next.lines x line found.0) is))
+    (queued_leave us afters claims seats q t line room found.0 s next.lines w.kept.paired w.kept.members w.queued limits
+    within (omega (arith, w.kept.paired)) gone of others (ap (λ (x : Queues). x.lines) is) left found.1)
+  where
+    renewed : List Queue → Queues → ℕ → ℕ → Queues
+    renewed lines x line first = record { lines = lines; places = x.places; firsts = set x.firsts line first }
+
+-- a test is skipped
+pub skip_ready : (waiting : ℕ) (whole : Use) (us : List Use) (q next after : Queues) (claims : List Claim)
+    (seats : List Seat) (t line room : ℕ) → IsReady waiting whole us q claims seats
+    → candidate (seen whole us claims seats) ≡ Some (Skip t)
+    → line ≡ line_of (map (λ u. u.limit) us) (get_or claims t nobody.0)
+    → next ≡ record q { lines = set q.lines line (without (get_or q.lines line empty) (get_or q.places t 0)) }
+    → room ≡ room_of us line
+    → (first : ℕ) × IsFirst (get_or next.lines line empty) room first
+    × (after ≡ record next { firsts = set next.firsts line first })
+    → IsReady (waiting - 1) whole us after claims (set seats t Gone)
+skip_ready waiting whole us q next after claims seats t line room w is of leaves left found =
+    let can = can_skip waiting whole us claims seats t w.kept is in
+    record {
+      kept = skip_whole waiting (waiting - 1) whole us claims seats t w.kept can.0 can.1
+          (omega (arith, w.kept.waits, one_fewer seats t Gone can.0 can.1 refl));
+      queued = leave_queued waiting whole us us q next after claims seats t line room Gone w refl
+          (within_of waiting whole us claims seats w.kept) can.0 refl of (λ g apart. refl) leaves left found;
+    }
+
+-- a test runs
+pub run_ready : (waiting : ℕ) (whole after_whole : Use) (us afters : List Use) (q next after : Queues)
+    (claims : List Claim) (seats : List Seat) (t n line room : ℕ) (m : Option ℕ) (claim : Claim)
+    → IsReady waiting whole us q claims seats → candidate (seen whole us claims seats) ≡ Some (Fits t)
+    → claim ≡ get_or claims t nobody.0 → n ≡ free_in whole → m ≡ free_within us claim.group
+    → after_whole ≡ take_of whole t claim.weight → afters ≡ take_in us claim.group t claim.weight
+    → line ≡ line_of (map (λ u. u.limit) us) (get_or claims t nobody.0)
+    → next ≡ record q { lines = set q.lines line (without (get_or q.lines line empty) (get_or q.places t 0)) }
+    → room ≡ room_of afters line
+    → (first : ℕ) × IsFirst (get_or next.lines line empty) room first
+    × (after ≡ record next { firsts = set next.firsts line first })
+    → IsReady (waiting - 1) after_whole afters after claims (set seats t (InUse n m))
+run_ready waiting whole after_whole us afters q next after claims seats t n line room m claim w is read slot within all
+    parts of leaves left found =
+    record {
+      kept = kept;
+      queued = leave_queued waiting whole us afters q next after claims seats t line room (InUse n m) w
+          (ap (map (λ u. u.limit)) parts ∙ limits_take us claim.group t claim.weight)
+          (within_of (waiting - 1) after_whole afters claims (set seats t (InUse n m)) kept) can.inside refl of
+          (λ g apart. ap (λ l. slice_get l g) parts
+          ∙ take_other us claim.group t claim.weight g
+          (λ h e f. apart (f ∙ sym (of ∙ line_matched (map (λ u. u.limit) us) (get_or claims t nobody.0) h can.matched
+          (sym (ap (λ (c : Claim). c.group) read) ∙ e)))))
+          leaves left found;
+    }
+  where
+    can : CanRun whole us claims seats t
+    can = can_run waiting whole us claims seats t w.kept is
+
+    kept : IsWhole (waiting - 1) after_whole afters claims (set seats t (InUse n m))
+    kept =
+        run_kept waiting (waiting - 1) whole after_whole us afters claims seats t n m claim w.kept is read slot within all
+        parts (omega (arith, w.kept.waits, one_fewer seats t (InUse n m) can.inside can.waits refl))
+
+-- a test is released: the line of its group, or the last, is looked at anew
+pub release_ready : (waiting : ℕ) (whole after_whole : Use) (us afters : List Use) (q after : Queues)
+    (claims : List Claim) (seats : List Seat) (t n line room : ℕ) (m : Option ℕ) (claim : Claim)
+    → IsReady waiting whole us q claims seats → CanLeave whole us claims seats t n m
+    → claim ≡ get_or claims t nobody.0 → after_whole ≡ give_back whole n claim.weight
+    → afters ≡ give_in us claim.group m claim.weight → line < length q.lines
+    → ((h : ℕ) → claim.group ≡ Some h → line ≡ h)
+    → room ≡ room_of afters line
+    → (first : ℕ) × IsFirst (get_or q.lines line empty) room first
+    × (after ≡ record q { firsts = set q.firsts line first })
+    → IsReady waiting after_whole afters after claims (set seats t Gone)
+release_ready waiting whole after_whole us afters q after claims seats t n line room m claim w can read all parts low
+    own left found =
+    record {
+      kept = kept;
+      queued = subst (IsQueued afters claims (set seats t Gone)) (sym found.2)
+          (queued_release us afters claims seats q t line room found.0 w.kept.paired w.kept.members w.queued
+          (ap (map (λ u. u.limit)) parts ∙ limits_give us claim.group m claim.weight)
+          (within_of waiting after_whole afters claims (set seats t Gone) kept)
+          (omega (arith, can.inside, w.kept.paired))
+          (ap is_waiting (get_default seats t Gone Waiting can.inside ∙ can.used)) low
+          (λ g apart. ap (λ l. slice_get l g) parts
+          ∙ give_other us claim.group m claim.weight g (λ h e f. apart (f ∙ sym (own h e))))
+          left found.1);
+    }
+  where
+    kept : IsWhole waiting after_whole afters claims (set seats t Gone)
+    kept = release_kept waiting whole after_whole us afters claims seats t n m claim w.kept can read all parts
+
+-- the line that is looked at anew, as a test is released, is one of the lines
+pub line_low : (waiting : ℕ) (whole : Use) (us : List Use) (q : Queues) (claims : List Claim) (seats : List Seat) (t : ℕ)
+    (claim : Claim) (many : ℕ) → IsReady waiting whole us q claims seats → claim ≡ get_or claims t nobody.0
+    → many ≡ length us → (line : ℕ) → line ≡ unwrap_or claim.group many → line < length q.lines
+line_low waiting whole us q claims seats t claim many w read same line is =
+    omega (
+      arith,
+      is,
+      by_group claim.group (λ g e. w.kept.members t g (ap (λ (c : Claim). c.group) (sym read) ∙ e)),
+      w.queued.lined.count,
+      length-map us (λ (u : Use). u.limit),
+    )
+  where
+    by_group : (o : Option ℕ) → ((g : ℕ) → o ≡ Some g → g < length us) → unwrap_or o many < length us + 1
+    by_group None there = omega arith
+    by_group (Some g) there = omega (arith, there g refl)
+
+-- the lines at first, as they were read
+pub queued_begun : (us rooms : List Use) (claims plan : List Claim) (n : ℕ) (q : Queues) (seats : List Seat) → rooms ≡ us
+    → plan ≡ claims → IsQueued rooms plan (replicate (length plan) Waiting) q → seats ≡ replicate n Waiting
+    → n ≡ length claims → IsQueued us claims seats q
+queued_begun us rooms claims plan n q seats same also queued are all =
+    subst (λ s. IsQueued us claims s q) (sym (are ∙ ap (λ n. replicate n Waiting) all))
+    (subst (λ p. IsQueued us p (replicate (length p) Waiting) q) also
+    (subst (λ r. IsQueued r plan (replicate (length plan) Waiting) q) same queued))

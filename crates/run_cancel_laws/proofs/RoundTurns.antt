@@ -1,0 +1,41 @@
+-- Where the turns of rounds, of keys and of ticks can come.
+use Rattle.std.proofs.Common.{◌≡◌, ◌&&◌, ◌||◌, not, List, Bool, true, false, is_none, is_some, refl}
+use Rattle.run_events.specs.Hearing.{heard_key}
+use Rattle.run_events.specs.declared.input.Key.{Key as KeyName}
+use Rattle.run_events.specs.declared.settings.Settings.{Settings}
+use Rattle.run_events.specs.declared.turn.Turn.TheVariants.{Answer, InfoDue, Key, StopWaitDue, Tick}
+use Rattle.run_model.specs.declared.happening.Happening.{Happening}
+use Rattle.run_model.specs.Dispatch.{query_waits, stop_waits}
+use Rattle.run_model.specs.Rounds.{open_round}
+use Rattle.run_model.specs.Turns.{enabled}
+use Rattle.run_model.specs.Words.{is_on, is_over, sub_run}
+use Rattle.run_cancel_laws.specs.Enabled.{goes_on, is_free}
+use Rattle.run_cancel_laws.specs.Rounds.{has_answer, is_late, is_waited_for}
+
+group : (a b c : Bool) → (a && (b && c)) ≡ (a && b && c)
+group true b c = refl
+group false b c = refl
+
+group_more : (a b c d : Bool) → (a && (b && c && d)) ≡ (a && b && c && d)
+group_more true b c d = refl
+group_more false b c d = refl
+
+pub stops_so : (p : Settings) (past : List Happening) → enabled p past StopWaitDue
+    ≡ (goes_on past && stop_waits (open_round past) && (not (is_waited_for p past) || is_late past))
+stops_so p past = group_more (not (is_over past)) (is_on (sub_run past)) (stop_waits (open_round past)) _
+
+pub queries_so : (p : Settings) (past : List Happening) → enabled p past InfoDue
+    ≡ (goes_on past && query_waits (open_round past)
+    && (not (has_answer past || is_waited_for p past) || is_late past))
+queries_so p past = group_more (not (is_over past)) (is_on (sub_run past)) (query_waits (open_round past)) _
+
+pub answers_so : (p : Settings) (past : List Happening)
+    → enabled p past Answer ≡ (goes_on past && query_waits (open_round past) && has_answer past)
+answers_so p past = group_more (not (is_over past)) (is_on (sub_run past)) (query_waits (open_round past)) _
+
+pub keys_so : (p : Settings) (past : List Happening) (key : KeyName)
+    → enabled p past (Key key) ≡ (is_free past && is_some (heard_key p.plan.hearing.input key))
+keys_so p past key = group_more (not (is_over past)) (is_on (sub_run past)) (is_none (open_round past)) _
+
+pub ticks_so : (p : Settings) (past : List Happening) → enabled p past Tick ≡ is_free past
+ticks_so p past = group (not (is_over past)) (is_on (sub_run past)) (is_none (open_round past))

@@ -1,0 +1,10 @@
+use Rattle.run_model.specs.Journal.{past_of}
+use Rattle.run_cancel_laws.proofs.RoundTurns.{answers_so, queries_so, stops_so}
+use Rattle.run_cancel_laws.proofs.laws.rounds_are_waited_for.Goals as goal
+
+pub returns : goal.returns
+returns c = record {
+  stops = λ p journal legal. stops_so p (past_of p journal);
+  queries = λ p journal legal. queries_so p (past_of p journal);
+  answers = λ p journal legal. answers_so p (past_of p journal);
+}

@@ -1,0 +1,24 @@
+-- The lemmas on what units answer, on rounds, and on the run's time.
+pub mod RowAnswers
+pub mod DeedAnswers
+pub mod RowLeaves
+pub mod Delays
+pub mod Taken
+pub mod RoundDeeds
+pub mod Rising
+pub mod RequestLaws
+pub mod FinishAnswers
+pub mod RangeSums
+pub mod Queried
+pub mod AnswersFit
+pub mod FitSteps
+pub mod QueryLaws
+pub mod RunTime
+pub mod Fresh
+pub mod CountMoves
+pub mod Shown
+pub mod ShownRows
+pub mod ShownTakes
+pub mod ShownMoves
+pub mod ShownRuns
+pub mod AnswerLaws

@@ -1,0 +1,5 @@
+pub mod Requests
+pub mod Queries
+pub mod Elapsed
+pub mod LiveCounts
+pub mod Answers
