@@ -1,7 +1,7 @@
 #!/usr/bin/env python3
 """Measures `PROGRAM replay` on generated inputs, alone or beside another engine, and prints a table in Markdown.
 
-    python3 bench/bench.py PROGRAM [--beside ENGINE] [--tests 1000,10000,50000] [--kind passing|mixed]
+    python3 bench/bench.py PROGRAM [--beside ENGINE] [--tests 1000,10000,50000] [--kind passing|mixed|grouped|stopped]
                                    [--runs N | --seconds S]
 
 Each engine first runs once untimed, and its status and its output are looked at: where an ENGINE is given, the two

@@ -1,11 +1,13 @@
 #!/usr/bin/env python3
-"""Writes an input of `nextest_run replay` to standard output: a run of many tests, one after another.
+"""Writes an input of `nextest_run replay` to standard output: a run of many tests, one after another or all at once.
 
-    python3 bench/gen.py TESTS [--kind passing|mixed]
+    python3 bench/gen.py TESTS [--kind passing|mixed|grouped|stopped]
 
 passing: each test starts, exits with code 0 and passes, in six turns.
 mixed:   of each twelve tests eight pass, one is skipped, one can't be started, one exits with a code other than 0, and
          one is ended by a signal or, in every second dozen, can't be waited for.
+grouped: as passing, with a group for every four tests, to which four tests far from each other belong.
+stopped: all tests start at once, the first fails, and each other takes its request to end and is ended by it.
 
 One number of tests and one kind give one input, byte for byte. Nothing is kept in memory but one line of turns.
 """
@@ -15,7 +17,7 @@ import sys
 
 GREATEST_INPUT = 16_777_216
 RUN_ID = "5e0c2b6a-7d41-4f0e-9b1a-2c3d4e5f6071"
-KINDS = ("passing", "mixed")
+KINDS = ("passing", "mixed", "grouped", "stopped")
 
 
 def line_of(value):
@@ -28,7 +30,7 @@ def turn(name, **keys):
 
 def fate_of(place, kind):
     """What comes of the test at a place, as `turns_of` tells it."""
-    if kind == "passing":
+    if kind != "mixed":
         return "passes"
     others = {3: "skipped", 5: "not started", 8: "fails", 11: "killed" if place // 12 % 2 == 0 else "lost"}
     return others.get(place % 12, "passes")
@@ -40,6 +42,26 @@ def test_of(place, fate):
     if fate == "skipped":
         test["skip"] = "not in this run"
     return test
+
+
+def ended(place, **how):
+    yield turn("stream-end", unit=place, stream="combined")
+    yield turn("exit", unit=place, **how)
+    yield turn("decide", unit=place, word=0)
+    yield turn("deliver")
+
+
+def turns_at_once(tests):
+    for name in ("admit", "deliver"):
+        for _ in range(tests):
+            yield turn(name)
+    for place in range(tests):
+        yield turn("started", unit=place, pid=1000 + place)
+    yield from ended(0, code=101)
+    for place in range(1, tests):
+        yield turn("take", unit=place)
+    for place in range(1, tests):
+        yield from ended(place, signal=15)
 
 
 def turns_of(place, fate):
@@ -61,16 +83,34 @@ def turns_of(place, fate):
     yield turn("deliver")
 
 
+def settings_of(tests, kind):
+    if kind == "grouped":
+        groups = ({"name": f"group-{place}", "limit": 2} for place in range(group_count(tests)))
+        return f'"capture":"none","groups":[{",".join(map(line_of, groups))}]'
+    if kind == "stopped":
+        return f'"capture":"combined","max_fail":{{"count":1,"mode":"immediate"}},"threads":{tests}'
+    return '"capture":"none"'
+
+
+def group_count(tests):
+    return (tests + 3) // 4
+
+
 def pieces(tests, kind):
     """The input in pieces: the plan line, and then the turns, a line each."""
-    yield '{"capture":"none","run_id":%s,"tests":[' % line_of(RUN_ID)
+    yield '{%s,"run_id":%s,"tests":[' % (settings_of(tests, kind), line_of(RUN_ID))
     for place in range(tests):
-        yield ("," if place else "") + line_of(test_of(place, fate_of(place, kind)))
+        test = test_of(place, fate_of(place, kind))
+        if kind == "grouped":
+            test["group"] = f"group-{place % group_count(tests)}"
+        yield ("," if place else "") + line_of(test)
     yield "]}\n"
     yield turn("begin") + "\n"
-    for place in range(tests):
-        for one in turns_of(place, fate_of(place, kind)):
-            yield one + "\n"
+    if kind == "stopped":
+        yield from (one + "\n" for one in turns_at_once(tests))
+    else:
+        for place in range(tests):
+            yield from (one + "\n" for one in turns_of(place, fate_of(place, kind)))
     yield turn("end") + "\n"
 
 
