@@ -449,12 +449,14 @@ const EXITED: UnitState = UnitState::Exited {
     result: ExecutionResult::Pass,
     time: 8,
     slow_after: Some(60),
+    fault: None,
 };
 
 const NEVER_RAN: UnitState = UnitState::Exited {
     result: ExecutionResult::ExecFail,
     time: 0,
     slow_after: None,
+    fault: None,
 };
 
 const DELAY: UnitState = UnitState::Delay {

@@ -4,6 +4,7 @@ use crate::{
     ChildExecutionOutput, ExecutionResult, ScriptUnit, TermSignal, TerminateReason, TestUnit,
 };
 use run_capture::{Duplicate, Mem};
+use run_commands::SetupScriptOutputError;
 use std::alloc::Global;
 
 /// How long something has been waited for and how long it still is, in nanoseconds.
@@ -46,6 +47,8 @@ pub enum UnitState {
         result: ExecutionResult,
         time: u64,
         slow_after: Option<u64>,
+        /// What was wrong with its environment file, where that is read and something was.
+        fault: Option<SetupScriptOutputError>,
     },
     /// Its attempt failed, and the next one is waited for.
     Delay {

@@ -13,7 +13,10 @@ use Rattle.run_events.specs.declared.request.Request.{Request}
 use Rattle.run_events.specs.declared.request.Request.TheVariants.{Stop, GetInfo}
 use Rattle.run_events.specs.declared.result.ChildExecutionOutput.{ChildExecutionOutput}
 use Rattle.run_events.specs.declared.result.ChildExecutionOutput.TheVariants.{Output}
+use Rattle.run_commands.specs.declared.errors.SetupScriptOutputError.{SetupScriptOutputError}
 use Rattle.run_events.specs.declared.result.ExecuteStatus.{ExecuteStatus}
+use Rattle.run_events.specs.declared.result.ScriptEnv.{ScriptEnv}
+use Rattle.run_events.specs.declared.result.ScriptEnv.TheVariants.{Fault}
 use Rattle.run_model.specs.declared.phase.Phase.{Phase}
 use Rattle.run_model.specs.declared.phase.Phase.TheVariants.{Running, Grace, Leak, Delay}
 use Rattle.run_model.specs.declared.unit_view.Timers.{Timers}
@@ -49,8 +52,13 @@ abbrev pub exiting_state : ℕ → UnitView → UnitState
 exiting_state now u =
     states.Exiting u.pid (time_at now u) (slow_after u) u.exit_result (waiting_at now u.terms.leak.period u.timers)
 
+-- what was wrong with its environment file, where something was
+abbrev pub fault_in : ScriptEnv → Option SetupScriptOutputError
+fault_in (Fault fault) = Some fault
+fault_in env = None
+
 abbrev pub exited_state : UnitView → ExecuteStatus → UnitState
-exited_state u s = states.Exited s.result s.time (slow_after u)
+exited_state u s = states.Exited s.result s.time (slow_after u) (fault_in u.env)
 
 abbrev pub delay_state : ℕ → UnitView → ExecuteStatus → UnitState
 delay_state now u s = states.Delay s.result s.slow (waiting_at now u.delay u.timers)

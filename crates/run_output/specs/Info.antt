@@ -1,6 +1,7 @@
 -- What a unit answers, as objects.
-use Rattle.std.specs.Prelude.{ℕ, List, [], ◌∷◌, Option, Some, option_map, codes}
+use Rattle.std.specs.Prelude.{ℕ, List, [], ◌∷◌, ◌++◌, Option, Some, None, option_map, codes}
 use Rattle.serde_json.specs.Data.{Data, boolean, string}
+use Rattle.run_commands.specs.declared.errors.SetupScriptOutputError.{SetupScriptOutputError}
 use Rattle.run_events.specs.declared.info.UnitState.{UnitState}
 use Rattle.run_events.specs.declared.info.UnitState.TheVariants.{Running, Terminating, Exiting, Exited, Delay}
 use Rattle.run_events.specs.declared.request.TermSignal.{TermSignal}
@@ -9,7 +10,7 @@ use Rattle.run_events.specs.declared.request.TerminateReason.{TerminateReason}
 use Rattle.run_events.specs.declared.request.TerminateReason.TheVariants as reasons
 use Rattle.run_events.specs.declared.result.ChildExecutionOutput.{ChildExecutionOutput}
 use Rattle.run_output.specs.Fields.{count, object_of}
-use Rattle.run_output.specs.Errors.{child_errors, errors_data}
+use Rattle.run_output.specs.Errors.{child_errors, errors_data, fault_errors}
 use Rattle.run_output.specs.Statuses.{stream_fields}
 use Rattle.run_output.specs.Texts.{result_text}
 
@@ -52,7 +53,7 @@ state_fields (Exiting pid time slow_after outcome waiting) =
     ∷ (codes "time", Some (count time))
     ∷ (codes "waiting", Some (count waiting.waiting))
     ∷ []
-state_fields (Exited outcome time slow_after) =
+state_fields (Exited outcome time slow_after fault) =
     (codes "kind", Some (string (codes "exited")))
     ∷ (codes "result", Some (string (result_text outcome)))
     ∷ (codes "slow_after", option_map count slow_after)
@@ -70,14 +71,15 @@ state_fields (Delay outcome slow waiting) =
 abbrev pub state_data : UnitState → Data
 state_data state = object_of (state_fields state)
 
--- what a child wrote, and its errors
-abbrev pub output_data : ChildExecutionOutput → Data
-output_data child = object_of ((codes "errors", errors_data (child_errors child)) ∷ stream_fields child)
+-- what a child wrote, and its errors, with what was wrong with its environment file
+abbrev pub output_data : ChildExecutionOutput → Option SetupScriptOutputError → Data
+output_data child fault =
+    object_of ((codes "errors", errors_data (child_errors child ++ fault_errors fault)) ∷ stream_fields child)
 
 -- in a delay nothing of it is shown
 abbrev pub shown_data : UnitState → ChildExecutionOutput → Data
-shown_data (Running pid time slow_after) child = output_data child
-shown_data (Terminating pid time reason method waiting) child = output_data child
-shown_data (Exiting pid time slow_after outcome waiting) child = output_data child
-shown_data (Exited outcome time slow_after) child = output_data child
+shown_data (Running pid time slow_after) child = output_data child None
+shown_data (Terminating pid time reason method waiting) child = output_data child None
+shown_data (Exiting pid time slow_after outcome waiting) child = output_data child None
+shown_data (Exited outcome time slow_after fault) child = output_data child fault
 shown_data (Delay outcome slow waiting) child = object_of []

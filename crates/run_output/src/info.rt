@@ -1,5 +1,6 @@
 // What a unit answers, as objects.
-ghost use Rattle.std.specs.Prelude.{◌≡◌, option_map, IfOk};
+ghost use Rattle.std.specs.Prelude.{◌≡◌, option_map, IfOk, Option};
+ghost use Rattle.run_commands.specs.declared.errors.SetupScriptOutputError.{SetupScriptOutputError};
 ghost use Rattle.run_events.specs.declared.info.UnitState.TheVariants.{Running, Terminating, Exiting, Exited, Delay};
 ghost use Rattle.serde_json.specs.Data.{string};
 ghost use Rattle.run_output.specs.Fields.{rows};
@@ -13,6 +14,7 @@ use crate::object::Object;
 use crate::plain::Plain;
 use crate::statuses::with_streams;
 use run_capture::Mem;
+use run_commands::SetupScriptOutputError;
 use run_events::{
     ChildExecutionOutput, ExecutionResult, InfoResponse, TermSignal, TerminateReason, UnitState,
     Waiting,
@@ -114,7 +116,8 @@ fn exited(
     time: u64,
     slow_after: Option<u64>,
 ) -> [(&'static str, Leaf<'static>); 4]
-    ensures { rows leaf_data result ≡ state_fields (Exited outcome time slow_after) }
+    ensures { (fault : Option SetupScriptOutputError) → rows leaf_data result
+        ≡ state_fields (Exited outcome time slow_after fault) }
 {
     [
         ("kind", Leaf::Word("exited")),
@@ -169,6 +172,7 @@ pub(crate) fn state_plain(alloc: Global, state: &UnitState) -> Mem<Plain>
             result,
             time,
             slow_after,
+            ..
         } => Object::of(alloc, &exited(result, time, slow_after)),
         UnitState::Delay {
             result,
@@ -178,10 +182,14 @@ pub(crate) fn state_plain(alloc: Global, state: &UnitState) -> Mem<Plain>
     }
 }
 
-fn output_plain(alloc: Global, child: &ChildExecutionOutput) -> Mem<Plain>
-    ensures { IfOk result (λ p. plain_data p ≡ output_data child.now) }
+fn output_plain(
+    alloc: Global,
+    child: &ChildExecutionOutput,
+    fault: Option<SetupScriptOutputError>,
+) -> Mem<Plain>
+    ensures { IfOk result (λ p. plain_data p ≡ output_data child.now fault) }
 {
-    let object = Object::new(alloc).with(alloc, &[("errors", Leaf::Errors(child, None))])?;
+    let object = Object::new(alloc).with(alloc, &[("errors", Leaf::Errors(child, fault))])?;
     let object = with_streams(alloc, object, child)?;
     Ok(object.done())
 }
@@ -192,6 +200,7 @@ pub(crate) fn shown_plain(alloc: Global, response: &InfoResponse) -> Mem<Plain>
 {
     match response.state {
         UnitState::Delay { .. } => Ok(Object::new(alloc).done()),
-        _ => output_plain(alloc, &response.output),
+        UnitState::Exited { fault, .. } => output_plain(alloc, &response.output, fault),
+        _ => output_plain(alloc, &response.output, None),
     }
 }

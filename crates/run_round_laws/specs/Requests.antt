@@ -6,6 +6,7 @@ use Rattle.run_events.specs.declared.info.InfoResponse.{InfoResponse}
 use Rattle.run_events.specs.declared.info.UnitState.TheVariants.{Exited}
 use Rattle.run_events.specs.declared.request.Request.{Request}
 use Rattle.run_events.specs.declared.result.ExecuteStatus.{ExecuteStatus}
+use Rattle.run_events.specs.declared.result.ScriptEnv.{ScriptEnv}
 use Rattle.run_events.specs.declared.settings.Settings.{Settings}
 use Rattle.run_model.specs.declared.entry.Entry.{Entry}
 use Rattle.run_model.specs.declared.happening.Happening.{Happening}
@@ -17,13 +18,14 @@ use Rattle.run_model.specs.declared.unit_view.UnitView.{UnitView}
 use Rattle.run_model.specs.Admission.{is_done, unit_terms}
 use Rattle.run_model.specs.Attempts.{statuses_of}
 use Rattle.run_model.specs.Ending.{last_status}
-use Rattle.run_model.specs.Info.{rounds_in, stops_in, subject_of}
+use Rattle.run_model.specs.Info.{fault_in, rounds_in, stops_in, subject_of}
 use Rattle.run_model.specs.Journal.{IsLegal, past_of}
 use Rattle.run_model.specs.Story.{OwnTurn, broadcast_to, line_of, stopped_at, story_of}
 use Rattle.run_model.specs.Turns.{happening}
 use Rattle.run_model.specs.Unit.{row, takes}
 use Rattle.run_model.specs.Words.{sub_run, unit_of}
 use Rattle.run_laws.specs.Laws.{Extends}
+use Rattle.run_laws.specs.Starts.{env_said}
 
 -- the requests that a unit took by its own turns, the oldest first
 abbrev pub requests_taken : List OwnTurn → List Request
@@ -66,11 +68,11 @@ abbrev pub RequestsAreAnswered : Type 0
 RequestsAreAnswered = (p : Settings) (journal : List Entry) → IsLegal p journal → (k : ℕ)
     → HasItsRequests k (sub_run (past_of p journal))
 
--- the answer of a unit whose last attempt came to this, on these terms
-abbrev pub exited_with : AttemptTerms → ExecuteStatus → UnitView → InfoResponse
-exited_with terms s u = record {
+-- the answer of a unit whose last attempt came to this, on these terms, and its environment file to that
+abbrev pub exited_with : AttemptTerms → ScriptEnv → ExecuteStatus → UnitView → InfoResponse
+exited_with terms env s u = record {
   subject = subject_of u.role u;
-  state = Exited s.result s.time (if s.slow then Some terms.slow.period else None);
+  state = Exited s.result s.time (if s.slow then Some terms.slow.period else None) (fault_in env);
   output = s.output;
 }
 
@@ -80,7 +82,8 @@ abbrev pub AnswersAsExited : Settings → List Happening → Happening → Type 
 AnswersAsExited p run x = (k : ℕ) (u : UnitView) → is_turn_of k x.part ≡ true → unit_of k run ≡ Some u
     → has_finished k (x ∷ run) ≡ true
     → (s : ExecuteStatus) × ((last_status (statuses_of p k run) ≡ Some s)
-    × (x.info ≡ map (λ round. (round, exited_with (unit_terms p k) s u)) (rounds_in (line_of k run))))
+    × (x.info ≡ map (λ round. (round, exited_with (unit_terms p k) (env_said (story_of k run)) s u))
+    (rounds_in (line_of k run))))
 
 -- that holds of each turn of every legal journal
 abbrev pub FinishesAnswer : Type 0

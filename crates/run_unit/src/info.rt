@@ -3,15 +3,17 @@ ghost use Rattle.std.specs.Prelude.{◌≡◌, ◌≤◌, ◌<◌, ◌^◌, ◌�
 ghost use Rattle.run_model.specs.Ending.{last_status};
 ghost use Rattle.run_model.specs.Environment.{attempts};
 ghost use Rattle.run_model.specs.Info.{waiting_at, time_at, slow_after, running_state, terminating_state, exiting_state};
-ghost use Rattle.run_model.specs.Info.{exited_state, delay_state, subject_of, answer_as, captured_by, exited_answer};
+ghost use Rattle.run_model.specs.Info.{fault_in, exited_state, delay_state, subject_of, answer_as, captured_by, exited_answer};
 ghost use Rattle.run_model.specs.Info.{delay_answer, answer_in, rounds_in, is_stop, stops_in, answers_to};
 ghost use Rattle.run_unit.specs.Timely.{IsTimely};
 
 use crate::messages::attempts;
 use crate::terminate::terminate_method;
 use run_capture::{ChildOutput, Duplicate, List, Mem};
+use run_commands::SetupScriptOutputError;
 use run_events::{
-    ChildExecutionOutput, ExecuteStatus, InfoResponse, InfoSubject, Request, UnitState, Waiting,
+    ChildExecutionOutput, ExecuteStatus, InfoResponse, InfoSubject, Request, ScriptEnv, UnitState,
+    Waiting,
 };
 use run_model::{Phase, Timers, UnitRole, UnitView};
 use std::alloc::Global;
@@ -85,6 +87,16 @@ fn exiting_state(view: &UnitView, now: u64) -> UnitState
     }
 }
 
+// What was wrong with its environment file, where something was.
+fn fault_in(env: &ScriptEnv) -> Option<SetupScriptOutputError>
+    ensures { result ≡ fault_in env.now }
+{
+    match env {
+        ScriptEnv::Fault(fault) => Some(*fault),
+        _ => None,
+    }
+}
+
 fn exited_state(view: &UnitView, status: &ExecuteStatus) -> UnitState
     ensures { result ≡ exited_state view.now status.now }
 {
@@ -92,6 +104,7 @@ fn exited_state(view: &UnitView, status: &ExecuteStatus) -> UnitState
         result: status.result,
         time: status.time,
         slow_after: slow_after(view),
+        fault: fault_in(&view.env),
     }
 }
 

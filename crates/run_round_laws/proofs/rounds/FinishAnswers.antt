@@ -26,7 +26,7 @@ use Rattle.run_model.specs.Admission.{is_done, is_last, unit_terms}
 use Rattle.run_model.specs.Attempts.{statuses_of, ended_statuses}
 use Rattle.run_model.specs.Board.{Deed, board}
 use Rattle.run_model.specs.Ending.{last_status}
-use Rattle.run_model.specs.Info.{answers_to, exited_answer, rounds_in, subject_of}
+use Rattle.run_model.specs.Info.{answers_to, exited_answer, fault_in, rounds_in, subject_of}
 use Rattle.run_model.specs.Journal.{IsLegal, IsLegalBackward, history, past_of}
 use Rattle.run_model.specs.Row.{Row}
 use Rattle.run_model.specs.Story.{deliveries, lets_go, line_of, pieces, stopped_at, story_of, was_left, Attempt, cut}
@@ -34,6 +34,7 @@ use Rattle.run_model.specs.Turns.{deed_on, enabled, happening}
 use Rattle.run_model.specs.Unit.{at_moment, row, row_at, takes, takes_at}
 use Rattle.run_model.specs.Words.{clock, is_over, queue, reason, sub_run, told, unit_after, unit_of}
 use Rattle.run_round_laws.specs.Requests.{AnswersAsExited, exited_with, is_turn_of}
+use Rattle.run_laws.specs.Starts.{env_said}
 use Rattle.run_laws.proofs.board.ByTurn.{is_answer}
 use Rattle.run_laws.proofs.board.DeedFits.{PartFits}
 use Rattle.run_laws.proofs.board.Facts.{unstopped}
@@ -44,6 +45,8 @@ use Rattle.run_round_laws.proofs.rounds.RowLeaves.{reach_done, stopped_with}
 use Rattle.run_round_laws.proofs.rounds.Taken.{ended_in}
 use Rattle.run_round_laws.proofs.rounds.Shown.{IsShown}
 use Rattle.run_round_laws.proofs.rounds.ShownRuns.{IsShownIf, shown}
+use Rattle.run_laws.proofs.told.PlannedTurns.{HasReadIf}
+use Rattle.run_laws.proofs.told.StartLemmas.{has_starts}
 use Rattle.run_laws.proofs.units.AttemptLemmas.{IsMadeIf, made_statuses, HasPieces, IsMade}
 use Rattle.run_laws.proofs.units.LetGo.{and_true, lets_go-is}
 use Rattle.run_laws.proofs.units.Rows.{StaysOrGoes, Takes, answers, opens, decides, passes, again, continues}
@@ -110,12 +113,12 @@ subject_at now u = by_role u.role
 
 exited_at : (now : ℕ) (u : UnitView) (s : ExecuteStatus) (rounds : List ℕ) → last_status u.statuses ≡ Some s
     → s.slow ≡ nat_lt 0 u.timers.slow_count
-    → answers_to rounds (exited_answer (at_moment now u)) ≡ map (λ round. (round, exited_with u.terms s u)) rounds
+    → answers_to rounds (exited_answer (at_moment now u)) ≡ map (λ round. (round, exited_with u.terms u.env s u)) rounds
 exited_at now u s rounds last slow = rw (last, subject_at now u) (ap (λ b. map (λ round. (
   round,
   record {
     subject = subject_of u.role u;
-    state = Exited s.result s.time (if b then Some u.terms.slow.period else None);
+    state = Exited s.result s.time (if b then Some u.terms.slow.period else None) (fault_in u.env);
     output = s.output;
   },
 )) rounds) (sym slow))
@@ -133,14 +136,17 @@ slow_said u (cut piece [] ∷ earlier) s past counted last =
 
 -- so a turn with which a unit has finished
 turn_finishes : (p : Settings) (over : Bool) (now : ℕ) (run : List Happening) (k : ℕ) (turn : UnitTurn) (u : UnitView)
-    → Holds p over now run → IsShownIf (unit_of k run) (story_of k run) → unit_of k run ≡ Some u
+    → Holds p over now run → IsShownIf (unit_of k run) (story_of k run)
+    → HasReadIf (unit_of k run) (story_of k run) → unit_of k run ≡ Some u
     → takes now u turn ≡ true
     → ((go : Bool) → turn ≡ Answered go → go ≡ is_none (reason run))
     → is_last (row now turn u).next.phase ≡ true
     → is_none (stopped_with (stopped_at k run) (is_answer turn) (reason run) (deliveries k run)) ≡ true
     → (s : ExecuteStatus) × ((last_status (statuses_of p k run) ≡ Some s)
-    × ((row now turn u).info ≡ map (λ round. (round, exited_with (unit_terms p k) s u)) (rounds_in (line_of k run))))
-turn_finishes p over now run k turn u h shows is en goes done on =
+    × ((row now turn u).info
+    ≡ map (λ round. (round, exited_with (unit_terms p k) (env_said (story_of k run)) s u))
+    (rounds_in (line_of k run))))
+turn_finishes p over now run k turn u h shows reads is en goes done on =
     let it = row_finishes now u.phase turn (at_moment now u) (stopped_at k run) (reason run) (deliveries k run) refl
     (takes_moment now u.phase u turn en) none goes done on in
     let last = ended_in (is_mismatched p k) (was_left k run) u.phase u.statuses (account_of k (told run))
@@ -150,8 +156,10 @@ turn_finishes p over now run k turn u h shows is en goes done on =
       (
         sym (ap last_status statuses) ∙ last.1,
         it.1 ∙ exited_at now u last.0 (rounds_in u.line) last.1 (slow it.0 last.0 last.1)
-            ∙ ap (λ terms. map (λ round. (round, exited_with terms last.0 u)) (rounds_in u.line)) made.terms
-            ∙ ap (λ line. map (λ round. (round, exited_with (unit_terms p k) last.0 u)) (rounds_in line)) lined,
+            ∙ ap (λ terms. map (λ round. (round, exited_with terms u.env last.0 u)) (rounds_in u.line)) made.terms
+            ∙ ap (λ env. map (λ round. (round, exited_with (unit_terms p k) env last.0 u)) (rounds_in u.line)) read
+            ∙ ap (λ line. map (λ round. (round, exited_with (unit_terms p k) (env_said (story_of k run)) last.0 u))
+            (rounds_in line)) lined,
       ),
     )
   where
@@ -169,6 +177,9 @@ turn_finishes p over now run k turn u h shows is en goes done on =
 
     ps : List Attempt
     ps = pieces (story_of k run)
+
+    read : u.env ≡ env_said (story_of k run)
+    read = (subst (λ v. HasReadIf v (story_of k run)) is reads).0
 
     made : IsMade (unit_terms p k) u ps
     made = subst (λ v. IsMadeIf (unit_terms p k) v (story_of k run)) is (h.made k)
@@ -189,20 +200,21 @@ numbered j k own = grind arith
 
 part_finishes : (p : Settings) (over : Bool) (now : ℕ) (run : List Happening) (k : ℕ) (u : UnitView)
     (part : Option UnitPart) (info : List (ℕ × InfoResponse)) → Holds p over now run → IsShownIf (unit_of k run)
-    (story_of k run) → PartFits p now run part
+    (story_of k run) → HasReadIf (unit_of k run) (story_of k run) → PartFits p now run part
     → info ≡ info_by now run part → is_turn_of k part ≡ true → unit_of k run ≡ Some u
     → is_done (unit_after now k part (unit_of k run)) ≡ true
     → is_none (stopped_with (stopped_at k run) (lets_go k part) (reason run) (deliveries k run)) ≡ true
     → (s : ExecuteStatus) × ((last_status (statuses_of p k run) ≡ Some s)
-    × (info ≡ map (λ round. (round, exited_with (unit_terms p k) s u)) (rounds_in (line_of k run))))
-part_finishes p over now run k u None info h shows fits given own is done on = cc
-part_finishes p over now run k u (Some (Joins first)) info h shows fits given own is done on = cc
-part_finishes p over now run k u (Some (Acts j turn)) info h shows fits given own is done on =
+    × (info ≡ map (λ round. (round, exited_with (unit_terms p k) (env_said (story_of k run)) s u))
+    (rounds_in (line_of k run))))
+part_finishes p over now run k u None info h shows reads fits given own is done on = cc
+part_finishes p over now run k u (Some (Joins first)) info h shows reads fits given own is done on = cc
+part_finishes p over now run k u (Some (Acts j turn)) info h shows reads fits given own is done on =
     let here : k ≡ j = numbered j k own in
     let same : fits.unit ≡ u = same_Some _ _ (sym fits.is ∙ ap (λ k. unit_of k run) (sym here) ∙ is) in
     let en : takes now u turn ≡ true = ap (λ u. takes now u turn) (sym same) ∙ fits.takes in
     let over_now : is_last (row now turn u).next.phase ≡ true = over_by (rw own at done) in
-    let it = turn_finishes p over now run k turn u h shows is en fits.answers over_now (on_by own) in (
+    let it = turn_finishes p over now run k turn u h shows reads is en fits.answers over_now (on_by own) in (
       it.0,
       (
         it.1.0,
@@ -221,10 +233,11 @@ part_finishes p over now run k u (Some (Acts j turn)) info h shows fits given ow
         (sym (lets_go-is j k turn ∙ ap (λ b. is_answer turn && b) own ∙ and_true (is_answer turn))) ∙ on
 
 finishes : (p : Settings) (past : List Happening) (e : Entry) → HoldsAfter p past
-    → ((k : ℕ) → IsShownIf (unit_of k (sub_run past)) (story_of k (sub_run past))) → enabled p past e.turn ≡ true
+    → ((k : ℕ) → IsShownIf (unit_of k (sub_run past)) (story_of k (sub_run past)))
+    → ((k : ℕ) → HasReadIf (unit_of k (sub_run past)) (story_of k (sub_run past))) → enabled p past e.turn ≡ true
     → AnswersAsExited p (sub_run past) (happening p past e)
-finishes p past e h shows en k u own is done =
-    part_finishes p (is_over past) (clock past) run k u d.part d.info h.run (shows k) (does_after p past e h en).part
+finishes p past e h shows reads en k u own is done =
+    part_finishes p (is_over past) (clock past) run k u d.part d.info h.run (shows k) (reads k) (does_after p past e h en).part
     (answers_as p past e.turn h.run) own is
     (sym (reach_done d.request v) ∙ first_so (is_done after) (is_none (stopped_at k (happening p past e ∷ run))) done)
     (second_so (is_done after) (is_none (stopped_at k (happening p past e ∷ run))) done)
@@ -247,4 +260,4 @@ finishes_so p journal e legal =
     let backward : IsLegalBackward p (e ∷ reverse journal) =
     subst (IsLegalBackward p) (reverse-append journal (e ∷ [])) legal in
     finishes p (history p (reverse journal)) e (holds p (reverse journal) backward.2)
-    (shown p (reverse journal) backward.2) backward.0
+    (shown p (reverse journal) backward.2) (has_starts p (reverse journal) backward.2).reads backward.0
