@@ -15,9 +15,11 @@ const HELP: &str = "The execution engine of a test runner
 
 Usage: nextest_run live < PLAN
        nextest_run replay < INPUT
+       nextest_run progress WIDTH < INPUT
 
   live             runs the tests of PLAN, each as a process of its own
   replay           carries out the run that INPUT tells
+  progress WIDTH   the same, and shows its progress on a terminal of WIDTH columns, from 1 to 1000
   -h, --help       prints this
   -V, --version    prints the version
 
@@ -44,7 +46,8 @@ A run of one test that passes:
   {\"turn\":\"end\"}
 
 Either has at most 16,777,216 bytes. Standard output gets the lines of the events as they are told, then those of
-the asks, then the outcome or the fault. Standard error says in a line what was wrong, and where.
+the asks, then the outcome or the fault. Of progress it gets the text of the display at each tick in place of the
+lines of events and asks. Standard error says in a line what was wrong, and where.
 
 Exit status:
     0   every test passed

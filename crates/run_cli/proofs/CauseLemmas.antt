@@ -1,8 +1,9 @@
 -- Each cause gives its status.
 use Rattle.std.proofs.Common.{◌≡◌, ℕ, zero, suc, ◌<◌, ◌≤◌, inl, inr, List, [], ◌∷◌, ◌++◌, length, take}
 use Rattle.std.proofs.Common.{slice_index_or, Bool, true, false, not, Option, Some, None, Result, Ok, Err}
-use Rattle.std.proofs.Common.{refl, ap, sym, subst, ◌∙◌, arith, length-append}
+use Rattle.std.proofs.Common.{refl, ap, sym, subst, ◌∙◌, arith, codes, length-append}
 use Rattle.std.specs.List.{list_all}
+use Rattle.std.specs.Str.Parse.{digits_value}
 use Rattle.std.proofs.lemmas.List.{append-nil}
 use Rattle.std.proofs.Math.Seq.{take-length}
 use Rattle.run_capture.specs.Bytes.{Gives, AtEnd}
@@ -26,10 +27,13 @@ use Rattle.run_output.specs.declared.fault.Fault.TheVariants.{Unfinished, Report
 use Rattle.run_cli.specs.Call.{Call, Reading, Writing, HasGiven, HasReadFault, HasWriteFault}
 use Rattle.run_cli.specs.Plans.{settings_for, plan_refusal}
 use Rattle.run_cli.specs.Executed.{TookParts, report_ending}
-use Rattle.run_cli.specs.Text.{rest_text, outcome_status, ending_status}
-use Rattle.run_cli.specs.Given.{IsReplay, SaysInput, IsTooLong, HasBadLine, CountsReadAtEnd}
+use Rattle.run_cli.specs.Text.{Form, rest_text, outcome_status, ending_status}
+use Rattle.run_cli.specs.Given.{SaysInput, IsTooLong, HasBadLine, CountsReadAtEnd}
 use Rattle.run_cli.specs.Ending.{Replays, settings_in, history_in, IsWholeRun, WritesReport, StopsBefore, IsUnfinished}
-use Rattle.run_cli.specs.Ending.{IsEnding}
+use Rattle.run_cli.specs.Ending.{IsEnding, form_in}
+use Rattle.run_cli.specs.Commands.{IsNamedBy, NamesCommand, IsWidth}
+use Rattle.run_cli.specs.declared.command.Command.{Command}
+use Rattle.run_cli.specs.declared.command.Command.TheVariants.{Replay, Progress}
 use Rattle.run_cli.specs.Cause.{Gets, HasInput, HasBadInput, HasTooMuch, IsAnsweredSo, GetsByCourse}
 use Rattle.run_cli.specs.Cause.{stop_status}
 
@@ -99,8 +103,8 @@ false_at (false ∷ marks) zero none = refl
 false_at (false ∷ marks) (suc n) none = false_at marks n none
 
 -- want of memory is the status of any cause
-memory_gets : (c : RunnerKeys) (p : Plan) (ts : List Turn) (w : Writing) → GetsByCourse c p ts w 11
-memory_gets c p ts w = record {
+memory_gets : (k : Command) (c : RunnerKeys) (p : Plan) (ts : List Turn) (w : Writing) → GetsByCourse k c p ts w 11
+memory_gets k c p ts w = record {
   refuses = refuses_none;
   tied = λ calm n. refl;
   refused = λ e r. inr refl;
@@ -117,11 +121,11 @@ journal_of : (p : Settings) (ts : List Turn) (journal : List Entry) → IsLegal 
 journal_of p ts journal legal takes = record { legal = legal; takes = takes; answers = λ n below. refl }
 
 -- and its answers are those that the sink shows
-answered_by : (p : Settings) (ts : List Turn) (place : ℕ) (journal : List Entry) (ending : Result RunOutcome Fault)
+answered_by : (form : Form) (p : Settings) (ts : List Turn) (place : ℕ) (journal : List Entry) (ending : Result RunOutcome Fault)
     (w : Writing) → IsLegal p journal → turns_of journal ≡ take place ts
-    → TookParts (past_of p journal) (rest_text (past_of p journal) ending) w
-    → IsAnsweredSo p ts (refuses_as_in journal) w
-answered_by p ts place journal ending w legal takes parts = record {
+    → TookParts form (past_of p journal) (rest_text form (past_of p journal) ending) w
+    → IsAnsweredSo form p ts (refuses_as_in journal) w
+answered_by form p ts place journal ending w legal takes parts = record {
   place = place;
   journal = journal;
   answered = journal_of p (take place ts) journal legal takes;
@@ -131,16 +135,16 @@ answered_by p ts place journal ending w legal takes parts = record {
 
 -- so are those of one that took all turns
 answered_all : {c : Call} (r : Replays c) (ending : Result RunOutcome Fault) → turns_of r.journal ≡ r.turns
-    → TookParts (history_in r) (rest_text (history_in r) ending) c.sink
-    → IsAnsweredSo (settings_in r) r.turns (refuses_as_in r.journal) c.sink
+    → TookParts (form_in r) (history_in r) (rest_text (form_in r) (history_in r) ending) c.sink
+    → IsAnsweredSo (form_in r) (settings_in r) r.turns (refuses_as_in r.journal) c.sink
 answered_all {c} r ending all parts =
-    answered_by (settings_in r) r.turns (length r.turns) r.journal ending c.sink r.legal
+    answered_by (form_in r) (settings_in r) r.turns (length r.turns) r.journal ending c.sink r.legal
     (all ∙ sym (take-length r.turns)) parts
 
 -- what each ending of an accepted plan gets
 ended_gets : (c : Call) (r : Replays c) (o : RunOutcome) → IsWholeRun r o → c.sink.faults_after ≡ c.sink.faults
-    → TookParts (history_in r) (rest_text (history_in r) (Ok o)) c.sink
-    → GetsByCourse r.keys r.plan r.turns c.sink (outcome_status o)
+    → TookParts (form_in r) (history_in r) (rest_text (form_in r) (history_in r) (Ok o)) c.sink
+    → GetsByCourse r.command r.keys r.plan r.turns c.sink (outcome_status o)
 ended_gets c r o whole stayed parts =
     let p : Settings = settings_for r.keys r.plan in
     let one : HasOneCourse p r.turns (refuses_as_in r.journal) = one_course p r.turns (refuses_as_in r.journal) in
@@ -158,7 +162,7 @@ ended_gets c r o whole stayed parts =
     }
 
 unreported_gets : (c : Call) (r : Replays c) (o : RunOutcome) → IsWholeRun r o → WritesReport r o → HasWriteFault c.sink
-    → GetsByCourse r.keys r.plan r.turns c.sink 9
+    → GetsByCourse r.command r.keys r.plan r.turns c.sink 9
 unreported_gets c r o whole parts rose =
     let p : Settings = settings_for r.keys r.plan in
     let one : HasOneCourse p r.turns (refuses_as_in r.journal) = one_course p r.turns (refuses_as_in r.journal) in
@@ -176,8 +180,8 @@ unreported_gets c r o whole parts rose =
     }
 
 stopped_gets : (c : Call) (r : Replays c) (place : ℕ) (third : Bool) (ending : Result RunOutcome Fault)
-    → StopsBefore r place third → TookParts (history_in r) (rest_text (history_in r) ending) c.sink
-    → GetsByCourse r.keys r.plan r.turns c.sink (stop_status third)
+    → StopsBefore r place third → TookParts (form_in r) (history_in r) (rest_text (form_in r) (history_in r) ending) c.sink
+    → GetsByCourse r.command r.keys r.plan r.turns c.sink (stop_status third)
 stopped_gets c r place third ending before parts =
     let p : Settings = settings_for r.keys r.plan in
     let one : HasOneCourse p r.turns (refuses_as_in r.journal) = one_course p r.turns (refuses_as_in r.journal) in
@@ -194,15 +198,15 @@ stopped_gets c r place third ending before parts =
           let same : (place ≡ k) × (third ≡ t) = one.one_stop place k third t stops s in
           inl (ap stop_status same.1);
       answered = λ a.
-          inr (answered_by p r.turns place r.journal ending c.sink r.legal before.before parts);
+          inr (answered_by (form_in r) p r.turns place r.journal ending c.sink r.legal before.before parts);
       unfinished = λ a g. absurd (one.stop_or_unfinished place third stops g);
       ended = λ a u e calm. absurd (one.stop_or_end place third u stops e);
       unreported = λ a u e lt. absurd (one.stop_or_end place third u stops e);
     }
 
 unfinished_gets : (c : Call) (r : Replays c) → IsUnfinished r
-    → TookParts (history_in r) (rest_text (history_in r) (Err Unfinished)) c.sink
-    → GetsByCourse r.keys r.plan r.turns c.sink 8
+    → TookParts (form_in r) (history_in r) (rest_text (form_in r) (history_in r) (Err Unfinished)) c.sink
+    → GetsByCourse r.command r.keys r.plan r.turns c.sink 8
 unfinished_gets c r still parts =
     let p : Settings = settings_for r.keys r.plan in
     let one : HasOneCourse p r.turns (refuses_as_in r.journal) = one_course p r.turns (refuses_as_in r.journal) in
@@ -219,9 +223,9 @@ unfinished_gets c r still parts =
       unreported = λ a u e lt. absurd (one.unfinished_or_end u goes e);
     }
 
-refused_gets : (c : RunnerKeys) (p : Plan) (ts : List Turn) (w : Writing) (error : TestRunnerBuildError)
-    → plan_refusal c p ≡ Some error → GetsByCourse c p ts w 5
-refused_gets c p ts w error refused = record {
+refused_gets : (k : Command) (c : RunnerKeys) (p : Plan) (ts : List Turn) (w : Writing) (error : TestRunnerBuildError)
+    → plan_refusal c p ≡ Some error → GetsByCourse k c p ts w 5
+refused_gets k c p ts w error refused = record {
   refuses = refuses_none;
   tied = λ calm n. refl;
   refused = λ e x. inl refl;
@@ -232,47 +236,67 @@ refused_gets c p ts w error refused = record {
   unreported = λ a u e lt. never_refused (plan_refusal c p) error a refused;
 }
 
--- the same of the input that the source had
-moved : (c d : RunnerKeys) (p q : Plan) (ts us : List Turn) (w : Writing) (status : ℕ)
-    → (d ≡ c) × (q ≡ p) × (us ≡ ts)
-    → GetsByCourse d q us w status → GetsByCourse c p ts w status
-moved c d p q ts us w status same gets =
-    subst (λ c. GetsByCourse c p ts w status) same.0
-    (subst (λ p. GetsByCourse d p ts w status) same.1 (subst (λ ts. GetsByCourse d q ts w status) same.2 gets))
+-- the same of the command that the words name and the input that the source had
+moved : (k l : Command) (c d : RunnerKeys) (p q : Plan) (ts us : List Turn) (w : Writing) (status : ℕ)
+    → l ≡ k → (d ≡ c) × (q ≡ p) × (us ≡ ts)
+    → GetsByCourse l d q us w status → GetsByCourse k c p ts w status
+moved k l c d p q ts us w status one same gets =
+    subst (λ k. GetsByCourse k c p ts w status) one
+    (subst (λ c. GetsByCourse l c p ts w status) same.0
+    (subst (λ p. GetsByCourse l d p ts w status) same.1 (subst (λ ts. GetsByCourse l d q ts w status) same.2 gets)))
+
+-- words of one word and of two
+apart_words : {A : Type 0} (x y z : A) → ¬ (x ∷ [] ≡ y ∷ z ∷ [])
+apart_words x y z e = cc
+
+-- words name one command
+one_command : (words : List (List ℕ)) (k l : Command) → IsNamedBy k words → IsNamedBy l words → l ≡ k
+one_command words Replay Replay a b = refl
+one_command words Replay (Progress w) a b = absurd (apart_words (codes "replay") (codes "progress") b.0 (sym a ∙ b.1))
+one_command words (Progress w) Replay a b = absurd (apart_words (codes "replay") (codes "progress") a.0 (sym b ∙ a.1))
+one_command words (Progress w) (Progress v) a b =
+    let both : ◌≡◌ {A = List (List ℕ)} (codes "progress" ∷ a.0 ∷ []) (codes "progress" ∷ b.0 ∷ []) = sym a.1 ∙ b.1 in
+    let text : a.0 ≡ b.0 = cc in
+    ap Progress (sym b.2.value ∙ ap (digits_value 10) (sym text) ∙ a.2.value)
 
 -- each course gets its status
 pub course_gets : (c : Call) (ending : Result RunOutcome Fault) → IsEnding c ending → CountsReadAtEnd c.source ending
-    → IsReplay c.words
+    → (k : Command) → IsNamedBy k c.words
     → ¬ HasReadFault c.source → (b : RunnerKeys) (p : Plan) (ts : List Turn) → HasInput c.source.left b p ts
-    → GetsByCourse b p ts c.sink (ending_status ending)
-course_gets c (Ok o) h n replay calm b p ts has =
-    moved b h.0.keys p h.0.plan ts h.0.turns c.sink (outcome_status o)
+    → GetsByCourse k b p ts c.sink (ending_status ending)
+course_gets c (Ok o) h n k named calm b p ts has =
+    moved k h.0.command b h.0.keys p h.0.plan ts h.0.turns c.sink (outcome_status o)
+    (one_command c.words k h.0.command named h.0.named)
     (same_input c.source b h.0.keys p h.0.plan ts h.0.turns has h.0.given) (ended_gets c h.0 o h.1 h.3 h.4)
-course_gets c (Err Report) h n replay calm b p ts has =
-    moved b h.0.keys p h.0.plan ts h.0.turns c.sink 9
+course_gets c (Err Report) h n k named calm b p ts has =
+    moved k h.0.command b h.0.keys p h.0.plan ts h.0.turns c.sink 9
+    (one_command c.words k h.0.command named h.0.named)
     (same_input c.source b h.0.keys p h.0.plan ts h.0.turns has h.0.given) (unreported_gets c h.0 h.1 h.2 h.3 h.4)
-course_gets c (Err (NotEnabled place)) h n replay calm b p ts has =
-    moved b h.0.keys p h.0.plan ts h.0.turns c.sink 6
+course_gets c (Err (NotEnabled place)) h n k named calm b p ts has =
+    moved k h.0.command b h.0.keys p h.0.plan ts h.0.turns c.sink 6
+    (one_command c.words k h.0.command named h.0.named)
     (same_input c.source b h.0.keys p h.0.plan ts h.0.turns has h.0.given)
     (stopped_gets c h.0 place false (Err (NotEnabled place)) h.1 h.2.parts)
-course_gets c (Err (ThirdSignal place)) h n replay calm b p ts has =
-    moved b h.0.keys p h.0.plan ts h.0.turns c.sink 7
+course_gets c (Err (ThirdSignal place)) h n k named calm b p ts has =
+    moved k h.0.command b h.0.keys p h.0.plan ts h.0.turns c.sink 7
+    (one_command c.words k h.0.command named h.0.named)
     (same_input c.source b h.0.keys p h.0.plan ts h.0.turns has h.0.given)
     (stopped_gets c h.0 place true (Err (ThirdSignal place)) h.1 h.2.parts)
-course_gets c (Err Unfinished) h n replay calm b p ts has =
-    moved b h.0.keys p h.0.plan ts h.0.turns c.sink 8
+course_gets c (Err Unfinished) h n k named calm b p ts has =
+    moved k h.0.command b h.0.keys p h.0.plan ts h.0.turns c.sink 8
+    (one_command c.words k h.0.command named h.0.named)
     (same_input c.source b h.0.keys p h.0.plan ts h.0.turns has h.0.given)
     (unfinished_gets c h.0 h.1 h.2.parts)
-course_gets c (Err (BadPlan f)) h n replay calm b p ts has =
-    moved b h.1.keys p h.1.plan ts h.1.turns c.sink 5
+course_gets c (Err (BadPlan f)) h n k named calm b p ts has =
+    moved k k b h.1.keys p h.1.plan ts h.1.turns c.sink 5 refl
     (same_input c.source b h.1.keys p h.1.plan ts h.1.turns has h.1.given)
-    (refused_gets h.1.keys h.1.plan h.1.turns c.sink h.1.refused.0 h.1.refused.1)
-course_gets c (Err Memory) h n replay calm b p ts has = memory_gets b p ts c.sink
-course_gets c (Err Words) h n replay calm b p ts has = absurd (h.0 replay)
-course_gets c (Err Read) h n replay calm b p ts has = absurd (calm n)
-course_gets c (Err TooLong) h n replay calm b p ts has =
+    (refused_gets k h.1.keys h.1.plan h.1.turns c.sink h.1.refused.0 h.1.refused.1)
+course_gets c (Err Memory) h n k named calm b p ts has = memory_gets k b p ts c.sink
+course_gets c (Err Words) h n k named calm b p ts has = absurd (h.0 (k, named))
+course_gets c (Err Read) h n k named calm b p ts has = absurd (calm n)
+course_gets c (Err TooLong) h n k named calm b p ts has =
     absurd (not_too_long c.source has.bytes has.told has.within h.1)
-course_gets c (Err (Line number)) h n replay calm b p ts has = absurd (no_bad_line c.source b p ts number has h.1)
+course_gets c (Err (Line number)) h n k named calm b p ts has = absurd (no_bad_line c.source b p ts number has h.1)
 
 -- an input with a bad line says nothing else
 bad_excludes : (r : Reading) (c : RunnerKeys) (p : Plan) (ts : List Turn) (n : ℕ) → HasBadInput r.left n
@@ -285,7 +309,7 @@ bad_excludes r c p ts n has given =
 
 -- 3
 pub bad_line_gets : (c : Call) (ending : Result RunOutcome Fault) → IsEnding c ending → CountsReadAtEnd c.source ending
-    → IsReplay c.words
+    → NamesCommand c.words
     → ¬ HasReadFault c.source → (number : ℕ) → HasBadInput c.source.left number → Gets (ending_status ending) 3
 bad_line_gets c (Ok o) h n replay calm number has = absurd (bad_excludes c.source _ _ _ number has h.0.given)
 bad_line_gets c (Err Report) h n replay calm number has = absurd (bad_excludes c.source _ _ _ number has h.0.given)
@@ -317,7 +341,7 @@ given_excludes r c p ts has given = too_much_excludes r given.bytes has given.gi
 
 -- 12
 pub too_much_gets : (c : Call) (ending : Result RunOutcome Fault) → IsEnding c ending → CountsReadAtEnd c.source ending
-    → IsReplay c.words
+    → NamesCommand c.words
     → ¬ HasReadFault c.source → HasTooMuch c.source.left → Gets (ending_status ending) 12
 too_much_gets c (Ok o) h n replay calm has = absurd (given_excludes c.source _ _ _ has h.0.given)
 too_much_gets c (Err Report) h n replay calm has = absurd (given_excludes c.source _ _ _ has h.0.given)

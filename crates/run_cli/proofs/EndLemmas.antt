@@ -10,7 +10,7 @@ use Rattle.run_events.specs.declared.turn.Turn.{Turn}
 use Rattle.run_events.specs.declared.ask.Ask.{Ask}
 use Rattle.run_events.specs.declared.outcome.RunOutcome.{RunOutcome}
 use Rattle.run_model.specs.declared.happening.Happening.{Happening}
-use Rattle.run_model.specs.Words.{told, asked}
+use Rattle.run_model.specs.Words.{asked}
 use Rattle.run_model.specs.Journal.{past_of, outcome}
 use Rattle.run_laws.proofs.told.Outcomes.{over_outcome}
 use Rattle.run_engine.specs.Execution.{UnlessMemory}
@@ -22,7 +22,7 @@ use Rattle.run_output.specs.declared.fault.Fault.TheVariants.{Unfinished, Report
 use Rattle.run_output.specs.Fields.{line_bytes}
 use Rattle.run_output.specs.Outcomes.{outcome_text}
 use Rattle.run_cli.specs.Call.{Writing, then_writing, HasTaken, HasWriteFault, Writes}
-use Rattle.run_cli.specs.Text.{event_lines, ask_lines, fault_only, rest_text}
+use Rattle.run_cli.specs.Text.{Form, joined, ask_lines, fault_only, rest_text}
 use Rattle.run_cli.specs.Executed.{IsExecuted, TookParts, WritesRun, report_ending}
 use Rattle.run_cli.specs.Finish.{fault_of_error, EndsAtFault, EndsAtOutcome, IsReplayed, IsReplayEnding}
 
@@ -37,24 +37,24 @@ some_is (Some x) d e = refl
 -- the lines of a run whose events were all taken, and then those of its asks and its end; w is the run, v its last
 -- lines,
 -- which begin where it ended
-pub whole_text : (p : Settings) (turns : List Turn) (w v : Writing) (asks : List (ℕ × Ask))
+pub whole_text : (form : Form) (p : Settings) (turns : List Turn) (w v : Writing) (asks : List (ℕ × Ask))
     (answer : Result RunOutcome (TestRunnerExecuteErrors Failed)) (last : List ℕ) → v.taken ≡ w.taken_after
-    → (x : IsExecuted p turns w asks answer) → x.refusal ≡ None → HasTaken v (ask_lines asks ++ last)
+    → (x : IsExecuted form p turns w asks answer) → x.refusal ≡ None → HasTaken v (ask_lines asks ++ last)
     → HasTaken (then_writing w v)
-    (event_lines (told (past_of p x.journal)) ++ (ask_lines (asked (past_of p x.journal)) ++ last))
-whole_text p turns w v asks answer last on x none rest =
+    (joined (form.lines (past_of p x.journal)) ++ (ask_lines (form.asks (asked (past_of p x.journal))) ++ last))
+whole_text form p turns w v asks answer last on x none rest =
     let past : List Happening = past_of p x.journal in
-    takes_both w.taken w.taken_after v.taken_after (event_lines (told past)) (ask_lines (asked past) ++ last)
+    takes_both w.taken w.taken_after v.taken_after (joined (form.lines past)) (ask_lines (form.asks (asked past)) ++ last)
     (x.told none)
     (subst (λ told_asks. HasTaken (record v { taken = w.taken_after }) (ask_lines told_asks ++ last)) x.asked
     (subst (λ t. HasTaken (record v { taken = t }) (ask_lines asks ++ last)) on rest))
 
 -- the lines of its events, each as it was taken, and then those of its asks and its end
-pub took_parts : (p : Settings) (turns : List Turn) (w v : Writing) (asks : List (ℕ × Ask))
+pub took_parts : (form : Form) (p : Settings) (turns : List Turn) (w v : Writing) (asks : List (ℕ × Ask))
     (answer : Result RunOutcome (TestRunnerExecuteErrors Failed)) (last : List ℕ) → v.taken ≡ w.taken_after
-    → v.faults ≡ w.faults_after → (x : IsExecuted p turns w asks answer) → Writes v (ask_lines asks ++ last)
-    → TookParts (past_of p x.journal) (ask_lines (asked (past_of p x.journal)) ++ last) (then_writing w v)
-took_parts p turns w v asks answer last on from x writes = record {
+    → v.faults ≡ w.faults_after → (x : IsExecuted form p turns w asks answer) → Writes v (ask_lines asks ++ last)
+    → TookParts form (past_of p x.journal) (ask_lines (form.asks (asked (past_of p x.journal))) ++ last) (then_writing w v)
+took_parts form p turns w v asks answer last on from x writes = record {
   between = w.taken_after;
   count = w.faults_after;
   events = x.took;
@@ -70,10 +70,10 @@ whole_of v text (inl whole) calm = whole.1
 whole_of v text (inr front) calm = absurd (calm front.1)
 
 -- where the sink failed neither in the run nor after it, no event was refused
-calm_run : (p : Settings) (turns : List Turn) (w v : Writing) (asks : List (ℕ × Ask))
+calm_run : (form : Form) (p : Settings) (turns : List Turn) (w v : Writing) (asks : List (ℕ × Ask))
     (answer : Result RunOutcome (TestRunnerExecuteErrors Failed)) → w.faults_after ≤ v.faults_after
-    → (x : IsExecuted p turns w asks answer) → ¬ HasWriteFault (then_writing w v) → x.refusal ≡ None
-calm_run p turns w v asks answer le x calm = by_refusal x.refusal refl
+    → (x : IsExecuted form p turns w asks answer) → ¬ HasWriteFault (then_writing w v) → x.refusal ≡ None
+calm_run form p turns w v asks answer le x calm = by_refusal x.refusal refl
   where
     by_refusal : (o : Option Failed) → x.refusal ≡ o → o ≡ None
     by_refusal None e = refl
@@ -81,133 +81,135 @@ calm_run p turns w v asks answer le x calm = by_refusal x.refusal refl
         absurd (calm (rose_then w.faults w.faults_after v.faults_after (x.risen (some_is x.refusal d e)) le))
 
 -- the run so far: its journal is legal, and tied to the sink
-replayed : (p : Settings) (turns : List Turn) (w v : Writing) (asks : List (ℕ × Ask))
+replayed : (form : Form) (p : Settings) (turns : List Turn) (w v : Writing) (asks : List (ℕ × Ask))
     (answer : Result RunOutcome (TestRunnerExecuteErrors Failed)) → w.faults_after ≤ v.faults_after
-    → IsExecuted p turns w asks answer → IsReplayed p (then_writing w v)
-replayed p turns w v asks answer le x = record {
+    → IsExecuted form p turns w asks answer → IsReplayed p (then_writing w v)
+replayed form p turns w v asks answer le x = record {
   journal = x.journal;
   legal = x.runnable.legal;
-  tied = λ calm. sym x.marked ∙ ap is_none (calm_run p turns w v asks answer le x calm);
+  tied = λ calm. sym x.marked ∙ ap is_none (calm_run form p turns w v asks answer le x calm);
 }
 
 -- the lines of a run that ends at a fault
-fault_writes : (p : Settings) (turns : List Turn) (w v : Writing) (asks : List (ℕ × Ask))
+fault_writes : (form : Form) (p : Settings) (turns : List Turn) (w v : Writing) (asks : List (ℕ × Ask))
     (answer : Result RunOutcome (TestRunnerExecuteErrors Failed)) (fault : Fault) → v.taken ≡ w.taken_after
-    → v.faults ≡ w.faults_after → (x : IsExecuted p turns w asks answer) → v.faults ≤ v.faults_after
-    → Writes v (ask_lines asks ++ fault_only fault) → WritesRun (past_of p x.journal) (Err fault) (then_writing w v)
-fault_writes p turns w v asks answer fault on from x le writes = record {
+    → v.faults ≡ w.faults_after → (x : IsExecuted form p turns w asks answer) → v.faults ≤ v.faults_after
+    → Writes v (ask_lines asks ++ fault_only fault) → WritesRun form (past_of p x.journal) (Err fault) (then_writing w v)
+fault_writes form p turns w v asks answer fault on from x le writes = record {
   whole = λ calm.
-      let none = calm_run p turns w v asks answer (omega arith) x calm in
+      let none = calm_run form p turns w v asks answer (omega arith) x calm in
       let stayed : v.faults ≡ w.faults = from ∙ x.quiet none in
-      whole_text p turns w v asks answer (fault_only fault) on x none
+      whole_text form p turns w v asks answer (fault_only fault) on x none
       (whole_of v (ask_lines asks ++ fault_only fault) writes
       (λ rose. calm (subst (λ n. Rose n v.faults_after) stayed rose)));
-  parts = took_parts p turns w v asks answer (fault_only fault) on from x writes;
+  parts = took_parts form p turns w v asks answer (fault_only fault) on from x writes;
 }
 
 -- the last line of a run that is over, by whether an event was refused
-pub report_of : (p : Settings) (turns : List Turn) (w v : Writing) (asks : List (ℕ × Ask))
-    (answer : Result RunOutcome (TestRunnerExecuteErrors Failed)) (x : IsExecuted p turns w asks answer)
+pub report_of : (form : Form) (p : Settings) (turns : List Turn) (w v : Writing) (asks : List (ℕ × Ask))
+    (answer : Result RunOutcome (TestRunnerExecuteErrors Failed)) (x : IsExecuted form p turns w asks answer)
     (o : RunOutcome) (b : Bool)
     → is_none x.refusal ≡ b
-    → TookParts (past_of p x.journal) (rest_text (past_of p x.journal) (if b then Ok o else Err Report)) (then_writing w v)
-    → TookParts (past_of p x.journal) (rest_text (past_of p x.journal) (report_ending x.journal o)) (then_writing w v)
-report_of p turns w v asks answer x o b is parts =
-    subst (λ b. TookParts (past_of p x.journal)
-    (rest_text (past_of p x.journal) (if b then Ok o else Err Report)) (then_writing w v))
+    → TookParts form (past_of p x.journal) (rest_text form (past_of p x.journal) (if b then Ok o else Err Report))
+    (then_writing w v)
+    → TookParts form (past_of p x.journal) (rest_text form (past_of p x.journal) (report_ending x.journal o))
+    (then_writing w v)
+report_of form p turns w v asks answer x o b is parts =
+    subst (λ b. TookParts form (past_of p x.journal)
+    (rest_text form (past_of p x.journal) (if b then Ok o else Err Report)) (then_writing w v))
     (sym is ∙ x.marked) parts
 
 -- after an outcome
-pub outcome_ends : (p : Settings) (turns : List Turn) (w v : Writing) (asks : List (ℕ × Ask)) (o : RunOutcome)
+pub outcome_ends : (form : Form) (p : Settings) (turns : List Turn) (w v : Writing) (asks : List (ℕ × Ask)) (o : RunOutcome)
     (ending : Result RunOutcome Fault) → v.taken ≡ w.taken_after → v.faults ≡ w.faults_after
-    → IsExecuted p turns w asks (Ok o) → EndsAtOutcome v asks o ending → v.faults ≤ v.faults_after
-    → IsReplayEnding p turns (then_writing w v) ending
+    → IsExecuted form p turns w asks (Ok o) → EndsAtOutcome v asks o ending → v.faults ≤ v.faults_after
+    → IsReplayEnding form p turns (then_writing w v) ending
 unfolding replayed
-outcome_ends p turns w v asks o (Ok e) on from x h le =
+outcome_ends form p turns w v asks o (Ok e) on from x h le =
     let text : HasTaken v (ask_lines asks ++ line_bytes (outcome_text e)) =
     subst (λ u. HasTaken v (ask_lines asks ++ line_bytes (outcome_text u))) (sym h.0) h.1 in (
-      replayed p turns w v asks (Ok o) (omega arith) x,
+      replayed form p turns w v asks (Ok o) (omega arith) x,
       x.says.0,
       x.says.1 ∙ ap Some (sym h.0),
-      whole_text p turns w v asks (Ok o) (line_bytes (outcome_text e)) on x x.says.2 text,
+      whole_text form p turns w v asks (Ok o) (line_bytes (outcome_text e)) on x x.says.2 text,
       h.2 ∙ from ∙ x.quiet x.says.2,
-      took_parts p turns w v asks (Ok o) (line_bytes (outcome_text e)) on from x (inl (h.2, text)),
+      took_parts form p turns w v asks (Ok o) (line_bytes (outcome_text e)) on from x (inl (h.2, text)),
     )
-outcome_ends p turns w v asks o (Err Report) on from x h le = (
-  replayed p turns w v asks (Ok o) (omega arith) x,
+outcome_ends form p turns w v asks o (Err Report) on from x h le = (
+  replayed form p turns w v asks (Ok o) (omega arith) x,
   x.says.0,
   (
     o,
     x.says.1,
-    report_of p turns w v asks (Ok o) x o true (ap is_none x.says.2)
-        (took_parts p turns w v asks (Ok o) (line_bytes (outcome_text o)) on from x (inr h)),
+    report_of form p turns w v asks (Ok o) x o true (ap is_none x.says.2)
+        (took_parts form p turns w v asks (Ok o) (line_bytes (outcome_text o)) on from x (inr h)),
   ),
   subst (λ n. Rose n v.faults_after) (from ∙ x.quiet x.says.2) h.1,
 )
-outcome_ends p turns w v asks o (Err Memory) on from x h le = tt
-outcome_ends p turns w v asks o (Err Words) on from x h le = absurd h
-outcome_ends p turns w v asks o (Err (Line n)) on from x h le = absurd h
-outcome_ends p turns w v asks o (Err (BadPlan f)) on from x h le = absurd h
-outcome_ends p turns w v asks o (Err (NotEnabled n)) on from x h le = absurd h
-outcome_ends p turns w v asks o (Err (ThirdSignal n)) on from x h le = absurd h
-outcome_ends p turns w v asks o (Err Unfinished) on from x h le = absurd h
-outcome_ends p turns w v asks o (Err Read) on from x h le = absurd h
-outcome_ends p turns w v asks o (Err TooLong) on from x h le = absurd h
+outcome_ends form p turns w v asks o (Err Memory) on from x h le = tt
+outcome_ends form p turns w v asks o (Err Words) on from x h le = absurd h
+outcome_ends form p turns w v asks o (Err (Line n)) on from x h le = absurd h
+outcome_ends form p turns w v asks o (Err (BadPlan f)) on from x h le = absurd h
+outcome_ends form p turns w v asks o (Err (NotEnabled n)) on from x h le = absurd h
+outcome_ends form p turns w v asks o (Err (ThirdSignal n)) on from x h le = absurd h
+outcome_ends form p turns w v asks o (Err Unfinished) on from x h le = absurd h
+outcome_ends form p turns w v asks o (Err Read) on from x h le = absurd h
+outcome_ends form p turns w v asks o (Err TooLong) on from x h le = absurd h
 
 -- after a fault: what it says, or want of memory
-fault_ends : (p : Settings) (turns : List Turn) (w v : Writing) (asks : List (ℕ × Ask)) (fault : Fault)
+fault_ends : (form : Form) (p : Settings) (turns : List Turn) (w v : Writing) (asks : List (ℕ × Ask)) (fault : Fault)
     (ending : Result RunOutcome Fault)
     → (v.faults ≤ v.faults_after → Writes v (ask_lines asks ++ fault_only fault)
-    → IsReplayEnding p turns (then_writing w v) (Err fault))
-    → EndsAtFault v asks fault ending → IsReplayEnding p turns (then_writing w v) ending
-fault_ends p turns w v asks fault (Ok o) says h = absurd h
-fault_ends p turns w v asks fault (Err e) says (inl m) =
-    subst (λ f. IsReplayEnding p turns (then_writing w v) (Err f)) (sym m) tt
-fault_ends p turns w v asks fault (Err e) says (inr h) =
-    subst (λ f. IsReplayEnding p turns (then_writing w v) (Err f)) (sym h.0) (says h.1 h.2)
+    → IsReplayEnding form p turns (then_writing w v) (Err fault))
+    → EndsAtFault v asks fault ending → IsReplayEnding form p turns (then_writing w v) ending
+fault_ends form p turns w v asks fault (Ok o) says h = absurd h
+fault_ends form p turns w v asks fault (Err e) says (inl m) =
+    subst (λ f. IsReplayEnding form p turns (then_writing w v) (Err f)) (sym m) tt
+fault_ends form p turns w v asks fault (Err e) says (inr h) =
+    subst (λ f. IsReplayEnding form p turns (then_writing w v) (Err f)) (sym h.0) (says h.1 h.2)
 
 -- after an error of the engine
-pub error_ends : (p : Settings) (turns : List Turn) (w v : Writing) (asks : List (ℕ × Ask))
+pub error_ends : (form : Form) (p : Settings) (turns : List Turn) (w v : Writing) (asks : List (ℕ × Ask))
     (error : TestRunnerExecuteErrors Failed) (ending : Result RunOutcome Fault) → v.taken ≡ w.taken_after
-    → v.faults ≡ w.faults_after → UnlessMemory (Err error) (IsExecuted p turns w asks (Err error))
-    → EndsAtFault v asks (fault_of_error error) ending → IsReplayEnding p turns (then_writing w v) ending
+    → v.faults ≡ w.faults_after → UnlessMemory (Err error) (IsExecuted form p turns w asks (Err error))
+    → EndsAtFault v asks (fault_of_error error) ending → IsReplayEnding form p turns (then_writing w v) ending
 unfolding replayed
-error_ends p turns w v asks (engine.Report d) ending on from x h =
+error_ends form p turns w v asks (engine.Report d) ending on from x h =
     let end : (o : RunOutcome) × (outcome p (past_of p x.journal) ≡ Some o) =
     (_, over_outcome p (past_of p x.journal) x.says.1) in
-    fault_ends p turns w v asks Report ending
+    fault_ends form p turns w v asks Report ending
     (λ le writes. (
-      replayed p turns w v asks (Err (engine.Report d)) (omega arith) x,
+      replayed form p turns w v asks (Err (engine.Report d)) (omega arith) x,
       x.says.0,
       (
         end.0,
         end.1,
-        report_of p turns w v asks (Err (engine.Report d)) x end.0 false (ap is_none x.says.2)
-            (took_parts p turns w v asks (Err (engine.Report d)) (fault_only Report) on from x writes),
+        report_of form p turns w v asks (Err (engine.Report d)) x end.0 false (ap is_none x.says.2)
+            (took_parts form p turns w v asks (Err (engine.Report d)) (fault_only Report) on from x writes),
       ),
       rose_then w.faults w.faults_after v.faults_after (x.risen (some_is x.refusal d x.says.2)) (omega arith),
     )) h
-error_ends p turns w v asks (engine.NotEnabled place) ending on from x h =
-    fault_ends p turns w v asks (NotEnabled place) ending
+error_ends form p turns w v asks (engine.NotEnabled place) ending on from x h =
+    fault_ends form p turns w v asks (NotEnabled place) ending
     (λ le writes. (
-      replayed p turns w v asks (Err (engine.NotEnabled place)) (omega arith) x,
+      replayed form p turns w v asks (Err (engine.NotEnabled place)) (omega arith) x,
       x.says,
-      fault_writes p turns w v asks (Err (engine.NotEnabled place)) (NotEnabled place) on from x le writes,
+      fault_writes form p turns w v asks (Err (engine.NotEnabled place)) (NotEnabled place) on from x le writes,
     )) h
-error_ends p turns w v asks (engine.ThirdSignal place) ending on from x h =
-    fault_ends p turns w v asks (ThirdSignal place) ending
+error_ends form p turns w v asks (engine.ThirdSignal place) ending on from x h =
+    fault_ends form p turns w v asks (ThirdSignal place) ending
     (λ le writes. (
-      replayed p turns w v asks (Err (engine.ThirdSignal place)) (omega arith) x,
+      replayed form p turns w v asks (Err (engine.ThirdSignal place)) (omega arith) x,
       x.says,
-      fault_writes p turns w v asks (Err (engine.ThirdSignal place)) (ThirdSignal place) on from x le writes,
+      fault_writes form p turns w v asks (Err (engine.ThirdSignal place)) (ThirdSignal place) on from x le writes,
     )) h
-error_ends p turns w v asks engine.Unfinished ending on from x h =
-    fault_ends p turns w v asks Unfinished ending
+error_ends form p turns w v asks engine.Unfinished ending on from x h =
+    fault_ends form p turns w v asks Unfinished ending
     (λ le writes. (
-      replayed p turns w v asks (Err engine.Unfinished) (omega arith) x,
+      replayed form p turns w v asks (Err engine.Unfinished) (omega arith) x,
       x.says.0,
       x.says.1,
-      fault_writes p turns w v asks (Err engine.Unfinished) Unfinished on from x le writes,
+      fault_writes form p turns w v asks (Err engine.Unfinished) Unfinished on from x le writes,
     )) h
-error_ends p turns w v asks engine.OutOfMemory ending on from x h =
-    fault_ends p turns w v asks Memory ending (λ le writes. tt) h
+error_ends form p turns w v asks engine.OutOfMemory ending on from x h =
+    fault_ends form p turns w v asks Memory ending (λ le writes. tt) h

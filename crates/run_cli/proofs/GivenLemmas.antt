@@ -27,8 +27,8 @@ use Rattle.run_input.specs.Lines.{lines_of, at_front}
 use Rattle.run_input.specs.Input.{IsInput, turns_said, turn_line_of}
 use Rattle.run_input.specs.PlanHead.{frame_of}
 use Rattle.run_input.specs.PlanLine.{keys_of, rules_from, plan_scripts_of, plan_tests_of, plan_groups_of, lists_of}
-use Rattle.run_input.specs.PlanLine.{plan_names, plan_with, plan_alone_of, plan_of}
-use Rattle.run_input.specs.Fields.{when, is_object_of}
+use Rattle.run_input.specs.PlanLine.{plan_names, plan_with, plan_alone_of, plan_of, version_of}
+use Rattle.run_input.specs.Fields.{when, is_object_of, or_usual}
 use Rattle.run_input.specs.ValueOf.{json_value}
 use Rattle.serde_json.specs.Data.{Data}
 use Rattle.serde_json.specs.Find.{get}
@@ -38,7 +38,9 @@ use Rattle.run_output.specs.declared.fault.Fault.TheVariants.{Unfinished, Report
 use Rattle.run_cli.specs.Call.{Call, Reading, Writing, Writes}
 use Rattle.run_cli.specs.Plans.{builder_of, settings_for, plan_refusal, fault_of_plan}
 use Rattle.run_cli.specs.Text.{fault_only}
-use Rattle.run_cli.specs.Given.{IsReplay, SaysInput, IsGivenFault, CountsRead, CountsReadAtEnd}
+use Rattle.run_cli.specs.Commands.{IsNamedBy, form_of}
+use Rattle.run_cli.specs.declared.command.Command.{Command}
+use Rattle.run_cli.specs.Given.{SaysInput, IsGivenFault, CountsRead, CountsReadAtEnd}
 use Rattle.run_cli.specs.Ending.{Replays, IsFinished, IsWholeRun, StopsBefore, IsEnding}
 use Rattle.run_cli.specs.Finish.{EndsAtFault, IsReplayed, IsReplayEnding, IsInputEnding}
 
@@ -115,8 +117,11 @@ few_as k l p q e few = subst IsFew (ap (λ (x : RunnerKeys × Plan). x.1) e) few
 
 few_alone : (d : Data) (plan : Plan) → plan_alone_of d ≡ Some plan → IsFew plan
 few_alone d plan e =
+    let v = then_some (or_usual 1 version_of (get (codes "version") d))
+    (λ _. option_and_then (λ r. option_and_then (λ f. option_and_then (λ l. Some (plan_with r f l)) (lists_of d))
+    (frame_of d)) (rules_from d)) plan e in
     let r = then_some (rules_from d)
-    (λ r. option_and_then (λ f. option_and_then (λ l. Some (plan_with r f l)) (lists_of d)) (frame_of d)) plan e in
+    (λ r. option_and_then (λ f. option_and_then (λ l. Some (plan_with r f l)) (lists_of d)) (frame_of d)) plan v.2 in
     let f = then_some (frame_of d) (λ f. option_and_then (λ l. Some (plan_with r.0 f l)) (lists_of d)) plan r.2 in
     let l = then_some (lists_of d) (λ l. Some (plan_with r.0 f.0 l)) plan f.2 in
     let says : Plan = plan_with r.0 f.0 l.0 in
@@ -163,11 +168,12 @@ whole : (c : Call) (r : Replays c) (o : RunOutcome) → journal_turns r.journal 
 whole c r o all e = record { all = all; finished = finished (settings_for r.keys r.plan) r.journal o r.legal e }
 
 -- the call whose input was good, with what its run has taken
-replays : (c : Call) (keys : RunnerKeys) (plan : Plan) (turns : List Turn) → IsReplay c.words
+replays : (c : Call) (command : Command) (keys : RunnerKeys) (plan : Plan) (turns : List Turn) → IsNamedBy command c.words
     → SaysInput c.source keys plan turns
     → plan_refusal keys plan ≡ None → IsReplayed (settings_for keys plan) c.sink → Replays c
-replays c keys plan turns replay given accepted r = record {
-  replay = replay;
+replays c command keys plan turns named given accepted r = record {
+  command = command;
+  named = named;
   keys = keys;
   plan = plan;
   turns = turns;
@@ -184,79 +190,79 @@ stops_before c r place third h =
     record { before = h.0; turn = h.1.0; at = h.1.1; refused = h.1.2; whether = h.1.3 }
 
 -- how a program ends whose input was good
-pub given_says : (c : Call) (keys : RunnerKeys) (plan : Plan) (turns : List Turn)
+pub given_says : (c : Call) (command : Command) (keys : RunnerKeys) (plan : Plan) (turns : List Turn)
     (ending : Result RunOutcome Fault)
-    → IsReplay c.words → SaysInput c.source keys plan turns → IsInputEnding keys plan turns c.sink ending
-    → IsEnding c ending
+    → IsNamedBy command c.words → SaysInput c.source keys plan turns
+    → IsInputEnding command keys plan turns c.sink ending → IsEnding c ending
 unfolding replays
-given_says c keys plan turns (Ok o) replay given (accepted, h) =
-    let r = replays c keys plan turns replay given accepted h.0 in
+given_says c command keys plan turns (Ok o) named given (accepted, h) =
+    let r = replays c command keys plan turns named given accepted h.0 in
     (r, whole c r o h.1 h.2, h.3, h.4, h.5)
-given_says c keys plan turns (Err Report) replay given (accepted, h) =
-    let r = replays c keys plan turns replay given accepted h.0 in
+given_says c command keys plan turns (Err Report) named given (accepted, h) =
+    let r = replays c command keys plan turns named given accepted h.0 in
     (r, h.2.0, whole c r h.2.0 h.1 h.2.1, h.2.2, h.3)
-given_says c keys plan turns (Err (NotEnabled place)) replay given (accepted, h) = (
-  replays c keys plan turns replay given accepted h.0,
-  stops_before c (replays c keys plan turns replay given accepted h.0) place false h.1,
+given_says c command keys plan turns (Err (NotEnabled place)) named given (accepted, h) = (
+  replays c command keys plan turns named given accepted h.0,
+  stops_before c (replays c command keys plan turns named given accepted h.0) place false h.1,
   h.2,
 )
-given_says c keys plan turns (Err (ThirdSignal place)) replay given (accepted, h) = (
-  replays c keys plan turns replay given accepted h.0,
-  stops_before c (replays c keys plan turns replay given accepted h.0) place true h.1,
+given_says c command keys plan turns (Err (ThirdSignal place)) named given (accepted, h) = (
+  replays c command keys plan turns named given accepted h.0,
+  stops_before c (replays c command keys plan turns named given accepted h.0) place true h.1,
   h.2,
 )
-given_says c keys plan turns (Err Unfinished) replay given (accepted, h) = (
-  replays c keys plan turns replay given accepted h.0,
+given_says c command keys plan turns (Err Unfinished) named given (accepted, h) = (
+  replays c command keys plan turns named given accepted h.0,
   record { all = h.1; goes_on = h.2 },
   h.3,
 )
-given_says c keys plan turns (Err (BadPlan f)) replay given h =
-    (replay, record { keys = keys; plan = plan; turns = turns; given = given; refused = h.0 }, h.1)
-given_says c keys plan turns (Err Memory) replay given h = tt
-given_says c keys plan turns (Err Words) replay given h = absurd h.1
-given_says c keys plan turns (Err (Line n)) replay given h = absurd h.1
-given_says c keys plan turns (Err Read) replay given h = absurd h.1
-given_says c keys plan turns (Err TooLong) replay given h = absurd h.1
+given_says c command keys plan turns (Err (BadPlan f)) named given h =
+    ((command, named), record { keys = keys; plan = plan; turns = turns; given = given; refused = h.0 }, h.1)
+given_says c command keys plan turns (Err Memory) named given h = tt
+given_says c command keys plan turns (Err Words) named given h = absurd h.1
+given_says c command keys plan turns (Err (Line n)) named given h = absurd h.1
+given_says c command keys plan turns (Err Read) named given h = absurd h.1
+given_says c command keys plan turns (Err TooLong) named given h = absurd h.1
 
 -- the end of the turns of a plan that was accepted
-pub accepted_ends : (keys : RunnerKeys) (plan : Plan) (turns : List Turn) (w : Writing)
+pub accepted_ends : (command : Command) (keys : RunnerKeys) (plan : Plan) (turns : List Turn) (w : Writing)
     (ending : Result RunOutcome Fault)
-    → plan_refusal keys plan ≡ None → IsReplayEnding (settings_for keys plan) turns w ending
-    → IsInputEnding keys plan turns w ending
-accepted_ends keys plan turns w (Ok o) accepted h = (accepted, h)
-accepted_ends keys plan turns w (Err Report) accepted h = (accepted, h)
-accepted_ends keys plan turns w (Err (NotEnabled place)) accepted h = (accepted, h)
-accepted_ends keys plan turns w (Err Unfinished) accepted h = (accepted, h)
-accepted_ends keys plan turns w (Err (BadPlan f)) accepted h = absurd h
-accepted_ends keys plan turns w (Err Memory) accepted h = tt
-accepted_ends keys plan turns w (Err Words) accepted h = absurd h
-accepted_ends keys plan turns w (Err (Line n)) accepted h = absurd h
-accepted_ends keys plan turns w (Err Read) accepted h = absurd h
-accepted_ends keys plan turns w (Err TooLong) accepted h = absurd h
-accepted_ends keys plan turns w (Err (ThirdSignal n)) accepted h = (accepted, h)
+    → plan_refusal keys plan ≡ None → IsReplayEnding (form_of command (settings_for keys plan)) (settings_for keys plan) turns w ending
+    → IsInputEnding command keys plan turns w ending
+accepted_ends command keys plan turns w (Ok o) accepted h = (accepted, h)
+accepted_ends command keys plan turns w (Err Report) accepted h = (accepted, h)
+accepted_ends command keys plan turns w (Err (NotEnabled place)) accepted h = (accepted, h)
+accepted_ends command keys plan turns w (Err Unfinished) accepted h = (accepted, h)
+accepted_ends command keys plan turns w (Err (BadPlan f)) accepted h = absurd h
+accepted_ends command keys plan turns w (Err Memory) accepted h = tt
+accepted_ends command keys plan turns w (Err Words) accepted h = absurd h
+accepted_ends command keys plan turns w (Err (Line n)) accepted h = absurd h
+accepted_ends command keys plan turns w (Err Read) accepted h = absurd h
+accepted_ends command keys plan turns w (Err TooLong) accepted h = absurd h
+accepted_ends command keys plan turns w (Err (ThirdSignal n)) accepted h = (accepted, h)
 
 -- the end of a plan that is refused
-refusal_ends : (keys : RunnerKeys) (plan : Plan) (turns : List Turn) (w : Writing)
+refusal_ends : (command : Command) (keys : RunnerKeys) (plan : Plan) (turns : List Turn) (w : Writing)
     (error : TestRunnerBuildError)
     → IsBuilt (builder_of keys) plan (Err error) → Writes w (fault_only (fault_of_plan error))
-    → IsInputEnding keys plan turns w (Err (fault_of_plan error))
-refusal_ends keys plan turns w (build.ZeroLimit g) h writes = ((build.ZeroLimit g, h, refl), writes)
-refusal_ends keys plan turns w (build.DuplicateTest k) h writes = ((build.DuplicateTest k, h, refl), writes)
-refusal_ends keys plan turns w (build.UnknownGroup k) h writes = ((build.UnknownGroup k, h, refl), writes)
-refusal_ends keys plan turns w (build.ZeroWeight k) h writes = ((build.ZeroWeight k, h, refl), writes)
-refusal_ends keys plan turns w (build.TooManyRetries k) h writes = ((build.TooManyRetries k, h, refl), writes)
-refusal_ends keys plan turns w build.OutOfMemory h writes = tt
+    → IsInputEnding command keys plan turns w (Err (fault_of_plan error))
+refusal_ends command keys plan turns w (build.ZeroLimit g) h writes = ((build.ZeroLimit g, h, refl), writes)
+refusal_ends command keys plan turns w (build.DuplicateTest k) h writes = ((build.DuplicateTest k, h, refl), writes)
+refusal_ends command keys plan turns w (build.UnknownGroup k) h writes = ((build.UnknownGroup k, h, refl), writes)
+refusal_ends command keys plan turns w (build.ZeroWeight k) h writes = ((build.ZeroWeight k, h, refl), writes)
+refusal_ends command keys plan turns w (build.TooManyRetries k) h writes = ((build.TooManyRetries k, h, refl), writes)
+refusal_ends command keys plan turns w build.OutOfMemory h writes = tt
 
-pub refused_plan : (keys : RunnerKeys) (plan : Plan) (turns : List Turn) (w : Writing)
+pub refused_plan : (command : Command) (keys : RunnerKeys) (plan : Plan) (turns : List Turn) (w : Writing)
     (error : TestRunnerBuildError)
     (ending : Result RunOutcome Fault) → IsBuilt (builder_of keys) plan (Err error)
     → EndsAtFault w [] (fault_of_plan error) ending
-    → IsInputEnding keys plan turns w ending
-refused_plan keys plan turns w error (Ok o) b e = absurd e
-refused_plan keys plan turns w error (Err d) b (inl m) =
-    subst (λ f. IsInputEnding keys plan turns w (Err f)) (sym m) tt
-refused_plan keys plan turns w error (Err d) b (inr h) =
-    subst (λ f. IsInputEnding keys plan turns w (Err f)) (sym h.0) (refusal_ends keys plan turns w error b h.2)
+    → IsInputEnding command keys plan turns w ending
+refused_plan command keys plan turns w error (Ok o) b e = absurd e
+refused_plan command keys plan turns w error (Err d) b (inl m) =
+    subst (λ f. IsInputEnding command keys plan turns w (Err f)) (sym m) tt
+refused_plan command keys plan turns w error (Err d) b (inr h) =
+    subst (λ f. IsInputEnding command keys plan turns w (Err f)) (sym h.0) (refusal_ends command keys plan turns w error b h.2)
 
 -- how a program ends whose words or input were not
 fault_says : (c : Call) (fault : Fault) → IsGivenFault c.words c.source fault → Writes c.sink (fault_only fault)

@@ -1,4 +1,8 @@
 pub mod TextLemmas
+mod WordLemmas
+mod ClockLemmas
+mod QuietLemmas
+pub mod TickLemmas
 pub mod ToldLines
 pub mod EndLemmas
 pub mod GivenLemmas

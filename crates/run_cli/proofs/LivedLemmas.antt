@@ -25,15 +25,16 @@ use Rattle.run_engine.specs.World.{flagged, earlier, first_error}
 use Rattle.run_engine.specs.Execution.{IsAnswerOf}
 use Rattle.run_engine.specs.declared.errors.TestRunnerExecuteErrors.{TestRunnerExecuteErrors}
 use Rattle.run_engine.specs.declared.errors.TestRunnerExecuteErrors.TheVariants as engine
-use Rattle.run_output.specs.Told.{HasTold, some_refused}
+use Rattle.run_output.specs.Told.{HasTold, event_lines, some_refused}
 use Rattle.run_cli.specs.Call.{Writing}
+use Rattle.run_cli.specs.Text.{whole_form}
 use Rattle.run_cli.specs.Executed.{IsExecuted}
 use Rattle.run_shared.specs.Closed.{IsLeft}
 use Rattle.run_drive.specs.declared.spawner.Heard.{Heard}
 use Rattle.run_live.specs.declared.lived.Lived.{Lived}
 use Rattle.run_cli.specs.Live.{IsClosed}
 use Rattle.run_cli.specs.Lived.{IsOver, IsLeftOver}
-use Rattle.run_cli.proofs.ToldLines.{first_refused, executed_from}
+use Rattle.run_cli.proofs.ToldLines.{first_refused, executed_whole}
 
 -- marks beside as many events are the marks
 zip_second : {X : Type 0} (xs : List X) (bs : List Bool) → length bs ≡ length xs → map (λ x. x.1) (zip xs bs) ≡ bs
@@ -89,11 +90,11 @@ none_marked p journal ys runnable flags =
 
 -- a run that is over, with no event refused
 unfoldable pub executed_calm : (p : Settings) (w : Writing) (n : ℕ) (journal : List Entry) (asks : List (ℕ × Ask))
-    (o : RunOutcome) → IsOver p w n journal asks o false → IsExecuted p (turns_of journal) w asks (Ok o)
+    (o : RunOutcome) → IsOver p w n journal asks o false → IsExecuted whole_form p (turns_of journal) w asks (Ok o)
 executed_calm p w n journal asks o x =
     let none : first_error x.events ≡ None =
     by_error (first_error x.events) (x.marked ∙ first_refused x.events) in
-    executed_from p (turns_of journal) w n asks (Ok o) journal None x.events x.runnable (refl, x.over, refl)
+    executed_whole p (turns_of journal) w n asks (Ok o) journal None x.events x.runnable (refl, x.over, refl)
     (sym (ap is_none none) ∙ none_marked p journal x.events x.runnable x.flags) x.asked x.told x.flags none
   where
     by_error : (o : Option Failed) → false ≡ is_some o → o ≡ None
@@ -103,9 +104,9 @@ executed_calm p w n journal asks o x =
 -- one that is over, with an event refused: by its first error
 unfoldable pub executed_rough : (p : Settings) (w : Writing) (n : ℕ) (journal : List Entry) (asks : List (ℕ × Ask))
     (o : RunOutcome) (d : Failed) → (x : IsOver p w n journal asks o true) → first_error x.events ≡ Some d
-    → IsExecuted p (turns_of journal) w asks (Err (engine.Report d))
+    → IsExecuted whole_form p (turns_of journal) w asks (Err (engine.Report d))
 executed_rough p w n journal asks o d x first =
-    executed_from p (turns_of journal) w n asks (Err (engine.Report d)) journal (Some d) x.events x.runnable
+    executed_whole p (turns_of journal) w n asks (Err (engine.Report d)) journal (Some d) x.events x.runnable
     (refl, over_is p (past_of p journal) o x.over, refl)
     (sym (ap is_none first) ∙ none_marked p journal x.events x.runnable x.flags) x.asked x.told x.flags first
 
@@ -136,7 +137,7 @@ closed_from said tells p l x none = record {
 pub over_from : {R : Type 0} (tells : R → List (ReporterEvent × Option Failed) → Type 0) (p : Settings) (w : Writing)
     (n : ℕ) (report : R) (journal : List Entry) (asks : List (ℕ × Ask)) (o : RunOutcome) (refused : Bool)
     → ((ys : List (ReporterEvent × Option Failed)) → tells report ys
-    → HasTold w.taken w.taken_after w.faults w.faults_after n ys)
+    → HasTold w.taken w.taken_after w.faults w.faults_after n (event_lines ys))
     → ((ys : List (ReporterEvent × Option Failed)) → tells report ys → refused ≡ some_refused ys)
     → IsLeft tells report asks p journal (Some o) → IsOver p w n journal asks o refused
 over_from tells p w n report journal asks o refused told marked x =

@@ -21,7 +21,7 @@ use Rattle.run_output.specs.Outcomes.{outcome_text}
 use Rattle.run_drive.specs.declared.spawner.Heard.{Heard}
 use Rattle.run_live.specs.declared.lived.Live.{Live}
 use Rattle.run_cli.specs.Call.{Writing, then_writing, HasTaken, Writes}
-use Rattle.run_cli.specs.Text.{ask_lines, fault_only}
+use Rattle.run_cli.specs.Text.{whole_form, ask_lines, fault_only}
 use Rattle.run_cli.specs.Executed.{IsExecuted}
 use Rattle.run_cli.specs.Ending.{IsFinished}
 use Rattle.run_cli.specs.Finish.{EndsAtFault, EndsAtOutcome}
@@ -29,7 +29,7 @@ use Rattle.run_cli.specs.Live.{IsClosed, IsRunEnd}
 use Rattle.run_cli.specs.Lived.{IsOver, EndsOver, IsOpenFault, ending_of, kept_by}
 use Rattle.run_cli.proofs.EndLemmas.{rose_then, some_is, whole_text, took_parts, report_of}
 use Rattle.run_cli.proofs.GivenLemmas.{finished}
-use Rattle.run_cli.proofs.ToldLines.{executed_from}
+use Rattle.run_cli.proofs.ToldLines.{executed_from, executed_whole}
 use Rattle.run_cli.proofs.LivedLemmas.{executed_calm, executed_rough, rough_error}
 
 -- a run that is over and had no event refused, after its outcome
@@ -37,17 +37,17 @@ pub calm_ends : {W : Type 0} (said : W → List Heard → Type 0) (p : Settings)
     (asks : List (ℕ × Ask)) (o : RunOutcome) (ending : Result RunOutcome Fault) → v.taken ≡ w.taken_after
     → v.faults ≡ w.faults_after → IsClosed said p l → IsOver p w n l.journal asks o false
     → EndsAtOutcome v asks o ending → IsRunEnd said p (then_writing w v) (kept_by ending l) (ending_of ending)
-unfolding executed_calm executed_from
+unfolding executed_calm executed_whole executed_from
 calm_ends said p w v n l asks o (Ok e) on from closed x h =
-    let run : IsExecuted p (turns_of l.journal) w asks (Ok o) = executed_calm p w n l.journal asks o x in
-    let text = whole_text p (turns_of l.journal) w v asks (Ok o) (line_bytes (outcome_text e)) on run refl
+    let run : IsExecuted whole_form p (turns_of l.journal) w asks (Ok o) = executed_calm p w n l.journal asks o x in
+    let text = whole_text whole_form p (turns_of l.journal) w v asks (Ok o) (line_bytes (outcome_text e)) on run refl
     (subst (λ u. HasTaken v (ask_lines asks ++ line_bytes (outcome_text u))) (sym h.0) h.1) in
     let over : outcome p (past_of p l.journal) ≡ Some e = x.over ∙ ap Some (sym h.0) in
     ((closed, finished p l.journal e closed.legal over, text), h.2 ∙ from ∙ run.quiet refl)
 calm_ends said p w v n l asks o (Err Report) on from closed x h =
-    let run : IsExecuted p (turns_of l.journal) w asks (Ok o) = executed_calm p w n l.journal asks o x in
-    let parts = report_of p (turns_of l.journal) w v asks (Ok o) run o true refl
-    (took_parts p (turns_of l.journal) w v asks (Ok o) (line_bytes (outcome_text o)) on from run (inr h)) in (
+    let run : IsExecuted whole_form p (turns_of l.journal) w asks (Ok o) = executed_calm p w n l.journal asks o x in
+    let parts = report_of whole_form p (turns_of l.journal) w v asks (Ok o) run o true refl
+    (took_parts whole_form p (turns_of l.journal) w v asks (Ok o) (line_bytes (outcome_text o)) on from run (inr h)) in (
       (closed, (o, finished p l.journal o closed.legal x.over, parts)),
       subst (λ n. Rose n v.faults_after) (from ∙ run.quiet refl) h.1,
     )
@@ -78,11 +78,11 @@ pub rough_ends : {W : Type 0} (said : W → List Heard → Type 0) (p : Settings
     (asks : List (ℕ × Ask)) (o : RunOutcome) (ending : Result RunOutcome Fault) → v.taken ≡ w.taken_after
     → v.faults ≡ w.faults_after → IsClosed said p l → IsOver p w n l.journal asks o true
     → EndsAtFault v asks Report ending → IsRunEnd said p (then_writing w v) (kept_by ending l) (ending_of ending)
-unfolding executed_rough executed_from
+unfolding executed_rough executed_whole executed_from
 rough_ends said p w v n l asks o ending on from closed x h =
     let first = rough_error p w n l.journal asks o x in
     let answer = Err (engine.Report first.0) in
-    let run : IsExecuted p (turns_of l.journal) w asks answer =
+    let run : IsExecuted whole_form p (turns_of l.journal) w asks answer =
     executed_rough p w n l.journal asks o first.0 x first.1 in
     fault_or_memory said p (then_writing w v) v l asks Report ending
     (λ le writes. (
@@ -91,8 +91,8 @@ rough_ends said p w v n l asks o ending on from closed x h =
         (
           o,
           finished p l.journal o closed.legal x.over,
-          report_of p (turns_of l.journal) w v asks answer run o false refl
-              (took_parts p (turns_of l.journal) w v asks answer (fault_only Report) on from run writes),
+          report_of whole_form p (turns_of l.journal) w v asks answer run o false refl
+              (took_parts whole_form p (turns_of l.journal) w v asks answer (fault_only Report) on from run writes),
         ),
       ),
       rose_then w.faults w.faults_after v.faults_after (run.risen refl) (omega arith),

@@ -9,7 +9,8 @@ use Rattle.run_output.specs.declared.fault.Fault.TheVariants.{Words, Line, Plan 
 use Rattle.run_output.specs.declared.fault.Fault.TheVariants.{Unfinished, Report, Read, Memory, TooLong}
 use Rattle.run_cli.specs.Call.{Call, Reading, HasReadFault, Writes}
 use Rattle.run_cli.specs.Text.{fault_only, outcome_status, ending_status}
-use Rattle.run_cli.specs.Given.{IsReplay, IsTooLong, IsWithin, CountsReadAtEnd}
+use Rattle.run_cli.specs.Given.{IsTooLong, IsWithin, CountsReadAtEnd}
+use Rattle.run_cli.specs.Commands.{NamesCommand}
 use Rattle.run_cli.specs.Ending.{IsEnding}
 use Rattle.run_cli.specs.Status.{IsOutcomeStatus, is_status, Headline, SaysBadLine, SaysBadPlan, SaysNotEnabled}
 use Rattle.run_cli.specs.Status.{SaysThirdSignal, SaysUnfinished, SaysReport, Answers}
@@ -79,7 +80,7 @@ headline_says c (Err (ThirdSignal n)) h s = absurd (no_outcome_above 7 s (omega 
 
 -- 2: the words
 pub words_say : (c : Call) (ending : Result RunOutcome Fault)
-    → IsEnding c ending → ending_status ending ≡ 2 → (¬ IsReplay c.words) × Writes c.sink (fault_only Words)
+    → IsEnding c ending → ending_status ending ≡ 2 → (¬ NamesCommand c.words) × Writes c.sink (fault_only Words)
 words_say c (Ok o) h s = absurd (no_outcome 2 (apart _ 2 (outcome_is o) s) (omega arith) (omega arith))
 words_say c (Err Words) h s = h
 words_say c (Err (Line n)) h s = absurd (omega arith)
@@ -94,18 +95,18 @@ words_say c (Err (ThirdSignal n)) h s = absurd (omega arith)
 
 -- and other words give no other status but that of wanting memory
 pub no_words : (c : Call) (ending : Result RunOutcome Fault)
-    → IsEnding c ending → ¬ IsReplay c.words → (ending_status ending ≡ 2) ⊎ (ending_status ending ≡ 11)
-no_words c (Ok o) h bad = absurd (bad h.0.replay)
+    → IsEnding c ending → ¬ NamesCommand c.words → (ending_status ending ≡ 2) ⊎ (ending_status ending ≡ 11)
+no_words c (Ok o) h bad = absurd (bad (h.0.command, h.0.named))
 no_words c (Err Words) h bad = inl refl
 no_words c (Err (Line n)) h bad = absurd (bad h.0)
 no_words c (Err (BadPlan f)) h bad = absurd (bad h.0)
-no_words c (Err (NotEnabled n)) h bad = absurd (bad h.0.replay)
-no_words c (Err Unfinished) h bad = absurd (bad h.0.replay)
-no_words c (Err Report) h bad = absurd (bad h.0.replay)
+no_words c (Err (NotEnabled n)) h bad = absurd (bad (h.0.command, h.0.named))
+no_words c (Err Unfinished) h bad = absurd (bad (h.0.command, h.0.named))
+no_words c (Err Report) h bad = absurd (bad (h.0.command, h.0.named))
 no_words c (Err Read) h bad = absurd (bad h.0)
 no_words c (Err Memory) h bad = inr refl
 no_words c (Err TooLong) h bad = absurd (bad h.0)
-no_words c (Err (ThirdSignal n)) h bad = absurd (bad h.0.replay)
+no_words c (Err (ThirdSignal n)) h bad = absurd (bad (h.0.command, h.0.named))
 
 -- 3: a bad line
 pub line_says : (c : Call) (ending : Result RunOutcome Fault)
@@ -199,7 +200,7 @@ report_says c (Err (ThirdSignal n)) h s = absurd (omega arith)
 
 -- 10: a source that failed
 pub read_says : (c : Call) (ending : Result RunOutcome Fault)
-    → IsEnding c ending → ending_status ending ≡ 10 → IsReplay c.words × IsWithin c.source × Writes c.sink (fault_only Read)
+    → IsEnding c ending → ending_status ending ≡ 10 → NamesCommand c.words × IsWithin c.source × Writes c.sink (fault_only Read)
 read_says c (Ok o) h s = absurd (no_outcome_above 10 (apart _ 10 (outcome_is o) s) (omega arith) (omega arith))
 read_says c (Err Words) h s = absurd (omega arith)
 read_says c (Err (Line n)) h s = absurd (omega arith)
@@ -215,7 +216,7 @@ read_says c (Err (ThirdSignal n)) h s = absurd (omega arith)
 -- 12: an input that is too long
 pub too_long_says : (c : Call) (ending : Result RunOutcome Fault)
     → IsEnding c ending → ending_status ending ≡ 12
-    → IsReplay c.words × IsTooLong c.source × Writes c.sink (fault_only TooLong)
+    → NamesCommand c.words × IsTooLong c.source × Writes c.sink (fault_only TooLong)
 too_long_says c (Ok o) h s = absurd (no_outcome_above 12 (apart _ 12 (outcome_is o) s) (omega arith) (omega arith))
 too_long_says c (Err Words) h s = absurd (omega arith)
 too_long_says c (Err (Line n)) h s = absurd (omega arith)

@@ -1,7 +1,7 @@
 -- The lines that a reporter wrote are those of the events that the journal told.
 use Rattle.std.proofs.Common.{◌≡◌, ℕ, ◌≤◌, ◌||◌, List, [], ◌∷◌, ◌++◌, length, map, zip, Bool, true, false, Option}
-use Rattle.std.proofs.Common.{Some, None, is_none, is_some, reverse, Result, IsSome, refl, ap, sym, subst, ◌∙◌, arith}
-use Rattle.std.proofs.lemmas.List.{map-append}
+use Rattle.std.proofs.Common.{Some, None, is_none, is_some, reverse, Result, Err, IsSome, refl, ap, sym, subst, ◌∙◌, arith}
+use Rattle.std.proofs.lemmas.List.{map-append, length-map}
 use Rattle.run_events.specs.declared.settings.Settings.{Settings}
 use Rattle.run_events.specs.declared.events.ReporterEvent.{ReporterEvent}
 use Rattle.run_model.specs.declared.entry.Entry.{Entry}
@@ -11,12 +11,18 @@ use Rattle.run_model.specs.Turns.{happening}
 use Rattle.run_model.specs.Journal.{history, past_of, IsLegalBackward}
 use Rattle.run_capture.specs.Faults.{Rose, RoseExactlyIf}
 use Rattle.run_engine.specs.World.{flagged, earlier, first_error}
-use Rattle.run_output.specs.Fields.{line_bytes}
-use Rattle.run_output.specs.Events.{event_text}
-use Rattle.run_output.specs.Told.{IsLine, AreLines, marks, AreCounted, some_refused, HasTold}
+use Rattle.run_output.specs.Told.{IsWritten, AreWritten, marks, AreCounted, some_refused, HasTold, event_line}
+use Rattle.run_output.specs.Told.{event_lines}
 use Rattle.run_laws.specs.Course.{none_refused}
 use Rattle.run_cli.specs.Call.{Writing, HasTaken}
-use Rattle.run_cli.specs.Text.{event_lines}
+use Rattle.run_cli.specs.Text.{Form, whole_form, joined}
+use Rattle.run_cli.specs.Clocks.{turn_clocks}
+use Rattle.run_cli.specs.Commands.{progress_form, display_of}
+use Rattle.run_cli.proofs.TickLemmas.{shown_clocks}
+use Rattle.run_engine.specs.declared.errors.TestRunnerExecuteErrors.TheVariants as engine
+use Rattle.run_progress.specs.declared.max_running.MaxProgressRunning.TheVariants.{Count}
+use Rattle.run_output.specs.Shown.{first_screen, lines_in, shown_lines, answer_errors}
+use Rattle.run_output.proofs.ShownLemmas.{length-lines_in}
 use Rattle.run_cli.specs.Executed.{IsExecuted}
 use Rattle.run_capture.specs.declared.source.Failed.{Failed}
 use Rattle.run_events.specs.declared.turn.Turn.{Turn}
@@ -42,22 +48,38 @@ answers-told p (e ∷ before) legal =
     ∙ ap (λ es. es ++ map (λ x. x.0) (zip (events_in x) x.refused)) (answers-told p before legal.2)
     ∙ ap (λ es. told (history p before) ++ es) (zip_first (events_in x) e.refused legal.1)
 
--- a line of an event that wasn't refused, and then those of the others
-one_whole : {E : Type 0} (event : ReporterEvent) (error later : Option E) (bytes line rest others : List ℕ)
-    → earlier error later ≡ None → IsLine event error line → (later ≡ None → rest ≡ others) → bytes ≡ line ++ rest
-    → bytes ≡ line_bytes (event_text event) ++ others
-one_whole event None later bytes line rest others none is same e =
-    e ∙ ap (λ l. l ++ rest) is ∙ ap (λ r. line_bytes (event_text event) ++ r) (same none)
-one_whole event (Some d) later bytes line rest others none is same e = cc
+-- the lines of events, beside their errors
+pub lines_beside : {E : Type 0} (ys : List (ReporterEvent × Option E))
+    → event_lines ys ≡ zip (map event_line (map (λ y. y.0) ys)) (map (λ y. y.1) ys)
+lines_beside [] = refl
+lines_beside (y ∷ ys) = ap (λ ls. (event_line y.0, y.1) ∷ ls) (lines_beside ys)
+
+-- lines beside as many errors are refused as those are
+pub marks_beside : {E : Type 0} (lines : List (List ℕ)) (ys : List (ReporterEvent × Option E)) → length lines ≡ length ys
+    → marks (zip lines (map (λ y. y.1) ys)) ≡ marks ys
+marks_beside [] [] same = refl
+marks_beside [] (y ∷ ys) same = absurd (omega arith)
+marks_beside (line ∷ lines) [] same = absurd (omega arith)
+marks_beside (line ∷ lines) (y ∷ ys) same = ap (λ bs. is_some y.1 ∷ bs) (marks_beside lines ys (omega arith))
+
+-- a line that wasn't refused, and then the others
+one_whole : {E : Type 0} (text : List ℕ) (error later : Option E) (bytes line rest others : List ℕ)
+    → earlier error later ≡ None → IsWritten text error line → (later ≡ None → rest ≡ others) → bytes ≡ line ++ rest
+    → bytes ≡ text ++ others
+one_whole text None later bytes line rest others none is same e =
+    e ∙ ap (λ l. l ++ rest) is ∙ ap (λ r. text ++ r) (same none)
+one_whole text (Some d) later bytes line rest others none is same e = cc
 
 -- where no event was refused, the lines are whole
-pub lines_whole : {E : Type 0} (ys : List (ReporterEvent × Option E)) (bytes : List ℕ) → first_error ys ≡ None
-    → AreLines ys bytes
-    → bytes ≡ event_lines (map (λ y. y.0) ys)
-lines_whole [] bytes none lines = lines
-lines_whole (y ∷ ys) bytes none lines =
-    one_whole y.0 y.1 (first_error ys) bytes lines.0 lines.1 (event_lines (map (λ y. y.0) ys)) none lines.2
-    (λ none. lines_whole ys lines.1 none lines.3) lines.4
+pub lines_whole : {E : Type 0} (lines : List (List ℕ)) (ys : List (ReporterEvent × Option E)) (bytes : List ℕ)
+    → length lines ≡ length ys → first_error ys ≡ None → AreWritten (zip lines (map (λ y. y.1) ys)) bytes
+    → bytes ≡ joined lines
+lines_whole [] [] bytes same none written = written
+lines_whole [] (y ∷ ys) bytes same none written = absurd (omega arith)
+lines_whole (line ∷ lines) [] bytes same none written = absurd (omega arith)
+lines_whole (line ∷ lines) (y ∷ ys) bytes same none written =
+    one_whole line y.1 (first_error ys) bytes written.0 written.1 (joined lines) none written.2
+    (λ none. lines_whole lines ys written.1 (omega arith) none written.3) written.4
 
 -- the marks of events leave the events
 pub flags_first : {X E : Type 0} (ys : List (X × Option E)) → map (λ x. x.0) (map flagged ys) ≡ map (λ y. y.0) ys
@@ -108,14 +130,18 @@ rises (y ∷ ys) before now some counted =
     by_error (Some d) some rose later = omega (arith, rose.1, grown (marks ys) counted.0 now counted.2)
 
 -- a run whose events the sink took, from what the reporter told
-unfoldable pub executed_from : (p : Settings) (turns : List Turn) (w : Writing) (refusals : ℕ) (asks : List (ℕ × Ask))
-    (answer : Result RunOutcome (TestRunnerExecuteErrors Failed)) (journal : List Entry) (refusal : Option Failed)
-    (ys : List (ReporterEvent × Option Failed))
+unfoldable pub executed_from : (form : Form) (p : Settings) (turns : List Turn) (w : Writing) (refusals : ℕ)
+    (asks : List (ℕ × Ask)) (answer : Result RunOutcome (TestRunnerExecuteErrors Failed)) (journal : List Entry)
+    (refusal : Option Failed) (ys : List (ReporterEvent × Option Failed))
     → IsRunnable p journal → IsAnswerOf p turns journal refusal answer → is_none refusal ≡ none_refused journal
-    → asks ≡ asked (past_of p journal)
-    → HasTold w.taken w.taken_after w.faults w.faults_after refusals ys → map flagged ys ≡ answers (past_of p journal)
-    → first_error ys ≡ refusal → IsExecuted p turns w asks answer
-executed_from p turns w refusals asks answer journal refusal ys runnable says marked asked_is told flags first =
+    → asks ≡ form.asks (asked (past_of p journal)) → length (form.lines (past_of p journal)) ≡ length ys
+    → HasTold w.taken w.taken_after w.faults w.faults_after refusals
+    (zip (form.lines (past_of p journal)) (map (λ y. y.1) ys))
+    → map flagged ys ≡ answers (past_of p journal)
+    → first_error ys ≡ refusal → IsExecuted form p turns w asks answer
+executed_from form p turns w refusals asks answer journal refusal ys runnable says marked asked_is fits told flags first =
+    let lines = form.lines (past_of p journal) in
+    let counted = subst (λ bs. AreCounted bs w.faults w.faults_after) (marks_beside lines ys fits) told.counted in
     record {
       journal = journal;
       refusal = refusal;
@@ -123,12 +149,52 @@ executed_from p turns w refusals asks answer journal refusal ys runnable says ma
       says = says;
       marked = marked;
       asked = asked_is;
-      took = record { events = ys; flags = flags; took = told.took; counted = told.counted };
-      told = λ none. subst (HasTaken w)
-          (lines_whole ys told.took.0 (first ∙ none) told.took.1
-          ∙ ap event_lines (sym (flags_first ys) ∙ ap (map (λ x. x.0)) flags
-          ∙ answers-told p (reverse journal) runnable.legal))
-          told.took.2;
-      quiet = λ none. stays ys w.faults w.faults_after (first ∙ none) told.counted;
-      risen = λ some. rises ys w.faults w.faults_after (subst IsSome (sym first) some) told.counted;
+      took = record { events = ys; flags = flags; took = told.took; counted = counted };
+      told = λ none. subst (HasTaken w) (lines_whole lines ys told.took.0 fits (first ∙ none) told.took.1) told.took.2;
+      quiet = λ none. stays ys w.faults w.faults_after (first ∙ none) counted;
+      risen = λ some. rises ys w.faults w.faults_after (subst IsSome (sym first) some) counted;
     }
+
+-- the events that were told are those of the journal
+pub told_is : (p : Settings) (journal : List Entry) (ys : List (ReporterEvent × Option Failed)) → IsRunnable p journal
+    → map flagged ys ≡ answers (past_of p journal) → map (λ y. y.0) ys ≡ told (past_of p journal)
+told_is p journal ys runnable flags =
+    sym (flags_first ys) ∙ ap (map (λ x. x.0)) flags ∙ answers-told p (reverse journal) runnable.legal
+
+-- the same of a reporter of lines
+unfoldable pub executed_whole : (p : Settings) (turns : List Turn) (w : Writing) (refusals : ℕ) (asks : List (ℕ × Ask))
+    (answer : Result RunOutcome (TestRunnerExecuteErrors Failed)) (journal : List Entry) (refusal : Option Failed)
+    (ys : List (ReporterEvent × Option Failed))
+    → IsRunnable p journal → IsAnswerOf p turns journal refusal answer → is_none refusal ≡ none_refused journal
+    → asks ≡ asked (past_of p journal)
+    → HasTold w.taken w.taken_after w.faults w.faults_after refusals (event_lines ys)
+    → map flagged ys ≡ answers (past_of p journal)
+    → first_error ys ≡ refusal → IsExecuted whole_form p turns w asks answer
+executed_whole p turns w refusals asks answer journal refusal ys runnable says marked asked_is told flags first =
+    let events = told_is p journal ys runnable flags in
+    executed_from whole_form p turns w refusals asks answer journal refusal ys runnable says marked asked_is
+    (ap (λ es. length (map event_line es)) (sym events) ∙ length-map (map (λ y. y.0) ys) event_line
+    ∙ length-map ys (λ y. y.0))
+    (subst (HasTold w.taken w.taken_after w.faults w.faults_after refusals)
+    (lines_beside ys ∙ ap (λ es. zip (map event_line es) (map (λ y. y.1) ys)) events) told) flags first
+
+-- and of one of progress
+pub executed_shown : (p : Settings) (width : ℕ) (turns : List Turn) (w : Writing) (refusals : ℕ)
+    (answer : Result RunOutcome (TestRunnerExecuteErrors Failed)) (journal : List Entry) (refusal : Option Failed)
+    (ys : List (ReporterEvent × Option Failed)) → (answer ≡ Err engine.OutOfMemory → ⊥)
+    → IsRunnable p journal → IsAnswerOf p turns journal refusal answer → is_none refusal ≡ none_refused journal
+    → HasTold w.taken w.taken_after w.faults w.faults_after refusals
+    (shown_lines (first_screen p.plan.head.mode (Count 8) width (turn_clocks 0 turns)) ys)
+    → map flagged ys ≡ answers (past_of p journal)
+    → first_error ys ≡ refusal → IsExecuted (progress_form p width) p turns w [] answer
+executed_shown p width turns w refusals answer journal refusal ys some runnable says marked told flags first =
+    let past : List Happening = past_of p journal in
+    let events = told_is p journal ys runnable flags in
+    let start = first_screen p.plan.head.mode (Count 8) width (turn_clocks 0 turns) in
+    executed_from (progress_form p width) p turns w refusals [] answer journal refusal ys runnable says marked refl
+    (length-lines_in (display_of p width past) _ ∙ ap length (sym events) ∙ length-map ys (λ y. y.0))
+    (subst (HasTold w.taken w.taken_after w.faults w.faults_after refusals)
+    (ap (λ es. zip (lines_in start es) (answer_errors ys)) events
+    ∙ ap (λ ls. zip ls (answer_errors ys))
+    (shown_clocks p turns journal refusal answer p.plan.head.mode (Count 8) width some runnable.legal says)) told)
+    flags first

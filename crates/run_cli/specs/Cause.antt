@@ -16,7 +16,9 @@ use Rattle.run_cli.specs.Call.{Writing, HasWriteFault}
 use Rattle.run_cli.specs.Executed.{TookParts}
 use Rattle.run_cli.specs.Plans.{settings_for, plan_refusal}
 use Rattle.run_cli.specs.Given.{input_limit}
-use Rattle.run_cli.specs.Text.{rest_text, outcome_status}
+use Rattle.run_cli.specs.Text.{Form, rest_text, outcome_status}
+use Rattle.run_cli.specs.Commands.{form_of}
+use Rattle.run_cli.specs.declared.command.Command.{Command}
 
 -- a status, unless memory was wanting
 abbrev pub Gets : ℕ → ℕ → Type 0
@@ -51,21 +53,23 @@ stop_status false = 6
 -- turns up to some place were taken with a reporter's answers, and the sink shows that these were its own: it took the
 -- line of each event whole, and its count of faults stayed there; but of a refused one a front part, and not all, and
 -- its count rose there; then the rest went out, whole or a front part, where the count stayed or rose
-pub record IsAnsweredSo (p : Settings) (turns : List Turn) (refuses : ℕ → Bool) (w : Writing) : Type 0 where
-  pub place : ℕ
-  pub journal : List Entry
-  pub answered : IsJournalOf p (take place turns) refuses journal
-  pub ending : Result RunOutcome Fault
-  pub parts : TookParts (past_of p journal) (rest_text (past_of p journal) ending) w
+pub record IsAnsweredSo (form : Form) (p : Settings) (turns : List Turn) (refuses : ℕ → Bool) (w : Writing) : Type 0
+  where
+    pub place : ℕ
+    pub journal : List Entry
+    pub answered : IsJournalOf p (take place turns) refuses journal
+    pub ending : Result RunOutcome Fault
+    pub parts : TookParts form (past_of p journal) (rest_text form (past_of p journal) ending) w
 
 -- the status that a plan and its turns get: the plan is refused; or with just the answers that the sink gave, which
 -- refused no event where it didn't fail, the turns stop at one that isn't enabled, or leave the run unfinished, or end
 -- it, where the sink's count of faults stayed or rose
-pub record GetsByCourse (keys : RunnerKeys) (plan : Plan) (turns : List Turn) (w : Writing)
+pub record GetsByCourse (command : Command) (keys : RunnerKeys) (plan : Plan) (turns : List Turn) (w : Writing)
     (status : ℕ) : Type 0 where
   pub refuses : ℕ → Bool
   pub tied : ¬ HasWriteFault w → (n : ℕ) → refuses n ≡ false
-  pub answered : plan_refusal keys plan ≡ None → (status ≡ 11) ⊎ IsAnsweredSo (settings_for keys plan) turns refuses w
+  pub answered : plan_refusal keys plan ≡ None → (status ≡ 11)
+      ⊎ IsAnsweredSo (form_of command (settings_for keys plan)) (settings_for keys plan) turns refuses w
   pub refused : (error : TestRunnerBuildError) → plan_refusal keys plan ≡ Some error → Gets status 5
   pub stops : plan_refusal keys plan ≡ None → (place : ℕ) (third : Bool)
       → Stops (settings_for keys plan) turns refuses place third → Gets status (stop_status third)

@@ -20,13 +20,16 @@ use Rattle.run_output.specs.declared.fault.PlanFault.{PlanFault}
 use Rattle.run_cli.specs.Call.{Call, Reading, HasTaken, HasWriteFault, Writes}
 use Rattle.run_cli.specs.Executed.{TookParts, WritesRun, report_ending}
 use Rattle.run_cli.specs.Plans.{settings_for, plan_refusal, IsPlanFault}
-use Rattle.run_cli.specs.Given.{IsReplay, SaysInput, IsTooLong, IsWithin, HasBadLine}
-use Rattle.run_cli.specs.Text.{fault_only, rest_text, history_text}
+use Rattle.run_cli.specs.Given.{SaysInput, IsTooLong, IsWithin, HasBadLine}
+use Rattle.run_cli.specs.Text.{Form, fault_only, rest_text, history_text}
+use Rattle.run_cli.specs.Commands.{IsNamedBy, NamesCommand, form_of}
+use Rattle.run_cli.specs.declared.command.Command.{Command}
 
 -- the words are good, the source was read to its end, its lines say a plan that is accepted and its turns, and this
 -- legal journal has some of those turns, each with the reporter's answers; where the sink didn't fail, it refused none
 pub record Replays (c : Call) : Type 0 where
-  pub replay : IsReplay c.words
+  pub command : Command
+  pub named : IsNamedBy command c.words
   pub keys : RunnerKeys
   pub plan : Plan
   pub turns : List Turn
@@ -43,10 +46,14 @@ settings_in r = settings_for r.keys r.plan
 abbrev pub history_in : {c : Call} → Replays c → List Happening
 history_in r = past_of (settings_for r.keys r.plan) r.journal
 
--- a run of this journal is over with this outcome, and each script and each test of the plan has its fate in each sub-run
--- that has ended, the newest among them: a test that doesn't match was skipped once; any other, and any script, was
--- started and finished once, by its own turns' results, or, exactly where a cause came first, was never started or was
--- left there
+-- how its command writes it
+abbrev pub form_in : {c : Call} → Replays c → Form
+form_in r = form_of r.command (settings_for r.keys r.plan)
+
+-- a run of this journal is over with this outcome, and each script and each test of the plan has its fate in each
+-- sub-run that has ended, the newest among them: a test that doesn't match was skipped once; any other, and any script,
+-- was started and finished once, by its own turns' results, or, exactly where a cause came first, was never started or
+-- was left there
 pub record IsFinished (p : Settings) (journal : List Entry) (o : RunOutcome) : Type 0 where
   pub over : outcome p (past_of p journal) ≡ Some o
   pub accounts : All (HaveFates p) (ended_runs (past_of p journal))
@@ -60,7 +67,8 @@ pub record IsWholeRun {c : Call} (r : Replays c) (o : RunOutcome) : Type 0 where
 -- the sink, which failed, took the lines of the told events, of each that was refused a front part, and the rest, or
 -- where it failed there a front part: the lines of asks and of the outcome, or where an event was refused of the fault
 abbrev pub WritesReport : {c : Call} → Replays c → RunOutcome → Type 0
-WritesReport {c} r o = TookParts (history_in r) (rest_text (history_in r) (report_ending r.journal o)) c.sink
+WritesReport {c} r o = TookParts (form_in r) (history_in r)
+    (rest_text (form_in r) (history_in r) (report_ending r.journal o)) c.sink
 
 -- the turn at this place is the first that isn't enabled, and is a shutdown signal that would be taken, but that two
 -- came before it, or not
@@ -87,20 +95,23 @@ pub record HasBadPlan (source : Reading) (fault : PlanFault) : Type 0 where
 -- what each end says
 abbrev pub IsEnding : Call → Result RunOutcome Fault → Type 0
 IsEnding c (Ok o) =
-    (r : Replays c) × IsWholeRun r o × HasTaken c.sink (history_text (history_in r) (Ok o))
+    (r : Replays c) × IsWholeRun r o × HasTaken c.sink (history_text (form_in r) (history_in r) (Ok o))
     × (c.sink.faults_after ≡ c.sink.faults)
-    × TookParts (history_in r) (rest_text (history_in r) (Ok o)) c.sink
+    × TookParts (form_in r) (history_in r) (rest_text (form_in r) (history_in r) (Ok o)) c.sink
 IsEnding c (Err Report) = (r : Replays c) × (o : RunOutcome) × IsWholeRun r o × WritesReport r o × HasWriteFault c.sink
 IsEnding c (Err (NotEnabled place)) =
-    (r : Replays c) × StopsBefore r place false × WritesRun (history_in r) (Err (NotEnabled place)) c.sink
+    (r : Replays c) × StopsBefore r place false
+    × WritesRun (form_in r) (history_in r) (Err (NotEnabled place)) c.sink
 IsEnding c (Err (ThirdSignal place)) =
-    (r : Replays c) × StopsBefore r place true × WritesRun (history_in r) (Err (ThirdSignal place)) c.sink
-IsEnding c (Err Unfinished) = (r : Replays c) × IsUnfinished r × WritesRun (history_in r) (Err Unfinished) c.sink
-IsEnding c (Err Words) = (¬ IsReplay c.words) × Writes c.sink (fault_only Words)
-IsEnding c (Err Read) = IsReplay c.words × IsWithin c.source × Writes c.sink (fault_only Read)
-IsEnding c (Err TooLong) = IsReplay c.words × IsTooLong c.source × Writes c.sink (fault_only TooLong)
-IsEnding c (Err (Line number)) = IsReplay c.words × HasBadLine c.source number
+    (r : Replays c) × StopsBefore r place true
+    × WritesRun (form_in r) (history_in r) (Err (ThirdSignal place)) c.sink
+IsEnding c (Err Unfinished) =
+    (r : Replays c) × IsUnfinished r × WritesRun (form_in r) (history_in r) (Err Unfinished) c.sink
+IsEnding c (Err Words) = (¬ NamesCommand c.words) × Writes c.sink (fault_only Words)
+IsEnding c (Err Read) = NamesCommand c.words × IsWithin c.source × Writes c.sink (fault_only Read)
+IsEnding c (Err TooLong) = NamesCommand c.words × IsTooLong c.source × Writes c.sink (fault_only TooLong)
+IsEnding c (Err (Line number)) = NamesCommand c.words × HasBadLine c.source number
     × Writes c.sink (fault_only (Line number))
-IsEnding c (Err (BadPlan fault)) = IsReplay c.words × HasBadPlan c.source fault
+IsEnding c (Err (BadPlan fault)) = NamesCommand c.words × HasBadPlan c.source fault
     × Writes c.sink (fault_only (BadPlan fault))
 IsEnding c (Err Memory) = ⊤

@@ -22,8 +22,10 @@ use Rattle.run_output.specs.Fields.{line_bytes}
 use Rattle.run_output.specs.Outcomes.{outcome_text}
 use Rattle.run_cli.specs.Call.{Writing, then_writing, HasTaken, HasTakenFront, HasWriteFault, Writes}
 use Rattle.run_cli.specs.Executed.{TookParts, WritesRun, IsExecuted, report_ending}
+use Rattle.run_cli.specs.Commands.{form_of}
 use Rattle.run_cli.specs.Plans.{settings_for, plan_refusal, IsPlanFault}
-use Rattle.run_cli.specs.Text.{ask_lines, fault_only, rest_text, history_text}
+use Rattle.run_cli.specs.declared.command.Command.{Command}
+use Rattle.run_cli.specs.Text.{Form, ask_lines, fault_only, rest_text, history_text}
 
 -- the lines of asks and of a fault were written, where the sink failed a front part of them, unless memory was wanting
 abbrev pub EndsAtFault : Writing → List (ℕ × Ask) → Fault → Result RunOutcome Fault → Type 0
@@ -48,35 +50,37 @@ pub record IsReplayed (p : Settings) (w : Writing) : Type 0 where
   pub tied : ¬ HasWriteFault w → none_refused journal ≡ true
 
 -- how the turns of a plan end, by a legal journal of them
-abbrev pub IsReplayEnding : Settings → List Turn → Writing → Result RunOutcome Fault → Type 0
-IsReplayEnding p turns w (Ok o) =
+abbrev pub IsReplayEnding : Form → Settings → List Turn → Writing → Result RunOutcome Fault → Type 0
+IsReplayEnding form p turns w (Ok o) =
     (r : IsReplayed p w) × (turns_of r.journal ≡ turns) × (outcome p (past_of p r.journal) ≡ Some o)
-    × HasTaken w (history_text (past_of p r.journal) (Ok o)) × (w.faults_after ≡ w.faults)
-    × TookParts (past_of p r.journal) (rest_text (past_of p r.journal) (Ok o)) w
-IsReplayEnding p turns w (Err Report) =
+    × HasTaken w (history_text form (past_of p r.journal) (Ok o)) × (w.faults_after ≡ w.faults)
+    × TookParts form (past_of p r.journal) (rest_text form (past_of p r.journal) (Ok o)) w
+IsReplayEnding form p turns w (Err Report) =
     (r : IsReplayed p w) × (turns_of r.journal ≡ turns)
     × ((o : RunOutcome) × (outcome p (past_of p r.journal) ≡ Some o)
-    × TookParts (past_of p r.journal) (rest_text (past_of p r.journal) (report_ending r.journal o)) w)
+    × TookParts form (past_of p r.journal) (rest_text form (past_of p r.journal) (report_ending r.journal o)) w)
     × HasWriteFault w
-IsReplayEnding p turns w (Err (NotEnabled place)) =
+IsReplayEnding form p turns w (Err (NotEnabled place)) =
     (r : IsReplayed p w) × IsRefusedAt p turns r.journal place false
-    × WritesRun (past_of p r.journal) (Err (NotEnabled place)) w
-IsReplayEnding p turns w (Err (ThirdSignal place)) =
+    × WritesRun form (past_of p r.journal) (Err (NotEnabled place)) w
+IsReplayEnding form p turns w (Err (ThirdSignal place)) =
     (r : IsReplayed p w) × IsRefusedAt p turns r.journal place true
-    × WritesRun (past_of p r.journal) (Err (ThirdSignal place)) w
-IsReplayEnding p turns w (Err Unfinished) =
+    × WritesRun form (past_of p r.journal) (Err (ThirdSignal place)) w
+IsReplayEnding form p turns w (Err Unfinished) =
     (r : IsReplayed p w) × (turns_of r.journal ≡ turns) × (is_over (past_of p r.journal) ≡ false)
-    × WritesRun (past_of p r.journal) (Err Unfinished) w
-IsReplayEnding p turns w (Err Memory) = ⊤
-IsReplayEnding p turns w (Err _) = ⊥
+    × WritesRun form (past_of p r.journal) (Err Unfinished) w
+IsReplayEnding form p turns w (Err Memory) = ⊤
+IsReplayEnding form p turns w (Err _) = ⊥
 
 -- whatever turns of a plan this is the answer to, with these asks and with a sink that is left as this writing found it,
 -- they end so
 abbrev pub Finishes : Writing → List (ℕ × Ask) → Result RunOutcome (TestRunnerExecuteErrors Failed)
     → Result RunOutcome Fault → Type 0
 Finishes v asks answer ending =
-    (p : Settings) (turns : List Turn) (w : Writing) → v.taken ≡ w.taken_after → v.faults ≡ w.faults_after
-    → UnlessMemory answer (IsExecuted p turns w asks answer) → IsReplayEnding p turns (then_writing w v) ending
+    (form : Form) (p : Settings) (turns : List Turn) (w : Writing)
+    → v.taken ≡ w.taken_after → v.faults ≡ w.faults_after
+    → UnlessMemory answer (IsExecuted form p turns w asks answer)
+    → IsReplayEnding form p turns (then_writing w v) ending
 
 -- the fault that an error of the engine is
 abbrev pub fault_of_error : {E : Type 0} → TestRunnerExecuteErrors E → Fault
@@ -87,11 +91,13 @@ fault_of_error engine.Unfinished = Unfinished
 fault_of_error engine.OutOfMemory = Memory
 
 -- how a plan and its turns end: the plan is refused, or its turns end so
-abbrev pub IsInputEnding : RunnerKeys → Plan → List Turn → Writing → Result RunOutcome Fault → Type 0
-IsInputEnding keys plan turns w (Err (BadPlan fault)) = IsPlanFault keys plan fault
+abbrev pub IsInputEnding : Command → RunnerKeys → Plan → List Turn → Writing → Result RunOutcome Fault → Type 0
+IsInputEnding command keys plan turns w (Err (BadPlan fault)) = IsPlanFault keys plan fault
     × Writes w (fault_only (BadPlan fault))
-IsInputEnding keys plan turns w (Err Memory) = ⊤
-IsInputEnding keys plan turns w (Err fault) =
-    (plan_refusal keys plan ≡ None) × IsReplayEnding (settings_for keys plan) turns w (Err fault)
-IsInputEnding keys plan turns w (Ok outcome) =
-    (plan_refusal keys plan ≡ None) × IsReplayEnding (settings_for keys plan) turns w (Ok outcome)
+IsInputEnding command keys plan turns w (Err Memory) = ⊤
+IsInputEnding command keys plan turns w (Err fault) =
+    (plan_refusal keys plan ≡ None) × IsReplayEnding (form_of command (settings_for keys plan))
+    (settings_for keys plan) turns w (Err fault)
+IsInputEnding command keys plan turns w (Ok outcome) =
+    (plan_refusal keys plan ≡ None) × IsReplayEnding (form_of command (settings_for keys plan))
+    (settings_for keys plan) turns w (Ok outcome)

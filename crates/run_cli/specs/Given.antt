@@ -1,5 +1,5 @@
 -- What the words and the source give.
-use Rattle.std.specs.Prelude.{ℕ, ◌≡◌, ◌≤◌, ◌<◌, List, [], ◌∷◌, length, Result, Ok, Err, codes, ⊤}
+use Rattle.std.specs.Prelude.{ℕ, ◌≡◌, ◌≤◌, ◌<◌, List, length, Result, Ok, Err, ⊤}
 use Rattle.run_capture.specs.Bytes.{AtEnd}
 use Rattle.run_input.specs.declared.plan_line.RunnerKeys.{RunnerKeys}
 use Rattle.run_events.specs.declared.plan.Plan.{Plan}
@@ -9,10 +9,7 @@ use Rattle.run_input.specs.Input.{IsInput, IsFirstBad}
 use Rattle.run_output.specs.declared.fault.Fault.{Fault}
 use Rattle.run_output.specs.declared.fault.Fault.TheVariants.{Words, Line, Read, Memory, TooLong}
 use Rattle.run_cli.specs.Call.{Reading, HasGiven, HasReadFault}
-
--- the words are the one that names the command
-abbrev pub IsReplay : List (List ℕ) → Type 0
-IsReplay words = words ≡ codes "replay" ∷ []
+use Rattle.run_cli.specs.Commands.{NamesCommand}
 
 -- the most bytes that an input may have
 abbrev pub input_limit : ℕ
@@ -54,11 +51,11 @@ IsUnread r _ = ⊥
 
 -- what each fault before the run says of the words and the source
 abbrev pub IsGivenFault : List (List ℕ) → Reading → Fault → Type 0
-IsGivenFault words r Words = ¬ IsReplay words
-IsGivenFault words r Read = IsReplay words × IsWithin r
-IsGivenFault words r TooLong = IsReplay words × IsTooLong r
-IsGivenFault words r (Line number) = IsReplay words × HasBadLine r number
-IsGivenFault words r Memory = IsReplay words
+IsGivenFault words r Words = ¬ NamesCommand words
+IsGivenFault words r Read = NamesCommand words × IsWithin r
+IsGivenFault words r TooLong = NamesCommand words × IsTooLong r
+IsGivenFault words r (Line number) = NamesCommand words × HasBadLine r number
+IsGivenFault words r Memory = NamesCommand words
 IsGivenFault words r _ = ⊥
 
 -- the source's count of faults rose exactly where reading failed

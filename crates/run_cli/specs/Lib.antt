@@ -1,6 +1,8 @@
 pub mod Text
 pub mod Call
 pub mod Plans
+pub mod Commands
+pub mod Clocks
 pub mod Given
 pub mod Write
 pub mod Executed

@@ -34,7 +34,7 @@ use Rattle.run_cli.specs.Given.{SaysInput, IsTooLong, IsWithin, CountsReadAtEnd,
 use Rattle.run_cli.specs.LiveGiven.{IsLiveWord, HasBadPlanLine}
 use Rattle.run_cli.specs.Plans.{settings_for, plan_refusal, fault_of_plan}
 use Rattle.run_cli.specs.Status.{IsOutcomeStatus}
-use Rattle.run_cli.specs.Text.{fault_only, rest_text, history_text, outcome_status}
+use Rattle.run_cli.specs.Text.{whole_form, fault_only, rest_text, history_text, outcome_status}
 use Rattle.run_output.specs.Faults.{fault_status}
 
 -- a plan whose run hears no signal and no key
@@ -67,10 +67,10 @@ pub record IsClosed {W : Type 0} (has_said : W → List Heard → Type 0) (p : S
 abbrev pub IsRunEnd : {W : Type 0} → (W → List Heard → Type 0) → Settings → Writing → Option (Live W) → LiveEnding
     → Type 0
 IsRunEnd said p w live (ends.Outcome o) = IsSomeAnd live (λ l. IsClosed said p l × IsFinished p l.journal o
-    × HasTaken w (history_text (past_of p l.journal) (Ok o))) × (w.faults_after ≡ w.faults)
+    × HasTaken w (history_text whole_form (past_of p l.journal) (Ok o))) × (w.faults_after ≡ w.faults)
 IsRunEnd said p w live (ends.Fault Report) = IsSomeAnd live (λ l. IsClosed said p l
     × ((o : RunOutcome) × IsFinished p l.journal o
-    × TookParts (past_of p l.journal) (rest_text (past_of p l.journal) (report_ending l.journal o)) w))
+    × TookParts whole_form (past_of p l.journal) (rest_text whole_form (past_of p l.journal) (report_ending l.journal o)) w))
     × HasWriteFault w
 IsRunEnd said p w live (ends.Fault Unfinished) = IsSomeAnd live (λ l. IsClosed said p l
     × (length l.journal ≡ 4294967295) × (is_over (past_of p l.journal) ≡ false))

@@ -11,7 +11,7 @@ use Rattle.run_model.specs.Words.{answers, asked}
 use Rattle.run_model.specs.Journal.{past_of, outcome}
 use Rattle.run_engine.specs.Standing.{IsRunnable}
 use Rattle.run_engine.specs.World.{flagged}
-use Rattle.run_output.specs.Told.{HasTold, some_refused}
+use Rattle.run_output.specs.Told.{HasTold, event_lines, some_refused}
 use Rattle.run_output.specs.declared.fault.Fault.{Fault}
 use Rattle.run_output.specs.declared.fault.Fault.TheVariants.{Unfinished, Report, Memory}
 use Rattle.run_live.specs.declared.lived.Live.{Live}
@@ -38,7 +38,7 @@ pub record IsOver (p : Settings) (w : Writing) (refusals : ℕ) (journal : List 
   pub asked : asks ≡ asked (past_of p journal)
   pub events : List (ReporterEvent × Option Failed)
   pub flags : map flagged events ≡ answers (past_of p journal)
-  pub told : HasTold w.taken w.taken_after w.faults w.faults_after refusals events
+  pub told : HasTold w.taken w.taken_after w.faults w.faults_after refusals (event_lines events)
   pub marked : refused ≡ some_refused events
 
 -- how `live` ends where its last lines end so, and what it hands back: nothing where memory was wanting

@@ -2,8 +2,10 @@
 ghost use Rattle.std.specs.Prelude.{◌≡◌, ◌<◌, ◌≤◌, ◌^◌, length};
 ghost use Rattle.run_cli.specs.Call.{writing_of};
 ghost use Rattle.run_cli.specs.Text.{outcome_status};
+ghost use Rattle.run_cli.specs.Commands.{form_of};
 ghost use Rattle.run_cli.specs.Finish.{fault_of_error, EndsAtFault, EndsAtOutcome, Finishes, IsReplayEnding};
 
+use crate::command::Command;
 use crate::execution::{Executed, execute};
 use crate::write::{WriteError, write_fault, write_outcome};
 use run_capture::{Failed, Sink, write_all};
@@ -121,12 +123,18 @@ fn finish<K: Sink>(
     }
 }
 
-/// Carries out the turns of a run, and writes all its lines.
-pub fn replay<K: Sink>(alloc: Global, runner: TestRunner, turns: &[Turn], sink: K) -> Ended<K>
+/// Carries out the turns of a run, and writes all that the command writes.
+pub fn replay<K: Sink>(
+    alloc: Global,
+    command: Command,
+    runner: TestRunner,
+    turns: &[Turn],
+    sink: K,
+) -> Ended<K>
     requires { length turns.now < 2 ^ 32 }
-    ensures { IsReplayEnding runner turns.now (writing_of K.Sink sink result.sink)
+    ensures { IsReplayEnding (form_of command runner) runner turns.now (writing_of K.Sink sink result.sink)
         result.ending }
 {
-    let Executed { sink, asks, answer } = execute(alloc, runner, turns, sink);
+    let Executed { sink, asks, answer } = execute(alloc, command, runner, turns, sink);
     finish(alloc, sink, asks.asks(), answer)
 }

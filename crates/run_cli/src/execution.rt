@@ -1,17 +1,26 @@
 // Carries out the turns of a run, and writes its events to a sink as they are told.
 ghost use Rattle.std.specs.Prelude.{◌≡◌, ◌<◌, ◌^◌, length};
 ghost use Rattle.run_engine.specs.Execution.{UnlessMemory};
+ghost use Rattle.run_output.specs.Shown.{first_screen};
+ghost use Rattle.run_progress.specs.declared.max_running.MaxProgressRunning.TheVariants.{Count};
 ghost use Rattle.run_cli.specs.Call.{writing_of};
+ghost use Rattle.run_cli.specs.Clocks.{turn_clocks};
+ghost use Rattle.run_cli.specs.Commands.{form_of, progress_form};
 ghost use Rattle.run_cli.specs.Executed.{IsExecuted};
+ghost use Rattle.run_cli.specs.Text.{whole_form};
 
+use crate::clocks::turn_clocks;
+use crate::command::Command;
 use crate::tied::{Origin, TiedReporter};
-use run_capture::{Failed, Sink};
+use crate::tied_progress::{Beginning, TiedProgress};
+use run_capture::{Failed, List, Sink};
 use run_engine::{TestRunner, TestRunnerExecuteErrors};
-use run_events::{AskList, RunOutcome, Turn};
+use run_events::{AskList, PlanTest, RunOutcome, Turn};
+use run_progress::MaxProgressRunning;
 use std::alloc::Global;
 use std::marker::Brand;
 
-/// The answer to the turns of a run, what was asked, and the sink that took its events.
+/// The answer to the turns of a run, what was asked and is to be written, and the sink that took its events.
 pub struct Executed<K> {
     pub sink: K,
     pub asks: AskList,
@@ -29,7 +38,7 @@ fn execute_at<K: Sink, O: Origin>(
     requires faults { O.faults_before ≡ K.faults sink }
     requires few { length turns.now < 2 ^ 32 }
     ensures { UnlessMemory result.answer
-        (IsExecuted runner turns.now (writing_of K.Sink sink result.sink)
+        (IsExecuted whole_form runner turns.now (writing_of K.Sink sink result.sink)
         result.asks result.answer) }
 {
     let mut reporter = TiedReporter::<K, O>::new(sink);
@@ -42,12 +51,87 @@ fn execute_at<K: Sink, O: Origin>(
     }
 }
 
-/// Carries out the turns, and writes the line of each event to the sink as it is told.
-pub fn execute<K: Sink>(alloc: Global, runner: TestRunner, turns: &[Turn], sink: K) -> Executed<K>
+// How many tests match, and so are to run.
+fn matched_of(tests: &[PlanTest]) -> u64 {
+    let mut count = 0u64;
+    for test in tests {
+        if test.skip.is_none() {
+            count = count.saturating_add(1);
+        }
+    }
+    count
+}
+
+// Carries out the turns, and shows progress, with the sink's state and the display at the beginning as the type's.
+fn show_at<K: Sink, O: Beginning>(
+    alloc: Global,
+    runner: TestRunner,
+    width: u32,
+    clocks: List<u64>,
+    turns: &[Turn],
+    sink: K,
+) -> Executed<K>
+    requires taken { O.taken_before ≡ K.taken sink }
+    requires faults { O.faults_before ≡ K.faults sink }
+    requires display { O.display ≡ first_screen runner.plan.head.mode (Count 8) width clocks }
+    requires clocks { clocks ≡ turn_clocks 0 turns.now }
+    requires few { length turns.now < 2 ^ 32 }
+    ensures { UnlessMemory result.answer
+        (IsExecuted (progress_form runner width) runner turns.now
+        (writing_of K.Sink sink result.sink) result.asks result.answer) }
+{
+    let mode = runner.settings().plan.head.mode;
+    let count = matched_of(runner.settings().plan.tests.as_slice());
+    let max = MaxProgressRunning::DEFAULT_VALUE;
+    let mut reporter = TiedProgress::<K, O>::new(sink, mode, count, max, width, clocks);
+    let mut asks = AskList::new();
+    let answer = runner.try_execute(alloc, turns, &mut asks, &mut reporter);
+    drop(asks);
+    Executed {
+        sink: reporter.into_sink(),
+        asks: AskList::new(),
+        answer,
+    }
+}
+
+// Carries out the turns, and shows progress.
+fn show<K: Sink>(
+    alloc: Global,
+    runner: TestRunner,
+    width: u32,
+    turns: &[Turn],
+    sink: K,
+) -> Executed<K>
     requires { length turns.now < 2 ^ 32 }
     ensures { UnlessMemory result.answer
-        (IsExecuted runner turns.now (writing_of K.Sink sink result.sink)
-        result.asks result.answer) }
+        (IsExecuted (progress_form runner width) runner turns.now
+        (writing_of K.Sink sink result.sink) result.asks result.answer) }
 {
-    execute_at::<K, Brand>(alloc, runner, turns, sink)
+    match turn_clocks(alloc, turns) {
+        Ok(clocks) => show_at::<K, Brand>(alloc, runner, width, clocks, turns, sink),
+        Err(_) => Executed {
+            sink,
+            asks: AskList::new(),
+            answer: Err(TestRunnerExecuteErrors::OutOfMemory),
+        },
+    }
+}
+
+/// Carries out the turns, and writes to the sink what the command writes of each event as it is told.
+pub fn execute<K: Sink>(
+    alloc: Global,
+    command: Command,
+    runner: TestRunner,
+    turns: &[Turn],
+    sink: K,
+) -> Executed<K>
+    requires { length turns.now < 2 ^ 32 }
+    ensures { UnlessMemory result.answer
+        (IsExecuted (form_of command runner) runner turns.now
+        (writing_of K.Sink sink result.sink) result.asks result.answer) }
+{
+    match command {
+        Command::Replay => execute_at::<K, Brand>(alloc, runner, turns, sink),
+        Command::Progress(width) => show(alloc, runner, width, turns, sink),
+    }
 }

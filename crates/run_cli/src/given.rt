@@ -1,9 +1,11 @@
 // What the words and the source give.
 ghost use Rattle.std.specs.Prelude.{◌≡◌, ◌↔◌, ◌∷◌, [], map, IfOk, IfErr, IsTrue, string_bytes};
 ghost use Rattle.run_cli.specs.Call.{reading_of};
-ghost use Rattle.run_cli.specs.Given.{IsReplay, SaysInput, IsAllOf, IsUnread, IsGivenFault, CountsRead};
+ghost use Rattle.run_cli.specs.Commands.{IsNamedBy, NamesCommand};
+ghost use Rattle.run_cli.specs.Given.{SaysInput, IsAllOf, IsUnread, IsGivenFault, CountsRead};
 ghost use Rattle.run_cli.specs.LiveGiven.{IsLiveWord, IsLineFault};
 
+use crate::command::{Command, command_of};
 use run_capture::{Blob, Source};
 use run_events::Plan;
 use run_input::{
@@ -44,30 +46,31 @@ fn read_bytes<S: Source>(alloc: Global, source: &mut S) -> Result<Blob, Fault>
     }
 }
 
-/// The input that the source gives, or why there is none. The source is read only where the words are good.
+/// The command that the words name and the input that the source gives, or why there is none. The source is read only
+/// where the words are good.
 pub fn read_given<S: Source>(
     alloc: Global,
     words: &[String],
     source: &mut S,
-) -> Result<Input, Fault>
-    ensures replay { IfOk result (λ _. IsReplay (map (λ w. string_bytes w) words.now)) }
-    ensures given { IfOk result (λ i. SaysInput (reading_of S.Source source.old source.new)
-        i.keys i.plan
-        i.turns) }
+) -> Result<(Command, Input), Fault>
+    ensures named { IfOk result (λ g. IsNamedBy g.0 (map (λ w. string_bytes w) words.now)) }
+    ensures given { IfOk result (λ g. SaysInput (reading_of S.Source source.old source.new)
+        g.1.keys g.1.plan
+        g.1.turns) }
     ensures refused { IfErr result (IsGivenFault (map (λ w. string_bytes w) words.now)
         (reading_of S.Source source.old source.new)) }
     ensures counted { CountsRead (reading_of S.Source source.old source.new) result }
-    ensures untouched { ¬ IsReplay (map (λ w. string_bytes w) words.now) → source.new ≡ source.old }
+    ensures untouched { ¬ NamesCommand (map (λ w. string_bytes w) words.now) → source.new ≡ source.old }
 {
-    if !is_word(words, "replay") {
+    let Some(command) = command_of(words) else {
         return Err(Fault::Words);
-    }
+    };
     let bytes = match read_bytes(alloc, source) {
         Ok(bytes) => bytes,
         Err(fault) => return Err(fault),
     };
     match read_input(alloc, bytes.as_slice()) {
-        Ok(input) => Ok(input),
+        Ok(input) => Ok((command, input)),
         Err(InputError::Line { line }) => Err(Fault::Line { line }),
         Err(InputError::OutOfMemory) => Err(Fault::Memory),
     }

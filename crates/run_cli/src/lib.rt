@@ -3,6 +3,8 @@
 //! in to the bytes that go out. The readers and writers of single lines are handed on from below.
 #![tactic(auto)]
 
+mod clocks;
+mod command;
 mod ended;
 mod execution;
 mod given;
@@ -10,6 +12,7 @@ mod live;
 mod plan_line;
 mod receipts;
 mod tied;
+mod tied_progress;
 mod top;
 mod write;
 

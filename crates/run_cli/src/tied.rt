@@ -32,7 +32,7 @@ pub struct TiedReporter<K: Sink, O: Origin> {
 }
 
 impl<K: Sink, O: Origin> TiedReporter<K, O> {
-    ghost use Rattle.run_output.specs.Told.{HasTold, some_refused};
+    ghost use Rattle.run_output.specs.Told.{HasTold, event_lines, some_refused};
 
     /// A reporter that has told nothing.
     pub fn new(sink: K) -> Self
@@ -59,7 +59,7 @@ impl<K: Sink, O: Origin> TiedReporter<K, O> {
     pub fn into_sink(self) -> K
         ensures told { (answers : _) → ⟦<TiedReporter<K, O> as Reporter>⟧.told self answers
             → HasTold O.taken_before (K.taken result) O.faults_before (K.faults result)
-            (⟦<TiedReporter<K, O> as Reporter>⟧.faults self) answers }
+            (⟦<TiedReporter<K, O> as Reporter>⟧.faults self) (event_lines answers) }
     {
         let TiedReporter { lines, origin: _ } = self;
         lines.into_sink()

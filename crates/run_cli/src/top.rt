@@ -2,7 +2,8 @@
 ghost use Rattle.std.specs.Prelude.{◌≡◌, ◌+◌, ◌<◌, ◌^◌, ℕ, List, map, length, string_bytes, None};
 ghost use Rattle.run_cli.specs.Call.{reading_of, writing_of, call_of};
 ghost use Rattle.run_cli.specs.Plans.{fault_of_plan};
-ghost use Rattle.run_cli.specs.Given.{CountsReadAtEnd, IsReplay};
+ghost use Rattle.run_cli.specs.Given.{CountsReadAtEnd};
+ghost use Rattle.run_cli.specs.Commands.{NamesCommand};
 ghost use Rattle.run_cli.specs.Finish.{IsInputEnding};
 ghost use Rattle.run_cli.specs.Ending.{IsEnding};
 ghost use Rattle.run_cli.specs.Text.{ending_status, outcome_status};
@@ -10,6 +11,7 @@ ghost use Rattle.run_cli.specs.Status.{Answers};
 ghost use Rattle.run_cli.specs.LiveGiven.{IsLiveWord};
 ghost use Rattle.run_cli.specs.Live.{unheard, IsPlanEnd, IsLiveEnd, CountsLive, AnswersLive};
 
+use crate::command::Command;
 use crate::ended::{Ended, end_at_fault, replay, status_of_outcome};
 use crate::given::{is_live, read_given, read_plan};
 use crate::live::{LiveEnded, end_without_run, run_live};
@@ -61,16 +63,16 @@ fn fault_of_plan(error: TestRunnerBuildError) -> Fault
 }
 
 // Carries out what an input says.
-fn replay_input<K: Sink>(alloc: Global, input: Input, sink: K) -> Ended<K>
+fn replay_input<K: Sink>(alloc: Global, command: Command, input: Input, sink: K) -> Ended<K>
     requires units { length input.plan.scripts + length input.plan.tests < 2 ^ 32 }
     requires turns { length input.turns < 2 ^ 32 }
-    ensures { IsInputEnding input.keys input.plan input.turns
+    ensures { IsInputEnding command input.keys input.plan input.turns
         (writing_of K.Sink sink result.sink)
         result.ending }
 {
     let Input { keys, plan, turns } = input;
     match builder_of(keys).build(alloc, plan) {
-        Ok(runner) => replay(alloc, runner, turns.as_slice(), sink),
+        Ok(runner) => replay(alloc, command, runner, turns.as_slice(), sink),
         Err(error) => end_at_fault(alloc, sink, &[], fault_of_plan(error)),
     }
 }
@@ -87,10 +89,10 @@ fn run_to_end<S: Source, K: Sink>(
         IsEnding (call_of said reading (writing_of K.Sink sink result.sink)) result.ending }
     ensures counted { CountsReadAtEnd (reading_of S.Source source.old source.new)
         result.ending }
-    ensures untouched { ¬ IsReplay (map (λ w. string_bytes w) words.now) → source.new ≡ source.old }
+    ensures untouched { ¬ NamesCommand (map (λ w. string_bytes w) words.now) → source.new ≡ source.old }
 {
     match read_given(alloc, words, source) {
-        Ok(input) => replay_input(alloc, input, sink),
+        Ok((command, input)) => replay_input(alloc, command, input, sink),
         Err(fault) => end_at_fault(alloc, sink, &[], fault),
     }
 }
@@ -149,7 +151,7 @@ fn replayed<S: Source, K: Sink>(alloc: Global, words: &[String], source: &mut S,
     ensures says { let said = map (λ w. string_bytes w) words.now in
         let reading = reading_of S.Source source.old source.new in
         Answers (call_of said reading (writing_of K.Sink sink result.sink)) result.status }
-    ensures untouched { ¬ IsReplay (map (λ w. string_bytes w) words.now) → source.new ≡ source.old }
+    ensures untouched { ¬ NamesCommand (map (λ w. string_bytes w) words.now) → source.new ≡ source.old }
 {
     let Ended { ending, sink } = run_to_end(alloc, words, source, sink);
     Ran {
@@ -201,7 +203,7 @@ pub fn run<S: Source, K: Sink + Send, H: Host, X: Threads + Wait + Sync>(
         let call = call_of said reading (writing_of K.Sink sink result.0.sink) in
         IsLiveWord said → AnswersLive H.Worker.has_said call result.1 result.0.status }
     ensures untouched { let said = map (λ w. string_bytes w) words.now in
-        ¬ IsLiveWord said → ¬ IsReplay said → source.new ≡ source.old }
+        ¬ IsLiveWord said → ¬ NamesCommand said → source.new ≡ source.old }
 {
     if is_live(words) {
         lived(rt, alloc, source, sink, host)

@@ -74,12 +74,15 @@ not_too_many k repeats groups retries test =
 fits : (n : ℕ) → nat_le (2 ^ 32 - 1) n ≡ false → n + 1 < 2 ^ 32
 fits n e = grind (arith, e)
 
-pub few_attempts : (p : Settings) (threads : ℕ)
-    → refusal_with threads p.plan.groups p.retries p.plan.tests ≡ None → units_in p < 2 ^ 32 → AreFew p
-few_attempts p threads accepted few = record {
-  units = few;
-  attempts = λ j. by_test j (slice_get p.plan.tests j) refl;
-}
+-- of a plan that isn't refused no test is
+pub unrefused : (p : Settings) (threads : ℕ)
+    → refusal_with threads p.plan.groups p.retries p.plan.tests ≡ None
+    → (j : ℕ) (test : PlanTest) → slice_get p.plan.tests j ≡ Some test
+    → is_some (refusal_at j (is_repeat p.plan.tests j) p.plan.groups p.retries test) ≡ false
+unrefused p threads accepted j test e =
+    sym (ap (λ o. is_some (option_and_then (refusal_at j (is_repeat p.plan.tests j) p.plan.groups p.retries) o)) e)
+    ∙ none_passes (λ k. is_some (test_refusal p.plan.groups p.retries p.plan.tests k)) (length p.plan.tests) j first_none
+    (slice_get_within p.plan.tests j test e)
   where
     first_none : first_refused p.plan.groups p.retries p.plan.tests ≡ None
     first_none =
@@ -88,14 +91,16 @@ few_attempts p threads accepted few = record {
         (option_and_then (test_refusal p.plan.groups p.retries p.plan.tests)
         (first_refused p.plan.groups p.retries p.plan.tests)) accepted)
 
+pub few_attempts : (p : Settings) (threads : ℕ)
+    → refusal_with threads p.plan.groups p.retries p.plan.tests ≡ None → units_in p < 2 ^ 32 → AreFew p
+few_attempts p threads accepted few = record {
+  units = few;
+  attempts = λ j. by_test j (slice_get p.plan.tests j) refl;
+}
+  where
     by_test : (j : ℕ) (o : Option PlanTest) → slice_get p.plan.tests j ≡ o
         → retry_count (terms_if p o).retries + 1 < 2 ^ 32
     by_test j None e = omega arith
     by_test j (Some test) e =
-        let none : is_some (test_refusal p.plan.groups p.retries p.plan.tests j) ≡ false =
-        none_passes (λ k. is_some (test_refusal p.plan.groups p.retries p.plan.tests k)) (length p.plan.tests) j first_none
-        (slice_get_within p.plan.tests j test e) in
         fits (retry_count (terms_if p (Some test)).retries)
-        (not_too_many j (is_repeat p.plan.tests j) p.plan.groups p.retries test
-        (sym (ap (λ o. is_some (option_and_then (refusal_at j (is_repeat p.plan.tests j) p.plan.groups p.retries) o)) e)
-        ∙ none))
+        (not_too_many j (is_repeat p.plan.tests j) p.plan.groups p.retries test (unrefused p threads accepted j test e))

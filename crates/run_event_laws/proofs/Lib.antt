@@ -1,12 +1,12 @@
-mod ByJournal
-mod Told
+pub mod ByJournal
+pub mod Told
 mod Joined
 mod RowMessages
 mod PlanUnits
 mod PlanMessages
 mod AnswersTold
 mod AnswerRows
-mod AnswersNamed
+pub mod AnswersNamed
 mod InOrder
 mod GoRows
 mod Goes

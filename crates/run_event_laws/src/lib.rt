@@ -1,6 +1,6 @@
 //! The laws of whom each event names, and of what it says of a test's own settings, its retries and its slots,
 //! over every legal journal: public functions with an empty body, whose contracts are theorems over the
-//! definitions of `run_model`. Nothing stands on them.
+//! definitions of `run_model`. No crate of the engine stands on them.
 #![tactic(auto)]
 
 mod laws;

@@ -7,6 +7,9 @@ use std::alloc::{AllocError, Global};
 const USAGE: &str =
     "usage: nextest_run live < PLAN, or nextest_run replay < INPUT; nextest_run --help says more";
 
+const WIDTH_HINT: &str =
+    "usage: nextest_run progress WIDTH < INPUT, with a width from 1 to 1000, in digits alone";
+
 const PLAN_HINT: &str =
     "a plan is a JSON object on one line, with \"run_id\" and \"tests\": nextest_run --help has one";
 
@@ -46,10 +49,32 @@ fn is_command(word: &str) -> bool {
     word == "live" || word == "replay"
 }
 
+// Whether the first word is the command that takes a width.
+fn is_progress(words: &[String]) -> bool {
+    match words {
+        [word, ..] => word.as_str() == "progress",
+        [] => false,
+    }
+}
+
+// What helps with words that are no command.
+fn words_hint(words: &[String]) -> &'static str {
+    if is_progress(words) {
+        WIDTH_HINT
+    } else {
+        USAGE
+    }
+}
+
 // What is wrong with words that are no command.
 fn words_fault(alloc: Global, words: &[String]) -> Result<String, AllocError> {
     match words {
         [] => String::from_str(alloc, "no command is given"),
+        [_] if is_progress(words) => String::from_str(alloc, "no width is given to \"progress\""),
+        [_, width] if is_progress(words) => format!(in alloc; "\"{width}\" is no width"),
+        [_, _, word, ..] if is_progress(words) => {
+            format!(in alloc; "unexpected word \"{word}\" after the width")
+        }
         [command, word, ..] if is_command(command.as_str()) => {
             format!(in alloc; "unexpected word \"{word}\" after \"{command}\"")
         }
@@ -259,7 +284,7 @@ fn said_of(
     last: &Value,
 ) -> Result<Message, AllocError> {
     match status {
-        2 => message_of(alloc, words_fault(alloc, words), USAGE),
+        2 => message_of(alloc, words_fault(alloc, words), words_hint(words)),
         3 => of_line(alloc, words, input, number_at(last, "line")),
         5 => of_plan(alloc, last),
         6 => of_not_enabled(alloc, input, last),

@@ -1,6 +1,7 @@
 -- What a plan line says.
-use Rattle.std.specs.Prelude.{ℕ, List, [], ◌∷◌, length, Option, Some, None, option_and_then, if◌then◌else◌, nat_eq, codes}
-use Rattle.std.specs.Prelude.{◌+◌, nat_lt, false}
+use Rattle.std.specs.Prelude.{ℕ, List, [], ◌∷◌, length, Option, Some, None, option_and_then, if◌then◌else◌, nat_eq}
+use Rattle.std.specs.Prelude.{codes}
+use Rattle.std.specs.Prelude.{◌+◌, ◌==◌, nat_lt, false}
 use Rattle.serde_json.specs.Data.{Data, Items, no_items, item}
 use Rattle.serde_json.specs.Find.{get, as_str, as_array}
 use Rattle.run_capture.specs.declared.test_output.CaptureStrategy.{CaptureStrategy}
@@ -210,11 +211,19 @@ plan_names =
     ∷ codes "input" ∷ codes "interceptor" ∷ codes "max_fail" ∷ codes "mode" ∷ codes "nextest_version" ∷ codes "profile"
     ∷ codes "quit_is_info" ∷ codes "recommended_version" ∷ codes "required_version" ∷ codes "retries" ∷ codes "run_id"
     ∷ codes "runners" ∷ codes "scripts" ∷ codes "signals" ∷ codes "started_at" ∷ codes "tests" ∷ codes "threads"
-    ∷ codes "workspace_root" ∷ []
+    ∷ codes "version" ∷ codes "workspace_root" ∷ []
+
+-- the version of the form of plan lines: there is the first alone
+abbrev pub version_of : Data → Option ℕ
+version_of d = do
+  version ← u64_of d
+  _ ← when (version == 1)
+  Some version
 
 -- the plan, without what is set of a runner
 abbrev pub plan_alone_of : Data → Option Plan
 plan_alone_of d = do
+  _ ← or_usual 1 version_of (get (codes "version") d)
   rules ← rules_from d
   frame ← frame_of d
   lists ← lists_of d

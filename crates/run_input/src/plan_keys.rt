@@ -6,9 +6,10 @@ ghost use Rattle.run_events.specs.declared.retry_policy.MaxFail.TheVariants.{All
 ghost use Rattle.run_events.specs.declared.signal.SignalHandlerKind.TheVariants as handlers;
 ghost use Rattle.serde_json.specs.View.{view};
 ghost use Rattle.run_input.specs.PlanLine.{capture_of, max_fail_of, terminate_of, signals_of, input_of, hearing_from};
+ghost use Rattle.run_input.specs.PlanLine.{version_of};
 ghost use Rattle.run_input.specs.Fields.{or_usual};
 
-use crate::fields::{str_at, truth_or, u32_at};
+use crate::fields::{str_at, truth_or, u32_at, u64_or};
 use crate::objects::has_keys_of;
 use run_capture::CaptureStrategy;
 use run_events::{Hearing, InputHandlerKind, MaxFail, SignalHandlerKind, TerminateMode};
@@ -124,4 +125,14 @@ pub fn hearing_from(value: &Value) -> Option<Hearing>
         input,
         quit_is_info,
     })
+}
+
+/// The version of a plan line, which is 1, also where nothing is said.
+pub fn version_at(value: Option<&Value>) -> Option<u64>
+    ensures { result ≡ or_usual 1 version_of (option_map (λ v. view v.now) value.entry) }
+{
+    match u64_or(1, value)? {
+        1 => Some(1),
+        _ => None,
+    }
 }

@@ -14,7 +14,7 @@ use crate::fields::{optional_u32_at, optional_u64_at, text_at, u32_at};
 use crate::objects::has_keys_of;
 use crate::plan_head::frame_from;
 use crate::plan_interceptor::interceptor_at;
-use crate::plan_keys::{capture_at, hearing_from, max_fail_at};
+use crate::plan_keys::{capture_at, hearing_from, max_fail_at, version_at};
 use crate::plan_retries::{optional_flaky_at, optional_retries_at};
 use crate::plan_scripts::scripts_at;
 use crate::plan_test::test_from;
@@ -47,23 +47,23 @@ pub struct RunnerKeys {
 /// text `none`, `split` or `combined`; `split` where it is missing), `threads` (a number), `max_fail`, `retries` and
 /// `flaky_result` (each replaces that of every test), `signals` (the text `standard`, `debugger` or `noop`; `standard`
 /// where it is missing), `input` (the text `standard` or `noop`; `standard` where it is missing), `quit_is_info` (a
-/// truth value; `false` where it is missing), `global_timeout` (a number), `groups` (a list of groups) and `scripts`
-/// (a list of setup scripts). It may also have `profile`, `workspace_root`, `args` (a list of texts), `mode` (the text
+/// truth value; `false` where it is missing), `global_timeout` (a number), `groups` (a list of groups) and `scripts` (a
+/// list of setup scripts). It may also have `profile`, `workspace_root`, `args` (a list of texts), `mode` (the text
 /// `test` or `benchmark`), `started_at` (a moment), `nextest_version`, `required_version`, `recommended_version`
-/// (versions), and `runners`, which may have `host` and `target` (each a program with its arguments); what is missing
-/// is as usual. `max_fail` has `count` (a number) and `mode` (the text `wait` or `immediate`). A group has `limit` (a
-/// number) and `name`. A script has `command` (a list of texts) and `id`, and may have `env_path` (empty where it is
-/// missing), `capture_stdout` and `capture_stderr` (truth values, `true` where they are missing), `leak` and `slow`. A
-/// test has `binary`, `command` and `name`, and may have `group` (the name of one), `leak`, `platform` (the text
-/// `target` or `host`; `target` where it is missing), `scripts` (a list of numbers, each of a script; none where it is
-/// missing), `skip` (the reason for which it is skipped), `slow`, `weight` (a number, 1 where it is missing),
-/// `retries` and `flaky` (the text `pass` or `fail`, as `flaky_result`; `pass` where it is missing). `slow` may have
-/// `grace`, `on_timeout` (the text `fail` or `pass`), `period` and `terminate_after`, and `leak` may have `period` and
-/// `result` (the text `fail` or `pass`); what is missing is as usual for a test or a script. `retries` has `count` (a
-/// number), and may have `delay` (0 where it is missing), `jitter` (`false` where it is missing), `backoff` (the text
-/// `fixed` or `exponential`; `fixed` where it is missing) and, where it is exponential, `max_delay`. `interceptor` may
-/// be there too, and has `command` (a text with a word at least, as a shell splits it) and `kind` (the text `debugger`
-/// or `tracer`).
+/// (versions), `version` (the number 1), and `runners`, which may have `host` and `target` (each a program with its
+/// arguments); what is missing is as usual. `max_fail` has `count` (a number) and `mode` (the text `wait` or
+/// `immediate`). A group has `limit` (a number) and `name`. A script has `command` (a list of texts) and `id`, and may
+/// have `env_path` (empty where it is missing), `capture_stdout` and `capture_stderr` (truth values, `true` where they
+/// are missing), `leak` and `slow`. A test has `binary`, `command` and `name`, and may have `group` (the name of one),
+/// `leak`, `platform` (the text `target` or `host`; `target` where it is missing), `scripts` (a list of numbers, each
+/// of a script; none where it is missing), `skip` (the reason for which it is skipped), `slow`, `weight` (a number, 1
+/// where it is missing), `retries` and `flaky` (the text `pass` or `fail`, as `flaky_result`; `pass` where it is
+/// missing). `slow` may have `grace`, `on_timeout` (the text `fail` or `pass`), `period` and `terminate_after`, and
+/// `leak` may have `period` and `result` (the text `fail` or `pass`); what is missing is as usual for a test or a
+/// script. `retries` has `count` (a number), and may have `delay` (0 where it is missing), `jitter` (`false` where it
+/// is missing), `backoff` (the text `fixed` or `exponential`; `fixed` where it is missing) and, where it is
+/// exponential, `max_delay`. `interceptor` may be there too, and has `command` (a text with a word at least, as a shell
+/// splits it) and `kind` (the text `debugger` or `tracer`).
 pub fn read_plan_line(alloc: Global, line: &[u8]) -> Result<(RunnerKeys, Plan), LineError>
     ensures { ReadsValue result (option_and_then plan_of (json_value line.now)) }
 {
@@ -105,6 +105,7 @@ fn plan_from(alloc: Global, value: &Value) -> Result<(RunnerKeys, Plan), LineErr
             "started_at",
             "tests",
             "threads",
+            "version",
             "workspace_root",
         ],
     ) {
@@ -118,6 +119,7 @@ fn plan_from(alloc: Global, value: &Value) -> Result<(RunnerKeys, Plan), LineErr
 fn plan_alone(alloc: Global, value: &Value) -> Result<Plan, LineError>
     ensures { ReadsValue result (plan_alone_of (view value.now)) }
 {
+    version_at(value.get("version")).ok_or(LineError::NotInTable)?;
     let rules = rules_from(value).ok_or(LineError::NotInTable)?;
     let frame = frame_from(alloc, value)?;
     let (frame, lists) = both(frame, lists_from(alloc, value))?;

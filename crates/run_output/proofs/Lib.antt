@@ -1,3 +1,4 @@
 mod Floats
 mod FieldLemmas
-mod ToldLemmas
+pub mod ToldLemmas
+pub mod ShownLemmas

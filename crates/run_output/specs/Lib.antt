@@ -20,4 +20,5 @@ pub mod Asks
 pub mod Outcomes
 pub mod Faults
 pub mod Told
+pub mod Shown
 pub mod Turns

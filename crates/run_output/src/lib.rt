@@ -1,6 +1,7 @@
-//! What a run tells and asks, as lines of JSON: the texts of events, asks, outcomes and faults, and
-//! the reporter that writes each event's line to a sink. It stands on the data of `run_events` and
-//! the sink of `run_capture`. The layer above prints these lines and rests on their texts.
+//! What a run tells and asks, as lines of JSON: the texts of events, asks, outcomes and faults, the
+//! reporter that writes each event's line to a sink, and the one that writes live progress. It stands on the
+//! data of `run_events`, the sink of `run_capture` and the display of `run_progress`. The layer above prints
+//! these lines and rests on their texts.
 #![tactic(auto)]
 
 mod asks;
@@ -22,6 +23,7 @@ mod lists;
 mod object;
 mod outcomes;
 mod plain;
+mod progress_reporter;
 mod receipts;
 mod slots;
 mod stats;
@@ -29,6 +31,7 @@ mod statuses;
 mod stress;
 mod texts;
 mod turns;
+mod watcher;
 
 pub use asks::ask_line;
 pub use events::event_line;
@@ -37,5 +40,6 @@ pub use faults::fault_line;
 pub use line_feed::with_line_feed;
 pub use line_reporter::LineReporter;
 pub use outcomes::outcome_line;
+pub use progress_reporter::ProgressReporter;
 pub use receipts::{mismatch_line, other_settings_line, repeated_line};
 pub use turns::turn_line;

@@ -19,7 +19,7 @@ pub struct LineReporter<K: Sink> {
 }
 
 impl<K: Sink> LineReporter<K> {
-    ghost use Rattle.run_output.specs.Told.{HasTold, some_refused};
+    ghost use Rattle.run_output.specs.Told.{HasTold, event_lines, some_refused};
 
     /// A reporter that has told nothing, and starts at the sink as it is.
     pub fn new(sink: K) -> Self
@@ -47,7 +47,7 @@ impl<K: Sink> LineReporter<K> {
     pub fn into_sink(self) -> K
         ensures told { (answers : _) → ⟦<LineReporter<K> as Reporter>⟧.told self answers
             → HasTold (K.taken self.start.value) (K.taken result) (K.faults self.start.value)
-            (K.faults result) (⟦<LineReporter<K> as Reporter>⟧.faults self) answers }
+            (K.faults result) (⟦<LineReporter<K> as Reporter>⟧.faults self) (event_lines answers) }
     {
         let LineReporter {
             sink,
@@ -62,16 +62,16 @@ impl<K: Sink> LineReporter<K> {
 impl<K: Sink> Reporter for LineReporter<K> {
     type Error = Failed;
 
-    ghost use Rattle.run_output.specs.Told.{HasTold};
+    ghost use Rattle.run_output.specs.Told.{HasTold, event_lines};
 
     ghost told = { λ r answers. HasTold (K.taken r.start.value) (K.taken r.sink) (K.faults r.start.value)
-        (K.faults r.sink) r.refusals answers };
+        (K.faults r.sink) r.refusals (event_lines answers) };
 
     ghost faults = { λ r. r.refusals };
 
     fn report(&mut self, alloc: Global, event: &ReporterEvent) -> Result<(), ReportFault<Failed>>
         ensures told { Adds (λ r answers. HasTold (K.taken r.start.value) (K.taken r.sink)
-            (K.faults r.start.value) (K.faults r.sink) r.refusals answers) self.old self.new
+            (K.faults r.start.value) (K.faults r.sink) r.refusals (event_lines answers)) self.old self.new
             (answered event.now result) }
         ensures fault { CountsRefusal self.old.refusals self.new.refusals result }
         ensures start { self.new.start.value ≡ self.old.start.value }

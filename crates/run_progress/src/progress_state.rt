@@ -104,6 +104,25 @@ impl ProgressState {
         Ok(Text::from_string(text))
     }
 
+    /// The text of a tick, and the line feed that ends it.
+    ///
+    /// ```text
+    /// let line = state.tick_line(alloc, 5_000_000_000, 80)?;
+    /// ```
+    pub fn tick_line(&mut self, alloc: Global, now: u64, width: u32) -> Mem<Text>
+        ensures text { IfOk result (λ line. line
+            ≡ tick_of self.old.showing self.old.seen now width ++ 10 ∷ []) }
+        ensures ok { OnOk result (self.new ≡ record self.old
+            { showing = shown_after self.old.showing self.old.seen now width }) }
+        ensures err { OnErr result (self.new ≡ self.old) }
+    {
+        let (text, showing) = tick(alloc, self.showing, &self.seen, now, width)?;
+        let mut line = text;
+        line.push_str("\n")?;
+        self.showing = showing;
+        Ok(Text::from_string(line))
+    }
+
     /// Whether nothing is to be shown now: while a setup script that isn't captured runs, while the run is paused, and
     /// in an information round.
     ///

@@ -2,7 +2,7 @@ use Rattle.std.proofs.Common.{[], subst}
 use Rattle.run_engine.proofs.CourseLemmas.{unless_weaker}
 use Rattle.run_output.specs.Told.{HasTold}
 use Rattle.run_cli.specs.Call.{writing_of}
-use Rattle.run_cli.proofs.ToldLines.{executed_from}
+use Rattle.run_cli.proofs.ToldLines.{executed_whole}
 use Rattle.run_cli.proofs.execution.execute_at.Goals as goal
 
 pub returns : goal.returns
@@ -11,7 +11,7 @@ returns g c = unless_weaker c.try_execute-answer.result _ _
     let told = x.call.takes.told [] c.new-reporter.ensures.told in
     let w = writing_of g.K.Sink c.args.sink c.into_sink.result in
     let refusals = c.try_execute-answer.new.report.lines.refusals in
-    executed_from c.args.runner c.args.turns.now w refusals c.try_execute-answer.new.children
+    executed_whole c.args.runner c.args.turns.now w refusals c.try_execute-answer.new.children
     c.try_execute-answer.result
     x.call.journal x.call.refusal told.0 x.call.takes.runnable x.call.says x.call.takes.marked
     (x.call.takes.asked [] c.new-asks.ensures)

@@ -12,6 +12,6 @@ replay_input-requires-clause-turns g c =
 pub returns-in-Ok-clause-says : goal.returns-in-Ok-clause-says
 returns-in-Ok-clause-says g c =
     let input = c.in-Ok.input in
-    given_says _ input.keys input.plan input.turns c.replay_input.result.ending c.in-Ok.ensures.replay
+    given_says _ c.in-Ok.command input.keys input.plan input.turns c.replay_input.result.ending c.in-Ok.ensures.named
     c.in-Ok.ensures.given
     c.replay_input.ensures

@@ -1,0 +1,13 @@
+mod SameLemmas
+mod ShownLemmas
+mod CourseLemmas
+mod NewsLemmas
+mod WholeLemmas
+mod RunningLemmas
+mod OffsetLemmas
+mod SlowLemmas
+mod SlowTold
+mod FindLemmas
+mod LastTold
+mod HiddenLemmas
+mod BuiltLemmas

@@ -1,0 +1,76 @@
+-- Which tests are displayed after every legal journal.
+use Rattle.std.proofs.Common.{◌≡◌, ℕ, List, [], ◌∷◌, Bool, true, false, if◌then◌else◌, Some, ◌∙◌}
+use Rattle.std.specs.List.{All}
+use Rattle.std.specs.Prelude.{unwrap_or}
+use Rattle.std.proofs.lemmas.List.Elements.{All-append, All-cons, All-head, All-nil, All-tail}
+use Rattle.run_events.specs.declared.message.TestUnit.{TestUnit}
+use Rattle.run_events.specs.declared.plan.PlanTest.{PlanTest}
+use Rattle.run_events.specs.declared.settings.Settings.{Settings}
+use Rattle.run_events.specs.declared.events.ReporterEvent.{ReporterEvent}
+use Rattle.run_events.specs.declared.events.ReporterEvent.TheVariants.{Tick, Test}
+use Rattle.run_events.specs.declared.events.TestEvent.{TestEvent}
+use Rattle.run_events.specs.declared.events.TestEventKind.{TestEventKind}
+use Rattle.run_events.specs.declared.events.TestEventKind.TheVariants as kinds
+use Rattle.run_model.specs.declared.entry.Entry.{Entry}
+use Rattle.run_model.specs.Accounts.{account_of}
+use Rattle.run_model.specs.Journal.{history, IsLegalBackward}
+use Rattle.run_model.specs.Words.{is_running, told}
+use Rattle.run_progress.specs.declared.running_test.RunningTestStatus.{RunningTestStatus}
+use Rattle.run_progress.specs.declared.running_test.RunningTestStatus.TheVariants as statuses
+use Rattle.run_progress.specs.Deeds.{deed_of, paused_in, starts}
+use Rattle.run_progress.specs.Display.{display, is_replaced, running_after, running_test, started_by}
+use Rattle.run_event_laws.specs.Names.{IsTestNamed, NamesThePlan, NamesThePlanIn, test_of_unit}
+use Rattle.run_display_laws.specs.Displays.{HasEachIdOnce, IsOfPlan, tests_displayed, events_heard, is_displayed}
+use Rattle.run_display_laws.proofs.CourseLemmas.{course_shown}
+use Rattle.run_display_laws.proofs.NewsLemmas.{displayed_news}
+use Rattle.run_display_laws.proofs.SameLemmas.{unit_named}
+use Rattle.run_display_laws.proofs.WholeLemmas.{course_whole, named_whole, runs-is}
+
+pub displays_running : (p : Settings) (backward : List Entry) → HasEachIdOnce p → IsLegalBackward p backward
+    → (k : ℕ) (test : PlanTest) → test_of_unit p k ≡ Some test
+    → is_displayed test.id (tests_displayed (told (history p backward))) ≡ is_running (told (history p backward)) k
+displays_running p backward once legal k test there =
+    displayed_news p k test once there (told (history p backward)) (named_whole p backward legal)
+    ∙ course_shown (account_of k (told (history p backward))) (course_whole p backward legal k)
+    ∙ runs-is k (told (history p backward))
+
+-- a test that is started by an event that names the plan is one of the plan
+module _ (p : Settings) (start before : ℕ) (later : List TestEvent) where
+  one_of_plan : (unit : TestUnit) (status : RunningTestStatus) → IsTestNamed p unit
+      → All (IsOfPlan p) (started_by (starts unit.id status) start before later)
+  one_of_plan unit status named = by_replaced (is_replaced unit.id later)
+    where
+      it : IsOfPlan p (running_test unit.id status start before later)
+      it = (unit.unit, unit_named p unit named)
+
+      by_replaced : (r : Bool)
+          → All (IsOfPlan p) (if r then [] else running_test unit.id status start before later ∷ [])
+      by_replaced true = All-nil (IsOfPlan p)
+      by_replaced false =
+          All-cons (IsOfPlan p) (running_test unit.id status start before later) [] it (All-nil (IsOfPlan p))
+
+  started_of_plan : (kind : TestEventKind) → NamesThePlanIn p kind
+      → All (IsOfPlan p) (started_by (deed_of kind) start before later)
+  started_of_plan (kinds.TestStarted e) named = one_of_plan e.start.test statuses.Running named
+  started_of_plan (kinds.TestAttemptFailedWillRetry e) named =
+      one_of_plan e.failed.test (statuses.Delay e.failed.delay_next) named
+  started_of_plan (kinds.TestRetryStarted e) named = one_of_plan e.retry.start.test statuses.Retry named
+  started_of_plan kind named = All-nil (IsOfPlan p)
+
+running_of_plan : (p : Settings) (before : ℕ) (events : List ReporterEvent) → All (NamesThePlan p) events
+    → All (IsOfPlan p) (running_after before (events_heard events))
+running_of_plan p before [] named = All-nil (IsOfPlan p)
+running_of_plan p before (Tick ∷ events) named =
+    running_of_plan p before events (All-tail (NamesThePlan p) Tick events named)
+running_of_plan p before (Test event ∷ events) named =
+    let paused : ℕ = unwrap_or (paused_in event) before in
+    All-append (IsOfPlan p) (started_by (deed_of event.kind) event.clock paused (events_heard events))
+    (running_after paused (events_heard events))
+    (started_of_plan p event.clock paused (events_heard events) event.kind
+    (All-head (NamesThePlan p) (Test event) events named))
+    (running_of_plan p paused events (All-tail (NamesThePlan p) (Test event) events named))
+
+pub displays_plan : (p : Settings) (backward : List Entry) → IsLegalBackward p backward
+    → All (IsOfPlan p) (tests_displayed (told (history p backward)))
+unfolding display
+displays_plan p backward legal = running_of_plan p 0 (told (history p backward)) (named_whole p backward legal)

@@ -1,0 +1,75 @@
+-- What is told in a run is told in its one sub-run, and names the plan; what is told of a unit is a course.
+use Rattle.std.proofs.Common.{◌≡◌, ◌⊎◌, inl, inr, ℕ, List, [], ◌∷◌, ◌++◌, Some, refl, ap, sym, subst, ◌∙◌}
+use Rattle.std.specs.List.{All, cons_option}
+use Rattle.std.proofs.lemmas.List.Elements.{All-head, All-tail, filter_map-append}
+use Rattle.run_events.specs.declared.settings.Settings.{Settings}
+use Rattle.run_events.specs.declared.events.ReporterEvent.{ReporterEvent}
+use Rattle.run_events.specs.declared.events.ReporterEvent.TheVariants.{Test}
+use Rattle.run_events.specs.declared.events.TestEvent.{TestEvent}
+use Rattle.run_model.specs.declared.entry.Entry.{Entry}
+use Rattle.run_model.specs.declared.happening.Happening.{Happening}
+use Rattle.run_model.specs.Accounts.{News, account_of, is_mismatched, news_in, news_of, pending_of}
+use Rattle.run_model.specs.Board.{deed_events}
+use Rattle.run_model.specs.Journal.{history, IsLegalBackward}
+use Rattle.run_model.specs.Story.{was_left}
+use Rattle.run_model.specs.Turns.{happening}
+use Rattle.run_model.specs.Words.{events_in, is_running, queue, sub_run, told, unit_of}
+use Rattle.run_laws.proofs.board.Kept.{IsBeforeRuns, IsOfRun, holds, where_joins}
+use Rattle.run_laws.proofs.told.Running.{finishes-account, starts-account}
+use Rattle.run_event_laws.specs.Names.{NamesThePlan}
+use Rattle.run_event_laws.proofs.AnswersNamed.{events_named}
+use Rattle.run_display_laws.proofs.CourseLemmas.{IsCourse, account_course, runs_by}
+
+pub told_whole : (p : Settings) (backward : List Entry) → IsLegalBackward p backward
+    → told (history p backward) ≡ told (sub_run (history p backward))
+told_whole p [] legal = refl
+told_whole p (e ∷ before) legal =
+    by_run (told_whole p before legal.2) (where_joins p past e (holds p before legal.2) legal.0)
+  where
+    past : List Happening
+    past = history p before
+
+    x : Happening
+    x = happening p past e
+
+    by_run : told past ≡ told (sub_run past) → IsOfRun p past e ⊎ IsBeforeRuns p past e
+        → told (x ∷ past) ≡ told (sub_run (x ∷ past))
+    by_run was (inl of) = ap (λ es. es ++ events_in x) was ∙ ap told (sym of.joins)
+    by_run was (inr idle) =
+        ap (λ es. es ++ events_in x) (was ∙ ap told idle.none)
+        ∙ ap deed_events idle.idle ∙ sym (ap told idle.still)
+
+pub named_whole : (p : Settings) (backward : List Entry) → IsLegalBackward p backward
+    → All (NamesThePlan p) (told (history p backward))
+named_whole p backward legal =
+    subst (All (NamesThePlan p)) (sym (told_whole p backward legal)) (events_named p backward legal)
+
+pub course_whole : (p : Settings) (backward : List Entry) → IsLegalBackward p backward → (k : ℕ)
+    → IsCourse (account_of k (told (history p backward)))
+course_whole p backward legal k =
+    let run : List Happening = sub_run (history p backward) in
+    subst (λ es. IsCourse (account_of k es)) (sym (told_whole p backward legal))
+    (account_course (is_mismatched p k) (was_left k run) (unit_of k run) (account_of k (told run))
+    (pending_of k (queue run)) ((holds p backward legal).run.accounts k))
+
+-- what is told of a unit says whether it runs
+pub runs-is : (k : ℕ) (events : List ReporterEvent) → runs_by (account_of k events) ≡ is_running events k
+runs-is k events = rw (starts-account k events, finishes-account k events) refl
+
+-- an event among others, of which this holds
+pub all_at : (P : ReporterEvent → Type 0) (before after : List ReporterEvent) (e : ReporterEvent)
+    → All P (before ++ e ∷ after) → P e
+all_at P [] after e all = All-head P e after all
+all_at P (x ∷ before) after e all = all_at P before after e (All-tail P x (before ++ e ∷ after) all)
+
+-- what is told of a unit by two lists, one after the other
+pub account_append : (k : ℕ) (es fs : List ReporterEvent) → account_of k (es ++ fs) ≡ account_of k es ++ account_of k fs
+account_append k es fs = filter_map-append (news_of k) es fs
+
+-- what is told of a unit, where an event tells news of it
+pub account_split : (k : ℕ) (before after : List ReporterEvent) (event : TestEvent) (n : News)
+    → news_in k event.kind ≡ Some n
+    → account_of k (before ++ Test event ∷ after) ≡ account_of k before ++ n ∷ account_of k after
+account_split k before after event n is =
+    filter_map-append (news_of k) before (Test event ∷ after)
+    ∙ ap (λ o. account_of k before ++ cons_option o (account_of k after)) is
