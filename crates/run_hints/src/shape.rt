@@ -16,6 +16,8 @@ pub(crate) enum Shape {
     U32,
     U64,
     I32,
+    /// The version of a plan line.
+    Form,
     Truth,
     Texts,
     /// One text or more.
@@ -105,6 +107,7 @@ impl Shape {
             Shape::U32 => "a whole number from 0 to 4294967295",
             Shape::U64 => "a whole number from 0 to 18446744073709551615",
             Shape::I32 => "a whole number from -2147483648 to 2147483647",
+            Shape::Form => "the number 1",
             Shape::Truth => "true or false",
             Shape::Texts => "a list of texts",
             Shape::Program => "a list of one text or more",
@@ -128,6 +131,7 @@ impl Shape {
             Shape::I32 => value
                 .as_i64()
                 .is_some_and(|number| -2147483648 <= number && number <= 2147483647),
+            Shape::Form => value.as_u64().is_some_and(|number| number == 1),
             Shape::Truth => value.as_bool().is_some(),
             Shape::Texts => are_texts(value),
             Shape::Program => are_texts(value) && !is_empty(value),

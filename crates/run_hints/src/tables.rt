@@ -73,6 +73,7 @@ fn plan_leaf(key: &str) -> Option<Shape> {
         "run_id" => Some(Shape::Uuid),
         "started_at" => Some(Shape::Moment),
         "threads" => Some(Shape::U32),
+        "version" => Some(Shape::Form),
         _ => plan_choice(key),
     }
 }
