@@ -1,5 +1,5 @@
 // A run with its reporter and its children, and the loop that drives it to its end.
-ghost use Rattle.std.specs.Prelude.{ℕ, ◌≡◌, ◌<◌, ◌+◌, ◌^◌, length, IfOk, OnOk, false};
+ghost use Rattle.std.specs.Prelude.{ℕ, ◌≡◌, ◌<◌, ◌+◌, ◌^◌, length, IfOk, OnOk, false, None};
 ghost use Rattle.example_supervisor.specs.Reported.{Grows, IsUpToDate, IsReported};
 
 use crate::outside::{JobResult, Ledger, Yard};
@@ -78,6 +78,7 @@ impl Supervisor {
     fn report(&mut self, alloc: Global, codes: &[i32]) -> Result<Report, SupervisorError>
         requires told { IsUpToDate self.old }
         requires sound { self.old.run.broken ≡ false }
+        requires single { self.old.run.settings.stress ≡ None }
         ensures { IfOk result (λ report. IsReported self.old.run.settings.plan report) }
     {
         self.run_jobs(alloc, codes)?;

@@ -16,10 +16,12 @@ const HELP: &str = "The execution engine of a test runner
 Usage: nextest_run live < PLAN
        nextest_run replay < INPUT
        nextest_run progress WIDTH < INPUT
+       nextest_run generate TESTS
 
   live             runs the tests of PLAN, each as a process of its own
   replay           carries out the run that INPUT tells
   progress WIDTH   the same, and shows its progress on a terminal of WIDTH columns, from 1 to 1000
+  generate TESTS   carries out the run of a plan of TESTS tests, from 1 to 20000, that it makes up, and sums it up
   -h, --help       prints this
   -V, --version    prints the version
 

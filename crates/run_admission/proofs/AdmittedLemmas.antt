@@ -14,8 +14,8 @@ use Rattle.run_admission.specs.declared.seat.Seat.{Seat}
 use Rattle.run_admission.specs.declared.seat.Seat.TheVariants.{Waiting, InUse, Gone}
 use Rattle.run_admission.specs.declared.seat.Admitted.TheVariants.{Run}
 use Rattle.run_admission.specs.InUse.{Admissions, Test, tests, is_waiting, is_of, taken, taken_in, fits_beside}
-use Rattle.run_admission.specs.InUse.{fits_its_group, may_come, fits_all, candidate_at, slot_of, slot_in, holds}
-use Rattle.run_admission.specs.InUse.{least_free, free_slot, free_group_slot, admitted_as}
+use Rattle.run_admission.specs.InUse.{fits_its_group, may_come, comes_next, fits_all, candidate_at}
+use Rattle.run_admission.specs.InUse.{slot_of, slot_in, holds, least_free, free_slot, free_group_slot, admitted_as}
 use Rattle.run_admission.specs.InUse.{admitted, group_weight_in_use}
 use Rattle.run_admission.specs.InUse.{seat_group_slot}
 use Rattle.run_admission.specs.Kept.{nobody}
@@ -37,17 +37,18 @@ pub record IsRun (a : Admissions) (k global : ℕ) (group : Option ℕ) : Type 0
   pub slot_within : group ≡ free_group_slot a claim
 
 -- the first test that may come next waits, and has room in its group where it is to run
-came : (a : Admissions) (k : ℕ) (claim : Claim) → position (may_come a) (tests a) ≡ Some k
+came : (a : Admissions) (k : ℕ) (claim : Claim) → position (comes_next a) (tests a) ≡ Some k
     → slice_get a.claims k ≡ Some claim
     → (k < length a.seats) × (is_waiting (get_or a.seats k Gone) ≡ true)
     × ((not claim.matched || fits_its_group a claim) ≡ true)
 came a k claim place at =
-    let found = position-Some (may_come a) (tests a) k nobody place in
+    let found = position-Some (comes_next a) (tests a) k nobody place in
     let both : k < min (length a.claims) (length a.seats) = omega (arith, found.0, length-zip a.claims a.seats) in
     let is = get_or-zip a.claims a.seats k nobody (grind arith) (grind arith) in
     let same : get_or a.claims k nobody.0 ≡ claim = get_or_from_slice_get a.claims k claim nobody.0 at in
     let comes : may_come a (claim, get_or a.seats k Gone) ≡ true =
-    ap (λ c. may_come a (c, get_or a.seats k Gone)) (sym same) ∙ ap (may_come a) (sym is) ∙ found.1 in (
+    ap (λ c. may_come a (c, get_or a.seats k Gone)) (sym same) ∙ ap (may_come a) (sym is)
+    ∙ first_so _ _ found.1 in (
       grind arith,
       first_so _ _ comes,
       second_so (is_waiting (get_or a.seats k Gone)) _ comes,
@@ -56,10 +57,10 @@ came a k claim place at =
 -- a test that is admitted to run is one that fits
 pub run_is : (a : Admissions) (k global : ℕ) (group : Option ℕ) → admitted a ≡ Some (Run k global group)
     → IsRun a k global group
-run_is a k global group e = by_place (position (may_come a) (tests a)) refl e
+run_is a k global group e = by_place (position (comes_next a) (tests a)) refl e
   where
     by_kind : (j : ℕ) (claim : Claim) (matched fits : Bool) → slice_get a.claims j ≡ Some claim
-        → position (may_come a) (tests a) ≡ Some j → claim.matched ≡ matched → fits_all a claim ≡ fits
+        → position (comes_next a) (tests a) ≡ Some j → claim.matched ≡ matched → fits_all a claim ≡ fits
         → admitted_as a (candidate_at j claim fits) ≡ Some (Run k global group) → IsRun a k global group
     by_kind j claim false fits at place m f e = let never = rw m at e in cc
     by_kind j claim true false at place m f e = let never = rw m at e in cc
@@ -81,14 +82,14 @@ run_is a k global group e = by_place (position (may_come a) (tests a)) refl e
           slot_within = sym part ∙ ap (option_and_then (free_group_slot a)) at;
         })
 
-    by_claim : (j : ℕ) (c : Option Claim) → slice_get a.claims j ≡ c → position (may_come a) (tests a) ≡ Some j
+    by_claim : (j : ℕ) (c : Option Claim) → slice_get a.claims j ≡ c → position (comes_next a) (tests a) ≡ Some j
         → option_and_then (admitted_as a) (option_map (λ claim. candidate_at j claim (fits_all a claim)) c)
         ≡ Some (Run k global group)
         → IsRun a k global group
     by_claim j None at place e = cc
     by_claim j (Some claim) at place e = by_kind j claim claim.matched (fits_all a claim) at place refl refl e
 
-    by_place : (o : Option ℕ) → position (may_come a) (tests a) ≡ o
+    by_place : (o : Option ℕ) → position (comes_next a) (tests a) ≡ o
         → option_and_then (admitted_as a) (option_and_then
         (λ test. option_map (λ claim. candidate_at test claim (fits_all a claim)) (slice_get a.claims test)) o)
         ≡ Some (Run k global group)

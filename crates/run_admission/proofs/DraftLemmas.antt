@@ -1,5 +1,6 @@
 -- The lines of a sub-run as it begins, built test by test.
-use Rattle.std.proofs.Common.{◌≡◌, ◌≢◌, ℕ, zero, suc, ◌+◌, ◌<◌, ◌==◌, List, [], ◌∷◌, ◌++◌, length, get_or, set, map, replicate, Bool}
+use Rattle.std.proofs.Common.{◌≡◌, ◌≢◌, ℕ, zero, suc, ◌+◌, ◌<◌, ◌==◌, List, [], ◌∷◌, ◌++◌, length, get_or, set, map}
+use Rattle.std.proofs.Common.{replicate, Bool}
 use Rattle.std.proofs.Common.{true, false, Some, refl, ap, sym, subst, ◌∙◌, arith, get_or-set_other}
 use Rattle.std.proofs.Math.ListN.{length-set}
 use Rattle.std.proofs.lemmas.Grind.{get_or-set_at}
@@ -7,15 +8,17 @@ use Rattle.std.proofs.lemmas.List.{length-append, length-replicate, get_or-repli
 use Rattle.run_admission.specs.declared.seat.Claim.{Claim}
 use Rattle.run_admission.specs.declared.seat.Seat.TheVariants.{Waiting, Gone}
 use Rattle.run_admission.specs.Kept.{Use, nobody}
-use Rattle.run_admission.specs.Lined.{Queue, IsInOrder, IsFirst, IsJoined, IsDrafted, IsLined, IsQueued, HasFirsts, empty}
+use Rattle.run_admission.specs.Lined.{Queue, IsInOrder, IsFirst, IsJoined, IsDrafted, IsLined, IsQueued, HasFirsts}
+use Rattle.run_admission.specs.Lined.{empty}
 use Rattle.run_admission.specs.Lined.{joined}
 use Rattle.run_admission.specs.Lined.{line_of, weight_of, weight_at, room_of}
 use Rattle.run_admission.proofs.LineLemmas.{AreWithin, head_is, line_inside}
 use Rattle.run_admission.proofs.QueueLemmas.{AreThere}
-use Rattle.run_admission.proofs.ReadyLemmas.{get_default}
+use Rattle.run_admission.proofs.ListLemmas.{get_default}
 
 -- at first no line has a test
-pub drafted_first : (limits : List ℕ) (claims : List Claim) → IsDrafted limits claims 0 (replicate (length limits + 1) empty) []
+pub drafted_first : (limits : List ℕ) (claims : List Claim)
+    → IsDrafted limits claims 0 (replicate (length limits + 1) empty) []
 drafted_first limits claims = record {
   count = length-replicate (length limits + 1) empty;
   all = refl;

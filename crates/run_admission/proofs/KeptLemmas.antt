@@ -50,7 +50,8 @@ count_set xs k was new is inside =
     ∙ sum_by-set (λ x. cond (is_some x) 1 0) xs k new None inside
 
 -- not all places are taken where one is free
-pub count_lt : (xs : List (Option ℕ)) (k : ℕ) → get_or xs k None ≡ None → k < length xs → count_by is_some xs < length xs
+pub count_lt : (xs : List (Option ℕ)) (k : ℕ) → get_or xs k None ≡ None → k < length xs
+    → count_by is_some xs < length xs
 count_lt xs k none inside =
     omega (
       arith,

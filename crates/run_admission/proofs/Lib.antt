@@ -12,7 +12,10 @@ mod WaitLemmas
 mod RuleLemmas
 mod LineLemmas
 mod QueueLemmas
+mod NextLemmas
+mod OrderLemmas
 mod ReadyLemmas
+mod FirstLemmas
 mod DraftLemmas
 mod BegunLemmas
 mod LawLemmas

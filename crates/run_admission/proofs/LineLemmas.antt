@@ -1,6 +1,7 @@
 -- Which test of a line may come first, by what is kept of the lines.
 use Rattle.std.proofs.Common.{◌≡◌, ◌≢◌, ℕ, ◌+◌, ◌-◌, ◌<◌, ◌≤◌, ◌==◌, ◌&&◌, ◌||◌, List, length, get_or, set, map, min}
-use Rattle.std.proofs.Common.{Bool, true, false, not, if◌then◌else◌, Option, Some, None, nat_le, slice_get, refl, ap, sym}
+use Rattle.std.proofs.Common.{Bool, true, false, not, if◌then◌else◌, Option, Some, None, nat_le, slice_get, refl, ap}
+use Rattle.std.proofs.Common.{sym}
 use Rattle.std.proofs.Common.{subst, ◌∙◌, arith, inl, inr, get_or-set_other}
 use Rattle.std.proofs.Math.ListN.{length-set}
 use Rattle.std.specs.Option.{option_map_or}
@@ -11,7 +12,8 @@ use Rattle.run_admission.specs.declared.seat.Seat.TheVariants.{Gone}
 use Rattle.run_admission.specs.InUse.{is_waiting, fits_beside}
 use Rattle.run_admission.specs.Kept.{Use, nobody, comes}
 use Rattle.run_admission.specs.Least.{none}
-use Rattle.run_admission.specs.Lined.{Queue, IsFirst, IsMember, IsLined, IsHead, empty, without, line_of, weight_of, room_of}
+use Rattle.run_admission.specs.Lined.{Queue, IsFirst, IsMember, IsLined, IsHead, empty, without, line_of, weight_of}
+use Rattle.run_admission.specs.Lined.{room_of}
 use Rattle.run_admission.specs.Lined.{weight_at}
 use Rattle.run_admission.proofs.WholeLemmas.{limit_at}
 use Rattle.run_admission.proofs.RuleLemmas.{limit_is}
@@ -24,7 +26,8 @@ AreWithin us = (g : ℕ) (u : Use) → slice_get us g ≡ Some u → u.used ≤ 
 fits_left : (used limit weight : ℕ) → used ≤ limit → nat_le (used + weight) limit ≡ nat_le weight (limit - used)
 fits_left used limit weight h = by_case (nat_le (used + weight) limit) refl
   where
-    by_case : (b : Bool) → nat_le (used + weight) limit ≡ b → nat_le (used + weight) limit ≡ nat_le weight (limit - used)
+    by_case : (b : Bool) → nat_le (used + weight) limit ≡ b
+        → nat_le (used + weight) limit ≡ nat_le weight (limit - used)
     by_case true e =
         let le : used + weight ≤ limit = grind (arith, e) in
         let so : weight ≤ limit - used = omega arith in
@@ -226,7 +229,8 @@ member_after limits claims seats lines places t s q paired known inside gone j p
     other apart =
         m.weighs ∙ ap (weight_at limits (get_or claims test nobody.0)) (sym (get_or-set_other seats t test s Gone apart))
 
-    left : j ≡ l → get_or (get_or (set lines l (without (get_or lines l empty) (get_or places t 0))) j empty).weights p 0
+    left : j ≡ l
+        → get_or (get_or (set lines l (without (get_or lines l empty) (get_or places t 0))) j empty).weights p 0
         ≡ get_or (set (get_or lines l empty).weights (get_or places t 0) none) p 0
     left is =
         ap (λ (q : Queue). get_or q.weights p 0)

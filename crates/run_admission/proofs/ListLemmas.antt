@@ -1,5 +1,5 @@
 -- Lists side by side, and the first place that passes.
-use Rattle.std.proofs.Common.{◌≡◌, ℕ, zero, suc, ◌+◌, ◌<◌, List, [], ◌∷◌, length, get_or, set, Bool, true, false, not}
+use Rattle.std.proofs.Common.{◌≡◌, ℕ, zero, suc, ◌<◌, List, [], ◌∷◌, length, get_or, set, Bool, true, false}
 use Rattle.std.proofs.Common.{cond, Some, None, nat_lt, position, refl, ap, ◌∙◌, arith}
 use Rattle.std.specs.List.{position_or_len, zip}
 use Rattle.std.proofs.lemmas.List.Sums.{position_or_len_is}
@@ -24,18 +24,6 @@ found_none p xs d below =
     ap (λ m. cond (nat_lt m (length xs)) (Some m) None) at
     ∙ ap (λ b. cond b (Some (length xs)) None) (not_below (length xs))
 
--- two tests that agree on each item find the same place
-pub position_same : {X : Type 0} (p q : X → Bool) (xs : List X) (d : X)
-    → ((k : ℕ) → k < length xs → p (get_or xs k d) ≡ q (get_or xs k d)) → position p xs ≡ position q xs
-position_same {X = X} p q xs d same = ap (λ m. cond (nat_lt m (length xs)) (Some m) None) (places xs same)
-  where
-    places : (xs : List X) → ((k : ℕ) → k < length xs → p (get_or xs k d) ≡ q (get_or xs k d))
-        → position_or_len p xs ≡ position_or_len q xs
-    places [] same = refl
-    places (x ∷ xs) same =
-        ap (λ b. cond (not b) (1 + position_or_len p xs) 0) (same 0 (omega arith))
-        ∙ ap (λ n. cond (not (q x)) (1 + n) 0) (places xs (λ k h. same (suc k) (omega arith)))
-
 -- an item of two lists side by side
 pub length_zip : {X Y : Type 0} (xs : List X) (ys : List Y) → length xs ≡ length ys → length (zip xs ys) ≡ length ys
 length_zip [] [] e = refl
@@ -50,6 +38,12 @@ get_or_zip [] ys k d e f h i = absurd (omega arith)
 get_or_zip (x ∷ xs) [] k d e f h i = absurd (omega arith)
 get_or_zip (x ∷ xs) (y ∷ ys) zero d e f h i = refl
 get_or_zip (x ∷ xs) (y ∷ ys) (suc k) d e f h i = get_or_zip xs ys k d e f (omega arith) (omega arith)
+
+-- an item at one of the places, whatever stands past the end
+pub get_default : {X : Type 0} (xs : List X) (i : ℕ) (d e : X) → i < length xs → get_or xs i d ≡ get_or xs i e
+get_default [] i d e h = absurd (omega arith)
+get_default (x ∷ xs) zero d e h = refl
+get_default (x ∷ xs) (suc i) d e h = get_default xs i d e (omega arith)
 
 -- after one of the second list was set
 pub zip_set : {X Y : Type 0} (xs : List X) (ys : List Y) (k : ℕ) (d : X) (y : Y) → k < length xs

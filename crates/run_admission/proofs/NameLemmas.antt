@@ -1,5 +1,6 @@
 -- The place of the first group of each name, as one more group is read.
-use Rattle.std.proofs.Common.{◌≡◌, ℕ, ◌+◌, ◌<◌, ◌≤◌, ◌==◌, ◌≢◌, List, [], ◌∷◌, ◌++◌, length, get_or, Bool, true, false, cond, Option, Some}
+use Rattle.std.proofs.Common.{◌≡◌, ℕ, ◌+◌, ◌<◌, ◌≤◌, ◌==◌, ◌≢◌, List, [], ◌∷◌, ◌++◌, length, get_or, Bool, true, false}
+use Rattle.std.proofs.Common.{cond, Option, Some}
 use Rattle.std.proofs.Common.{None, is_some, nat_eq, nat_lt, position, take, refl, ap, sym, subst, ◌∙◌, arith}
 use Rattle.std.specs.BTreeMap.{BTreeMap, get, is_at}
 use Rattle.std.specs.Map.{lookup}

@@ -1,6 +1,7 @@
 -- The first test of all lines, and the lines as tests come and go.
 use Rattle.std.proofs.Common.{◌≡◌, ◌≢◌, ℕ, zero, suc, ◌+◌, ◌<◌, ◌≤◌, ◌==◌, ◌^◌, List, [], ◌∷◌, length, get_or, set, map}
-use Rattle.std.proofs.Common.{Bool, true, false, Option, Some, None, position, slice_get, refl, ap, sym, subst, ◌∙◌, arith}
+use Rattle.std.proofs.Common.{Bool, true, false, Option, Some, None, position, slice_get, refl, ap, sym, subst, ◌∙◌}
+use Rattle.std.proofs.Common.{arith}
 use Rattle.std.proofs.Common.{inl, inr, get_or-set_other}
 use Rattle.std.proofs.Math.ListN.{length-set}
 use Rattle.std.specs.List.{zip}
@@ -13,7 +14,7 @@ use Rattle.run_admission.specs.declared.seat.Seat.TheVariants.{Gone}
 use Rattle.run_admission.specs.Kept.{Use, nobody, comes, take_of, take_in, give_back, give_in}
 use Rattle.run_admission.specs.Least.{IsLeast, none}
 use Rattle.run_admission.specs.Lined.{Queue, Queues, IsLined, IsHead, IsQueued, line_of}
-use Rattle.run_admission.proofs.ListLemmas.{found_at, found_none, get_or_zip, length_zip}
+use Rattle.run_admission.proofs.ListLemmas.{found_at, get_or_zip, length_zip}
 use Rattle.run_admission.proofs.LineLemmas.{line_inside, head_stays}
 
 -- each test's group is one of the groups
@@ -39,15 +40,15 @@ not_before us claims seats q r k queued paired there least inside e =
 -- where the least of the firsts is none, no test may come
 pub queued_none : (us : List Use) (claims : List Claim) (seats : List Seat) (q : Queues) (r : ℕ)
     → IsQueued us claims seats q → length claims ≡ length seats → length seats < 2 ^ 32 → AreThere us claims
-    → IsLeast q.firsts 0 (length q.lines) r → r ≡ none → position (comes us) (zip claims seats) ≡ None
-queued_none us claims seats q r queued paired few there least is =
-    found_none (comes us) (zip claims seats) nobody
-    (λ k h. by_case k (omega (arith, length_zip claims seats paired)) (comes us (get_or (zip claims seats) k nobody)) refl)
+    → IsLeast q.firsts 0 (length q.lines) r → r ≡ none → (k : ℕ) → k < length seats
+    → comes us (get_or (zip claims seats) k nobody) ≡ false
+queued_none us claims seats q r queued paired few there least is k inside =
+    by_case (comes us (get_or (zip claims seats) k nobody)) refl
   where
-    by_case : (k : ℕ) → k < length seats → (b : Bool) → comes us (get_or (zip claims seats) k nobody) ≡ b → b ≡ false
-    by_case k inside true e =
+    by_case : (b : Bool) → comes us (get_or (zip claims seats) k nobody) ≡ b → b ≡ false
+    by_case true e =
         absurd (omega (arith, not_before us claims seats q r k queued paired there least inside e, is, few))
-    by_case k inside false e = refl
+    by_case false e = refl
 
 -- else it is the first test that may come
 pub queued_some : (us : List Use) (claims : List Claim) (seats : List Seat) (q : Queues) (r : ℕ)

@@ -7,6 +7,7 @@ use Rattle.std.proofs.Common.{slice_get, slice_index, count_by, option_map, opti
 use Rattle.std.proofs.lemmas.List.{map-set, set-get_or, get_or_read}
 use Rattle.std.specs.Option.{option_map_or}
 use Rattle.std.specs.List.{zip}
+use Rattle.std.specs.Cmp.{first_so}
 use Rattle.std.proofs.lemmas.Option.{same_Some, slice_get-get_or}
 use Rattle.std.proofs.lemmas.List.Sums.{sum-map}
 use Rattle.std.proofs.lemmas.List.Quantifiers.{position-Some}
@@ -18,12 +19,12 @@ use Rattle.run_admission.specs.declared.seat.Candidate.TheVariants.{Skip, Fits, 
 use Rattle.run_admission.specs.declared.seat.Admitted.TheVariants.{Run}
 use Rattle.run_admission.specs.InUse.{Admissions, Test, taken, taken_in, slot_of, slot_in, is_waiting, is_in_use}
 use Rattle.run_admission.specs.InUse.{fits_beside}
-use Rattle.run_admission.specs.InUse.{group_weight_in_use, fits_its_group, fits_all, may_come, candidate_at}
+use Rattle.run_admission.specs.InUse.{group_weight_in_use, fits_its_group, fits_all, may_come, comes_next, candidate_at}
 use Rattle.run_admission.specs.InUse.{candidate, free_slot, free_group_slot, admitted, admitted_as, seats_after}
 use Rattle.run_admission.specs.InUse.{after_admission, released, least_free}
 use Rattle.run_admission.specs.Kept.{Use, IsWhole, IsOfAll, IsOfGroup, nobody, free_in, comes, fits_in, seen}
 use Rattle.run_admission.specs.Kept.{free_within, take_of, take_in, give_back, give_in}
-use Rattle.run_admission.proofs.ListLemmas.{position_same, get_or_zip, length_zip}
+use Rattle.run_admission.proofs.ListLemmas.{get_or_zip, length_zip}
 use Rattle.run_admission.proofs.OpenLemmas.{open_slot, open_in_group}
 use Rattle.run_admission.proofs.TestLemmas.{least_is, may_take}
 use Rattle.run_admission.proofs.WholeLemmas.{limit_at, of_same, CanRun, CanLeave, can_leave, run_whole, release_whole}
@@ -65,7 +66,7 @@ fits_same whole us claims seats claim (Some g) of there kept =
     (slice_index (map (λ u. u.limit) us) g) claim.weight) o true) of)
 
 -- which tests may come next
-come_same : (waiting : ℕ) (whole : Use) (us : List Use) (claims : List Claim) (seats : List Seat)
+pub come_same : (waiting : ℕ) (whole : Use) (us : List Use) (claims : List Claim) (seats : List Seat)
     → IsWhole waiting whole us claims seats → (k : ℕ) → k < length (zip claims seats)
     → comes us (get_or (zip claims seats) k nobody)
     ≡ may_come (seen whole us claims seats) (get_or (zip claims seats) k nobody)
@@ -79,27 +80,22 @@ come_same waiting whole us claims seats w k h =
     (fits_same whole us claims seats claim _ refl (w.members k) w.groups)
     ∙ sym (ap (may_come (seen whole us claims seats)) at)
 
-pub place_same : (waiting : ℕ) (whole : Use) (us : List Use) (claims : List Claim) (seats : List Seat)
-    → IsWhole waiting whole us claims seats
-    → position (comes us) (zip claims seats) ≡ position (may_come (seen whole us claims seats)) (zip claims seats)
-place_same waiting whole us claims seats w =
-    position_same (comes us) (may_come (seen whole us claims seats)) (zip claims seats) nobody
-    (come_same waiting whole us claims seats w)
-
 -- there is no candidate
 pub no_candidate : (waiting : ℕ) (whole : Use) (us : List Use) (claims : List Claim) (seats : List Seat)
-    → IsWhole waiting whole us claims seats → position (comes us) (zip claims seats) ≡ None
+    → IsWhole waiting whole us claims seats
+    → position (comes_next (seen whole us claims seats)) (zip claims seats) ≡ None
     → candidate (seen whole us claims seats) ≡ None
 no_candidate waiting whole us claims seats w e =
     ap (option_and_then (λ test. option_map
     (λ claim. candidate_at test claim (fits_all (seen whole us claims seats) claim))
     (slice_get claims test)))
-    (sym (place_same waiting whole us claims seats w) ∙ e)
+    e
 
 -- the candidate at a place
 pub candidate_is : (waiting : ℕ) (whole : Use) (us : List Use) (claims : List Claim) (seats : List Seat) (k : ℕ)
     (claim : Claim)
-    → IsWhole waiting whole us claims seats → position (comes us) (zip claims seats) ≡ Some k
+    → IsWhole waiting whole us claims seats
+    → position (comes_next (seen whole us claims seats)) (zip claims seats) ≡ Some k
     → slice_get claims k ≡ Some claim
     → candidate (seen whole us claims seats)
     ≡ Some (candidate_at k claim (fits_beside whole.used whole.limit claim.weight))
@@ -107,16 +103,16 @@ candidate_is waiting whole us claims seats k claim w e at =
     ap (option_and_then (λ test. option_map
     (λ claim. candidate_at test claim (fits_all (seen whole us claims seats) claim))
     (slice_get claims test)))
-    (sym (place_same waiting whole us claims seats w) ∙ e)
+    e
     ∙ ap (option_map (λ claim. candidate_at k claim (fits_all (seen whole us claims seats) claim))) at
     ∙ ap (λ n. Some (candidate_at k claim (fits_beside n whole.limit claim.weight)))
     (all_used whole (zip claims seats) w.all)
 
 -- a place that was found is that of a test
-pub place_inside : (us : List Use) (claims : List Claim) (seats : List Seat) (k : ℕ) → length claims ≡ length seats
-    → position (comes us) (zip claims seats) ≡ Some k → k < length seats
-place_inside us claims seats k same e =
-    let found = position-Some (comes us) (zip claims seats) k nobody e in omega
+pub place_inside : (p : Test → Bool) (claims : List Claim) (seats : List Seat) (k : ℕ) → length claims ≡ length seats
+    → position p (zip claims seats) ≡ Some k → k < length seats
+place_inside p claims seats k same e =
+    let found = position-Some p (zip claims seats) k nobody e in omega
     (arith, found.0, length_zip claims seats same)
 
 both_true : (a b : Bool) → (a && b) ≡ true → (a ≡ true) × (b ≡ true)
@@ -139,7 +135,8 @@ record IsChosen (whole : Use) (us : List Use) (claims : List Claim) (seats : Lis
 
 chosen : (waiting : ℕ) (whole : Use) (us : List Use) (claims : List Claim) (seats : List Seat) (c : Candidate)
     (o : Option ℕ)
-    → IsWhole waiting whole us claims seats → position (comes us) (zip claims seats) ≡ o
+    → IsWhole waiting whole us claims seats
+    → position (comes_next (seen whole us claims seats)) (zip claims seats) ≡ o
     → candidate (seen whole us claims seats) ≡ Some c → (k : ℕ) × IsChosen whole us claims seats c k
 chosen waiting whole us claims seats c None w e is =
     let bad : None ≡ Some c = sym (no_candidate waiting whole us claims seats w e) ∙ is in cc
@@ -158,12 +155,13 @@ chosen waiting whole us claims seats c (Some k) w e is = (
     claim = get_or claims k nobody.0
 
     inside : k < length seats
-    inside = place_inside us claims seats k w.paired e
+    inside = place_inside (comes_next (seen whole us claims seats)) claims seats k w.paired e
 
     passes : comes us (get_or claims k nobody.0, get_or seats k Waiting) ≡ true
     passes =
         ap (comes us) (sym (get_or_zip claims seats k nobody.0 Waiting nobody (omega (arith, w.paired, inside)) inside))
-        ∙ (position-Some (comes us) (zip claims seats) k nobody e).1
+        ∙ come_same waiting whole us claims seats w k (omega (arith, inside, length_zip claims seats w.paired))
+        ∙ first_so _ _ (position-Some (comes_next (seen whole us claims seats)) (zip claims seats) k nobody e).1
 
     both : (is_waiting (get_or seats k Waiting) ≡ true)
         × ((not (get_or claims k nobody.0).matched || fits_in us (get_or claims k nobody.0)) ≡ true)
@@ -191,7 +189,8 @@ pub can_skip : (waiting : ℕ) (whole : Use) (us : List Use) (claims : List Clai
     → IsWhole waiting whole us claims seats → candidate (seen whole us claims seats) ≡ Some (Skip t)
     → (t < length seats) × (get_or seats t Waiting ≡ Waiting)
 can_skip waiting whole us claims seats t w is =
-    let found = chosen waiting whole us claims seats (Skip t) (position (comes us) (zip claims seats)) w refl is in
+    let found = chosen waiting whole us claims seats (Skip t)
+    (position (comes_next (seen whole us claims seats)) (zip claims seats)) w refl is in
     let same : found.0 ≡ t = skips t found.0 (get_or claims found.0 nobody.0) _ _ refl found.1.is in
     (omega (arith, same, found.1.inside), ap (λ k. get_or seats k Waiting) (sym same) ∙ found.1.waits)
 
@@ -203,7 +202,8 @@ pub can_run : (waiting : ℕ) (whole : Use) (us : List Use) (claims : List Claim
     → IsWhole waiting whole us claims seats → candidate (seen whole us claims seats) ≡ Some (Fits t)
     → CanRun whole us claims seats t
 can_run waiting whole us claims seats t w is =
-    let found = chosen waiting whole us claims seats (Fits t) (position (comes us) (zip claims seats)) w refl is in
+    let found = chosen waiting whole us claims seats (Fits t)
+    (position (comes_next (seen whole us claims seats)) (zip claims seats)) w refl is in
     let so = runs t found.0 (get_or claims found.0 nobody.0) _ _ refl found.1.is in
     subst (CanRun whole us claims seats) so.0
     (chosen_runs waiting whole us claims seats found.0 w found.1.inside found.1.waits

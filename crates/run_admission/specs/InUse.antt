@@ -1,7 +1,7 @@
 -- What of the limits is in use, which test comes next, and the slots that it gets.
 use Rattle.std.specs.Prelude.{ℕ, ◌+◌, ◌==◌, List, Bool, true, false, not, ◌&&◌, ◌||◌, if◌then◌else◌, Option, Some, None}
 use Rattle.std.specs.Prelude.{min, nat_eq, nat_le, map, length, is_none, position, sum_by, option_map, option_and_then}
-use Rattle.std.specs.Prelude.{replicate, slice_get, slice_index, slice_index_or, slice_set}
+use Rattle.std.specs.Prelude.{int_lt, replicate, slice_get, slice_index, slice_index_or, slice_set}
 use Rattle.std.specs.Option.{option_map_or}
 use Rattle.std.specs.List.{zip, range_with_len, list_any, position_or_len}
 use lib.Pointwise.{pointwise}
@@ -38,6 +38,7 @@ abbrev pub claim_of : List Group → PlanTest → Claim
 claim_of groups test = record {
   matched = is_none test.skip;
   weight = test.weight;
+  priority = test.priority;
   group = option_and_then (group_of groups) test.group;
 }
 
@@ -107,12 +108,17 @@ fits_all a claim = fits_beside (weight_in_use a) a.threads claim.weight
 abbrev pub candidate_at : ℕ → Claim → Bool → Candidate
 candidate_at test claim fits = if claim.matched then (if fits then Fits test else Blocked test) else Skip test
 
--- the candidate is the first test that may come next
+-- a test comes next where it may, and no test of a greater priority may
+abbrev pub comes_next : Admissions → Test → Bool
+comes_next a t =
+    may_come a t && not (list_any (λ u. may_come a u && int_lt t.0.priority u.0.priority) (tests a))
+
+-- the candidate is the first test, in plan order, that comes next
 abbrev pub candidate : Admissions → Option Candidate
 candidate a =
     option_and_then
     (λ test. option_map (λ claim. candidate_at test claim (fits_all a claim)) (slice_get a.claims test))
-    (position (may_come a) (tests a))
+    (position (comes_next a) (tests a))
 
 -- the slot that a test in use holds: among all tests, and within the group at a place
 abbrev pub slot_of : Test → Option ℕ

@@ -1,8 +1,9 @@
 -- What is kept of the limits, beside where the tests stand.
 use Rattle.std.specs.Prelude.{ℕ, ◌+◌, ◌-◌, ◌≡◌, ◌<◌, ◌≤◌, ◌^◌, List, length, Bool, true, false, not, ◌&&◌, ◌||◌, Option}
 use Rattle.std.specs.Prelude.{Some, None, is_none, is_some}
-use Rattle.std.specs.Prelude.{slice_get, slice_set, slice_index, slice_index_or, sum, count_by, replicate, min, map, option_map}
-use Rattle.std.specs.Prelude.{option_and_then}
+use Rattle.std.specs.Prelude.{slice_get, slice_set, slice_index, slice_index_or, sum, count_by, replicate, min, map}
+use Rattle.std.specs.Prelude.{option_map}
+use Rattle.std.specs.Prelude.{option_and_then, pos}
 use Rattle.std.specs.Option.{option_map_or}
 use Rattle.std.specs.List.{position_or_len, zip}
 use Rattle.run_events.specs.declared.plan.Group.{Group}
@@ -15,7 +16,7 @@ use Rattle.run_admission.specs.Least.{none}
 
 -- a test that is none, for places past the end
 abbrev pub nobody : Test
-nobody = (record { matched = false; weight = 0; group = None }, Gone)
+nobody = (record { matched = false; weight = 0; priority = pos 0; group = None }, Gone)
 
 -- one limit: how much of it is in use, and which test holds each slot
 pub record Use : Type 0 where
@@ -126,8 +127,8 @@ IsOfGroup g u ts = IsKept u (map (taken_in g u.limit) ts) (map (slot_in g) ts)
 abbrev pub IsSeated : Test → Type 0
 IsSeated t = is_in_use t.1 ≡ true → is_some (seat_group_slot t.1) ≡ is_some t.0.group
 
--- the limits are those of these tests, of which so many wait, and there are few tests; there are as many slots as tests,
--- and of a group as many as it has tests
+-- the limits are those of these tests, of which so many wait, and there are few tests; there are as many slots as
+-- tests, and of a group as many as it has tests
 pub record IsWhole (waiting : ℕ) (whole : Use) (parts : List Use) (claims : List Claim) (seats : List Seat) : Type 0 where
   pub few : length seats < 2 ^ 32
   pub paired : length claims ≡ length seats

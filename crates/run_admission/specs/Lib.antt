@@ -4,3 +4,4 @@ pub mod Laws
 pub mod Least
 pub mod Lined
 pub mod Names
+pub mod Ordered

@@ -1,13 +1,14 @@
 -- Tests that wait in lines, one for each group, and the first of each line that there is room for.
 use Rattle.std.specs.Prelude.{ℕ, ◌+◌, ◌-◌, ◌≡◌, ◌≢◌, ◌<◌, ◌≤◌, ◌⊎◌, List, [], ◌∷◌, ◌++◌, length, true, if◌then◌else◌}
-use Rattle.std.specs.Prelude.{slice_get, slice_set, slice_index, slice_index_or, min, map}
+use Rattle.std.specs.Prelude.{slice_get, slice_set, slice_index, slice_index_or, min, map, replicate}
 use Rattle.std.specs.Option.{option_map_or}
 use Rattle.run_admission.specs.declared.seat.Claim.{Claim}
 use Rattle.run_admission.specs.declared.seat.Seat.{Seat}
-use Rattle.run_admission.specs.declared.seat.Seat.TheVariants.{Gone}
+use Rattle.run_admission.specs.declared.seat.Seat.TheVariants.{Waiting, Gone}
 use Rattle.run_admission.specs.InUse.{is_waiting}
 use Rattle.run_admission.specs.Kept.{Use, IsWhole, nobody, comes}
 use Rattle.run_admission.specs.Least.{none}
+use Rattle.run_admission.specs.Ordered.{IsOrder, at_places}
 
 -- a line: its tests in order, and what each takes of the line's limit, or none once it has left
 pub record Queue : Type 0 where
@@ -96,11 +97,17 @@ pub record IsQueued (us : List Use) (claims : List Claim) (seats : List Seat) (q
   pub heads : (l : ℕ) → l < length queues.lines
       → IsHead us (map (λ u. u.limit) us) claims seats l (slice_index queues.firsts l)
 
--- the limits, and the lines, are those of these tests
-pub record IsReady (waiting : ℕ) (whole : Use) (parts : List Use) (queues : Queues) (claims : List Claim)
-    (seats : List Seat) : Type 0 where
+-- the limits are those of these tests, and the lines are those of the same tests in the order in which they come
+pub record IsReady (waiting : ℕ) (whole : Use) (parts : List Use) (queues : Queues) (order : List ℕ)
+    (claims : List Claim) (seats : List Seat) : Type 0 where
   pub kept : IsWhole waiting whole parts claims seats
-  pub queued : IsQueued parts claims seats queues
+  pub ordered : IsOrder claims order
+  pub queued : IsQueued parts (at_places nobody.0 claims order) (at_places Gone seats order) queues
+
+-- the tests in the order in which they come, and their lines, where all wait
+pub record IsLineup (us : List Use) (claims : List Claim) (order : List ℕ) (queues : Queues) : Type 0 where
+  pub ordered : IsOrder claims order
+  pub queued : IsQueued us (at_places nobody.0 claims order) (replicate (length order) Waiting) queues
 
 -- a line after a test joined it, at its end
 abbrev pub joined : Queue → ℕ → ℕ → Queue

@@ -7,7 +7,7 @@ ghost use Rattle.run_admission.specs.InUse.{is_done};
 ghost use Rattle.run_admission.specs.Laws.{KeepsLimits, HasOwnSlots};
 
 use crate::claims::{claims_of, members_of, rooms_of};
-use crate::draft::lines_of;
+use crate::draft::queue_of;
 use crate::groups::{candidate_at, give_in_group, line_of, room_of, take_in_group};
 use crate::lines::Lines;
 use crate::min_tree::NONE;
@@ -28,7 +28,10 @@ pub struct Admission {
     whole: Room,
     /// The limits of the groups.
     groups: Vec<Room>,
+    /// The lines, in which each test stands by its place in `order`.
     lines: Lines,
+    /// The tests by descending priority, and those of equal priority in plan order.
+    order: Vec<usize>,
     claims: Vec<Claim>,
     seats: Vec<Seat>,
 }
@@ -43,7 +46,8 @@ impl Model for Admission {
 
     ghost view = { λ a. seen a.whole a.groups.items a.claims.items a.seats.items };
 
-    ghost invariant = { λ a. IsReady a.waiting a.whole a.groups.items a.lines a.claims.items a.seats.items };
+    ghost invariant = { λ a. IsReady a.waiting a.whole a.groups.items a.lines a.order.items a.claims.items
+        a.seats.items };
 }
 
 impl Admission {
@@ -56,20 +60,23 @@ impl Admission {
         let claims = claims_of(alloc, groups, tests)?;
         let members = members_of(alloc, groups.len(), &claims)?;
         let rooms = rooms_of(alloc, groups, &members)?;
-        let lines = lines_of(alloc, &rooms, &claims)?;
+        let queue = queue_of(alloc, &rooms, &claims)?;
         let seats = vec![in alloc; Seat::Waiting; tests.len()]?;
+        let (order, lines) = queue;
         Ok(Admission {
             waiting: tests.len(),
             whole,
             groups: rooms,
             lines,
+            order,
             claims,
             seats,
         })
     }
 
-    /// The first test, in plan order, that waits and is to be skipped or fits within its group. A group without room is
-    /// passed over. A candidate that doesn't fit within the limit on all tests blocks all later tests.
+    /// The first test, by descending priority and then in plan order, that waits and is to be skipped or fits within
+    /// its group. A group without room is passed over. A candidate that doesn't fit within the limit on all tests
+    /// blocks all later tests of that order.
     pub fn candidate(&self) -> Option<Candidate>
         ensures { result ≡ candidate self.now }
     {
@@ -77,8 +84,9 @@ impl Admission {
         if first == NONE {
             return None;
         }
-        let claim = &self.claims[first];
-        Some(candidate_at(&self.whole, first as u32, claim))
+        let test = self.order[first];
+        let claim = &self.claims[test];
+        Some(candidate_at(&self.whole, test as u32, claim))
     }
 
     /// Admits the candidate, unless it is blocked.
@@ -101,9 +109,10 @@ impl Admission {
         requires { candidate self.old ≡ Some (Skip test) }
         ensures { self.new ≡ after_admission self.old }
     {
+        let first = self.lines.first();
         let line = line_of(&self.groups, &self.claims[test as usize]);
         let room = room_of(&self.groups, line);
-        self.lines.leave(line, test as usize);
+        self.lines.leave(line, first);
         self.lines.refresh(line, room);
         self.seats[test as usize] = Seat::Gone;
         self.waiting -= 1;
@@ -115,12 +124,13 @@ impl Admission {
         ensures admitted { admitted self.old ≡ Some result }
         ensures after { self.new ≡ after_admission self.old }
     {
+        let first = self.lines.first();
         let claim = self.claims[test as usize];
         let line = line_of(&self.groups, &claim);
         let global = self.whole.take(test, claim.weight);
         let group = take_in_group(&mut self.groups, claim.group, test, claim.weight);
         let room = room_of(&self.groups, line);
-        self.lines.leave(line, test as usize);
+        self.lines.leave(line, first);
         self.lines.refresh(line, room);
         self.seats[test as usize] = Seat::InUse { global, group };
         self.waiting -= 1;

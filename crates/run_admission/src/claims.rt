@@ -24,6 +24,7 @@ fn claim_of(places: &BTreeMap<Text, usize>, test: &PlanTest) -> Claim
     Claim {
         matched: test.skip.is_none(),
         weight: test.weight,
+        priority: test.priority,
         group,
     }
 }

@@ -1,13 +1,15 @@
 // The lines of a sub-run as it begins, built test by test.
-ghost use Rattle.std.specs.Prelude.{ℕ, ◌≡◌, ◌+◌, ◌<◌, ◌≤◌, ◌^◌, length, map, replicate, slice_get, slice_index, slice_index_or};
+ghost use Rattle.std.specs.Prelude.{ℕ, ◌≡◌, ◌+◌, ◌<◌, ◌≤◌, ◌^◌, length, map, replicate, slice_get, slice_index};
+ghost use Rattle.std.specs.Prelude.{slice_index_or};
 ghost use Rattle.std.specs.Prelude.{IfOk, Some};
 ghost use Rattle.run_admission.specs.declared.seat.Seat.TheVariants.{Waiting};
 ghost use Rattle.run_admission.specs.Kept.{Use, nobody};
-ghost use Rattle.run_admission.specs.Lined.{HasFirsts, IsInOrder, IsQueued, empty, joined};
+ghost use Rattle.run_admission.specs.Lined.{HasFirsts, IsInOrder, IsLineup, IsQueued, empty, joined};
 
 use crate::groups::{line_of, room_of, weight_of};
 use crate::line::Line;
 use crate::lines::Lines;
+use crate::order::{claims_in, order_of};
 use crate::room::Room;
 use crate::seat::Claim;
 use run_capture::Mem;
@@ -82,8 +84,8 @@ fn firsts_of(alloc: Global, rooms: &[Room], lines: &[Line]) -> Mem<Vec<usize>>
     Ok(firsts)
 }
 
-/// The lines of tests that all wait.
-pub fn lines_of(alloc: Global, rooms: &[Room], claims: &[Claim]) -> Mem<Lines>
+// The lines of tests that all wait.
+fn lines_of(alloc: Global, rooms: &[Room], claims: &[Claim]) -> Mem<Lines>
     requires few { length claims.now < 2 ^ 32 }
     requires within { (g : ℕ) (u : Use) → slice_get rooms.now g ≡ Some u → u.used ≤ u.limit }
     requires there { (k g : ℕ) → (slice_index_or claims.now k nobody.0).group ≡ Some g → g < length rooms.now }
@@ -101,4 +103,17 @@ pub fn lines_of(alloc: Global, rooms: &[Room], claims: &[Claim]) -> Mem<Lines>
     let firsts = firsts_of(alloc, rooms, &lines)?;
     let queues = Lines::new(alloc, lines, places, &firsts)?;
     Ok(queues)
+}
+
+/// The tests in the order in which they come, and their lines, where all wait.
+pub fn queue_of(alloc: Global, rooms: &[Room], claims: &[Claim]) -> Mem<(Vec<usize>, Lines)>
+    requires few { length claims.now < 2 ^ 32 }
+    requires within { (g : ℕ) (u : Use) → slice_get rooms.now g ≡ Some u → u.used ≤ u.limit }
+    requires there { (k g : ℕ) → (slice_index_or claims.now k nobody.0).group ≡ Some g → g < length rooms.now }
+    ensures { IfOk result (λ q. IsLineup rooms.now claims.now q.0.items q.1) }
+{
+    let order = order_of(alloc, claims)?;
+    let queue = claims_in(alloc, claims, &order)?;
+    let lines = lines_of(alloc, rooms, &queue)?;
+    Ok((order, lines))
 }

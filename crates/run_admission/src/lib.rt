@@ -11,6 +11,7 @@ mod line;
 mod lines;
 mod min_tree;
 mod names;
+mod order;
 mod room;
 mod seat;
 mod values;

@@ -1,11 +1,13 @@
 // What a test claims of the limits, where it stands, and what is said of it.
 
-/// What a test claims: whether it is to run, how much of the limits it takes, and the place of its group in the plan.
+/// What a test claims: whether it is to run, how much of the limits it takes, its priority, and the place of its group
+/// in the plan.
 #[derive(Clone, Copy, Drop)]
 pub struct Claim {
     /// Whether it is to run; another is skipped.
     pub matched: bool,
     pub weight: u32,
+    pub priority: i8,
     pub group: Option<usize>,
 }
 

@@ -14,3 +14,5 @@ mod AnyLemmas
 mod SummaryLemmas
 mod ScriptLemmas
 mod SuccessLemmas
+mod EndLemmas
+mod SubRunLemmas

@@ -20,7 +20,7 @@ use Rattle.run_model.specs.Accounts.{HasAccount, account_of, is_mismatched, news
 use Rattle.run_model.specs.Admission.{scripts_in, unit_terms, units_in}
 use Rattle.run_model.specs.Journal.{IsLegalBackward, history}
 use Rattle.run_model.specs.Story.{pieces, story_of, was_left}
-use Rattle.run_model.specs.Words.{clock, is_over, queue, sub_run, told, unit_of}
+use Rattle.run_model.specs.Words.{clock, queue, sub_run, told, unit_of}
 use Rattle.run_laws.specs.Reports.{report_of, report_of_kind, reports_by, reports_told, reports_waiting}
 use Rattle.run_laws.proofs.units.AttemptLemmas.{IsMadeIf}
 use Rattle.run_laws.proofs.board.Facts.{itself}
@@ -28,8 +28,7 @@ use Rattle.run_laws.proofs.board.Holds.{Holds}
 use Rattle.run_laws.proofs.board.Kept.{holds}
 use Rattle.run_call_laws.specs.Numbers.{HasNumber, script_number, test_number_in, test_number}
 use Rattle.run_call_laws.proofs.OwnLemmas.{HasKind}
-use Rattle.run_call_laws.proofs.ToldLemmas.{kinds}
-use Rattle.run_call_laws.proofs.WholeLemmas.{one_run}
+use Rattle.run_call_laws.proofs.ToldLemmas.{each_told, kinds}
 
 inside : (p : Settings) (k : ℕ) → (units_in p ≤ k → ⊥) → k < units_in p
 inside p k never = by_plan (nat_lt k (units_in p)) refl
@@ -39,9 +38,9 @@ inside p k never = by_plan (nat_lt k (units_in p)) refl
     by_plan false e = absurd (never (grind (arith, nat_tests)))
 
 -- of a number beyond the plan nothing is told
-unknown : (p : Settings) (over : Bool) (now : ℕ) (run : List Happening) (k : ℕ) → Holds p over now run → units_in p ≤ k
+unknown : (p : Settings) (now : ℕ) (run : List Happening) (k : ℕ) → Holds p now run → units_in p ≤ k
     → unit_of k run ≡ None
-unknown p over now run k h out = by_unit (unit_of k run) refl
+unknown p now run k h out = by_unit (unit_of k run) refl
   where
     by_unit : (v : Option UnitView) → unit_of k run ≡ v → v ≡ None
     by_unit None is = refl
@@ -65,15 +64,15 @@ none_each {Y = Y} f (x ∷ xs) e = by_head (f x) refl e (none_each f xs)
 abbrev IsInside : Settings → ReporterEvent → Type 0
 IsInside p e = (k : ℕ) → units_in p ≤ k → (news_of k e ≡ None) × (report_of k e ≡ None)
 
-all_inside : (p : Settings) (over : Bool) (now : ℕ) (run : List Happening) → Holds p over now run
+all_inside : (p : Settings) (now : ℕ) (run : List Happening) → Holds p now run
     → All (IsInside p) (told run)
-all_inside p over now run h i d low k out = (
+all_inside p now run h i d low k out = (
   none_each (news_of k) (told run) no_news i d low,
   none_each (report_of k) (told run) no_reports i d low,
 )
   where
     none : unit_of k run ≡ None
-    none = unknown p over now run k h out
+    none = unknown p now run k h out
 
     no_news : account_of k (told run) ≡ []
     no_news = (subst (λ v. HasAccount (is_mismatched p k) (was_left k run) v (account_of k (told run))
@@ -113,20 +112,11 @@ both_hold (Some k) P Q a b = (a, b)
 
 pub numbered : (p : Settings) (backward : List Entry) → IsLegalBackward p backward
     → All (HasNumber p) (told (history p backward))
-numbered p backward legal =
-    subst (All (HasNumber p)) (sym same) (λ i d low. number _ (of_kind i d low) (of_plan i d low))
+numbered p backward legal i d low = number _ (kinds p backward legal i d low) (of_plan i d low)
   where
-    run : List Happening
-    run = sub_run (history p backward)
-
-    same : told (history p backward) ≡ told run
-    same = (one_run p backward legal).same.told
-
-    of_kind : All (HasKind p) (told run)
-    of_kind = subst (All (HasKind p)) same (kinds p backward legal)
-
-    of_plan : All (IsInside p) (told run)
-    of_plan = all_inside p (is_over (history p backward)) (clock (history p backward)) run (holds p backward legal).run
+    of_plan : All (IsInside p) (told (history p backward))
+    of_plan = each_told (IsInside p) p (λ backward legal. all_inside p (clock (history p backward))
+        (sub_run (history p backward)) (holds p backward legal)) backward legal
 
     number : (e : ReporterEvent) → HasKind p e → IsInside p e → HasNumber p e
     number e kind plan = record {

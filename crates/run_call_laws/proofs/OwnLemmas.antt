@@ -1,15 +1,21 @@
 -- What each turn tells by itself: nothing of a cause, and of a unit by its number.
 use Rattle.std.proofs.Common.{◌≡◌, ℕ, ◌<◌, ◌≤◌, List, [], ◌∷◌, Bool, true, false, not, if◌then◌else◌, Option, Some}
-use Rattle.std.proofs.Common.{None, option_map, refl, sym, subst, arith}
+use Rattle.std.proofs.Common.{None, is_some, option_map, option_and_then, option_to_list, refl, sym, subst, arith, ◌||◌}
 use Rattle.std.specs.Prelude.{IfSome}
 use Rattle.std.specs.Cmp.{second_so}
-use Rattle.std.specs.List.{All}
+use Rattle.std.specs.List.{All, list_any}
 use Rattle.std.proofs.lemmas.Bool.Decides.{nat_tests}
 use Rattle.std.proofs.lemmas.List.Elements.{All-drop, All-head}
 use Rattle.run_events.specs.declared.events.ReporterEvent.{ReporterEvent}
 use Rattle.run_events.specs.declared.events.ReporterEvent.TheVariants.{Tick, Test}
 use Rattle.run_events.specs.declared.events.TestEventKind.{TestEventKind}
 use Rattle.run_events.specs.declared.events.TestEventKind.TheVariants.{RunBeginCancel, RunBeginKill, RunPaused}
+use Rattle.run_events.specs.declared.events.TestEventKind.TheVariants.{RunStarted, RunFinished, StressSubRunStarted}
+use Rattle.run_events.specs.declared.events.TestEventKind.TheVariants.{StressSubRunFinished}
+use Rattle.run_events.specs.declared.cancel.CancelReason.{CancelReason}
+use Rattle.run_events.specs.declared.cancel.CancelReason.TheVariants.{SetupScriptFailure, TestFailure, ReportError}
+use Rattle.run_events.specs.declared.cancel.CancelReason.TheVariants.{GlobalTimeout, TestFailureImmediate}
+use Rattle.run_events.specs.declared.cancel.CancelReason.TheVariants.{Signal as BySignal, Interrupt, SecondSignal}
 use Rattle.run_events.specs.declared.events.TestEventKind.TheVariants.{RunContinued, InfoStarted, InfoFinished}
 use Rattle.run_events.specs.declared.events.TestEventKind.TheVariants.{InfoResponse as InfoAnswer, InputEnter}
 use Rattle.run_events.specs.Hearing.{heard_key}
@@ -22,15 +28,19 @@ use Rattle.run_model.specs.declared.dispatcher_view.Tally.{Tally}
 use Rattle.run_model.specs.declared.happening.Happening.{Happening}
 use Rattle.run_model.specs.Admission.{Newcomer, is_script, newcomer, scripts_in}
 use Rattle.run_model.specs.Board.{Board, Deed, board}
-use Rattle.run_model.specs.Cancel.{Cause, cause_of, caused}
-use Rattle.run_model.specs.Dispatch.{Moment, event, go_of, heard_by, may_go, moment_by, told_of}
+use Rattle.run_model.specs.Cancel.{Cause, cancel_event, cancelled_for, cause_of, caused, is_above}
+use Rattle.run_model.specs.Dispatch.{Moment, event, go_of, having_told, heard_by, may_go, moment_by, told_of}
 use Rattle.run_model.specs.Turns.{admission, answer_to, deed_on, delivered_as, delivery, done_by, enabled, event_of}
-use Rattle.run_model.specs.Turns.{live_in, oldest_of, starting, takes_turn, tally_with, turn_of_unit}
-use Rattle.run_model.specs.Words.{delivered, is_over, sent, sub_run}
+use Rattle.run_model.specs.Turns.{index_of, live_in, oldest_of, starting, takes_turn, tally_with, turn_of_unit}
+use Rattle.run_model.specs.Words.{delivered, is_over, sent, sub_run, tally}
 use Rattle.run_laws.proofs.board.ByTurn.{by_turn}
 use Rattle.run_laws.proofs.told.Asides.{IsAside, IsAsideEvent, IsAsideKind, answer_aside, by_signal, inform_aside}
 use Rattle.run_laws.proofs.told.Asides.{key_aside, tick_aside}
-use Rattle.run_laws.proofs.told.Cancels.{IsCancel, IsCancelKind}
+use Rattle.run_laws.proofs.told.Bounds.{IsBound, IsBoundAfter, IsBoundAfterKind, IsBoundKind, begin_cases, end_cases}
+use Rattle.run_laws.proofs.told.Cancels.{IsAfter, IsAfterKind, cancel_for}
+use Rattle.run_laws.proofs.board.DeedFits.{Marks}
+use Rattle.run_laws.proofs.board.OnBoard.{Frame, moment_in}
+use Rattle.run_laws.specs.Cancels.{reason_told}
 use Rattle.run_laws.proofs.board.Holds.{IsOfKind}
 use Rattle.run_laws.proofs.board.Kept.{HoldsAfter}
 use Rattle.run_laws.proofs.board.Ordered.{number_below}
@@ -123,23 +133,38 @@ aside_own p d aside = by_told d.told aside.told
     by_told (Some Tick) h = record { calm = refl; number = record { script = tt; test = tt } }
     by_told (Some (Test event)) h = by_kind event.kind h event.clock event.elapsed
 
+-- what is told where a sub-run begins or ends
+bound_own : (p : Settings) (o : Option ReporterEvent) → IsBound o → IfSome o (IsOwn p)
+bound_own p None h = tt
+bound_own p (Some Tick) h = absurd h
+bound_own p (Some (Test event)) h = by_kind event.kind h
+  where
+    by_kind : (kind : TestEventKind) → IsBoundKind kind → IsOwn p (Test (record event { kind = kind }))
+    by_kind (RunStarted e) h = record { calm = refl; number = record { script = tt; test = tt } }
+    by_kind (StressSubRunStarted e) h = record { calm = refl; number = record { script = tt; test = tt } }
+    by_kind (StressSubRunFinished e) h = record { calm = refl; number = record { script = tt; test = tt } }
+    by_kind (RunFinished e) h = record { calm = refl; number = record { script = tt; test = tt } }
+    by_kind kind h = absurd h
+
 -- so what each enabled turn tells
 pub own : (p : Settings) (past : List Happening) (turn : Turn) → HoldsAfter p past → enabled p past turn ≡ true
     → IfSome (deed_on p (board p past) turn).told (IsOwn p)
 own p past turn h en =
     by_turn (λ turn named. takes_turn p b turn named ≡ true → IfSome (done_by p b turn named).told (IsOwn p))
     (record {
-      begin = λ en. record { calm = refl; number = record { script = tt; test = tt } };
-      admit = λ en. admission_own p (newcomer p b.units);
+      begin = λ en. begin_cases (λ d. IfSome d.told (IsOwn p)) (λ told after own later. bound_own p told own) b.clock
+          b.dispatcher;
+      admit = λ en. admission_own p (newcomer p (index_of b.dispatcher) b.units);
       deliver = λ en. delivery_own p b b.queue
-          (All-drop (IsOfKind p) (delivered (sub_run past)) (sent (sub_run past)) h.run.kinds);
+          (All-drop (IsOfKind p) (delivered (sub_run past)) (sent (sub_run past)) h.kinds);
       named = λ turn k to other en. tt;
       clock = λ ns en. tt;
       signal = λ signal en. by_signal (λ d. IfSome d.told (IsOwn p)) b.clock (live_in b.units) b.dispatcher signal
           (heard_by b.dispatcher.rules.hearing signal) tt (aside_own p);
       global_due = λ en. tt;
       report_cancel = λ en. tt;
-      end = λ en. record { calm = refl; number = record { script = tt; test = tt } };
+      end = λ en. end_cases (λ d. IfSome d.told (IsOwn p)) (λ told after over own later. bound_own p told own) b.clock
+          b.dispatcher;
       key = λ key en. aside_own p _ (key_aside b.clock (live_in b.units) b.dispatcher
           (heard_key b.dispatcher.rules.hearing.input key));
       tick = λ en. aside_own p _ tick_aside;
@@ -152,25 +177,57 @@ own p past turn h en =
     b : Board
     b = board p past
 
--- and the event of a cause tells of no unit
-record IsOfCause (p : Settings) (e : ReporterEvent) : Type 0 where
-  cancels : tells_cancel e ≡ true
-  number : HasKind p e
+-- what it tells after that tells of no unit
+after_kind : (p : Settings) (kind : TestEventKind) → IsAfterKind kind → (clock elapsed : ℕ)
+    → HasKind p (Test (record { clock = clock; elapsed = elapsed; kind = kind }))
+after_kind p (RunBeginCancel e) h clock elapsed = record { script = tt; test = tt }
+after_kind p (RunBeginKill e) h clock elapsed = record { script = tt; test = tt }
+after_kind p (StressSubRunStarted e) h clock elapsed = record { script = tt; test = tt }
+after_kind p (RunFinished e) h clock elapsed = record { script = tt; test = tt }
+after_kind p kind h clock elapsed = absurd h
 
-kind_cancels : (p : Settings) (kind : TestEventKind) → IsCancelKind kind → (clock elapsed : ℕ)
-    → IsOfCause p (Test (record { clock = clock; elapsed = elapsed; kind = kind }))
-kind_cancels p (RunBeginCancel e) h clock elapsed =
-    record { cancels = refl; number = record { script = tt; test = tt } }
-kind_cancels p (RunBeginKill e) h clock elapsed =
-    record { cancels = refl; number = record { script = tt; test = tt } }
-kind_cancels p kind h clock elapsed = absurd h
+pub cancel_kind : (p : Settings) (e : ReporterEvent) → IsAfter (Some e) → HasKind p e
+cancel_kind p Tick h = absurd h
+cancel_kind p (Test e) h = after_kind p e.kind h e.clock e.elapsed
 
-cancel_of : (p : Settings) (e : ReporterEvent) → IsCancel (Some e) → IsOfCause p e
-cancel_of p Tick h = absurd h
-cancel_of p (Test e) h = kind_cancels p e.kind h e.clock e.elapsed
+-- and it says a reason exactly where it tells that the run is cancelled
+abbrev pub SaysReason : Option ReporterEvent → Type 0
+SaysReason o = list_any tells_cancel (option_to_list o) ≡ is_some (option_and_then reason_told o)
 
-pub cancel_tells : (p : Settings) (e : ReporterEvent) → IsCancel (Some e) → tells_cancel e ≡ true
-cancel_tells p e h = (cancel_of p e h).cancels
+bound_reason : (o : Option ReporterEvent) → IsBoundAfter o → SaysReason o
+bound_reason None h = refl
+bound_reason (Some Tick) h = absurd h
+bound_reason (Some (Test event)) h = by_kind event.kind h
+  where
+    by_kind : (kind : TestEventKind) → IsBoundAfterKind kind → SaysReason (Some (Test (record event { kind = kind })))
+    by_kind (StressSubRunStarted e) h = refl
+    by_kind (RunFinished e) h = refl
+    by_kind kind h = absurd h
 
-pub cancel_kind : (p : Settings) (e : ReporterEvent) → IsCancel (Some e) → HasKind p e
-cancel_kind p e h = (cancel_of p e h).number
+cause_reason : (now : Moment) (t : Tally) (cause : Option CancelReason) → SaysReason (cancel_for now t cause)
+cause_reason now t None = refl
+cause_reason now t (Some r) = by_rank (is_above t.stats.cancel_reason r)
+  where
+    of_reason : (r : CancelReason) → SaysReason (Some (event now (cancel_event r (cancelled_for r t))))
+    of_reason SetupScriptFailure = refl
+    of_reason TestFailure = refl
+    of_reason ReportError = refl
+    of_reason GlobalTimeout = refl
+    of_reason TestFailureImmediate = refl
+    of_reason BySignal = refl
+    of_reason Interrupt = refl
+    of_reason SecondSignal = refl
+
+    by_rank : (b : Bool) → SaysReason (if b then Some (event now (cancel_event r (cancelled_for r t))) else None)
+    by_rank true = of_reason r
+    by_rank false = refl
+
+pub says_reason : (p : Settings) (f : Frame) (now : ℕ) (run : List Happening) (d : Deed) → Marks p f now run d
+    → SaysReason d.after
+says_reason p f now run d marks = by_bound (d.begins || d.ends) refl
+  where
+    by_bound : (b : Bool) → (d.begins || d.ends) ≡ b → SaysReason d.after
+    by_bound true is = bound_reason d.after (marks.bounds is).1
+    by_bound false is =
+        subst SaysReason (sym (marks.cancel is))
+        (cause_reason (moment_in now f) (having_told (tally p run) d.told) d.cause)

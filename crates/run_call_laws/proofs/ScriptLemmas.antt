@@ -1,5 +1,6 @@
 -- A script that failed is a cause, so that an event tells that the run is cancelled.
-use Rattle.std.proofs.Common.{◌≡◌, ◌||◌, List, [], ◌∷◌, ◌++◌, Bool, true, false, not, if◌then◌else◌, Option, Some}
+use Rattle.std.proofs.Common.{◌≡◌, ◌⊎◌, inl, inr, ◌||◌, List, [], ◌∷◌, ◌++◌, Bool, true, false, not, if◌then◌else◌}
+use Rattle.std.proofs.Common.{option_and_then, Option, Some}
 use Rattle.std.proofs.Common.{None, is_some, option_map, option_to_list, refl, ap, sym, subst, ◌∙◌}
 use Rattle.std.specs.Prelude.{IfSome}
 use Rattle.std.specs.Cmp.{second_so}
@@ -11,6 +12,8 @@ use Rattle.run_events.specs.declared.events.ReporterEvent.{ReporterEvent}
 use Rattle.run_events.specs.declared.events.ReporterEvent.TheVariants.{Tick, Test}
 use Rattle.run_events.specs.declared.events.TestEventKind.{TestEventKind}
 use Rattle.run_events.specs.declared.events.TestEventKind.TheVariants.{RunBeginCancel, RunBeginKill, RunPaused}
+use Rattle.run_events.specs.declared.events.TestEventKind.TheVariants.{RunStarted, RunFinished, StressSubRunStarted}
+use Rattle.run_events.specs.declared.events.TestEventKind.TheVariants.{StressSubRunFinished}
 use Rattle.run_events.specs.declared.events.TestEventKind.TheVariants.{RunContinued, InfoStarted, InfoFinished}
 use Rattle.run_events.specs.declared.events.TestEventKind.TheVariants.{InfoResponse as InfoAnswer, InputEnter}
 use Rattle.run_events.specs.Hearing.{heard_key}
@@ -30,18 +33,21 @@ use Rattle.run_model.specs.Cancel.{cause_of, caused, script_cause, script_failed
 use Rattle.run_model.specs.Dispatch.{Moment, event, go_of, heard_by, may_go, moment_by, told_of}
 use Rattle.run_model.specs.Journal.{IsLegalBackward, history}
 use Rattle.run_model.specs.Turns.{admission, answer_to, deed_on, delivered_as, delivery, done_by, enabled, event_of}
-use Rattle.run_model.specs.Turns.{happening, live_in, oldest_of, starting, takes_turn, tally_with, turn_of_unit}
+use Rattle.run_model.specs.Turns.{happening, index_of, live_in, oldest_of, starting, takes_turn, tally_with}
+use Rattle.run_model.specs.Turns.{turn_of_unit}
 use Rattle.run_model.specs.Words.{is_over, reason, sub_run, told}
 use Rattle.run_laws.proofs.board.ByTurn.{by_turn}
 use Rattle.run_laws.proofs.told.Asides.{IsAside, IsAsideEvent, IsAsideKind, answer_aside, by_signal, inform_aside}
 use Rattle.run_laws.proofs.told.Asides.{key_aside, tick_aside}
-use Rattle.run_laws.proofs.told.Cancels.{IsCancel, IsCancelKind}
+use Rattle.run_laws.proofs.told.Cancels.{IsAfter, IsAfterKind}
 use Rattle.run_call_laws.specs.Stops.{tells_cancel}
 use Rattle.run_call_laws.specs.Success.{fails_script, fails_script_in}
-use Rattle.run_laws.specs.Cancels.{rises}
-use Rattle.run_call_laws.proofs.OwnLemmas.{cancel_tells, told_is}
-use Rattle.run_call_laws.proofs.ToldLemmas.{causes_told, tells}
-use Rattle.run_call_laws.proofs.WholeLemmas.{one_run}
+use Rattle.run_laws.specs.Cancels.{reason_told, rises}
+use Rattle.run_call_laws.specs.Stops.{AreCausesTold}
+use Rattle.run_call_laws.proofs.OwnLemmas.{SaysReason, told_is}
+use Rattle.run_call_laws.proofs.ToldLemmas.{Tells, causes_told, rises_in, tells}
+use Rattle.run_laws.proofs.board.Kept.{IsBeforeRuns, IsOfRun, from_base, holds, where_joins}
+use Rattle.run_laws.proofs.told.Bounds.{IsBound, IsBoundKind, begin_cases, end_cases}
 
 -- what is told fails no script, or is told with a cause
 abbrev IsCausing : Option CancelReason → Option ReporterEvent → Type 0
@@ -103,14 +109,28 @@ aside_causes d aside = by_told d.told aside.told
     by_told (Some Tick) h = λ fails. cc
     by_told (Some (Test event)) h = λ fails. let never : false ≡ true = sym (by_kind event.kind h) ∙ fails in cc
 
+-- what is told where a sub-run begins or ends fails none
+bound_causes : (cause : Option CancelReason) (o : Option ReporterEvent) → IsBound o → IsCausing cause o
+bound_causes cause None h = tt
+bound_causes cause (Some Tick) h = absurd h
+bound_causes cause (Some (Test event)) h = by_kind event.kind h
+  where
+    by_kind : (kind : TestEventKind) → IsBoundKind kind → fails_script_in kind ≡ true → is_some cause ≡ true
+    by_kind (RunStarted e) h fails = cc
+    by_kind (StressSubRunStarted e) h fails = cc
+    by_kind (StressSubRunFinished e) h fails = cc
+    by_kind (RunFinished e) h fails = cc
+    by_kind kind h fails = absurd h
+
 causes : (p : Settings) (past : List Happening) (turn : Turn) → enabled p past turn ≡ true
     → IsCausing (deed_on p (board p past) turn).cause (deed_on p (board p past) turn).told
 causes p past turn en =
     by_turn (λ turn named. takes_turn p b turn named ≡ true
     → IsCausing (done_by p b turn named).cause (done_by p b turn named).told)
     (record {
-      begin = λ en fails. cc;
-      admit = λ en. admission_causes (newcomer p b.units);
+      begin = λ en. begin_cases (λ d. IsCausing d.cause d.told) (λ told after own later. bound_causes None told own)
+          b.clock b.dispatcher;
+      admit = λ en. admission_causes (newcomer p (index_of b.dispatcher) b.units);
       deliver = λ en. delivery_causes b b.queue;
       named = λ turn k to other en. tt;
       clock = λ ns en. tt;
@@ -118,7 +138,8 @@ causes p past turn en =
           (heard_by b.dispatcher.rules.hearing signal) tt aside_causes;
       global_due = λ en. tt;
       report_cancel = λ en. tt;
-      end = λ en fails. cc;
+      end = λ en. end_cases (λ d. IsCausing d.cause d.told) (λ told after over own later. bound_causes None told own)
+          b.clock b.dispatcher;
       key = λ key en. aside_causes _ (key_aside b.clock (live_in b.units) b.dispatcher
           (heard_key b.dispatcher.rules.hearing.input key));
       tick = λ en. aside_causes _ tick_aside;
@@ -131,15 +152,17 @@ causes p past turn en =
     b : Board
     b = board p past
 
--- the event of a cause fails none
-cancel_passes : (o : Option ReporterEvent) → IsCancel o → list_any fails_script (option_to_list o) ≡ false
+-- what is told after that fails none
+cancel_passes : (o : Option ReporterEvent) → IsAfter o → list_any fails_script (option_to_list o) ≡ false
 cancel_passes None h = refl
 cancel_passes (Some Tick) h = absurd h
 cancel_passes (Some (Test e)) h = rw (by_kind e.kind h) refl
   where
-    by_kind : (kind : TestEventKind) → IsCancelKind kind → fails_script_in kind ≡ false
+    by_kind : (kind : TestEventKind) → IsAfterKind kind → fails_script_in kind ≡ false
     by_kind (RunBeginCancel e) h = refl
     by_kind (RunBeginKill e) h = refl
+    by_kind (StressSubRunStarted e) h = refl
+    by_kind (RunFinished e) h = refl
     by_kind kind h = absurd h
 
 -- where no cause came, what is told fails none
@@ -151,12 +174,6 @@ own_passes cause (Some e) causing none = by_fail (fails_script e) refl
     by_fail : (b : Bool) → fails_script e ≡ b → (b || false) ≡ false
     by_fail false is = refl
     by_fail true is = let never : false ≡ true = sym none ∙ causing is in cc
-
-no_cancel : (p : Settings) (o : Option ReporterEvent) → IsCancel o → list_any tells_cancel (option_to_list o) ≡ false
-    → is_some o ≡ false
-no_cancel p None is calm = refl
-no_cancel p (Some e) is calm =
-    let never : true ≡ false = sym (ap (λ b. b || false) (cancel_tells p e is)) ∙ calm in cc
 
 no_cause : (before cause : Option CancelReason) → is_some before ≡ false → rises before cause ≡ false
     → is_some cause ≡ false
@@ -178,27 +195,43 @@ together f xs ys first second =
     list_any-append f xs ys ∙ ap (λ b. b || list_any f ys) first ∙ second
 
 -- so no script is told to fail where no event tells that the run is cancelled
-pub no_script_fails : (p : Settings) (backward : List Entry) → IsLegalBackward p backward
-    → list_any tells_cancel (told (history p backward)) ≡ false
-    → list_any fails_script (told (history p backward)) ≡ false
-no_script_fails p [] legal calm = refl
-no_script_fails p (e ∷ before) legal calm =
+abbrev pub PassesScripts : List Happening → Type 0
+PassesScripts run = list_any tells_cancel (told run) ≡ false → list_any fails_script (told run) ≡ false
+
+passes_more : (p : Settings) (x : Happening) (run : List Happening) → SaysReason x.after → IsAfter x.after
+    → is_some (option_and_then reason_told x.after) ≡ rises (reason run) x.cause → IsCausing x.cause x.told
+    → AreCausesTold run → PassesScripts run → PassesScripts (x ∷ run)
+passes_more p x run says after exactly causing told_so passes calm =
     let own : List ReporterEvent = option_to_list x.told in
-    let cancel : List ReporterEvent = option_to_list x.cancel in
-    let parts = apart tells_cancel (told past) (own ++ cancel) calm in
-    let calm_cancel : list_any tells_cancel cancel ≡ false = (apart tells_cancel own cancel parts.1).1 in
-    let t = tells p e before legal in
-    let none : is_some (reason (sub_run past)) ≡ false =
-    (causes_told p before legal.2 (one_run p before legal.2).same.told).any ∙ parts.0 in
-    let flat : rises (reason (sub_run past)) x.cause ≡ false =
-    sym t.caused.exactly ∙ no_cancel p x.cancel t.cancel calm_cancel in
-    together fails_script (told past) (own ++ cancel) (no_script_fails p before legal.2 parts.0)
-    (together fails_script own cancel
-    (own_passes x.cause x.told (causes p past e.turn legal.0) (no_cause (reason (sub_run past)) x.cause none flat))
-    (cancel_passes x.cancel t.cancel))
+    let later : List ReporterEvent = option_to_list x.after in
+    let parts = apart tells_cancel (told run) (own ++ later) calm in
+    let calm_later : list_any tells_cancel later ≡ false = (apart tells_cancel own later parts.1).1 in
+    let none : is_some (reason run) ≡ false = told_so.any ∙ parts.0 in
+    let flat : rises (reason run) x.cause ≡ false = sym exactly ∙ sym says ∙ calm_later in
+    together fails_script (told run) (own ++ later) (passes parts.0)
+    (together fails_script own later
+    (own_passes x.cause x.told causing (no_cause (reason run) x.cause none flat)) (cancel_passes x.after after))
+
+pub no_script_fails : (p : Settings) (backward : List Entry) → IsLegalBackward p backward
+    → PassesScripts (sub_run (history p backward))
+no_script_fails p [] legal = λ calm. refl
+no_script_fails p (e ∷ before) legal =
+    by_run (where_joins p past e (holds p before legal.2) legal.0) (no_script_fails p before legal.2)
   where
     past : List Happening
     past = history p before
 
     x : Happening
     x = happening p past e
+
+    t : Tells p (sub_run past) x
+    t = tells p e before legal
+
+    by_run : IsOfRun p past e ⊎ IsBeforeRuns p past e → PassesScripts (sub_run past)
+        → PassesScripts (sub_run (x ∷ past))
+    by_run (inl of) h =
+        subst PassesScripts (sym of.joins)
+        (passes_more p x of.base t.says t.after (rises_in p past e of t.caused) (causes p past e.turn legal.0)
+        (from_base AreCausesTold p past e of (causes_told p [] tt) (causes_told p before legal.2))
+        (from_base PassesScripts p past e of (λ calm. refl) h))
+    by_run (inr none) h = subst PassesScripts (sym none.still) (λ calm. refl)

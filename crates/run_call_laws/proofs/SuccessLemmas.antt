@@ -1,7 +1,8 @@
 -- A run is a success exactly where all was told to pass.
 use Rattle.std.proofs.Common.{◌≡◌, ℕ, ◌+◌, ◌<◌, ◌≤◌, nat_lt, List, Bool, true, false}
-use Rattle.std.proofs.Common.{count_by, filter_map, if◌then◌else◌, Option, Some, None, refl, ap, sym, ◌∙◌, arith}
-use Rattle.std.proofs.Common.{is_some}
+use Rattle.std.proofs.Common.{count_by, filter_map, Option, Some, None, refl, ap, sym, ◌∙◌, arith}
+use Rattle.std.proofs.Common.{is_some, subst}
+use Rattle.std.proofs.lemmas.List.Elements.{All-contains}
 use Rattle.std.specs.List.{All, list_any}
 use Rattle.std.proofs.lemmas.Bool.Decides.{nat_tests}
 use Rattle.std.proofs.lemmas.Option.{same_Some}
@@ -9,27 +10,29 @@ use Rattle.run_events.specs.Outcome.{outcome_of, summary}
 use Rattle.run_events.specs.Stats.{one_if, total_by}
 use Rattle.run_events.specs.declared.cancel.CancelReason.{CancelReason}
 use Rattle.run_events.specs.declared.events.ReporterEvent.{ReporterEvent}
-use Rattle.run_events.specs.declared.outcome.RunOutcome.TheVariants.{Success}
 use Rattle.run_events.specs.declared.settings.Settings.{Settings}
 use Rattle.run_events.specs.declared.stats.RunStats.{RunStats}
 use Rattle.run_model.specs.declared.entry.Entry.{Entry}
 use Rattle.run_model.specs.Admission.{matched_in, scripts_in, tests_in, units_in}
 use Rattle.run_model.specs.Journal.{IsLegalBackward, history, outcome}
-use Rattle.run_model.specs.Words.{finish_of, is_over, skips, stats_after, told}
-use Rattle.run_call_laws.specs.Counts.{IsToldAtMostOnce, finishes_told, is_to_run}
+use Rattle.run_model.specs.declared.happening.Happening.{Happening}
+use Rattle.run_model.specs.SubRuns.{summary_of}
+use Rattle.run_model.specs.Words.{ended_runs, finish_of, is_over, reason, skipped, stats, stats_after, sub_run, told}
+use Rattle.run_laws.proofs.told.FateLemmas.{over_ended}
+use Rattle.run_call_laws.specs.Counts.{AreToldJustOnce, IsToldAtMostOnce, finishes_told, is_to_run}
 use Rattle.run_call_laws.specs.Numbers.{HasNumber}
-use Rattle.run_call_laws.specs.Outcomes.{outcome_told}
-use Rattle.run_call_laws.specs.Stops.{latest_reason, tells_cancel}
-use Rattle.run_call_laws.specs.Success.{HaveAllPassed, finishes_test, fails_script, fails_test, outcome_uncancelled}
+use Rattle.run_call_laws.specs.Stops.{AreCausesTold, tells_cancel}
+use Rattle.run_call_laws.specs.Success.{EndsAsTold, HaveAllPassed, IsRunSuccess, IsSuccessOfAll, finishes_test}
+use Rattle.run_call_laws.specs.Success.{fails_script, fails_test, outcome_uncancelled}
 use Rattle.run_call_laws.proofs.AnyLemmas.{any-count, any_none, any_some, count_none, count_some}
 use Rattle.run_call_laws.proofs.CountLemmas.{at_most, each_once}
 use Rattle.run_call_laws.proofs.FinishCounts.{scripts_finished, scripts_to_run, tests_finished, tests_to_run}
 use Rattle.run_call_laws.proofs.NumberLemmas.{numbered}
-use Rattle.run_call_laws.proofs.OutcomeLemmas.{outcome-told}
+use Rattle.run_call_laws.proofs.OutcomeLemmas.{outcome-over}
 use Rattle.run_call_laws.proofs.RangeLemmas.{each_equal, sum-same, sum_from}
-use Rattle.run_call_laws.proofs.ScriptLemmas.{no_script_fails}
+use Rattle.run_call_laws.proofs.ScriptLemmas.{PassesScripts, no_script_fails}
 use Rattle.run_call_laws.proofs.SummaryLemmas.{IsGood, good_by, outcome_by, success_by, summary-calm}
-use Rattle.run_call_laws.proofs.ToldLemmas.{causes_told}
+use Rattle.run_call_laws.proofs.ToldLemmas.{both_each, causes_told, each_ended, each_newest}
 use Rattle.run_call_laws.proofs.WholeLemmas.{one_run}
 use Rattle.run_call_laws.proofs.WeighLemmas.{AddUp, finishes_script, events_add}
 
@@ -58,10 +61,9 @@ counted p why skipped events =
       initial = omega (arith, h.initial);
     }
 
-reason_is : (p : Settings) (events : List ReporterEvent) → latest_reason events ≡ None
-    → (stats_after p (latest_reason events) (count_by skips events) (filter_map finish_of events)).cancel_reason ≡ None
+reason_is : (p : Settings) (run : List Happening) → (stats p run).cancel_reason ≡ reason run
 unfolding total_by
-reason_is p events why = why
+reason_is p run = refl
 
 -- each unit to run is told finished where as many are as are to run
 most : (p : Settings) (events : List ReporterEvent) (k : ℕ) → IsToldAtMostOnce p events k
@@ -159,32 +161,49 @@ good_when p s events numbers of all =
       some = omega (arith, tests, a_test);
     }
 
--- over every legal journal
-outcome-over : (p : Settings) (backward : List Entry) → IsLegalBackward p backward → is_over (history p backward) ≡ true
-    → outcome p (history p backward) ≡ Some (outcome_told p (told (history p backward)))
-outcome-over p backward legal over =
-    outcome-told p backward legal
-    ∙ ap (λ b. if b then Some (outcome_told p (told (history p backward))) else None) over
+-- so each sub-run
+all_numbered : (p : Settings) (backward : List Entry) → IsLegalBackward p backward
+    → All (HasNumber p) (told (sub_run (history p backward)))
+all_numbered p backward legal = each_newest (HasNumber p) (history p backward) (numbered p backward legal)
 
-pub only_passed : (p : Settings) (backward : List Entry) → IsLegalBackward p backward
-    → is_over (history p backward) ≡ true → outcome p (history p backward) ≡ Some Success
-    → HaveAllPassed p (told (history p backward))
-only_passed p backward legal over is =
-    let events : List ReporterEvent = told (history p backward) in
-    let s : RunStats = stats_after p (latest_reason events) (count_by skips events) (filter_map finish_of events) in
-    passed_by p s events (at_most p backward legal) (numbered p backward legal)
-    (counted p (latest_reason events) (count_by skips events) events)
-    (good_by s (same_Some _ _ (sym (outcome-over p backward legal over) ∙ is)))
+success_so : (p : Settings) (backward : List Entry) → IsLegalBackward p backward
+    → IsSuccessOfAll p (sub_run (history p backward))
+success_so p backward legal = record {
+  only = λ is. passed_by p (stats p run) (told run) (at_most p backward legal) (all_numbered p backward legal) of
+      (good_by (stats p run) is);
+  always = λ all. success_by (stats p run)
+      (good_when p (stats p run) (told run) (all_numbered p backward legal) of all);
+}
+  where
+    run : List Happening
+    run = sub_run (history p backward)
 
-pub always_success : (p : Settings) (backward : List Entry) → IsLegalBackward p backward
-    → is_over (history p backward) ≡ true → HaveAllPassed p (told (history p backward))
-    → outcome p (history p backward) ≡ Some Success
-always_success p backward legal over all =
-    let events : List ReporterEvent = told (history p backward) in
-    let s : RunStats = stats_after p (latest_reason events) (count_by skips events) (filter_map finish_of events) in
-    outcome-over p backward legal over
-    ∙ ap Some (success_by s (good_when p s events (numbered p backward legal)
-    (counted p (latest_reason events) (count_by skips events) events) all))
+    of : IsCounted p (stats p run) (told run)
+    of = counted p (reason run) (skipped run) (told run)
+
+pub each_success : (p : Settings) (backward : List Entry) → IsLegalBackward p backward
+    → All (IsSuccessOfAll p) (ended_runs (history p backward))
+each_success p backward legal = each_ended (IsSuccessOfAll p) p (success_so p) backward legal
+
+-- and a run that is over, and no stress run
+pub run_success : (p : Settings) (backward : List Entry) → p.stress ≡ None → IsLegalBackward p backward
+    → is_over (history p backward) ≡ true → IsRunSuccess p (history p backward)
+run_success p backward single legal over = record {
+  only = λ is. subst (HaveAllPassed p) (sym same) (so.only (same_Some _ _ (sym out ∙ is)));
+  always = λ all. out ∙ ap Some (so.always (subst (HaveAllPassed p) same all));
+}
+  where
+    run : List Happening
+    run = sub_run (history p backward)
+
+    same : told (history p backward) ≡ told run
+    same = (one_run p backward single legal).same.told
+
+    out : outcome p (history p backward) ≡ Some (outcome_of (summary_of p run))
+    out = outcome-over p backward single legal over
+
+    so : IsSuccessOfAll p run
+    so = success_so p backward legal
 
 -- where nothing was cancelled
 calm_outcome : (p : Settings) (s : RunStats) (events : List ReporterEvent) → All (HasNumber p) events
@@ -214,15 +233,44 @@ none_of : {X : Type 0} (o : Option X) → is_some o ≡ false → o ≡ None
 none_of None e = refl
 none_of (Some x) e = cc
 
-pub uncancelled : (p : Settings) (backward : List Entry) → IsLegalBackward p backward
+-- a sub-run of which this is known ends as its events tell
+record IsKnown (p : Settings) (run : List Happening) : Type 0 where
+  numbers : All (HasNumber p) (told run)
+  causes : AreCausesTold run
+  passes : PassesScripts run
+
+known : (p : Settings) (backward : List Entry) → IsLegalBackward p backward → IsKnown p (sub_run (history p backward))
+known p backward legal = record {
+  numbers = all_numbered p backward legal;
+  causes = causes_told p backward legal;
+  passes = no_script_fails p backward legal;
+}
+
+ends_so : (p : Settings) (run : List Happening) → AreToldJustOnce p run → IsKnown p run → EndsAsTold p run
+ends_so p run once known calm =
+    calm_outcome p (stats p run) (told run) known.numbers (counted p (reason run) (skipped run) (told run))
+    (reason_is p run ∙ none_of _ (known.causes.any ∙ calm)) (λ k. (once calm k).finishes) (known.passes calm)
+
+pub each_uncancelled : (p : Settings) (backward : List Entry) → IsLegalBackward p backward
+    → All (EndsAsTold p) (ended_runs (history p backward))
+each_uncancelled p backward legal =
+    both_each (AreToldJustOnce p) (IsKnown p) (EndsAsTold p) (ends_so p) (ended_runs (history p backward))
+    (each_once p backward legal) (each_ended (IsKnown p) p (known p) backward legal)
+
+pub uncancelled : (p : Settings) (backward : List Entry) → p.stress ≡ None → IsLegalBackward p backward
     → is_over (history p backward) ≡ true → list_any tells_cancel (told (history p backward)) ≡ false
     → outcome p (history p backward) ≡ Some (outcome_uncancelled (told (history p backward)))
-uncancelled p backward legal over calm =
-    let events : List ReporterEvent = told (history p backward) in
-    let s : RunStats = stats_after p (latest_reason events) (count_by skips events) (filter_map finish_of events) in
-    let causes = causes_told p backward legal (one_run p backward legal).same.told in
-    let why : latest_reason events ≡ None = sym causes.latest ∙ none_of _ (causes.any ∙ calm) in
-    outcome-over p backward legal over
-    ∙ ap Some (calm_outcome p s events (numbered p backward legal)
-    (counted p (latest_reason events) (count_by skips events) events) (reason_is p events why)
-    (λ k. (each_once p backward legal over calm k).finishes) (no_script_fails p backward legal calm))
+uncancelled p backward single legal over calm =
+    outcome-over p backward single legal over
+    ∙ ap Some (ends (ap (list_any tells_cancel) (sym same) ∙ calm))
+    ∙ ap (λ events. Some (outcome_uncancelled events)) (sym same)
+  where
+    run : List Happening
+    run = sub_run (history p backward)
+
+    same : told (history p backward) ≡ told run
+    same = (one_run p backward single legal).same.told
+
+    ends : EndsAsTold p run
+    ends = All-contains (EndsAsTold p) (ended_runs (history p backward)) run (each_uncancelled p backward legal)
+        (over_ended p backward legal over)

@@ -4,3 +4,4 @@ pub mod Stops
 pub mod Counts
 pub mod Outcomes
 pub mod Success
+pub mod SubRunEnds

@@ -30,23 +30,24 @@ abbrev pub latest_reason : List ReporterEvent → Option CancelReason
 latest_reason [] = None
 latest_reason (e ∷ later) = option_or (latest_reason later) (reason_told e)
 
--- a cause came in a sub-run exactly where one of these events tells that the run is cancelled, and the reason of the
+-- a cause came in a sub-run exactly where one of its events tells that the run is cancelled, and the reason of the
 -- sub-run is that of the latest such event
-pub record AreCausesTold (events : List ReporterEvent) (run : List Happening) : Type 0 where
-  pub any : is_some (reason run) ≡ list_any tells_cancel events
-  pub latest : reason run ≡ latest_reason events
+pub record AreCausesTold (run : List Happening) : Type 0 where
+  pub any : is_some (reason run) ≡ list_any tells_cancel (told run)
+  pub latest : reason run ≡ latest_reason (told run)
 
--- that holds of all events that were told, and of the newest sub-run, after every legal journal
+-- that holds of the newest sub-run after every legal journal
 abbrev pub CausesAreTold : Type 0
-CausesAreTold = (p : Settings) (journal : List Entry) → IsLegal p journal
-    → AreCausesTold (told (past_of p journal)) (sub_run (past_of p journal))
+CausesAreTold = (p : Settings) (journal : List Entry) → IsLegal p journal → AreCausesTold (sub_run (past_of p journal))
 
 -- no unit was never started, or left between two attempts
 pub record IsUnstopped (run : List Happening) (k : ℕ) : Type 0 where
   pub started : never_started k run ≡ false
   pub stayed : was_left k run ≡ false
 
--- where no event told that the run is cancelled, that holds of each unit, after every legal journal
+-- where no event of the newest sub-run told that the run is cancelled, that holds in it of each unit, after every legal
+-- journal
 abbrev pub NothingStops : Type 0
 NothingStops = (p : Settings) (journal : List Entry) → IsLegal p journal
-    → list_any tells_cancel (told (past_of p journal)) ≡ false → (k : ℕ) → IsUnstopped (sub_run (past_of p journal)) k
+    → list_any tells_cancel (told (sub_run (past_of p journal))) ≡ false
+    → (k : ℕ) → IsUnstopped (sub_run (past_of p journal)) k

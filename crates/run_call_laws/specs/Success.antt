@@ -1,7 +1,8 @@
 -- When a run is a success, by what was told.
 use Rattle.std.specs.Prelude.{ℕ, ◌≡◌, List, map, length, Bool, true, false, not, ◌&&◌, ◌||◌}
-use Rattle.std.specs.Prelude.{nat_lt, if◌then◌else◌, Some}
-use Rattle.std.specs.List.{list_any}
+use Rattle.std.specs.Prelude.{nat_lt, if◌then◌else◌, None, Some}
+use Rattle.std.specs.List.{All, list_any}
+use Rattle.run_events.specs.Outcome.{outcome_of}
 use Rattle.run_events.specs.Result.{is_success}
 use Rattle.run_events.specs.Stats.{one_if, last_or}
 use Rattle.run_events.specs.declared.events.ReporterEvent.{ReporterEvent}
@@ -18,7 +19,9 @@ use Rattle.run_events.specs.declared.result.FlakyResult.TheVariants as flakies
 use Rattle.run_events.specs.declared.settings.Settings.{Settings}
 use Rattle.run_model.specs.declared.entry.Entry.{Entry}
 use Rattle.run_model.specs.Journal.{IsLegal, outcome, past_of}
-use Rattle.run_model.specs.Words.{is_over, told}
+use Rattle.run_model.specs.declared.happening.Happening.{Happening}
+use Rattle.run_model.specs.SubRuns.{summary_of}
+use Rattle.run_model.specs.Words.{ended_runs, is_over, sub_run, told}
 use Rattle.run_call_laws.specs.Counts.{finishes_told, is_to_run}
 use Rattle.run_call_laws.specs.Stops.{tells_cancel}
 
@@ -69,14 +72,24 @@ pub record HaveAllPassed (p : Settings) (events : List ReporterEvent) : Type 0 w
   pub scripts_passed : list_any fails_script events ≡ false
   pub tests_passed : list_any fails_test events ≡ false
 
--- where the run of a legal journal is over, it is a success exactly where that was told
-pub record IsSuccessOfAll (p : Settings) (journal : List Entry) : Type 0 where
-  pub only : outcome p (past_of p journal) ≡ Some Success → HaveAllPassed p (told (past_of p journal))
-  pub always : HaveAllPassed p (told (past_of p journal)) → outcome p (past_of p journal) ≡ Some Success
+-- a sub-run is a success exactly where its events told that
+pub record IsSuccessOfAll (p : Settings) (run : List Happening) : Type 0 where
+  pub only : outcome_of (summary_of p run) ≡ Success → HaveAllPassed p (told run)
+  pub always : HaveAllPassed p (told run) → outcome_of (summary_of p run) ≡ Success
 
+-- that holds of each sub-run of a legal journal that has ended
 abbrev pub SuccessIsOfAll : Type 0
-SuccessIsOfAll = (p : Settings) (journal : List Entry) → IsLegal p journal → is_over (past_of p journal) ≡ true
-    → IsSuccessOfAll p journal
+SuccessIsOfAll = (p : Settings) (journal : List Entry) → IsLegal p journal
+    → All (IsSuccessOfAll p) (ended_runs (past_of p journal))
+
+-- so where the run is over, and no stress run, it is a success exactly where that was told
+pub record IsRunSuccess (p : Settings) (past : List Happening) : Type 0 where
+  pub only : outcome p past ≡ Some Success → HaveAllPassed p (told past)
+  pub always : HaveAllPassed p (told past) → outcome p past ≡ Some Success
+
+abbrev pub OneSuccessIsOfAll : Type 0
+OneSuccessIsOfAll = (p : Settings) (journal : List Entry) → p.stress ≡ None → IsLegal p journal
+    → is_over (past_of p journal) ≡ true → IsRunSuccess p (past_of p journal)
 
 -- the outcome that events tell where none tells that the run is cancelled
 abbrev pub outcome_uncancelled : List ReporterEvent → RunOutcome
@@ -85,14 +98,24 @@ outcome_uncancelled events =
     else if list_any finishes_test events then Success
     else NoTestsRun
 
--- where no event of a legal journal told that the run is cancelled, none told that a script failed
+-- where no event of the newest sub-run of a legal journal told that the run is cancelled, none told that a script
+-- failed
 abbrev pub FailedScriptsCancel : Type 0
 FailedScriptsCancel = (p : Settings) (journal : List Entry) → IsLegal p journal
-    → list_any tells_cancel (told (past_of p journal)) ≡ false
-    → list_any fails_script (told (past_of p journal)) ≡ false
+    → list_any tells_cancel (told (sub_run (past_of p journal))) ≡ false
+    → list_any fails_script (told (sub_run (past_of p journal))) ≡ false
 
--- and where it is over too, that is its outcome
+-- that is the outcome of each sub-run that has ended, and in which no event told that
+abbrev pub EndsAsTold : Settings → List Happening → Type 0
+EndsAsTold p run =
+    list_any tells_cancel (told run) ≡ false → outcome_of (summary_of p run) ≡ outcome_uncancelled (told run)
+
 abbrev pub UncancelledOutcomes : Type 0
-UncancelledOutcomes = (p : Settings) (journal : List Entry) → IsLegal p journal → is_over (past_of p journal) ≡ true
-    → list_any tells_cancel (told (past_of p journal)) ≡ false
+UncancelledOutcomes = (p : Settings) (journal : List Entry) → IsLegal p journal
+    → All (EndsAsTold p) (ended_runs (past_of p journal))
+
+-- so it is the outcome of a run that is over, and no stress run, where no event told that
+abbrev pub OneUncancelledOutcome : Type 0
+OneUncancelledOutcome = (p : Settings) (journal : List Entry) → p.stress ≡ None → IsLegal p journal
+    → is_over (past_of p journal) ≡ true → list_any tells_cancel (told (past_of p journal)) ≡ false
     → outcome p (past_of p journal) ≡ Some (outcome_uncancelled (told (past_of p journal)))

@@ -1,6 +1,6 @@
 -- A whole history and its newest sub-run.
 use Rattle.std.specs.Prelude.{ℕ, ◌≡◌, List, [], ◌∷◌, ◌++◌, map, length, filter_map, option_to_list}
-use Rattle.std.specs.Prelude.{if◌then◌else◌}
+use Rattle.std.specs.Prelude.{if◌then◌else◌, None}
 use Rattle.run_events.specs.declared.ask.Ask.{Ask}
 use Rattle.run_events.specs.declared.cancel.CancelReason.{CancelReason}
 use Rattle.run_events.specs.declared.settings.Settings.{Settings}
@@ -47,6 +47,7 @@ pub record IsOneRun (past : List Happening) : Type 0 where
   pub same : SayTheSame past (sub_run past)
   pub ended : ended_runs past ≡ (if is_over past then sub_run past ∷ [] else [])
 
--- that holds of the history of every legal journal
+-- that holds of the history of every legal journal, but of a stress run
 abbrev pub RunsAreOne : Type 0
-RunsAreOne = (p : Settings) (journal : List Entry) → IsLegal p journal → IsOneRun (past_of p journal)
+RunsAreOne = (p : Settings) (journal : List Entry) → p.stress ≡ None → IsLegal p journal
+    → IsOneRun (past_of p journal)

@@ -29,8 +29,12 @@ use Rattle.run_model.specs.Words.{unit_after, unit_of, units}
 use Rattle.run_laws.proofs.board.ByTurn.{by_turn}
 use Rattle.run_laws.proofs.board.DeedFits.{PartFits}
 use Rattle.run_laws.proofs.told.Asides.{answer_aside, by_signal, key_aside}
+use Rattle.run_model.specs.Turns.{index_of}
+use Rattle.run_events.specs.declared.stress.StressIndex.{StressIndex}
 use Rattle.run_laws.proofs.board.OnBoard.{units-at}
 use Rattle.run_laws.proofs.board.Ordered.{board_over, done_reach, over_kept}
+use Rattle.run_laws.proofs.board.OnBoard.{index_in}
+use Rattle.run_laws.proofs.told.Bounds.{begin_cases, end_cases}
 
 -- each script before the one that is admitted is over
 open_before : (us : List (Option UnitView)) (i j : ℕ) → open_script us ≡ Some i → j < i
@@ -55,9 +59,10 @@ open_before (Some u ∷ us) i j e below = by_last (is_last u.phase) refl j below
     by_last true last j below e rest = by_rest (open_script us) refl j below last e rest
     by_last false last j below e rest = cc
 
-pub comes_after : (p : Settings) (run : List Happening) (new : Newcomer) → newcomer p (units p run) ≡ Some new → (j : ℕ)
+pub comes_after : (p : Settings) (index : Option StressIndex) (run : List Happening) (new : Newcomer)
+    → newcomer p index (units p run) ≡ Some new → (j : ℕ)
     → j < number new.unit → j < scripts_in p → is_done (unit_of j run) ≡ true
-comes_after p run new e j below within = by_scripts (scripts_over p (units p run)) refl e
+comes_after p index run new e j below within = by_scripts (scripts_over p (units p run)) refl e
   where
     us : List (Option UnitView)
     us = units p run
@@ -67,23 +72,23 @@ comes_after p run new e j below within = by_scripts (scripts_over p (units p run
         sym (ap is_done (get_or-take (scripts_in p) us j None within ∙ units-at p run j (omega arith))) ∙ done
 
     by_script : (i : ℕ) (o : Option PlanScript) → open_script (scripts_of p us) ≡ Some i
-        → script_newcomer p i o ≡ Some new
+        → script_newcomer p index i o ≡ Some new
         → is_done (unit_of j run) ≡ true
     by_script i None opens e = cc
     by_script i (Some script) opens e =
-        let new_is : started_newcomer (script_view p i script) ≡ new = same_Some _ _ e in
+        let new_is : started_newcomer (script_view p index i script) ≡ new = same_Some _ _ e in
         let named : i ≡ number new.unit = ap (λ (n : Newcomer). number n.unit) new_is in
         there (open_before (scripts_of p us) i j opens (omega arith))
 
     by_open : (o : Option ℕ) → open_script (scripts_of p us) ≡ o
-        → option_and_then (λ i. script_newcomer p i (slice_get p.plan.scripts i)) o ≡ Some new
+        → option_and_then (λ i. script_newcomer p index i (slice_get p.plan.scripts i)) o ≡ Some new
         → is_done (unit_of j run) ≡ true
     by_open None opens e = cc
     by_open (Some i) opens e = by_script i (slice_get p.plan.scripts i) opens e
 
     by_scripts : (b : Bool) → scripts_over p us ≡ b → (if b
-        then test_newcomer p us
-        else option_and_then (λ i. script_newcomer p i (slice_get p.plan.scripts i)) (open_script (scripts_of p us)))
+        then test_newcomer p index us
+        else option_and_then (λ i. script_newcomer p index i (slice_get p.plan.scripts i)) (open_script (scripts_of p us)))
         ≡ Some new → is_done (unit_of j run) ≡ true
     by_scripts true over e = board_over p run over j within
     by_scripts false over e = by_open (open_script (scripts_of p us)) refl e
@@ -91,7 +96,7 @@ comes_after p run new e j below within = by_scripts (scripts_over p (units p run
 -- a unit joins as one that is admitted
 pub record Came (p : Settings) (b : Board) (first : UnitView) : Type 0 where
   pub new : Newcomer
-  pub is : newcomer p b.units ≡ Some new
+  pub is : newcomer p (index_of b.dispatcher) b.units ≡ Some new
   pub unit : new.unit ≡ first
 
 acts_not : (b : Board) (k : ℕ) (turn : UnitTurn) (v : Option UnitView) (first : UnitView)
@@ -123,8 +128,8 @@ joins_is p b turn first en is =
     by_turn (λ turn named. takes_turn p b turn named ≡ true → (done_by p b turn named).part ≡ Some (Joins first)
     → Came p b first)
     (record {
-      begin = λ en is. cc;
-      admit = λ en is. admits (newcomer p b.units) refl is;
+      begin = λ en. begin_cases (λ d. d.part ≡ Some (Joins first) → Came p b first) (λ told after own later is. cc) b.clock b.dispatcher;
+      admit = λ en is. admits (newcomer p (index_of b.dispatcher) b.units) refl is;
       deliver = λ en is. absurd (delivery_not b b.queue first is);
       clock = λ ns en is. cc;
       signal = λ signal en is. aside_not _
@@ -132,7 +137,7 @@ joins_is p b turn first en is =
           (heard_by b.dispatcher.rules.hearing signal) refl (λ d aside. aside.part)) is;
       global_due = λ en is. cc;
       report_cancel = λ en is. cc;
-      end = λ en is. cc;
+      end = λ en. end_cases (λ d. d.part ≡ Some (Joins first) → Came p b first) (λ told after over own later is. cc) b.clock b.dispatcher;
       named = λ turn k to other en is. absurd (acts_not b k to _ first is);
       key = λ key en is. aside_not _ (key_aside b.clock (live_in b.units) b.dispatcher
           (heard_key b.dispatcher.rules.hearing.input key)).part is;
@@ -146,7 +151,8 @@ joins_is p b turn first en is =
     aside_not : (part : Option UnitPart) → part ≡ None → part ≡ Some (Joins first) → Came p b first
     aside_not part none is = let never : None ≡ Some (Joins first) = sym none ∙ is in cc
 
-    admits : (o : Option Newcomer) → newcomer p b.units ≡ o → (admission o).part ≡ Some (Joins first) → Came p b first
+    admits : (o : Option Newcomer) → newcomer p (index_of b.dispatcher) b.units ≡ o
+        → (admission o).part ≡ Some (Joins first) → Came p b first
     admits None at is = cc
     admits (Some new) at is =
         let same : Joins new.unit ≡ Joins first = same_Some _ _ is in record { new = new; is = at; unit = cc }

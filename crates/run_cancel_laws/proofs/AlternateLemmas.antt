@@ -20,11 +20,13 @@ use Rattle.run_model.specs.Turns.{deed_on, happening}
 use Rattle.run_model.specs.Words.{clock, is_over, is_run_paused, sub_run, told}
 use Rattle.run_laws.proofs.board.DeedFits.{cancel_told}
 use Rattle.run_laws.proofs.board.Kept.{does_after, holds}
-use Rattle.run_laws.proofs.told.Cancels.{IsCancel, IsCancelKind}
+use Rattle.run_laws.proofs.told.Cancels.{IsAfter, IsAfterKind}
 use Rattle.run_cancel_laws.specs.Enabled.{continues, continues_in}
 use Rattle.run_cancel_laws.specs.Pauses.{AlternateFrom, TellsItsPause, is_cont, is_tstp, pause_told, pause_told_in}
 use Rattle.run_cancel_laws.specs.Pauses.{pauses, pauses_in, pauses_told}
 use Rattle.run_cancel_laws.proofs.PauseLemmas.{pause_of}
+use Rattle.run_laws.proofs.board.OnBoard.{frame_of}
+use Rattle.run_events.specs.declared.events.TestEventKind.TheVariants.{RunFinished, StressSubRunStarted}
 
 -- what comes next after such events
 next : Bool → List Bool → Bool
@@ -44,14 +46,16 @@ one_more first (c ∷ bs) b from is =
     let later = one_more (not first) bs b from.1 is in ((from.0, later.0), later.1)
 
 -- the event of a cause is none
-cancel_none : (o : Option ReporterEvent) → IsCancel o → pauses_told (option_to_list o) ≡ []
+cancel_none : (o : Option ReporterEvent) → IsAfter o → pauses_told (option_to_list o) ≡ []
 cancel_none None h = refl
 cancel_none (Some Tick) h = absurd h
 cancel_none (Some (Test event)) h = by_kind event.kind h
   where
-    by_kind : (kind : TestEventKind) → IsCancelKind kind → cons_option (pause_told_in kind) [] ≡ []
+    by_kind : (kind : TestEventKind) → IsAfterKind kind → cons_option (pause_told_in kind) [] ≡ []
     by_kind (RunBeginCancel cancelled) h = refl
     by_kind (RunBeginKill cancelled) h = refl
+    by_kind (StressSubRunStarted progress) h = refl
+    by_kind (RunFinished finished) h = refl
     by_kind kind h = absurd h
 
 -- what a turn tells of a pause, with what it does to that
@@ -107,17 +111,17 @@ alternates p (e ∷ before) legal =
     x : Happening
     x = happening p past e
 
-    none : pauses_told (option_to_list x.cancel) ≡ []
-    none = cancel_none x.cancel
-        (cancel_told p (is_over past) (clock past) (sub_run past) (deed_on p (board p past) e.turn)
+    none : pauses_told (option_to_list x.after) ≡ []
+    none = cancel_none x.after
+        (cancel_told p (frame_of p past) (clock past) _ (deed_on p (board p past) e.turn)
         (does_after p past e (holds p before legal.2) legal.0).marks)
 
-    events : pauses_told (told past ++ (option_to_list x.told ++ option_to_list x.cancel))
+    events : pauses_told (told past ++ (option_to_list x.told ++ option_to_list x.after))
         ≡ pauses_told (told past) ++ pauses_told (option_to_list x.told)
     events =
-        filter_map-append pause_told (told past) (option_to_list x.told ++ option_to_list x.cancel)
+        filter_map-append pause_told (told past) (option_to_list x.told ++ option_to_list x.after)
         ∙ ap (λ bs. pauses_told (told past) ++ bs)
-        (filter_map-append pause_told (option_to_list x.told) (option_to_list x.cancel)
+        (filter_map-append pause_told (option_to_list x.told) (option_to_list x.after)
         ∙ ap (λ bs. pauses_told (option_to_list x.told) ++ bs) none
         ∙ append-nil (pauses_told (option_to_list x.told)))
 

@@ -32,6 +32,7 @@ use Rattle.run_laws.proofs.board.Holds.{Holds}
 use Rattle.run_laws.proofs.units.OpenRows.{IsReport}
 use Rattle.run_laws.proofs.units.Rows.{StaysOrGoes, Takes, again, answers, continues, decide_cases, decides, opens}
 use Rattle.run_laws.proofs.units.Rows.{passes, row_moves, row_passes, row_takes, takes_moment}
+use Rattle.run_laws.proofs.board.OnBoard.{Frame}
 
 -- whether a message is one that unit k's account waits for
 abbrev pub is_news_of : ℕ → Message → Bool
@@ -159,13 +160,13 @@ same_number : (a b : ℕ) → (a == b) ≡ true → b ≡ a
 same_number a b e = grind arith
 
 -- so once unit j is over, nothing more of it is sent
-pub sends_none_of : (p : Settings) (over : Bool) (now : ℕ) (run : List Happening) (part : Option UnitPart)
-    (sent : Option Message) (j : ℕ) → Holds p over now run → PartFits p now run part → IsSentAs now run part sent
+pub sends_none_of : (p : Settings) (f : Frame) (now : ℕ) (run : List Happening) (part : Option UnitPart)
+    (sent : Option Message) (j : ℕ) → Holds p now run → PartFits p now run part → IsSentAs now run part sent
     → is_done (unit_of j run) ≡ true
     → IsNotOf j sent
-sends_none_of p over now run None sent j h fits from done = rw from tt
-sends_none_of p over now run (Some (Joins first)) None j h fits from done = tt
-sends_none_of p over now run (Some (Joins first)) (Some m) j h (first_sent, new) (skipped, from) done =
+sends_none_of p f now run None sent j h fits from done = rw from tt
+sends_none_of p f now run (Some (Joins first)) None j h fits from done = tt
+sends_none_of p f now run (Some (Joins first)) (Some m) j h (first_sent, new) (skipped, from) done =
     first_own skipped first m j from (by_unit (number first == j) refl)
   where
     by_unit : (b : Bool) → (number first == j) ≡ b → b ≡ false
@@ -173,7 +174,7 @@ sends_none_of p over now run (Some (Joins first)) (Some m) j h (first_sent, new)
     by_unit true e =
         let here : j ≡ number first = same_number (number first) j e in
         let never : false ≡ true = sym (ap (λ j. is_done (unit_of j run)) here ∙ ap is_done new.unknown) ∙ done in cc
-sends_none_of p over now run (Some (Acts i turn)) sent j h taken from done =
+sends_none_of p f now run (Some (Acts i turn)) sent j h taken from done =
     subst (IsNotOf j) (sym from) (subst (λ v. IsNotOf j (option_and_then (λ v. (row now turn v).sent) v)) (sym taken.is)
     (sends_own now taken.unit.phase turn (at_moment now taken.unit) j refl
     (takes_moment now taken.unit.phase taken.unit turn taken.takes) (by_unit (number taken.unit == j) refl)))

@@ -35,6 +35,8 @@ use Rattle.run_cancel_laws.specs.Enabled.{time_unstopped, was_any}
 use Rattle.run_cancel_laws.proofs.CauseTurns.{report_is, signal_is, time_is}
 use Rattle.run_cancel_laws.proofs.RunnerLemmas.{stops_is}
 use Rattle.run_cancel_laws.proofs.TimerLemmas.{Counts, IsStill, counts_fires, counts_on, counts_set}
+use Rattle.run_laws.proofs.board.OnBoard.{frame_of}
+use Rattle.run_laws.proofs.board.Kept.{from_base, some_base}
 
 -- as many causes of a sub-run are signals as turns shut it down, after one more
 counts_so : (p : Settings) (x : Happening) (run : List Happening) → is_by_signal x.cause ≡ is_shutdown p x.turn
@@ -86,7 +88,7 @@ record IsNext (p : Settings) (now : ℕ) (run : List Happening) (x : Happening) 
   begins : x.begins ≡ true → (ns_of x.turn ≡ 0) × (x.stops ≡ false)
   still : IsStill (ns_of x.turn) x.stops x.told
   stops : x.stops ≡ is_stop_wait_due x.turn
-  on : (x.begins || is_on run) ≡ true
+  some : x.begins ≡ false → run ≡ [] → ⊥
 
 set-cons : (p : Settings) (now : ℕ) (run : List Happening) (x : Happening) → IsNext p now run x
     → (run ≡ []) ⊎ IsSet p now run → IsSet p (now + ns_of x.turn) (x ∷ run)
@@ -116,8 +118,7 @@ set-cons p now run x h set = by_begin x.begins refl set
         let due : is_global_due x.turn ≡ false = h.apart is in
         rw (none, is, h.at, due, quiet.0, sym h.stops ∙ quiet.1, add-zero now, running (continues x.told))
         (counts_set (time_limit p) now)
-    by_begin false is (inl none) =
-        let never : false ≡ true = sym (ap is_on none) ∙ sym (ap (λ b. b || is_on run) is) ∙ h.on in cc
+    by_begin false is (inl none) = absurd (h.some is none)
     by_begin false is (inr set) =
         rw (is, h.time, h.at) (by_due (is_global_due x.turn) (was_any is_global_due run) set)
 
@@ -146,27 +147,27 @@ timed_after p past e h en was = by_run (where_joins p past e h en)
     d : Deed
     d = deed_on p (board p past) e.turn
 
-    does : Does p (is_over past) (clock past) (sub_run past) d
-    does = does_after p past e h en
-
     cause : d.cause ≡ cause_by p (sub_run past) e.turn d.told
     cause = cause_is p past e.turn
+
+    quiet : d.begins ≡ true → d.cause ≡ None
+    quiet is = ((does_after p past e h en).marks.begins is).1.cause
 
     by_run : IsOfRun p past e ⊎ IsBeforeRuns p past e
         → IsTimed p (clock (happening p past e ∷ past)) (sub_run (happening p past e ∷ past))
     by_run (inl of) = subst (IsTimed p (clock past + ns_of e.turn)) (sym of.joins)
-        (timed-cons p (clock past) (sub_run past) (happening p past e) (record {
+        (timed-cons p (clock past) of.base (happening p past e) (record {
           at = refl;
           time = ap is_by_time cause ∙ time_is p (sub_run past) e.turn d.told;
           report = ap is_by_report cause ∙ report_is p (sub_run past) e.turn d.told;
           signal = ap is_by_signal cause ∙ signal_is p (sub_run past) e.turn d.told;
-          first = does.marks.begins;
+          first = λ is. (of.does.marks.begins is).0;
           apart = begins_apart p (board p past) e.turn;
           begins = begins_quiet p (board p past) e.turn;
           still = clock_still p (board p past) e.turn;
           stops = stops_is p (board p past) e.turn;
-          on = of.on;
-        }) was)
+          some = some_base p past e of;
+        }) (from_base (IsTimed p (clock past)) p past e of (timed_none p (clock past)) was))
     by_run (inr before) = subst (IsTimed p (clock past + ns_of e.turn)) (sym before.still)
         (timed_none p (clock past + ns_of e.turn))
 
@@ -220,15 +221,15 @@ counted p backward legal = by_set (timed p backward legal).set ∙ regroup (is_f
 
     by_set : (run ≡ []) ⊎ IsSet p (clock past) run
         → (not (is_over past)
-        && ((is_on run && is_none (open_round past)) && fires_now (clock past) (global_timer p run)))
+        && ((is_on run && is_none (open_round (sub_run past))) && fires_now (clock past) (global_timer p run)))
         ≡ (is_free past && fires (limit_under p.interceptor p.plan.global_timeout))
     by_set (inl none) =
-        off (not (is_over past)) (is_on run) (is_none (open_round past)) (fires_now (clock past) (global_timer p run))
+        off (not (is_over past)) (is_on run) (is_none (open_round (sub_run past))) (fires_now (clock past) (global_timer p run))
         (fires (limit_under p.interceptor p.plan.global_timeout)) (ap is_on none)
     by_set (inr set) =
-        ap (λ b. not (is_over past) && ((is_on run && is_none (open_round past)) && b))
+        ap (λ b. not (is_over past) && ((is_on run && is_none (open_round (sub_run past))) && b))
         (set_fires p (clock past) run set ∙ ap fires (limit_is p))
-        ∙ free (not (is_over past)) (is_on run) (is_none (open_round past))
+        ∙ free (not (is_over past)) (is_on run) (is_none (open_round (sub_run past)))
         (fires (limit_under p.interceptor p.plan.global_timeout))
 
 pub reported : (p : Settings) (backward : List Entry) → IsLegalBackward p backward
@@ -236,9 +237,9 @@ pub reported : (p : Settings) (backward : List Entry) → IsLegalBackward p back
     ≡ (is_free (history p backward) && was_refused (history p backward)
     && not (was_any is_report_cancel (sub_run (history p backward))))
 reported p backward legal =
-    ap (λ b. not (is_over past) && (is_on run && is_none (open_round past) && was_refused past && not b))
+    ap (λ b. not (is_over past) && (is_on run && is_none (open_round (sub_run past)) && was_refused past && not b))
     (timed p backward legal).reported
-    ∙ group (not (is_over past)) (is_on run) (is_none (open_round past)) (was_refused past)
+    ∙ group (not (is_over past)) (is_on run) (is_none (open_round (sub_run past))) (was_refused past)
     (not (was_any is_report_cancel run))
   where
     past : List Happening
@@ -283,9 +284,9 @@ pub heard_twice : (p : Settings) (backward : List Entry) (signal : SignalKind) �
     && nat_lt (shutdowns_before p (sub_run (history p backward))) 2)
     || is_heard_besides p.plan.hearing.signals p.plan.hearing.quit_is_info signal))
 heard_twice p backward signal legal =
-    ap (λ b. not (is_over past) && ((is_on run && is_none (open_round past)) && b))
+    ap (λ b. not (is_over past) && ((is_on run && is_none (open_round (sub_run past))) && b))
     (takes_so p.plan.hearing.signals p.plan.hearing.quit_is_info signal (signals_heard run) ∙ ap taken heard)
-    ∙ free (not (is_over past)) (is_on run) (is_none (open_round past)) (taken (shutdowns_before p run))
+    ∙ free (not (is_over past)) (is_on run) (is_none (open_round (sub_run past))) (taken (shutdowns_before p run))
   where
     past : List Happening
     past = history p backward

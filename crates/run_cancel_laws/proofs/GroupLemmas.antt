@@ -49,6 +49,8 @@ use Rattle.run_model.specs.Words.{asked, clock, is_over, queue, sub_run, told, u
 use Rattle.run_laws.proofs.board.DeedFits.{Does, PartFits, asked_by}
 use Rattle.run_laws.proofs.units.FaceLemmas.{face}
 use Rattle.run_laws.proofs.board.Holds.{Holds}
+use Rattle.run_laws.proofs.board.Deeds.{base_of}
+use Rattle.run_laws.proofs.told.Planned.{starts-none}
 use Rattle.run_laws.proofs.board.Kept.{HoldsAfter, does_after, holds, IsOfRun, IsBeforeRuns, where_joins}
 use Rattle.run_laws.proofs.board.Newcomers.{IsPlanned}
 use Rattle.run_laws.proofs.told.PlannedTurns.{HasStarts, IsPlannedIf}
@@ -58,6 +60,9 @@ use Rattle.run_cancel_laws.specs.Enabled.{is_stop_wait_due}
 use Rattle.run_cancel_laws.specs.Pauses.{asks_stop}
 use Rattle.run_cancel_laws.proofs.RunnerLemmas.{stops_is}
 use Rattle.run_cancel_laws.specs.Groups.{group_asked, group_by, IsOfItsGroup, test_group}
+use Rattle.run_laws.proofs.board.OnBoard.{Frame}
+use Rattle.run_laws.proofs.board.OnBoard.{frame_of}
+use Rattle.run_laws.proofs.board.Kept.{from_base}
 
 -- a row asks for its own unit, and for the group that this has
 abbrev AsksOf : ℕ → Bool → Option Ask → Type 0
@@ -185,12 +190,12 @@ planned_group p us k u (inr test) =
     ∙ sym (ap (λ b. b || test_group p.interceptor) test.kind)
 
 -- what a part asks is for the group of its unit
-part_asks : (p : Settings) (over : Bool) (now : ℕ) (run : List Happening) (part : Option UnitPart)
-    → Holds p over now run
+part_asks : (p : Settings) (f : Frame) (now : ℕ) (run : List Happening) (part : Option UnitPart)
+    → Holds p now run
     → HasStarts p run → PartFits p now run part → IfSome (asked_by now run part) (IsOfItsGroup p)
-part_asks p over now run None h has fits = tt
-part_asks p over now run (Some (Joins first)) h has fits = tt
-part_asks p over now run (Some (Acts k turn)) h has taken =
+part_asks p f now run None h has fits = tt
+part_asks p f now run (Some (Joins first)) h has fits = tt
+part_asks p f now run (Some (Acts k turn)) h has taken =
     rw taken.is (by_ask (row now turn u).asked (row_own now u.phase turn (at_moment now u) moved))
   where
     u : UnitView
@@ -233,26 +238,25 @@ groups p (e ∷ before) legal = by_run (groups p before legal.2) (where_joins p 
     h : HoldsAfter p past
     h = holds p before legal.2
 
-    does : Does p (is_over past) (clock past) (sub_run past) (deed_on p (board p past) e.turn)
-    does = does_after p past e h legal.0
-
-    one : (o : Option Ask) → IfSome o (IsOfItsGroup p)
-        → All Fine (map (λ ask. (length (sub_run past), ask)) (option_to_list o))
-    one None is = All-nil Fine
-    one (Some ask) is = All-cons Fine (length (sub_run past), ask) [] is (All-nil Fine)
-
-    by_stop : (b : Bool)
-        → IfSome (if b then Some StopSelf else asked_by (clock past) (sub_run past) x.part) (IsOfItsGroup p)
-    by_stop true = tt
-    by_stop false =
-        part_asks p (is_over past) (clock past) (sub_run past) x.part h.run (has_starts p before legal.2) does.part
-
     by_run : All Fine (asked (sub_run past)) → IsOfRun p past e ⊎ IsBeforeRuns p past e
         → All Fine (asked (sub_run (x ∷ past)))
     by_run was (inl of) = subst (λ run. All Fine (asked run)) (sym of.joins)
-        (All-append Fine (asked (sub_run past)) (map (λ ask. (length (sub_run past), ask)) (option_to_list x.asked))
-        was
-        (one x.asked (subst (λ o. IfSome o (IsOfItsGroup p)) (sym does.asks) (by_stop x.stops))))
+        (All-append Fine (asked of.base) (map (λ ask. (length of.base, ask)) (option_to_list x.asked))
+        (from_base (λ run. All Fine (asked run)) p past e of (All-nil Fine) was)
+        (one x.asked (subst (λ o. IfSome o (IsOfItsGroup p)) (sym of.does.asks) (by_stop x.stops))))
+      where
+        one : (o : Option Ask) → IfSome o (IsOfItsGroup p)
+            → All Fine (map (λ ask. (length of.base, ask)) (option_to_list o))
+        one None is = All-nil Fine
+        one (Some ask) is = All-cons Fine (length of.base, ask) [] is (All-nil Fine)
+
+        has : HasStarts p of.base
+        has = from_base (HasStarts p) p past e of (starts-none p) (has_starts p before legal.2)
+
+        by_stop : (b : Bool)
+            → IfSome (if b then Some StopSelf else asked_by (clock past) of.base x.part) (IsOfItsGroup p)
+        by_stop true = tt
+        by_stop false = part_asks p (frame_of p past) (clock past) of.base x.part of.holds has of.does.part
     by_run was (inr none) = subst (λ run. All Fine (asked run)) (sym none.still) (All-nil Fine)
 
 -- the runner is asked to stop itself where a deed says so: no row asks that
@@ -286,10 +290,13 @@ runner_asked p journal e legal =
     d : Deed
     d = deed_on p (board p past) e.turn
 
-    does : Does p (is_over past) (clock past) (sub_run past) d
+    base : List Happening
+    base = base_of d.begins (sub_run past)
+
+    does : Does p (frame_of p past) (clock past) base d
     does = does_after p past e (holds p (reverse journal) backward.2) backward.0
 
     by_stop : (b : Bool) → d.stops ≡ b
-        → asks_stop (if b then Some StopSelf else asked_by (clock past) (sub_run past) d.part) ≡ b
+        → asks_stop (if b then Some StopSelf else asked_by (clock past) base d.part) ≡ b
     by_stop true is = refl
-    by_stop false is = part_stops p (clock past) (sub_run past) d.part does.part
+    by_stop false is = part_stops p (clock past) base d.part does.part

@@ -10,4 +10,5 @@ mod ReachLemmas
 mod GroupLemmas
 mod Admissions
 mod Behind
+mod ScriptEnds
 mod ScriptLemmas

@@ -38,6 +38,14 @@ use Rattle.run_model.specs.Words.{clock, is_on, is_over, is_run_paused, queue, s
 use Rattle.run_cancel_laws.specs.Enabled.{continues, continues_in, is_free}
 use Rattle.run_cancel_laws.specs.Pauses.{TellsItsPause, is_all_done, is_cont, is_tstp, pauses, pauses_in}
 use Rattle.run_cancel_laws.proofs.RequestLemmas.{paused_is}
+use Rattle.run_laws.proofs.board.OnBoard.{index_in}
+use Rattle.run_laws.proofs.told.Bounds.{IsBound, IsBoundKind, bound_deed, begin_cases, end_cases}
+use Rattle.run_events.specs.declared.turn.Turn.TheVariants.{Begin, End}
+use Rattle.run_model.specs.Turns.{index_of}
+use Rattle.run_events.specs.declared.events.TestEventKind.TheVariants.{RunStarted, RunFinished, StressSubRunStarted}
+use Rattle.run_events.specs.declared.events.TestEventKind.TheVariants.{StressSubRunFinished}
+use Rattle.run_events.specs.declared.events.ReporterEvent.TheVariants.{Test}
+use Rattle.run_events.specs.declared.events.ReporterEvent.TheVariants.{Tick}
 
 -- an event tells neither
 abbrev TellsNeither : Option ReporterEvent → Type 0
@@ -88,7 +96,7 @@ record TellsBy (paused : Bool) (turn : Turn) (d : Deed) : Type 0 where
   by_cont : continues d.told ≡ (is_cont turn && paused)
   told : (is_tstp turn || is_cont turn) ≡ true → is_some d.told ≡ (pauses d.told || continues d.told)
   request : (is_tstp turn || is_cont turn) ≡ true → is_some d.request ≡ (pauses d.told || continues d.told)
-  cancel : (is_tstp turn || is_cont turn) ≡ true → d.cancel ≡ None
+  after : (is_tstp turn || is_cont turn) ≡ true → d.after ≡ None
   asked : (is_tstp turn || is_cont turn) ≡ true → d.asked ≡ None
 
 -- one of a turn that is neither a tstp nor a cont tells neither
@@ -99,7 +107,7 @@ neither paused turn d tstp cont h = record {
   by_cont = rw cont h.1;
   told = λ some. absurd (never some);
   request = λ some. absurd (never some);
-  cancel = λ some. absurd (never some);
+  after = λ some. absurd (never some);
   asked = λ some. absurd (never some);
 }
   where
@@ -114,7 +122,7 @@ stops now d true = record {
   by_cont = refl;
   told = λ some. refl;
   request = λ some. refl;
-  cancel = λ some. refl;
+  after = λ some. refl;
   asked = λ some. refl;
 }
 stops now d false = record {
@@ -122,7 +130,7 @@ stops now d false = record {
   by_cont = refl;
   told = λ some. refl;
   request = λ some. refl;
-  cancel = λ some. refl;
+  after = λ some. refl;
   asked = λ some. refl;
 }
 
@@ -134,7 +142,7 @@ goes_on now d true = record {
   by_cont = refl;
   told = λ some. refl;
   request = λ some. refl;
-  cancel = λ some. refl;
+  after = λ some. refl;
   asked = λ some. refl;
 }
 goes_on now d false = record {
@@ -142,7 +150,7 @@ goes_on now d false = record {
   by_cont = refl;
   told = λ some. refl;
   request = λ some. refl;
-  cancel = λ some. refl;
+  after = λ some. refl;
   asked = λ some. refl;
 }
 
@@ -167,22 +175,46 @@ heard_tells now live heard d handlers.DebuggerMode info Cont en = goes_on now d 
 heard_tells now live heard d handlers.DebuggerMode info Usr1 en = neither _ (Signal Usr1) _ refl refl (refl, refl)
 heard_tells now live heard d handlers.Noop info signal en = cc
 
+-- the begin and the end of a sub-run tell no pause
+bound_tells : (halted : Bool) (turn : Turn) (told after : Option ReporterEvent) → IsBound told → is_tstp turn ≡ false
+    → is_cont turn ≡ false → (begins ends over : Bool)
+    → TellsBy halted turn (bound_deed told after begins ends over)
+bound_tells halted turn told after own stops goes begins ends over = neither _ turn _ stops goes (by_told told own)
+  where
+    by_told : (o : Option ReporterEvent) → IsBound o → (pauses o ≡ false) × (continues o ≡ false)
+    by_told None h = (refl, refl)
+    by_told (Some Tick) h = absurd h
+    by_told (Some (Test event)) h = by_kind event.kind h
+      where
+        by_kind : (kind : TestEventKind) → IsBoundKind kind
+            → (pauses (Some (Test (record event { kind = kind }))) ≡ false)
+            × (continues (Some (Test (record event { kind = kind }))) ≡ false)
+        by_kind (RunStarted s) h = (refl, refl)
+        by_kind (StressSubRunStarted s) h = (refl, refl)
+        by_kind (StressSubRunFinished s) h = (refl, refl)
+        by_kind (RunFinished s) h = (refl, refl)
+        by_kind kind h = absurd h
+
 -- and each enabled turn
 deed_tells : (p : Settings) (past : List Happening) (turn : Turn) → enabled p past turn ≡ true
     → TellsBy (is_halted (dispatcher_of p past)) turn (deed_on p (board p past) turn)
 deed_tells p past (Signal signal) en =
     heard_tells (clock past) (live_in (units p (sub_run past))) (signals_heard (sub_run past)) (dispatcher_of p past)
     p.plan.hearing.signals p.plan.hearing.quit_is_info signal
-    (second_so (is_on (sub_run past) && is_none (open_round past))
+    (second_so (is_on (sub_run past) && is_none (open_round (sub_run past)))
     (takes_signal (signals_heard (sub_run past)) (heard_by p.plan.hearing signal))
     (second_so (not (is_over past)) _ en))
-deed_tells p past Admit en = neither _ Admit _ refl refl (admission_tells (newcomer p (units p (sub_run past))))
+deed_tells p past Begin en = begin_cases (λ d. TellsBy (is_halted (dispatcher_of p past)) Begin d)
+    (λ told after own later. bound_tells _ Begin told after own refl refl true false false) (clock past) (dispatcher_of p past)
+deed_tells p past End en = end_cases (λ d. TellsBy (is_halted (dispatcher_of p past)) End d)
+    (λ told after over own later. bound_tells _ End told after own refl refl false true over) (clock past) (dispatcher_of p past)
+deed_tells p past Admit en = neither _ Admit _ refl refl (admission_tells (newcomer p (index_of (dispatcher_of p past)) (units p (sub_run past))))
 deed_tells p past Deliver en = neither _ Deliver _ refl refl (delivery_tells (board p past) (queue (sub_run past)))
 deed_tells p past (Key key) en =
     neither _ (Key key) _ refl refl (key_tells (clock past) (live_in (units p (sub_run past))) (dispatcher_of p past)
     (heard_key p.plan.hearing.input key))
 deed_tells p past Answer en =
-    neither _ Answer _ refl refl (answer_tells (board p past) (oldest_of (answers_waiting past)))
+    neither _ Answer _ refl refl (answer_tells (board p past) (oldest_of (answers_waiting (sub_run past))))
 deed_tells p past turn en = neither _ turn _ refl refl (refl, refl)
 
 -- so each enabled turn tells its pause
@@ -194,7 +226,7 @@ pause_of p past e en = record {
   no_more = λ some. record {
     told = by_turn.told some;
     request = by_turn.request some;
-    cancel = by_turn.cancel some;
+    after = by_turn.after some;
     asked = by_turn.asked some;
   };
 }
@@ -214,8 +246,8 @@ pub ends_unpaused : (p : Settings) (past : List Happening)
     → enabled p past End ≡ (is_free past && is_all_done p (sub_run past) && not (is_run_paused past))
 ends_unpaused p past =
     ap (λ b. not (is_over past)
-    && (is_on (sub_run past) && is_none (open_round past) && is_all_done p (sub_run past) && not b)) (paused_is past)
-    ∙ group (not (is_over past)) (is_on (sub_run past)) (is_none (open_round past)) (is_all_done p (sub_run past))
+    && (is_on (sub_run past) && is_none (open_round (sub_run past)) && is_all_done p (sub_run past) && not b)) (paused_is past)
+    ∙ group (not (is_over past)) (is_on (sub_run past)) (is_none (open_round (sub_run past))) (is_all_done p (sub_run past))
     (not (is_run_paused past))
   where
     group : (a b c d e : Bool) → (a && (b && c && d && e)) ≡ (a && b && c && d && e)

@@ -31,6 +31,9 @@ use Rattle.run_laws.proofs.board.Holds.{IsOverWith, Way, way_of}
 use Rattle.run_laws.proofs.board.Kept.{holds, IsOfRun, IsBeforeRuns, where_joins}
 use Rattle.run_laws.proofs.units.MadeLemmas.{IsOver}
 use Rattle.run_cancel_laws.specs.Reach.{IsReached, broadcast_by, is_finished, is_live_by, was_let_go}
+use Rattle.run_laws.proofs.board.OnBoard.{Frame}
+use Rattle.run_laws.proofs.board.OnBoard.{frame_of}
+use Rattle.run_laws.proofs.board.Kept.{from_base}
 
 -- a unit that isn't over wasn't left
 not_left : (mm : Bool) (u : UnitView) (w : Way) → is_last u.phase ≡ false → IsOnWayAt mm u w
@@ -154,9 +157,9 @@ live_is mm terms u ps w t q made way account = by_phase u.phase ps refl made.att
         by_left piece d after earlier (is_at_retry w.stopped) is at h refl
     by_phase ph ps is at h = absurd h
 
-live_so : (p : Settings) (over : Bool) (now : ℕ) (run : List Happening) (k : ℕ) → Holds p over now run
+live_so : (p : Settings) (f : Frame) (now : ℕ) (run : List Happening) (k : ℕ) → Holds p now run
     → is_live_unit (unit_of k run) ≡ is_live_by p k run
-live_so p over now run k h = by_unit (unit_of k run) (h.made k) (h.on_way k) (h.accounts k)
+live_so p f now run k h = by_unit (unit_of k run) (h.made k) (h.on_way k) (h.accounts k)
   where
     by_unit : (v : Option UnitView) → IsMadeIf (unit_terms p k) v (story_of k run)
         → IsOnWay (is_mismatched p k) v (way_of k run)
@@ -169,10 +172,10 @@ live_so p over now run k h = by_unit (unit_of k run) (h.made k) (h.on_way k) (h.
         (pending_of k (queue run)) made way account
 
 -- a live unit has all of that in its line
-line_so : (p : Settings) (over : Bool) (now : ℕ) (run : List Happening) (k : ℕ) → Holds p over now run
+line_so : (p : Settings) (f : Frame) (now : ℕ) (run : List Happening) (k : ℕ) → Holds p now run
     → broadcast_to k run ≡ broadcast_by p k run → is_live_unit (unit_of k run) ≡ true
     → option_map (λ (u : UnitView). u.line) (unit_of k run) ≡ Some (drop (taken_by k run) (broadcast_by p k run))
-line_so p over now run k h same live = by_unit (unit_of k run) live (h.lines k)
+line_so p f now run k h same live = by_unit (unit_of k run) live (h.lines k)
   where
     by_phase : (ph : Phase) (line : List Request) → is_live ph ≡ true → HasLineIn ph line (line_of k run)
         → line ≡ line_of k run
@@ -219,34 +222,35 @@ broadcast_so p (e ∷ before) legal k =
     x = happening p past e
 
     live : is_live_unit (unit_of k (sub_run (x ∷ past))) ≡ is_live_by p k (sub_run (x ∷ past))
-    live = live_so p (is_over (x ∷ past)) (clock (x ∷ past)) (sub_run (x ∷ past)) k
-        (holds p (e ∷ before) legal).run
+    live = live_so p (frame_of p (x ∷ past)) (clock (x ∷ past)) (sub_run (x ∷ past)) k
+        (holds p (e ∷ before) legal)
 
-    one_more : broadcast_to k (sub_run past) ≡ broadcast_by p k (sub_run past)
-        → is_live_unit (unit_of k (x ∷ sub_run past)) ≡ is_live_by p k (x ∷ sub_run past)
-        → broadcast_to k (x ∷ sub_run past) ≡ broadcast_by p k (x ∷ sub_run past)
-    one_more was is =
-        ap (λ rs. rs ++ (if is_live_unit (unit_after x.moment k x.part (unit_of k (sub_run past)))
+    one_more : (run : List Happening) → broadcast_to k run ≡ broadcast_by p k run
+        → is_live_unit (unit_of k (x ∷ run)) ≡ is_live_by p k (x ∷ run)
+        → broadcast_to k (x ∷ run) ≡ broadcast_by p k (x ∷ run)
+    one_more run was is =
+        ap (λ rs. rs ++ (if is_live_unit (unit_after x.moment k x.part (unit_of k run))
         then option_to_list x.request else [])) was
-        ∙ ap (λ b. broadcast_by p k (sub_run past) ++ (if b then option_to_list x.request else []))
-        (sym (live_reach x.request (unit_after x.moment k x.part (unit_of k (sub_run past)))) ∙ is)
+        ∙ ap (λ b. broadcast_by p k run ++ (if b then option_to_list x.request else []))
+        (sym (live_reach x.request (unit_after x.moment k x.part (unit_of k run))) ∙ is)
 
     by_run : broadcast_to k (sub_run past) ≡ broadcast_by p k (sub_run past)
         → IsOfRun p past e ⊎ IsBeforeRuns p past e
         → broadcast_to k (sub_run (x ∷ past)) ≡ broadcast_by p k (sub_run (x ∷ past))
     by_run was (inl of) =
         subst (λ run. broadcast_to k run ≡ broadcast_by p k run) (sym of.joins)
-        (one_more was (subst (λ run. is_live_unit (unit_of k run) ≡ is_live_by p k run) of.joins live))
+        (one_more of.base (from_base (λ run. broadcast_to k run ≡ broadcast_by p k run) p past e of refl was)
+        (subst (λ run. is_live_unit (unit_of k run) ≡ is_live_by p k run) of.joins live))
     by_run was (inr none) = subst (λ run. broadcast_to k run ≡ broadcast_by p k run) (sym none.still) refl
 
 pub reached : (p : Settings) (backward : List Entry) → IsLegalBackward p backward → (k : ℕ)
     → IsReached p (sub_run (history p backward)) k
 reached p backward legal k = record {
-  live = live_so p (is_over past) (clock past) (sub_run past) k (holds p backward legal).run;
+  live = live_so p (frame_of p past) (clock past) (sub_run past) k (holds p backward legal);
   broadcast = broadcast_so p backward legal k;
-  line = λ live. line_so p (is_over past) (clock past) (sub_run past) k (holds p backward legal).run
+  line = λ live. line_so p (frame_of p past) (clock past) (sub_run past) k (holds p backward legal)
       (broadcast_so p backward legal k)
-      (live_so p (is_over past) (clock past) (sub_run past) k (holds p backward legal).run ∙ live);
+      (live_so p (frame_of p past) (clock past) (sub_run past) k (holds p backward legal) ∙ live);
 }
   where
     past : List Happening

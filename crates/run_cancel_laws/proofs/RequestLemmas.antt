@@ -48,13 +48,19 @@ use Rattle.run_model.specs.Turns.{delivery, enabled, event_of, happening, job_de
 use Rattle.run_model.specs.Turns.{nothing_done, oldest_of, signal_deed, starting, tally_with, tells}
 use Rattle.run_model.specs.Words.{clock, is_over, is_run_paused, queue, reason, sub_run, tally, told, units}
 use Rattle.run_laws.specs.Cancels.{rises}
-use Rattle.run_laws.proofs.board.Boards.{counts-more}
+use Rattle.run_laws.proofs.board.Tallies.{counts-more}
 use Rattle.run_laws.proofs.board.DeedFits.{Does}
 use Rattle.run_laws.proofs.board.Facts.{stats-reason}
+use Rattle.run_laws.proofs.board.Deeds.{base_of}
+use Rattle.run_laws.proofs.told.Bounds.{begin_cases, end_cases}
+use Rattle.run_events.specs.declared.turn.Turn.TheVariants.{Begin, End}
+use Rattle.run_model.specs.Turns.{index_of}
 use Rattle.run_laws.proofs.board.Kept.{HoldsAfter, does_after, holds}
-use Rattle.run_laws.proofs.board.Whole.{IsAlike}
 use Rattle.run_cancel_laws.specs.Requests.{AsksForItsCause, job_request, key_request, request_besides, request_for}
 use Rattle.run_cancel_laws.specs.Requests.{signal_request}
+use Rattle.run_laws.proofs.board.OnBoard.{Frame}
+use Rattle.run_laws.proofs.board.OnBoard.{index_in}
+use Rattle.run_laws.proofs.board.OnBoard.{frame_of}
 
 -- what is asked for a cause with this reason as the one that stands, and else this
 abbrev asked_for : Turn → Option CancelReason → Option CancelReason → Option Request → Option Request
@@ -131,10 +137,10 @@ paused_is (x ∷ run) = by_act (act_of x.told) (paused_is run)
     by_act resume was = closed (run_watch run).opened refl
     by_act other was = was
 
--- a board that has the pause and the rounds of a sub-run
-record IsAsIn (run : List Happening) (d : DispatcherView) : Type 0 where
-  halted : is_halted d ≡ is_run_paused run
-  count : d.rounds.count ≡ round_count run
+-- a board that has the pause of a run and the rounds of its newest sub-run
+record IsAsIn (past : List Happening) (d : DispatcherView) : Type 0 where
+  halted : is_halted d ≡ is_run_paused past
+  count : d.rounds.count ≡ round_count (sub_run past)
 
 job_asks : (run : List Happening) (now : ℕ) (d : DispatcherView) (t : Tally) (turn : Turn) → IsAsIn run d
     → AsksBy t turn (job_request run Tstp) (job_deed now d Tstp)
@@ -170,7 +176,7 @@ heard_asks run now live d same kind info signal = by_kind kind info signal
         nothing_done refl refl (signal_fits d.causes.signals signal first second)
 
     queries : (signal : SignalKind)
-        → AsksBy d.tally (Signal signal) (Some (GetInfo (round_count run))) (asks_at now live d)
+        → AsksBy d.tally (Signal signal) (Some (GetInfo (round_count (sub_run run)))) (asks_at now live d)
     queries signal = ap (λ n. Some (GetInfo n)) same.count
 
     by_kind : (kind : SignalHandlerKind) (info : Bool) (signal : SignalKind)
@@ -193,13 +199,9 @@ heard_asks run now live d same kind info signal = by_kind kind info signal
     by_kind handlers.DebuggerMode info Usr1 = refl
     by_kind handlers.Noop info signal = refl
 
--- the board after a history has the pause and the rounds of its newest sub-run
-as_in : (p : Settings) (past : List Happening) → IsAlike past (sub_run past)
-    → IsAsIn (sub_run past) (dispatcher_of p past)
-as_in p past alike = record {
-  halted = ap (λ (w : Watch). is_some w.opened) alike.watch ∙ paused_is (sub_run past);
-  count = alike.count;
-}
+-- the board after a history has the pause of the run and the rounds of its newest sub-run
+as_in : (p : Settings) (past : List Happening) → IsAsIn past (dispatcher_of p past)
+as_in p past = record { halted = paused_is past; count = refl }
 
 -- so each enabled turn asks that
 delivery_asks : (b : Board) (q : List Message) → AsksBy b.dispatcher.tally Deliver None (delivery b q)
@@ -231,38 +233,39 @@ key_asks run now live d t turn same (Some inputs.Enter) = refl
 key_asks run now live d t turn same (Some inputs.Info) = ap (λ n. Some (GetInfo n)) same.count
 key_asks run now live d t turn same None = refl
 
-deed_asks : (p : Settings) (past : List Happening) (turn : Turn) → IsAlike past (sub_run past)
-    → AsksBy (tally p (sub_run past)) turn (request_besides p (sub_run past) turn) (deed_on p (board p past) turn)
-deed_asks p past Admit alike = admission_asks (tally p (sub_run past)) (newcomer p (units p (sub_run past)))
-deed_asks p past Deliver alike = delivery_asks (board p past) (queue (sub_run past))
-deed_asks p past (Signal signal) alike =
-    heard_asks (sub_run past) (clock past) (live_in (units p (sub_run past))) (dispatcher_of p past)
-    (as_in p past alike) p.plan.hearing.signals p.plan.hearing.quit_is_info signal
-deed_asks p past (Key key) alike =
-    key_asks (sub_run past) (clock past) (live_in (units p (sub_run past))) (dispatcher_of p past)
-    (tally p (sub_run past)) (Key key) (as_in p past alike) (heard_key p.plan.hearing.input key)
-deed_asks p past GlobalDue alike =
+deed_asks : (p : Settings) (past : List Happening) (turn : Turn)
+    → AsksBy (tally p (sub_run past)) turn (request_besides p past turn) (deed_on p (board p past) turn)
+deed_asks p past Begin = begin_cases (λ d. AsksBy (tally p (sub_run past)) Begin None d) (λ told after own later. refl)
+    (clock past) (dispatcher_of p past)
+deed_asks p past End = end_cases (λ d. AsksBy (tally p (sub_run past)) End None d) (λ told after over own later. refl)
+    (clock past) (dispatcher_of p past)
+deed_asks p past Admit = admission_asks (tally p (sub_run past)) (newcomer p (index_of (dispatcher_of p past)) (units p (sub_run past)))
+deed_asks p past Deliver = delivery_asks (board p past) (queue (sub_run past))
+deed_asks p past (Signal signal) =
+    heard_asks past (clock past) (live_in (units p (sub_run past))) (dispatcher_of p past)
+    (as_in p past) p.plan.hearing.signals p.plan.hearing.quit_is_info signal
+deed_asks p past (Key key) =
+    key_asks past (clock past) (live_in (units p (sub_run past))) (dispatcher_of p past)
+    (tally p (sub_run past)) (Key key) (as_in p past) (heard_key p.plan.hearing.input key)
+deed_asks p past GlobalDue =
     caused_asks (moment_by (clock past) (run_watch past)) (tally p (sub_run past)) GlobalDue (Some time_is_up)
     nothing_done refl refl refl
-deed_asks p past ReportCancel alike =
+deed_asks p past ReportCancel =
     caused_asks (moment_by (clock past) (run_watch past)) (tally p (sub_run past)) ReportCancel (Some event_refused)
     nothing_done refl refl refl
-deed_asks p past Answer alike = answer_asks (board p past) (tally p (sub_run past)) (oldest_of (answers_waiting past))
-deed_asks p past turn alike = refl
+deed_asks p past Answer = answer_asks (board p past) (tally p (sub_run past)) (oldest_of (answers_waiting (sub_run past)))
+deed_asks p past turn = refl
 
 -- the counts after a deed's own event have the reason of those before
-reason_stays : (p : Settings) (over : Bool) (now : ℕ) (run : List Happening) (d : Deed) → Does p over now run d
+reason_stays : (p : Settings) (f : Frame) (now : ℕ) (run : List Happening) (d : Deed) → Does p f now run d
     → (having_told (tally p run) d.told).stats.cancel_reason ≡ reason run
-reason_stays p over now run d does =
+reason_stays p f now run d does =
     ap (λ (t : Tally). t.stats.cancel_reason) (sym (counts-more p (reason run) d.told (told run) does.tells))
     ∙ stats-reason p (reason run) _ _
 
 asks_after : (p : Settings) (past : List Happening) (e : Entry) → HoldsAfter p past → enabled p past e.turn ≡ true
-    → AsksForItsCause p (sub_run past) (happening p past e)
-asks_after p past e h en =
-    deed_asks p past e.turn h.alike
-    ∙ ap (λ why. asked_for e.turn why d.cause (request_besides p run e.turn))
-    (reason_stays p (is_over past) (clock past) run d (does_after p past e h en))
+    → AsksForItsCause p past (happening p past e)
+asks_after p past e h en = by_begin d.begins refl
   where
     run : List Happening
     run = sub_run past
@@ -270,8 +273,26 @@ asks_after p past e h en =
     d : Deed
     d = deed_on p (board p past) e.turn
 
+    does : Does p (frame_of p past) (clock past) (base_of d.begins run) d
+    does = does_after p past e h en
+
+    asked : d.request ≡ asked_for e.turn (having_told (tally p run) d.told).stats.cancel_reason d.cause
+        (request_besides p past e.turn)
+    asked = deed_asks p past e.turn
+
+    by_begin : (b : Bool) → d.begins ≡ b → AsksForItsCause p past (happening p past e)
+    by_begin true is =
+        let it = (does.marks.begins is).1 in
+        asked ∙ ap (λ cause. asked_for e.turn (having_told (tally p run) d.told).stats.cancel_reason cause
+        (request_besides p past e.turn)) it.cause
+        ∙ sym (ap (λ cause. asked_for e.turn (reason run) cause (request_besides p past e.turn)) it.cause)
+    by_begin false is =
+        asked ∙ ap (λ why. asked_for e.turn why d.cause (request_besides p past e.turn))
+        (reason_stays p (frame_of p past) (clock past) run d
+        (subst (λ b. Does p (frame_of p past) (clock past) (base_of b run) d) is does))
+
 pub requests : (p : Settings) (journal : List Entry) (e : Entry) → IsLegal p (journal ++ e ∷ [])
-    → AsksForItsCause p (sub_run (past_of p journal)) (happening p (past_of p journal) e)
+    → AsksForItsCause p (past_of p journal) (happening p (past_of p journal) e)
 requests p journal e legal =
     let backward : IsLegalBackward p (e ∷ reverse journal) =
     subst (IsLegalBackward p) (reverse-append journal (e ∷ [])) legal in

@@ -21,21 +21,21 @@ group_more true b c d = refl
 group_more false b c d = refl
 
 pub stops_so : (p : Settings) (past : List Happening) → enabled p past StopWaitDue
-    ≡ (goes_on past && stop_waits (open_round past) && (not (is_waited_for p past) || is_late past))
-stops_so p past = group_more (not (is_over past)) (is_on (sub_run past)) (stop_waits (open_round past)) _
+    ≡ (goes_on past && stop_waits (open_round (sub_run past)) && (not (is_waited_for p past) || is_late past))
+stops_so p past = group_more (not (is_over past)) (is_on (sub_run past)) (stop_waits (open_round (sub_run past))) _
 
 pub queries_so : (p : Settings) (past : List Happening) → enabled p past InfoDue
-    ≡ (goes_on past && query_waits (open_round past)
+    ≡ (goes_on past && query_waits (open_round (sub_run past))
     && (not (has_answer past || is_waited_for p past) || is_late past))
-queries_so p past = group_more (not (is_over past)) (is_on (sub_run past)) (query_waits (open_round past)) _
+queries_so p past = group_more (not (is_over past)) (is_on (sub_run past)) (query_waits (open_round (sub_run past))) _
 
 pub answers_so : (p : Settings) (past : List Happening)
-    → enabled p past Answer ≡ (goes_on past && query_waits (open_round past) && has_answer past)
-answers_so p past = group_more (not (is_over past)) (is_on (sub_run past)) (query_waits (open_round past)) _
+    → enabled p past Answer ≡ (goes_on past && query_waits (open_round (sub_run past)) && has_answer past)
+answers_so p past = group_more (not (is_over past)) (is_on (sub_run past)) (query_waits (open_round (sub_run past))) _
 
 pub keys_so : (p : Settings) (past : List Happening) (key : KeyName)
     → enabled p past (Key key) ≡ (is_free past && is_some (heard_key p.plan.hearing.input key))
-keys_so p past key = group_more (not (is_over past)) (is_on (sub_run past)) (is_none (open_round past)) _
+keys_so p past key = group_more (not (is_over past)) (is_on (sub_run past)) (is_none (open_round (sub_run past))) _
 
 pub ticks_so : (p : Settings) (past : List Happening) → enabled p past Tick ≡ is_free past
-ticks_so p past = group (not (is_over past)) (is_on (sub_run past)) (is_none (open_round past))
+ticks_so p past = group (not (is_over past)) (is_on (sub_run past)) (is_none (open_round (sub_run past)))

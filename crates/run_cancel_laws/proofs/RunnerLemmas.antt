@@ -25,6 +25,9 @@ use Rattle.run_model.specs.Turns.{starting, tally_with, tells}
 use Rattle.run_model.specs.declared.dispatcher_view.DispatcherView.{DispatcherView}
 use Rattle.run_model.specs.declared.dispatcher_view.Tally.{Tally}
 use Rattle.run_cancel_laws.specs.Enabled.{is_stop_wait_due}
+use Rattle.run_laws.proofs.told.Bounds.{begin_cases, end_cases}
+use Rattle.run_events.specs.declared.turn.Turn.TheVariants.{Begin, End}
+use Rattle.run_model.specs.Turns.{index_of}
 
 admission_stops : (o : Option Newcomer) → (admission o).stops ≡ false
 admission_stops None = refl
@@ -77,7 +80,9 @@ answer_stops b None = refl
 answer_stops b (Some response) = refl
 
 pub stops_is : (p : Settings) (b : Board) (turn : Turn) → (deed_on p b turn).stops ≡ is_stop_wait_due turn
-stops_is p b Admit = admission_stops (newcomer p b.units)
+stops_is p b Begin = begin_cases (λ d. d.stops ≡ false) (λ told after own later. refl) b.clock b.dispatcher
+stops_is p b End = end_cases (λ d. d.stops ≡ false) (λ told after over own later. refl) b.clock b.dispatcher
+stops_is p b Admit = admission_stops (newcomer p (index_of b.dispatcher) b.units)
 stops_is p b Deliver = delivery_stops b b.queue
 stops_is p b (Signal signal) =
     signal_stops b.clock (live_in b.units) b.dispatcher signal (heard_by b.dispatcher.rules.hearing signal)

@@ -1,11 +1,10 @@
 -- Scripts are admitted, and told started, one by one.
 use Rattle.std.proofs.Common.{◌≡◌, ◌⊎◌, inl, inr, ℕ, ◌+◌, ◌<◌, ◌≤◌, ◌==◌, ◌&&◌, ◌||◌, List, [], ◌∷◌, ◌++◌, drop, length}
 use Rattle.std.proofs.Common.{Bool, true, false, not, if◌then◌else◌, Option, Some, None, is_some, option_to_list}
-use Rattle.std.proofs.Common.{slice_get, nat_le, refl, ap, sym, subst, ◌∙◌, arith, append-nil, append_assoc}
+use Rattle.std.proofs.Common.{nat_le, refl, ap, sym, subst, ◌∙◌, arith, append-nil, append_assoc}
 use Rattle.std.specs.Prelude.{IfSome}
 use Rattle.std.specs.Cmp.{second_so}
 use Rattle.std.specs.List.{list_any}
-use Rattle.std.proofs.lemmas.List.Folds.{list_any-append}
 use Rattle.run_events.specs.declared.events.ReporterEvent.{ReporterEvent}
 use Rattle.run_events.specs.declared.events.ReporterEvent.TheVariants.{Tick, Test}
 use Rattle.run_events.specs.declared.events.TestEventKind.{TestEventKind}
@@ -13,8 +12,6 @@ use Rattle.run_events.specs.declared.events.TestEventKind.TheVariants.{SetupScri
 use Rattle.run_events.specs.declared.message.Message.{Message}
 use Rattle.run_events.specs.declared.message.Message.TheVariants.{ScriptStart}
 use Rattle.run_events.specs.declared.message.ScriptStart.{ScriptStart as Start}
-use Rattle.run_events.specs.declared.plan.PlanScript.{PlanScript}
-use Rattle.run_events.specs.declared.result.ExecuteStatus.{ExecuteStatus}
 use Rattle.run_events.specs.declared.settings.Settings.{Settings}
 use Rattle.run_model.specs.declared.entry.Entry.{Entry}
 use Rattle.run_model.specs.declared.happening.Happening.{Happening}
@@ -23,33 +20,39 @@ use Rattle.run_model.specs.declared.phase.Phase.{Phase}
 use Rattle.run_model.specs.declared.phase.Phase.TheVariants.{Over, StartSent}
 use Rattle.run_model.specs.declared.unit_view.AttemptTerms.{AttemptTerms}
 use Rattle.run_model.specs.declared.unit_view.UnitView.{UnitView}
-use Rattle.run_model.specs.Accounts.{News, started, finished, tried, HasAccount, HasAccountAt, is_mismatched}
+use Rattle.run_model.specs.Accounts.{News, started, HasAccount, is_mismatched}
 use Rattle.run_model.specs.Accounts.{account_of, pending_in, pending_of}
-use Rattle.run_model.specs.Admission.{is_done, is_last, is_script, scripts_in, script_terms_if, unit_terms}
+use Rattle.run_model.specs.Admission.{is_done, is_last, is_script, scripts_in, unit_terms}
 use Rattle.run_model.specs.Backoff.{retry_count}
 use Rattle.run_model.specs.Board.{Deed, board, deed_events, said}
 use Rattle.run_model.specs.Environment.{number}
 use Rattle.run_model.specs.Journal.{history, IsLegalBackward}
-use Rattle.run_model.specs.Story.{Attempt, cut, pieces, story_of, is_at_start, is_at_retry, was_left}
+use Rattle.run_model.specs.Story.{Attempt, cut, pieces, story_of, is_at_start, was_left}
 use Rattle.run_model.specs.Attempts.{result_in}
 use Rattle.run_events.specs.Result.{is_success}
 use Rattle.run_model.specs.Turns.{deed_on, enabled, takes_turn, turn_of_unit}
 use Rattle.run_model.specs.Words.{clock, finishes, is_over, queue, starts, starts_in, sub_run, told, unit_after}
 use Rattle.run_model.specs.Words.{unit_of}
 use Rattle.run_laws.proofs.units.AttemptLemmas.{HasPieces, IsMade, IsMadeIf}
-use Rattle.run_laws.proofs.told.Cancels.{IsCancel, cancel_apart}
+use Rattle.run_laws.proofs.told.Cancels.{IsAfter, cancel_apart}
 use Rattle.run_laws.proofs.board.DeedFits.{Does, IsInOrder, cancel_told, ToldFits, ToldFitsIn}
 use Rattle.run_laws.proofs.board.Facts.{Waits, itself, start_waits}
-use Rattle.run_laws.proofs.board.Holds.{Holds, HasEndedAs, IsOnWay, IsOnWayIn, IsOverWith, Way, way_of}
-use Rattle.run_laws.proofs.board.Kept.{HoldsAfter, does_after, holds, IsOfRun, IsBeforeRuns, where_joins}
+use Rattle.run_laws.proofs.board.Holds.{Holds, IsOnWayIn, IsOverWith, Way, way_of}
+use Rattle.run_laws.proofs.board.Deeds.{base_of}
+use Rattle.run_laws.proofs.board.Kept.{holds, IsOfRun, IsBeforeRuns, where_joins}
 use Rattle.run_laws.proofs.board.Newcomers.{script_number}
 use Rattle.run_laws.proofs.board.Queue.{queue-cons}
-use Rattle.run_laws.proofs.told.Running.{finishes-account, is_finish, is_start, starts-account}
+use Rattle.run_laws.proofs.told.Running.{is_start, starts-account}
 use Rattle.run_cancel_laws.proofs.Admissions.{comes_after, each_over, joins_is, over_after, some_before}
 use Rattle.run_cancel_laws.proofs.Behind.{IsBehind, behind-drop, behind-more, is_news_of, none_waits, sends_none_of}
 use Rattle.run_cancel_laws.proofs.Behind.{some-drop}
 use Rattle.run_cancel_laws.specs.Reach.{is_finished}
 use Rattle.run_cancel_laws.specs.Scripts.{AreAdmittedInTurn, ComeInTurn, is_done_with}
+use Rattle.run_laws.proofs.board.OnBoard.{Frame}
+use Rattle.run_laws.proofs.board.OnBoard.{frame_of}
+use Rattle.run_laws.proofs.board.OnBoard.{index_in}
+use Rattle.run_laws.proofs.board.Kept.{from_base}
+use Rattle.run_cancel_laws.proofs.ScriptEnds.{no_retries_in, way_of_script, finished_told}
 
 -- before a script that was admitted each is over, and no message of one waits behind a message of it; so they are told
 record AreInTurn (p : Settings) (run : List Happening) : Type 0 where
@@ -63,10 +66,10 @@ waits_admitted : (mm left : Bool) (k : ℕ) (v : Option UnitView) (t : List News
 waits_admitted mm left k None t q some h = absurd (none_waits k q some h.1)
 waits_admitted mm left k (Some u) t q some h = refl
 
-behind_after : (p : Settings) (over : Bool) (now : ℕ) (run : List Happening) (e : Entry) (d : Deed) (j k : ℕ)
-    → Holds p over now run → Does p over now run d → AreInTurn p run → j < k → k < scripts_in p
+behind_after : (p : Settings) (f : Frame) (now : ℕ) (run : List Happening) (e : Entry) (d : Deed) (j k : ℕ)
+    → Holds p now run → Does p f now run d → AreInTurn p run → j < k → k < scripts_in p
     → IsBehind j k (queue (said now e d ∷ run))
-behind_after p over now run e d j k h does was below within =
+behind_after p f now run e d j k h does was below within =
     subst (IsBehind j k) (sym (queue-cons (said now e d) run does.room)) (by_sent d.sent refl)
   where
     rest : List Message
@@ -81,85 +84,11 @@ behind_after p over now run e d j k h does was below within =
         waits_admitted (is_mismatched p k) (was_left k run) k (unit_of k run) (account_of k (told run)) (queue run)
         (some-drop (is_news_of k) (if d.taken then 1 else 0) (queue run) some) (h.accounts k) in
         subst (λ o. IfSome o (λ m. pending_in j m ≡ None)) is
-        (sends_none_of p over now run d.part d.sent j h does.part does.sent_as (was.over j k below within admitted))
+        (sends_none_of p f now run d.part d.sent j h does.part does.sent_as (was.over j k below within admitted))
 
     by_sent : (o : Option Message) → d.sent ≡ o → IsBehind j k (rest ++ option_to_list o)
     by_sent None is = subst (IsBehind j k) (sym (append-nil rest)) kept
     by_sent (Some m) is = behind-more j k rest m kept (apart m is)
-
--- a script that is over, and of which nothing waits, was told finished where it was told started
-finished_so : (ph : Phase) (ss : List ExecuteStatus) (t : List News) → is_last ph ≡ true
-    → HasAccountAt false false ph ss t [] → list_any is_start t ≡ true → list_any is_finish t ≡ true
-finished_so Over [] t last (told, waits) some =
-    let never : false ≡ true = sym (ap (list_any is_start) told) ∙ some in cc
-finished_so Over (x ∷ ss) t last (early, (s, (e, inl (told, waits)))) some = cc
-finished_so Over (x ∷ ss) t last (early, (s, (e, inr (told, waits)))) some =
-    ap (list_any is_finish) told
-    ∙ list_any-append is_finish (tried early) (finished (x ∷ ss) ∷ []) ∙ either (list_any is_finish (tried early))
-  where
-    either : (b : Bool) → (b || true) ≡ true
-    either true = refl
-    either false = refl
-finished_so ph ss t last h some = cc
-
-script_unleft : (ph : Phase) (attempt : ℕ) (ss : List ExecuteStatus) (w : Way) → is_last ph ≡ true
-    → IsOnWayIn 0 ph attempt ss w → is_at_retry w.stopped ≡ false
-script_unleft Over attempt [] w last h = ap is_at_retry h
-script_unleft Over attempt (s ∷ ss) w last (at, way) = by_stop w.stopped way
-  where
-    by_stop : (stopped : Option ℕ) → HasEndedAs stopped 0 (s ∷ ss) → is_at_retry stopped ≡ false
-    by_stop None h = refl
-    by_stop (Some n) h = let few : length (s ∷ ss) ≤ 0 = h.0.1 in absurd (omega arith)
-script_unleft ph attempt ss w last h = cc
-
--- a script matches, and is on its way with no retry
-script_matches : (p : Settings) (k : ℕ) → is_script p k ≡ true → is_mismatched p k ≡ false
-script_matches p k script = rw script refl
-
-no_retries_in : (p : Settings) (k : ℕ) → is_script p k ≡ true → retry_count (unit_terms p k).retries ≡ 0
-no_retries_in p k script = rw script (by_plan (slice_get p.plan.scripts k))
-  where
-    by_plan : (o : Option PlanScript) → retry_count (script_terms_if p o).retries ≡ 0
-    by_plan None = refl
-    by_plan (Some script) = refl
-
-way_of_script : (p : Settings) (over : Bool) (now : ℕ) (run : List Happening) (k : ℕ) (u : UnitView)
-    → Holds p over now run → unit_of k run ≡ Some u → is_script p k ≡ true
-    → IsOnWayIn 0 u.phase u.attempt u.statuses (way_of k run)
-way_of_script p over now run k u h is script =
-    let made : IsMade (unit_terms p k) u (pieces (story_of k run)) =
-    subst (λ v. IsMadeIf (unit_terms p k) v (story_of k run)) is (h.made k) in
-    let none : retry_count u.terms.retries ≡ 0 =
-    ap (λ (terms : AttemptTerms). retry_count terms.retries) made.terms ∙ no_retries_in p k script in
-    subst (λ n. IsOnWayIn n u.phase u.attempt u.statuses (way_of k run)) none
-    (subst (λ mm. IsOnWay mm (Some u) (way_of k run)) (script_matches p k script)
-    (subst (λ v. IsOnWay (is_mismatched p k) v (way_of k run)) is (h.on_way k)))
-
-finished_told : (p : Settings) (over : Bool) (now : ℕ) (run : List Happening) (k : ℕ) → Holds p over now run
-    → k < scripts_in p → is_done (unit_of k run) ≡ true → pending_of k (queue run) ≡ []
-    → list_any (starts k) (told run) ≡ true → list_any (finishes k) (told run) ≡ true
-finished_told p over now run k h below done none some =
-    finishes-account k (told run)
-    ∙ by_unit (unit_of k run) refl done (h.accounts k) (sym (starts-account k (told run)) ∙ some)
-  where
-    script : is_script p k ≡ true
-    script = script_number p k below
-
-    by_unit : (v : Option UnitView) → unit_of k run ≡ v → is_done v ≡ true
-        → HasAccount (is_mismatched p k) (was_left k run) v (account_of k (told run)) (pending_of k (queue run))
-        → list_any is_start (account_of k (told run)) ≡ true → list_any is_finish (account_of k (told run)) ≡ true
-    by_unit None is done a some = cc
-    by_unit (Some u) is done a some =
-        finished_so u.phase u.statuses (account_of k (told run)) done
-        (subst (λ left. HasAccountAt false left u.phase u.statuses (account_of k (told run)) []) left
-        (subst (λ q. HasAccountAt false (was_left k run) u.phase u.statuses (account_of k (told run)) q) none
-        (subst (λ mm. HasAccountAt mm (was_left k run) u.phase u.statuses (account_of k (told run))
-        (pending_of k (queue run)))
-        (script_matches p k script) a))) some
-      where
-        left : was_left k run ≡ false
-        left = script_unleft u.phase u.attempt u.statuses (way_of k run) done
-            (way_of_script p over now run k u h is script)
 
 -- so where a script is told started
 told_admitted : (mm left : Bool) (v : Option UnitView) (t q : List News) → list_any is_start t ≡ true
@@ -167,18 +96,18 @@ told_admitted : (mm left : Bool) (v : Option UnitView) (t q : List News) → lis
 told_admitted mm left None t q some h = let never : false ≡ true = sym (ap (list_any is_start) h.0) ∙ some in cc
 told_admitted mm left (Some u) t q some h = refl
 
-start_in_turn : (p : Settings) (over : Bool) (now : ℕ) (run : List Happening) (s : Start) (rest : List Message)
-    (j k : ℕ) → Holds p over now run → AreInTurn p run → queue run ≡ ScriptStart s ∷ rest → s.script.unit ≡ k
+start_in_turn : (p : Settings) (f : Frame) (now : ℕ) (run : List Happening) (s : Start) (rest : List Message)
+    (j k : ℕ) → Holds p now run → AreInTurn p run → queue run ≡ ScriptStart s ∷ rest → s.script.unit ≡ k
     → j < scripts_in p
     → k < scripts_in p → list_any (starts j) (told run) ≡ true
     → (j < k) × (list_any (finishes j) (told run) ≡ true)
-start_in_turn p over now run s rest j k h was eq here below within some = by_order (j == k) refl
+start_in_turn p f now run s rest j k h was eq here below within some = by_order (j == k) refl
   where
     own : pending_in k (ScriptStart s) ≡ Some started
     own = ap (λ n. if n == k then Some started else None) here ∙ rw (itself k) refl
 
     waits : Waits p now run k
-    waits = start_waits p over now run k (ScriptStart s) rest h eq own
+    waits = start_waits p now run k (ScriptStart s) rest h eq own
 
     started_j : is_some (unit_of j run) ≡ true
     started_j = told_admitted (is_mismatched p j) (was_left j run) (unit_of j run) (account_of j (told run))
@@ -190,7 +119,7 @@ start_in_turn p over now run s rest j k h was eq here below within some = by_ord
         let last : is_last StartSent ≡ true = sym (ap is_done waits.is ∙ ap is_last waits.phase) ∙ done in cc
     lower apart (inl before) = (
       before,
-      finished_told p over now run j h below (was.over j k before within (ap is_some waits.is)) none some,
+      finished_told p f now run j h below (was.over j k before within (ap is_some waits.is)) none some,
     )
       where
         behind : IsBehind j k (ScriptStart s ∷ rest)
@@ -249,14 +178,14 @@ one_more p es x was next j k before after e below within is start some = by_plac
 test_apart : (p : Settings) (k n : ℕ) → k < scripts_in p → scripts_in p ≤ n → (n == k) ≡ true → ⊥
 test_apart p k n below above e = let here : n ≡ k = grind arith in absurd (omega arith)
 
-told_after : (p : Settings) (over : Bool) (now : ℕ) (run : List Happening) (d : Deed) → Holds p over now run
-    → Does p over now run d → AreInTurn p run → ComeInTurn p (told run ++ deed_events d)
-told_after p over now run d h does was =
-    subst (ComeInTurn p) (append_assoc (told run) (option_to_list d.told) (option_to_list d.cancel))
-    (with_cancel (told run ++ option_to_list d.told) d.cancel cancels (with_own d.told does.tells does.order))
+told_after : (p : Settings) (f : Frame) (now : ℕ) (run : List Happening) (d : Deed) → Holds p now run
+    → Does p f now run d → AreInTurn p run → ComeInTurn p (told run ++ deed_events d)
+told_after p f now run d h does was =
+    subst (ComeInTurn p) (append_assoc (told run) (option_to_list d.told) (option_to_list d.after))
+    (with_cancel (told run ++ option_to_list d.told) d.after cancels (with_own d.told does.tells does.order))
   where
-    cancels : IsCancel d.cancel
-    cancels = cancel_told p over now run d does.marks
+    cancels : IsAfter d.after
+    cancels = cancel_told p f now run d does.marks
 
     by_event : (x : ReporterEvent) → ToldFits p (told run) (Some x) → IsInOrder p run x → (j k : ℕ) → j < scripts_in p
         → k < scripts_in p → starts k x ≡ true → list_any (starts j) (told run) ≡ true
@@ -268,7 +197,7 @@ told_after p over now run d h does was =
             → (j < k) × (list_any (finishes j) (told run) ≡ true)
         by_kind (SetupScriptStarted s) is fits start =
             let oldest = order.said (ScriptStart s) (rw is refl) in
-            start_in_turn p over now run s oldest.0 j k h was oldest.1 (grind arith) below within some
+            start_in_turn p f now run s oldest.0 j k h was oldest.1 (grind arith) below within some
         by_kind (TestStarted s) is fits start = absurd (test_apart p k s.start.test.unit within fits.0 start)
         by_kind kind is fits start = cc
 
@@ -277,7 +206,7 @@ told_after p over now run d h does was =
     with_own None fits order = subst (ComeInTurn p) (sym (append-nil (told run))) was.told
     with_own (Some x) fits order = one_more p (told run) x was.told (by_event x fits order)
 
-    with_cancel : (es : List ReporterEvent) (o : Option ReporterEvent) → IsCancel o → ComeInTurn p es
+    with_cancel : (es : List ReporterEvent) (o : Option ReporterEvent) → IsAfter o → ComeInTurn p es
         → ComeInTurn p (es ++ option_to_list o)
     with_cancel es None none told = subst (ComeInTurn p) (sym (append-nil es)) told
     with_cancel es (Some x) none told = one_more p es x told
@@ -296,32 +225,38 @@ in_turn_none p = record {
     nothing [] e after is = cc
     nothing (b ∷ before) e after is = cc
 
-in_turn-cons : (p : Settings) (past : List Happening) (e : Entry) → HoldsAfter p past → enabled p past e.turn ≡ true
-    → AreInTurn p (sub_run past) → AreInTurn p (said (clock past) e (deed_on p (board p past) e.turn) ∷ sub_run past)
-in_turn-cons p past e h en was = record {
-  over = λ j k below within some. over_after p (clock past) run e d j does.part
+in_turn-cons : (p : Settings) (past : List Happening) (e : Entry) → enabled p past e.turn ≡ true
+    → (of : IsOfRun p past e) → AreInTurn p of.base
+    → AreInTurn p (said (clock past) e (deed_on p (board p past) e.turn) ∷ of.base)
+in_turn-cons p past e en of was = record {
+  over = λ j k below within some. over_after p (clock past) run e d j of.does.part
       (each_over p (clock past) run d.part j k joins (was.over j k below within) below within
       (some_before d.request (unit_after (clock past) k d.part (unit_of k run)) some));
-  behind = λ j k below within. behind_after p (is_over past) (clock past) run e d j k h.run does was below within;
-  told = told_after p (is_over past) (clock past) run d h.run does was;
+  behind = λ j k below within.
+      behind_after p (frame_of p past) (clock past) run e d j k of.holds of.does was below within;
+  told = told_after p (frame_of p past) (clock past) run d of.holds of.does was;
 }
   where
     run : List Happening
-    run = sub_run past
+    run = of.base
 
     d : Deed
     d = deed_on p (board p past) e.turn
 
-    does : Does p (is_over past) (clock past) run d
-    does = does_after p past e h en
-
     joins : (first : UnitView) → d.part ≡ Some (Joins first) → (j : ℕ) → j < number first → j < scripts_in p
         → is_done (unit_of j run) ≡ true
-    joins first is j below within =
-        let came = joins_is p (board p past) e.turn first
-        (second_so (not (is_over past)) (takes_turn p (board p past) e.turn (turn_of_unit e.turn)) en) is in
-        comes_after p run came.new came.is j
-        (subst (λ (u : UnitView). j < number u) (sym came.unit) below) within
+    joins first is j below within = by_begin d.begins refl
+      where
+        by_begin : (b : Bool) → d.begins ≡ b → is_done (unit_of j run) ≡ true
+        by_begin true begins =
+            let never : None ≡ Some (Joins first) = sym (of.does.marks.begins begins).1.part ∙ is in cc
+        by_begin false begins =
+            let same : of.base ≡ sub_run past = of.is ∙ ap (λ b. base_of b (sub_run past)) begins in
+            let came = joins_is p (board p past) e.turn first
+            (second_so (not (is_over past)) (takes_turn p (board p past) e.turn (turn_of_unit e.turn)) en) is in
+            ap (λ run. is_done (unit_of j run)) same
+            ∙ comes_after p (index_in p (frame_of p past)) (sub_run past) came.new came.is j
+            (subst (λ (u : UnitView). j < number u) (sym came.unit) below) within
 
 in_turn : (p : Settings) (backward : List Entry) → IsLegalBackward p backward
     → AreInTurn p (sub_run (history p backward))
@@ -335,7 +270,8 @@ in_turn p (e ∷ before) legal =
     by_run : AreInTurn p (sub_run past) → IsOfRun p past e ⊎ IsBeforeRuns p past e
         → AreInTurn p (sub_run (history p (e ∷ before)))
     by_run was (inl of) =
-        subst (AreInTurn p) (sym of.joins) (in_turn-cons p past e (holds p before legal.2) legal.0 was)
+        subst (AreInTurn p) (sym of.joins) (in_turn-cons p past e legal.0 of
+        (from_base (AreInTurn p) p past e of (in_turn_none p) was))
     by_run was (inr none) = subst (AreInTurn p) (sym none.still) (in_turn_none p)
 
 -- a script that is over is done with by its own turns
@@ -363,10 +299,10 @@ over_done terms u ps w none over made way = by_pieces ps (subst (λ ph. HasPiece
         either (is_at_start w.stopped) _ (once (length earlier + 1) (is_success (result_in terms piece)) (omega arith))
     by_pieces (cut piece [] ∷ earlier) h = absurd h
 
-done_so : (p : Settings) (over : Bool) (now : ℕ) (run : List Happening) (k : ℕ) → Holds p over now run
+done_so : (p : Settings) (f : Frame) (now : ℕ) (run : List Happening) (k : ℕ) → Holds p now run
     → k < scripts_in p
     → is_done (unit_of k run) ≡ true → is_done_with p k run ≡ true
-done_so p over now run k h below done = by_unit (unit_of k run) refl done
+done_so p f now run k h below done = by_unit (unit_of k run) refl done
   where
     script : is_script p k ≡ true
     script = script_number p k below
@@ -382,12 +318,12 @@ done_so p over now run k h below done = by_unit (unit_of k run) refl done
         over_done (unit_terms p k) u (pieces (story_of k run)) (way_of k run) (no_retries_in p k script) at
         (subst (λ v. IsMadeIf (unit_terms p k) v (story_of k run)) is (h.made k))
         (subst (λ ph. IsOnWayIn 0 ph u.attempt u.statuses (way_of k run)) at
-        (way_of_script p over now run k u h is script))
+        (way_of_script p f now run k u h is script))
 
 pub admitted_in_turn : (p : Settings) (backward : List Entry) → IsLegalBackward p backward
     → AreAdmittedInTurn p (sub_run (history p backward))
 admitted_in_turn p backward legal j k before below some =
-    done_so p (is_over past) (clock past) (sub_run past) j (holds p backward legal).run (omega arith)
+    done_so p (frame_of p past) (clock past) (sub_run past) j (holds p backward legal) (omega arith)
     ((in_turn p backward legal).over j k before below some)
   where
     past : List Happening

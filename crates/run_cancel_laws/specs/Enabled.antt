@@ -86,7 +86,7 @@ abbrev pub goes_on : List Happening → Bool
 goes_on past = not (is_over past) && is_on (sub_run past)
 
 abbrev pub is_free : List Happening → Bool
-is_free past = goes_on past && is_none (open_round past)
+is_free past = goes_on past && is_none (open_round (sub_run past))
 
 -- whether an event tells that the run goes on after a pause
 abbrev pub continues_in : TestEventKind → Bool

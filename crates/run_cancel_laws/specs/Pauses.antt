@@ -42,7 +42,7 @@ is_cont _ = false
 pub record DoesNoMore (x : Happening) : Type 0 where
   pub told : is_some x.told ≡ (pauses x.told || continues x.told)
   pub request : is_some x.request ≡ (pauses x.told || continues x.told)
-  pub cancel : x.cancel ≡ None
+  pub after : x.after ≡ None
   pub asked : x.asked ≡ None
 
 -- a turn after a history tells that the run is paused exactly where it is a tstp and the run isn't paused, and that it

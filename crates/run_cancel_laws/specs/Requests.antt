@@ -43,34 +43,34 @@ request_for _ _ = None
 -- what a signal that is no cause asks of each live unit after other turns, by what the run hears it as: to stop, in a
 -- new round, where the run isn't paused; to go on where it is; and what it is doing, in a new round
 abbrev pub job_request : List Happening → SignalKind → Option Request
-job_request before signals.Tstp = if is_run_paused before then None else Some (Stop (round_count before))
-job_request before signals.Cont = if is_run_paused before then Some Continue else None
-job_request before _ = None
+job_request past signals.Tstp = if is_run_paused past then None else Some (Stop (round_count (sub_run past)))
+job_request past signals.Cont = if is_run_paused past then Some Continue else None
+job_request past _ = None
 
 abbrev pub signal_request : List Happening → SignalKind → Option Heard → Option Request
-signal_request before signal (Some heard.JobControl) = job_request before signal
-signal_request before signal (Some heard.Info) = Some (GetInfo (round_count before))
-signal_request before signal _ = None
+signal_request past signal (Some heard.JobControl) = job_request past signal
+signal_request past signal (Some heard.Info) = Some (GetInfo (round_count (sub_run past)))
+signal_request past signal _ = None
 
 -- and a key
 abbrev pub key_request : List Happening → Option InputEvent → Option Request
-key_request before (Some inputs.Info) = Some (GetInfo (round_count before))
-key_request before _ = None
+key_request past (Some inputs.Info) = Some (GetInfo (round_count (sub_run past)))
+key_request past _ = None
 
 -- so each turn that is no cause: no other one asks anything
 abbrev pub request_besides : Settings → List Happening → Turn → Option Request
-request_besides p before (Signal signal) = signal_request before signal (heard_by p.plan.hearing signal)
-request_besides p before (Key key) = key_request before (heard_key p.plan.hearing.input key)
-request_besides p before _ = None
+request_besides p past (Signal signal) = signal_request past signal (heard_by p.plan.hearing signal)
+request_besides p past (Key key) = key_request past (heard_key p.plan.hearing.input key)
+request_besides p past _ = None
 
--- a turn after others of its sub-run asks what its cause asks where its reason is above each reason before it, and else
+-- a turn after others asks what its cause asks where its reason is above each reason before it in its sub-run, and else
 -- what it asks besides
 abbrev pub AsksForItsCause : Settings → List Happening → Happening → Type 0
-AsksForItsCause p before x =
+AsksForItsCause p past x =
     x.request
-    ≡ (if rises (reason before) x.cause then request_for x.turn x.cause else request_besides p before x.turn)
+    ≡ (if rises (reason (sub_run past)) x.cause then request_for x.turn x.cause else request_besides p past x.turn)
 
 -- that holds of each turn of every legal journal
 abbrev pub RequestsAreOfCauses : Type 0
 RequestsAreOfCauses = (p : Settings) (journal : List Entry) (e : Entry) → IsLegal p (journal ++ e ∷ [])
-    → AsksForItsCause p (sub_run (past_of p journal)) (happening p (past_of p journal) e)
+    → AsksForItsCause p (past_of p journal) (happening p (past_of p journal) e)

@@ -16,34 +16,34 @@ use Rattle.run_cancel_laws.specs.Enabled.{goes_on, is_free}
 -- whether an answer waits to be told; whether a unit has in its line what the open round asks; and whether the round
 -- began, or told its latest answer, 100 ms ago
 abbrev pub has_answer : List Happening → Bool
-has_answer past = is_some (oldest_of (answers_waiting past))
+has_answer past = is_some (oldest_of (answers_waiting (sub_run past)))
 
 abbrev pub is_waited_for : Settings → List Happening → Bool
-is_waited_for p past = is_held (open_round past) (units p (sub_run past))
+is_waited_for p past = is_held (open_round (sub_run past)) (units p (sub_run past))
 
 abbrev pub is_late : List Happening → Bool
-is_late past = nat_le (round_since past + 100000000) (clock past)
+is_late past = nat_le (round_since (sub_run past) + 100000000) (clock past)
 
 -- after every legal journal the wait for stopped units can be over exactly where the newest sub-run goes on, a round of
 -- stops is open, and no unit is waited for, or the round is late
 abbrev pub StopsAreWaitedFor : Type 0
 StopsAreWaitedFor = (p : Settings) (journal : List Entry) → IsLegal p journal
     → enabled p (past_of p journal) StopWaitDue
-    ≡ (goes_on (past_of p journal) && stop_waits (open_round (past_of p journal))
+    ≡ (goes_on (past_of p journal) && stop_waits (open_round (sub_run (past_of p journal)))
     && (not (is_waited_for p (past_of p journal)) || is_late (past_of p journal)))
 
 -- and so can a round of queries, where no answer waits besides
 abbrev pub QueriesAreWaitedFor : Type 0
 QueriesAreWaitedFor = (p : Settings) (journal : List Entry) → IsLegal p journal
     → enabled p (past_of p journal) InfoDue
-    ≡ (goes_on (past_of p journal) && query_waits (open_round (past_of p journal))
+    ≡ (goes_on (past_of p journal) && query_waits (open_round (sub_run (past_of p journal)))
     && (not (has_answer (past_of p journal) || is_waited_for p (past_of p journal)) || is_late (past_of p journal)))
 
 -- an answer can be told exactly where a round of queries is open and one waits
 abbrev pub AnswersAreTold : Type 0
 AnswersAreTold = (p : Settings) (journal : List Entry) → IsLegal p journal
     → enabled p (past_of p journal) Answer
-    ≡ (goes_on (past_of p journal) && query_waits (open_round (past_of p journal)) && has_answer (past_of p journal))
+    ≡ (goes_on (past_of p journal) && query_waits (open_round (sub_run (past_of p journal))) && has_answer (past_of p journal))
 
 -- a key can come exactly where the newest sub-run is free and the key is heard, and a tick where that is free
 abbrev pub KeysAreHeard : Type 0

@@ -65,7 +65,8 @@ pub fn the_runner_stops_itself()
 /// After every legal journal the wait for stopped units can be over exactly where the newest sub-run goes on, a round
 /// of stops is open, and no unit has its stop in its line, or the round began 100 ms ago. A round of queries can be
 /// over exactly where one is open, and no unit has its query in its line and no answer waits, or the round began, or
-/// told its latest answer, 100 ms ago. And an answer can be told exactly where a round of queries is open and one waits.
+/// told its latest answer, 100 ms ago. And an answer can be told exactly where a round of queries is open and one
+/// waits.
 pub fn rounds_are_waited_for()
     ensures stops { StopsAreWaitedFor }
     ensures queries { QueriesAreWaitedFor }

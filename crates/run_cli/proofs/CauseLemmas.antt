@@ -31,14 +31,15 @@ use Rattle.run_cli.specs.Text.{Form, rest_text, outcome_status, ending_status}
 use Rattle.run_cli.specs.Given.{SaysInput, IsTooLong, HasBadLine, CountsReadAtEnd}
 use Rattle.run_cli.specs.Ending.{Replays, settings_in, history_in, IsWholeRun, WritesReport, StopsBefore, IsUnfinished}
 use Rattle.run_cli.specs.Ending.{IsEnding, form_in}
-use Rattle.run_cli.specs.Commands.{IsNamedBy, NamesCommand, IsWidth}
+use Rattle.run_cli.specs.Commands.{IsNamedBy, NamesCommand}
 use Rattle.run_cli.specs.declared.command.Command.{Command}
 use Rattle.run_cli.specs.declared.command.Command.TheVariants.{Replay, Progress}
 use Rattle.run_cli.specs.Cause.{Gets, HasInput, HasBadInput, HasTooMuch, IsAnsweredSo, GetsByCourse}
 use Rattle.run_cli.specs.Cause.{stop_status}
 
 -- what a source that is at its end has given is all that it had
-pub all_given : (left left_after : Option (List ℕ)) (held bytes : List ℕ) → left ≡ Some held → Gives left left_after bytes
+pub all_given : (left left_after : Option (List ℕ)) (held bytes : List ℕ) → left ≡ Some held
+    → Gives left left_after bytes
     → AtEnd left_after → held ≡ bytes
 all_given left None held bytes told given end = cc
 all_given left (Some rest) held bytes told given end =
@@ -121,7 +122,8 @@ journal_of : (p : Settings) (ts : List Turn) (journal : List Entry) → IsLegal 
 journal_of p ts journal legal takes = record { legal = legal; takes = takes; answers = λ n below. refl }
 
 -- and its answers are those that the sink shows
-answered_by : (form : Form) (p : Settings) (ts : List Turn) (place : ℕ) (journal : List Entry) (ending : Result RunOutcome Fault)
+answered_by : (form : Form) (p : Settings) (ts : List Turn) (place : ℕ) (journal : List Entry)
+    (ending : Result RunOutcome Fault)
     (w : Writing) → IsLegal p journal → turns_of journal ≡ take place ts
     → TookParts form (past_of p journal) (rest_text form (past_of p journal) ending) w
     → IsAnsweredSo form p ts (refuses_as_in journal) w
@@ -180,7 +182,8 @@ unreported_gets c r o whole parts rose =
     }
 
 stopped_gets : (c : Call) (r : Replays c) (place : ℕ) (third : Bool) (ending : Result RunOutcome Fault)
-    → StopsBefore r place third → TookParts (form_in r) (history_in r) (rest_text (form_in r) (history_in r) ending) c.sink
+    → StopsBefore r place third
+    → TookParts (form_in r) (history_in r) (rest_text (form_in r) (history_in r) ending) c.sink
     → GetsByCourse r.command r.keys r.plan r.turns c.sink (stop_status third)
 stopped_gets c r place third ending before parts =
     let p : Settings = settings_for r.keys r.plan in

@@ -11,8 +11,8 @@ use Rattle.run_events.specs.declared.ask.Ask.{Ask}
 use Rattle.run_events.specs.declared.outcome.RunOutcome.{RunOutcome}
 use Rattle.run_model.specs.declared.happening.Happening.{Happening}
 use Rattle.run_model.specs.Words.{asked}
-use Rattle.run_model.specs.Journal.{past_of, outcome}
-use Rattle.run_laws.proofs.told.Outcomes.{over_outcome}
+use Rattle.run_model.specs.Journal.{past_of}
+use Rattle.run_engine.proofs.OutcomeLemmas.{has_outcome}
 use Rattle.run_engine.specs.Execution.{UnlessMemory}
 use Rattle.run_engine.specs.declared.errors.TestRunnerExecuteErrors.{TestRunnerExecuteErrors}
 use Rattle.run_engine.specs.declared.errors.TestRunnerExecuteErrors.TheVariants as engine
@@ -94,7 +94,8 @@ replayed form p turns w v asks answer le x = record {
 fault_writes : (form : Form) (p : Settings) (turns : List Turn) (w v : Writing) (asks : List (ℕ × Ask))
     (answer : Result RunOutcome (TestRunnerExecuteErrors Failed)) (fault : Fault) → v.taken ≡ w.taken_after
     → v.faults ≡ w.faults_after → (x : IsExecuted form p turns w asks answer) → v.faults ≤ v.faults_after
-    → Writes v (ask_lines asks ++ fault_only fault) → WritesRun form (past_of p x.journal) (Err fault) (then_writing w v)
+    → Writes v (ask_lines asks ++ fault_only fault)
+    → WritesRun form (past_of p x.journal) (Err fault) (then_writing w v)
 fault_writes form p turns w v asks answer fault on from x le writes = record {
   whole = λ calm.
       let none = calm_run form p turns w v asks answer (omega arith) x calm in
@@ -120,7 +121,8 @@ report_of form p turns w v asks answer x o b is parts =
     (sym is ∙ x.marked) parts
 
 -- after an outcome
-pub outcome_ends : (form : Form) (p : Settings) (turns : List Turn) (w v : Writing) (asks : List (ℕ × Ask)) (o : RunOutcome)
+pub outcome_ends : (form : Form) (p : Settings) (turns : List Turn) (w v : Writing) (asks : List (ℕ × Ask))
+    (o : RunOutcome)
     (ending : Result RunOutcome Fault) → v.taken ≡ w.taken_after → v.faults ≡ w.faults_after
     → IsExecuted form p turns w asks (Ok o) → EndsAtOutcome v asks o ending → v.faults ≤ v.faults_after
     → IsReplayEnding form p turns (then_writing w v) ending
@@ -175,8 +177,7 @@ pub error_ends : (form : Form) (p : Settings) (turns : List Turn) (w v : Writing
     → EndsAtFault v asks (fault_of_error error) ending → IsReplayEnding form p turns (then_writing w v) ending
 unfolding replayed
 error_ends form p turns w v asks (engine.Report d) ending on from x h =
-    let end : (o : RunOutcome) × (outcome p (past_of p x.journal) ≡ Some o) =
-    (_, over_outcome p (past_of p x.journal) x.says.1) in
+    let end = has_outcome p x.journal x.runnable.legal x.says.1 in
     fault_ends form p turns w v asks Report ending
     (λ le writes. (
       replayed form p turns w v asks (Err (engine.Report d)) (omega arith) x,

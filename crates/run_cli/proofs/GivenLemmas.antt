@@ -65,7 +65,8 @@ then_some None f y e = cc
 then_some (Some x) f y e = (x, refl, e)
 
 -- as many turns as lines
-pub turns_length : (lines : List (List ℕ)) (turns : List Turn) → turns_said lines ≡ Some turns → length turns ≡ length lines
+pub turns_length : (lines : List (List ℕ)) (turns : List Turn) → turns_said lines ≡ Some turns
+    → length turns ≡ length lines
 turns_length [] turns e = cc
 turns_length (line ∷ lines) turns e =
     let one = then_some (turn_line_of line) (λ turn. option_and_then (λ turns. Some (turn ∷ turns)) (turns_said lines))
@@ -91,20 +92,20 @@ few_plan : (rules : Hearing × Option ℕ) (frame : RunHead × TargetRunner)
 few_plan rules frame lists few = few
 
 -- the scripts and tests of a plan line are few
-few_lists : (d : Data) (lists : List Group × List PlanScript × List PlanTest) → lists_of d ≡ Some lists
-    → length lists.1 + length lists.2 < 2 ^ 32
-few_lists d lists e =
+few_lists : (version : ℕ) (d : Data) (lists : List Group × List PlanScript × List PlanTest)
+    → lists_of version d ≡ Some lists → length lists.1 + length lists.2 < 2 ^ 32
+few_lists version d lists e =
     let few : ℕ → ℕ → Bool = λ m n. nat_lt (m + n) 4294967296 in
     let groups : Option Data = get (codes "groups") d in
     let scripts : Option Data = get (codes "scripts") d in
     let tests : Option Data = get (codes "tests") d in
     let gs = then_some (plan_groups_of groups)
     (λ gs. option_and_then (λ ss. option_and_then (λ ts. option_and_then (λ _. Some (gs, ss, ts))
-    (when (few (length ss) (length ts)))) (plan_tests_of tests)) (plan_scripts_of scripts)) lists e in
+    (when (few (length ss) (length ts)))) (plan_tests_of version tests)) (plan_scripts_of scripts)) lists e in
     let ss = then_some (plan_scripts_of scripts)
     (λ ss. option_and_then (λ ts. option_and_then (λ _. Some (gs.0, ss, ts))
-    (when (few (length ss) (length ts)))) (plan_tests_of tests)) lists gs.2 in
-    let ts = then_some (plan_tests_of tests)
+    (when (few (length ss) (length ts)))) (plan_tests_of version tests)) lists gs.2 in
+    let ts = then_some (plan_tests_of version tests)
     (λ ts. option_and_then (λ _. Some (gs.0, ss.0, ts)) (when (few (length ss.0) (length ts)))) lists ss.2 in
     let last = then_some (when (few (length ss.0) (length ts.0))) (λ _. Some (gs.0, ss.0, ts.0)) lists ts.2 in
     let fewer : length ss.0 + length ts.0 < 2 ^ 32 =
@@ -118,14 +119,15 @@ few_as k l p q e few = subst IsFew (ap (λ (x : RunnerKeys × Plan). x.1) e) few
 few_alone : (d : Data) (plan : Plan) → plan_alone_of d ≡ Some plan → IsFew plan
 few_alone d plan e =
     let v = then_some (or_usual 1 version_of (get (codes "version") d))
-    (λ _. option_and_then (λ r. option_and_then (λ f. option_and_then (λ l. Some (plan_with r f l)) (lists_of d))
+    (λ v. option_and_then (λ r. option_and_then (λ f. option_and_then (λ l. Some (plan_with r f l)) (lists_of v d))
     (frame_of d)) (rules_from d)) plan e in
     let r = then_some (rules_from d)
-    (λ r. option_and_then (λ f. option_and_then (λ l. Some (plan_with r f l)) (lists_of d)) (frame_of d)) plan v.2 in
-    let f = then_some (frame_of d) (λ f. option_and_then (λ l. Some (plan_with r.0 f l)) (lists_of d)) plan r.2 in
-    let l = then_some (lists_of d) (λ l. Some (plan_with r.0 f.0 l)) plan f.2 in
+    (λ r. option_and_then (λ f. option_and_then (λ l. Some (plan_with r f l)) (lists_of v.0 d)) (frame_of d)) plan
+    v.2 in
+    let f = then_some (frame_of d) (λ f. option_and_then (λ l. Some (plan_with r.0 f l)) (lists_of v.0 d)) plan r.2 in
+    let l = then_some (lists_of v.0 d) (λ l. Some (plan_with r.0 f.0 l)) plan f.2 in
     let says : Plan = plan_with r.0 f.0 l.0 in
-    subst IsFew (same_Some says plan l.2) (few_plan r.0 f.0 l.0 (few_lists d l.0 l.1))
+    subst IsFew (same_Some says plan l.2) (few_plan r.0 f.0 l.0 (few_lists v.0 d l.0 l.1))
 
 few_line : (d : Data) (keys : RunnerKeys) (plan : Plan) → plan_of d ≡ Some (keys, plan) → IsFew plan
 unfolding plan_of
@@ -168,7 +170,8 @@ whole : (c : Call) (r : Replays c) (o : RunOutcome) → journal_turns r.journal 
 whole c r o all e = record { all = all; finished = finished (settings_for r.keys r.plan) r.journal o r.legal e }
 
 -- the call whose input was good, with what its run has taken
-replays : (c : Call) (command : Command) (keys : RunnerKeys) (plan : Plan) (turns : List Turn) → IsNamedBy command c.words
+replays : (c : Call) (command : Command) (keys : RunnerKeys) (plan : Plan) (turns : List Turn)
+    → IsNamedBy command c.words
     → SaysInput c.source keys plan turns
     → plan_refusal keys plan ≡ None → IsReplayed (settings_for keys plan) c.sink → Replays c
 replays c command keys plan turns named given accepted r = record {
@@ -227,7 +230,8 @@ given_says c command keys plan turns (Err TooLong) named given h = absurd h.1
 -- the end of the turns of a plan that was accepted
 pub accepted_ends : (command : Command) (keys : RunnerKeys) (plan : Plan) (turns : List Turn) (w : Writing)
     (ending : Result RunOutcome Fault)
-    → plan_refusal keys plan ≡ None → IsReplayEnding (form_of command (settings_for keys plan)) (settings_for keys plan) turns w ending
+    → plan_refusal keys plan ≡ None
+    → IsReplayEnding (form_of command (settings_for keys plan)) (settings_for keys plan) turns w ending
     → IsInputEnding command keys plan turns w ending
 accepted_ends command keys plan turns w (Ok o) accepted h = (accepted, h)
 accepted_ends command keys plan turns w (Err Report) accepted h = (accepted, h)

@@ -7,6 +7,7 @@ pub mod ToldLines
 pub mod EndLemmas
 pub mod GivenLemmas
 pub mod StatusLemmas
+pub mod GenerateLemmas
 pub mod CauseLemmas
 pub mod LivedLemmas
 pub mod RunEndLemmas

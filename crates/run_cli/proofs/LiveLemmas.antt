@@ -1,13 +1,9 @@
 -- How `live` ends, by what the source gave and how the run of its plan ended.
-use Rattle.std.proofs.Common.{◌≡◌, ℕ, ◌<◌, ◌≤◌, ◌⊎◌, inl, inr, List, [], ◌∷◌, length, Option, Some, None, Result, Ok, Err}
-use Rattle.std.proofs.Common.{refl, sym, subst, ◌∙◌, ap, arith, MatchOption}
-use Rattle.std.specs.Option.{IsNone, IfSome, IsSome, IsSomeAnd}
+use Rattle.std.proofs.Common.{◌≡◌, ◌≤◌, inl, inr, List, [], Option, None}
+use Rattle.std.proofs.Common.{Err}
+use Rattle.std.proofs.Common.{refl, sym, subst, arith}
 use Rattle.run_input.specs.declared.plan_line.RunnerKeys.{RunnerKeys}
-use Rattle.run_input.specs.Lines.{lines_of}
-use Rattle.run_input.specs.Input.{IsInput, IsFirstBadAlone, plan_line_of, turns_said}
 use Rattle.run_events.specs.declared.plan.Plan.{Plan}
-use Rattle.run_events.specs.declared.settings.Settings.{Settings}
-use Rattle.run_events.specs.declared.outcome.RunOutcome.{RunOutcome}
 use Rattle.run_engine.specs.Builder.{IsBuilt}
 use Rattle.run_engine.specs.declared.errors.TestRunnerBuildError.{TestRunnerBuildError}
 use Rattle.run_engine.specs.declared.errors.TestRunnerBuildError.TheVariants as build
@@ -16,22 +12,15 @@ use Rattle.run_output.specs.declared.fault.Fault.TheVariants.{Words, Line, Plan 
 use Rattle.run_output.specs.declared.fault.Fault.TheVariants.{Unfinished, Report, Read, Memory, TooLong}
 use Rattle.run_drive.specs.declared.spawner.Heard.{Heard}
 use Rattle.run_live.specs.declared.lived.Live.{Live}
-use Rattle.run_live.specs.declared.lived.Lived.{Lived}
 use Rattle.run_cli.specs.declared.live.LiveEnding.{LiveEnding}
 use Rattle.run_cli.specs.declared.live.LiveEnding.TheVariants as ends
-use Rattle.run_cli.specs.Call.{Call, Reading, Writing, HasGiven, HasReadFault, Writes}
-use Rattle.run_cli.specs.Cause.{Gets, HasInput, HasTooMuch}
-use Rattle.run_cli.specs.Given.{SaysInput, IsTooLong, IsWithin, CountsRead}
-use Rattle.run_cli.specs.LiveGiven.{IsLiveWord, HasBadPlanLine, IsLineFault}
-use Rattle.run_cli.specs.Live.{live_settings, live_refusal, unheard, IsRunEnd, IsPlanEnd, IsLiveEnd, HasLivePlan}
-use Rattle.run_cli.specs.Live.{HasRefusedPlan, HasBadPlanInput, CountsLive, GetsLive, IsRunStatus, live_status}
+use Rattle.run_cli.specs.Call.{Call, Reading, Writing}
+use Rattle.run_cli.specs.Given.{SaysInput, CountsRead}
+use Rattle.run_cli.specs.LiveGiven.{IsLiveWord, IsLineFault}
+use Rattle.run_cli.specs.Live.{live_settings, live_refusal, unheard, IsRunEnd, IsPlanEnd, IsLiveEnd}
+use Rattle.run_cli.specs.Live.{CountsLive}
 use Rattle.run_cli.specs.Lived.{IsFaultEnd}
 use Rattle.run_cli.specs.Plans.{builder_of, fault_of_plan}
-use Rattle.run_cli.specs.Status.{IsOutcomeStatus}
-use Rattle.run_cli.specs.Text.{fault_only, outcome_status}
-use Rattle.run_cli.proofs.CauseLemmas.{all_given, given_within, same_input, not_too_long, never_refused}
-use Rattle.run_cli.proofs.CauseLemmas.{too_much_excludes}
-use Rattle.run_cli.proofs.StatusLemmas.{outcome_is}
 
 -- the end of a plan that was accepted is that of its run
 pub accepted_end : {W : Type 0} (said : W → List Heard → Type 0) (keys : RunnerKeys) (plan : Plan) (w : Writing)

@@ -1,29 +1,25 @@
 -- How a run of workers ends, by what its threads left.
-use Rattle.std.proofs.Common.{◌≡◌, ℕ, ◌<◌, ◌≤◌, ◌^◌, ◌&&◌, inl, inr, List, [], ◌∷◌, ◌++◌, length, map, zip, reverse}
-use Rattle.std.proofs.Common.{Bool, true, false, not, Option, Some, None, is_none, is_some, IsSome, Result, Ok, Err}
-use Rattle.std.proofs.Common.{refl, ap, sym, subst, ◌∙◌, arith}
-use Rattle.std.specs.Option.{IsNone, IfSome, IsSomeAnd}
+use Rattle.std.proofs.Common.{◌≡◌, ℕ, ◌&&◌, List, [], ◌∷◌, ◌++◌, length, map, zip, reverse}
+use Rattle.std.proofs.Common.{Bool, true, false, not, Option, Some, None, is_none, is_some, Ok, Err}
+use Rattle.std.proofs.Common.{refl, ap, sym, ◌∙◌, arith}
+use Rattle.std.specs.Option.{IsNone}
 use Rattle.std.specs.List.{list_all}
 use Rattle.std.proofs.lemmas.List.{append-nil, map-append, reverse-append, reverse-reverse}
-use Rattle.run_capture.specs.Faults.{Rose}
 use Rattle.run_capture.specs.declared.source.Failed.{Failed}
 use Rattle.run_events.specs.declared.settings.Settings.{Settings}
-use Rattle.run_events.specs.declared.turn.Turn.{Turn}
 use Rattle.run_events.specs.declared.ask.Ask.{Ask}
 use Rattle.run_events.specs.declared.events.ReporterEvent.{ReporterEvent}
 use Rattle.run_events.specs.declared.outcome.RunOutcome.{RunOutcome}
 use Rattle.run_model.specs.declared.entry.Entry.{Entry}
 use Rattle.run_model.specs.declared.happening.Happening.{Happening}
-use Rattle.run_model.specs.Words.{answers, asked, events_in, is_over}
+use Rattle.run_model.specs.Words.{answers, asked, events_in}
 use Rattle.run_model.specs.Turns.{happening}
-use Rattle.run_model.specs.Journal.{history, past_of, outcome, IsLegalBackward}
+use Rattle.run_model.specs.Journal.{history, past_of, IsLegalBackward}
 use Rattle.run_laws.specs.Course.{turns_of, refusals, none_refused}
 use Rattle.run_laws.proofs.board.Courses.{refusals-append}
 use Rattle.run_laws.proofs.told.Outcomes.{over_is}
 use Rattle.run_engine.specs.Standing.{IsRunnable}
 use Rattle.run_engine.specs.World.{flagged, earlier, first_error}
-use Rattle.run_engine.specs.Execution.{IsAnswerOf}
-use Rattle.run_engine.specs.declared.errors.TestRunnerExecuteErrors.{TestRunnerExecuteErrors}
 use Rattle.run_engine.specs.declared.errors.TestRunnerExecuteErrors.TheVariants as engine
 use Rattle.run_output.specs.Told.{HasTold, event_lines, some_refused}
 use Rattle.run_cli.specs.Call.{Writing}
@@ -71,7 +67,8 @@ flags_refused (y ∷ ys) = by_error y.1 (flags_refused ys)
     by_error (Some d) h = refl
 
 -- so there is no first error exactly where the journal has no refusal
-pub none_marked : (p : Settings) (journal : List Entry) (ys : List (ReporterEvent × Option Failed)) → IsRunnable p journal
+pub none_marked : (p : Settings) (journal : List Entry) (ys : List (ReporterEvent × Option Failed))
+    → IsRunnable p journal
     → map flagged ys ≡ answers (past_of p journal) → is_none (first_error ys) ≡ none_refused journal
 none_marked p journal ys runnable flags =
     let marks : map (λ x. x.1) (map flagged ys) ≡ refusals journal =

@@ -1,5 +1,5 @@
 -- What each turn but a tick tells is no tick.
-use Rattle.std.proofs.Common.{◌≡◌, ℕ, ◌+◌, List, [], ◌∷◌, ◌++◌}
+use Rattle.std.proofs.Common.{◌≡◌, ℕ, List, [], ◌∷◌, ◌++◌, ◌==◌}
 use Rattle.std.proofs.Common.{map}
 use Rattle.std.proofs.Common.{Bool, true, false, if◌then◌else◌, Option, Some, None}
 use Rattle.std.proofs.Common.{option_map}
@@ -20,6 +20,7 @@ use Rattle.run_events.specs.declared.request.Request.TheVariants.{Stop, Continue
 use Rattle.run_events.specs.declared.events.ReporterEvent.{ReporterEvent}
 use Rattle.run_events.specs.declared.events.ReporterEvent.TheVariants.{Tick, Test}
 use Rattle.run_events.specs.declared.info.InfoResponse.{InfoResponse}
+use Rattle.run_commands.specs.declared.stress_count.StressCondition.{StressCondition}
 use Rattle.run_events.specs.Hearing.{heard_key}
 use Rattle.run_model.specs.declared.dispatcher_view.DispatcherView.{DispatcherView}
 use Rattle.run_model.specs.declared.dispatcher_view.Tally.{Tally}
@@ -28,11 +29,13 @@ use Rattle.run_model.specs.Board.{Board, Deed, deed_events}
 use Rattle.run_model.specs.Cancel.{Cause, time_is_up, event_refused, signal_cause, caused, cause_of, cancel_event}
 use Rattle.run_model.specs.Cancel.{cancelled_for, is_above}
 use Rattle.run_model.specs.Dispatch.{Moment, event, told_of, heard_by, moment_by, is_halted, go_of}
+use Rattle.run_model.specs.Turns.{begins_as, ends_as, index_of, run_finished, stops_with, stress_finale}
+use Rattle.run_model.specs.Turns.{sub_run_started}
 use Rattle.run_model.specs.Turns.{deed_on, admission, answer_to, starting, delivery}
 use Rattle.run_model.specs.Turns.{hears}
 use Rattle.run_model.specs.Turns.{tally_by, signal_deed, job_deed, key_deed, answered_by, oldest_of, cancels_for}
 use Rattle.run_model.specs.Turns.{nothing_done, live_in, tells, job_event}
-use Rattle.run_model.specs.Words.{clock, told}
+use Rattle.run_model.specs.Words.{told}
 use Rattle.run_cli.specs.Clocks.{clock_at}
 use Rattle.run_cli.specs.Commands.{ticks_in}
 
@@ -46,16 +49,16 @@ ticks_in-append (Test e ∷ xs) ys = ticks_in-append xs ys
 abbrev IsQuiet : Option ReporterEvent → Type 0
 IsQuiet event = ticks_in (option_to_list event) ≡ []
 
-both_quiet : (told cancel : Option ReporterEvent) → IsQuiet told → IsQuiet cancel
-    → ticks_in (option_to_list told ++ option_to_list cancel) ≡ []
-both_quiet told cancel h k =
-    ticks_in-append (option_to_list told) (option_to_list cancel)
-    ∙ ap (λ ticks. ticks ++ ticks_in (option_to_list cancel)) h ∙ k
+both_quiet : (told after : Option ReporterEvent) → IsQuiet told → IsQuiet after
+    → ticks_in (option_to_list told ++ option_to_list after) ≡ []
+both_quiet told after h k =
+    ticks_in-append (option_to_list told) (option_to_list after)
+    ∙ ap (λ ticks. ticks ++ ticks_in (option_to_list after)) h ∙ k
 
 -- what a cause tells is none
-caused_quiet : (moment : Moment) (t : Tally) (cause : Option Cause) (d : Deed) → IsQuiet d.told → IsQuiet d.cancel
+caused_quiet : (moment : Moment) (t : Tally) (cause : Option Cause) (d : Deed) → IsQuiet d.told → IsQuiet d.after
     → ticks_in (deed_events (caused moment t cause d)) ≡ []
-caused_quiet moment t None d h k = both_quiet d.told d.cancel h k
+caused_quiet moment t None d h k = both_quiet d.told d.after h k
 caused_quiet moment t (Some cause) d h k =
     both_quiet d.told _ h (by_rank (is_above t.stats.cancel_reason cause.reason))
   where
@@ -71,6 +74,25 @@ told_quiet moment (Some kind) = refl
 -- what each turn but a tick does
 abbrev AreQuiet : Deed → Type 0
 AreQuiet d = ticks_in (deed_events d) ≡ []
+
+-- the begin and the end of a sub-run
+begins_quiet : (now : ℕ) (d : DispatcherView) (stress : Option StressCondition)
+    → IsQuiet (option_map (sub_run_started now d) stress)
+begins_quiet now d None = refl
+begins_quiet now d (Some condition) = refl
+
+begin_quiet : (now : ℕ) (d : DispatcherView) (first : Bool) → AreQuiet (begins_as now d first)
+begin_quiet now d true = begins_quiet now d d.head.stress
+begin_quiet now d false =
+    both_quiet (option_map (sub_run_started now d) d.head.stress) None (begins_quiet now d d.head.stress) refl
+
+end_quiet : (now : ℕ) (d : DispatcherView) (stress : Option StressCondition) → AreQuiet (ends_as now d stress)
+end_quiet now d None = refl
+end_quiet now d (Some condition) = by_stop (stops_with now d condition)
+  where
+    by_stop : (b : Bool) → IsQuiet (if b then Some (run_finished now d (stress_finale d condition)) else None)
+    by_stop true = refl
+    by_stop false = refl
 
 admission_quiet : (new : Option Newcomer) → AreQuiet (admission new)
 admission_quiet None = refl
@@ -125,7 +147,15 @@ none_of now d quiet = ap (map (λ (tick : ReporterEvent). now)) quiet
 pub ticks_by : (p : Settings) (b : Board) (now : ℕ) (turn : Turn)
     → map (λ (tick : ReporterEvent). now) (ticks_in (deed_events (deed_on p b turn))) ≡ clock_at now turn
 ticks_by p b now turns.Tick = refl
-ticks_by p b now turns.Admit = none_of now (admission (newcomer p b.units)) (admission_quiet (newcomer p b.units))
+ticks_by p b now turns.Begin =
+    let first : Bool = b.dispatcher.sub_runs.ended == 0 in
+    none_of now (begins_as b.clock b.dispatcher first) (begin_quiet b.clock b.dispatcher first)
+ticks_by p b now turns.End =
+    none_of now (ends_as b.clock b.dispatcher b.dispatcher.head.stress)
+    (end_quiet b.clock b.dispatcher b.dispatcher.head.stress)
+ticks_by p b now turns.Admit =
+    let new : Option Newcomer = newcomer p (index_of b.dispatcher) b.units in
+    none_of now (admission new) (admission_quiet new)
 ticks_by p b now turns.Deliver = none_of now (delivery b b.queue) (delivery_quiet b b.queue)
 ticks_by p b now (turns.Signal signal) =
     none_of now

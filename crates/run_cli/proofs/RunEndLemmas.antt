@@ -1,17 +1,13 @@
 -- The last lines of a run of workers.
-use Rattle.std.proofs.Common.{◌≡◌, ℕ, ◌<◌, ◌≤◌, ◌^◌, inl, inr, List, ◌++◌, length, Bool, true, false, if◌then◌else◌}
-use Rattle.std.proofs.Common.{Option, Some, None, is_none, IsSome, Result, Ok, Err, refl, ap, sym, subst, ◌∙◌, arith}
-use Rattle.std.specs.Option.{IsNone, IfSome, IsSomeAnd}
+use Rattle.std.proofs.Common.{◌≡◌, ℕ, ◌≤◌, inl, inr, List, ◌++◌, length, Bool, true, false}
+use Rattle.std.proofs.Common.{Some, None, Result, Ok, Err, refl, ap, sym, subst, ◌∙◌, arith}
 use Rattle.run_capture.specs.Faults.{Rose}
 use Rattle.run_events.specs.declared.settings.Settings.{Settings}
 use Rattle.run_events.specs.declared.ask.Ask.{Ask}
 use Rattle.run_events.specs.declared.outcome.RunOutcome.{RunOutcome}
-use Rattle.run_model.specs.Words.{is_over}
 use Rattle.run_model.specs.Journal.{past_of, outcome}
 use Rattle.run_laws.specs.Course.{turns_of}
-use Rattle.run_laws.proofs.told.Outcomes.{over_outcome}
-use Rattle.run_engine.specs.Standing.{IsRunnable}
-use Rattle.run_engine.specs.World.{first_error}
+use Rattle.run_engine.proofs.OutcomeLemmas.{not_over}
 use Rattle.run_engine.specs.declared.errors.TestRunnerExecuteErrors.TheVariants as engine
 use Rattle.run_output.specs.declared.fault.Fault.{Fault}
 use Rattle.run_output.specs.declared.fault.Fault.TheVariants.{Words, Line, Plan as BadPlan, NotEnabled, ThirdSignal}
@@ -23,11 +19,10 @@ use Rattle.run_live.specs.declared.lived.Live.{Live}
 use Rattle.run_cli.specs.Call.{Writing, then_writing, HasTaken, Writes}
 use Rattle.run_cli.specs.Text.{whole_form, ask_lines, fault_only}
 use Rattle.run_cli.specs.Executed.{IsExecuted}
-use Rattle.run_cli.specs.Ending.{IsFinished}
 use Rattle.run_cli.specs.Finish.{EndsAtFault, EndsAtOutcome}
 use Rattle.run_cli.specs.Live.{IsClosed, IsRunEnd}
 use Rattle.run_cli.specs.Lived.{IsOver, EndsOver, IsOpenFault, ending_of, kept_by}
-use Rattle.run_cli.proofs.EndLemmas.{rose_then, some_is, whole_text, took_parts, report_of}
+use Rattle.run_cli.proofs.EndLemmas.{rose_then, whole_text, took_parts, report_of}
 use Rattle.run_cli.proofs.GivenLemmas.{finished}
 use Rattle.run_cli.proofs.ToldLines.{executed_from, executed_whole}
 use Rattle.run_cli.proofs.LivedLemmas.{executed_calm, executed_rough, rough_error}
@@ -98,17 +93,6 @@ rough_ends said p w v n l asks o ending on from closed x h =
       rose_then w.faults w.faults_after v.faults_after (run.risen refl) (omega arith),
     )) h
 
--- a run that has no outcome isn't over
-no_outcome : (p : Settings) (journal : List _) → outcome p (past_of p journal) ≡ None
-    → is_over (past_of p journal) ≡ false
-no_outcome p journal none = by_over (is_over (past_of p journal)) refl
-  where
-    by_over : (b : Bool) → is_over (past_of p journal) ≡ b → b ≡ false
-    by_over false e = refl
-    by_over true e =
-        let some = over_outcome p (past_of p journal) e in
-        let both : None ≡ Some _ = sym none ∙ some in cc
-
 -- a run whose journal is full and that isn't over, after that fault; and want of memory
 pub full_ends : {W : Type 0} (said : W → List Heard → Type 0) (p : Settings) (w v : Writing) (l : Live W)
     (asks : List (ℕ × Ask)) (ending : Result RunOutcome Fault) → IsClosed said p l
@@ -116,7 +100,7 @@ pub full_ends : {W : Type 0} (said : W → List Heard → Type 0) (p : Settings)
     → EndsAtFault v asks Unfinished ending → IsRunEnd said p w (kept_by ending l) (ending_of ending)
 full_ends said p w v l asks ending closed full none h =
     fault_or_memory said p w v l asks Unfinished ending
-    (λ le writes. (closed, full, no_outcome p l.journal none)) h
+    (λ le writes. (closed, full, not_over p l.journal closed.legal none)) h
 
 pub memory_ends : {W : Type 0} (said : W → List Heard → Type 0) (p : Settings) (w v : Writing) (l : Live W)
     (asks : List (ℕ × Ask)) (ending : Result RunOutcome Fault)

@@ -26,7 +26,7 @@ outcome_is (outcomes.Cancelled steps.Test) = inr (inr (inl refl))
 outcome_is (outcomes.Cancelled steps.SetupScript) = inr (inr (inr refl))
 
 -- no other status is an outcome's
-apart : (n m : ℕ) → IsOutcomeStatus n → n ≡ m → IsOutcomeStatus m
+pub apart : (n m : ℕ) → IsOutcomeStatus n → n ≡ m → IsOutcomeStatus m
 apart n m h e = subst IsOutcomeStatus e h
 
 no_outcome : (n : ℕ) → IsOutcomeStatus n → (0 < n) → (n < 4) → ⊥
@@ -35,7 +35,7 @@ no_outcome n (inr (inl a)) low high = omega arith
 no_outcome n (inr (inr (inl a))) low high = omega arith
 no_outcome n (inr (inr (inr a))) low high = omega arith
 
-no_outcome_above : (n : ℕ) → IsOutcomeStatus n → (4 < n) → (n < 100) → ⊥
+pub no_outcome_above : (n : ℕ) → IsOutcomeStatus n → (4 < n) → (n < 100) → ⊥
 no_outcome_above n (inl a) low high = omega arith
 no_outcome_above n (inr (inl a)) low high = omega arith
 no_outcome_above n (inr (inr (inl a))) low high = omega arith
@@ -200,7 +200,8 @@ report_says c (Err (ThirdSignal n)) h s = absurd (omega arith)
 
 -- 10: a source that failed
 pub read_says : (c : Call) (ending : Result RunOutcome Fault)
-    → IsEnding c ending → ending_status ending ≡ 10 → NamesCommand c.words × IsWithin c.source × Writes c.sink (fault_only Read)
+    → IsEnding c ending → ending_status ending ≡ 10
+    → NamesCommand c.words × IsWithin c.source × Writes c.sink (fault_only Read)
 read_says c (Ok o) h s = absurd (no_outcome_above 10 (apart _ 10 (outcome_is o) s) (omega arith) (omega arith))
 read_says c (Err Words) h s = absurd (omega arith)
 read_says c (Err (Line n)) h s = absurd (omega arith)

@@ -1,6 +1,7 @@
 -- The lines that a reporter wrote are those of the events that the journal told.
 use Rattle.std.proofs.Common.{◌≡◌, ℕ, ◌≤◌, ◌||◌, List, [], ◌∷◌, ◌++◌, length, map, zip, Bool, true, false, Option}
-use Rattle.std.proofs.Common.{Some, None, is_none, is_some, reverse, Result, Err, IsSome, refl, ap, sym, subst, ◌∙◌, arith}
+use Rattle.std.proofs.Common.{Some, None, is_none, is_some, reverse, Result, Err, IsSome, refl, ap, sym, subst, ◌∙◌}
+use Rattle.std.proofs.Common.{arith}
 use Rattle.std.proofs.lemmas.List.{map-append, length-map}
 use Rattle.run_events.specs.declared.settings.Settings.{Settings}
 use Rattle.run_events.specs.declared.events.ReporterEvent.{ReporterEvent}
@@ -55,7 +56,8 @@ lines_beside [] = refl
 lines_beside (y ∷ ys) = ap (λ ls. (event_line y.0, y.1) ∷ ls) (lines_beside ys)
 
 -- lines beside as many errors are refused as those are
-pub marks_beside : {E : Type 0} (lines : List (List ℕ)) (ys : List (ReporterEvent × Option E)) → length lines ≡ length ys
+pub marks_beside : {E : Type 0} (lines : List (List ℕ)) (ys : List (ReporterEvent × Option E))
+    → length lines ≡ length ys
     → marks (zip lines (map (λ y. y.1) ys)) ≡ marks ys
 marks_beside [] [] same = refl
 marks_beside [] (y ∷ ys) same = absurd (omega arith)

@@ -12,12 +12,19 @@ use Rattle.run_cli.specs.declared.command.Command.{Command}
 use Rattle.run_cli.specs.declared.command.Command.TheVariants.{Replay, Progress}
 use Rattle.run_cli.specs.Text.{Form, whole_form}
 
--- decimal digits without a `0` in front, whose value is a width: from 1 to 1,000
-pub record IsWidth (text : List ℕ) (width : ℕ) : Type 0 where
+-- decimal digits without a `0` in front, whose value is from 1 to the greatest
+pub record IsNumber (greatest : ℕ) (text : List ℕ) (number : ℕ) : Type 0 where
   pub first : (49 ≤ slice_index text 0) × (slice_index text 0 ≤ 57)
   pub digits : IsNumeral 10 text
-  pub value : digits_value 10 text ≡ width
-  pub most : width ≤ 1000
+  pub value : digits_value 10 text ≡ number
+  pub most : number ≤ greatest
+
+-- a width, and a number of tests
+abbrev pub IsWidth : List ℕ → ℕ → Type 0
+IsWidth text width = IsNumber 1000 text width
+
+abbrev pub IsTestCount : List ℕ → ℕ → Type 0
+IsTestCount text tests = IsNumber 20000 text tests
 
 -- the words name this command: `replay`, or `progress` and a width
 abbrev pub IsNamedBy : Command → List (List ℕ) → Type 0
@@ -27,6 +34,13 @@ IsNamedBy (Progress width) words = (text : List ℕ) × (words ≡ codes "progre
 -- they name one
 abbrev pub NamesCommand : List (List ℕ) → Type 0
 NamesCommand words = (command : Command) × IsNamedBy command words
+
+-- the words name the command that generates a run of so many tests
+abbrev pub IsGenerateOf : ℕ → List (List ℕ) → Type 0
+IsGenerateOf tests words = (text : List ℕ) × (words ≡ codes "generate" ∷ text ∷ []) × IsTestCount text tests
+
+abbrev pub NamesGenerate : List (List ℕ) → Type 0
+NamesGenerate words = (tests : ℕ) × IsGenerateOf tests words
 
 -- the ticks among events
 abbrev pub ticks_in : List ReporterEvent → List ReporterEvent

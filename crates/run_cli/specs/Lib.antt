@@ -14,3 +14,4 @@ pub mod LiveGiven
 pub mod Live
 pub mod Lived
 pub mod Receipts
+pub mod Generates

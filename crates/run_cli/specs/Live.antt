@@ -1,8 +1,7 @@
 -- What `live` says: of the plan that it reads, of the run that its workers make, and of what it writes.
-use Rattle.std.specs.Prelude.{ℕ, ◌≡◌, ◌⊎◌, ◌≤◌, ◌<◌, List, [], ◌∷◌, length, min, max, Option, Some, None, IsSomeAnd}
-use Rattle.std.specs.Prelude.{false, Ok, Err, IsNone, codes}
+use Rattle.std.specs.Prelude.{ℕ, ◌≡◌, ◌⊎◌, ◌≤◌, ◌<◌, List, [], length, min, max, Option, Some, None, IsSomeAnd}
+use Rattle.std.specs.Prelude.{false, Ok, Err, IsNone}
 use Rattle.std.specs.List.{All}
-use Rattle.run_capture.specs.Bytes.{AtEnd}
 use Rattle.run_input.specs.declared.plan_line.RunnerKeys.{RunnerKeys}
 use Rattle.run_events.specs.declared.input.InputHandlerKind.TheVariants as inputs
 use Rattle.run_events.specs.declared.plan.Plan.{Plan}
@@ -15,7 +14,6 @@ use Rattle.run_model.specs.Journal.{past_of, IsLegal}
 use Rattle.run_engine.specs.declared.errors.TestRunnerBuildError.{TestRunnerBuildError}
 use Rattle.run_input.specs.Lines.{lines_of}
 use Rattle.run_input.specs.Input.{IsFirstBadAlone}
-use Rattle.run_output.specs.declared.fault.Fault.{Fault}
 use Rattle.run_output.specs.declared.fault.Fault.TheVariants.{Words, Line, Plan as BadPlan, NotEnabled, ThirdSignal}
 use Rattle.run_output.specs.declared.fault.Fault.TheVariants.{Unfinished, Report, Read, Memory, TooLong}
 use Rattle.run_output.specs.declared.fault.PlanFault.{PlanFault}
@@ -26,7 +24,7 @@ use Rattle.run_live.specs.Own.{IsLive}
 use Rattle.run_live.specs.declared.lived.Live.{Live}
 use Rattle.run_cli.specs.declared.live.LiveEnding.{LiveEnding}
 use Rattle.run_cli.specs.declared.live.LiveEnding.TheVariants as ends
-use Rattle.run_cli.specs.Call.{Call, Reading, Writing, HasGiven, HasTaken, HasReadFault, HasWriteFault, Writes}
+use Rattle.run_cli.specs.Call.{Call, Reading, Writing, HasTaken, HasReadFault, HasWriteFault, Writes}
 use Rattle.run_cli.specs.Cause.{Gets, HasInput, HasTooMuch}
 use Rattle.run_cli.specs.Ending.{IsFinished}
 use Rattle.run_cli.specs.Executed.{TookParts, report_ending}
@@ -138,8 +136,8 @@ live_status (ends.Outcome o) = outcome_status o
 live_status (ends.Fault fault) = fault_status fault
 live_status ends.Receipt = 13
 
--- the source's count of faults rose exactly where `live` ends since reading failed; where memory was wanting it may have
--- risen
+-- the source's count of faults rose exactly where `live` ends since reading failed; where memory was wanting it may
+-- have risen
 abbrev pub CountsLive : Reading → LiveEnding → Type 0
 CountsLive r (ends.Fault fault) = CountsReadAtEnd {T = Unit {0}} r (Err fault)
 CountsLive r _ = r.faults_after ≡ r.faults

@@ -12,8 +12,8 @@ use Rattle.run_cli.specs.Given.{IsTooLong, IsWithin, input_limit}
 abbrev pub IsLiveWord : List (List ℕ) → Type 0
 IsLiveWord words = words ≡ codes "live" ∷ []
 
--- the source was read to its end, and the line of this number is the first that isn't as it is to be: the first where it
--- is no plan line, else the second
+-- the source was read to its end, and the line of this number is the first that isn't as it is to be: the first where
+-- it is no plan line, else the second
 abbrev pub HasBadPlanLine : Reading → ℕ → Type 0
 HasBadPlanLine r number =
     (bytes : List ℕ) × HasGiven r bytes × AtEnd r.left_after × (length bytes ≤ input_limit)

@@ -29,8 +29,8 @@ use Rattle.run_cli.specs.Finish.{EndsAtFault, EndsAtOutcome}
 use Rattle.run_cli.specs.Live.{workers_in}
 use Rattle.run_cli.specs.Text.{fault_only}
 
--- a run is over with this outcome: its asks are those of its journal, the sink took the lines of its events, each whole,
--- or of one that was refused a front part, and whether one was is said
+-- a run is over with this outcome: its asks are those of its journal, the sink took the lines of its events, each
+-- whole, or of one that was refused a front part, and whether one was is said
 pub record IsOver (p : Settings) (w : Writing) (refusals : ℕ) (journal : List Entry) (asks : List (ℕ × Ask))
     (o : RunOutcome) (refused : Bool) : Type 0 where
   pub runnable : IsRunnable p journal

@@ -1,6 +1,6 @@
 // The commands that carry out recorded turns.
 ghost use Rattle.std.specs.Prelude.{◌≡◌, map, IfSome, IsNone, string_bytes};
-ghost use Rattle.run_cli.specs.Commands.{IsNamedBy, NamesCommand, IsWidth};
+ghost use Rattle.run_cli.specs.Commands.{IsGenerateOf, IsNamedBy, IsNumber, NamesCommand, NamesGenerate};
 
 /// What is to be done with a plan and its turns.
 #[derive(Clone, Copy, Drop)]
@@ -11,24 +11,37 @@ pub enum Command {
     Progress(u32),
 }
 
-// The greatest width.
-const MOST: u32 = 1_000;
+// The greatest width, and the greatest number of tests that are generated.
+const MOST_WIDE: u32 = 1_000;
 
-// The width that a word says: digits without a `0` in front.
-fn width_of(word: &str) -> Option<u32>
-    ensures some { IfSome result (IsWidth word.now) }
-    ensures none { IsNone result → (width : _) → ¬ IsWidth word.now width }
+const MOST_TESTS: u32 = 20_000;
+
+// The number that a word says, from 1 to the greatest: digits without a `0` in front.
+fn number_of(word: &str, greatest: u32) -> Option<u32>
+    ensures some { IfSome result (IsNumber greatest word.now) }
+    ensures none { IsNone result → (number : _) → ¬ IsNumber greatest word.now number }
 {
     let (b'1'..=b'9') = *word.as_bytes().first()? else {
         return None;
     };
     match word.parse::<u32>() {
-        Ok(width) if width <= MOST => Some(width),
+        Ok(number) if number <= greatest => Some(number),
         _ => None,
     }
 }
 
-/// The command that words name, which is another than `live`.
+/// How many tests the words say that are to be generated.
+pub fn generated_tests(words: &[String]) -> Option<u32>
+    ensures some { IfSome result (λ tests. IsGenerateOf tests (map (λ w. string_bytes w) words.now)) }
+    ensures none { IsNone result → ¬ NamesGenerate (map (λ w. string_bytes w) words.now) }
+{
+    match words {
+        [word, tests] if word.as_str() == "generate" => number_of(tests.as_str(), MOST_TESTS),
+        _ => None,
+    }
+}
+
+/// The command that words name, which is another than `live` and `generate`.
 pub fn command_of(words: &[String]) -> Option<Command>
     ensures some { IfSome result (λ command. IsNamedBy command (map (λ w. string_bytes w) words.now)) }
     ensures none { IsNone result → ¬ NamesCommand (map (λ w. string_bytes w) words.now) }
@@ -36,7 +49,7 @@ pub fn command_of(words: &[String]) -> Option<Command>
     match words {
         [word] if word.as_str() == "replay" => Some(Command::Replay),
         [word, width] if word.as_str() == "progress" => {
-            Some(Command::Progress(width_of(width.as_str())?))
+            Some(Command::Progress(number_of(width.as_str(), MOST_WIDE)?))
         }
         _ => None,
     }

@@ -45,8 +45,8 @@ pub fn status_of_outcome(outcome: RunOutcome) -> u8
 // The line of want of memory, which takes none.
 const MEMORY_LINE: &[u8] = b"{\"fault\":\"memory\",\"status\":11}\n";
 
-// Says that memory was wanting, where the sink takes that.
-fn end_for_memory<K: Sink>(sink: &mut K)
+/// Says that memory was wanting, where the sink takes that.
+pub fn end_for_memory<K: Sink>(sink: &mut K)
     ensures { K.faults sink.old ≤ K.faults sink.new }
 {
     let _ = write_all(sink, MEMORY_LINE);

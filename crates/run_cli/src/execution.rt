@@ -15,7 +15,7 @@ use crate::tied::{Origin, TiedReporter};
 use crate::tied_progress::{Beginning, TiedProgress};
 use run_capture::{Failed, List, Sink};
 use run_engine::{TestRunner, TestRunnerExecuteErrors};
-use run_events::{AskList, PlanTest, RunOutcome, Turn};
+use run_events::{AskList, RunOutcome, Turn};
 use run_progress::MaxProgressRunning;
 use std::alloc::Global;
 use std::marker::Brand;
@@ -51,17 +51,6 @@ fn execute_at<K: Sink, O: Origin>(
     }
 }
 
-// How many tests match, and so are to run.
-fn matched_of(tests: &[PlanTest]) -> u64 {
-    let mut count = 0u64;
-    for test in tests {
-        if test.skip.is_none() {
-            count = count.saturating_add(1);
-        }
-    }
-    count
-}
-
 // Carries out the turns, and shows progress, with the sink's state and the display at the beginning as the type's.
 fn show_at<K: Sink, O: Beginning>(
     alloc: Global,
@@ -80,8 +69,14 @@ fn show_at<K: Sink, O: Beginning>(
         (IsExecuted (progress_form runner width) runner turns.now
         (writing_of K.Sink sink result.sink) result.asks result.answer) }
 {
-    let mode = runner.settings().plan.head.mode;
-    let count = matched_of(runner.settings().plan.tests.as_slice());
+    let plan = &runner.settings().plan;
+    let mode = plan.head.mode;
+    let count = plan
+        .tests
+        .as_slice()
+        .iter()
+        .filter(|test| test.skip.is_none())
+        .count() as u64;
     let max = MaxProgressRunning::DEFAULT_VALUE;
     let mut reporter = TiedProgress::<K, O>::new(sink, mode, count, max, width, clocks);
     let mut asks = AskList::new();

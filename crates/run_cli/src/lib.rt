@@ -7,6 +7,7 @@ mod clocks;
 mod command;
 mod ended;
 mod execution;
+mod generates;
 mod given;
 mod live;
 mod plan_line;
@@ -17,7 +18,7 @@ mod top;
 mod write;
 
 pub use live::LiveEnding;
-pub use plan_line::{builder_of, read_plan_line};
+pub use plan_line::{read_plan_line, runner_of};
 // The rest of the given surface stands in the crates below.
 pub use run_capture::{StdSink, StdSource};
 pub use run_drive::{

@@ -1,9 +1,10 @@
 // The top call: all that the program does.
-ghost use Rattle.std.specs.Prelude.{◌≡◌, ◌+◌, ◌<◌, ◌^◌, ℕ, List, map, length, string_bytes, None};
+ghost use Rattle.std.specs.Prelude.{◌≡◌, ◌+◌, ◌≤◌, ◌<◌, ◌^◌, ℕ, List, map, length, string_bytes, None};
 ghost use Rattle.run_cli.specs.Call.{reading_of, writing_of, call_of};
 ghost use Rattle.run_cli.specs.Plans.{fault_of_plan};
 ghost use Rattle.run_cli.specs.Given.{CountsReadAtEnd};
-ghost use Rattle.run_cli.specs.Commands.{NamesCommand};
+ghost use Rattle.run_cli.specs.Commands.{IsGenerateOf, NamesCommand, NamesGenerate};
+ghost use Rattle.run_cli.specs.Generates.{AnswersGenerate};
 ghost use Rattle.run_cli.specs.Finish.{IsInputEnding};
 ghost use Rattle.run_cli.specs.Ending.{IsEnding};
 ghost use Rattle.run_cli.specs.Text.{ending_status, outcome_status};
@@ -11,11 +12,12 @@ ghost use Rattle.run_cli.specs.Status.{Answers};
 ghost use Rattle.run_cli.specs.LiveGiven.{IsLiveWord};
 ghost use Rattle.run_cli.specs.Live.{unheard, IsPlanEnd, IsLiveEnd, CountsLive, AnswersLive};
 
-use crate::command::Command;
+use crate::command::{Command, generated_tests};
 use crate::ended::{Ended, end_at_fault, replay, status_of_outcome};
+use crate::generates::run_generated;
 use crate::given::{is_live, read_given, read_plan};
 use crate::live::{LiveEnded, end_without_run, run_live};
-use crate::plan_line::builder_of;
+use crate::plan_line::runner_of;
 use run_capture::{Sink, Source};
 use run_drive::Host;
 use run_engine::TestRunnerBuildError;
@@ -71,7 +73,7 @@ fn replay_input<K: Sink>(alloc: Global, command: Command, input: Input, sink: K)
         result.ending }
 {
     let Input { keys, plan, turns } = input;
-    match builder_of(keys).build(alloc, plan) {
+    match runner_of(alloc, keys, plan) {
         Ok(runner) => replay(alloc, command, runner, turns.as_slice(), sink),
         Err(error) => end_at_fault(alloc, sink, &[], fault_of_plan(error)),
     }
@@ -121,7 +123,7 @@ fn live_plan<K: Sink + Send, H: Host, X: Threads + Wait + Sync>(
         result.ending }
 {
     let (keys, plan) = said;
-    match builder_of(keys).build(alloc, unheard(plan)) {
+    match runner_of(alloc, keys, unheard(plan)) {
         Ok(runner) => run_live(rt, alloc, runner, sink, host),
         Err(error) => end_without_run(alloc, sink, fault_of_plan(error)),
     }
@@ -180,12 +182,24 @@ fn lived<S: Source, K: Sink + Send, H: Host, X: Threads + Wait + Sync>(
     (ran, live)
 }
 
+// Carries out a generated run.
+fn generated<K: Sink>(alloc: Global, tests: u32, sink: K) -> Ran<K>
+    requires { tests ≤ 20000 }
+    ensures { AnswersGenerate tests (writing_of K.Sink sink result.sink) result.status }
+{
+    let Ended { ending, sink } = run_generated(alloc, tests, sink);
+    Ran {
+        status: status_of_ending(ending),
+        sink,
+    }
+}
+
 /// Does all that the program does. It answers the status with the sink, and after `live` what is left of the run, but
-/// where none was made or memory was wanting. Lines go to the sink as events are told, then the asks, then the outcome or
-/// the fault. What each status says and what status each cause gives stands in `Answers`, the headline first: where the
-/// status is that of an outcome, each setup script and each test of the plan has its fate. `AnswersLive` has the same of
-/// `live`, whose turns are those of the journal that is handed back. Want of memory may come at any point, and is status
-/// 11.
+/// where none was made or memory was wanting. Lines go to the sink as events are told, then the asks, then the outcome
+/// or the fault. What each status says and what status each cause gives stands in `Answers`, the headline first: where
+/// the status is that of an outcome, each setup script and each test of the plan has its fate. `AnswersLive` has the
+/// same of `live`, whose turns are those of the journal that is handed back, and `AnswersGenerate` of `generate`, whose
+/// plan and turns are generated, and which reads nothing. Want of memory may come at any point, and is status 11.
 pub fn run<S: Source, K: Sink + Send, H: Host, X: Threads + Wait + Sync>(
     rt: &X,
     alloc: Global,
@@ -197,7 +211,12 @@ pub fn run<S: Source, K: Sink + Send, H: Host, X: Threads + Wait + Sync>(
     ensures replay { let said = map (λ w. string_bytes w) words.now in
         let reading = reading_of S.Source source.old source.new in
         let call = call_of said reading (writing_of K.Sink sink result.0.sink) in
-        ¬ IsLiveWord said → Answers call result.0.status × (result.1 ≡ None) }
+        ¬ IsLiveWord said → ¬ NamesGenerate said
+        → Answers call result.0.status × (result.1 ≡ None) }
+    ensures generate { let said = map (λ w. string_bytes w) words.now in
+        (tests : ℕ) → IsGenerateOf tests said
+        → AnswersGenerate tests (writing_of K.Sink sink result.0.sink) result.0.status
+        × (result.1 ≡ None) }
     ensures live { let said = map (λ w. string_bytes w) words.now in
         let reading = reading_of S.Source source.old source.new in
         let call = call_of said reading (writing_of K.Sink sink result.0.sink) in
@@ -206,8 +225,10 @@ pub fn run<S: Source, K: Sink + Send, H: Host, X: Threads + Wait + Sync>(
         ¬ IsLiveWord said → ¬ NamesCommand said → source.new ≡ source.old }
 {
     if is_live(words) {
-        lived(rt, alloc, source, sink, host)
-    } else {
-        (replayed(alloc, words, source, sink), None)
+        return lived(rt, alloc, source, sink, host);
+    }
+    match generated_tests(words) {
+        Some(tests) => (generated(alloc, tests, sink), None),
+        None => (replayed(alloc, words, source, sink), None),
     }
 }

@@ -24,6 +24,9 @@ use Rattle.run_laws.proofs.board.OnBoard.{units-at, units-length}
 use Rattle.run_laws.proofs.board.Ordered.{board_over}
 use Rattle.run_count_laws.specs.Idle.{IsIdle}
 use Rattle.run_count_laws.proofs.IdleLemmas.{AreIdle, admits_first, get_within}
+use Rattle.run_laws.proofs.board.OnBoard.{index_in}
+use Rattle.run_events.specs.declared.stress.StressIndex.{StressIndex}
+use Rattle.run_laws.proofs.board.OnBoard.{frame_of}
 
 -- each unit of a list that was admitted is over
 AreOver : List (Option UnitView) → Type 0
@@ -88,15 +91,16 @@ unfolding AreOver
 drop_over n us over j u is = over (n + j) u (sym (get_or-drop n us j None) ∙ is)
 
 -- so there is a newcomer: the next script
-next_script : (p : Settings) (us : List (Option UnitView)) → AreOver us → scripts_over p us ≡ false
-    → is_some (newcomer p us) ≡ true
-next_script p us over some =
-    ap (λ b. is_some (if b then test_newcomer p us else option_and_then becomes (open_script (scripts_of p us)))) some
+next_script : (p : Settings) (index : Option StressIndex) (us : List (Option UnitView)) → AreOver us
+    → scripts_over p us ≡ false
+    → is_some (newcomer p index us) ≡ true
+next_script p index us over some =
+    ap (λ b. is_some (if b then test_newcomer p index us else option_and_then becomes (open_script (scripts_of p us)))) some
     ∙ ap (λ o. is_some (option_and_then becomes o)) opens.is
-    ∙ ap (λ o. is_some (script_newcomer p opens.place o)) found.1
+    ∙ ap (λ o. is_some (script_newcomer p index opens.place o)) found.1
   where
     becomes : ℕ → Option Newcomer
-    becomes i = script_newcomer p i (slice_get p.plan.scripts i)
+    becomes i = script_newcomer p index i (slice_get p.plan.scripts i)
 
     opens : IsOpen (scripts_of p us)
     opens = next_open (scripts_of p us) (take_over (scripts_in p) us over) some
@@ -105,18 +109,19 @@ next_script p us over some =
     found = get_within p.plan.scripts opens.place (omega (arith, opens.within, length-take (scripts_in p) us))
 
 -- or, where all scripts are over, the first test that waits
-next_test : (p : Settings) (run : List Happening) (k : ℕ) → AreOver (units p run) → scripts_over p (units p run) ≡ true
-    → k < units_in p → unit_of k run ≡ None → is_some (newcomer p (units p run)) ≡ true
-next_test p run k over all below none =
-    ap (λ b. is_some (if b then test_newcomer p us else option_and_then becomes (open_script (scripts_of p us)))) all
-    ∙ admits_first p us j (over_idle (drop (scripts_in p) us) (drop_over (scripts_in p) us over))
+next_test : (p : Settings) (index : Option StressIndex) (run : List Happening) (k : ℕ) → AreOver (units p run)
+    → scripts_over p (units p run) ≡ true
+    → k < units_in p → unit_of k run ≡ None → is_some (newcomer p index (units p run)) ≡ true
+next_test p index run k over all below none =
+    ap (λ b. is_some (if b then test_newcomer p index us else option_and_then becomes (open_script (scripts_of p us)))) all
+    ∙ admits_first p index us j (over_idle (drop (scripts_in p) us) (drop_over (scripts_in p) us over))
     (omega (arith, above)) waits
   where
     us : List (Option UnitView)
     us = units p run
 
     becomes : ℕ → Option Newcomer
-    becomes i = script_newcomer p i (slice_get p.plan.scripts i)
+    becomes i = script_newcomer p index i (slice_get p.plan.scripts i)
 
     above : scripts_in p ≤ k
     above = by_part (nat_lt k (scripts_in p)) refl
@@ -163,16 +168,20 @@ on_going p (e ∷ before) legal on = by_run (where_joins p past e h legal.0)
     by_run : IsOfRun p past e ⊎ IsBeforeRuns p past e → (x.over || is_over past) ≡ false
     by_run (inl of) =
         let ends : x.ends ≡ false =
-        not_over x.ends (x.begins || is_on (sub_run past)) (sym (ap is_on of.joins) ∙ on) in
-        ap (λ b. b || is_over past) ((does_after p past e h legal.0).marks.finishes ∙ ends) ∙ going
+        not_over x.ends (x.begins || is_on of.base) (sym (ap is_on of.joins) ∙ on) in
+        ap (λ b. b || is_over past) (not_so x.over refl ends) ∙ going
+      where
+        not_so : (over : Bool) → x.over ≡ over → x.ends ≡ false → over ≡ false
+        not_so false is ends = refl
+        not_so true is ends = let never : false ≡ true = sym ends ∙ of.does.marks.finishes is in cc
     by_run (inr idle) = let never : false ≡ true = sym (ap is_on idle.still) ∙ on in cc
 
 pub idle_admits : (p : Settings) (backward : List Entry) (k : ℕ) → IsLegalBackward p backward
     → is_on (sub_run (history p backward)) ≡ true → IsIdle (sub_run (history p backward)) → k < units_in p
     → unit_of k (sub_run (history p backward)) ≡ None → enabled p (history p backward) Admit ≡ true
 idle_admits p backward k legal on idle below none =
-    ap (λ b. not b && (is_on run && is_some (newcomer p us))) (on_going p backward legal on)
-    ∙ ap (λ b. b && is_some (newcomer p us)) on ∙ by_scripts (scripts_over p us) refl
+    ap (λ b. not b && (is_on run && is_some (newcomer p index us))) (on_going p backward legal on)
+    ∙ ap (λ b. b && is_some (newcomer p index us)) on ∙ by_scripts (scripts_over p us) refl
   where
     run : List Happening
     run = sub_run (history p backward)
@@ -180,9 +189,12 @@ idle_admits p backward k legal on idle below none =
     us : List (Option UnitView)
     us = units p run
 
+    index : Option StressIndex
+    index = index_in p (frame_of p (history p backward))
+
     over : AreOver us
     over = units_over p run idle
 
-    by_scripts : (b : Bool) → scripts_over p us ≡ b → is_some (newcomer p us) ≡ true
-    by_scripts false some = next_script p us over some
-    by_scripts true all = next_test p run k over all below none
+    by_scripts : (b : Bool) → scripts_over p us ≡ b → is_some (newcomer p index us) ≡ true
+    by_scripts false some = next_script p index us over some
+    by_scripts true all = next_test p index run k over all below none

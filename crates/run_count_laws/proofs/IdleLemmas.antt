@@ -1,7 +1,9 @@
--- Where no test is in use the first that waits can be admitted.
-use Rattle.std.proofs.Common.{◌≡◌, ℕ, zero, suc, ◌+◌, ◌<◌, ◌≤◌, ◌||◌, min, List, [], ◌∷◌, length, get_or, Bool, true}
+-- Where no test is in use and one waits, one can be admitted.
+use Rattle.std.proofs.Common.{◌≡◌, ℕ, zero, suc, ◌+◌, ◌<◌, ◌≤◌, ◌&&◌, ◌||◌, min, List, [], ◌∷◌, length, get_or, Bool}
+use Rattle.std.proofs.Common.{true}
 use Rattle.std.proofs.Common.{false, not, cond, if◌then◌else◌, nat_lt, sum_by, Option, Some, None, is_none, is_some}
 use Rattle.std.proofs.Common.{option_map, option_and_then, slice_get, slice_index, refl, ap, ◌∙◌, arith}
+use Rattle.std.specs.Prelude.{int_lt}
 use Rattle.std.specs.Option.{option_map_or}
 use Rattle.std.specs.List.{list_any, position_or_len, zip}
 use Rattle.std.proofs.lemmas.Bool.Decides.{nat_tests}
@@ -19,9 +21,12 @@ use Rattle.run_admission.specs.declared.seat.Candidate.{Candidate}
 use Rattle.run_admission.specs.declared.seat.Candidate.TheVariants.{Skip, Fits}
 use Rattle.run_admission.specs.InUse.{Admissions, Test, admitted_as, candidate, candidate_at, claim_of, fits_all}
 use Rattle.run_admission.specs.InUse.{fits_beside, fits_its_group, free_group_slot, free_slot, group_weight_in_use}
-use Rattle.run_admission.specs.InUse.{is_in_use, is_of, is_waiting, may_come, taken, taken_in, tests, weight_in_use}
+use Rattle.run_admission.specs.InUse.{is_in_use, is_of, is_waiting, may_come, comes_next, taken, taken_in, tests}
+use Rattle.run_admission.specs.InUse.{weight_in_use}
+use Rattle.run_count_laws.proofs.GreatestLemmas.{greatest}
 use Rattle.run_model.specs.declared.unit_view.UnitView.{UnitView}
 use Rattle.run_model.specs.Admission.{Newcomer, limits_of, newcomer_as, newcomer_skipped, test_newcomer, test_of}
+use Rattle.run_events.specs.declared.stress.StressIndex.{StressIndex}
 
 -- no seat of a list is in use
 abbrev pub AreIdle : List Seat → Type 0
@@ -87,6 +92,14 @@ some_comes f comes (c ∷ cs) (s ∷ ss) (suc j) within waits =
     or_true true b e = refl
     or_true false b e = e
 
+-- where a test may come, one comes next
+some_next : (a : Admissions) → list_any (may_come a) (tests a) ≡ true → list_any (comes_next a) (tests a) ≡ true
+some_next a some =
+    let most = greatest (may_come a) (λ (t : Test). t.0.priority) (tests a) some in
+    most.1.among (comes_next a)
+    (ap (λ b. b && not (list_any (λ u. may_come a u && int_lt most.0.0.priority u.0.priority) (tests a))) most.1.passes
+    ∙ ap not most.1.none_above)
+
 -- the place of the first
 first_within : {X : Type 0} (f : X → Bool) (xs : List X) → list_any f xs ≡ true → position_or_len f xs < length xs
 first_within f [] some = cc
@@ -111,37 +124,39 @@ above-is : (a b : ℕ) → a < b → nat_lt a b ≡ true
 above-is a b h = grind (arith, nat_tests)
 
 -- what becomes of the test there
-admits_test : (p : Settings) (us : List (Option UnitView)) (i : ℕ) (test : PlanTest) (skip : Option (List ℕ))
+admits_test : (p : Settings) (index : Option StressIndex) (us : List (Option UnitView)) (i : ℕ) (test : PlanTest)
+    (skip : Option (List ℕ))
     → slice_get p.plan.tests i ≡ Some test → test.skip ≡ skip
     → candidate (limits_of p us) ≡ Some (if is_none skip then Fits i else Skip i)
-    → is_some (test_newcomer p us) ≡ true
-admits_test p us i test None planned skip comes =
+    → is_some (test_newcomer p index us) ≡ true
+admits_test p index us i test None planned skip comes =
     let r : Admitted = Run i (free_slot a) (option_and_then (free_group_slot a) (slice_get a.claims i)) in
     ap (λ o. is_some (option_and_then becomes (option_and_then (admitted_as a) o))) comes
-    ∙ ap (λ o. is_some (newcomer_as p us r o)) planned
+    ∙ ap (λ o. is_some (newcomer_as p index us r o)) planned
   where
     a : Admissions
     a = limits_of p us
 
     becomes : Admitted → Option Newcomer
-    becomes r = newcomer_as p us r (slice_get p.plan.tests (test_of r))
-admits_test p us i test (Some reason) planned skip comes =
+    becomes r = newcomer_as p index us r (slice_get p.plan.tests (test_of r))
+admits_test p index us i test (Some reason) planned skip comes =
     ap (λ o. is_some (option_and_then becomes (option_and_then (admitted_as a) o))) comes
-    ∙ ap (λ o. is_some (newcomer_as p us (Skipped i) o)) planned
-    ∙ ap (λ o. is_some (newcomer_skipped p i test o)) skip
+    ∙ ap (λ o. is_some (newcomer_as p index us (Skipped i) o)) planned
+    ∙ ap (λ o. is_some (newcomer_skipped p index i test o)) skip
   where
     a : Admissions
     a = limits_of p us
 
     becomes : Admitted → Option Newcomer
-    becomes r = newcomer_as p us r (slice_get p.plan.tests (test_of r))
+    becomes r = newcomer_as p index us r (slice_get p.plan.tests (test_of r))
 
 -- so where no seat is in use and a test waits, one is admitted
-pub admits_first : (p : Settings) (us : List (Option UnitView)) (j : ℕ) → AreIdle (limits_of p us).seats
+pub admits_first : (p : Settings) (index : Option StressIndex) (us : List (Option UnitView)) (j : ℕ)
+    → AreIdle (limits_of p us).seats
     → j < length p.plan.tests → get_or (limits_of p us).seats j Gone ≡ Waiting
-    → is_some (test_newcomer p us) ≡ true
-admits_first p us j idle within waits =
-    admits_test p us i found.0 found.0.skip found.1 refl
+    → is_some (test_newcomer p index us) ≡ true
+admits_first p index us j idle within waits =
+    admits_test p index us i found.0 found.0.skip found.1 refl
     (ap (λ b. option_and_then at (cond b (Some i) None)) (above-is i (length (tests a)) first)
     ∙ ap (option_map (λ claim. candidate_at i claim (fits_all a claim)))
     (slice_get-map (claim_of p.plan.groups) p.plan.tests i ∙ ap (option_map (claim_of p.plan.groups)) found.1)
@@ -153,7 +168,7 @@ admits_first p us j idle within waits =
     a = limits_of p us
 
     i : ℕ
-    i = position_or_len (may_come a) (tests a)
+    i = position_or_len (comes_next a) (tests a)
 
     at : ℕ → Option Candidate
     at test = option_map (λ claim. candidate_at test claim (fits_all a claim)) (slice_get a.claims test)
@@ -163,7 +178,7 @@ admits_first p us j idle within waits =
         (omega (arith, length-map p.plan.tests (claim_of p.plan.groups))) waits
 
     first : i < length (tests a)
-    first = first_within (may_come a) (tests a) some
+    first = first_within (comes_next a) (tests a) (some_next a some)
 
     found : (test : PlanTest) × (slice_get p.plan.tests i ≡ Some test)
     found = get_within p.plan.tests i

@@ -8,5 +8,6 @@ pub mod SlotsTold
 pub mod PlanLemmas
 pub mod WithinLemmas
 pub mod BeginLemmas
+mod GreatestLemmas
 pub mod IdleLemmas
 pub mod IdleBoards

@@ -1,6 +1,6 @@
 -- What the own event of each turn says of the board: its moment, and the counts with that event.
 use Rattle.std.proofs.Common.{◌≡◌, ℕ, List, [], ◌∷◌, Bool, true, false, not, if◌then◌else◌, Option, Some, None}
-use Rattle.std.proofs.Common.{option_map, refl}
+use Rattle.std.proofs.Common.{option_map, refl, ◌==◌}
 use Rattle.std.specs.Prelude.{IfSome}
 use Rattle.std.specs.Cmp.{second_so}
 use Rattle.run_events.specs.declared.settings.Settings.{Settings}
@@ -37,12 +37,16 @@ use Rattle.run_laws.proofs.board.ByTurn.{by_turn}
 use Rattle.run_count_laws.specs.Moments.{SaysMoment}
 use Rattle.run_count_laws.specs.Counts.{running_said_in, running_said, scripts_said_in, scripts_said, stats_said_in}
 use Rattle.run_count_laws.specs.Counts.{stats_said}
+use Rattle.run_events.specs.declared.events.TestEventKind.TheVariants.{RunStarted}
+use Rattle.run_commands.specs.declared.stress_count.StressCondition.{StressCondition}
+use Rattle.run_model.specs.Turns.{index_of, ends_as, sub_run_started}
+use Rattle.run_model.specs.Turns.{begins_as}
 
 -- an event says what these counts are
 pub record SaysTally (t : Tally) (e : ReporterEvent) : Type 0 where
   pub running : IfSome (running_said e) (λ n. n ≡ t.running)
   pub scripts : IfSome (scripts_said e) (λ n. n ≡ t.scripts_running)
-  pub stats : IfSome (stats_said e) (λ s. s ≡ Single t.stats)
+  pub stats : IfSome (stats_said e) (λ s. s ≡ t.stats)
 
 -- what is told by a board says its moment, and the counts with that event
 pub record TellsBoard (b : Board) (o : Option ReporterEvent) : Type 0 where
@@ -57,7 +61,7 @@ silent b = record { moment = tt; counts = tt }
 record CountsItself (t : Tally) (kind : TestEventKind) : Type 0 where
   running : IfSome (running_said_in kind) (λ n. n ≡ (tallied kind t).running)
   scripts : IfSome (scripts_said_in kind) (λ n. n ≡ (tallied kind t).scripts_running)
-  stats : IfSome (stats_said_in kind) (λ s. s ≡ Single (tallied kind t).stats)
+  stats : IfSome (stats_said_in kind) (λ s. s ≡ (tallied kind t).stats)
 
 of_kind : (b : Board) (o : Option TestEventKind) → IfSome o (CountsItself b.dispatcher.tally)
     → TellsBoard b (option_map (event (moment_by b.clock b.dispatcher.watch)) o)
@@ -157,15 +161,15 @@ pub own_tells : (p : Settings) (b : Board) (turn : Turn) → enabled_on p b turn
 own_tells p b turn en =
     by_turn (λ turn named. takes_turn p b turn named ≡ true → TellsBoard b (done_by p b turn named).told)
     (record {
-      begin = λ en. record { moment = (refl, refl); counts = record { running = tt; scripts = tt; stats = tt } };
-      admit = λ en. admission_tells b (newcomer p b.units);
+      begin = λ en. begun (b.dispatcher.sub_runs.ended == 0);
+      admit = λ en. admission_tells b (newcomer p (index_of b.dispatcher) b.units);
       deliver = λ en. delivery_tells b b.queue;
       named = λ turn k to other en. silent b;
       clock = λ ns en. silent b;
       signal = λ signal en. signal_tells b (live_in b.units) signal (heard_by b.dispatcher.rules.hearing signal);
       global_due = λ en. silent b;
       report_cancel = λ en. silent b;
-      end = λ en. record { moment = (refl, refl); counts = record { running = tt; scripts = tt; stats = refl } };
+      end = λ en. ended b.dispatcher.head.stress;
       key = λ key en. key_tells b (live_in b.units) (heard_key b.dispatcher.rules.hearing.input key);
       tick = λ en. record { moment = tt; counts = record { running = tt; scripts = tt; stats = tt } };
       stop_wait_due = λ en. silent b;
@@ -173,3 +177,17 @@ own_tells p b turn en =
       info_due = λ en. of_kind b (Some _) (record { running = tt; scripts = tt; stats = tt });
     })
     turn (second_so (not b.dispatcher.over) (takes_turn p b turn (turn_of_unit turn)) en)
+  where
+    begun : (first : Bool) → TellsBoard b (begins_as b.clock b.dispatcher first).told
+    begun true = record { moment = (refl, refl); counts = record { running = tt; scripts = tt; stats = tt } }
+    begun false = by_stress b.dispatcher.head.stress
+      where
+        by_stress : (o : Option StressCondition) → TellsBoard b (option_map (sub_run_started b.clock b.dispatcher) o)
+        by_stress None = silent b
+        by_stress (Some condition) =
+            record { moment = (refl, refl); counts = record { running = tt; scripts = tt; stats = tt } }
+
+    ended : (o : Option StressCondition) → TellsBoard b (ends_as b.clock b.dispatcher o).told
+    ended None = record { moment = (refl, refl); counts = record { running = tt; scripts = tt; stats = refl } }
+    ended (Some condition) =
+        record { moment = (refl, refl); counts = record { running = tt; scripts = tt; stats = refl } }

@@ -24,6 +24,7 @@ use Rattle.run_model.specs.declared.unit_view.UnitView.{UnitView}
 use Rattle.run_model.specs.Admission.{unit_of_test, group_slot, limits_of, Newcomer, newcomer}
 use Rattle.run_laws.proofs.board.Newcomers.{Becomes, Newcomes, ScriptComes, newcomer_is}
 use Rattle.run_count_laws.specs.PlanLimits.{group_named, group_of_plan}
+use Rattle.run_events.specs.declared.stress.StressIndex.{StressIndex}
 
 -- a start has the slots of a test of the plan
 pub record StartFits (p : Settings) (start : TestStart) : Type 0 where
@@ -96,11 +97,12 @@ names_group groups (Some name) free =
     by_place false is = ap (λ b. if b then Some name else None) is
 
 -- what an admission sends
-becomes_fits : (p : Settings) (us : List (Option UnitView)) (place : ℕ) (test : PlanTest) (new : Newcomer)
-    → slice_get p.plan.tests place ≡ Some test → Becomes p us place test new → MessageFits p new.sent
-becomes_fits p us place test new planned (inl (reason, skip, is)) =
+becomes_fits : (p : Settings) (index : Option StressIndex) (us : List (Option UnitView)) (place : ℕ) (test : PlanTest)
+    (new : Newcomer)
+    → slice_get p.plan.tests place ≡ Some test → Becomes p index us place test new → MessageFits p new.sent
+becomes_fits p index us place test new planned (inl (reason, skip, is)) =
     subst (λ (n : Newcomer). MessageFits p n.sent) (sym is) tt
-becomes_fits p us place test new planned (inr (skip, (global, (slot, runs, is)))) =
+becomes_fits p index us place test new planned (inr (skip, (global, (slot, runs, is)))) =
     subst (λ (n : Newcomer). MessageFits p n.sent) (sym is) (record {
       place = place;
       test = test;
@@ -119,10 +121,11 @@ becomes_fits p us place test new planned (inr (skip, (global, (slot, runs, is)))
         ∙ ap (option_and_then (free_group_slot a))
         (slice_get-map (claim_of p.plan.groups) p.plan.tests place ∙ ap (option_map (claim_of p.plan.groups)) planned)
 
-pub newcomer_fits : (p : Settings) (us : List (Option UnitView)) (new : Newcomer) → newcomer p us ≡ Some new
+pub newcomer_fits : (p : Settings) (index : Option StressIndex) (us : List (Option UnitView)) (new : Newcomer)
+    → newcomer p index us ≡ Some new
     → MessageFits p new.sent
-newcomer_fits p us new e = by_kind (newcomer_is p us new e)
+newcomer_fits p index us new e = by_kind (newcomer_is p index us new e)
   where
-    by_kind : Newcomes p us new ⊎ ScriptComes p us new → MessageFits p new.sent
-    by_kind (inl it) = becomes_fits p us it.place it.test new it.planned it.is
+    by_kind : Newcomes p index us new ⊎ ScriptComes p index us new → MessageFits p new.sent
+    by_kind (inl it) = becomes_fits p index us it.place it.test new it.planned it.is
     by_kind (inr it) = subst (λ (n : Newcomer). MessageFits p n.sent) (sym it.is) tt

@@ -32,14 +32,19 @@ use Rattle.run_model.specs.Turns.{enabled_on, takes_turn, turn_of_unit, admissio
 use Rattle.run_model.specs.Turns.{tally_with, taken_by, delivered_as, delivery, done_by, deed_on, live_in, oldest_of}
 use Rattle.run_model.specs.Journal.{history, IsLegalBackward}
 use Rattle.run_laws.proofs.board.ByTurn.{by_turn}
-use Rattle.run_laws.proofs.told.Cancels.{IsCancel, IsCancelKind}
+use Rattle.run_laws.proofs.told.Cancels.{IsAfter, IsAfterKind}
 use Rattle.run_laws.proofs.told.Asides.{IsAside, answer_aside, by_signal, key_aside}
 use Rattle.run_events.specs.Hearing.{heard_key}
 use Rattle.run_laws.proofs.board.DeedFits.{cancel_told, ToldFits, ToldFitsIn, IsInOrder, PartFits, IsSentAs, Does}
 use Rattle.run_laws.proofs.units.FaceLemmas.{said_in, SendsNoStart, row_sends_none}
-use Rattle.run_laws.proofs.board.Kept.{HoldsAfter, does_after, IsOfRun, IsBeforeRuns, where_joins, holds}
+use Rattle.run_laws.proofs.board.Kept.{HoldsAfter, from_base, IsOfRun, IsBeforeRuns, where_joins, holds}
 use Rattle.run_laws.proofs.units.Rows.{takes_moment}
 use Rattle.run_count_laws.proofs.SlotLemmas.{StartFits, MessageFits, newcomer_fits}
+use Rattle.run_laws.proofs.board.OnBoard.{Frame}
+use Rattle.run_laws.proofs.board.OnBoard.{frame_of}
+use Rattle.run_laws.proofs.told.Bounds.{begin_cases, end_cases}
+use Rattle.run_events.specs.declared.events.TestEventKind.TheVariants.{RunFinished, StressSubRunStarted}
+use Rattle.run_model.specs.Turns.{index_of}
 
 -- the message of a unit that joins fits
 JoinsFit : Settings → Deed → Type 0
@@ -51,10 +56,11 @@ unfolding JoinsFit
 caused_joins p now t None d h = h
 caused_joins p now t (Some cause) d h = h
 
-admission_joins : (p : Settings) (b : Board) (o : Option Newcomer) → newcomer p b.units ≡ o → JoinsFit p (admission o)
+admission_joins : (p : Settings) (b : Board) (o : Option Newcomer) → newcomer p (index_of b.dispatcher) b.units ≡ o
+    → JoinsFit p (admission o)
 unfolding JoinsFit
 admission_joins p b None is = λ first e. cc
-admission_joins p b (Some new) is = λ first e. newcomer_fits p b.units new is
+admission_joins p b (Some new) is = λ first e. newcomer_fits p (index_of b.dispatcher) b.units new is
 
 taken_joins : (p : Settings) (now k : ℕ) (turn : UnitTurn) (v : Option UnitView) → JoinsFit p (taken_by now k turn v)
 unfolding JoinsFit
@@ -87,8 +93,8 @@ unfolding JoinsFit
 joins_fit p b turn en =
     by_turn (λ turn named. takes_turn p b turn named ≡ true → JoinsFit p (done_by p b turn named))
     (record {
-      begin = λ en first e. cc;
-      admit = λ en. admission_joins p b (newcomer p b.units) refl;
+      begin = λ en. begin_cases (JoinsFit p) (λ told after own later first e. cc) b.clock b.dispatcher;
+      admit = λ en. admission_joins p b (newcomer p (index_of b.dispatcher) b.units) refl;
       deliver = λ en. delivery_joins p b b.queue;
       named = λ turn k to other en. taken_joins p b.clock k to (unit_in b k);
       clock = λ ns en first e. cc;
@@ -96,7 +102,7 @@ joins_fit p b turn en =
           (heard_by b.dispatcher.rules.hearing signal) (λ first e. cc) (aside_joins p);
       global_due = λ en first e. cc;
       report_cancel = λ en first e. cc;
-      end = λ en first e. cc;
+      end = λ en. end_cases (JoinsFit p) (λ told after over own later first e. cc) b.clock b.dispatcher;
       key = λ key en. aside_joins p _ (key_aside b.clock (live_in b.units) b.dispatcher
           (heard_key b.dispatcher.rules.hearing.input key));
       tick = λ en first e. cc;
@@ -149,13 +155,15 @@ own_fits p run (Test event) sends fits order = by_kind event.kind fits order.sai
         (subst (All (MessageFits p)) oldest.1 (All-drop (MessageFits p) (delivered run) (sent run) sends))
     by_kind kind fits said = tt
 
-cancel_fits : (p : Settings) (event : ReporterEvent) → IsCancel (Some event) → EventFits p event
+cancel_fits : (p : Settings) (event : ReporterEvent) → IsAfter (Some event) → EventFits p event
 cancel_fits p Tick h = tt
 cancel_fits p (Test event) h = by_kind event.kind h
   where
-    by_kind : (kind : TestEventKind) → IsCancelKind kind → KindFits p kind
+    by_kind : (kind : TestEventKind) → IsAfterKind kind → KindFits p kind
     by_kind (RunBeginCancel event) h = tt
     by_kind (RunBeginKill event) h = tt
+    by_kind (StressSubRunStarted progress) h = tt
+    by_kind (RunFinished finished) h = tt
     by_kind kind h = absurd h
 
 -- what holds of the messages sent and the events told
@@ -167,21 +175,21 @@ each : {X : Type 0} (P : X → Type 0) (o : Option X) → ((x : X) → o ≡ Som
 each P None h = All-nil P
 each P (Some x) h = All-cons P x [] (h x refl) (All-nil P)
 
-fit-cons : (p : Settings) (over : Bool) (now : ℕ) (run : List Happening) (e : Entry) (d : Deed) → Does p over now run d
+fit-cons : (p : Settings) (f : Frame) (now : ℕ) (run : List Happening) (e : Entry) (d : Deed) → Does p f now run d
     → JoinsFit p d → AreFit p run → AreFit p (said now e d ∷ run)
-fit-cons p over now run e d does joins was = record {
+fit-cons p f now run e d does joins was = record {
   sends = All-append (MessageFits p) (sent run) (option_to_list d.sent) was.sends
       (each (MessageFits p) d.sent (λ m is. subst (λ o. IfSome o (MessageFits p)) is
       (sent_fits p now run d d.part refl does.part does.sent_as joins)));
-  tells = All-append (EventFits p) (told run) (option_to_list d.told ++ option_to_list d.cancel) was.tells
-      (All-append (EventFits p) (option_to_list d.told) (option_to_list d.cancel)
+  tells = All-append (EventFits p) (told run) (option_to_list d.told ++ option_to_list d.after) was.tells
+      (All-append (EventFits p) (option_to_list d.told) (option_to_list d.after)
       (each (EventFits p) d.told (λ event is. own_fits p run event was.sends
       (subst (ToldFits p (told run)) is does.tells) (subst (λ o. IfSome o (IsInOrder p run)) is does.order)))
-      (each (EventFits p) d.cancel (λ event is. cancel_fits p event (subst IsCancel is cancels))));
+      (each (EventFits p) d.after (λ event is. cancel_fits p event (subst IsAfter is cancels))));
 }
   where
-    cancels : IsCancel d.cancel
-    cancels = cancel_told p over now run d does.marks
+    cancels : IsAfter d.after
+    cancels = cancel_told p f now run d does.marks
 
 fit-nil : (p : Settings) → AreFit p []
 fit-nil p = record { sends = All-nil (MessageFits p); tells = All-nil (EventFits p) }
@@ -199,8 +207,8 @@ are_fit p (e ∷ before) legal = one_more (are_fit p before legal.2) (holds p be
       where
         by_run : IsOfRun p past e ⊎ IsBeforeRuns p past e → AreFit p (sub_run (history p (e ∷ before)))
         by_run (inl of) = subst (AreFit p) (sym of.joins)
-            (fit-cons p (is_over past) (clock past) (sub_run past) e (deed_on p (board p past) e.turn)
-            (does_after p past e h legal.0) (joins_fit p (board p past) e.turn legal.0) was)
+            (fit-cons p (frame_of p past) (clock past) of.base e (deed_on p (board p past) e.turn) of.does
+            (joins_fit p (board p past) e.turn legal.0) (from_base (AreFit p) p past e of (fit-nil p) was))
         by_run (inr none) = subst (AreFit p) (sym none.still) (fit-nil p)
 
 pub told_fit : (p : Settings) (backward : List Entry) → IsLegalBackward p backward

@@ -8,7 +8,7 @@ use Rattle.run_events.specs.declared.stats.RunStats.{RunStats}
 use Rattle.run_events.specs.declared.events.ReporterEvent.{ReporterEvent}
 use Rattle.run_events.specs.declared.events.ReporterEvent.TheVariants.{Test}
 use Rattle.run_events.specs.declared.events.RunFinishedStats.{RunFinishedStats}
-use Rattle.run_events.specs.declared.events.RunFinishedStats.TheVariants.{Single}
+use Rattle.run_events.specs.declared.events.RunFinishedStats.TheVariants.{Single, Stress}
 use Rattle.run_events.specs.declared.events.TestEventKind.{TestEventKind}
 use Rattle.run_events.specs.declared.events.TestEventKind.TheVariants.{StressSubRunFinished, TestStarted, TestFinished}
 use Rattle.run_events.specs.declared.events.TestEventKind.TheVariants.{TestAttemptFailedWillRetry, TestRetryStarted}
@@ -52,19 +52,24 @@ abbrev pub scripts_said : ReporterEvent → Option ℕ
 scripts_said (Test event) = scripts_said_in event.kind
 scripts_said _ = None
 
--- the statistics that an event says, if it says any: at the end of a run they may be those of a stress run
-abbrev pub stats_said_in : TestEventKind → Option RunFinishedStats
-stats_said_in (StressSubRunFinished event) = Some (Single event.stats)
-stats_said_in (TestStarted event) = Some (Single event.stats)
-stats_said_in (TestFinished event) = Some (Single event.stats)
-stats_said_in (InfoStarted event) = Some (Single event.stats)
-stats_said_in (InputEnter event) = Some (Single event.stats)
-stats_said_in (RunBeginCancel event) = Some (Single event.stats)
-stats_said_in (RunBeginKill event) = Some (Single event.stats)
-stats_said_in (RunFinished event) = Some event.stats
+-- the statistics of the sub-run that an event says, if it says any: at the end of a stress run they are those of its
+-- sub-runs
+abbrev pub single_of : RunFinishedStats → Option RunStats
+single_of (Single stats) = Some stats
+single_of (Stress stats) = None
+
+abbrev pub stats_said_in : TestEventKind → Option RunStats
+stats_said_in (StressSubRunFinished event) = Some event.stats
+stats_said_in (TestStarted event) = Some event.stats
+stats_said_in (TestFinished event) = Some event.stats
+stats_said_in (InfoStarted event) = Some event.stats
+stats_said_in (InputEnter event) = Some event.stats
+stats_said_in (RunBeginCancel event) = Some event.stats
+stats_said_in (RunBeginKill event) = Some event.stats
+stats_said_in (RunFinished event) = single_of event.stats
 stats_said_in _ = None
 
-abbrev pub stats_said : ReporterEvent → Option RunFinishedStats
+abbrev pub stats_said : ReporterEvent → Option RunStats
 stats_said (Test event) = stats_said_in event.kind
 stats_said _ = None
 
@@ -84,13 +89,13 @@ pub record SaysCounts (p : Settings) (why : Option CancelReason) (events : List 
     : Type 0 where
   pub running : IfSome (running_said event) (λ n. n ≡ running_tests p events)
   pub scripts : IfSome (scripts_said event) (λ n. n ≡ running_scripts p events)
-  pub stats : IfSome (stats_said event) (λ s. s ≡ Single (stats_of_events p why events))
+  pub stats : IfSome (stats_said event) (λ s. s ≡ stats_of_events p why events)
 
 -- what a turn after others of its sub-run tells says the counts up to and with it: its own event with the reason of
--- the causes before it, and the event of its cause, which comes last, with that of all causes up to and with it
+-- the causes before it, and the event that comes last with that of all causes up to and with it
 pub record TellsCounts (p : Settings) (before : List Happening) (x : Happening) : Type 0 where
   pub own : IfSome x.told (SaysCounts p (reason before) (told before ++ option_to_list x.told))
-  pub cause : IfSome x.cancel (SaysCounts p (reason (x ∷ before)) (told (x ∷ before)))
+  pub cause : IfSome x.after (SaysCounts p (reason (x ∷ before)) (told (x ∷ before)))
 
 -- that holds of each turn of every legal journal
 abbrev pub EventsSayCounts : Type 0

@@ -11,9 +11,10 @@ use Rattle.run_events.specs.declared.events.TestEventKind.{TestEventKind}
 use Rattle.run_events.specs.declared.events.TestEventKind.TheVariants.{RunStarted as RunStarts}
 use Rattle.run_model.specs.declared.entry.Entry.{Entry}
 use Rattle.run_model.specs.declared.happening.Happening.{Happening}
-use Rattle.run_model.specs.Words.{events_in, sub_run}
+use Rattle.run_model.specs.Words.{events_in, sub_run, ended_runs}
 use Rattle.run_model.specs.Turns.{happening}
 use Rattle.run_model.specs.Journal.{IsLegal, past_of}
+use Rattle.std.specs.Prelude.{◌&&◌, ◌==◌}
 
 -- the start of a run that an event tells, if it tells that
 abbrev pub run_start_in : TestEventKind → Option RunStarted
@@ -37,14 +38,15 @@ pub record IsStartOf (p : Settings) (start : RunStarted) : Type 0 where
   pub profile : start.profile ≡ p.plan.head.profile
   pub stress : start.stress ≡ p.stress
 
--- a turn after others of its sub-run tells that the run starts exactly where it is a begin, which is the first turn
--- of the sub-run; and it tells what the plan says
-pub record TellsRunStart (p : Settings) (before : List Happening) (x : Happening) : Type 0 where
-  pub exactly : list_any (λ event. is_some (run_start event)) (events_in x) ≡ is_begin x.turn
-  pub first : is_begin x.turn ≡ true → before ≡ []
+-- a turn tells that the run starts exactly where it begins the first sub-run, with what the plan says; and a begin is
+-- the first turn of its sub-run
+pub record TellsRunStart (p : Settings) (past : List Happening) (x : Happening) : Type 0 where
+  pub exactly : list_any (λ event. is_some (run_start event)) (events_in x)
+      ≡ (is_begin x.turn && length (ended_runs past) == 0)
+  pub first : is_begin x.turn ≡ true → sub_run (x ∷ past) ≡ x ∷ []
   pub of_plan : All (λ event. IfSome (run_start event) (IsStartOf p)) (events_in x)
 
 -- that holds of each turn of every legal journal
 abbrev pub RunStartsWithPlan : Type 0
 RunStartsWithPlan = (p : Settings) (journal : List Entry) (e : Entry) → IsLegal p (journal ++ e ∷ [])
-    → TellsRunStart p (sub_run (past_of p journal)) (happening p (past_of p journal) e)
+    → TellsRunStart p (past_of p journal) (happening p (past_of p journal) e)

@@ -5,7 +5,8 @@ use Rattle.run_events.specs.declared.turn.Turn.{Turn}
 use Rattle.run_model.specs.Board.{Board, Deed, deed_events, dispatched}
 use Rattle.run_model.specs.Cancel.{Cause, cause_of, caused}
 use Rattle.run_model.specs.Dispatch.{moment_by, is_third}
-use Rattle.run_model.specs.Turns.{delivered_as, delivers, delivery_of, event_of, tally_with, is_third_signal, nothing_done}
+use Rattle.run_model.specs.Turns.{delivered_as, delivers, delivery_of, event_of, tally_with, is_third_signal}
+use Rattle.run_model.specs.Turns.{nothing_done}
 
 -- a delivery tells, asks and leaves the same whatever its unit does
 with_told : (b : Board) (m : Message) (answer : Deed) (cause : Option Cause)

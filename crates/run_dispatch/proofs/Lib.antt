@@ -1,5 +1,8 @@
 mod CurrentLemmas
 pub mod BoardLemmas
 mod FinishLemmas
+mod SeenLemmas
+mod SetLemmas
+mod BoundLemmas
 mod SignalLemmas
 mod TallyLemmas

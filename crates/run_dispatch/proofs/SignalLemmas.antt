@@ -6,7 +6,7 @@ use Rattle.run_events.specs.declared.cancel.CancelReason.TheVariants.{SecondSign
 use Rattle.run_events.specs.declared.signal.Signal.{Signal}
 use Rattle.run_events.specs.declared.signal.Signal.TheVariants.{Int}
 use Rattle.run_model.specs.declared.dispatcher_view.DispatcherView.{DispatcherView}
-use Rattle.run_model.specs.Board.{deed_events, dispatched, causes_after, with_cause}
+use Rattle.run_model.specs.Board.{deed_events, causes_after, with_cause}
 use Rattle.run_model.specs.Cancel.{Cause, cancelled_for, is_above, event_refused, time_is_up}
 use Rattle.run_model.specs.Cancel.{signal_cause, first_reason, shutdown_by}
 use Rattle.run_events.specs.declared.request.Request.TheVariants.{Shutdown}
@@ -15,21 +15,23 @@ use Rattle.run_model.specs.Words.{is_by_signal, is_by_report, is_by_time}
 use Rattle.run_model.specs.Dispatch.{moment_by}
 use Rattle.run_model.specs.Rounds.{opens_round}
 use Rattle.run_model.specs.Turns.{cancels_for}
-use Rattle.run_dispatch.specs.Deeds.{Does}
+use Rattle.run_dispatch.specs.Deeds.{Acts, with_seen}
 use Rattle.run_dispatch.specs.declared.effects.DispatchEffects.{DispatchEffects}
-use Rattle.run_dispatch.proofs.FinishLemmas.{cancel_counts, no_round, noted}
+use Rattle.run_dispatch.proofs.FinishLemmas.{cancel_counts, cancel_sees, no_round, noted}
 
 -- a cause alone, which opens no round
 cancelled : (now : ℕ) (d : DispatcherView) (cause : Cause) → opens_round (Some cause.request) ≡ false
-    → dispatched now d (cancels_for now d cause)
+    → with_seen now d (cancels_for now d cause)
     ≡ record d {
       causes = causes_after now d.rules d.causes (cancels_for now d cause);
       tally = with_cause (Some cause.reason) d.tally;
       latest = now;
     }
 cancelled now d cause is =
-    noted now d (cancels_for now d cause) refl refl refl refl (record { act = refl; answer = refl; ends = refl })
+    noted now d (cancels_for now d cause) refl refl refl refl (record { act = refl; answer = refl; ends = refl; seen = λ unseen. refl })
     (no_round (is_above d.tally.stats.cancel_reason cause.reason) cause.request is) refl
+    (cancel_sees (moment_by now d.watch) d.rerun (cancelled_for cause.reason d.tally)
+    (is_above d.tally.stats.cancel_reason cause.reason) cause.reason)
     ∙ ap
     (λ u. record d {
       causes = causes_after now d.rules d.causes (cancels_for now d cause);
@@ -40,7 +42,7 @@ cancelled now d cause is =
     (is_above d.tally.stats.cancel_reason cause.reason) cause.reason)
 
 -- a refused event, and the end of a sub-run's time, leave this
-pub refused_after : (now : ℕ) (d : DispatcherView) → dispatched now d (cancels_for now d event_refused)
+pub refused_after : (now : ℕ) (d : DispatcherView) → with_seen now d (cancels_for now d event_refused)
     ≡ record d {
       causes = record d.causes { reported = true };
       tally = with_cause (Some event_refused.reason) d.tally;
@@ -56,7 +58,7 @@ refused_after now d =
     })
     (omega arith)
 
-pub run_out_after : (now : ℕ) (d : DispatcherView) → dispatched now d (cancels_for now d time_is_up)
+pub run_out_after : (now : ℕ) (d : DispatcherView) → with_seen now d (cancels_for now d time_is_up)
     ≡ record d {
       causes = record d.causes { global = None };
       tally = with_cause (Some time_is_up.reason) d.tally;
@@ -109,7 +111,7 @@ signal_opens n signal =
 
 -- a signal counts
 signalled : (now : ℕ) (d : DispatcherView) (signal : Signal)
-    → dispatched now d (cancels_for now d (signal_cause d.causes.signals signal))
+    → with_seen now d (cancels_for now d (signal_cause d.causes.signals signal))
     ≡ record d {
       causes = record d.causes { signals = d.causes.signals + 1 };
       tally = with_cause (Some (signal_cause d.causes.signals signal).reason) d.tally;
@@ -127,7 +129,7 @@ pub signal_does : (now : ℕ) (d left : DispatcherView) (signal : Signal) (cause
     → cause ≡ signal_cause d.causes.signals signal
     → fx ≡ record { events = deed_events (cancels_for now d cause); request = (cancels_for now d cause).request; asked = None; go = None }
     → left ≡ record d { tally = with_cause (Some cause.reason) d.tally; latest = now }
-    → Does now d (cancels_for now d (signal_cause d.causes.signals signal)) None
+    → Acts now d (cancels_for now d (signal_cause d.causes.signals signal)) None
     (record left { causes = record left.causes { signals = left.causes.signals + 1 } }) fx
 signal_does now d left signal cause fx is gives leaves =
     let all = signal_cause d.causes.signals signal in

@@ -1,5 +1,5 @@
 -- What the dispatcher says of itself.
-use Rattle.std.specs.Prelude.{Bool, if◌then◌else◌, Option, Some, None}
+use Rattle.std.specs.Prelude.{if◌then◌else◌, Option, Some, None}
 use Rattle.run_events.specs.declared.request.Request.{Request}
 use Rattle.run_events.specs.declared.request.Request.TheVariants.{Stop}
 use Rattle.run_model.specs.declared.dispatcher_view.DispatcherView.{DispatcherView}

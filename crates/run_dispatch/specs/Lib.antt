@@ -1,3 +1,4 @@
 pub mod Dispatch
 pub mod Deeds
 pub mod Timely
+pub mod Stress

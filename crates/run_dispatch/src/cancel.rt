@@ -6,7 +6,7 @@ ghost use Rattle.run_model.specs.Cancel.{is_above, cancelled_for, cancel_event, 
 ghost use Rattle.run_model.specs.Cancel.{time_is_up, event_refused};
 ghost use Rattle.run_model.specs.Dispatch.{moment_by};
 ghost use Rattle.run_model.specs.Turns.{nothing_done, cancels_for};
-ghost use Rattle.run_dispatch.specs.Deeds.{Does};
+ghost use Rattle.run_dispatch.specs.Deeds.{Acts};
 
 use crate::cause::Cause;
 use crate::effects::{DispatchEffects, Fx, event_at, telling};
@@ -63,8 +63,8 @@ fn cancel_event(reason: CancelReason, tally: Tally) -> TestEventKind
     }
 }
 
-/// What is told and asked for a cause in a run with this stopwatch, after these events and by the counts after them: nothing where its reason isn't
-/// above the current one.
+/// What is told and asked for a cause in a run with this stopwatch, after these events and by the counts after them:
+/// nothing where its reason isn't above the current one.
 pub fn add_cause(
     alloc: Global,
     mut events: List<ReporterEvent>,
@@ -75,7 +75,7 @@ pub fn add_cause(
 ) -> Fx
     requires { watch.now.latest ≤ now }
     ensures { IfOk result (λ fx. fx ≡ record {
-      events = events ++ option_to_list (caused (moment_by now watch.now) tally (Some cause.now) nothing_done).cancel;
+      events = events ++ option_to_list (caused (moment_by now watch.now) tally (Some cause.now) nothing_done).after;
       request = (caused (moment_by now watch.now) tally (Some cause.now) nothing_done).request;
       asked = None;
       go = None;
@@ -106,7 +106,7 @@ pub fn heed(
 ) -> Fx
     requires { view.old.watch.latest ≤ now }
     ensures gives { IfOk result (λ fx. fx ≡ record {
-      events = events ++ option_to_list (caused (moment_by now view.old.watch) tally cause nothing_done).cancel;
+      events = events ++ option_to_list (caused (moment_by now view.old.watch) tally cause nothing_done).after;
       request = (caused (moment_by now view.old.watch) tally cause nothing_done).request;
       asked = None;
       go = None;
@@ -158,7 +158,7 @@ pub fn shut_down(alloc: Global, view: &mut DispatcherView, signal: Signal, now: 
     requires few { view.old.causes.signals < 2 }
     requires timed { view.old.watch.latest ≤ now }
     ensures does { IfOk result
-        (Does now view.old (cancels_for now view.old (signal_cause view.old.causes.signals signal)) None view.new) }
+        (Acts now view.old (cancels_for now view.old (signal_cause view.old.causes.signals signal)) None view.new) }
     ensures err { OnErr result (view.new ≡ view.old) }
 {
     let cause = Cause::signal(view.causes.signals, signal);
@@ -171,7 +171,7 @@ pub fn shut_down(alloc: Global, view: &mut DispatcherView, signal: Signal, now: 
 #[tactic(auto, using(crate::proofs::SignalLemmas::refused_after))]
 pub fn refuse(alloc: Global, view: &mut DispatcherView, now: u64) -> Fx
     requires { view.old.watch.latest ≤ now }
-    ensures does { IfOk result (Does now view.old (cancels_for now view.old event_refused) None view.new) }
+    ensures does { IfOk result (Acts now view.old (cancels_for now view.old event_refused) None view.new) }
     ensures err { OnErr result (view.new ≡ view.old) }
 {
     let effects = cancel_for(alloc, view, &Cause::event_refused(), now)?;
@@ -183,7 +183,7 @@ pub fn refuse(alloc: Global, view: &mut DispatcherView, now: u64) -> Fx
 #[tactic(auto, using(crate::proofs::SignalLemmas::run_out_after))]
 pub fn run_out(alloc: Global, view: &mut DispatcherView, now: u64) -> Fx
     requires { view.old.watch.latest ≤ now }
-    ensures does { IfOk result (Does now view.old (cancels_for now view.old time_is_up) None view.new) }
+    ensures does { IfOk result (Acts now view.old (cancels_for now view.old time_is_up) None view.new) }
     ensures err { OnErr result (view.new ≡ view.old) }
 {
     let effects = cancel_for(alloc, view, &Cause::time_is_up(), now)?;

@@ -1,10 +1,10 @@
 // The delivery of a message.
-ghost use Rattle.std.specs.Prelude.{◌≡◌, ◌+◌, ◌<◌, ◌≤◌, ◌^◌, length, ◌∷◌, [], IfOk, OnErr};
+ghost use Rattle.std.specs.Prelude.{◌≡◌, ◌+◌, ◌<◌, ◌≤◌, ◌^◌, length, ◌∷◌, [], slice_get, IfOk, OnErr};
 ghost use Rattle.run_events.specs.Stats.{AreBelow};
 ghost use Rattle.run_events.specs.declared.message.Message.TheVariants as messages;
 ghost use Rattle.run_model.specs.Dispatch.{CanDeliver, go_of, moment_by, event, finished_event};
 ghost use Rattle.run_model.specs.Turns.{nothing_done, delivers};
-ghost use Rattle.run_dispatch.specs.Deeds.{Does};
+ghost use Rattle.run_dispatch.specs.Deeds.{Acts, having_seen};
 
 use crate::cancel::heed;
 use crate::cause::Cause;
@@ -17,7 +17,7 @@ use run_events::{
     AttemptFailed, AttemptFailedWillRetry, Message, ReporterEvent, RetryStarted, TestEventKind,
     TestFinish, TestFinished, TestRetry, TestSkip, TestSlow, TestStart, TestStarted,
 };
-use run_model::{DispatcherView, Tally};
+use run_model::{DispatcherView, RerunContext, Tally};
 use std::alloc::Global;
 
 /// Delivers a message: a start and a retry are told and let go where nothing cancels the run; a slow report and the
@@ -27,7 +27,7 @@ pub fn hear(alloc: Global, view: &mut DispatcherView, message: Message, now: u64
     requires fits { CanDeliver view.old message }
     requires timed { view.old.watch.latest ≤ now }
     ensures does { IfOk result
-        (Does now view.old (delivers now view.old message nothing_done) (go_of view.old.tally message) view.new) }
+        (Acts now view.old (delivers now view.old message nothing_done) (go_of view.old.tally message) view.new) }
     ensures err { OnErr result (view.new ≡ view.old) }
 {
     match message {
@@ -43,11 +43,24 @@ pub fn hear(alloc: Global, view: &mut DispatcherView, message: Message, now: u64
     }
 }
 
+// The test whose start, or skip, the first event tells is seen.
+fn mark_told(rerun: &mut RerunContext, events: &[ReporterEvent])
+    ensures { rerun.new ≡ having_seen rerun.old (slice_get events.now 0) }
+{
+    if let Some(ReporterEvent::Test(event)) = events.first() {
+        match &event.kind {
+            TestEventKind::TestStarted(event) => rerun.mark_seen(&event.start.test.id),
+            TestEventKind::TestSkipped(event) => rerun.mark_seen(&event.test.id),
+            _ => {}
+        }
+    }
+}
+
 // A start is told and let go, unless a reason cancels the run.
 fn hear_start(alloc: Global, view: &mut DispatcherView, start: TestStart, now: u64) -> Fx
     requires few { view.old.tally.running + 1 < 2 ^ 32 }
     requires timed { view.old.watch.latest ≤ now }
-    ensures does { IfOk result (Does now view.old (delivers now view.old (messages.Start start) nothing_done)
+    ensures does { IfOk result (Acts now view.old (delivers now view.old (messages.Start start) nothing_done)
         (go_of view.old.tally (messages.Start start)) view.new) }
     ensures err { OnErr result (view.new ≡ view.old) }
 {
@@ -62,6 +75,7 @@ fn hear_start(alloc: Global, view: &mut DispatcherView, start: TestStart, now: u
         stats: tally.stats,
     });
     let events = one_event(alloc, &view.watch, now, kind)?;
+    mark_told(&mut view.rerun, events.as_slice());
     view.tally = tally;
     view.latest = now;
     Ok(telling(events, Some(true)))
@@ -69,7 +83,7 @@ fn hear_start(alloc: Global, view: &mut DispatcherView, start: TestStart, now: u
 
 fn hear_slow(alloc: Global, view: &mut DispatcherView, slow: TestSlow, now: u64) -> Fx
     requires timed { view.old.watch.latest ≤ now }
-    ensures does { IfOk result (Does now view.old (delivers now view.old (messages.Slow slow) nothing_done)
+    ensures does { IfOk result (Acts now view.old (delivers now view.old (messages.Slow slow) nothing_done)
         (go_of view.old.tally (messages.Slow slow)) view.new) }
     ensures err { OnErr result (view.new ≡ view.old) }
 {
@@ -81,7 +95,7 @@ fn hear_slow(alloc: Global, view: &mut DispatcherView, slow: TestSlow, now: u64)
 // The failure of an attempt that is tried again is told.
 fn hear_failed(alloc: Global, view: &mut DispatcherView, failed: AttemptFailed, now: u64) -> Fx
     requires timed { view.old.watch.latest ≤ now }
-    ensures does { IfOk result (Does now view.old (delivers now view.old (messages.AttemptFailed failed) nothing_done)
+    ensures does { IfOk result (Acts now view.old (delivers now view.old (messages.AttemptFailed failed) nothing_done)
         (go_of view.old.tally (messages.AttemptFailed failed)) view.new) }
     ensures err { OnErr result (view.new ≡ view.old) }
 {
@@ -97,7 +111,7 @@ fn hear_failed(alloc: Global, view: &mut DispatcherView, failed: AttemptFailed, 
 // A retry is told and let go, unless a reason cancels the run.
 fn hear_retry(alloc: Global, view: &mut DispatcherView, retry: TestRetry, now: u64) -> Fx
     requires timed { view.old.watch.latest ≤ now }
-    ensures does { IfOk result (Does now view.old (delivers now view.old (messages.Retry retry) nothing_done)
+    ensures does { IfOk result (Acts now view.old (delivers now view.old (messages.Retry retry) nothing_done)
         (go_of view.old.tally (messages.Retry retry)) view.new) }
     ensures err { OnErr result (view.new ≡ view.old) }
 {
@@ -117,11 +131,12 @@ fn hear_retry(alloc: Global, view: &mut DispatcherView, retry: TestRetry, now: u
 fn hear_skip(alloc: Global, view: &mut DispatcherView, skip: TestSkip, now: u64) -> Fx
     requires few { view.old.tally.stats.skipped < 2 ^ 32 }
     requires timed { view.old.watch.latest ≤ now }
-    ensures does { IfOk result (Does now view.old (delivers now view.old (messages.Skip skip) nothing_done)
+    ensures does { IfOk result (Acts now view.old (delivers now view.old (messages.Skip skip) nothing_done)
         (go_of view.old.tally (messages.Skip skip)) view.new) }
     ensures err { OnErr result (view.new ≡ view.old) }
 {
     let events = one_event(alloc, &view.watch, now, TestEventKind::TestSkipped(skip))?;
+    mark_told(&mut view.rerun, events.as_slice());
     view.tally = with_skip(view.tally);
     view.latest = now;
     Ok(telling(events, None))
@@ -132,7 +147,7 @@ fn hear_finish(alloc: Global, view: &mut DispatcherView, finish: TestFinish, now
     requires attempts { 0 < length finish.statuses }
     requires runs { 0 < view.old.tally.running }
     requires timed { view.old.watch.latest ≤ now }
-    ensures does { IfOk result (Does now view.old (delivers now view.old (messages.Finish finish) nothing_done)
+    ensures does { IfOk result (Acts now view.old (delivers now view.old (messages.Finish finish) nothing_done)
         (go_of view.old.tally (messages.Finish finish)) view.new) }
     ensures err { OnErr result (view.new ≡ view.old) }
 {

@@ -1,35 +1,42 @@
 // The dispatcher and its rows.
 ghost use Rattle.std.specs.Prelude.{ℕ, ◌≡◌, ◌+◌, ◌<◌, ◌≤◌, ◌^◌, ◌||◌, IfOk, OnErr, None, true, false};
+ghost use Rattle.std.specs.List.Sorted.{IsStrictlySortedBy};
 ghost use Rattle.run_clock.specs.Sleep.{IsDueFrom};
 ghost use Rattle.run_events.specs.declared.turn.Turn.TheVariants.{GlobalDue, StopWaitDue, InfoDue};
 ghost use Rattle.run_model.specs.Admission.{tests_in};
 ghost use Rattle.run_model.specs.Cancel.{time_is_up, event_refused};
 ghost use Rattle.run_model.specs.Dispatch.{head_of, unbegun, dispatch_takes, go_of, is_third, CanDeliver};
 ghost use Rattle.run_model.specs.Dispatch.{heard_by, takes_signal, is_halted};
-ghost use Rattle.run_model.specs.Words.{armed, time_limit};
-ghost use Rattle.run_model.specs.Turns.{nothing_done, begins_at, ends_at, delivers, cancels_for};
+ghost use Rattle.run_model.specs.Dispatch.{rules_of};
+ghost use Rattle.run_model.specs.Reruns.{AreAscending, id_order};
+ghost use Rattle.run_model.specs.Words.{initial_stats, time_limit};
+ghost use Rattle.run_model.specs.Turns.{index_of, nothing_done, begins_at, ends_at, delivers, cancels_for};
 ghost use Rattle.run_model.specs.Turns.{signals_at, keys_at, ticks, stops_itself, answers_at, informs_at};
 ghost use Rattle.run_model.specs.declared.dispatcher_view.Facts.{Facts};
 ghost use Rattle.run_dispatch.specs.Deeds.{Does};
 ghost use Rattle.run_dispatch.specs.Dispatch.{state_of};
+ghost use Rattle.run_dispatch.specs.Stress.{CanCount};
 
 use crate::cancel::{refuse, run_out};
 use crate::deliver::hear;
-use crate::effects::{DispatchEffects, Fx, one_event, telling};
+use crate::effects::{DispatchEffects, Fx};
 use crate::enabled::{is_main, round_due, takes_turn};
 use crate::hearing::{hear_signal, heard_by, shuts_down};
 use crate::info::{end_round, hear_key, tell_answer, tick};
 use crate::jobs::{is_halted, stop_itself};
+use crate::stress::{index_at, none_ended};
+use crate::sub_runs::{begin_sub_run, end_sub_run, no_causes, no_rounds, tally_from};
 use crate::tally::count_matched;
 use crate::view::DispatchState;
-use run_capture::{Duplicate, Mem};
-use run_clock::{PausableSleep, StopwatchStart, due_from};
+use run_capture::{Duplicate, List, Mem};
+use run_clock::{StopwatchStart, due_from};
 use run_events::{
-    CancelReason, InfoResponse, Key, Message, Request, RunFinished, RunFinishedStats, RunStarted,
-    RunStats, Settings, Signal, TestEventKind, Turn, hears_key,
+    CancelReason, InfoResponse, Key, Message, Request, RunOutcome, RunStarted, RunStats, Settings,
+    Signal, StressIndex, TestInstanceId, Turn, hears_key,
 };
-use run_model::{CancelRules, Causes, DispatcherView, Facts, Rounds, Tally};
+use run_model::{CancelRules, DispatcherView, Facts, RerunContext};
 use std::alloc::Global;
+use std::collections::BTreeSet;
 use std::marker::Model;
 
 /// The dispatcher of a run. Contracts see it as its table does.
@@ -77,37 +84,73 @@ fn time_limit(settings: &Settings) -> Option<u64>
     }
 }
 
+// By which rules the run is cancelled.
+fn rules_of(settings: &Settings) -> CancelRules
+    ensures { result ≡ rules_of settings.now }
+{
+    CancelRules {
+        hearing: settings.plan.hearing,
+        max_fail: settings.max_fail,
+        global_timeout: time_limit(settings),
+    }
+}
+
+// The statistics with which a sub-run begins: all scripts, and all tests that match, are to run.
+fn initial_stats(settings: &Settings) -> RunStats
+    ensures { result ≡ initial_stats settings.now }
+{
+    let scripts = settings.plan.scripts.len() as u64;
+    let matched = count_matched(settings.plan.tests.as_slice()) as u64;
+    RunStats::started(scripts, matched)
+}
+
+// The tests that a rerun expects.
+fn rerun_of(alloc: Global, expected: &Option<List<TestInstanceId>>) -> Mem<RerunContext>
+    requires { AreAscending expected.now }
+    ensures { IfOk result (λ rerun. rerun ≡ expected.now) }
+{
+    match expected {
+        Some(ids) => Ok(RerunContext::new(Some(set_of(alloc, ids.as_slice())?))),
+        None => Ok(RerunContext::new(None)),
+    }
+}
+
+// A set of tests in ascending order.
+fn set_of(alloc: Global, ids: &[TestInstanceId]) -> Mem<BTreeSet<TestInstanceId>>
+    requires { IsStrictlySortedBy id_order ids.now }
+    ensures { IfOk result (λ set. set.keys ≡ ids.now) }
+{
+    let mut set = BTreeSet::new(alloc);
+    for id in ids {
+        set.insert(id.copy(alloc)?)?;
+    }
+    Ok(set)
+}
+
 impl Dispatcher {
     /// The dispatcher of a run that hasn't begun.
     pub fn new(alloc: Global, settings: &Settings) -> Mem<Dispatcher>
-        requires { tests_in settings.now < 2 ^ 32 }
+        requires few { tests_in settings.now < 2 ^ 32 }
+        requires ascending { AreAscending settings.now.expected }
         ensures { IfOk result (λ d. d ≡ unbegun settings.now) }
     {
-        let scripts = settings.plan.scripts.len() as u64;
-        let matched = count_matched(settings.plan.tests.as_slice()) as u64;
+        let initial = initial_stats(settings);
         let head = head_of(alloc, settings)?;
+        let rerun = rerun_of(alloc, &settings.expected)?;
         Ok(Dispatcher {
             view: DispatcherView {
                 head,
-                rules: CancelRules {
-                    hearing: settings.plan.hearing,
-                    max_fail: settings.max_fail,
-                    global_timeout: time_limit(settings),
-                },
+                rules: rules_of(settings),
+                initial,
                 on: false,
                 over: false,
-                causes: Causes {
-                    signals: 0,
-                    reported: false,
-                    global: None,
-                },
-                tally: Tally {
-                    running: 0,
-                    scripts_running: 0,
-                    stats: RunStats::started(scripts, matched),
-                },
+                causes: no_causes(),
+                tally: tally_from(initial),
                 watch: StopwatchStart::new(0),
                 rounds: no_rounds(),
+                sub_runs: none_ended(),
+                sub_run_watch: StopwatchStart::new(0),
+                rerun,
                 latest: 0,
             },
         })
@@ -141,6 +184,16 @@ impl Dispatcher {
         self.view.rounds.asks
     }
 
+    /// Which sub-run of a stress run is on; none without stress.
+    pub fn stress_index(&self) -> Option<StressIndex>
+        ensures { result ≡ index_of self.now }
+    {
+        match &self.view.head.stress {
+            Some(condition) => Some(index_at(condition, self.view.sub_runs.ended)),
+            None => None,
+        }
+    }
+
     /// Whether the run has ended.
     pub fn is_over(&self) -> bool
         ensures { result ≡ self.now.over }
@@ -160,6 +213,13 @@ impl Dispatcher {
         ensures { result ≡ self.now.tally.stats }
     {
         self.view.tally.stats
+    }
+
+    /// The outcomes of the sub-runs that have ended, put together: none where none has.
+    pub fn outcome(&self) -> Option<RunOutcome>
+        ensures { result ≡ self.now.sub_runs.outcome }
+    {
+        self.view.sub_runs.outcome
     }
 
     /// How many tests were told started and not told finished.
@@ -191,8 +251,8 @@ impl Dispatcher {
         }
     }
 
-    /// The least moment of the run's clock at which the wait of the open round is over, by these facts of the rest of the
-    /// run: none where no round is open.
+    /// The least moment of the run's clock at which the wait of the open round is over, by these facts of the rest of
+    /// the run: none where no round is open.
     pub fn round_due(&self, facts: Facts) -> Option<u64>
         ensures { IsDueFrom (λ now. dispatch_takes self.now facts now StopWaitDue
             || dispatch_takes self.now facts now InfoDue) result }
@@ -215,25 +275,16 @@ impl Dispatcher {
         }
     }
 
-    /// Begins the run: run-started is told, and the global timer is set. As for each call at a moment of the run's
-    /// clock, in nanoseconds, that moment is no earlier than the latest before it.
+    /// Begins a sub-run, with nothing of those before it, and sets the global timer: the first tells that the run
+    /// started, and in a stress run each tells that it starts. As for each call at a moment of the run's clock, in
+    /// nanoseconds, that moment is no earlier than the latest before it.
     pub fn begin(&mut self, alloc: Global, now: u64) -> Fx
         requires idle { self.old.on ≡ false }
         requires later { self.old.latest ≤ now }
         ensures does { IfOk result (Does now self.old (begins_at now self.old) None self.new) }
         ensures err { OnErr result (self.new ≡ self.old) }
     {
-        let head = self.view.head.copy(alloc)?;
-        let events = one_event(
-            alloc,
-            &self.view.watch,
-            now,
-            TestEventKind::RunStarted(head),
-        )?;
-        self.view.on = true;
-        self.view.causes.global = armed(now, self.view.rules.global_timeout);
-        self.view.latest = now;
-        Ok(telling(events, None))
+        begin_sub_run(alloc, &mut self.view, now)
     }
 
     /// Delivers a message: a start and a retry are told and let go where nothing cancels the run; a slow report and the
@@ -249,9 +300,9 @@ impl Dispatcher {
         hear(alloc, &mut self.view, message, now)
     }
 
-    /// A signal came, while so many units are live as the facts say: the first that shuts the run down asks each child to
-    /// end, and the second kills it; a stop pauses the run where it isn't paused, and a continue lets it go on; one that
-    /// asks for information asks each live unit what it is doing.
+    /// A signal came, while so many units are live as the facts say: the first that shuts the run down asks each child
+    /// to end, and the second kills it; a stop pauses the run where it isn't paused, and a continue lets it go on; one
+    /// that asks for information asks each live unit what it is doing.
     pub fn signal(&mut self, alloc: Global, signal: Signal, facts: Facts, now: u64) -> Fx
         requires taken { takes_signal self.old.causes.signals (heard_by self.old.rules.hearing signal) ≡ true }
         requires few { self.old.rounds.count + 1 < 2 ^ 32 }
@@ -329,44 +380,16 @@ impl Dispatcher {
         run_out(alloc, &mut self.view, now)
     }
 
-    /// Ends the run: run-finished is told, with the statistics.
+    /// Ends a sub-run: in a stress run that is told, and the end of the run with the statistics of its sub-runs where
+    /// it stops after this one; any other run ends with it, and its statistics are told. In a rerun the end tells the
+    /// tests that were expected and not seen.
     pub fn end(&mut self, alloc: Global, now: u64) -> Fx
         requires on { self.old.on ≡ true }
+        requires count { CanCount self.old.sub_runs }
         requires later { self.old.latest ≤ now }
         ensures does { IfOk result (Does now self.old (ends_at now self.old) None self.new) }
         ensures err { OnErr result (self.new ≡ self.old) }
     {
-        let kind = TestEventKind::RunFinished(RunFinished {
-            stats: RunFinishedStats::Single(self.view.tally.stats),
-            not_seen: None,
-        });
-        let events = one_event(alloc, &self.view.watch, now, kind)?;
-        self.view.on = false;
-        self.view.over = true;
-        self.view.latest = now;
-        Ok(telling(events, None))
-    }
-}
-
-// The timer of a sub-run that begins now.
-fn armed(now: u64, timeout: Option<u64>) -> Option<PausableSleep>
-    ensures { result ≡ armed now timeout }
-{
-    match timeout {
-        Some(duration) => Some(PausableSleep::new(now, duration)),
-        None => None,
-    }
-}
-
-// Before the first round.
-fn no_rounds() -> Rounds
-    ensures { result ≡ record { count = 0; asks = None; since = 0; total = 0; told = 0 } }
-{
-    Rounds {
-        count: 0,
-        asks: None,
-        since: 0,
-        total: 0,
-        told: 0,
+        end_sub_run(alloc, &mut self.view, now)
     }
 }

@@ -71,8 +71,8 @@ fn is_round_over(view: &DispatcherView, facts: Facts, now: u64) -> bool
         && (!(facts.answer_waits || facts.held) || is_overdue(view, now))
 }
 
-/// The least moment of the run's clock at which the wait of the open round is over, by these facts of the rest of the run:
-/// none where no round is open.
+/// The least moment of the run's clock at which the wait of the open round is over, by these facts of the rest of the
+/// run: none where no round is open.
 pub fn round_due(view: &DispatcherView, facts: Facts) -> Option<u64>
     ensures { IsDueFrom (λ now. dispatch_takes view.now facts now StopWaitDue
         || dispatch_takes view.now facts now InfoDue) result }

@@ -2,7 +2,7 @@
 ghost use Rattle.std.specs.Prelude.{◌≡◌, ◌+◌, ◌<◌, ◌≤◌, ◌^◌, IfOk, IfSome, OnErr, None, true};
 ghost use Rattle.run_model.specs.Dispatch.{heard_by, shuts_down, takes_signal};
 ghost use Rattle.run_model.specs.Turns.{job_deed, signal_deed};
-ghost use Rattle.run_dispatch.specs.Deeds.{Does};
+ghost use Rattle.run_dispatch.specs.Deeds.{Acts};
 
 use crate::cancel::shut_down;
 use crate::effects::{Fx, telling};
@@ -51,7 +51,8 @@ pub fn hear_signal(
     requires few { view.old.rounds.count + 1 < 2 ^ 32 }
     requires timed { view.old.watch.latest ≤ now }
     requires timer { IfSome view.old.causes.global (λ timer. timer.latest ≤ now) }
-    ensures does { IfOk result (Does now view.old (signal_deed now live view.old signal heard) None view.new) }
+    requires part { view.old.sub_run_watch.latest ≤ now }
+    ensures does { IfOk result (Acts now view.old (signal_deed now live view.old signal heard) None view.new) }
     ensures err { OnErr result (view.new ≡ view.old) }
 {
     match heard {
@@ -67,7 +68,8 @@ fn control(alloc: Global, view: &mut DispatcherView, signal: Signal, now: u64) -
     requires few { view.old.rounds.count + 1 < 2 ^ 32 }
     requires timed { view.old.watch.latest ≤ now }
     requires timer { IfSome view.old.causes.global (λ timer. timer.latest ≤ now) }
-    ensures does { IfOk result (Does now view.old (job_deed now view.old signal) None view.new) }
+    requires part { view.old.sub_run_watch.latest ≤ now }
+    ensures does { IfOk result (Acts now view.old (job_deed now view.old signal) None view.new) }
     ensures err { OnErr result (view.new ≡ view.old) }
 {
     match signal {

@@ -1,7 +1,7 @@
 // The units are asked what they are doing; keys and ticks.
 ghost use Rattle.std.specs.Prelude.{ℕ, ◌≡◌, ◌+◌, ◌<◌, ◌≤◌, ◌^◌, IfOk, OnErr, None};
 ghost use Rattle.run_model.specs.Turns.{asks_at, answers_at, informs_at, key_deed, ticks};
-ghost use Rattle.run_dispatch.specs.Deeds.{Does};
+ghost use Rattle.run_dispatch.specs.Deeds.{Acts};
 
 use crate::effects::{Fx, one_telling, telling};
 use run_capture::List;
@@ -16,7 +16,7 @@ use std::alloc::Global;
 pub fn ask_units(alloc: Global, view: &mut DispatcherView, live: u32, now: u64) -> Fx
     requires few { view.old.rounds.count + 1 < 2 ^ 32 }
     requires timed { view.old.watch.latest ≤ now }
-    ensures does { IfOk result (Does now view.old (asks_at now live view.old) None view.new) }
+    ensures does { IfOk result (Acts now view.old (asks_at now live view.old) None view.new) }
     ensures err { OnErr result (view.new ≡ view.old) }
 {
     let request = Request::GetInfo {
@@ -40,7 +40,7 @@ pub fn ask_units(alloc: Global, view: &mut DispatcherView, live: u32, now: u64) 
 pub fn tell_answer(alloc: Global, view: &mut DispatcherView, response: InfoResponse, now: u64) -> Fx
     requires few { view.old.rounds.told + 1 < 2 ^ 32 }
     requires timed { view.old.watch.latest ≤ now }
-    ensures does { IfOk result (Does now view.old (answers_at now view.old response) None view.new) }
+    ensures does { IfOk result (Acts now view.old (answers_at now view.old response) None view.new) }
     ensures err { OnErr result (view.new ≡ view.old) }
 {
     let kind = TestEventKind::InfoResponse(InfoAnswered {
@@ -57,7 +57,7 @@ pub fn tell_answer(alloc: Global, view: &mut DispatcherView, response: InfoRespo
 /// The round of queries is over: how many units gave no answer is told.
 pub fn end_round(alloc: Global, view: &mut DispatcherView, now: u64) -> Fx
     requires timed { view.old.watch.latest ≤ now }
-    ensures does { IfOk result (Does now view.old (informs_at now view.old) None view.new) }
+    ensures does { IfOk result (Acts now view.old (informs_at now view.old) None view.new) }
     ensures err { OnErr result (view.new ≡ view.old) }
 {
     let kind = TestEventKind::InfoFinished {
@@ -78,7 +78,7 @@ pub fn hear_key(
 ) -> Fx
     requires few { view.old.rounds.count + 1 < 2 ^ 32 }
     requires timed { view.old.watch.latest ≤ now }
-    ensures does { IfOk result (Does now view.old (key_deed now live view.old heard) None view.new) }
+    ensures does { IfOk result (Acts now view.old (key_deed now live view.old heard) None view.new) }
     ensures err { OnErr result (view.new ≡ view.old) }
 {
     match heard {
@@ -96,7 +96,7 @@ pub fn hear_key(
 
 /// A display wants to draw anew.
 pub fn tick(alloc: Global, view: &DispatcherView) -> Fx
-    ensures does { IfOk result (λ fx. (now : ℕ) → Does now view.now ticks None view.now fx) }
+    ensures does { IfOk result (λ fx. (now : ℕ) → Acts now view.now ticks None view.now fx) }
 {
     let mut events = List::new();
     events.push(alloc, ReporterEvent::Tick)?;

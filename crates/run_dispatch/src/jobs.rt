@@ -5,7 +5,7 @@ ghost use Rattle.run_model.specs.Dispatch.{is_halted};
 ghost use Rattle.run_model.specs.Pauses.{watch_paused, watch_resumed};
 ghost use Rattle.run_model.specs.Rounds.{timer_after};
 ghost use Rattle.run_model.specs.Turns.{job_event, stops_at, continues_at, stops_itself};
-ghost use Rattle.run_dispatch.specs.Deeds.{Does};
+ghost use Rattle.run_dispatch.specs.Deeds.{Acts};
 
 use crate::effects::{DispatchEffects, Fx, one_telling, telling};
 use run_capture::List;
@@ -66,7 +66,7 @@ fn resume_timer(timer: &mut Option<PausableSleep>, now: u64)
 pub fn stop(alloc: Global, view: &mut DispatcherView, now: u64) -> Fx
     requires few { view.old.rounds.count + 1 < 2 ^ 32 }
     requires timed { view.old.watch.latest ≤ now }
-    ensures does { IfOk result (Does now view.old (stops_at now view.old) None view.new) }
+    ensures does { IfOk result (Acts now view.old (stops_at now view.old) None view.new) }
     ensures err { OnErr result (view.new ≡ view.old) }
 {
     if is_halted(view) {
@@ -91,7 +91,8 @@ pub fn stop(alloc: Global, view: &mut DispatcherView, now: u64) -> Fx
 pub fn go_on(alloc: Global, view: &mut DispatcherView, now: u64) -> Fx
     requires timed { view.old.watch.latest ≤ now }
     requires timer { IfSome view.old.causes.global (λ timer. timer.latest ≤ now) }
-    ensures does { IfOk result (Does now view.old (continues_at now view.old) None view.new) }
+    requires part { view.old.sub_run_watch.latest ≤ now }
+    ensures does { IfOk result (Acts now view.old (continues_at now view.old) None view.new) }
     ensures err { OnErr result (view.new ≡ view.old) }
 {
     if !is_halted(view) {
@@ -100,6 +101,7 @@ pub fn go_on(alloc: Global, view: &mut DispatcherView, now: u64) -> Fx
     let kind = TestEventKind::RunContinued(job_event(view.tally));
     let effects = one_telling(alloc, &view.watch, now, kind, Some(Request::Continue))?;
     resume_watch(&mut view.watch, now);
+    resume_watch(&mut view.sub_run_watch, now);
     resume_timer(&mut view.causes.global, now);
     view.latest = now;
     Ok(effects)
@@ -108,9 +110,11 @@ pub fn go_on(alloc: Global, view: &mut DispatcherView, now: u64) -> Fx
 /// The wait for stopped units is over: the global timer pauses, and the runner is asked to stop itself.
 pub fn stop_itself(view: &mut DispatcherView, now: u64) -> DispatchEffects
     requires timer { IfSome view.old.causes.global (λ timer. timer.latest ≤ now) }
-    ensures { Does now view.old stops_itself None view.new result }
+    requires part { view.old.sub_run_watch.latest ≤ now }
+    ensures { Acts now view.old stops_itself None view.new result }
 {
     pause_timer(&mut view.causes.global, now);
+    pause_watch(&mut view.sub_run_watch, now);
     view.rounds.asks = None;
     view.latest = now;
     DispatchEffects {

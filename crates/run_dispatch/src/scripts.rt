@@ -4,7 +4,7 @@ ghost use Rattle.run_events.specs.Stats.{AreBelow};
 ghost use Rattle.run_events.specs.declared.message.Message.TheVariants as messages;
 ghost use Rattle.run_model.specs.Dispatch.{go_of};
 ghost use Rattle.run_model.specs.Turns.{nothing_done, delivers};
-ghost use Rattle.run_dispatch.specs.Deeds.{Does};
+ghost use Rattle.run_dispatch.specs.Deeds.{Acts};
 
 use crate::cancel::heed;
 use crate::cause::Cause;
@@ -24,7 +24,7 @@ pub fn hear_script_start(
 ) -> Fx
     requires few { view.old.tally.scripts_running + 1 < 2 ^ 32 }
     requires timed { view.old.watch.latest ≤ now }
-    ensures does { IfOk result (Does now view.old (delivers now view.old (messages.ScriptStart start) nothing_done)
+    ensures does { IfOk result (Acts now view.old (delivers now view.old (messages.ScriptStart start) nothing_done)
         (go_of view.old.tally (messages.ScriptStart start)) view.new) }
     ensures err { OnErr result (view.new ≡ view.old) }
 {
@@ -46,7 +46,7 @@ pub fn hear_script_start(
 /// That a script is slow is told.
 pub fn hear_script_slow(alloc: Global, view: &mut DispatcherView, slow: ScriptSlow, now: u64) -> Fx
     requires timed { view.old.watch.latest ≤ now }
-    ensures does { IfOk result (Does now view.old (delivers now view.old (messages.ScriptSlow slow) nothing_done)
+    ensures does { IfOk result (Acts now view.old (delivers now view.old (messages.ScriptSlow slow) nothing_done)
         (go_of view.old.tally (messages.ScriptSlow slow)) view.new) }
     ensures err { OnErr result (view.new ≡ view.old) }
 {
@@ -70,7 +70,7 @@ pub fn hear_script_finish(
     requires counts { AreBelow (2 ^ 32) view.old.tally.stats }
     requires runs { 0 < view.old.tally.scripts_running }
     requires timed { view.old.watch.latest ≤ now }
-    ensures does { IfOk result (Does now view.old (delivers now view.old (messages.ScriptFinish finish) nothing_done)
+    ensures does { IfOk result (Acts now view.old (delivers now view.old (messages.ScriptFinish finish) nothing_done)
         (go_of view.old.tally (messages.ScriptFinish finish)) view.new) }
     ensures err { OnErr result (view.new ≡ view.old) }
 {

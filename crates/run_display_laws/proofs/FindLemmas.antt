@@ -24,16 +24,17 @@ use Rattle.run_display_laws.proofs.CourseLemmas.{goes_on_by, runs_by}
 use Rattle.run_display_laws.proofs.NewsLemmas.{displayed_news}
 use Rattle.run_display_laws.proofs.SameLemmas.{unit_named}
 use Rattle.run_display_laws.proofs.SlowTold.{slows_found}
-use Rattle.run_display_laws.proofs.WholeLemmas.{account_append, account_split, all_at, course_whole, named_whole}
+use Rattle.run_display_laws.proofs.WholeLemmas.{IsToldInOne, account_append, account_split, all_at, course_whole}
+use Rattle.run_display_laws.proofs.WholeLemmas.{named_whole}
 
 module _ (p : Settings) (backward : List Entry) (once : HasEachIdOnce p) (legal : IsLegalBackward p backward)
-    (before after : List ReporterEvent) (event : TestEvent)
+    (one : IsToldInOne (history p backward)) (before after : List ReporterEvent) (event : TestEvent)
     (is : told (history p backward) ≡ before ++ Test event ∷ after) where
   named_all : All (NamesThePlan p) (before ++ Test event ∷ after)
   named_all = subst (All (NamesThePlan p)) is (named_whole p backward legal)
 
   course_at : (k : ℕ) → IsCourse (account_of k (before ++ Test event ∷ after))
-  course_at k = subst (λ es. IsCourse (account_of k es)) is (course_whole p backward legal k)
+  course_at k = subst (λ es. IsCourse (account_of k es)) is (course_whole p backward legal one k)
 
   -- where news of a unit are told, what was told before them is a course that goes on with them
   course_with : (k : ℕ) (n : News) → news_in k event.kind ≡ Some n
@@ -72,22 +73,23 @@ module _ (p : Settings) (backward : List Entry) (once : HasEachIdOnce p) (legal 
       → is_displayed unit.id (tests_displayed before) ≡ true
   is_slow unit report named so =
       displayed_as unit named
-      ∙ slows_found p backward legal unit.unit before after (Test event) is (ap is_some so)
+      ∙ slows_found p backward legal one unit.unit before after (Test event) is (ap is_some so)
 
 -- of a unit the news of its own
 own_news : {X : Type 0} (k : ℕ) (x : X) → (if k == k then Some x else None) ≡ Some x
 own_news k x = let itself : (k == k) ≡ true = grind arith in rw itself refl
 
 pub finds_test : (p : Settings) (backward : List Entry) → HasEachIdOnce p → IsLegalBackward p backward
+    → IsToldInOne (history p backward)
     → (before after : List ReporterEvent) (event : TestEvent)
     → told (history p backward) ≡ before ++ Test event ∷ after → FindsItsTest before event
-finds_test p backward once legal before after event is =
+finds_test p backward once legal one before after event is =
     by_kind event.kind refl (all_at (NamesThePlan p) before after (Test event)
-    (named_all p backward once legal before after event is))
+    (named_all p backward once legal one before after event is))
   where
     on : (unit : TestUnit) (n : News) → IsTestNamed p unit → news_in unit.unit event.kind ≡ Some n
         → goes_on_by n ≡ true → is_displayed unit.id (tests_displayed before) ≡ true
-    on = goes_on p backward once legal before after event is
+    on = goes_on p backward once legal one before after event is
 
     Finds : TestEventKind → Type 0
     Finds kind = IfSome (test_begun kind) (λ id. is_displayed id (tests_displayed before) ≡ false)
@@ -99,13 +101,13 @@ finds_test p backward once legal before after event is =
 
     finds : (kind : TestEventKind) → event.kind ≡ kind → NamesThePlanIn p kind → Finds kind
     finds (kinds.TestStarted t) e named = (
-      begins p backward once legal before after event is t.start.test named
+      begins p backward once legal one before after event is t.start.test named
           (news t.start.test.unit _ started e (own_news t.start.test.unit started)),
       tt,
     )
     finds (kinds.TestSlow t) e named = (
       tt,
-      is_slow p backward once legal before after event is t.test
+      is_slow p backward once legal one before after event is t.test
           (record { attempt = t.attempt; elapsed = t.elapsed_slow; terminates = t.terminates }) named
           (ap (report_of_kind t.test.unit) e ∙ own_news t.test.unit _),
     )

@@ -15,10 +15,12 @@ use Rattle.run_model.specs.Board.{board}
 use Rattle.run_model.specs.Journal.{history, IsLegalBackward}
 use Rattle.run_model.specs.Rounds.{act_in, act_of}
 use Rattle.run_model.specs.Turns.{deed_on, happening}
-use Rattle.run_model.specs.Words.{clock, is_over, is_run_paused, sub_run, told}
+use Rattle.run_model.specs.Words.{clock, is_run_paused, sub_run, told}
 use Rattle.run_laws.proofs.board.DeedFits.{cancel_told}
+use Rattle.run_laws.proofs.board.Deeds.{base_of}
 use Rattle.run_laws.proofs.board.Kept.{does_after, holds}
-use Rattle.run_laws.proofs.told.Cancels.{IsCancel, IsCancelKind}
+use Rattle.run_laws.proofs.board.OnBoard.{frame_of}
+use Rattle.run_laws.proofs.told.Cancels.{IsAfter, IsAfterKind}
 use Rattle.run_progress.specs.Seen.{last_told, pause_in}
 use Rattle.run_display_laws.specs.Displays.{events_heard}
 use Rattle.run_display_laws.proofs.LastTold.{last_more, said}
@@ -27,14 +29,16 @@ use Rattle.run_display_laws.proofs.LastTold.{last_more, said}
 abbrev pub pause_said : TestEvent → Option Bool
 pause_said event = pause_in event.kind
 
-cancel_silent : (o : Option ReporterEvent) → IsCancel o → said pause_said (option_to_list o) ≡ []
-cancel_silent None h = refl
-cancel_silent (Some Tick) h = absurd h
-cancel_silent (Some (Test e)) h = by_kind e.kind h
+after_silent : (o : Option ReporterEvent) → IsAfter o → said pause_said (option_to_list o) ≡ []
+after_silent None h = refl
+after_silent (Some Tick) h = absurd h
+after_silent (Some (Test e)) h = by_kind e.kind h
   where
-    by_kind : (kind : TestEventKind) → IsCancelKind kind → cons_option (pause_in kind) [] ≡ []
+    by_kind : (kind : TestEventKind) → IsAfterKind kind → cons_option (pause_in kind) [] ≡ []
     by_kind (kinds.RunBeginCancel cancelled) h = refl
     by_kind (kinds.RunBeginKill cancelled) h = refl
+    by_kind (kinds.StressSubRunStarted progress) h = refl
+    by_kind (kinds.RunFinished finished) h = refl
     by_kind kind h = absurd h
 
 own_pause : (o : Option ReporterEvent) (before : Bool)
@@ -53,7 +57,7 @@ pub pause_is : (p : Settings) (backward : List Entry) → IsLegalBackward p back
     → last_told false pause_said (events_heard (told (history p backward))) ≡ is_run_paused (history p backward)
 pause_is p [] legal = refl
 pause_is p (e ∷ before) legal =
-    last_more false pause_said (told past) x.told x.cancel (cancel_silent x.cancel cancels)
+    last_more false pause_said (told past) x.told x.after (after_silent x.after cancels)
     ∙ own_pause x.told (last_told false pause_said (events_heard (told past)))
     ∙ ap (is_paused_after (act_of x.told)) (pause_is p before legal.2)
   where
@@ -63,6 +67,6 @@ pause_is p (e ∷ before) legal =
     x : Happening
     x = happening p past e
 
-    cancels : IsCancel x.cancel
-    cancels = cancel_told p (is_over past) (clock past) (sub_run past) (deed_on p (board p past) e.turn)
-        (does_after p past e (holds p before legal.2) legal.0).marks
+    cancels : IsAfter x.after
+    cancels = cancel_told p (frame_of p past) (clock past) (base_of x.begins (sub_run past))
+        (deed_on p (board p past) e.turn) (does_after p past e (holds p before legal.2) legal.0).marks

@@ -28,7 +28,7 @@ script_apart : (p : Settings) (k : ℕ) (test : PlanTest) (script : ScriptUnit) 
 script_apart p k test script there named = by_script (slice_get p.plan.scripts script.unit) refl named
   where
     by_script : (o : Option PlanScript) → slice_get p.plan.scripts script.unit ≡ o
-        → option_map (script_named p script.unit) o ≡ Some script → (script.unit == k) ≡ false
+        → option_map (script_named p script.stress_index script.unit) o ≡ Some script → (script.unit == k) ≡ false
     by_script None e named = cc
     by_script (Some s) e named =
         let below : script.unit < scripts_in p = slice_get_within p.plan.scripts script.unit s e in

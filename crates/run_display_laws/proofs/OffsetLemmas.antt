@@ -19,10 +19,12 @@ use Rattle.run_model.specs.Board.{board}
 use Rattle.run_model.specs.Journal.{history, IsLegalBackward}
 use Rattle.run_model.specs.Rounds.{act_of, run_marks}
 use Rattle.run_model.specs.Turns.{deed_on, happening}
-use Rattle.run_model.specs.Words.{clock, elapsed, events_in, is_over, is_run_paused, sub_run, told}
+use Rattle.run_model.specs.Words.{clock, elapsed, events_in, is_run_paused, sub_run, told}
 use Rattle.run_laws.proofs.board.DeedFits.{cancel_told}
+use Rattle.run_laws.proofs.board.Deeds.{base_of}
 use Rattle.run_laws.proofs.board.Kept.{does_after, holds}
-use Rattle.run_laws.proofs.told.Cancels.{IsCancel, IsCancelKind}
+use Rattle.run_laws.proofs.board.OnBoard.{frame_of}
+use Rattle.run_laws.proofs.told.Cancels.{IsAfter, IsAfterKind}
 use Rattle.run_progress.specs.declared.max_running.MaxProgressRunning.{MaxProgressRunning}
 use Rattle.run_progress.specs.Deeds.{paused_in}
 use Rattle.run_progress.specs.Seen.{last_told, seen_of}
@@ -35,16 +37,18 @@ use Rattle.run_display_laws.proofs.LastTold.{last_more, said}
 abbrev pauses_said : List ReporterEvent → List ℕ
 pauses_said events = said paused_in events
 
--- an event that the run is cancelled says none
-cancel_says : (o : Option ReporterEvent) → IsCancel o → pauses_said (option_to_list o) ≡ []
-cancel_says None h = refl
-cancel_says (Some Tick) h = absurd h
-cancel_says (Some (Test e)) h = by_kind e.kind e.clock e.elapsed h
+-- what a turn tells after its own event says none
+after_says : (o : Option ReporterEvent) → IsAfter o → pauses_said (option_to_list o) ≡ []
+after_says None h = refl
+after_says (Some Tick) h = absurd h
+after_says (Some (Test e)) h = by_kind e.kind e.clock e.elapsed h
   where
-    by_kind : (kind : TestEventKind) (now active : ℕ) → IsCancelKind kind
+    by_kind : (kind : TestEventKind) (now active : ℕ) → IsAfterKind kind
         → pauses_said (option_to_list (Some (Test (record { kind = kind; clock = now; elapsed = active })))) ≡ []
     by_kind (kinds.RunBeginCancel cancelled) now active h = refl
     by_kind (kinds.RunBeginKill cancelled) now active h = refl
+    by_kind (kinds.StressSubRunStarted progress) now active h = refl
+    by_kind (kinds.RunFinished finished) now active h = refl
     by_kind kind now active h = absurd h
 
 -- the last pause that is said, after the turn's own event
@@ -69,12 +73,12 @@ own_says (Some (Test e)) now active last cancel says =
     by_kind (kinds.RunContinued e) clock elapsed says = omega (arith, says.0, says.1)
     by_kind kind clock elapsed says = refl
 
-offset_more : (o c : Option ReporterEvent) (now active : ℕ) (es : List ReporterEvent) → IsCancel c
+offset_more : (o c : Option ReporterEvent) (now active : ℕ) (es : List ReporterEvent) → IsAfter c
     → All (SaysMoment now active) (option_to_list o ++ option_to_list c)
     → last_told 0 paused_in (events_heard (es ++ (option_to_list o ++ option_to_list c)))
     ≡ last_by (act_of o) (now - active) (last_told 0 paused_in (events_heard es))
 offset_more o c now active es cancels says =
-    last_more 0 paused_in es o c (cancel_says c cancels)
+    last_more 0 paused_in es o c (after_says c cancels)
     ∙ own_says o now active (last_or 0 (pauses_said es)) (option_to_list c) says
 
 -- the marks of a history are in order
@@ -100,7 +104,7 @@ pub offset_is : (p : Settings) (backward : List Entry) → IsLegalBackward p bac
     ≡ paused_time 0 (run_marks (history p backward)) (clock (history p backward))
 offset_is p [] legal goes = refl
 offset_is p (e ∷ before) legal goes =
-    offset_more x.told x.cancel (clock past) (elapsed past) (told past) cancels (says_moment p e before legal)
+    offset_more x.told x.after (clock past) (elapsed past) (told past) cancels (says_moment p e before legal)
     ∙ by_act (offset_is p before legal.2) (act_of x.told) refl ∙ sym later
   where
     past : List Happening
@@ -109,9 +113,9 @@ offset_is p (e ∷ before) legal goes =
     x : Happening
     x = happening p past e
 
-    cancels : IsCancel x.cancel
-    cancels = cancel_told p (is_over past) (clock past) (sub_run past) (deed_on p (board p past) e.turn)
-        (does_after p past e (holds p before legal.2) legal.0).marks
+    cancels : IsAfter x.after
+    cancels = cancel_told p (frame_of p past) (clock past) (base_of x.begins (sub_run past))
+        (deed_on p (board p past) e.turn) (does_after p past e (holds p before legal.2) legal.0).marks
 
     later : paused_time 0 (run_marks (x ∷ past)) (clock (x ∷ past)) ≡ paused_time 0 (run_marks past) (clock past)
     later = rw goes (omega arith)

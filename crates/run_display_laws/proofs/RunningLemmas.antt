@@ -24,14 +24,15 @@ use Rattle.run_display_laws.specs.Displays.{HasEachIdOnce, IsOfPlan, tests_displ
 use Rattle.run_display_laws.proofs.CourseLemmas.{course_shown}
 use Rattle.run_display_laws.proofs.NewsLemmas.{displayed_news}
 use Rattle.run_display_laws.proofs.SameLemmas.{unit_named}
-use Rattle.run_display_laws.proofs.WholeLemmas.{course_whole, named_whole, runs-is}
+use Rattle.run_display_laws.proofs.WholeLemmas.{IsToldInOne, course_whole, named_whole, runs-is}
 
 pub displays_running : (p : Settings) (backward : List Entry) → HasEachIdOnce p → IsLegalBackward p backward
+    → IsToldInOne (history p backward)
     → (k : ℕ) (test : PlanTest) → test_of_unit p k ≡ Some test
     → is_displayed test.id (tests_displayed (told (history p backward))) ≡ is_running (told (history p backward)) k
-displays_running p backward once legal k test there =
+displays_running p backward once legal one k test there =
     displayed_news p k test once there (told (history p backward)) (named_whole p backward legal)
-    ∙ course_shown (account_of k (told (history p backward))) (course_whole p backward legal k)
+    ∙ course_shown (account_of k (told (history p backward))) (course_whole p backward legal one k)
     ∙ runs-is k (told (history p backward))
 
 -- a test that is started by an event that names the plan is one of the plan

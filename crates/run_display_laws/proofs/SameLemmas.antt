@@ -99,7 +99,7 @@ unit_named p unit named = by_test (test_of_unit p unit.unit) named
     id_in None other = other
     id_in (Some unit) other = unit.id
 
-    by_test : (o : Option PlanTest) → option_map (test_named unit.unit) o ≡ Some unit
+    by_test : (o : Option PlanTest) → option_map (test_named unit.stress_index unit.unit) o ≡ Some unit
         → (s : PlanTest) × ((o ≡ Some s) × (unit.id ≡ s.id))
     by_test None named = cc
     by_test (Some s) named = (s, (refl, ap (λ o. id_in o s.id) (sym named)))

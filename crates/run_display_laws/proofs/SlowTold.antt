@@ -37,7 +37,7 @@ use Rattle.run_event_laws.proofs.Told.{message_in, message_of, messages_of, is_t
 use Rattle.run_display_laws.proofs.CourseLemmas.{runs_by}
 use Rattle.run_display_laws.proofs.SlowLemmas.{SlowsFind, find_sent, find_taken, first_silent, open_account, report_own}
 use Rattle.run_display_laws.proofs.SlowLemmas.{slow_opens}
-use Rattle.run_display_laws.proofs.WholeLemmas.{told_whole}
+use Rattle.run_display_laws.proofs.WholeLemmas.{IsToldInOne}
 
 -- what events tell of a unit is what the messages would whose delivery they tell
 news-message : (k : ℕ) (kind : TestEventKind) → news_in k kind ≡ option_and_then (pending_in k) (message_in kind)
@@ -79,17 +79,17 @@ account_opens k mm left u o t rest more is on h =
     let none : pending_of k rest ++ pending_of k more ≡ [] = sym (filter_map-append (pending_in k) rest more) ∙ it.1 in
     (it.0, none_before (pending_of k rest) (pending_of k more) none)
 
-unit_opens : (p : Settings) (over : Bool) (now k : ℕ) (run : List Happening) (part : Option UnitPart)
-    (o : Option Message) (m : Message) → Holds p over now run → PartFits p now run part → IsSentAs now run part o
+unit_opens : (p : Settings) (now k : ℕ) (run : List Happening) (part : Option UnitPart)
+    (o : Option Message) (m : Message) → Holds p now run → PartFits p now run part → IsSentAs now run part o
     → o ≡ Some m → is_some (report_in k m) ≡ true
     → (u : UnitView) × ((unit_after now k part (unit_of k run) ≡ Some u) × (is_open u.phase ≡ true))
-unit_opens p over now k run None o m h fits from sends slow = cc
-unit_opens p over now k run (Some (Joins first)) None m h fits from sends slow = cc
-unit_opens p over now k run (Some (Joins first)) (Some n) m h fits (skipped, from) sends slow =
+unit_opens p now k run None o m h fits from sends slow = cc
+unit_opens p now k run (Some (Joins first)) None m h fits from sends slow = cc
+unit_opens p now k run (Some (Joins first)) (Some n) m h fits (skipped, from) sends slow =
     let never : is_some (report_in k n) ≡ false = first_silent k skipped first n from in
     let same : n ≡ m = cc in
     absurd (true≢false (sym slow ∙ ap (λ m. is_some (report_in k m)) (sym same) ∙ never))
-unit_opens p over now k run (Some (Acts j turn)) o m h taken from sends slow = (
+unit_opens p now k run (Some (Acts j turn)) o m h taken from sends slow = (
   (row now turn u).next,
   (
     subst (λ i. (if i == k then option_map (λ v. (row now turn v).next) (unit_of k run) else unit_of k run)
@@ -121,13 +121,13 @@ abbrev FindsRunning : List Happening → Type 0
 FindsRunning run = (k : ℕ) → SlowsFind k (runs_by (account_of k (told run))) (queue run)
 
 finds_kept : (p : Settings) → IsKept p FindsRunning
-finds_kept p over refused now run e h en does was k =
+finds_kept p f refused now run e h en does was k =
     subst (λ q. SlowsFind k (runs_by (account_of k (told run ++ deed_events d))) q)
     (sym (queue-cons (said now e d) run does.room))
     (find_sent k (runs_by (account_of k (told run ++ deed_events d))) rest d.sent taken sends)
   where
     d : Deed
-    d = deed_on p (board_with p refused over now run) e.turn
+    d = deed_on p (board_with p refused f now run) e.turn
 
     rest : List Message
     rest = drop (if d.taken then 1 else 0) (queue run)
@@ -141,7 +141,7 @@ finds_kept p over refused now run e h en does was k =
     split : account_of k (told run ++ deed_events d)
         ≡ account_of k (told run) ++ pending_of k (told_from go d.taken (queue run))
     split = accounted ∙ ap (λ t. account_of k (told run) ++ t) (account-messages k (deed_events d)
-        ∙ ap (pending_of k) (tells_oldest p over refused now run e.turn en))
+        ∙ ap (pending_of k) (tells_oldest p f refused now run e.turn en))
 
     taken : SlowsFind k (runs_by (account_of k (told run ++ deed_events d))) rest
     taken = subst (λ t. SlowsFind k (runs_by t) rest) (sym split)
@@ -150,7 +150,7 @@ finds_kept p over refused now run e h en does was k =
     sends : (m : Message) → d.sent ≡ Some m → is_some (report_in k m) ≡ true
         → (runs_by (account_of k (told run ++ deed_events d)) ≡ true) × (pending_of k rest ≡ [])
     sends m is slow =
-        let unit = unit_opens p over now k run d.part d.sent m h does.part does.sent_as is slow in
+        let unit = unit_opens p now k run d.part d.sent m h does.part does.sent_as is slow in
         let it = account_opens k (is_mismatched p k) (left_with k run d.part) unit.0
         (unit_after now k d.part (unit_of k run))
         (account_of k (told run) ++ account_of k (deed_events d)) rest (option_to_list d.sent) unit.1.0 unit.1.1
@@ -228,10 +228,10 @@ abbrev AreFound : List Happening → Type 0
 AreFound run = FindsRunning run × SlowsFound (told run)
 
 found_kept : (p : Settings) → IsKept p AreFound
-found_kept p over refused now run e h en does was = (finds_kept p over refused now run e h en does was.0, found)
+found_kept p f refused now run e h en does was = (finds_kept p f refused now run e h en does was.0, found)
   where
     d : Deed
-    d = deed_on p (board_with p refused over now run) e.turn
+    d = deed_on p (board_with p refused f now run) e.turn
 
     newest : (k : ℕ) (before more after : List ReporterEvent) (event : ReporterEvent) → before ≡ told run ++ more
         → deed_events d ≡ more ++ event ∷ after → is_some (report_of k event) ≡ true
@@ -242,7 +242,7 @@ found_kept p over refused now run e h en does was = (finds_kept p over refused n
         ≡ told_from (may_go (tally p run)) d.taken (queue run) =
         ap (λ o. messages_of more ++ cons_option o (messages_of after)) (sym it.1.0)
         ∙ sym (filter_map-append message_of more (event ∷ after)) ∙ ap messages_of (sym now_told)
-        ∙ tells_oldest p over refused now run e.turn en in
+        ∙ tells_oldest p f refused now run e.turn en in
         let found = oldest_finds k (may_go (tally p run)) d.taken (queue run) (messages_of more) (messages_of after)
         it.0 (runs_by (account_of k (told run))) (was.0 k) messages it.1.1 in
         ap (λ es. runs_by (account_of k es)) earlier
@@ -264,7 +264,8 @@ found_none k [] after e is slow = cc
 found_none k (x ∷ before) after e is slow = cc
 
 pub slows_found : (p : Settings) (backward : List Entry) → IsLegalBackward p backward
+    → IsToldInOne (history p backward)
     → SlowsFound (told (history p backward))
-slows_found p backward legal =
-    subst SlowsFound (sym (told_whole p backward legal))
+slows_found p backward legal one =
+    subst SlowsFound (sym one)
     (by_journal p AreFound (λ k. tt, found_none) (found_kept p) backward legal).1

@@ -1,7 +1,7 @@
--- What is told in a run is told in its one sub-run, and names the plan; what is told of a unit is a course.
+-- What is told in a run names the plan, and what is told of a unit in one sub-run is a course.
 use Rattle.std.proofs.Common.{◌≡◌, ◌⊎◌, inl, inr, ℕ, List, [], ◌∷◌, ◌++◌, Some, refl, ap, sym, subst, ◌∙◌}
 use Rattle.std.specs.List.{All, cons_option}
-use Rattle.std.proofs.lemmas.List.Elements.{All-head, All-tail, filter_map-append}
+use Rattle.std.proofs.lemmas.List.Elements.{All-append, All-head, All-nil, All-tail, filter_map-append}
 use Rattle.run_events.specs.declared.settings.Settings.{Settings}
 use Rattle.run_events.specs.declared.events.ReporterEvent.{ReporterEvent}
 use Rattle.run_events.specs.declared.events.ReporterEvent.TheVariants.{Test}
@@ -20,11 +20,22 @@ use Rattle.run_event_laws.specs.Names.{NamesThePlan}
 use Rattle.run_event_laws.proofs.AnswersNamed.{events_named}
 use Rattle.run_display_laws.proofs.CourseLemmas.{IsCourse, account_course, runs_by}
 
-pub told_whole : (p : Settings) (backward : List Entry) → IsLegalBackward p backward
-    → told (history p backward) ≡ told (sub_run (history p backward))
-told_whole p [] legal = refl
-told_whole p (e ∷ before) legal =
-    by_run (told_whole p before legal.2) (where_joins p past e (holds p before legal.2) legal.0)
+-- an event among others, of which this holds
+pub all_after : (P : ReporterEvent → Type 0) (before after : List ReporterEvent) → All P (before ++ after) → All P after
+all_after P [] after all = all
+all_after P (e ∷ before) after all = all_after P before after (All-tail P e (before ++ after) all)
+
+pub all_at : (P : ReporterEvent → Type 0) (before after : List ReporterEvent) (e : ReporterEvent)
+    → All P (before ++ e ∷ after) → P e
+all_at P before after e all = All-head P e after (all_after P before (e ∷ after) all)
+
+-- what is told in any sub-run names the plan
+pub named_whole : (p : Settings) (backward : List Entry) → IsLegalBackward p backward
+    → All (NamesThePlan p) (told (history p backward))
+named_whole p [] legal = All-nil (NamesThePlan p)
+named_whole p (e ∷ before) legal =
+    All-append (NamesThePlan p) (told past) (events_in x) (named_whole p before legal.2)
+    (by_run (where_joins p past e (holds p before legal.2) legal.0))
   where
     past : List Happening
     past = history p before
@@ -32,35 +43,29 @@ told_whole p (e ∷ before) legal =
     x : Happening
     x = happening p past e
 
-    by_run : told past ≡ told (sub_run past) → IsOfRun p past e ⊎ IsBeforeRuns p past e
-        → told (x ∷ past) ≡ told (sub_run (x ∷ past))
-    by_run was (inl of) = ap (λ es. es ++ events_in x) was ∙ ap told (sym of.joins)
-    by_run was (inr idle) =
-        ap (λ es. es ++ events_in x) (was ∙ ap told idle.none)
-        ∙ ap deed_events idle.idle ∙ sym (ap told idle.still)
+    by_run : IsOfRun p past e ⊎ IsBeforeRuns p past e → All (NamesThePlan p) (events_in x)
+    by_run (inl of) =
+        all_after (NamesThePlan p) (told of.base) (events_in x)
+        (subst (All (NamesThePlan p)) (ap told of.joins) (events_named p (e ∷ before) legal))
+    by_run (inr idle) =
+        subst (λ d. All (NamesThePlan p) (deed_events d)) (sym idle.idle) (All-nil (NamesThePlan p))
 
-pub named_whole : (p : Settings) (backward : List Entry) → IsLegalBackward p backward
-    → All (NamesThePlan p) (told (history p backward))
-named_whole p backward legal =
-    subst (All (NamesThePlan p)) (sym (told_whole p backward legal)) (events_named p backward legal)
+-- all that is told in a history is told in its newest sub-run, as in a run that is no stress run
+abbrev pub IsToldInOne : List Happening → Type 0
+IsToldInOne past = told past ≡ told (sub_run past)
 
-pub course_whole : (p : Settings) (backward : List Entry) → IsLegalBackward p backward → (k : ℕ)
+pub course_whole : (p : Settings) (backward : List Entry) → IsLegalBackward p backward
+    → IsToldInOne (history p backward) → (k : ℕ)
     → IsCourse (account_of k (told (history p backward)))
-course_whole p backward legal k =
+course_whole p backward legal one k =
     let run : List Happening = sub_run (history p backward) in
-    subst (λ es. IsCourse (account_of k es)) (sym (told_whole p backward legal))
+    subst (λ es. IsCourse (account_of k es)) (sym one)
     (account_course (is_mismatched p k) (was_left k run) (unit_of k run) (account_of k (told run))
-    (pending_of k (queue run)) ((holds p backward legal).run.accounts k))
+    (pending_of k (queue run)) ((holds p backward legal).accounts k))
 
 -- what is told of a unit says whether it runs
 pub runs-is : (k : ℕ) (events : List ReporterEvent) → runs_by (account_of k events) ≡ is_running events k
 runs-is k events = rw (starts-account k events, finishes-account k events) refl
-
--- an event among others, of which this holds
-pub all_at : (P : ReporterEvent → Type 0) (before after : List ReporterEvent) (e : ReporterEvent)
-    → All P (before ++ e ∷ after) → P e
-all_at P [] after e all = All-head P e after all
-all_at P (x ∷ before) after e all = all_at P before after e (All-tail P x (before ++ e ∷ after) all)
 
 -- what is told of a unit by two lists, one after the other
 pub account_append : (k : ℕ) (es fs : List ReporterEvent) → account_of k (es ++ fs) ≡ account_of k es ++ account_of k fs

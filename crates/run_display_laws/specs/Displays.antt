@@ -53,11 +53,11 @@ abbrev pub BuiltPlansHaveIdsOnce : Type 0
 BuiltPlansHaveIdsOnce = (builder : Builder) (plan : Plan) (settings : Settings)
     → IsBuilt builder plan (Ok settings) → HasEachIdOnce settings
 
--- after every legal journal of such a plan each test of it is displayed exactly where it was told started
--- and not told finished
+-- after every legal journal of such a plan, of a run that is no stress run, each test of it is displayed exactly
+-- where it was told started and not told finished
 abbrev pub DisplaysShowRunning : Type 0
-DisplaysShowRunning = (p : Settings) (journal : List Entry) → HasEachIdOnce p → IsLegal p journal
-    → (k : ℕ) (test : PlanTest) → test_of_unit p k ≡ Some test
+DisplaysShowRunning = (p : Settings) (journal : List Entry) → p.stress ≡ None → HasEachIdOnce p
+    → IsLegal p journal → (k : ℕ) (test : PlanTest) → test_of_unit p k ≡ Some test
     → is_displayed test.id (tests_displayed (told (past_of p journal)))
     ≡ is_running (told (past_of p journal)) k
 
@@ -89,8 +89,9 @@ pub record FindsItsTest (before : List ReporterEvent) (event : TestEvent) : Type
   pub begun : IfSome (test_begun event.kind) (λ id. is_displayed id (tests_displayed before) ≡ false)
   pub going_on : IfSome (test_going_on event.kind) (λ id. is_displayed id (tests_displayed before) ≡ true)
 
--- each event that a legal journal of a plan with each id once tells does so, after those told before it
+-- each event that a legal journal of a plan with each id once tells, of a run that is no stress run, does so, after
+-- those told before it
 abbrev pub EventsFindTheirTests : Type 0
-EventsFindTheirTests = (p : Settings) (journal : List Entry) → HasEachIdOnce p → IsLegal p journal
-    → (before after : List ReporterEvent) (event : TestEvent)
+EventsFindTheirTests = (p : Settings) (journal : List Entry) → p.stress ≡ None → HasEachIdOnce p
+    → IsLegal p journal → (before after : List ReporterEvent) (event : TestEvent)
     → told (past_of p journal) ≡ before ++ Test event ∷ after → FindsItsTest before event

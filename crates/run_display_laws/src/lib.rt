@@ -1,4 +1,4 @@
-//! The laws of what a display shows over every legal journal: public functions with an empty body, whose contracts are
+//! The laws of what a display shows over every legal journal: public functions that do nothing, whose contracts are
 //! theorems over the definitions of `run_model` and `run_progress`. Nothing stands on them.
 #![tactic(auto)]
 

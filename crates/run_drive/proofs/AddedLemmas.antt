@@ -38,7 +38,8 @@ enters_one old turn r same = record {
   own = subst (λ (t : Turn). IsSublist (filter is_child_turn (t ∷ [])) (turn ∷ [])) (sym same) (own_turn turn);
 }
 
-pub enters_more : (old now new : List Receipt) (turn : Turn) → Enters old turn now → SettlesSome now new → Enters old turn new
+pub enters_more : (old now new : List Receipt) (turn : Turn) → Enters old turn now → SettlesSome now new
+    → Enters old turn new
 enters_more old now new turn e s = record {
   mine = e.mine ++ s.mine;
   added = s.added ∙ ap (λ (rs : List Receipt). rs ++ s.mine) e.added ∙ append_assoc old e.mine s.mine;
@@ -55,7 +56,8 @@ pub ticks_settled : (new : List Receipt) → SettlesSome [] new → All OfTicker
 ticks_settled new s =
     subst (All OfTicker) (sym s.added) (All-weaker IsSettled OfTicker settled_of_ticker s.mine s.kinds)
 
-pub ticks_more : (old new : List Receipt) (ns : ℕ) → Enters old (turns.Clock ns) new → All OfTicker old → All OfTicker new
+pub ticks_more : (old new : List Receipt) (ns : ℕ) → Enters old (turns.Clock ns) new → All OfTicker old
+    → All OfTicker new
 ticks_more old new ns e each =
     subst (All OfTicker) (sym e.added)
     (All-append OfTicker old e.mine each (All-weaker (IsOf (turns.Clock ns)) OfTicker (ticker_of ns) e.mine e.kinds))

@@ -1,5 +1,6 @@
 -- What a spawner in memory answers and says.
-use Rattle.std.proofs.Common.{◌≡◌, ℕ, ◌+◌, ◌<◌, ◌≤◌, List, [], ◌∷◌, ◌++◌, length, get_or, min, refl, sym, subst, ap, ◌∙◌, arith, Option, Some, None}
+use Rattle.std.proofs.Common.{◌≡◌, ℕ, ◌+◌, ◌<◌, ◌≤◌, List, [], ◌∷◌, ◌++◌, length, get_or, min, refl, sym, subst, ap}
+use Rattle.std.proofs.Common.{◌∙◌, arith, Option, Some, None}
 use Rattle.std.proofs.Common.{length-append, slice_get}
 use Rattle.std.proofs.Common.{inl, inr, ◌⊎◌}
 use Rattle.std.specs.Option.{IsSome, IsNone}
@@ -55,7 +56,8 @@ given_item items last at given item k g same below = by_cases (cases_lt k (lengt
 
 -- one item more, where the list goes on, and where it is at its end
 given_some : {X : Type 0} (items : List X) (last : X) (at : ℕ) (given : List X) (item : X)
-    → Some item ≡ slice_get items at → WereGiven items last at given → WereGiven items last (at + 1) (given ++ item ∷ [])
+    → Some item ≡ slice_get items at → WereGiven items last at given
+    → WereGiven items last (at + 1) (given ++ item ∷ [])
 given_some items last at given item is g = record {
   each = λ k below. given_item items last at given item k g (get_or_from_slice_get items at item last (sym is)) below;
   place = omega (arith, g.place, slice_get_within items at item (sym is), length-append given (item ∷ []));

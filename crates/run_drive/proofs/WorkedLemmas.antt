@@ -17,7 +17,8 @@ use Rattle.run_drive.specs.Worked.{Begins, Listens, Works}
 use Rattle.run_drive.proofs.Sublists.{sub_append, child_turns-append}
 use Rattle.run_drive.proofs.KindLemmas.{said_child, begun_child, worker_of}
 
-of_worker : (old new : List Receipt) (turn : Turn) → is_child_turn turn ≡ true → (e : Enters old turn new) → All OfWorker e.mine
+of_worker : (old new : List Receipt) (turn : Turn) → is_child_turn turn ≡ true → (e : Enters old turn new)
+    → All OfWorker e.mine
 of_worker old new turn child e = All-weaker (IsOf turn) OfWorker (λ r own. worker_of turn r child own) e.mine e.kinds
 
 -- what was added twice
@@ -100,7 +101,8 @@ turns_spoken unit [] = refl
 turns_spoken unit (said ∷ words) = ap (λ (ts : List Turn). said_turn unit said ∷ ts) (turns_spoken unit words)
 
 -- a start that was refused, and one whose child was listened to
-pub works_begun : {W : Type 0} (has_said : W → List Heard → Type 0) (w v : W) (start : StartAsk) (old new : List Receipt)
+pub works_begun : {W : Type 0} (has_said : W → List Heard → Type 0) (w v : W) (start : StartAsk)
+    (old new : List Receipt)
     → Begins has_said w v start old new → Works has_said w v old new
 works_begun has_said w v start old new b = record {
   mine = b.mine;
@@ -109,7 +111,8 @@ works_begun has_said w v start old new b = record {
   heard = λ before h. let p = b.heard before h in (Asked start p.0 ∷ [], p.1, λ unit. p.2);
 }
 
-pub works_heard : {W : Type 0} (has_said : W → List Heard → Type 0) (w v u : W) (start : StartAsk) (a b c : List Receipt)
+pub works_heard : {W : Type 0} (has_said : W → List Heard → Type 0) (w v u : W) (start : StartAsk)
+    (a b c : List Receipt)
     → Begins has_said w v start a b → Listens has_said v u start.unit b c → Works has_said w u a c
 works_heard has_said w v u start a b c x y = record {
   mine = x.mine ++ y.mine;

@@ -22,7 +22,8 @@ words_in [] = []
 words_in (Asked start begun ∷ rest) = words_in rest
 words_in (Spoke said ∷ rest) = said ∷ words_in rest
 
--- these items were given out: those of a list from the front, then the last one again and again; the list is at this place
+-- these items were given out: those of a list from the front, then the last one again and again; the list is at this
+-- place
 pub record WereGiven {X : Type 0} (items : List X) (last : X) (at : ℕ) (given : List X) : Type 0 where
   pub each : (k : ℕ) → k < length given → slice_index_or given k last ≡ slice_index_or items k last
   pub place : at ≡ min (length given) (length items)

@@ -82,6 +82,7 @@ pub fn drive<W: Spawner, L: Ledger, R: Reporter>(
         alloc,
         shared,
         word,
+        pauses: false,
     };
     let mut receipts = List::new();
     let Ok(()) = work(rt, &run, worker, share, &mut receipts) else {

@@ -1,7 +1,7 @@
 //! What one worker of a shared run does, and the ticker beside it: a worker takes a start, asks its spawner for it, and
-//! steps with what the spawner says; the ticker steps with the time that goes by. Spawners, tickers and hosts are traits,
-//! with implementations in memory. What a worker's receipts tell of children is what its spawner said, and no more. The
-//! layer above runs any number of workers and the ticker on threads of their own.
+//! steps with what the spawner says; the ticker steps with the time that goes by. Spawners, tickers and hosts are
+//! traits, with implementations in memory. What a worker's receipts tell of children is what its spawner said, and no
+//! more. The layer above runs any number of workers and the ticker on threads of their own.
 #![tactic(auto)]
 
 mod driving;

@@ -40,8 +40,8 @@ impl Ticker for MemoryTicker {
     }
 }
 
-/// A host in memory: it hands out its spawners in order, each with its lists from the front, and after them ones with empty
-/// lists; its ticker, and after it ones with no steps; and one word at each call.
+/// A host in memory: it hands out its spawners in order, each with its lists from the front, and after them ones with
+/// empty lists; its ticker, and after it ones with no steps; and one word at each call.
 #[derive(Drop)]
 pub struct MemoryHost {
     spawners: IntoIter<MemorySpawner>,

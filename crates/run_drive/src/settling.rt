@@ -19,6 +19,9 @@ pub(crate) struct Access<'a, X: Wait, L: Ledger, R: Reporter> {
     pub shared: &'a SharedRun<L, R>,
     /// By which units decide.
     pub word: u32,
+    /// Whether settling pauses where a sub-run has ended: else a run whose sub-runs start no child would settle on, and
+    /// no time would go by.
+    pub pauses: bool,
 }
 
 impl<'a, X: Wait, L: Ledger, R: Reporter> Drop for Access<'a, X, L, R> {
@@ -28,7 +31,19 @@ impl<'a, X: Wait, L: Ledger, R: Reporter> Drop for Access<'a, X, L, R> {
             alloc: _,
             shared: _,
             word: _,
+            pauses: _,
         } = self;
+    }
+}
+
+impl<'a, X: Wait, L: Ledger, R: Reporter> Access<'a, X, L, R> {
+    // What a settled turn is answered.
+    fn answer_to(&self, turn: &Turn) -> Answer {
+        if self.pauses && matches!(turn, Turn::End) {
+            Answer::NotEnabled
+        } else {
+            Answer::Taken
+        }
     }
 }
 
@@ -55,7 +70,8 @@ impl Answer {
 
 /// What settles turns of a run.
 trait Settles<L: Ledger> {
-    /// Settles one turn, and adds its receipt; none where nothing is ready.
+    /// Settles one turn, and adds its receipt; none where nothing is ready. Who pauses at the end of a sub-run is
+    /// answered there as where nothing is ready.
     fn settle(&self, share: &mut Share<L>, receipts: &mut List<Receipt>) -> Mem<Answer>
         requires { 0 < share.old.parts }
         ensures settles { OnOk result (SettlesSome receipts.old receipts.new) }
@@ -96,8 +112,9 @@ fn settle_one<X: Wait, L: Ledger, R: Reporter>(
 {
     match run.shared.settle(run.rt, run.alloc, share, run.word) {
         Ok(Some(receipt)) => {
+            let answer = run.answer_to(receipt.turn());
             receipts.push(run.alloc, receipt)?;
-            Ok(Answer::Taken)
+            Ok(answer)
         }
         Ok(None) => Ok(Answer::NotEnabled),
         Err(StepError::OutOfMemory) => Err(OutOfMemory),
@@ -180,7 +197,8 @@ impl<'a, X: Wait, L: Ledger, R: Reporter> Steps<L> for Access<'a, X, L, R> {
     }
 }
 
-/// Settles until nothing is ready. Units decide with the word. Where memory is wanting it gives the run up.
+/// Settles until nothing is ready, or a sub-run has ended. Units decide with the word. Where memory is wanting it gives
+/// the run up.
 #[tactic(auto, using(crate::proofs::AddedLemmas::ticks_settled))]
 pub fn wind<L: Ledger, R: Reporter>(
     rt: &impl Wait,
@@ -199,6 +217,7 @@ pub fn wind<L: Ledger, R: Reporter>(
         alloc,
         shared,
         word,
+        pauses: true,
     };
     let mut receipts = List::new();
     let Ok(_) = settle_all(rt, &run, share, &mut receipts) else {

@@ -137,8 +137,8 @@ pub enum Heard {
     Spoke { said: Said },
 }
 
-/// A spawner: it starts one child at a time, and tells what that child does. What it was asked and what it said needn't be
-/// kept: that it is a list is a relation.
+/// A spawner: it starts one child at a time, and tells what that child does. What it was asked and what it said needn't
+/// be kept: that it is a list is a relation.
 pub trait Spawner {
     ghost use Rattle.run_drive.specs.declared.spawner.Heard.{Heard};
 

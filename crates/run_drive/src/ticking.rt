@@ -55,8 +55,9 @@ fn tick_all<T: Ticker, X: Wait, L: Ledger, S: Steps<L>>(
     unreachable!()
 }
 
-/// Steps with the time that goes by, and settles, until a step is refused. Answers the receipts behind the first ones.
-/// Units decide with the word. Where memory is wanting it gives the run up.
+/// Steps with the time that goes by, and settles after each step until nothing is ready or a sub-run has ended, until a
+/// step is refused. Answers the receipts behind the first ones. Units decide with the word. Where memory is wanting it
+/// gives the run up.
 pub fn tick<T: Ticker, L: Ledger, R: Reporter>(
     rt: &impl Wait,
     alloc: Global,
@@ -77,6 +78,7 @@ pub fn tick<T: Ticker, L: Ledger, R: Reporter>(
         alloc,
         shared,
         word,
+        pauses: true,
     };
     let mut receipts = first;
     let Ok(()) = tick_all(rt, &run, ticker, share, &mut receipts) else {

@@ -55,23 +55,26 @@ runnable_next p journal turn refused r room en answered = record {
 -- a turn is taken as the tables say, from what its parts did
 pub takes_from : {R E C : Type 0} (tells : R → List (ReporterEvent × Option E) → Type 0)
     (asks : C → List (ℕ × Ask) → Type 0) (o : Outside R C) (p : Settings) (journal after : List Entry) (b : Board)
-    (turn : Turn) (refused : List Bool) (refusal : Option E) (claimed : ℕ)
+    (turn : Turn) (refused : List Bool) (refusal : Option E) (claimed place : ℕ) → place ≡ length journal
     → b ≡ board p (past_of p journal) → enabled p (past_of p journal) turn ≡ true
     → length refused ≡ length (deed_events (deed_on p b turn)) → is_none refusal ≡ list_all not refused
     → TellsEvents tells o.report o.report_after (zip (deed_events (deed_on p b turn)) refused) refusal
     → Adds asks o.children o.children_after
-    (map (λ ask. (length journal, ask)) (option_to_list (deed_on p b turn).asked))
+    (map (λ ask. (place, ask)) (option_to_list (deed_on p b turn).asked))
     → CountsErrors o.faults o.faults_after refusal → after ≡ journal ++ entry_of turn refused ∷ []
     → TakesTurn tells asks o turn (unbroken p journal claimed) (unbroken p after claimed) refusal
-takes_from tells asks o p journal after b turn refused refusal claimed st en answered marked tell ask counted grown = record {
-  is_enabled = en;
-  refused = refused;
-  answered = answered ∙ ap (λ b. length (deed_events (deed_on p b turn))) st;
-  marked = marked;
-  grown = ap (λ j. unbroken p j claimed) grown;
-  told = subst (λ b. TellsEvents tells o.report o.report_after (zip (deed_events (deed_on p b turn)) refused) refusal)
-      st tell;
-  asked = subst (λ b. Adds asks o.children o.children_after
-      (map (λ ask. (length journal, ask)) (option_to_list (deed_on p b turn).asked))) st ask;
-  counted = counted;
-}
+takes_from tells asks o p journal after b turn refused refusal claimed place at st en answered marked tell ask counted
+    grown = record {
+      is_enabled = en;
+      refused = refused;
+      answered = answered ∙ ap (λ b. length (deed_events (deed_on p b turn))) st;
+      marked = marked;
+      grown = ap (λ j. unbroken p j claimed) grown;
+      told = subst (λ b. TellsEvents tells o.report o.report_after (zip (deed_events (deed_on p b turn)) refused) refusal)
+          st tell;
+      asked = subst (λ b. Adds asks o.children o.children_after
+          (map (λ ask. (length journal, ask)) (option_to_list (deed_on p b turn).asked))) st
+          (subst (λ n. Adds asks o.children o.children_after
+          (map (λ ask. (n, ask)) (option_to_list (deed_on p b turn).asked))) at ask);
+      counted = counted;
+    }

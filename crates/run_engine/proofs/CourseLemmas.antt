@@ -2,21 +2,20 @@
 use Rattle.std.proofs.Common.{◌≡◌, ℕ, ◌<◌, inl, inr, List, reverse, Bool, true, false, sym, is_none, Option, Some, None}
 use Rattle.std.proofs.Common.{Result, Ok, Err, refl, ap, ap₂, arith}
 use Rattle.run_capture.specs.Faults.{Rose}
-use Rattle.run_events.specs.Outcome.{outcome_of, summary}
 use Rattle.run_events.specs.declared.settings.Settings.{Settings}
 use Rattle.run_events.specs.declared.turn.Turn.{Turn}
 use Rattle.run_events.specs.declared.ask.Ask.{Ask}
 use Rattle.run_events.specs.declared.events.ReporterEvent.{ReporterEvent}
 use Rattle.run_events.specs.declared.outcome.RunOutcome.{RunOutcome}
 use Rattle.run_model.specs.declared.entry.Entry.{Entry}
-use Rattle.run_model.specs.Words.{sub_run, stats}
-use Rattle.run_model.specs.Journal.{past_of, IsLegal}
+use Rattle.run_model.specs.Journal.{past_of, IsLegal, outcome}
 use Rattle.run_laws.specs.Course.{AreAnswersOf, refuses_none, none_refused, Stops, GoesOn, Ends, HasOneCourse}
 use Rattle.run_laws.proofs.board.Courses.{one_course, unrefused}
-use Rattle.run_laws.proofs.told.Outcomes.{over_outcome}
 use Rattle.run_laws.proofs.told.FateLemmas.{ended_fates, over_ended}
+use Rattle.run_engine.proofs.OutcomeLemmas.{has_outcome}
 use Rattle.run_engine.specs.World.{Outside, CountsErrors}
-use Rattle.run_engine.specs.Execution.{IsAnswerOf, IsRefusedAt, stopped_at, AnswersCourse, UnlessMemory, Carries, Executes}
+use Rattle.run_engine.specs.Execution.{IsAnswerOf, IsRefusedAt, stopped_at, AnswersCourse, UnlessMemory, Carries}
+use Rattle.run_engine.specs.Execution.{Executes}
 use Rattle.run_engine.specs.declared.errors.TestRunnerExecuteErrors.{TestRunnerExecuteErrors}
 use Rattle.run_engine.specs.declared.errors.TestRunnerExecuteErrors.TheVariants.{Report, NotEnabled, ThirdSignal}
 use Rattle.run_engine.specs.declared.errors.TestRunnerExecuteErrors.TheVariants.{Unfinished, OutOfMemory}
@@ -74,15 +73,12 @@ course_of o p turns refuses journal refusal (Ok end) legal answers says counted 
     }
 course_of o p turns refuses journal refusal (Err (Report d)) legal answers says counted =
     let one : HasOneCourse p turns refuses = one_course p turns refuses in
-    let end : RunOutcome = outcome_of (summary (stats p (sub_run (past_of p journal)))) in
-    let ends : Ends p turns refuses end = (
-      journal,
-      record { legal = legal; takes = says.0; answers = answers },
-      over_outcome p (past_of p journal) says.1,
-    ) in
+    let end : (o : RunOutcome) × (outcome p (past_of p journal) ≡ Some o) = has_outcome p journal legal says.1 in
+    let ends : Ends p turns refuses end.0 =
+    (journal, record { legal = legal; takes = says.0; answers = answers }, end.1) in
     record {
-      stops = λ place third s. absurd (one.stop_or_end place third end s ends);
-      unfinished = λ g. absurd (one.unfinished_or_end end g ends);
+      stops = λ place third s. absurd (one.stop_or_end place third end.0 s ends);
+      unfinished = λ g. absurd (one.unfinished_or_end end.0 g ends);
       ended = λ u e calm. absurd (calm (risen o.faults o.faults_after refusal d says.2 counted));
       refused = λ u e lt. inl (d, refl);
     }

@@ -1,6 +1,8 @@
 -- The attempts of each test of a plan that isn't refused fit in a u32.
-use Rattle.std.proofs.Common.{◌≡◌, ℕ, ◌+◌, ◌-◌, ◌<◌, ◌≤◌, ◌^◌, ◌==◌, List, length, get_or, Bool, true, false, Option, Some, None}
-use Rattle.std.proofs.Common.{if◌then◌else◌, cond, is_some, nat_lt, nat_le, position, slice_get, option_and_then, option_map}
+use Rattle.std.proofs.Common.{◌≡◌, ℕ, ◌+◌, ◌-◌, ◌<◌, ◌≤◌, ◌^◌, ◌==◌, List, length, get_or, Bool, true, false, Option}
+use Rattle.std.proofs.Common.{Some, None}
+use Rattle.std.proofs.Common.{if◌then◌else◌, cond, is_some, nat_lt, nat_le, position, slice_get, option_and_then}
+use Rattle.std.proofs.Common.{option_map}
 use Rattle.std.proofs.Common.{refl, ap, sym, ◌∙◌, arith, zero-add}
 use Rattle.std.specs.List.{range_with_len, position_or_len}
 use Rattle.std.specs.Option.{option_or}

@@ -1,14 +1,14 @@
 -- What was told and asked of a run, after one more turn of it.
-use Rattle.std.proofs.Common.{◌≡◌, ℕ, inl, inr, List, [], ◌∷◌, ◌++◌, map, zip, length, Bool, true, false, Option, Some, None, Result, Ok, Err}
-use Rattle.std.proofs.Common.{option_to_list, refl, ap, sym, subst, ◌∙◌, append_assoc}
+use Rattle.std.proofs.Common.{◌≡◌, ℕ, inl, inr, List, [], ◌∷◌, ◌++◌, map, true, false, Option, Result, Ok, Err}
+use Rattle.std.proofs.Common.{refl, ap, sym, subst, ◌∙◌}
 use Rattle.std.proofs.lemmas.List.{append-nil, map-append}
 use Rattle.run_events.specs.declared.turn.Turn.{Turn}
 use Rattle.run_events.specs.declared.ask.Ask.{Ask}
 use Rattle.run_events.specs.declared.events.ReporterEvent.{ReporterEvent}
 use Rattle.run_model.specs.declared.entry.Entry.{Entry}
-use Rattle.run_model.specs.Words.{answers, asked, events_in}
+use Rattle.run_model.specs.Words.{answers, asked}
 use Rattle.std.specs.Result.{IfOk, IfErr, OnErr, IsErrOf}
-use Rattle.run_engine.specs.World.{World, Breaks, Outside, outside, flagged, TakesTurn, entry_of, next_happening, history_of}
+use Rattle.run_engine.specs.World.{World, Breaks, outside, flagged, TakesTurn, entry_of, history_of}
 use Rattle.run_engine.specs.Broken.{BreaksOff}
 use Rattle.run_engine.specs.Heard.{IsHeard}
 use Rattle.run_engine.specs.Refused.{IfNotMemory}

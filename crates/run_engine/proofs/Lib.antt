@@ -6,6 +6,7 @@ pub mod StartsLemmas
 pub mod PartLemmas
 pub mod HeardLemmas
 pub mod SettlingLemmas
+pub mod OutcomeLemmas
 pub mod CourseLemmas
 pub mod RepeatLemmas
 pub mod FewLemmas

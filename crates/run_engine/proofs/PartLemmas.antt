@@ -1,7 +1,8 @@
 -- What a turn that want of memory broke off has told and asked.
-use Rattle.std.proofs.Common.{◌≡◌, ℕ, ◌+◌, ◌≤◌, ◌<◌, inl, inr, List, [], ◌∷◌, ◌++◌, length, map, zip, take, get_or, slice_get}
-use Rattle.std.proofs.Common.{Bool, true, Option, Some, None, option_to_list, is_some, refl, ap, sym, subst, ◌∙◌, arith}
-use Rattle.std.proofs.Common.{append_assoc, length-append, length-take, Result, Ok, Err}
+use Rattle.std.proofs.Common.{◌≡◌, ℕ, ◌≤◌, ◌<◌, inl, inr, List, [], ◌∷◌, ◌++◌, length, map, zip, take, get_or}
+use Rattle.std.proofs.Common.{slice_get}
+use Rattle.std.proofs.Common.{Bool, true, Option, Some, None, option_to_list, refl, ap, sym, subst, ◌∙◌, arith}
+use Rattle.std.proofs.Common.{length-append, Result, Ok, Err}
 use Rattle.std.specs.Result.{OnErr}
 use Rattle.std.proofs.lemmas.List.{append-nil}
 use Rattle.run_events.specs.Tell.{Adds}
@@ -18,7 +19,7 @@ use Rattle.run_laws.specs.Course.{turns_of}
 use Rattle.run_engine.specs.World.{Outside, outside, TellsEvents, CountsErrors, earlier}
 use Rattle.run_engine.specs.Standing.{IsRunnable}
 use Rattle.run_engine.specs.Execution.{TakesTurns}
-use Rattle.run_engine.specs.Broken.{TellsSome, TellsPart, IsSent, IsPart, BreaksOff, RunsOut, after_journal}
+use Rattle.run_engine.specs.Broken.{TellsSome, TellsPart, IsSent, BreaksOff, RunsOut, after_journal}
 use Rattle.run_engine.proofs.TakesLemmas.{tells_both, counts_both, adds_both}
 use Rattle.run_engine.proofs.TellLemmas.{zip-more}
 
@@ -149,10 +150,11 @@ part_some tells asks faults r s c d place events asked a x = record {
 -- an enabled turn was broken off on a board
 pub breaks_off : {R E C : Type 0} (tells : R → List (ReporterEvent × Option E) → Type 0)
     (asks : C → List (ℕ × Ask) → Type 0) (o : Outside R C) (p : Settings) (journal : List Entry) (b : Board)
-    (turn : Turn) → b ≡ board p (past_of p journal) → enabled p (past_of p journal) turn ≡ true
-    → TellsPart tells asks o (length journal) (deed_events (deed_on p b turn)) (deed_on p b turn).asked
+    (turn : Turn) (place : ℕ) → place ≡ length journal → b ≡ board p (past_of p journal)
+    → enabled p (past_of p journal) turn ≡ true
+    → TellsPart tells asks o place (deed_events (deed_on p b turn)) (deed_on p b turn).asked
     → BreaksOff tells asks o p journal turn
-breaks_off tells asks o p journal b turn st en x = record {
+breaks_off tells asks o p journal b turn place at st en x = record {
   extra = zip (deed_events (deed_on p b turn)) x.some.marks;
   sent = x.sent;
   refusal = x.some.refusal;
@@ -161,7 +163,8 @@ breaks_off tells asks o p journal b turn st en x = record {
     marks = x.some.marks;
     fits = subst (λ b. length x.some.marks ≤ length (deed_events (deed_on p b turn))) st x.some.fits;
     told = ap (λ b. zip (deed_events (deed_on p b turn)) x.some.marks) st;
-    asked = subst (λ b. IsSent (length journal) (deed_on p b turn).asked x.sent) st x.is_sent;
+    asked = subst (λ b. IsSent (length journal) (deed_on p b turn).asked x.sent) st
+        (subst (λ n. IsSent n (deed_on p b turn).asked x.sent) at x.is_sent);
   };
   told = x.some.told;
   adds = x.adds;

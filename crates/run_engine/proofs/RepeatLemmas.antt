@@ -11,11 +11,8 @@ use Rattle.run_events.specs.declared.plan.TestInstanceId.{TestInstanceId}
 use Rattle.run_events.specs.declared.plan.PlanTest.{PlanTest}
 use Rattle.run_events.specs.declared.plan.Group.{Group}
 use Rattle.run_events.specs.declared.retry_policy.RetryPolicy.{RetryPolicy}
+use Rattle.run_model.specs.Reruns.{id_order}
 use Rattle.run_engine.specs.Builder.{same_id, is_among, is_repeat, refusal_at, test_refusal}
-
--- the order of ids: by binary, then by name
-abbrev pub id_cmp : TestInstanceId → TestInstanceId → Ordering
-id_cmp a b = ordering_then (slice_cmp nat_cmp a.binary b.binary) (slice_cmp nat_cmp a.name b.name)
 
 then_equal : (a b : Ordering) → is_eq (ordering_then a b) ≡ (is_eq a && is_eq b)
 then_equal Less b = refl
@@ -23,7 +20,7 @@ then_equal Equal b = refl
 then_equal Greater b = refl
 
 -- ids that are equal in their order are those of one test
-pub id_equal : (a b : TestInstanceId) → is_eq (id_cmp a b) ≡ same_id a b
+pub id_equal : (a b : TestInstanceId) → is_eq (id_order a b) ≡ same_id a b
 id_equal a b =
     then_equal (slice_cmp nat_cmp a.binary b.binary) (slice_cmp nat_cmp a.name b.name)
     ∙ ap (λ e. e && is_eq (slice_cmp nat_cmp a.name b.name)) (sym (texts_ties a.binary b.binary))
@@ -48,7 +45,8 @@ found added had e = ap not e ∙ twice had
     twice false = refl
 
 -- why the test at a place is refused, by what it is and whether it repeats an id
-pub refusal_here : (groups : List Group) (retries : Option RetryPolicy) (tests : List PlanTest) (k : ℕ) (test : PlanTest)
+pub refusal_here : (groups : List Group) (retries : Option RetryPolicy) (tests : List PlanTest) (k : ℕ)
+    (test : PlanTest)
     (repeats : Bool)
     → slice_get tests k ≡ Some test → list_any (λ t. same_id t.id test.id) (take k tests) ≡ repeats
     → test_refusal groups retries tests k ≡ refusal_at k repeats groups retries test

@@ -1,9 +1,9 @@
 -- The turn that a run takes by itself is enabled.
-use Rattle.std.proofs.Common.{◌≡◌, ℕ, ◌<◌, List, [], ◌∷◌, length, Bool, true, false, Option, Some, None, refl, ap, sym, subst, ◌∙◌}
+use Rattle.std.proofs.Common.{◌≡◌, ℕ, List, [], ◌∷◌, Bool, true, false, Some, refl, ap, sym, subst}
 use Rattle.run_events.specs.declared.settings.Settings.{Settings}
 use Rattle.run_events.specs.declared.turn.Turn.{Turn}
 use Rattle.run_model.specs.Board.{Board, board}
-use Rattle.run_model.specs.Turns.{enabled_on, enabled}
+use Rattle.run_model.specs.Turns.{enabled_on}
 use Rattle.run_state.specs.Held.{Held, held}
 use Rattle.run_state.specs.Settle.{settling, first_enabled}
 use Rattle.run_engine.specs.World.{World, history_of}

@@ -1,6 +1,8 @@
 -- The starts that a run asked, as its journal grows and as they are claimed.
-use Rattle.std.proofs.Common.{◌≡◌, ℕ, ◌+◌, ◌<◌, ◌≤◌, List, [], ◌∷◌, ◌++◌, length, map, drop, get_or, slice_get, Option, Some, None}
-use Rattle.std.proofs.Common.{Bool, true, is_some, option_to_list, refl, ap, sym, subst, ◌∙◌, arith, append_assoc, length-append}
+use Rattle.std.proofs.Common.{◌≡◌, ℕ, ◌+◌, ◌<◌, ◌≤◌, List, [], ◌∷◌, ◌++◌, length, map, drop, get_or, slice_get, Option}
+use Rattle.std.proofs.Common.{Some, None}
+use Rattle.std.proofs.Common.{Bool, true, is_some, option_to_list, refl, ap, sym, subst, ◌∙◌, arith, append_assoc}
+use Rattle.std.proofs.Common.{length-append}
 use Rattle.std.proofs.lemmas.List.{append-nil, drop-append-le, drop_more, length-drop}
 use Rattle.std.proofs.lemmas.Option.{slice_get-get_or, slice_get_past}
 use Rattle.run_events.specs.declared.settings.Settings.{Settings}
@@ -14,7 +16,7 @@ use Rattle.run_model.specs.Turns.{happening, deed_on}
 use Rattle.run_model.specs.Board.{board}
 use Rattle.run_events.specs.declared.turn.Turn.{Turn}
 use Rattle.run_state.specs.Held.{Held, held}
-use Rattle.run_engine.specs.World.{entry_of, World}
+use Rattle.run_engine.specs.World.{entry_of}
 use Rattle.run_model.specs.Journal.{past_of}
 use Rattle.run_laws.proofs.board.Ready.{past_of-length}
 use Rattle.run_engine.specs.Starts.{start_among, starts_among, starts_of, AreClaimed}

@@ -1,5 +1,6 @@
 -- Turns taken one after another.
-use Rattle.std.proofs.Common.{◌≡◌, ℕ, ◌+◌, ◌^◌, ◌<◌, ◌&&◌, List, [], ◌∷◌, ◌++◌, length, map, zip, take, get_or, slice_get, Bool}
+use Rattle.std.proofs.Common.{◌≡◌, ℕ, ◌+◌, ◌^◌, ◌<◌, ◌&&◌, List, [], ◌∷◌, ◌++◌, length, map, zip, take, get_or}
+use Rattle.std.proofs.Common.{slice_get, Bool}
 use Rattle.std.proofs.Common.{not, Option, Some, None, is_none, option_to_list, refl, ap, sym, subst, ◌∙◌, arith}
 use Rattle.std.proofs.Common.{append_assoc, length-append}
 use Rattle.std.specs.List.{list_all}
@@ -14,7 +15,8 @@ use Rattle.run_model.specs.declared.entry.Entry.{Entry}
 use Rattle.run_model.specs.Words.{answers, asked, events_in}
 use Rattle.run_model.specs.Turns.{happening}
 use Rattle.run_model.specs.Journal.{past_of}
-use Rattle.run_engine.specs.World.{World, outside, flagged, earlier, first_error, TellsEvents, CountsErrors, TakesTurn, IsUntouched}
+use Rattle.run_engine.specs.World.{World, outside, flagged, earlier, first_error, TellsEvents, CountsErrors, TakesTurn}
+use Rattle.run_engine.specs.World.{IsUntouched}
 use Rattle.run_engine.specs.World.{entry_of}
 use Rattle.run_engine.specs.Standing.{sound}
 use Rattle.run_laws.specs.Course.{turns_of, refusals, none_refused}

@@ -1,5 +1,5 @@
 -- What a turn that want of memory broke off has told and asked: a part of what the whole turn tells and asks.
-use Rattle.std.specs.Prelude.{ℕ, ◌≡◌, ◌≤◌, ◌⊎◌, List, [], ◌∷◌, ◌++◌, length, map, take, zip, slice_get, Bool, Option, Some}
+use Rattle.std.specs.Prelude.{ℕ, ◌≡◌, ◌≤◌, ◌⊎◌, List, [], ◌++◌, length, map, take, zip, slice_get, Bool, Option, Some}
 use Rattle.std.specs.Prelude.{option_to_list, IsTrue}
 use Rattle.run_events.specs.Tell.{Adds}
 use Rattle.run_events.specs.declared.settings.Settings.{Settings}

@@ -1,5 +1,6 @@
 -- Which plans are accepted, and the settings of a runner.
-use Rattle.std.specs.Prelude.{ℕ, ◌≡◌, ◌==◌, ◌-◌, ◌^◌, nat_le, List, length, take, slice_get, position, Bool, true, false, ◌&&◌, nat_eq}
+use Rattle.std.specs.Prelude.{ℕ, ◌≡◌, ◌==◌, ◌-◌, ◌^◌, nat_le, List, length, take, slice_get, position, Bool, true}
+use Rattle.std.specs.Prelude.{false, ◌&&◌, nat_eq}
 use Rattle.std.specs.Prelude.{if◌then◌else◌, Option, Some, None, is_none, is_some, unwrap_or, option_map}
 use Rattle.std.specs.Prelude.{option_and_then, Result, Ok, Err, ⊤}
 use Rattle.std.specs.Option.{option_or, option_map_or}
@@ -18,6 +19,7 @@ use Rattle.run_events.specs.declared.retry_policy.RetryPolicy.{RetryPolicy}
 use Rattle.run_events.specs.declared.retry_policy.TestThreads.{TestThreads}
 use Rattle.run_events.specs.declared.retry_policy.TestThreads.TheVariants.{Count}
 use Rattle.run_commands.specs.declared.interceptor.Interceptor.{Interceptor}
+use Rattle.run_commands.specs.declared.stress_count.StressCondition.{StressCondition}
 use Rattle.run_admission.specs.InUse.{group_of}
 use Rattle.run_model.specs.Backoff.{retry_count}
 use Rattle.run_engine.specs.declared.errors.TestRunnerBuildError.{TestRunnerBuildError}
@@ -25,7 +27,7 @@ use Rattle.run_engine.specs.declared.errors.TestRunnerBuildError.TheVariants.{Ze
 use Rattle.run_engine.specs.declared.errors.TestRunnerBuildError.TheVariants.{ZeroWeight, TooManyRetries}
 use Rattle.run_engine.specs.declared.errors.TestRunnerBuildError.TheVariants.{OutOfMemory}
 
--- what is set of a runner beside its plan
+-- what is set of a runner beside its plan; the tests that a rerun expects, in ascending order
 pub record Builder : Type 0 where
   pub capture : CaptureStrategy
   pub threads : Option ℕ
@@ -33,6 +35,8 @@ pub record Builder : Type 0 where
   pub retries : Option RetryPolicy
   pub flaky_result : Option FlakyResult
   pub interceptor : Interceptor
+  pub stress : Option StressCondition
+  pub expected : Option (List TestInstanceId)
 
 -- the number of threads that is set
 abbrev pub count_of : TestThreads → ℕ
@@ -54,9 +58,9 @@ settings_of builder plan = record {
   capture = builder.capture;
   threads = threads_of builder;
   max_fail = builder.max_fail;
-  stress = None;
+  stress = builder.stress;
   interceptor = builder.interceptor;
-  expected = None;
+  expected = builder.expected;
   retries = builder.retries;
   flaky_result = builder.flaky_result;
 }

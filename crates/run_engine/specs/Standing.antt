@@ -17,8 +17,8 @@ pub record IsRunnable (p : Settings) (journal : List Entry) : Type 0 where
   pub short : length journal < 2 ^ 32
   pub legal : IsLegal p journal
 
--- a run that isn't broken has the board of its journal, and one that is isn't over; of the starts that its journal asked
--- so many were claimed
+-- a run that isn't broken has the board of its journal, and one that is isn't over; of the starts that its journal
+-- asked so many were claimed
 pub record IsStanding (p : Settings) (journal : List Entry) (state : Held) (broken : Bool) (waiting : List StartAsk)
     (claimed : ℕ) : Type 0 where
   pub runnable : IsRunnable p journal

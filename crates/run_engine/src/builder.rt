@@ -1,16 +1,21 @@
 // How a runner is made of a plan.
 ghost use Rattle.std.specs.Prelude.{◌≡◌, ◌+◌, ◌==◌, ◌<◌, ◌^◌, length, position, option_map, option_and_then};
-ghost use Rattle.std.specs.Prelude.{IfOk, IfSome, Some};
+ghost use Rattle.std.specs.Prelude.{IfOk, IfSome, OnOk, Some};
+ghost use Rattle.std.specs.List.Sorted.{IsStrictlySortedBy};
 ghost use Rattle.run_admission.specs.InUse.{group_of};
+ghost use Rattle.run_model.specs.Reruns.{AreAscending, id_order};
 ghost use Rattle.run_engine.specs.declared.errors.TestRunnerBuildError.TheVariants.{ZeroLimit};
 ghost use Rattle.run_engine.specs.Builder.{IsBuilt, count_of, threads_of, names_no_group, refusal_at, test_refusal};
-ghost use Rattle.run_engine.specs.Builder.{first_refused, zero_limit, refusal_with, has_too_many};
+ghost use Rattle.run_engine.specs.Builder.{first_refused, zero_limit, refusal_with, refusal_of, has_too_many};
+ghost use Rattle.run_engine.specs.Builder.{settings_of};
 
 use crate::errors::TestRunnerBuildError;
 use crate::runner::TestRunner;
-use run_capture::{CaptureStrategy, Mem, Text};
-use run_commands::Interceptor;
-use run_events::{FlakyResult, Group, MaxFail, Plan, PlanTest, RetryPolicy, Settings, TestThreads};
+use run_capture::{CaptureStrategy, List, Mem, OutOfMemory, Text};
+use run_commands::{Interceptor, StressCondition};
+use run_events::{
+    FlakyResult, Group, MaxFail, Plan, PlanTest, RetryPolicy, Settings, TestInstanceId, TestThreads,
+};
 use run_model::retry_count;
 use std::alloc::Global;
 use std::collections::BTreeSet;
@@ -23,7 +28,7 @@ const MOST_GROUPS: usize = 4_294_967_295;
 
 /// What is set of a runner beside its plan: how the output of tests is captured, how many tests run at a time,
 /// after how many failures no test starts any more, what tests run under, and, for all tests alike, how often a failed
-/// one is tried again and what a pass counts as then.
+/// one is tried again and what a pass counts as then; when a stress run ends, and which tests a rerun expects.
 #[derive(Drop)]
 pub struct TestRunnerBuilder {
     capture: CaptureStrategy,
@@ -32,9 +37,12 @@ pub struct TestRunnerBuilder {
     retries: Option<RetryPolicy>,
     flaky_result: Option<FlakyResult>,
     interceptor: Interceptor,
+    stress: Option<StressCondition>,
+    expected: Option<BTreeSet<TestInstanceId>>,
 }
 
 impl Model for TestRunnerBuilder {
+    ghost use Rattle.std.specs.Prelude.{option_map};
     ghost use Rattle.run_engine.specs.Builder.{Builder};
 
     ghost Value = { Builder };
@@ -46,6 +54,8 @@ impl Model for TestRunnerBuilder {
       retries = b.retries;
       flaky_result = b.flaky_result;
       interceptor = b.interceptor;
+      stress = b.stress;
+      expected = option_map (λ ids. ids.keys) b.expected;
     } };
 }
 
@@ -56,7 +66,7 @@ impl Debug for TestRunnerBuilder {
 }
 
 /// Each stream is captured by itself, the number of threads is unset, all tests run, whatever fails, each by its own
-/// retries, and none under a debugger or a tracer.
+/// retries, and none under a debugger or a tracer; the run is neither a stress run nor a rerun.
 impl Default for TestRunnerBuilder {
     ghost use Rattle.std.specs.Prelude.{◌≡◌, None};
     ghost use Rattle.run_capture.specs.declared.test_output.CaptureStrategy.TheVariants as strategies;
@@ -70,6 +80,8 @@ impl Default for TestRunnerBuilder {
       retries = None;
       flaky_result = None;
       interceptor = interceptors.None;
+      stress = None;
+      expected = None;
     } };
 
     fn default() -> Self {
@@ -80,6 +92,8 @@ impl Default for TestRunnerBuilder {
             retries: None,
             flaky_result: None,
             interceptor: Interceptor::None,
+            stress: None,
+            expected: None,
         }
     }
 }
@@ -141,6 +155,25 @@ impl TestRunnerBuilder {
         self
     }
 
+    /// Sets that the run is a stress run, and when it ends: after a count of sub-runs, or with the first sub-run that
+    /// ends when so many nanoseconds of the run's active time have passed.
+    pub fn set_stress_condition(&mut self, stress_condition: StressCondition) -> &mut Self
+        ensures same { result.ghost_name ≡ self.entry.ghost_name }
+        ensures set { result.now ≡ record self.old { stress = Some stress_condition } }
+    {
+        self.stress = Some(stress_condition);
+        self
+    }
+
+    /// Sets that the run is a rerun, and the tests that it expects. Contracts see them in ascending order.
+    pub fn set_expected_outstanding(&mut self, expected: BTreeSet<TestInstanceId>) -> &mut Self
+        ensures same { result.ghost_name ≡ self.entry.ghost_name }
+        ensures set { result.now ≡ record self.old { expected = Some expected.keys } }
+    {
+        self.expected = Some(expected);
+        self
+    }
+
     // How many threads there are.
     fn effective_threads(&self) -> u32
         ensures { result ≡ threads_of self.now }
@@ -152,18 +185,18 @@ impl TestRunnerBuilder {
     }
 
     /// The runner of a plan of fewer than 2^32 units. A plan is refused exactly where it breaks a rule, with the first
-    /// that it breaks: no limit is 0, no two tests have one id, each group that a test names is there, no weight is 0, and
-    /// no test has 4,294,967,295 retries. One of 2^32 groups or more, which refusals can't number, counts as too much for memory.
+    /// that it breaks: no limit is 0, no two tests have one id, each group that a test names is there, no weight is 0,
+    /// and no test has 4,294,967,295 retries. One of 2^32 groups or more, which refusals can't number, counts as too
+    /// much for memory.
     pub fn build(self, alloc: Global, plan: Plan) -> Result<TestRunner, TestRunnerBuildError>
         requires { length plan.scripts + length plan.tests < 2 ^ 32 }
         ensures built { IsBuilt self plan result }
     {
-        let threads = self.effective_threads();
         if plan.groups.len() > MOST_GROUPS {
             drop((self, plan));
             return Err(TestRunnerBuildError::OutOfMemory);
         }
-        match refusal(alloc, threads, self.retries, &plan) {
+        match self.refusal_of(alloc, &plan) {
             Err(_) => {
                 drop((self, plan));
                 Err(TestRunnerBuildError::OutOfMemory)
@@ -172,19 +205,80 @@ impl TestRunnerBuilder {
                 drop((self, plan));
                 Err(error)
             }
-            Ok(None) => Ok(TestRunner::new(Settings {
-                plan,
-                capture: self.capture,
-                threads,
-                max_fail: self.max_fail,
-                stress: None,
-                interceptor: self.interceptor,
-                expected: None,
-                retries: self.retries,
-                flaky_result: self.flaky_result,
-            })),
+            Ok(None) => match self.into_settings(alloc, plan) {
+                Ok(settings) => Ok(TestRunner::new(settings)),
+                Err(_) => Err(TestRunnerBuildError::OutOfMemory),
+            },
         }
     }
+
+    // Why a plan is refused.
+    fn refusal_of(&self, alloc: Global, plan: &Plan) -> Mem<Option<TestRunnerBuildError>>
+        requires groups { length plan.now.groups < 2 ^ 32 }
+        requires tests { length plan.now.tests < 2 ^ 32 }
+        ensures { IfOk result (λ r. r ≡ refusal_of self.now plan.now) }
+    {
+        refusal(alloc, self.effective_threads(), self.retries, plan)
+    }
+
+    // The settings of a plan.
+    fn into_settings(self, alloc: Global, plan: Plan) -> Mem<Settings>
+        ensures settings { IfOk result (λ settings. settings ≡ settings_of self plan) }
+        ensures ascending { IfOk result (λ settings. AreAscending settings.expected) }
+    {
+        let threads = self.effective_threads();
+        let TestRunnerBuilder {
+            capture,
+            max_fail,
+            retries,
+            flaky_result,
+            interceptor,
+            stress,
+            expected,
+            ..
+        } = self;
+        let Ok(expected) = expected_of(alloc, expected) else {
+            drop((plan, interceptor, stress));
+            return Err(OutOfMemory);
+        };
+        Ok(Settings {
+            plan,
+            capture,
+            threads,
+            max_fail,
+            stress,
+            interceptor,
+            expected,
+            retries,
+            flaky_result,
+        })
+    }
+}
+
+// The tests that a rerun expects, in ascending order.
+fn expected_of(
+    alloc: Global,
+    expected: Option<BTreeSet<TestInstanceId>>,
+) -> Mem<Option<List<TestInstanceId>>>
+    ensures tests { IfOk result (λ tests. tests ≡ option_map (λ ids. ids.keys) expected) }
+    ensures ascending { IfOk result AreAscending }
+{
+    match expected {
+        Some(ids) => Ok(Some(list_of(alloc, ids)?)),
+        None => Ok(None),
+    }
+}
+
+// The tests of a set, in ascending order.
+fn list_of(alloc: Global, ids: BTreeSet<TestInstanceId>) -> Mem<List<TestInstanceId>>
+    ensures tests { IfOk result (λ tests. tests ≡ ids.keys) }
+    ensures ascending { OnOk result (IsStrictlySortedBy id_order ids.keys) }
+{
+    let mut tests = List::new();
+    for id in ids {
+        tests.push(alloc, id)?;
+    }
+    Ok(tests)
 }
 
 // Why a plan with so many threads is refused.

@@ -1,8 +1,10 @@
 // What an enabled turn does to the parts of a run.
 ghost use Rattle.std.specs.Prelude.{◌≤◌, ◌≡◌, ◌<◌, ◌+◌, ◌^◌, ◌∷◌, ◌++◌, [], length, map, zip, not, is_none};
 ghost use Rattle.std.specs.Prelude.{option_to_list};
-ghost use Rattle.std.specs.Prelude.{vec_len, vec_capacity, IfOk, IfErr, OnOk, OnErr, IsErrOf, IsTrue, Option, Some, option_map};
-ghost use Rattle.std.specs.Prelude.{ℕ, ◌||◌, nat_le, is_some, None, true, false, IsSome, IsNone, slice_get, if◌then◌else◌};
+ghost use Rattle.std.specs.Prelude.{vec_len, vec_capacity, IfOk, IfErr, OnOk, OnErr, IsErrOf, IsTrue, Option, Some};
+ghost use Rattle.std.specs.Prelude.{option_map};
+ghost use Rattle.std.specs.Prelude.{ℕ, ◌||◌, nat_le, is_some, None, true, false, IsSome, IsNone, slice_get};
+ghost use Rattle.std.specs.Prelude.{if◌then◌else◌};
 ghost use Rattle.std.specs.VecDeque.{deque_len, deque_capacity};
 ghost use Rattle.std.specs.List.{list_all};
 ghost use Rattle.run_events.specs.Tell.{Adds};
@@ -119,13 +121,13 @@ fn make_room(journal: &mut Vec<Entry>, starts: &mut VecDeque<StartAsk>) -> Mem<u
     Ok(place)
 }
 
-// Does what an enabled turn does to the state, the children and the reporter, whose answers the state hears, and makes
-// room for it in the journal.
+// Does what an enabled turn at this place does to the state, the children and the reporter, whose answers the state
+// hears.
 fn act<C: Children, R: Reporter>(
     alloc: Global,
     settings: &Settings,
     state: &mut State,
-    journal: &mut Vec<Entry>,
+    place: u64,
     starts: &mut VecDeque<StartAsk>,
     turn: &Turn,
     named: Option<(u32, UnitTurn)>,
@@ -136,13 +138,13 @@ fn act<C: Children, R: Reporter>(
     requires can { CanAdvance settings.now state.old.board turn.now (turn_of_unit turn.now) }
     requires seated { KeepsSeats settings.now state.old }
     requires few { AreFew settings.now }
-    requires short { length journal.old.items < 2 ^ 32 }
+    requires room { deque_len starts.old < deque_capacity starts.old }
     ensures after { IfOk result (λ t. state.new.board
         ≡ answered (step state.old.board turn.now (deed_on settings.now state.old.board turn.now))
         t.refused) }
     ensures seated { OnOk result (KeepsSeats settings.now state.new) }
     ensures asked { OnOk result (Adds C.asked children.old children.new
-        (map (λ ask. (length journal.old.items, ask))
+        (map (λ ask. (place, ask))
         (option_to_list (deed_on settings.now state.old.board turn.now).asked))) }
     ensures answered { IfOk result (λ t. length t.refused
         ≡ length (deed_events (deed_on settings.now state.old.board turn.now))) }
@@ -151,20 +153,14 @@ fn act<C: Children, R: Reporter>(
         (zip (deed_events (deed_on settings.now state.old.board turn.now)) t.refused) t.refusal) }
     ensures faults { IfOk result (λ t. CountsErrors (R.faults report.old) (R.faults report.new)
         t.refusal) }
-    ensures same { journal.new.items ≡ journal.old.items }
-    ensures room { OnOk result (vec_len journal.new < vec_capacity journal.new) }
     ensures waits { OnOk result (starts.new.items
         ≡ starts.old.items ++ start_among (deed_on settings.now state.old.board turn.now).asked) }
     ensures kept { OnErr result (starts.new.items ≡ starts.old.items) }
     ensures part { let o = outside R.faults report.old report.new children.old children.new in
-        OnErr result (TellsPart R.told C.asked o (length journal.old.items) (deed_events
+        OnErr result (TellsPart R.told C.asked o place (deed_events
         (deed_on settings.now state.old.board turn.now))
         (deed_on settings.now state.old.board turn.now).asked) }
 {
-    let Ok(place) = make_room(journal, starts) else {
-        drop(named);
-        return Err(OutOfMemory);
-    };
     let effects = advance(alloc, settings, state, turn, named)?;
     let told = send(alloc, place, effects, starts, children, report)?;
     state.hear_answers(told.refused.as_slice());
@@ -204,8 +200,12 @@ pub(crate) fn carry_out<C: Children, R: Reporter>(
     ensures part { let o = outside R.faults report.old report.new children.old children.new in
         OnErr result (BreaksOff R.told C.asked o settings.now journal.old.items turn) }
 {
+    let Ok(place) = make_room(journal, starts) else {
+        drop((turn, named));
+        return Err(OutOfMemory);
+    };
     match act(
-        alloc, settings, state, journal, starts, &turn, named, children, report,
+        alloc, settings, state, place, starts, &turn, named, children, report,
     ) {
         Ok(Told { refused, refusal }) => {
             journal.push_reserved(Entry { turn, refused });

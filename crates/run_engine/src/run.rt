@@ -1,7 +1,8 @@
 // A run, turn by turn.
 ghost use Rattle.std.specs.Prelude.{◌≤◌, ◌≡◌, ◌<◌, ◌+◌, ◌^◌, ◌∷◌, ◌++◌, [], length, map, zip, not, is_none};
 ghost use Rattle.std.specs.Prelude.{option_to_list};
-ghost use Rattle.std.specs.Prelude.{vec_len, vec_capacity, IfOk, IfErr, OnOk, OnErr, IsErrOf, IsTrue, Option, Some, option_map};
+ghost use Rattle.std.specs.Prelude.{vec_len, vec_capacity, IfOk, IfErr, OnOk, OnErr, IsErrOf, IsTrue, Option, Some};
+ghost use Rattle.std.specs.Prelude.{option_map};
 ghost use Rattle.std.specs.Prelude.{ℕ, is_some, None, true, false, IsSome, IsNone, slice_get, if◌then◌else◌};
 ghost use Rattle.std.specs.VecDeque.{deque_len, deque_capacity};
 ghost use Rattle.std.specs.List.{list_all};
@@ -236,9 +237,9 @@ impl Run {
         next_settled(self.settings.get(), &self.state, word)
     }
 
-    /// Takes the first enabled turn of these, always of the least unit: begin, report-cancel, deliver, take, decide with this
-    /// word, due of a unit, due of the global timer, admit, end. The answer is the turn that was taken, and none where none
-    /// of them is enabled.
+    /// Takes the first enabled turn of these, always of the least unit: begin, report-cancel, deliver, take, decide
+    /// with this word, due of a unit, due of the global timer, admit, end. The answer is the turn that was taken, and
+    /// none where none of them is enabled.
     pub fn settle<C: Children, R: Reporter>(
         &mut self,
         alloc: Global,
@@ -305,8 +306,8 @@ impl Run {
         true
     }
 
-    /// Gives the run up: it is broken as by want of memory, but that nothing is told or asked. One that is over stays as it
-    /// is.
+    /// Gives the run up: it is broken as by want of memory, but that nothing is told or asked. One that is over stays
+    /// as it is.
     pub fn give_up(&mut self)
         ensures { self.new
             ≡ (if is_over (history_of self.old) then self.old else record self.old

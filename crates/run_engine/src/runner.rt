@@ -1,9 +1,11 @@
 // A runner carries out the turns of a run.
-ghost use Rattle.std.specs.Prelude.{◌≡◌, ◌<◌, ◌^◌, ◌∷◌, [], length, map, take, slice_get, IfOk, IfErr, OnOk, IsErrOf, Option};
+ghost use Rattle.std.specs.Prelude.{◌≡◌, ◌<◌, ◌^◌, ◌∷◌, [], length, map, take, slice_get, IfOk, IfErr, OnOk, IsErrOf};
+ghost use Rattle.std.specs.Prelude.{Option};
 ghost use Rattle.std.specs.Prelude.{Some, None, List, true, false, pos, IfSome};
 ghost use Rattle.run_events.specs.Tell.{Adds};
 ghost use Rattle.run_model.specs.declared.entry.Entry.{Entry};
 ghost use Rattle.run_model.specs.Admission.{AreFew};
+ghost use Rattle.run_model.specs.Reruns.{AreAscending};
 ghost use Rattle.run_model.specs.Turns.{enabled};
 ghost use Rattle.run_engine.specs.World.{TakesTurn, IsUntouched, outside, history_of};
 ghost use Rattle.run_engine.specs.Refused.{IsRefused, IfNotMemory};
@@ -40,15 +42,15 @@ pub struct TestRunner {
 }
 
 impl Model for TestRunner {
-    ghost use Rattle.std.specs.Prelude.{◌<◌, ◌^◌};
     ghost use Rattle.run_model.specs.Admission.{AreFew};
+    ghost use Rattle.run_model.specs.Reruns.{AreAscending};
     ghost use Rattle.run_events.specs.declared.settings.Settings.{Settings};
 
     ghost Value = { Settings };
 
     ghost view = { λ r. r.settings };
 
-    ghost invariant = { λ r. AreFew r.settings };
+    ghost invariant = { λ r. AreFew r.settings × AreAscending r.settings.expected };
 }
 
 impl Debug for TestRunner {
@@ -164,7 +166,8 @@ fn run_all<C: Children, R: Reporter>(
 impl TestRunner {
     // A runner with these settings.
     pub(crate) fn new(settings: Settings) -> Self
-        requires { AreFew settings }
+        requires few { AreFew settings }
+        requires ascending { AreAscending settings.expected }
         ensures { result ≡ settings }
     {
         TestRunner {
@@ -231,9 +234,9 @@ impl TestRunner {
 
     /// Carries out the turns of a run, fewer than 2^32. The reporter is told each event, also after it refused one. The
     /// answer is the outcome of a run that is over; else the first turn that isn't enabled, as a third shutdown signal
-    /// where it is one, or that the run isn't over, or the reporter's first error in a run that is over. What was told and
-    /// asked by then stands after each of these. After want of memory what was told and asked is that of a journal of the
-    /// first turns, and a part of what the turn after them tells and asks.
+    /// where it is one, or that the run isn't over, or the reporter's first error in a run that is over. What was told
+    /// and asked by then stands after each of these. After want of memory what was told and asked is that of a journal
+    /// of the first turns, and a part of what the turn after them tells and asks.
     pub fn try_execute<C: Children, R: Reporter>(
         self,
         alloc: Global,

@@ -99,7 +99,8 @@ slows P now n u = by_time (is_out_of_time u.terms.slow n) (u.terms.slow.grace ==
     by_time true false = silent P
     by_time false none = silent P
 
-decides : (P : InfoSubject → Type 0) (now word : ℕ) (u : UnitView) → IsUnitOf P u → AnswersOf P (decide_row now word u).info
+decides : (P : InfoSubject → Type 0) (now word : ℕ) (u : UnitView) → IsUnitOf P u
+    → AnswersOf P (decide_row now word u).info
 decides P now word u h = by_retry (has_retry u)
   where
     by_retry : (b : Bool) → AnswersOf P (if b then delayed now (next_delay word u) u else decided u).info

@@ -36,7 +36,7 @@ use Rattle.run_laws.proofs.board.ByTurn.{by_turn}
 use Rattle.run_laws.proofs.board.DeedFits.{cancel_told}
 use Rattle.run_laws.proofs.board.OnBoard.{board_with, unit_in-is}
 use Rattle.run_laws.proofs.told.Asides.{IsAside, answer_aside, by_signal, key_aside}
-use Rattle.run_laws.proofs.told.Cancels.{IsCancel, IsCancelKind}
+use Rattle.run_laws.proofs.told.Cancels.{IsAfter, IsAfterKind}
 use Rattle.run_event_laws.specs.Names.{IsSubjectNamed, NamesThePlan, NamesThePlanIn}
 use Rattle.run_event_laws.proofs.AnswerRows.{IsOf, IsUnitIf, row_answers}
 use Rattle.run_event_laws.proofs.ByJournal.{IsKept, by_journal}
@@ -44,6 +44,8 @@ use Rattle.run_event_laws.proofs.PlanMessages.{SaysOf, SaysPlan, named, told_so}
 use Rattle.run_event_laws.proofs.PlanUnits.{ArePlanUnits, IsPlanUnitIf, IsUnitAs, units_kept}
 use Rattle.run_event_laws.proofs.AnswersTold.{TellsOldest, TellsOldestIn, tells_oldest_answer}
 use Rattle.run_event_laws.proofs.Told.{message_in}
+use Rattle.run_model.specs.Turns.{index_of}
+use Rattle.run_laws.proofs.told.Bounds.{begin_cases, end_cases}
 
 -- a unit of the plan answers under its name
 subject_named : (p : Settings) (role : UnitRole) (words : _) (terms : _) → IsUnitAs p role words terms → (v : UnitView)
@@ -91,8 +93,8 @@ deed_named : (p : Settings) (b : Board) → ((k : ℕ) → IsUnitIf (IsSubjectNa
     → AreNamed p (deed_on p b turn).info
 deed_named p b units turn = by_turn (λ turn to. AreNamed p (done_by p b turn to).info)
     (record {
-      begin = none_named p;
-      admit = admission_named p (newcomer p b.units);
+      begin = begin_cases (λ d. AreNamed p d.info) (λ told after own later. none_named p) b.clock b.dispatcher;
+      admit = admission_named p (newcomer p (index_of b.dispatcher) b.units);
       deliver = delivery_named p b units b.queue;
       named = λ turn k to other. row_answers (IsSubjectNamed p) b.clock to (unit_in b k) (units k);
       clock = λ ns. none_named p;
@@ -100,7 +102,7 @@ deed_named p b units turn = by_turn (λ turn to. AreNamed p (done_by p b turn to
           (heard_by b.dispatcher.rules.hearing signal) (none_named p) aside_named;
       global_due = none_named p;
       report_cancel = none_named p;
-      end = none_named p;
+      end = end_cases (λ d. AreNamed p d.info) (λ told after over own later. none_named p) b.clock b.dispatcher;
       key = λ key. aside_named _ (key_aside b.clock (live_in b.units) b.dispatcher
           (heard_key b.dispatcher.rules.hearing.input key));
       tick = none_named p;
@@ -155,7 +157,8 @@ oldest_named p [] response all is = cc
 oldest_named p (first ∷ rest) response all is =
     let same : first ≡ response = cc in subst (Named p) same (All-head (Named p) first rest all)
 
-told_named : (p : Settings) (b : Board) (e : ReporterEvent) → All (Named p) b.answers → TellsOldest b e → AnswerNamed p e
+told_named : (p : Settings) (b : Board) (e : ReporterEvent) → All (Named p) b.answers → TellsOldest b e
+    → AnswerNamed p e
 told_named p b Tick all h = tt
 told_named p b (Test event) all h = by_kind event.kind h
   where
@@ -163,13 +166,15 @@ told_named p b (Test event) all h = by_kind event.kind h
     by_kind (kinds.InfoResponse answer) h = oldest_named p b.answers answer.response all h
     by_kind kind h = tt
 
-cancel_named : (p : Settings) (e : ReporterEvent) → IsCancel (Some e) → AnswerNamed p e
+cancel_named : (p : Settings) (e : ReporterEvent) → IsAfter (Some e) → AnswerNamed p e
 cancel_named p Tick h = tt
 cancel_named p (Test event) h = by_kind event.kind h
   where
-    by_kind : (kind : TestEventKind) → IsCancelKind kind → AnswerNamedIn p kind
+    by_kind : (kind : TestEventKind) → IsAfterKind kind → AnswerNamedIn p kind
     by_kind (kinds.RunBeginCancel cancelled) h = tt
     by_kind (kinds.RunBeginKill cancelled) h = tt
+    by_kind (kinds.StressSubRunStarted progress) h = tt
+    by_kind (kinds.RunFinished finished) h = tt
     by_kind kind h = absurd h
 
 -- so after every legal journal
@@ -184,26 +189,26 @@ each P None h = All-nil P
 each P (Some e) h = All-cons P e [] (h e refl) (All-nil P)
 
 all_kept : (p : Settings) → IsKept p (AreAllNamed p)
-all_kept p over refused now run e h en does was = record {
-  units = units_kept p over refused now run e h en does was.units;
+all_kept p f refused now run e h en does was = record {
+  units = units_kept p f refused now run e h en does was.units;
   given = λ request. by_open request (opens_round d.request);
-  told_so = All-append (AnswerNamed p) (told run) (option_to_list d.told ++ option_to_list d.cancel) was.told_so
-      (All-append (AnswerNamed p) (option_to_list d.told) (option_to_list d.cancel)
+  told_so = All-append (AnswerNamed p) (told run) (option_to_list d.told ++ option_to_list d.after) was.told_so
+      (All-append (AnswerNamed p) (option_to_list d.told) (option_to_list d.after)
       (each (AnswerNamed p) d.told (λ event is. told_named p b event
       (All-drop (Named p) (answers_told run) (answers_given (open_round run) run) (was.given (open_round run)))
       (subst (λ o. IfSome o (TellsOldest b)) is (tells_oldest_answer p b e.turn))))
-      (each (AnswerNamed p) d.cancel (λ event is. cancel_named p event
-      (subst IsCancel is (cancel_told p over now run d does.marks)))));
+      (each (AnswerNamed p) d.after (λ event is. cancel_named p event
+      (subst IsAfter is (cancel_told p f now run d does.marks)))));
 }
   where
     b : Board
-    b = board_with p refused over now run
+    b = board_with p refused f now run
 
     d : Deed
     d = deed_on p b e.turn
 
     on_board : (k : ℕ) → IsUnitIf (IsSubjectNamed p) (unit_in b k)
-    on_board k = subst (IsUnitIf (IsSubjectNamed p)) (sym (unit_in-is p over now run k h))
+    on_board k = subst (IsUnitIf (IsSubjectNamed p)) (sym (unit_in-is p now run k h))
         (unit_named p (unit_of k run) (was.units k))
 
     by_open : (request : Option Request) (opens : Bool) → All (Named p) (if opens then []

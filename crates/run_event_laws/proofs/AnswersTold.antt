@@ -30,6 +30,12 @@ use Rattle.run_model.specs.Dispatch.{started_event, told_of, with_start}
 use Rattle.run_model.specs.Turns.{admission, answer_to, answered_by, deed_on, delivered_as, delivery, event_of}
 use Rattle.run_model.specs.Turns.{job_deed, job_event, key_deed, live_in, nothing_done, oldest_of}
 use Rattle.run_model.specs.Turns.{signal_deed, starting, tally_with, tells}
+use Rattle.run_model.specs.Turns.{index_of}
+use Rattle.run_laws.proofs.told.Bounds.{IsBound, IsBoundKind, begin_cases, end_cases}
+use Rattle.run_events.specs.declared.turn.Turn.TheVariants.{Begin, End}
+use Rattle.run_events.specs.declared.events.TestEventKind.TheVariants.{RunStarted, RunFinished, StressSubRunStarted}
+use Rattle.run_events.specs.declared.events.TestEventKind.TheVariants.{StressSubRunFinished}
+use Rattle.run_events.specs.declared.events.ReporterEvent.TheVariants.{Tick}
 
 -- an event that tells an answer on a board tells the oldest that waits
 abbrev pub TellsOldestIn : Board → TestEventKind → Type 0
@@ -108,9 +114,26 @@ answer_tells : (b : Board) (o : Option InfoResponse) → oldest_of b.answers ≡
 answer_tells b None is = tt
 answer_tells b (Some response) is = is
 
+-- the begin and the end of a sub-run tell none
+bound_oldest : (b : Board) (o : Option ReporterEvent) → IsBound o → IfSome o (TellsOldest b)
+bound_oldest b None h = tt
+bound_oldest b (Some Tick) h = absurd h
+bound_oldest b (Some (Test event)) h = by_kind event.kind h
+  where
+    by_kind : (kind : TestEventKind) → IsBoundKind kind → TellsOldest b (Test (record event { kind = kind }))
+    by_kind (RunStarted s) h = tt
+    by_kind (StressSubRunStarted s) h = tt
+    by_kind (StressSubRunFinished s) h = tt
+    by_kind (RunFinished s) h = tt
+    by_kind kind h = absurd h
+
 -- so each turn
 pub tells_oldest_answer : (p : Settings) (b : Board) (turn : Turn) → IfSome (deed_on p b turn).told (TellsOldest b)
-tells_oldest_answer p b Admit = admission_tells b (newcomer p b.units)
+tells_oldest_answer p b Begin = begin_cases (λ d. IfSome d.told (TellsOldest b)) (λ told after own later. bound_oldest b told own)
+    b.clock b.dispatcher
+tells_oldest_answer p b End = end_cases (λ d. IfSome d.told (TellsOldest b)) (λ told after over own later. bound_oldest b told own)
+    b.clock b.dispatcher
+tells_oldest_answer p b Admit = admission_tells b (newcomer p (index_of b.dispatcher) b.units)
 tells_oldest_answer p b Deliver = delivery_tells b b.queue
 tells_oldest_answer p b (Signal signal) = signal_tells b signal (heard_by b.dispatcher.rules.hearing signal)
 tells_oldest_answer p b (Key key) = key_tells b (heard_key b.dispatcher.rules.hearing.input key)

@@ -152,7 +152,7 @@ retries_few p backward legal k = by_test (test_of_unit p k) refl
     within : length (retries_told k (told run)) ≤ retry_count (unit_terms p k).retries
     within = subst (λ n. n ≤ retry_count (unit_terms p k).retries) (retried-told k (told run))
         (by_unit (is_mismatched p k) (unit_terms p k) (unit_of k run) (story_of k run) (account_of k (told run))
-        (pending_of k (queue run)) (way_of k run) (h.run.made k) (h.run.on_way k) (h.run.accounts k))
+        (pending_of k (queue run)) (way_of k run) (h.made k) (h.on_way k) (h.accounts k))
 
     by_test : (o : Option PlanTest) → test_of_unit p k ≡ o
         → IfSome o (λ test. length (retries_told k (told run)) ≤ planned_retries p.retries test)

@@ -37,6 +37,8 @@ use Rattle.run_event_laws.specs.Retries.{retry_as}
 use Rattle.run_event_laws.specs.Slots.{slots_in_role}
 use Rattle.run_event_laws.proofs.PlanUnits.{IsUnitAs}
 use Rattle.run_event_laws.proofs.RowMessages.{SaysSlow, open_says}
+use Rattle.run_events.specs.declared.stress.StressIndex.{StressIndex}
+use Rattle.run_model.specs.Admission.{index_of_role}
 
 -- the start or the retry of test k that a message is, if it is one
 abbrev pub go_in : ℕ → Message → Option Message
@@ -48,21 +50,25 @@ abbrev pub gos_in : ℕ → List Message → List Message
 gos_in k messages = filter_map (go_in k) messages
 
 -- the start of a test of the plan in these slots, and then its retries
-abbrev pub start_as : Settings → ℕ → PlanTest → TestSlotAssignment → TestStart
-start_as p k test slot = record {
-  test = test_named k test;
+abbrev pub start_as : Settings → Option StressIndex → ℕ → PlanTest → TestSlotAssignment → TestStart
+start_as p index k test slot = record {
+  test = test_named index k test;
   command = runner_words (runner_for p.plan.runners test.platform) ++ test.command;
   slot = slot;
 }
 
-abbrev pub go_as : Settings → ℕ → PlanTest → TestSlotAssignment → ℕ → Message
-go_as p k test slot n = if n == 1 then Start (start_as p k test slot) else Retry (retry_as p k test slot n)
+abbrev pub go_as : Settings → Option StressIndex → ℕ → PlanTest → TestSlotAssignment → ℕ → Message
+go_as p index k test slot n = if n == 1 then Start (start_as p index k test slot) else Retry (retry_as p index k test slot n)
 
-abbrev pub gos_as : Settings → ℕ → Option PlanTest → Option TestSlotAssignment → ℕ → List Message
-gos_as p k (Some test) (Some slot) n = map (go_as p k test slot) (range_with_len 1 n)
-gos_as p k _ _ n = []
+abbrev pub gos_as : Settings → Option StressIndex → ℕ → Option PlanTest → Option TestSlotAssignment → ℕ → List Message
+gos_as p index k (Some test) (Some slot) n = map (go_as p index k test slot) (range_with_len 1 n)
+gos_as p index k _ _ n = []
 
--- the slots of a unit
+-- which sub-run of a stress run a unit is of, and its slots
+abbrev pub unit_index : Option UnitView → Option StressIndex
+unit_index None = None
+unit_index (Some u) = index_of_role u.role
+
 abbrev pub unit_slots : Option UnitView → Option TestSlotAssignment
 unit_slots None = None
 unit_slots (Some u) = slots_in_role u.role
@@ -81,7 +87,7 @@ HasSentGos (Some u) n = SentGos u.phase u.attempt n
 pub record HasGos (p : Settings) (k : ℕ) (v : Option UnitView) (messages : List Message) : Type 0 where
   pub count : ℕ
   pub fits : HasSentGos v count
-  pub sent : gos_in k messages ≡ gos_as p k (test_of_unit p k) (unit_slots v) count
+  pub sent : gos_in k messages ≡ gos_as p (unit_index v) k (test_of_unit p k) (unit_slots v) count
 
 -- a message that is none of them, if there is one
 abbrev pub IsNoGo : Option Message → Type 0
@@ -176,53 +182,55 @@ row_gos now ph turn u n is en sent_so = by_take (row_takes now ph turn u en)
     by_take (again false at to) = rw (at, to) (inl (tt, λ k. refl))
 
 -- the retry of a unit of the plan is the one after those that it has sent
-pub gos-none : (p : Settings) (k n : ℕ) (o : Option PlanTest) → gos_as p k o None n ≡ []
-gos-none p k n None = refl
-gos-none p k n (Some test) = refl
+pub gos-none : (p : Settings) (index : Option StressIndex) (k n : ℕ) (o : Option PlanTest)
+    → gos_as p index k o None n ≡ []
+gos-none p index k n None = refl
+gos-none p index k n (Some test) = refl
 
-pub gos-zero : (p : Settings) (k : ℕ) (o : Option PlanTest) (s : Option TestSlotAssignment) → gos_as p k o s 0 ≡ []
-gos-zero p k None s = refl
-gos-zero p k (Some test) None = refl
-gos-zero p k (Some test) (Some slot) = refl
+pub gos-zero : (p : Settings) (index : Option StressIndex) (k : ℕ) (o : Option PlanTest)
+    (s : Option TestSlotAssignment) → gos_as p index k o s 0 ≡ []
+gos-zero p index k None s = refl
+gos-zero p index k (Some test) None = refl
+gos-zero p index k (Some test) (Some slot) = refl
 
 -- the retry that a test's unit sends
 abbrev retry_of : TestRole → UnitView → TestRetry
 retry_of t u = record { start = test_start t u; attempt = u.attempt + 1; attempts = attempts u }
 
-none_of : (p : Settings) (k n : ℕ) (before : List Message) → before ≡ []
-    → before ++ [] ≡ gos_as p k (test_of_unit p k) None n
-none_of p k n before is = append-nil before ∙ is ∙ sym (gos-none p k n (test_of_unit p k))
+none_of : (p : Settings) (index : Option StressIndex) (k n : ℕ) (before : List Message) → before ≡ []
+    → before ++ [] ≡ gos_as p index k (test_of_unit p k) None n
+none_of p index k n before is = append-nil before ∙ is ∙ sym (gos-none p index k n (test_of_unit p k))
 
 pub retry_more : (p : Settings) (k n : ℕ) (role : UnitRole) (u : UnitView) (before : List Message)
     → IsUnitAs p role u.command u.terms → number_of role ≡ k → 0 < n → n ≡ u.attempt
-    → before ≡ gos_as p k (test_of_unit p k) (slots_in_role role) n
+    → before ≡ gos_as p (index_of_role role) k (test_of_unit p k) (slots_in_role role) n
     → before ++ gos_in k (option_to_list (retry_message role u))
-    ≡ gos_as p k (test_of_unit p k) (slots_in_role role) (n + 1)
+    ≡ gos_as p (index_of_role role) k (test_of_unit p k) (slots_in_role role) (n + 1)
 retry_more p k n (roles.Script s) u before it here some at was =
-    none_of p k (n + 1) before (was ∙ gos-none p k n (test_of_unit p k))
+    none_of p (index_of_role (roles.Script s)) k (n + 1) before (was ∙ gos-none p (index_of_role (roles.Script s)) k n (test_of_unit p k))
 retry_more p k n (roles.Test t) u before it here some at was =
     ap (λ o. before ++ filter_map (go_in k) (option_to_list (Some (Retry o)))) made
     ∙ ap (λ b. before ++ cons_option (if b then Some (Retry retry) else None) []) (itself k)
-    ∙ ap (λ ms. ms ++ Retry retry ∷ []) (was ∙ ap (λ o. gos_as p k o (Some t.slot) n) planned)
-    ∙ sym (map-range_with_len_more (go_as p k it.test t.slot) 1 n (1 + n) refl
-    ∙ ap (λ m. map (go_as p k it.test t.slot) (range_with_len 1 n) ++ m ∷ []) next)
-    ∙ sym (ap (λ o. gos_as p k o (Some t.slot) (n + 1)) planned)
+    ∙ ap (λ ms. ms ++ Retry retry ∷ []) (was ∙ ap (λ o. gos_as p t.test.stress_index k o (Some t.slot) n) planned)
+    ∙ sym (map-range_with_len_more (go_as p t.test.stress_index k it.test t.slot) 1 n (1 + n) refl
+    ∙ ap (λ m. map (go_as p t.test.stress_index k it.test t.slot) (range_with_len 1 n) ++ m ∷ []) next)
+    ∙ sym (ap (λ o. gos_as p t.test.stress_index k o (Some t.slot) (n + 1)) planned)
   where
     retry : TestRetry
-    retry = retry_as p k it.test t.slot (n + 1)
+    retry = retry_as p t.test.stress_index k it.test t.slot (n + 1)
 
     planned : test_of_unit p k ≡ Some it.test
     planned = ap (test_of_unit p) (sym here) ∙ it.planned
 
-    next : go_as p k it.test t.slot (1 + n) ≡ Retry retry
+    next : go_as p t.test.stress_index k it.test t.slot (1 + n) ≡ Retry retry
     next =
         let later : (1 + n == 1) ≡ false = grind arith in
         let same : 1 + n ≡ n + 1 = omega arith in
-        ap (λ b. if b then Start (start_as p k it.test t.slot) else Retry (retry_as p k it.test t.slot (1 + n))) later
-        ∙ ap (λ n. Retry (retry_as p k it.test t.slot n)) same
+        ap (λ b. if b then Start (start_as p t.test.stress_index k it.test t.slot) else Retry (retry_as p t.test.stress_index k it.test t.slot (1 + n))) later
+        ∙ ap (λ n. Retry (retry_as p t.test.stress_index k it.test t.slot n)) same
 
-    named : t.test ≡ test_named k it.test
-    named = it.name ∙ ap (λ k. test_named k it.test) here
+    named : t.test ≡ test_named t.test.stress_index k it.test
+    named = it.name ∙ ap (λ k. test_named t.test.stress_index k it.test) here
 
     made : retry_of t u ≡ retry
     made = rw (named, it.command, it.attempts, sym at) refl
@@ -241,15 +249,15 @@ apart_start k (roles.Script s) u apart = refl
 -- the start of a unit of the plan is the first
 pub start_first : (p : Settings) (k : ℕ) (role : UnitRole) (u : UnitView) → IsUnitAs p role u.command u.terms
     → number_of role ≡ k
-    → gos_in k (start_message role u ∷ []) ≡ gos_as p k (test_of_unit p k) (slots_in_role role) 1
-start_first p k (roles.Script s) u it here = sym (gos-none p k 1 (test_of_unit p k))
+    → gos_in k (start_message role u ∷ []) ≡ gos_as p (index_of_role role) k (test_of_unit p k) (slots_in_role role) 1
+start_first p k (roles.Script s) u it here = sym (gos-none p (index_of_role (roles.Script s)) k 1 (test_of_unit p k))
 start_first p k (roles.Test t) u it here =
     ap (λ b. cons_option (if b then Some (Start (test_start t u)) else None) []) (ap (λ j. j == k) here ∙ itself k)
     ∙ ap (λ start. Start start ∷ []) made
-    ∙ sym (ap (λ o. gos_as p k o (Some t.slot) 1) (ap (test_of_unit p) (sym here) ∙ it.planned))
+    ∙ sym (ap (λ o. gos_as p t.test.stress_index k o (Some t.slot) 1) (ap (test_of_unit p) (sym here) ∙ it.planned))
   where
-    named : t.test ≡ test_named k it.test
-    named = it.name ∙ ap (λ k. test_named k it.test) here
+    named : t.test ≡ test_named t.test.stress_index k it.test
+    named = it.name ∙ ap (λ k. test_named t.test.stress_index k it.test) here
 
-    made : test_start t u ≡ start_as p k it.test t.slot
+    made : test_start t u ≡ start_as p t.test.stress_index k it.test t.slot
     made = rw (named, it.command) refl

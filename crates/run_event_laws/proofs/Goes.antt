@@ -34,6 +34,11 @@ use Rattle.run_event_laws.proofs.GoRows.{HasGos, HasSentGos, SendsGo, SentGos, a
 use Rattle.run_event_laws.proofs.GoRows.{gos-zero, gos_as, gos_in, retry_more, row_gos, start_first, unit_slots}
 use Rattle.run_event_laws.proofs.Joined.{joins_new}
 use Rattle.run_event_laws.proofs.PlanUnits.{ArePlanUnits, IsPlanUnit, IsPlanUnitIf, newcomer_planned, units_kept}
+use Rattle.run_laws.proofs.board.OnBoard.{Frame}
+use Rattle.run_laws.proofs.board.OnBoard.{index_in}
+use Rattle.run_event_laws.proofs.GoRows.{unit_index}
+use Rattle.run_model.specs.Admission.{index_of_role}
+use Rattle.run_events.specs.declared.stress.StressIndex.{StressIndex}
 
 -- a request leaves the slots of a unit, and how many it has sent
 pub reach_slots : (request : Option Request) (v : Option UnitView) → unit_slots (reach request v) ≡ unit_slots v
@@ -43,6 +48,16 @@ reach_slots (Some request) (Some u) = by_live (is_live u.phase)
   where
     by_live : (b : Bool) → unit_slots (Some (if b then record u { line = u.line ++ request ∷ [] } else u))
         ≡ unit_slots (Some u)
+    by_live true = refl
+    by_live false = refl
+
+reach_index : (request : Option Request) (v : Option UnitView) → unit_index (reach request v) ≡ unit_index v
+reach_index None v = refl
+reach_index (Some request) None = refl
+reach_index (Some request) (Some u) = by_live (is_live u.phase)
+  where
+    by_live : (b : Bool) → unit_index (Some (if b then record u { line = u.line ++ request ∷ [] } else u))
+        ≡ unit_index (Some u)
     by_live true = refl
     by_live false = refl
 
@@ -60,7 +75,9 @@ reach_gos : (p : Settings) (k : ℕ) (request : Option Request) (v : Option Unit
 reach_gos p k request v ms it = record {
   count = it.count;
   fits = reach_count request v it.count it.fits;
-  sent = it.sent ∙ ap (λ s. gos_as p k (test_of_unit p k) s it.count) (sym (reach_slots request v));
+  sent = it.sent ∙ ap (λ s. gos_as p (unit_index v) k (test_of_unit p k) s it.count) (sym (reach_slots request v))
+      ∙ ap (λ index. gos_as p index k (test_of_unit p k) (unit_slots (reach request v)) it.count)
+      (sym (reach_index request v));
 }
 
 -- a unit that takes a turn
@@ -81,8 +98,8 @@ acts_gos : (p : Settings) (k now : ℕ) (turn : UnitTurn) (u : UnitView) (ms : L
 acts_gos p k now turn u ms here above moved planned it =
     by_row (row_gos now u.phase turn (at_moment now u) it.count refl moved it.fits)
   where
-    role_kept : slots_in_role (row now turn u).next.role ≡ slots_in_role u.role
-    role_kept = ap slots_in_role (row_keeps now u.phase turn (at_moment now u) refl).role
+    role_kept : (row now turn u).next.role ≡ u.role
+    role_kept = (row_keeps now u.phase turn (at_moment now u) refl).role
 
     by_row : SendsGo (at_moment now u) it.count (row now turn u)
         → HasGos p k (Some (row now turn u).next) (ms ++ option_to_list (row now turn u).sent)
@@ -91,7 +108,7 @@ acts_gos p k now turn u ms here above moved planned it =
       fits = fits;
       sent = filter_map-append (go_in k) ms (option_to_list (row now turn u).sent)
           ∙ ap (λ xs. gos_in k ms ++ xs) (none k) ∙ append-nil (gos_in k ms) ∙ it.sent
-          ∙ ap (λ s. gos_as p k (test_of_unit p k) s it.count) (sym role_kept);
+          ∙ ap (λ role. gos_as p (index_of_role role) k (test_of_unit p k) (slots_in_role role) it.count) (sym role_kept);
     }
     by_row (inr (at, fits, retry)) = record {
       count = it.count + 1;
@@ -100,7 +117,8 @@ acts_gos p k now turn u ms here above moved planned it =
           ∙ ap (λ o. gos_in k ms ++ gos_in k (option_to_list o)) retry
           ∙ retry_more p k it.count u.role (at_moment now u) (gos_in k ms) planned here (omega (arith, at, above)) at
           it.sent
-          ∙ ap (λ s. gos_as p k (test_of_unit p k) s (it.count + 1)) (sym role_kept);
+          ∙ ap (λ role. gos_as p (index_of_role role) k (test_of_unit p k) (slots_in_role role) (it.count + 1))
+          (sym role_kept);
     }
 
 apart_gos : (now k : ℕ) (turn : UnitTurn) (u : UnitView) → (number u == k) ≡ false
@@ -122,14 +140,14 @@ first_gos p true k first m ms (ph, (t, (role, (reason, is)))) here at planned it
   fits = subst (λ ph. SentGos ph first.attempt 0) (sym ph) tt;
   sent = filter_map-append (go_in k) ms (m ∷ []) ∙ ap (λ m. gos_in k ms ++ gos_in k (m ∷ [])) is
       ∙ append-nil (gos_in k ms)
-      ∙ it.sent ∙ gos-none p k it.count (test_of_unit p k)
-      ∙ sym (gos-zero p k (test_of_unit p k) (slots_in_role first.role));
+      ∙ it.sent ∙ gos-none p None k it.count (test_of_unit p k)
+      ∙ sym (gos-zero p (index_of_role first.role) k (test_of_unit p k) (slots_in_role first.role));
 }
 first_gos p false k first m ms (ph, is) here at planned it = record {
   count = 1;
   fits = subst (λ ph. SentGos ph first.attempt 1) (sym ph) (sym at);
   sent = filter_map-append (go_in k) ms (m ∷ []) ∙ ap (λ xs. xs ++ gos_in k (m ∷ [])) (it.sent
-      ∙ gos-none p k it.count (test_of_unit p k)) ∙ ap (λ m. gos_in k (m ∷ [])) is
+      ∙ gos-none p None k it.count (test_of_unit p k)) ∙ ap (λ m. gos_in k (m ∷ [])) is
       ∙ start_first p k first.role first planned here;
 }
 
@@ -144,25 +162,25 @@ attempt_some : (ps : List Attempt) (attempt : ℕ) → attempt ≡ attempt_in ps
 attempt_some [] attempt is = omega arith
 attempt_some (a ∷ earlier) attempt is = omega arith
 
-attempt_above : (p : Settings) (over : Bool) (now : ℕ) (run : List Happening) (k : ℕ) (u : UnitView)
-    → Holds p over now run
+attempt_above : (p : Settings) (f : Frame) (now : ℕ) (run : List Happening) (k : ℕ) (u : UnitView)
+    → Holds p now run
     → unit_of k run ≡ Some u → 0 < u.attempt
-attempt_above p over now run k u h is =
+attempt_above p f now run k u h is =
     let made : IsMade (unit_terms p k) u (pieces (story_of k run)) =
     subst (λ v. IsMadeIf (unit_terms p k) v (story_of k run)) is (h.made k) in
     attempt_some (pieces (story_of k run)) u.attempt made.attempt
 
-part_gos : (p : Settings) (over : Bool) (now : ℕ) (run : List Happening) (k : ℕ) (part : Option UnitPart)
+part_gos : (p : Settings) (f : Frame) (now : ℕ) (run : List Happening) (k : ℕ) (part : Option UnitPart)
     (o : Option Message)
-    → Holds p over now run → PartFits p now run part → IsSentAs now run part o → ArePlanUnits p run
+    → Holds p now run → PartFits p now run part → IsSentAs now run part o → ArePlanUnits p run
     → ((first : UnitView) → part ≡ Some (Joins first) → IsPlanUnit p first × (is_some o ≡ true))
     → ((j : ℕ) → HasGos p j (unit_of j run) (sent run))
     → HasGos p k (unit_after now k part (unit_of k run)) (sent run ++ option_to_list o)
-part_gos p over now run k None o h fits from units joins was =
+part_gos p f now run k None o h fits from units joins was =
     still p k (unit_of k run) (sent run) o (ap (λ o. gos_in k (option_to_list o)) from) (was k)
-part_gos p over now run k (Some (Joins first)) None h fits from units joins was =
+part_gos p f now run k (Some (Joins first)) None h fits from units joins was =
     let never : false ≡ true = (joins first refl).1 in cc
-part_gos p over now run k (Some (Joins first)) (Some m) h (first_sent, new) (skipped, from) units joins was =
+part_gos p f now run k (Some (Joins first)) (Some m) h (first_sent, new) (skipped, from) units joins was =
     by_unit (number first == k) refl
   where
     by_unit : (b : Bool) → (number first == k) ≡ b
@@ -172,7 +190,7 @@ part_gos p over now run k (Some (Joins first)) (Some m) h (first_sent, new) (ski
         first_gos p skipped k first m (sent run) from here new.attempt (joins first refl).0
         (subst (λ v. HasGos p k v (sent run)) (ap (λ k. unit_of k run) (sym here) ∙ new.unknown) (was k))
     by_unit false e = still p k (unit_of k run) (sent run) (Some m) (first_apart skipped k first m from e) (was k)
-part_gos p over now run k (Some (Acts j turn)) o h taken from units joins was = by_unit (j == k) refl
+part_gos p f now run k (Some (Acts j turn)) o h taken from units joins was = by_unit (j == k) refl
   where
     u : UnitView
     u = taken.unit
@@ -197,7 +215,7 @@ part_gos p over now run k (Some (Acts j turn)) o h taken from units joins was = 
         subst (λ v. HasGos p k (option_map (λ w. (row now turn w).next) v) (sent run ++ option_to_list o))
         (sym (ap (λ k. unit_of k run) (sym here) ∙ taken.is))
         (subst (λ o. HasGos p k (Some (row now turn u).next) (sent run ++ option_to_list o)) (sym sends)
-        (acts_gos p k now turn u (sent run) (named ∙ here) (attempt_above p over now run j u h taken.is) moved
+        (acts_gos p k now turn u (sent run) (named ∙ here) (attempt_above p f now run j u h taken.is) moved
         (subst (IsPlanUnitIf p) taken.is (units j)) (subst (λ k. HasGos p k (Some u) (sent run)) here own)))
     by_unit false e =
         let apart : (number u == k) ≡ false = ap (λ n. n == k) named ∙ e in
@@ -208,18 +226,18 @@ abbrev AreSentGos : Settings → List Happening → Type 0
 AreSentGos p run = ArePlanUnits p run × ((k : ℕ) → HasGos p k (unit_of k run) (sent run))
 
 gos_kept : (p : Settings) → IsKept p (AreSentGos p)
-gos_kept p over refused now run e h en does was = (
-  units_kept p over refused now run e h en does was.0,
+gos_kept p f refused now run e h en does was = (
+  units_kept p f refused now run e h en does was.0,
   λ k. reach_gos p k d.request (unit_after now k d.part (unit_of k run)) (sent run ++ option_to_list d.sent)
-      (part_gos p over now run k d.part d.sent h does.part does.sent_as was.0
-      (λ first is. let it = joins_new p over refused now run e.turn en first is in (
-        subst (IsPlanUnit p) (sym it.1.1) (newcomer_planned p (units p run) it.0 it.1.0),
+      (part_gos p f now run k d.part d.sent h does.part does.sent_as was.0
+      (λ first is. let it = joins_new p f refused now run e.turn en first is in (
+        subst (IsPlanUnit p) (sym it.1.1) (newcomer_planned p (index_in p f) (units p run) it.0 it.1.0),
         ap is_some it.1.2,
       )) was.1),
 )
   where
     d : Deed
-    d = deed_on p (board_with p refused over now run) e.turn
+    d = deed_on p (board_with p refused f now run) e.turn
 
 pub sent_gos : (p : Settings) (backward : List Entry) → IsLegalBackward p backward → (k : ℕ)
     → HasGos p k (unit_of k (sub_run (history p backward))) (sent (sub_run (history p backward)))
@@ -229,6 +247,6 @@ sent_gos p backward legal =
       λ k. record {
         count = 0;
         fits = refl;
-        sent = sym (gos-zero p k (test_of_unit p k) None);
+        sent = sym (gos-zero p None k (test_of_unit p k) None);
       },
     ) (gos_kept p) backward legal).1

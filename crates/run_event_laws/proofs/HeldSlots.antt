@@ -25,6 +25,7 @@ use Rattle.run_event_laws.specs.Names.{test_of_unit}
 use Rattle.run_event_laws.specs.Slots.{slots_held, slots_in_role}
 use Rattle.run_event_laws.proofs.Places.{range_at, range_from, zip_at, zip_from}
 use Rattle.run_event_laws.proofs.PlanUnits.{ArePlanUnits, IsPlanUnitIf, IsUnitAs}
+use Rattle.run_laws.proofs.board.OnBoard.{Frame}
 
 -- the seat of a unit has the slots that it holds
 pub number_seat : (v : Option UnitView) → seat_slot (seat_of v) ≡ option_map (λ slots. slots.global) (slots_held v)
@@ -114,9 +115,9 @@ placed p k test slots is group = by_script (is_script p k) refl is
       group = group;
     }
 
-pub holder : (p : Settings) (over : Bool) (now : ℕ) (run : List Happening) (k : ℕ) (slots : TestSlotAssignment)
-    → Holds p over now run → ArePlanUnits p run → slots_held (unit_of k run) ≡ Some slots → IsHolder p k slots
-holder p over now run k slots h units held = by_unit (unit_of k run) refl (units k) held
+pub holder : (p : Settings) (f : Frame) (now : ℕ) (run : List Happening) (k : ℕ) (slots : TestSlotAssignment)
+    → Holds p now run → ArePlanUnits p run → slots_held (unit_of k run) ≡ Some slots → IsHolder p k slots
+holder p f now run k slots h units held = by_unit (unit_of k run) refl (units k) held
   where
     by_role : (role : UnitRole) (words : List (List ℕ)) (terms : AttemptTerms) (b : Bool) → IsUnitAs p role words terms
         → number_of role ≡ k → (if b then None else slots_in_role role) ≡ Some slots → IsHolder p k slots

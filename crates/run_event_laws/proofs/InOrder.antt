@@ -73,16 +73,16 @@ first_kept f ts ms ys (more, is) = (
 
 in_order_kept : (p : Settings) {X : Type 0} (f : Message → Option X)
     → ((m : Message) → is_none (starting m) ≡ true → f m ≡ None) → IsKept p (IsInOrder f)
-in_order_kept p f none over refused now run e h en does was = by_cause (reason run) refl
+in_order_kept p g none f refused now run e h en does was = by_cause (reason run) refl
   where
     d : Deed
-    d = deed_on p (board_with p refused over now run) e.turn
+    d = deed_on p (board_with p refused f now run) e.turn
 
     more : messages_of (told (said now e d ∷ run))
         ≡ messages_of (told run) ++ told_from (is_none (reason run)) d.taken (queue run)
-    more = told-more p over refused now run e en
+    more = told-more p f refused now run e en
 
-    by_cause : (why : Option CancelReason) → reason run ≡ why → IsInOrder f (said now e d ∷ run)
+    by_cause : (why : Option CancelReason) → reason run ≡ why → IsInOrder g (said now e d ∷ run)
     by_cause None calm =
         let all : AreTold (said now e d ∷ run) =
         more ∙ ap (λ o. messages_of (told run) ++ told_from (is_none o) d.taken (queue run)) calm
@@ -92,20 +92,20 @@ in_order_kept p f none over refused now run e h en does was = by_cause (reason r
         ∙ sym (take-append-le (delivered run + (if d.taken then 1 else 0)) (sent run) (option_to_list d.sent) does.room)
         in (
           λ later. all,
-          subst (λ ms. Extends (filter_map f ms) (filter_map f (sent (said now e d ∷ run)))) (sym all)
-              (first_of_all f (delivered (said now e d ∷ run)) (sent (said now e d ∷ run))),
+          subst (λ ms. Extends (filter_map g ms) (filter_map g (sent (said now e d ∷ run)))) (sym all)
+              (first_of_all g (delivered (said now e d ∷ run)) (sent (said now e d ∷ run))),
         )
     by_cause (Some why) stands =
-        let same : filter_map f (messages_of (told (said now e d ∷ run))) ≡ filter_map f (messages_of (told run)) =
-        ap (filter_map f) more
-        ∙ filter_map-append f (messages_of (told run)) (told_from (is_none (reason run)) d.taken (queue run))
-        ∙ ap (λ o. filter_map f (messages_of (told run)) ++ filter_map f (told_from (is_none o) d.taken (queue run)))
+        let same : filter_map g (messages_of (told (said now e d ∷ run))) ≡ filter_map g (messages_of (told run)) =
+        ap (filter_map g) more
+        ∙ filter_map-append g (messages_of (told run)) (told_from (is_none (reason run)) d.taken (queue run))
+        ∙ ap (λ o. filter_map g (messages_of (told run)) ++ filter_map g (told_from (is_none o) d.taken (queue run)))
         stands
-        ∙ ap (λ xs. filter_map f (messages_of (told run)) ++ xs) (none_started f d.taken (queue run) none)
-        ∙ append-nil (filter_map f (messages_of (told run))) in (
+        ∙ ap (λ xs. filter_map g (messages_of (told run)) ++ xs) (none_started g d.taken (queue run) none)
+        ∙ append-nil (filter_map g (messages_of (told run))) in (
           λ later. let never : Some why ≡ None = sym stands ∙ calm_before (reason run) d.cause later in cc,
-          subst (λ xs. Extends xs (filter_map f (sent (said now e d ∷ run)))) (sym same)
-              (first_kept f (messages_of (told run)) (sent run) (option_to_list d.sent) was.1),
+          subst (λ xs. Extends xs (filter_map g (sent (said now e d ∷ run)))) (sym same)
+              (first_kept g (messages_of (told run)) (sent run) (option_to_list d.sent) was.1),
         )
 
 pub told_first : (p : Settings) {X : Type 0} (f : Message → Option X)

@@ -21,6 +21,9 @@ use Rattle.run_model.specs.Words.{queue, units}
 use Rattle.run_laws.proofs.board.ByTurn.{by_turn}
 use Rattle.run_laws.proofs.board.OnBoard.{board_of, board_with, moment_in}
 use Rattle.run_laws.proofs.told.Asides.{IsAside, answer_aside, by_signal, key_aside}
+use Rattle.run_laws.proofs.board.OnBoard.{Frame}
+use Rattle.run_laws.proofs.board.OnBoard.{index_in}
+use Rattle.run_laws.proofs.told.Bounds.{begin_cases, end_cases}
 
 -- the unit that a deed lets join, and what it sends, are those of an admission
 abbrev pub IsAdmission : Option Newcomer → Deed → Type 0
@@ -45,45 +48,45 @@ answered_only : (now k : ℕ) (turn : UnitTurn) (v : Option UnitView) (first : U
 answered_only now k turn None first is = cc
 answered_only now k turn (Some u) first is = cc
 
-delivers : (p : Settings) (over : Bool) (now : ℕ) (run : List Happening) (o : Option Newcomer) (q : List Message)
-    → IsAdmission o (delivery (board_of p over now run) q)
-delivers p over now run o [] first is = cc
-delivers p over now run o (ScriptStart start ∷ rest) first is = absurd (answered_only now _ _ _ first is)
-delivers p over now run o (Start start ∷ rest) first is = absurd (answered_only now _ _ _ first is)
-delivers p over now run o (Retry retry ∷ rest) first is = absurd (answered_only now _ _ _ first is)
-delivers p over now run o (Finish finish ∷ rest) first is =
-    let b : Board = board_of p over now run in
-    let part = caused_part (moment_in now run) (tally_with b (event_of b (Finish finish)))
+delivers : (p : Settings) (f : Frame) (now : ℕ) (run : List Happening) (o : Option Newcomer) (q : List Message)
+    → IsAdmission o (delivery (board_of p f now run) q)
+delivers p f now run o [] first is = cc
+delivers p f now run o (ScriptStart start ∷ rest) first is = absurd (answered_only now _ _ _ first is)
+delivers p f now run o (Start start ∷ rest) first is = absurd (answered_only now _ _ _ first is)
+delivers p f now run o (Retry retry ∷ rest) first is = absurd (answered_only now _ _ _ first is)
+delivers p f now run o (Finish finish ∷ rest) first is =
+    let b : Board = board_of p f now run in
+    let part = caused_part (moment_in now f) (tally_with b (event_of b (Finish finish)))
     (cause_of b.dispatcher.rules (tally_with b (event_of b (Finish finish))) (Finish finish))
     (delivered_as b (Finish finish) nothing_done) in
     let never : None ≡ Some (Joins first) = sym part ∙ is in cc
-delivers p over now run o (ScriptFinish finish ∷ rest) first is =
-    let b : Board = board_of p over now run in
-    let part = caused_part (moment_in now run) (tally_with b (event_of b (ScriptFinish finish)))
+delivers p f now run o (ScriptFinish finish ∷ rest) first is =
+    let b : Board = board_of p f now run in
+    let part = caused_part (moment_in now f) (tally_with b (event_of b (ScriptFinish finish)))
     (cause_of b.dispatcher.rules (tally_with b (event_of b (ScriptFinish finish))) (ScriptFinish finish))
     (delivered_as b (ScriptFinish finish) nothing_done) in
     let never : None ≡ Some (Joins first) = sym part ∙ is in cc
-delivers p over now run o (m ∷ rest) first is = cc
+delivers p f now run o (m ∷ rest) first is = cc
 
 aside_joins : (o : Option Newcomer) (d : Deed) → IsAside d → IsAdmission o d
 aside_joins o d aside first is = let never : None ≡ Some (Joins first) = sym aside.part ∙ is in cc
 
-pub joins_new : (p : Settings) (over refused : Bool) (now : ℕ) (run : List Happening) (turn : Turn)
-    → enabled_on p (board_with p refused over now run) turn ≡ true
-    → IsAdmission (newcomer p (units p run)) (deed_on p (board_with p refused over now run) turn)
-joins_new p over refused now run turn en =
+pub joins_new : (p : Settings) (f : Frame) (refused : Bool) (now : ℕ) (run : List Happening) (turn : Turn)
+    → enabled_on p (board_with p refused f now run) turn ≡ true
+    → IsAdmission (newcomer p (index_in p f) (units p run)) (deed_on p (board_with p refused f now run) turn)
+joins_new p f refused now run turn en =
     by_turn (λ turn named. takes_turn p b turn named ≡ true → IsAdmission new (done_by p b turn named))
     (record {
-      begin = λ en first is. cc;
+      begin = λ en. begin_cases (IsAdmission new) (λ told after own later first is. cc) b.clock b.dispatcher;
       admit = λ en. admits new;
-      deliver = λ en. delivers p over now run new (queue run);
+      deliver = λ en. delivers p f now run new (queue run);
       named = λ turn k to other en. acts_only new now k to _;
       clock = λ ns en first is. cc;
       signal = λ signal en. by_signal (IsAdmission new) now (live_in b.units) b.dispatcher signal
           (heard_by b.dispatcher.rules.hearing signal) (λ first is. cc) (λ d aside. aside_joins new d aside);
       global_due = λ en first is. cc;
       report_cancel = λ en first is. cc;
-      end = λ en first is. cc;
+      end = λ en. end_cases (IsAdmission new) (λ told after over own later first is. cc) b.clock b.dispatcher;
       key = λ key en. aside_joins new _ (key_aside now (live_in b.units) b.dispatcher
           (heard_key b.dispatcher.rules.hearing.input key));
       tick = λ en first is. cc;
@@ -91,10 +94,10 @@ joins_new p over refused now run turn en =
       answer = λ en. aside_joins new _ (answer_aside b (oldest_of b.answers));
       info_due = λ en first is. cc;
     })
-    turn (second_so (not over) (takes_turn p b turn (turn_of_unit turn)) en)
+    turn (second_so (not f.over) (takes_turn p b turn (turn_of_unit turn)) en)
   where
     b : Board
-    b = board_with p refused over now run
+    b = board_with p refused f now run
 
     new : Option Newcomer
-    new = newcomer p (units p run)
+    new = newcomer p (index_in p f) (units p run)

@@ -112,7 +112,7 @@ abbrev AreInSlots : List Happening → Type 0
 AreInSlots run = ((k : ℕ) → HasJoined k run) × All (IsInSlots run) (sent run)
 
 in_slots_kept : (p : Settings) → IsKept p AreInSlots
-in_slots_kept p over refused now run e h en does was = (
+in_slots_kept p f refused now run e h en does was = (
   joined,
   All-append (IsInSlots later) (sent run) (option_to_list d.sent)
       (All-weaker (IsInSlots run) (IsInSlots later) (stays (said now e d) run) (sent run) was.1)
@@ -121,7 +121,7 @@ in_slots_kept p over refused now run e h en does was = (
 )
   where
     d : Deed
-    d = deed_on p (board_with p refused over now run) e.turn
+    d = deed_on p (board_with p refused f now run) e.turn
 
     later : List Happening
     later = said now e d ∷ run

@@ -33,13 +33,14 @@ use Rattle.run_event_laws.specs.Slots.{slots_held}
 use Rattle.run_event_laws.proofs.HeldSlots.{IsHolder, group_seat, holder, number_seat, seat_test, test_seat}
 use Rattle.run_event_laws.proofs.Places.{held_below, held_is, list_any-position}
 use Rattle.run_event_laws.proofs.PlanUnits.{ArePlanUnits}
+use Rattle.run_laws.proofs.board.OnBoard.{Frame}
 
 -- a test that joins after a sub-run: it wasn't admitted before, gets the free slots of the rule, and then the slots are
 -- each of
 -- one test with it
-pub record Joining (p : Settings) (over : Bool) (now : ℕ) (run : List Happening) (place global : ℕ) (slot : Option ℕ)
+pub record Joining (p : Settings) (f : Frame) (now : ℕ) (run : List Happening) (place global : ℕ) (slot : Option ℕ)
     (test : PlanTest) (first : UnitView) : Type 0 where
-  pub holds : Holds p over now run
+  pub holds : Holds p now run
   pub units : ArePlanUnits p run
   pub planned : slice_get p.plan.tests place ≡ Some test
   pub unit : number first ≡ unit_of_test p place
@@ -90,10 +91,10 @@ not_place p run k place first slots it here other same =
     let never : true ≡ false = sym (ap (λ k. number first == k) k_is ∙ itself (number first)) ∙ other in cc
 
 -- among all tests
-all_least : (p : Settings) (over : Bool) (now : ℕ) (run : List Happening) (place global : ℕ) (slot : Option ℕ)
-    (test : PlanTest) (first : UnitView) → Joining p over now run place global slot test first
+all_least : (p : Settings) (f : Frame) (now : ℕ) (run : List Happening) (place global : ℕ) (slot : Option ℕ)
+    (test : PlanTest) (first : UnitView) → Joining p f now run place global slot test first
     → IsLeastFree (HoldsNumber run) global
-all_least p over now run place global slot test first c = record { free = free; below = below }
+all_least p f now run place global slot test first c = record { free = free; below = below }
   where
     seat : ℕ → Seat
     seat = seat_after now (Some (Joins first)) run
@@ -109,7 +110,7 @@ all_least p over now run place global slot test first c = record { free = free; 
     free : (k : ℕ) → HoldsNumber run k global → ⊥
     free k h =
         let slots = some_of (λ (s : TestSlotAssignment). s.global) (slots_held (unit_of k run)) global h in
-        let it : IsHolder p k slots.0 = holder p over now run k slots.0 c.holds c.units slots.1.0 in
+        let it : IsHolder p k slots.0 = holder p f now run k slots.0 c.holds c.units slots.1.0 in
         let other = apart run k first slots.0 c.unknown slots.1.0 in
         let at : slot_at (limits_with p seat) it.place ≡ Some global =
         slot_seat it.place it.test it.planned ∙ ap (λ i. seat_slot (seat i)) (sym it.unit)
@@ -141,11 +142,11 @@ same_name groups a b g first second =
     sym (same_text _ a (sym one.1)) ∙ same_text _ b (sym other.1)
 
 -- within its group
-part_least : (p : Settings) (over : Bool) (now : ℕ) (run : List Happening) (place global g : ℕ) (slot : Option ℕ)
-    (name : List ℕ) (test : PlanTest) (first : UnitView) → Joining p over now run place global slot test first
+part_least : (p : Settings) (f : Frame) (now : ℕ) (run : List Happening) (place global g : ℕ) (slot : Option ℕ)
+    (name : List ℕ) (test : PlanTest) (first : UnitView) → Joining p f now run place global slot test first
     → test.group ≡ Some name → group_of p.plan.groups name ≡ Some g
     → IsGroupSlot run (Some name) (group_slot slot test.group)
-part_least p over now run place global g slot name test first c grouped found =
+part_least p f now run place global g slot name test first c grouped found =
     (n, (gives, record { free = free; below = below }))
   where
     seat : ℕ → Seat
@@ -195,7 +196,7 @@ part_least p over now run place global g slot name test first c grouped found =
     free : (k : ℕ) → HoldsInGroup run name k n → ⊥
     free k h =
         let slots = some_and (λ (s : TestSlotAssignment). s.group) (slots_held (unit_of k run)) _ h in
-        let it : IsHolder p k slots.0 = holder p over now run k slots.0 c.holds c.units slots.1.0 in
+        let it : IsHolder p k slots.0 = holder p f now run k slots.0 c.holds c.units slots.1.0 in
         let other = apart run k first slots.0 c.unknown slots.1.0 in
         let at : group_slot_at (limits_with p seat) g it.place ≡ Some n =
         slot_seat it.place it.test it.planned (claims it.test name (it.group _ slots.1.1) found)
@@ -217,7 +218,7 @@ part_least p over now run place global g slot name test first c grouped found =
             (option_and_then (λ (s : TestSlotAssignment). s.group) (slots_held (unit_of k run))) m
             (sym (group_seat (unit_of k run)) ∙ is) in
             let slots = some_and (λ (s : TestSlotAssignment). s.group) (slots_held (unit_of k run)) part.0 part.1.0 in
-            let it : IsHolder p k slots.0 = holder p over now run k slots.0 c.holds c.units slots.1.0 in
+            let it : IsHolder p k slots.0 = holder p f now run k slots.0 c.holds c.units slots.1.0 in
             let unit : unit_of_test p j ≡ unit_of_test p it.place = it.unit in
             let there : it.place ≡ j = omega (arith, unit) in
             let same : it.test ≡ other =
@@ -252,10 +253,10 @@ one_of : (o : Option ℕ) → is_some o ≡ true → (n : ℕ) × (o ≡ Some n)
 one_of None e = cc
 one_of (Some n) e = (n, refl)
 
-group_least : (p : Settings) (over : Bool) (now : ℕ) (run : List Happening) (place global : ℕ) (slot : Option ℕ)
-    (test : PlanTest) (first : UnitView) → Joining p over now run place global slot test first
+group_least : (p : Settings) (f : Frame) (now : ℕ) (run : List Happening) (place global : ℕ) (slot : Option ℕ)
+    (test : PlanTest) (first : UnitView) → Joining p f now run place global slot test first
     → IsGroupSlot run (planned_group p.plan.groups test.group) (group_slot slot test.group)
-group_least p over now run place global slot test first c = by_group test.group refl
+group_least p f now run place global slot test first c = by_group test.group refl
   where
     Fine : Option (List ℕ) → Option (List ℕ) → Type 0
     Fine planned o = IsGroupSlot run planned (group_slot slot o)
@@ -266,7 +267,7 @@ group_least p over now run place global slot test first c = by_group test.group 
     named name is true some =
         let at = one_of (group_of p.plan.groups name)
         (list_any-position (λ (g : Group). pointwise nat_eq g.name name) p.plan.groups nameless ∙ some) in
-        part_least p over now run place global at.0 slot name test first c is at.1
+        part_least p f now run place global at.0 slot name test first c is at.1
     named name is false some =
         let none : group_of p.plan.groups name ≡ None = none_of (group_of p.plan.groups name)
         (list_any-position (λ (g : Group). pointwise nat_eq g.name name) p.plan.groups nameless ∙ some) in
@@ -282,10 +283,10 @@ group_least p over now run place global slot test first c = by_group test.group 
         subst (Fine (planned_group p.plan.groups (Some name))) is
         (named name is (list_any (λ (g : Group). pointwise nat_eq g.name name) p.plan.groups) refl)
 
-pub are_least : (p : Settings) (over : Bool) (now : ℕ) (run : List Happening) (place global : ℕ) (slot : Option ℕ)
-    (test : PlanTest) (first : UnitView) → Joining p over now run place global slot test first
+pub are_least : (p : Settings) (f : Frame) (now : ℕ) (run : List Happening) (place global : ℕ) (slot : Option ℕ)
+    (test : PlanTest) (first : UnitView) → Joining p f now run place global slot test first
     → AreLeastFree p run test (slots_of test global slot)
-are_least p over now run place global slot test first c = record {
-  all = all_least p over now run place global slot test first c;
-  group = group_least p over now run place global slot test first c;
+are_least p f now run place global slot test first c = record {
+  all = all_least p f now run place global slot test first c;
+  group = group_least p f now run place global slot test first c;
 }

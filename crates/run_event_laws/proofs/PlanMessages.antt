@@ -45,6 +45,8 @@ use Rattle.run_event_laws.proofs.PlanUnits.{ArePlanUnits, IsPlanUnit, IsPlanUnit
 use Rattle.run_event_laws.proofs.PlanUnits.{newcomer_planned, test_there, units_kept}
 use Rattle.run_event_laws.proofs.RowMessages.{Says, row_says}
 use Rattle.run_event_laws.proofs.Told.{message_in, message_of, messages_of, told_among}
+use Rattle.run_events.specs.declared.stress.StressIndex.{StressIndex}
+use Rattle.run_laws.proofs.board.OnBoard.{index_in}
 
 -- a message says what the plan says
 abbrev pub SaysPlan : Settings → Message → Type 0
@@ -61,7 +63,7 @@ SaysPlan p (Finish finish) = IsTestNamed p finish.test × SaysFlaky p finish
 -- a unit of the plan is named so
 pub named : (p : Settings) (t : TestRole) (words : List (List ℕ)) (terms : AttemptTerms) → IsTestUnit p t words terms
     → IsTestNamed p t.test
-named p t words terms it = ap (option_map (test_named t.test.unit)) it.planned ∙ ap Some (sym it.name)
+named p t words terms it = ap (option_map (test_named t.test.stress_index t.test.unit)) it.planned ∙ ap Some (sym it.name)
 
 start_says : (p : Settings) (role : UnitRole) (u : UnitView) → IsUnitAs p role u.command u.terms
     → SaysPlan p (start_message role u)
@@ -106,12 +108,13 @@ row_plan p u it = record {
 }
 
 -- the first message of a newcomer does
-first_says : (p : Settings) (us : List (Option UnitView)) (new : Newcomer) → newcomer p us ≡ Some new
+first_says : (p : Settings) (index : Option StressIndex) (us : List (Option UnitView)) (new : Newcomer)
+    → newcomer p index us ≡ Some new
     → SaysPlan p new.sent
-first_says p us new e = by_kind (newcomer_is p us new e)
+first_says p index us new e = by_kind (newcomer_is p index us new e)
   where
     planned : IsPlanUnit p new.unit
-    planned = newcomer_planned p us new e
+    planned = newcomer_planned p index us new e
 
     starts : (u : UnitView) → new ≡ started_newcomer u → SaysPlan p new.sent
     starts u is =
@@ -119,16 +122,16 @@ first_says p us new e = by_kind (newcomer_is p us new e)
         subst (λ (n : Newcomer). SaysPlan p n.sent) (sym is) (start_says p u.role u (subst (IsPlanUnit p) same planned))
 
     by_test : (place : ℕ) (test : PlanTest) → test_of_unit p (unit_of_test p place) ≡ Some test
-        → Becomes p us place test new → SaysPlan p new.sent
+        → Becomes p index us place test new → SaysPlan p new.sent
     by_test place test there (inl (reason, skip, is)) =
         subst (λ (n : Newcomer). SaysPlan p n.sent) (sym is) (
-          ap (option_map (test_named (unit_of_test p place))) there,
+          ap (option_map (test_named index (unit_of_test p place))) there,
           ap (option_and_then (λ (test : PlanTest). test.skip)) there ∙ skip,
         )
     by_test place test there (inr (skip, (global, (slot, runs, is)))) =
-        starts (first_view p (unit_of_test p place) (slots_of test global slot) (handed_to p us test) test) is
+        starts (first_view p index (unit_of_test p place) (slots_of test global slot) (handed_to p us test) test) is
 
-    by_kind : Newcomes p us new ⊎ ScriptComes p us new → SaysPlan p new.sent
+    by_kind : Newcomes p index us new ⊎ ScriptComes p index us new → SaysPlan p new.sent
     by_kind (inl found) = by_test found.place found.test (test_there p found.place found.test found.planned) found.is
     by_kind (inr found) = starts _ found.is
 
@@ -152,14 +155,14 @@ part_says p now run (Some (Acts j turn)) o taken from units joins =
     (takes_moment now taken.unit.phase taken.unit turn taken.takes))
 
 sent_kept : (p : Settings) → IsKept p (IsSentSo p)
-sent_kept p over refused now run e h en does was = (
-  units_kept p over refused now run e h en does was.0,
-  All-append (SaysPlan p) (sent run) (option_to_list (deed_on p (board_with p refused over now run) e.turn).sent) was.1
-      (sent_if (SaysPlan p) (deed_on p (board_with p refused over now run) e.turn).sent
-      (part_says p now run (deed_on p (board_with p refused over now run) e.turn).part
-      (deed_on p (board_with p refused over now run) e.turn).sent does.part does.sent_as was.0
-      (λ first is. let it = joins_new p over refused now run e.turn en first is in
-      subst (λ o. IfSome o (SaysPlan p)) (sym it.1.2) (first_says p (units p run) it.0 it.1.0)))),
+sent_kept p f refused now run e h en does was = (
+  units_kept p f refused now run e h en does was.0,
+  All-append (SaysPlan p) (sent run) (option_to_list (deed_on p (board_with p refused f now run) e.turn).sent) was.1
+      (sent_if (SaysPlan p) (deed_on p (board_with p refused f now run) e.turn).sent
+      (part_says p now run (deed_on p (board_with p refused f now run) e.turn).part
+      (deed_on p (board_with p refused f now run) e.turn).sent does.part does.sent_as was.0
+      (λ first is. let it = joins_new p f refused now run e.turn en first is in
+      subst (λ o. IfSome o (SaysPlan p)) (sym it.1.2) (first_says p (index_in p f) (units p run) it.0 it.1.0)))),
 )
 
 pub plan_units : (p : Settings) (backward : List Entry) → IsLegalBackward p backward

@@ -32,12 +32,14 @@ use Rattle.run_event_laws.specs.Names.{planned_attempts, planned_flaky, planned_
 use Rattle.run_event_laws.specs.Names.{test_of_unit, IsScriptNamed}
 use Rattle.run_event_laws.proofs.ByJournal.{IsKept}
 use Rattle.run_event_laws.proofs.Joined.{joins_new}
+use Rattle.run_events.specs.declared.stress.StressIndex.{StressIndex}
+use Rattle.run_laws.proofs.board.OnBoard.{index_in}
 
 -- a test's unit, with these words and on these terms, is that of the plan's test of its number
 pub record IsTestUnit (p : Settings) (t : TestRole) (words : List (List ℕ)) (terms : AttemptTerms) : Type 0 where
   pub test : PlanTest
   pub planned : test_of_unit p t.test.unit ≡ Some test
-  pub name : t.test ≡ test_named t.test.unit test
+  pub name : t.test ≡ test_named t.test.stress_index t.test.unit test
   pub flaky : t.flaky ≡ planned_flaky p.flaky_result test
   pub command : words ≡ runner_words (runner_for p.plan.runners test.platform) ++ test.command
   pub attempts : attempts_by terms.retries ≡ planned_attempts p test
@@ -73,10 +75,11 @@ attempts_so None test = refl
 attempts_so (Some retries) test = refl
 
 -- a unit as it begins is that of the plan, in slots with the name of its group
-pub first_is : (p : Settings) (k : ℕ) (slot : TestSlotAssignment) (handed : List Variable) (test : PlanTest)
+pub first_is : (p : Settings) (index : Option StressIndex) (k : ℕ) (slot : TestSlotAssignment) (handed : List Variable)
+    (test : PlanTest)
     → test_of_unit p k ≡ Some test → ((g : GroupSlot) → slot.group ≡ Some g → test.group ≡ Some g.name)
-    → IsPlanUnit p (first_view p k slot handed test)
-first_is p k slot handed test planned group = record {
+    → IsPlanUnit p (first_view p index k slot handed test)
+first_is p index k slot handed test planned group = record {
   test = test;
   planned = planned;
   name = refl;
@@ -93,29 +96,32 @@ group_name (Some n) None g is = cc
 group_name (Some n) (Some name) g is = ap (λ (g : GroupSlot). Some g.name) (same_Some _ _ is)
 
 -- so is what an admission makes
-test_is : (p : Settings) (us : List (Option UnitView)) (place : ℕ) (test : PlanTest) (new : Newcomer)
-    → slice_get p.plan.tests place ≡ Some test → Becomes p us place test new → IsPlanUnit p new.unit
-test_is p us place test new planned (inl (reason, skip, is)) =
+test_is : (p : Settings) (index : Option StressIndex) (us : List (Option UnitView)) (place : ℕ) (test : PlanTest)
+    (new : Newcomer)
+    → slice_get p.plan.tests place ≡ Some test → Becomes p index us place test new → IsPlanUnit p new.unit
+test_is p index us place test new planned (inl (reason, skip, is)) =
     subst (λ (n : Newcomer). IsPlanUnit p n.unit) (sym is)
-    (first_is p (unit_of_test p place) (global_slot 0) [] test (test_there p place test planned) (λ g none. cc))
-test_is p us place test new planned (inr (skip, (global, (slot, runs, is)))) =
+    (first_is p index (unit_of_test p place) (global_slot 0) [] test (test_there p place test planned) (λ g none. cc))
+test_is p index us place test new planned (inr (skip, (global, (slot, runs, is)))) =
     subst (λ (n : Newcomer). IsPlanUnit p n.unit) (sym is)
-    (first_is p (unit_of_test p place) (slots_of test global slot) (handed_to p us test) test
+    (first_is p index (unit_of_test p place) (slots_of test global slot) (handed_to p us test) test
     (test_there p place test planned)
     (group_name slot test.group))
 
-script_is : (p : Settings) (us : List (Option UnitView)) (new : Newcomer) → ScriptComes p us new → IsPlanUnit p new.unit
-script_is p us new found =
+script_is : (p : Settings) (index : Option StressIndex) (us : List (Option UnitView)) (new : Newcomer)
+    → ScriptComes p index us new → IsPlanUnit p new.unit
+script_is p index us new found =
     subst (λ (n : Newcomer). IsPlanUnit p n.unit) (sym found.is)
-    (ap (option_map (script_named p found.place)) found.planned)
+    (ap (option_map (script_named p index found.place)) found.planned)
 
-pub newcomer_planned : (p : Settings) (us : List (Option UnitView)) (new : Newcomer) → newcomer p us ≡ Some new
+pub newcomer_planned : (p : Settings) (index : Option StressIndex) (us : List (Option UnitView)) (new : Newcomer)
+    → newcomer p index us ≡ Some new
     → IsPlanUnit p new.unit
-newcomer_planned p us new e = by_kind (newcomer_is p us new e)
+newcomer_planned p index us new e = by_kind (newcomer_is p index us new e)
   where
-    by_kind : Newcomes p us new ⊎ ScriptComes p us new → IsPlanUnit p new.unit
-    by_kind (inl found) = test_is p us found.place found.test new found.planned found.is
-    by_kind (inr found) = script_is p us new found
+    by_kind : Newcomes p index us new ⊎ ScriptComes p index us new → IsPlanUnit p new.unit
+    by_kind (inl found) = test_is p index us found.place found.test new found.planned found.is
+    by_kind (inr found) = script_is p index us new found
 
 -- a row, and a request, leaves it so
 pub row_planned : (p : Settings) (now : ℕ) (turn : UnitTurn) (u : UnitView) → IsPlanUnit p u
@@ -156,7 +162,7 @@ part_planned p now k (Some (Acts j turn)) v joins h = by_unit (j == k)
 
 -- after each legal journal
 pub units_kept : (p : Settings) → IsKept p (ArePlanUnits p)
-units_kept p over refused now run e h en does was k =
+units_kept p f refused now run e h en does was k =
     reach_planned p _ _ (part_planned p now k _ (unit_of k run)
-    (λ first is. let it = joins_new p over refused now run e.turn en first is in
-    subst (IsPlanUnit p) (sym it.1.1) (newcomer_planned p (units p run) it.0 it.1.0)) (was k))
+    (λ first is. let it = joins_new p f refused now run e.turn en first is in
+    subst (IsPlanUnit p) (sym it.1.1) (newcomer_planned p (index_in p f) (units p run) it.0 it.1.0)) (was k))

@@ -16,7 +16,7 @@ use Rattle.run_events.specs.declared.plan.TestSlotAssignment.{TestSlotAssignment
 use Rattle.run_events.specs.declared.settings.Settings.{Settings}
 use Rattle.run_model.specs.declared.entry.Entry.{Entry}
 use Rattle.run_model.specs.Journal.{history, IsLegalBackward}
-use Rattle.run_model.specs.Turns.{starting}
+use Rattle.run_model.specs.Turns.{starting, happening}
 use Rattle.run_model.specs.Words.{sent, sub_run, told, unit_of}
 use Rattle.run_laws.specs.Laws.{Extends}
 use Rattle.run_laws.specs.Limits.{slots_in, slots_by, slots_told}
@@ -26,6 +26,13 @@ use Rattle.run_event_laws.proofs.Goes.{sent_gos}
 use Rattle.run_event_laws.proofs.GoRows.{HasGos, go_as, go_in, gos_as, gos_in, start_as, unit_slots}
 use Rattle.run_event_laws.proofs.InOrder.{told_first}
 use Rattle.run_event_laws.proofs.Told.{message_in, message_of, messages_of}
+use Rattle.run_events.specs.declared.stress.StressIndex.{StressIndex}
+use Rattle.run_model.specs.SubRuns.{stress_index}
+use Rattle.run_laws.proofs.told.Indexes.{IsOfIndex, indexed}
+use Rattle.run_event_laws.proofs.GoRows.{gos-none, unit_index}
+use Rattle.run_model.specs.declared.unit_view.UnitView.{UnitView}
+use Rattle.run_model.specs.declared.happening.Happening.{Happening}
+use Rattle.run_event_laws.specs.Slots.{slots_in_role}
 
 -- the first of a list that is made of numbers in order
 firsts : {X : Type 0} (f : ℕ → X) (xs more : List X) (a n : ℕ) → map f (range_with_len a n) ≡ xs ++ more
@@ -111,69 +118,86 @@ slots-told k [] = refl
 slots-told k (e ∷ es) = slots_one k e (messages_of es) ∙ ap (option_or (slots_by k e)) (slots-told k es)
 
 -- those of a list in order
-retries_in_order : (p : Settings) (k : ℕ) (test : PlanTest) (slot : TestSlotAssignment) (n a : ℕ) → 1 < a
-    → filter_map retry_of (map (go_as p k test slot) (range_with_len a n))
-    ≡ map (retry_as p k test slot) (range_with_len a n)
-retries_in_order p k test slot zero a above = refl
-retries_in_order p k test slot (suc n) a above =
+retries_in_order : (p : Settings) (index : Option StressIndex) (k : ℕ) (test : PlanTest) (slot : TestSlotAssignment)
+    (n a : ℕ) → 1 < a
+    → filter_map retry_of (map (go_as p index k test slot) (range_with_len a n))
+    ≡ map (retry_as p index k test slot) (range_with_len a n)
+retries_in_order p index k test slot zero a above = refl
+retries_in_order p index k test slot (suc n) a above =
     let later : (a == 1) ≡ false = grind arith in
-    ap (λ b. filter_map retry_of ((if b then Start (start_as p k test slot) else Retry (retry_as p k test slot a))
-    ∷ map (go_as p k test slot) (range_with_len (a + 1) n))) later
-    ∙ ap (λ rs. retry_as p k test slot a ∷ rs) (retries_in_order p k test slot n (a + 1) (omega arith))
+    ap (λ b. filter_map retry_of ((if b then Start (start_as p index k test slot) else Retry (retry_as p index k test slot a))
+    ∷ map (go_as p index k test slot) (range_with_len (a + 1) n))) later
+    ∙ ap (λ rs. retry_as p index k test slot a ∷ rs) (retries_in_order p index k test slot n (a + 1) (omega arith))
 
-retries-zero : (p : Settings) (k : ℕ) (o : Option PlanTest) (s : Option TestSlotAssignment) → retries_as p k o s 0 ≡ []
-retries-zero p k None s = refl
-retries-zero p k (Some test) None = refl
-retries-zero p k (Some test) (Some slot) = refl
+retries-zero : (p : Settings) (index : Option StressIndex) (k : ℕ) (o : Option PlanTest)
+    (s : Option TestSlotAssignment) → retries_as p index k o s 0 ≡ []
+retries-zero p index k None s = refl
+retries-zero p index k (Some test) None = refl
+retries-zero p index k (Some test) (Some slot) = refl
 
 -- so the retries among starts and retries in order are the plan's
-abbrev IsOrdered : Settings → ℕ → List Message → Type 0
-IsOrdered p k ms =
-    filter_map retry_of ms ≡ retries_as p k (test_of_unit p k) (slots_of ms) (length (filter_map retry_of ms))
+abbrev IsOrdered : Settings → Option StressIndex → ℕ → List Message → Type 0
+IsOrdered p index k ms =
+    filter_map retry_of ms ≡ retries_as p index k (test_of_unit p k) (slots_of ms) (length (filter_map retry_of ms))
 
-none_ordered : (p : Settings) (k : ℕ) → IsOrdered p k []
-none_ordered p k = sym (retries-zero p k (test_of_unit p k) None)
+none_ordered : (p : Settings) (index : Option StressIndex) (k : ℕ) → IsOrdered p index k []
+none_ordered p index k = sym (retries-zero p index k (test_of_unit p k) None)
 
-some_ordered : (p : Settings) (k : ℕ) (test : PlanTest) (slot : TestSlotAssignment) (n : ℕ)
+some_ordered : (p : Settings) (index : Option StressIndex) (k : ℕ) (test : PlanTest) (slot : TestSlotAssignment) (n : ℕ)
     → test_of_unit p k ≡ Some test
-    → IsOrdered p k (map (go_as p k test slot) (range_with_len 1 n))
-some_ordered p k test slot zero planned = none_ordered p k
-some_ordered p k test slot (suc n) planned =
-    let retries : filter_map retry_of (map (go_as p k test slot) (range_with_len 2 n))
-    ≡ map (retry_as p k test slot) (range_with_len 2 n) = retries_in_order p k test slot n 2 (omega arith) in
-    let many : length (filter_map retry_of (map (go_as p k test slot) (range_with_len 2 n))) ≡ n =
-    ap length retries ∙ length-map-range_with_len (retry_as p k test slot) 2 n in
-    retries ∙ sym (ap (λ n. map (retry_as p k test slot) (range_with_len 2 n)) many)
-    ∙ sym (ap (λ o. retries_as p k o (Some slot)
-    (length (filter_map retry_of (map (go_as p k test slot) (range_with_len 2 n)))))
+    → IsOrdered p index k (map (go_as p index k test slot) (range_with_len 1 n))
+some_ordered p index k test slot zero planned = none_ordered p index k
+some_ordered p index k test slot (suc n) planned =
+    let retries : filter_map retry_of (map (go_as p index k test slot) (range_with_len 2 n))
+    ≡ map (retry_as p index k test slot) (range_with_len 2 n) = retries_in_order p index k test slot n 2 (omega arith) in
+    let many : length (filter_map retry_of (map (go_as p index k test slot) (range_with_len 2 n))) ≡ n =
+    ap length retries ∙ length-map-range_with_len (retry_as p index k test slot) 2 n in
+    retries ∙ sym (ap (λ n. map (retry_as p index k test slot) (range_with_len 2 n)) many)
+    ∙ sym (ap (λ o. retries_as p index k o (Some slot)
+    (length (filter_map retry_of (map (go_as p index k test slot) (range_with_len 2 n)))))
     planned)
 
-ordered : (p : Settings) (k n : ℕ) (o : Option PlanTest) (s : Option TestSlotAssignment) (ms : List Message)
-    → test_of_unit p k ≡ o → Extends ms (gos_as p k o s n) → IsOrdered p k ms
-ordered p k n None s [] planned (more, is) = none_ordered p k
-ordered p k n None s (m ∷ ms) planned (more, is) = cc
-ordered p k n (Some test) None [] planned (more, is) = none_ordered p k
-ordered p k n (Some test) None (m ∷ ms) planned (more, is) = cc
-ordered p k n (Some test) (Some slot) ms planned (more, is) =
-    subst (IsOrdered p k) (sym (firsts (go_as p k test slot) ms more 1 n is))
-    (some_ordered p k test slot (length ms) planned)
+ordered : (p : Settings) (index : Option StressIndex) (k n : ℕ) (o : Option PlanTest) (s : Option TestSlotAssignment)
+    (ms : List Message)
+    → test_of_unit p k ≡ o → Extends ms (gos_as p index k o s n) → IsOrdered p index k ms
+ordered p index k n None s [] planned (more, is) = none_ordered p index k
+ordered p index k n None s (m ∷ ms) planned (more, is) = cc
+ordered p index k n (Some test) None [] planned (more, is) = none_ordered p index k
+ordered p index k n (Some test) None (m ∷ ms) planned (more, is) = cc
+ordered p index k n (Some test) (Some slot) ms planned (more, is) =
+    subst (IsOrdered p index k) (sym (firsts (go_as p index k test slot) ms more 1 n is))
+    (some_ordered p index k test slot (length ms) planned)
 
 -- of events
-pub told_ordered : (p : Settings) (k : ℕ) (es : List ReporterEvent) → IsOrdered p k (gos_in k (messages_of es))
-    → AreRetriesInOrder p k es
-told_ordered p k es h =
+pub told_ordered : (p : Settings) (index : Option StressIndex) (k : ℕ) (es : List ReporterEvent)
+    → IsOrdered p index k (gos_in k (messages_of es))
+    → AreRetriesInOrder p index k es
+told_ordered p index k es h =
     sym (retries-told k es) ∙ h
-    ∙ ap (λ s. retries_as p k (test_of_unit p k) s (length (filter_map retry_of (gos_in k (messages_of es)))))
+    ∙ ap (λ s. retries_as p index k (test_of_unit p k) s (length (filter_map retry_of (gos_in k (messages_of es)))))
     (slots-told k es)
-    ∙ ap (λ rs. retries_as p k (test_of_unit p k) (slots_told k es) (length rs)) (retries-told k es)
+    ∙ ap (λ rs. retries_as p index k (test_of_unit p k) (slots_told k es) (length rs)) (retries-told k es)
+
+-- a unit that was admitted is of the newest sub-run
+same_gos : (p : Settings) (index : Option StressIndex) (k n : ℕ) (v : Option UnitView) → IsOfIndex index v
+    → gos_as p (unit_index v) k (test_of_unit p k) (unit_slots v) n ≡ gos_as p index k (test_of_unit p k) (unit_slots v) n
+same_gos p index k n None it = gos-none p None k n (test_of_unit p k) ∙ sym (gos-none p index k n (test_of_unit p k))
+same_gos p index k n (Some u) it = ap (λ i. gos_as p i k (test_of_unit p k) (slots_in_role u.role) n) it
 
 pub retries_ordered : (p : Settings) (backward : List Entry) → IsLegalBackward p backward → (k : ℕ)
-    → AreRetriesInOrder p k (told (sub_run (history p backward)))
+    → AreRetriesInOrder p (stress_index p (history p backward)) k (told (sub_run (history p backward)))
 retries_ordered p backward legal k =
-    let all : HasGos p k (unit_of k (sub_run (history p backward))) (sent (sub_run (history p backward))) =
-    sent_gos p backward legal k in
-    told_ordered p k (told (sub_run (history p backward)))
-    (ordered p k all.count (test_of_unit p k) (unit_slots (unit_of k (sub_run (history p backward))))
-    (gos_in k (messages_of (told (sub_run (history p backward))))) refl
-    (subst (Extends (gos_in k (messages_of (told (sub_run (history p backward)))))) all.sent
+    told_ordered p index k (told run)
+    (ordered p index k all.count (test_of_unit p k) (unit_slots (unit_of k run)) (gos_in k (messages_of (told run))) refl
+    (subst (Extends (gos_in k (messages_of (told run))))
+    (all.sent ∙ same_gos p index k all.count (unit_of k run) (indexed p backward legal k))
     (told_first p (go_in k) (only_starts k) backward legal)))
+  where
+    run : List Happening
+    run = sub_run (history p backward)
+
+    index : Option StressIndex
+    index = stress_index p (history p backward)
+
+    all : HasGos p k (unit_of k run) (sent run)
+    all = sent_gos p backward legal k

@@ -31,7 +31,6 @@ use Rattle.run_laws.proofs.board.JoinSeats.{limits_on_board}
 use Rattle.run_laws.proofs.board.Kept.{HoldsAfter, does_after, holds}
 use Rattle.run_laws.proofs.board.Newcomers.{Becomes, Newcomes, ScriptComes, newcomer_is}
 use Rattle.run_laws.proofs.board.OnBoard.{board_with}
-use Rattle.run_laws.proofs.board.Whole.{board_now, board-is}
 use Rattle.run_laws.proofs.board.OpenSeats.{same_lower}
 use Rattle.run_laws.proofs.board.SeatMoves.{moves}
 use Rattle.run_event_laws.specs.Slots.{JoinsInSlots}
@@ -40,6 +39,11 @@ use Rattle.run_event_laws.proofs.Joined.{joins_new}
 use Rattle.run_event_laws.proofs.LeastSlots.{are_least}
 use Rattle.run_event_laws.proofs.PlanMessages.{plan_units}
 use Rattle.run_event_laws.proofs.PlanUnits.{ArePlanUnits, test_there}
+use Rattle.run_laws.proofs.board.OnBoard.{index_in}
+use Rattle.run_laws.proofs.board.OnBoard.{frame_of}
+use Rattle.run_events.specs.declared.stress.StressIndex.{StressIndex}
+use Rattle.run_laws.proofs.board.Deeds.{base_of}
+use Rattle.run_laws.proofs.board.DeedFits.{Does}
 
 -- the tests on the board keep their limits, and hold slots of their own
 seat_reached : (request : Option Request) (v : Option UnitView) → seat_of (reach request v) ≡ seat_of v
@@ -53,13 +57,13 @@ seat_reached (Some request) (Some u) = by_live (is_live u.phase)
     by_live false = refl
 
 board_kept : (p : Settings) → IsKept p (λ run. AreKeptIn p (board_seat run))
-board_kept p over refused now run e h en does was =
+board_kept p f refused now run e h en does was =
     kept_fewer p (board_seat (said now e d ∷ run)) (seat_after now d.part run)
     (same_lower _ _ (λ k. seat_reached d.request (unit_after now k d.part (unit_of k run))))
-    ((moves p over refused now run e.turn h en).keeps was)
+    ((moves p f refused now run e.turn h en).keeps was)
   where
     d : Deed
-    d = deed_on p (board_with p refused over now run) e.turn
+    d = deed_on p (board_with p refused f now run) e.turn
 
 board_none : (p : Settings) → AreKeptIn p (board_seat [])
 board_none p =
@@ -88,30 +92,38 @@ joins_so : (p : Settings) (past : List Happening) (e : Entry) → HoldsAfter p p
     → ArePlanUnits p (sub_run past) → AreKeptIn p (board_seat (sub_run past)) → (first : UnitView)
     → (happening p past e).part ≡ Some (Joins first) → JoinsInSlots p (sub_run past) first
 joins_so p past e h en plan kept first is =
-    by_new (joins_new p (is_over past) (was_refused past) (clock past) run e.turn en_now first is_now)
+    by_new (joins_new p (frame_of p past) (was_refused past) (clock past) run e.turn en first is)
   where
     run : List Happening
     run = sub_run past
 
-    same_board : board p past ≡ board_now p past
-    same_board = board-is p past h.alike
+    index : Option StressIndex
+    index = index_in p (frame_of p past)
 
-    en_now : enabled_on p (board_now p past) e.turn ≡ true
-    en_now = subst (λ b. enabled_on p b e.turn ≡ true) same_board en
+    here : Does p (frame_of p past) (clock past) run (deed_on p (board p past) e.turn)
+    here = by_begin (deed_on p (board p past) e.turn).begins refl
+      where
+        does : Does p (frame_of p past) (clock past) (base_of (deed_on p (board p past) e.turn).begins run)
+            (deed_on p (board p past) e.turn)
+        does = does_after p past e h en
 
-    is_now : (deed_on p (board_now p past) e.turn).part ≡ Some (Joins first)
-    is_now = subst (λ b. (deed_on p b e.turn).part ≡ Some (Joins first)) same_board is
+        by_begin : (b : Bool) → (deed_on p (board p past) e.turn).begins ≡ b
+            → Does p (frame_of p past) (clock past) run (deed_on p (board p past) e.turn)
+        by_begin true begins =
+            let never : None ≡ Some (Joins first) = sym (does.marks.begins begins).1.part ∙ is in cc
+        by_begin false begins = subst
+            (λ b. Does p (frame_of p past) (clock past) (base_of b run) (deed_on p (board p past) e.turn)) begins does
 
     fits : PartFits p (clock past) run (Some (Joins first))
-    fits = subst (PartFits p (clock past) run) is (does_after p past e h en).part
+    fits = subst (PartFits p (clock past) run) is here.part
 
     after : AreKeptIn p (seat_after (clock past) (Some (Joins first)) run)
-    after = subst (λ part. AreKeptIn p (seat_after (clock past) part run)) is_now
-        ((moves p (is_over past) (was_refused past) (clock past) run e.turn h.run en_now).keeps kept)
+    after = subst (λ part. AreKeptIn p (seat_after (clock past) part run)) is
+        ((moves p (frame_of p past) (was_refused past) (clock past) run e.turn h en).keeps kept)
 
     runs_so : (place global : ℕ) (slot : Option ℕ) (test : PlanTest) → slice_get p.plan.tests place ≡ Some test
         → admitted (limits_of p (units p run)) ≡ Some (Run place global slot)
-        → first ≡ first_view p (unit_of_test p place) (slots_of test global slot) (handed_to p (units p run) test) test
+        → first ≡ first_view p index (unit_of_test p place) (slots_of test global slot) (handed_to p (units p run) test) test
         → JoinsInSlots p run first
     runs_so place global slot test planned runs same =
         let rule = rule_slots p run place global slot test planned runs in
@@ -119,10 +131,10 @@ joins_so p past e h en plan kept first is =
           test,
           (
             test_there p place test planned,
-            λ matched. are_least p (is_over past) (clock past) run place global slot test
-                (first_view p (unit_of_test p place) (slots_of test global slot) (handed_to p (units p run) test) test)
+            λ matched. are_least p (frame_of p past) (clock past) run place global slot test
+                (first_view p index (unit_of_test p place) (slots_of test global slot) (handed_to p (units p run) test) test)
                 (record {
-                  holds = h.run;
+                  holds = h;
                   units = plan;
                   planned = planned;
                   unit = refl;
@@ -136,12 +148,12 @@ joins_so p past e h en plan kept first is =
         )
 
     by_kind : (new : Newcomer) → first ≡ new.unit
-        → Newcomes p (units p run) new ⊎ ScriptComes p (units p run) new → JoinsInSlots p run first
+        → Newcomes p index (units p run) new ⊎ ScriptComes p index (units p run) new → JoinsInSlots p run first
     by_kind new same (inr found) =
         subst (λ first. JoinsInSlots p run first) (sym (same ∙ ap (λ (n : Newcomer). n.unit) found.is)) tt
     by_kind new same (inl found) = by_case found.is
       where
-        by_case : Becomes p (units p run) found.place found.test new → JoinsInSlots p run first
+        by_case : Becomes p index (units p run) found.place found.test new → JoinsInSlots p run first
         by_case (inl (reason, skip, made)) =
             subst (λ first. JoinsInSlots p run first) (sym (same ∙ ap (λ (n : Newcomer). n.unit) made)) (
               found.test,
@@ -153,10 +165,10 @@ joins_so p past e h en plan kept first is =
         by_case (inr (skip, (global, (slot, runs, made)))) =
             runs_so found.place global slot found.test found.planned runs (same ∙ ap (λ (n : Newcomer). n.unit) made)
 
-    by_new : (new : Newcomer) × ((newcomer p (units p run) ≡ Some new) × (first ≡ new.unit)
-        × ((deed_on p (board_now p past) e.turn).sent ≡ Some new.sent))
+    by_new : (new : Newcomer) × ((newcomer p index (units p run) ≡ Some new) × (first ≡ new.unit)
+        × ((deed_on p (board p past) e.turn).sent ≡ Some new.sent))
         → JoinsInSlots p run first
-    by_new (new, (e, same, sent)) = by_kind new same (newcomer_is p (units p run) new e)
+    by_new (new, (e, same, sent)) = by_kind new same (newcomer_is p index (units p run) new e)
 
 pub slots_least : (p : Settings) (journal : List Entry) (e : Entry) → IsLegal p (journal ++ e ∷ []) → (first : UnitView)
     → (happening p (past_of p journal) e).part ≡ Some (Joins first) → JoinsInSlots p (sub_run (past_of p journal)) first

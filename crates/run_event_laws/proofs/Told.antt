@@ -29,11 +29,15 @@ use Rattle.run_model.specs.Turns.{live_in, nothing_done, oldest_of, starting, ta
 use Rattle.run_events.specs.Hearing.{heard_key}
 use Rattle.run_model.specs.Words.{queue, reason, sent, delivered, sub_run, tally, told, units}
 use Rattle.run_laws.proofs.board.ByTurn.{by_turn}
-use Rattle.run_laws.proofs.told.Cancels.{IsCancel, IsCancelKind, cancel_for, cancel_is}
+use Rattle.run_laws.proofs.told.Cancels.{IsAfter, IsAfterKind, cancel_for, cancel_is}
 use Rattle.run_laws.proofs.board.Facts.{may_go-is}
 use Rattle.run_laws.proofs.board.OnBoard.{board_of, board_with, moment_in}
 use Rattle.run_laws.proofs.told.Asides.{IsAside, IsAsideEvent, IsAsideKind, answer_aside, by_signal, key_aside}
 use Rattle.run_event_laws.proofs.ByJournal.{IsKept, by_journal}
+use Rattle.run_laws.proofs.board.OnBoard.{Frame}
+use Rattle.run_laws.proofs.board.OnBoard.{index_in}
+use Rattle.run_laws.proofs.told.Bounds.{IsBound, IsBoundKind, IsBoundAfter, bound_after, begin_cases, end_cases}
+use Rattle.std.proofs.lemmas.List.{append-nil}
 
 -- the message whose delivery an event tells
 abbrev pub message_in : TestEventKind → Option Message
@@ -67,24 +71,26 @@ told_from go taken q = []
 abbrev pub TellsOldest : Bool → List Message → Deed → Type 0
 TellsOldest go q d = messages_of (deed_events d) ≡ told_from go d.taken q
 
-cancel_none : (o : Option ReporterEvent) → IsCancel o → messages_of (option_to_list o) ≡ []
+cancel_none : (o : Option ReporterEvent) → IsAfter o → messages_of (option_to_list o) ≡ []
 cancel_none None h = refl
 cancel_none (Some Tick) h = absurd h
 cancel_none (Some (Test e)) h = by_kind e.kind h
   where
-    by_kind : (kind : TestEventKind) → IsCancelKind kind → cons_option (message_in kind) [] ≡ []
+    by_kind : (kind : TestEventKind) → IsAfterKind kind → cons_option (message_in kind) [] ≡ []
     by_kind (kinds.RunBeginCancel cancelled) h = refl
     by_kind (kinds.RunBeginKill cancelled) h = refl
+    by_kind (kinds.StressSubRunStarted progress) h = refl
+    by_kind (kinds.RunFinished finished) h = refl
     by_kind kind h = absurd h
 
-caused_tells : (go : Bool) (now : Moment) (q : List Message) (t : Tally) (o : Option Cause) (d : Deed) → d.cancel ≡ None
+caused_tells : (go : Bool) (now : Moment) (q : List Message) (t : Tally) (o : Option Cause) (d : Deed) → d.after ≡ None
     → TellsOldest go q d → TellsOldest go q (caused now t o d)
 caused_tells go now q t None d none tells = tells
 caused_tells go now q t (Some c) d none tells =
     filter_map-append message_of (option_to_list d.told) (option_to_list (cancel_for now t (Some c.reason)))
     ∙ ap (λ ms. messages_of (option_to_list d.told) ++ ms) (cancel_none _ (cancel_is now t (Some c.reason))
-    ∙ sym (cancel_none d.cancel (subst IsCancel (sym none) tt)))
-    ∙ sym (filter_map-append message_of (option_to_list d.told) (option_to_list d.cancel)) ∙ tells
+    ∙ sym (cancel_none d.after (subst IsAfter (sym none) tt)))
+    ∙ sym (filter_map-append message_of (option_to_list d.told) (option_to_list d.after)) ∙ tells
 
 admission_tells : (go : Bool) (q : List Message) (o : Option Newcomer) → TellsOldest go q (admission o)
 admission_tells go q None = refl
@@ -102,30 +108,30 @@ told_so : (now : Moment) (kind : TestEventKind) (m : Message) (go : Bool) → me
 told_so now kind m true is start = rw is refl
 told_so now kind m false is start = rw (is, start) refl
 
-delivery_tells : (p : Settings) (over : Bool) (now : ℕ) (run : List Happening) (q : List Message)
-    → TellsOldest (may_go (tally p run)) q (delivery (board_of p over now run) q)
-delivery_tells p over now run [] = refl
-delivery_tells p over now run (ScriptStart start ∷ rest) =
-    told_if (moment_in now run) (kinds.SetupScriptStarted start) (ScriptStart start) (may_go (tally p run)) refl refl
-delivery_tells p over now run (Start start ∷ rest) =
-    told_if (moment_in now run) (started_event start (with_start (tally p run))) (Start start) (may_go (tally p run))
+delivery_tells : (p : Settings) (f : Frame) (now : ℕ) (run : List Happening) (q : List Message)
+    → TellsOldest (may_go (tally p run)) q (delivery (board_of p f now run) q)
+delivery_tells p f now run [] = refl
+delivery_tells p f now run (ScriptStart start ∷ rest) =
+    told_if (moment_in now f) (kinds.SetupScriptStarted start) (ScriptStart start) (may_go (tally p run)) refl refl
+delivery_tells p f now run (Start start ∷ rest) =
+    told_if (moment_in now f) (started_event start (with_start (tally p run))) (Start start) (may_go (tally p run))
     refl refl
-delivery_tells p over now run (Retry retry ∷ rest) =
-    told_if (moment_in now run) (retried_event retry (tally p run)) (Retry retry) (may_go (tally p run)) refl refl
-delivery_tells p over now run (ScriptSlow slow ∷ rest) =
-    told_so (moment_in now run) (kinds.SetupScriptSlow slow) (ScriptSlow slow) (may_go (tally p run)) refl refl
-delivery_tells p over now run (Slow slow ∷ rest) =
-    told_so (moment_in now run) (kinds.TestSlow slow) (Slow slow) (may_go (tally p run)) refl refl
-delivery_tells p over now run (Skip skip ∷ rest) =
-    told_so (moment_in now run) (kinds.TestSkipped skip) (Skip skip) (may_go (tally p run)) refl refl
-delivery_tells p over now run (AttemptFailed failure ∷ rest) =
-    told_so (moment_in now run)
+delivery_tells p f now run (Retry retry ∷ rest) =
+    told_if (moment_in now f) (retried_event retry (tally p run)) (Retry retry) (may_go (tally p run)) refl refl
+delivery_tells p f now run (ScriptSlow slow ∷ rest) =
+    told_so (moment_in now f) (kinds.SetupScriptSlow slow) (ScriptSlow slow) (may_go (tally p run)) refl refl
+delivery_tells p f now run (Slow slow ∷ rest) =
+    told_so (moment_in now f) (kinds.TestSlow slow) (Slow slow) (may_go (tally p run)) refl refl
+delivery_tells p f now run (Skip skip ∷ rest) =
+    told_so (moment_in now f) (kinds.TestSkipped skip) (Skip skip) (may_go (tally p run)) refl refl
+delivery_tells p f now run (AttemptFailed failure ∷ rest) =
+    told_so (moment_in now f)
     (kinds.TestAttemptFailedWillRetry (record { failed = failure; running = (tally p run).running }))
     (AttemptFailed failure) (may_go (tally p run)) refl refl
-delivery_tells p over now run (Finish finish ∷ rest) =
-    let b : Board = board_of p over now run in
+delivery_tells p f now run (Finish finish ∷ rest) =
+    let b : Board = board_of p f now run in
     let tells : Option ReporterEvent = event_of b (Finish finish) in
-    caused_tells (may_go (tally p run)) (moment_in now run) (Finish finish ∷ rest) (tally_with b tells)
+    caused_tells (may_go (tally p run)) (moment_in now f) (Finish finish ∷ rest) (tally_with b tells)
     (cause_of b.dispatcher.rules (tally_with b tells) (Finish finish)) (delivered_as b (Finish finish) nothing_done)
     refl
     (by_go (may_go (tally p run)))
@@ -133,10 +139,10 @@ delivery_tells p over now run (Finish finish ∷ rest) =
     by_go : (go : Bool) → Finish finish ∷ [] ≡ (if is_told go (Finish finish) then Finish finish ∷ [] else [])
     by_go true = refl
     by_go false = refl
-delivery_tells p over now run (ScriptFinish finish ∷ rest) =
-    let b : Board = board_of p over now run in
+delivery_tells p f now run (ScriptFinish finish ∷ rest) =
+    let b : Board = board_of p f now run in
     let tells : Option ReporterEvent = event_of b (ScriptFinish finish) in
-    caused_tells (may_go (tally p run)) (moment_in now run) (ScriptFinish finish ∷ rest) (tally_with b tells)
+    caused_tells (may_go (tally p run)) (moment_in now f) (ScriptFinish finish ∷ rest) (tally_with b tells)
     (cause_of b.dispatcher.rules (tally_with b tells) (ScriptFinish finish))
     (delivered_as b (ScriptFinish finish) nothing_done) refl (by_go (may_go (tally p run)))
   where
@@ -162,15 +168,36 @@ aside_tells go q d aside = rw (aside.taken, aside.cancel) (by_told d.told aside.
     by_told (Some Tick) h = refl
     by_told (Some (Test event)) h = rw (by_kind event.kind h) refl
 
-pub tells_oldest : (p : Settings) (over refused : Bool) (now : ℕ) (run : List Happening) (turn : Turn)
-    → enabled_on p (board_with p refused over now run) turn ≡ true
-    → TellsOldest (may_go (tally p run)) (queue run) (deed_on p (board_with p refused over now run) turn)
-tells_oldest p over refused now run turn en =
+-- the begin and the end of a sub-run tell none
+bounds_tell : (told after : Option ReporterEvent) → IsBound told → IsBoundAfter after
+    → messages_of (option_to_list told ++ option_to_list after) ≡ []
+bounds_tell told after own later =
+    filter_map-append message_of (option_to_list told) (option_to_list after)
+    ∙ ap (λ ms. messages_of (option_to_list told) ++ ms) (cancel_none after (bound_after after later))
+    ∙ append-nil (messages_of (option_to_list told)) ∙ by_told told own
+  where
+    by_kind : (kind : TestEventKind) → IsBoundKind kind → cons_option (message_in kind) [] ≡ []
+    by_kind (kinds.RunStarted s) h = refl
+    by_kind (kinds.StressSubRunStarted s) h = refl
+    by_kind (kinds.StressSubRunFinished s) h = refl
+    by_kind (kinds.RunFinished s) h = refl
+    by_kind kind h = absurd h
+
+    by_told : (o : Option ReporterEvent) → IsBound o → messages_of (option_to_list o) ≡ []
+    by_told None h = refl
+    by_told (Some Tick) h = absurd h
+    by_told (Some (Test e)) h = by_kind e.kind h
+
+pub tells_oldest : (p : Settings) (f : Frame) (refused : Bool) (now : ℕ) (run : List Happening) (turn : Turn)
+    → enabled_on p (board_with p refused f now run) turn ≡ true
+    → TellsOldest (may_go (tally p run)) (queue run) (deed_on p (board_with p refused f now run) turn)
+tells_oldest p f refused now run turn en =
     by_turn (λ turn named. takes_turn p b turn named ≡ true → TellsOldest go (queue run) (done_by p b turn named))
     (record {
-      begin = λ en. refl;
-      admit = λ en. admission_tells go (queue run) (newcomer p (units p run));
-      deliver = λ en. delivery_tells p over now run (queue run);
+      begin = λ en. begin_cases (TellsOldest go (queue run)) (λ told after own later. bounds_tell told after own later) now
+          b.dispatcher;
+      admit = λ en. admission_tells go (queue run) (newcomer p (index_in p f) (units p run));
+      deliver = λ en. delivery_tells p f now run (queue run);
       named = λ turn k to other en. refl;
       clock = λ ns en. refl;
       signal = λ signal en. by_signal (TellsOldest go (queue run)) now (live_in b.units) b.dispatcher signal
@@ -178,7 +205,8 @@ tells_oldest p over refused now run turn en =
           (aside_tells go (queue run));
       global_due = λ en. cancels time_is_up;
       report_cancel = λ en. cancels event_refused;
-      end = λ en. refl;
+      end = λ en. end_cases (TellsOldest go (queue run)) (λ told after over own later. bounds_tell told after own later) now
+          b.dispatcher;
       key = λ key en. aside_tells go (queue run) _ (key_aside now (live_in b.units) b.dispatcher
           (heard_key b.dispatcher.rules.hearing.input key));
       tick = λ en. refl;
@@ -186,28 +214,28 @@ tells_oldest p over refused now run turn en =
       answer = λ en. aside_tells go (queue run) _ (answer_aside b (oldest_of b.answers));
       info_due = λ en. refl;
     })
-    turn (second_so (not over) (takes_turn p b turn (turn_of_unit turn)) en)
+    turn (second_so (not f.over) (takes_turn p b turn (turn_of_unit turn)) en)
   where
     b : Board
-    b = board_with p refused over now run
+    b = board_with p refused f now run
 
     go : Bool
     go = may_go (tally p run)
 
     cancels : (cause : Cause) → TellsOldest go (queue run) (cancelled b cause)
     cancels cause =
-        caused_tells go (moment_in now run) (queue run) b.dispatcher.tally (Some cause) nothing_done refl refl
+        caused_tells go (moment_in now f) (queue run) b.dispatcher.tally (Some cause) nothing_done refl refl
 
 -- so what was told after one more turn is told of the oldest message
-pub told-more : (p : Settings) (over refused : Bool) (now : ℕ) (run : List Happening) (e : Entry)
-    → enabled_on p (board_with p refused over now run) e.turn ≡ true
-    → messages_of (told (said now e (deed_on p (board_with p refused over now run) e.turn) ∷ run))
+pub told-more : (p : Settings) (f : Frame) (refused : Bool) (now : ℕ) (run : List Happening) (e : Entry)
+    → enabled_on p (board_with p refused f now run) e.turn ≡ true
+    → messages_of (told (said now e (deed_on p (board_with p refused f now run) e.turn) ∷ run))
     ≡ messages_of (told run) ++ told_from (is_none (reason run))
-    (deed_on p (board_with p refused over now run) e.turn).taken (queue run)
-told-more p over refused now run e en =
-    filter_map-append message_of (told run) (deed_events (deed_on p (board_with p refused over now run) e.turn))
-    ∙ ap (λ ms. messages_of (told run) ++ ms) (tells_oldest p over refused now run e.turn en
-    ∙ ap (λ go. told_from go (deed_on p (board_with p refused over now run) e.turn).taken (queue run))
+    (deed_on p (board_with p refused f now run) e.turn).taken (queue run)
+told-more p f refused now run e en =
+    filter_map-append message_of (told run) (deed_events (deed_on p (board_with p refused f now run) e.turn))
+    ∙ ap (λ ms. messages_of (told run) ++ ms) (tells_oldest p f refused now run e.turn en
+    ∙ ap (λ go. told_from go (deed_on p (board_with p refused f now run) e.turn).taken (queue run))
     (may_go-is p run))
 
 -- what holds of each message that was sent holds of each that was told
@@ -226,14 +254,14 @@ All-before P xs ys all k d within =
 
 among_kept : (p : Settings) (P : Message → Type 0)
     → IsKept p (λ run. All P (sent run) → All P (messages_of (told run)))
-among_kept p P over refused now run e h en does was all =
-    subst (All P) (sym (told-more p over refused now run e en))
+among_kept p P f refused now run e h en does was all =
+    subst (All P) (sym (told-more p f refused now run e en))
     (All-append P (messages_of (told run)) _ (was before)
-    (among_from P (is_none (reason run)) (deed_on p (board_with p refused over now run) e.turn).taken (queue run)
+    (among_from P (is_none (reason run)) (deed_on p (board_with p refused f now run) e.turn).taken (queue run)
     (All-drop P (delivered run) (sent run) before)))
   where
     before : All P (sent run)
-    before = All-before P (sent run) (option_to_list (deed_on p (board_with p refused over now run) e.turn).sent) all
+    before = All-before P (sent run) (option_to_list (deed_on p (board_with p refused f now run) e.turn).sent) all
 
 pub told_among : (p : Settings) (P : Message → Type 0) (backward : List Entry) → IsLegalBackward p backward
     → All P (sent (sub_run (history p backward))) → All P (messages_of (told (sub_run (history p backward))))

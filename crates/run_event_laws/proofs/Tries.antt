@@ -36,6 +36,8 @@ use Rattle.run_event_laws.specs.Retries.{AreNumbered, Try, failure_of, retry_as,
 use Rattle.run_event_laws.specs.Retries.{retries_as, retries_told, tries_from, tries_told, try_in, try_told}
 use Rattle.run_event_laws.proofs.RetryOrder.{retries_ordered}
 use Rattle.run_event_laws.proofs.Numbered.{AreFrom, attempts_of, from_split, unit_numbered}
+use Rattle.run_events.specs.declared.stress.StressIndex.{StressIndex}
+use Rattle.run_model.specs.SubRuns.{stress_index}
 
 -- what is told of attempts, by an account whose retries have these numbers
 abbrev labelled : List News → List TestRetry → List Try
@@ -255,16 +257,17 @@ by_unit mm left terms (Some u) story t q w rs numbers made way h =
     by_phase mm left u.phase u.statuses t q rs numbers (unit_numbered mm left terms u (pieces story) t q w made way h) h
 
 -- the retries that are told are numbered from 2 on
-range_from : (p : Settings) (k : ℕ) (test : PlanTest) (slot : TestSlotAssignment) (n a : ℕ)
-    → AreFrom a (retry_numbers (map (retry_as p k test slot) (range_with_len a n)))
-range_from p k test slot zero a = tt
-range_from p k test slot (suc n) a = (refl, range_from p k test slot n (a + 1))
+range_from : (p : Settings) (index : Option StressIndex) (k : ℕ) (test : PlanTest) (slot : TestSlotAssignment) (n a : ℕ)
+    → AreFrom a (retry_numbers (map (retry_as p index k test slot) (range_with_len a n)))
+range_from p index k test slot zero a = tt
+range_from p index k test slot (suc n) a = (refl, range_from p index k test slot n (a + 1))
 
-retries_from : (p : Settings) (k n : ℕ) (o : Option PlanTest) (s : Option TestSlotAssignment)
-    → AreFrom 2 (retry_numbers (retries_as p k o s n))
-retries_from p k n None s = tt
-retries_from p k n (Some test) None = tt
-retries_from p k n (Some test) (Some slot) = range_from p k test slot n 2
+retries_from : (p : Settings) (index : Option StressIndex) (k n : ℕ) (o : Option PlanTest)
+    (s : Option TestSlotAssignment)
+    → AreFrom 2 (retry_numbers (retries_as p index k o s n))
+retries_from p index k n None s = tt
+retries_from p index k n (Some test) None = tt
+retries_from p index k n (Some test) (Some slot) = range_from p index k test slot n 2
 
 pub tries_numbered : (p : Settings) (backward : List Entry) → IsLegalBackward p backward → (k : ℕ)
     → AreNumbered k (told (sub_run (history p backward)))
@@ -274,8 +277,8 @@ tries_numbered p backward legal k =
     (account_of k events)
     (pending_of k (queue run)) (way_of k run) (retries_told k events)
     (subst (λ rs. AreFrom 2 (retry_numbers rs)) (sym (retries_ordered p backward legal k))
-    (retries_from p k _ (test_of_unit p k) (slots_told k events)))
-    (h.run.made k) (h.run.on_way k) (h.run.accounts k) (retried-told k events))
+    (retries_from p (stress_index p (history p backward)) k _ (test_of_unit p k) (slots_told k events)))
+    (h.made k) (h.on_way k) (h.accounts k) (retried-told k events))
   where
     run : List Happening
     run = sub_run (history p backward)

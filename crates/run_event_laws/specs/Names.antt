@@ -27,32 +27,33 @@ use Rattle.run_model.specs.Admission.{is_script, scripts_in}
 use Rattle.run_model.specs.Backoff.{retry_count}
 use Rattle.run_model.specs.Journal.{IsLegal, past_of}
 use Rattle.run_model.specs.Words.{sub_run, told}
+use Rattle.run_events.specs.declared.stress.StressIndex.{StressIndex}
 
 -- the test of the plan that the unit of this number is: scripts are numbered first
 abbrev pub test_of_unit : Settings → ℕ → Option PlanTest
 test_of_unit p k = if is_script p k then None else slice_get p.plan.tests (k - scripts_in p)
 
--- a test of the plan as its events name it, in no stress run
-abbrev pub test_named : ℕ → PlanTest → TestUnit
-test_named k test = record { unit = k; id = test.id; stress_index = None }
+-- a test of the plan as the events of such a sub-run of a stress run name it, if it is one
+abbrev pub test_named : Option StressIndex → ℕ → PlanTest → TestUnit
+test_named index k test = record { unit = k; id = test.id; stress_index = index }
 
--- a script of the plan as its events name it, in no stress run
-abbrev pub script_named : Settings → ℕ → PlanScript → ScriptUnit
-script_named p k script = record {
+-- and a script
+abbrev pub script_named : Settings → Option StressIndex → ℕ → PlanScript → ScriptUnit
+script_named p index k script = record {
   unit = k;
   id = script.id;
   index = k;
   total = length p.plan.scripts;
   no_capture = not (script.capture_stdout && script.capture_stderr);
-  stress_index = None;
+  stress_index = index;
 }
 
 -- a test, and a script, is named as the plan has the unit of its number
 abbrev pub IsTestNamed : Settings → TestUnit → Type 0
-IsTestNamed p unit = option_map (test_named unit.unit) (test_of_unit p unit.unit) ≡ Some unit
+IsTestNamed p unit = option_map (test_named unit.stress_index unit.unit) (test_of_unit p unit.unit) ≡ Some unit
 
 abbrev pub IsScriptNamed : Settings → ScriptUnit → Type 0
-IsScriptNamed p unit = option_map (script_named p unit.unit) (slice_get p.plan.scripts unit.unit) ≡ Some unit
+IsScriptNamed p unit = option_map (script_named p unit.stress_index unit.unit) (slice_get p.plan.scripts unit.unit) ≡ Some unit
 
 -- so is a unit that answers
 abbrev pub IsSubjectNamed : Settings → InfoSubject → Type 0

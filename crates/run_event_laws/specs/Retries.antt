@@ -17,6 +17,8 @@ use Rattle.run_model.specs.Journal.{IsLegal, past_of}
 use Rattle.run_model.specs.Words.{sub_run, told}
 use Rattle.run_laws.specs.Limits.{slots_told}
 use Rattle.run_event_laws.specs.Names.{planned_attempts, planned_retries, test_named, test_of_unit}
+use Rattle.run_events.specs.declared.stress.StressIndex.{StressIndex}
+use Rattle.run_model.specs.SubRuns.{stress_index}
 
 -- the retry of unit k that an event tells, if it tells one, and all that were told, in order
 abbrev pub retry_in : ℕ → TestEventKind → Option TestRetry
@@ -31,10 +33,10 @@ abbrev pub retries_told : ℕ → List ReporterEvent → List TestRetry
 retries_told k events = filter_map (retry_told k) events
 
 -- the retry of a test of the plan as attempt n, in these slots: the words of its platform's runner stand before its own
-abbrev pub retry_as : Settings → ℕ → PlanTest → TestSlotAssignment → ℕ → TestRetry
-retry_as p k test slot n = record {
+abbrev pub retry_as : Settings → Option StressIndex → ℕ → PlanTest → TestSlotAssignment → ℕ → TestRetry
+retry_as p index k test slot n = record {
   start = record {
-    test = test_named k test;
+    test = test_named index k test;
     command = runner_words (runner_for p.plan.runners test.platform) ++ test.command;
     slot = slot;
   };
@@ -43,21 +45,22 @@ retry_as p k test slot n = record {
 }
 
 -- the first n retries of unit k, by the plan's test and the slots that it started in: none of a unit that has neither
-abbrev pub retries_as : Settings → ℕ → Option PlanTest → Option TestSlotAssignment → ℕ → List TestRetry
-retries_as p k (Some test) (Some slot) n = map (retry_as p k test slot) (range_with_len 2 n)
-retries_as p k _ _ n = []
+abbrev pub retries_as : Settings → Option StressIndex → ℕ → Option PlanTest → Option TestSlotAssignment → ℕ
+    → List TestRetry
+retries_as p index k (Some test) (Some slot) n = map (retry_as p index k test slot) (range_with_len 2 n)
+retries_as p index k _ _ n = []
 
 -- the retries of a unit are told as attempts 2, 3, 4 and so on, as the plan says, in the slots of the start that was
 -- told
-abbrev pub AreRetriesInOrder : Settings → ℕ → List ReporterEvent → Type 0
-AreRetriesInOrder p k events =
+abbrev pub AreRetriesInOrder : Settings → Option StressIndex → ℕ → List ReporterEvent → Type 0
+AreRetriesInOrder p index k events =
     retries_told k events
-    ≡ retries_as p k (test_of_unit p k) (slots_told k events) (length (retries_told k events))
+    ≡ retries_as p index k (test_of_unit p k) (slots_told k events) (length (retries_told k events))
 
 -- that holds of each unit in the newest sub-run after every legal journal
 abbrev pub RetriesToldInOrder : Type 0
 RetriesToldInOrder = (p : Settings) (journal : List Entry) → IsLegal p journal → (k : ℕ)
-    → AreRetriesInOrder p k (told (sub_run (past_of p journal)))
+    → AreRetriesInOrder p (stress_index p (past_of p journal)) k (told (sub_run (past_of p journal)))
 
 -- no more retries of a test are told than the plan gives it
 abbrev pub AreRetriesFew : Settings → ℕ → List ReporterEvent → Type 0

@@ -1,5 +1,5 @@
 -- What a plan is where it says nothing else.
-use Rattle.std.specs.Prelude.{ℕ, List, [], Option, None, false, codes}
+use Rattle.std.specs.Prelude.{ℕ, pos, List, [], Option, None, false, codes}
 use Rattle.run_commands.specs.Versions.{Versions}
 use Rattle.run_commands.specs.TargetRunner.{no_runners}
 use Rattle.run_commands.specs.declared.target_runner.BuildPlatform.TheVariants.{Target}
@@ -31,13 +31,14 @@ usual_leak = record { period = 200000000; result = leaks.Pass }
 abbrev pub no_retries : RetryPolicy
 no_retries = Fixed 0 0 false
 
--- a test of weight 1, in no group, with no retries and no scripts, for the target platform
+-- a test of weight 1 and priority 0, in no group, with no retries and no scripts, for the target platform
 abbrev pub usual_test : TestInstanceId → List (List ℕ) → Option (List ℕ) → PlanTest
 usual_test id command skip = record {
   id = id;
   command = command;
   skip = skip;
   weight = 1;
+  priority = pos 0;
   group = None;
   retries = no_retries;
   flaky = flaky.Pass;

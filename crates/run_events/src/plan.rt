@@ -139,6 +139,8 @@ pub struct PlanTest {
     pub skip: Option<Text>,
     /// How much of the limits it takes while it runs.
     pub weight: u32,
+    /// The greater, the earlier it is admitted: from -100 to 100; usual 0.
+    pub priority: i8,
     pub group: Option<Text>,
     pub retries: RetryPolicy,
     pub flaky: FlakyResult,
@@ -166,6 +168,7 @@ impl Duplicate for PlanTest {
             command,
             skip,
             weight: self.weight,
+            priority: self.priority,
             group,
             retries: self.retries,
             flaky: self.flaky,

@@ -54,7 +54,7 @@ impl RetryPolicy {
 }
 
 impl PlanTest {
-    /// A test of weight 1, in no group, with no retries and no scripts, for the target platform.
+    /// A test of weight 1 and priority 0, in no group, with no retries and no scripts, for the target platform.
     pub fn usual(id: TestInstanceId, command: List<Text>, skip: Option<Text>) -> PlanTest
         ensures { result ≡ usual_test id command skip }
     {
@@ -63,6 +63,7 @@ impl PlanTest {
             command,
             skip,
             weight: 1,
+            priority: 0,
             group: None,
             retries: RetryPolicy::none(),
             flaky: FlakyResult::Pass,

@@ -1,7 +1,7 @@
-//! What the program says on standard error: one line of what is wrong and where, and one that helps. It is said after the
-//! run, from the words, the status, the input and the last line that was written, which a source and a sink of this crate
-//! remember. Where a turn isn't enabled, a run in memory takes the turns before it once more, and is asked what it waits
-//! for. The lines are tested and not proved; the top call knows nothing of them.
+//! What the program says on standard error: one line of what is wrong and where, and one that helps. It is said after
+//! the run, from the words, the status, the input and the last line that was written, which a source and a sink of this
+//! crate remember. Where a turn isn't enabled, a run in memory takes the turns before it once more, and is asked what
+//! it waits for. The lines are tested and not proved; the top call knows nothing of them.
 #![tactic(auto)]
 
 mod kept_source;

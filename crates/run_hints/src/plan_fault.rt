@@ -5,14 +5,24 @@ use crate::tables::Table;
 use serde_json::{Map, Value};
 use std::alloc::{AllocError, Global};
 
-// A key that an object of a table must have and doesn't.
-fn missing(table: Table, members: &Map<String, Value>) -> Option<&'static str> {
+// What is wrong with the two keys of which an object of a table must have one.
+fn either_wrong(table: Table, members: &Map<String, Value>) -> Option<(&'static str, Wrong)> {
+    let (first, second) = table.either()?;
+    if members.get(first).is_some() == members.get(second).is_some() {
+        Some((first, Wrong::NotOne(second)))
+    } else {
+        None
+    }
+}
+
+// A key that an object of a table must have and doesn't, or the first of two of which it doesn't have one.
+fn missing(table: Table, members: &Map<String, Value>) -> Option<(&'static str, Wrong)> {
     for key in table.required() {
         if members.get(*key).is_none() {
-            return Some(*key);
+            return Some((*key, Wrong::MissingKey));
         }
     }
-    None
+    either_wrong(table, members)
 }
 
 // What is wrong with the keys of an object.
@@ -27,7 +37,7 @@ fn key_misfit(
         }
     }
     match missing(table, members) {
-        Some(key) => Ok(Some(Misfit::at(alloc, key, Wrong::MissingKey)?)),
+        Some((key, wrong)) => Ok(Some(Misfit::at(alloc, key, wrong)?)),
         None => Ok(None),
     }
 }
@@ -146,16 +156,25 @@ fn plan_member_misfit(
     member_misfit(alloc, key, shape, value)
 }
 
+// The table of a plan's object, by its version.
+fn table_of(members: &Map<String, Value>) -> Table {
+    match members.get("version") {
+        Some(value) if value.as_u64().is_some_and(|version| version == 2) => Table::SecondPlan,
+        _ => Table::Plan,
+    }
+}
+
 /// The first thing that is wrong with the object of a plan: its keys, and then the values at them.
 pub(crate) fn plan_misfit(
     alloc: Global,
     members: &Map<String, Value>,
 ) -> Result<Option<Misfit>, AllocError> {
-    if let Some(misfit) = key_misfit(alloc, Table::Plan, members)? {
+    let table = table_of(members);
+    if let Some(misfit) = key_misfit(alloc, table, members)? {
         return Ok(Some(misfit));
     }
     for (key, value) in members.iter() {
-        if let Some(shape) = Table::Plan.shape_at(key.as_str()) {
+        if let Some(shape) = table.shape_at(key.as_str()) {
             if let Some(misfit) = plan_member_misfit(alloc, key.as_str(), shape, value)? {
                 return Ok(Some(misfit));
             }

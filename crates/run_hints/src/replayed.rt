@@ -3,7 +3,7 @@ ghost use Rattle.std.specs.Prelude.{◌+◌, ◌<◌, ◌^◌, length, IsTrue};
 
 use crate::waiting::why_not;
 use run_capture::Duplicate;
-use run_cli::builder_of;
+use run_cli::runner_of;
 use run_engine::{Run, TestRunner};
 use run_events::{AskList, EventLog, Plan, Turn};
 use run_input::{Input, RunnerKeys, read_input};
@@ -21,10 +21,10 @@ fn has_few_units(plan: &Plan) -> bool
     }
 }
 
-// What carries out a plan with the keys of its line.
-fn runner_of(alloc: Global, keys: RunnerKeys, plan: Plan) -> Option<TestRunner> {
+// What carries out a plan with the keys of its line, where its units can be numbered.
+fn runner_for(alloc: Global, keys: RunnerKeys, plan: Plan) -> Option<TestRunner> {
     if has_few_units(&plan) {
-        builder_of(keys).build(alloc, plan).ok()
+        runner_of(alloc, keys, plan).ok()
     } else {
         drop(plan);
         drop(keys);
@@ -78,7 +78,7 @@ fn why_by(alloc: Global, runner: TestRunner, turns: &[Turn], place: usize) -> Op
 // The same, of what an input says.
 fn why_in(alloc: Global, input: Input, place: usize) -> Option<String> {
     let Input { keys, plan, turns } = input;
-    match runner_of(alloc, keys, plan) {
+    match runner_for(alloc, keys, plan) {
         Some(runner) => why_by(alloc, runner, turns.as_slice(), place),
         None => None,
     }

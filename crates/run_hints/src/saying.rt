@@ -10,6 +10,9 @@ const USAGE: &str =
 const WIDTH_HINT: &str =
     "usage: nextest_run progress WIDTH < INPUT, with a width from 1 to 1000, in digits alone";
 
+const TESTS_HINT: &str =
+    "usage: nextest_run generate TESTS, with a number from 1 to 20000, in digits alone";
+
 const PLAN_HINT: &str =
     "a plan is a JSON object on one line, with \"run_id\" and \"tests\": nextest_run --help has one";
 
@@ -57,10 +60,20 @@ fn is_progress(words: &[String]) -> bool {
     }
 }
 
+// Whether the first word is the command that takes a number of tests.
+fn is_generate(words: &[String]) -> bool {
+    match words {
+        [word, ..] => word.as_str() == "generate",
+        [] => false,
+    }
+}
+
 // What helps with words that are no command.
 fn words_hint(words: &[String]) -> &'static str {
     if is_progress(words) {
         WIDTH_HINT
+    } else if is_generate(words) {
+        TESTS_HINT
     } else {
         USAGE
     }
@@ -74,6 +87,13 @@ fn words_fault(alloc: Global, words: &[String]) -> Result<String, AllocError> {
         [_, width] if is_progress(words) => format!(in alloc; "\"{width}\" is no width"),
         [_, _, word, ..] if is_progress(words) => {
             format!(in alloc; "unexpected word \"{word}\" after the width")
+        }
+        [_] if is_generate(words) => {
+            String::from_str(alloc, "no number of tests is given to \"generate\"")
+        }
+        [_, tests] if is_generate(words) => format!(in alloc; "\"{tests}\" is no number of tests"),
+        [_, _, word, ..] if is_generate(words) => {
+            format!(in alloc; "unexpected word \"{word}\" after the number of tests")
         }
         [command, word, ..] if is_command(command.as_str()) => {
             format!(in alloc; "unexpected word \"{word}\" after \"{command}\"")
@@ -311,9 +331,9 @@ fn fault_text(
     format!(in alloc; "nextest_run: error: {error}\nhint: {hint}\n")
 }
 
-/// What standard error is to say of a run that these words asked for and that ended with this status, by the bytes of its
-/// input and the last line that was written: nothing of a success; of another outcome one line; of a fault one line that
-/// says what is wrong and where, and one that helps.
+/// What standard error is to say of a run that these words asked for and that ended with this status, by the bytes of
+/// its input and the last line that was written: nothing of a success; of another outcome one line; of a fault one line
+/// that says what is wrong and where, and one that helps.
 pub fn explain(
     alloc: Global,
     words: &[String],

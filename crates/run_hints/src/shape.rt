@@ -1,7 +1,7 @@
 // What a value of an input line is to be.
 use crate::tables::Table;
 use jiff::Timestamp;
-use run_commands::{DebuggerCommand, DebuggerCommandParseError};
+use run_commands::{DebuggerCommand, DebuggerCommandParseError, StressCount};
 use semver::Version;
 use serde_json::Value;
 use std::alloc::Global;
@@ -18,11 +18,17 @@ pub(crate) enum Shape {
     I32,
     /// The version of a plan line.
     Form,
+    /// The priority of a test.
+    Priority,
     Truth,
     Texts,
     /// One text or more.
     Program,
     Numbers,
+    /// Lists of two texts.
+    Pairs,
+    /// How often a stress run repeats.
+    Repeats,
     Uuid,
     Version,
     Moment,
@@ -107,11 +113,14 @@ impl Shape {
             Shape::U32 => "a whole number from 0 to 4294967295",
             Shape::U64 => "a whole number from 0 to 18446744073709551615",
             Shape::I32 => "a whole number from -2147483648 to 2147483647",
-            Shape::Form => "the number 1",
+            Shape::Form => "1 or 2",
+            Shape::Priority => "a whole number from -100 to 100",
             Shape::Truth => "true or false",
             Shape::Texts => "a list of texts",
             Shape::Program => "a list of one text or more",
             Shape::Numbers => "a list of whole numbers from 0 to 4294967295",
+            Shape::Pairs => "a list of tests, each as [binary, name]",
+            Shape::Repeats => "infinite or a text of a whole number from 1 to 4294967295",
             Shape::Uuid => "a UUID",
             Shape::Version => "a version as 1.2.3",
             Shape::Moment => "a moment as 2026-11-27T22:00:00Z",
@@ -131,11 +140,17 @@ impl Shape {
             Shape::I32 => value
                 .as_i64()
                 .is_some_and(|number| -2147483648 <= number && number <= 2147483647),
-            Shape::Form => value.as_u64().is_some_and(|number| number == 1),
+            Shape::Form => value
+                .as_u64()
+                .is_some_and(|number| number == 1 || number == 2),
+            Shape::Priority => value
+                .as_i64()
+                .is_some_and(|number| -100 <= number && number <= 100),
             Shape::Truth => value.as_bool().is_some(),
             Shape::Texts => are_texts(value),
             Shape::Program => are_texts(value) && !is_empty(value),
             Shape::Numbers => are_numbers(value),
+            Shape::Pairs => are_pairs(value),
             Shape::Object(_) => value.as_object().is_some(),
             Shape::Objects(_) => value.as_array().is_some(),
             _ => value
@@ -148,6 +163,7 @@ impl Shape {
     fn has_text(self, alloc: Global, text: &str) -> bool {
         match self {
             Shape::Named(names) => names.has(text),
+            Shape::Repeats => StressCount::from_str(text).is_ok(),
             Shape::Uuid => Uuid::parse_str(text).is_ok(),
             Shape::Version => Version::parse(alloc, text).is_ok(),
             Shape::Moment => text.parse::<Timestamp>().is_ok(),
@@ -186,6 +202,21 @@ fn is_empty(value: &Value) -> bool {
 fn are_texts(value: &Value) -> bool {
     match value.as_array() {
         Some(items) => items.iter().all(|item| item.as_str().is_some()),
+        None => false,
+    }
+}
+
+// Whether a value is a list of two texts.
+fn is_pair(value: &Value) -> bool {
+    match value.as_array() {
+        Some(items) => items.len() == 2 && are_texts(value),
+        None => false,
+    }
+}
+
+fn are_pairs(value: &Value) -> bool {
+    match value.as_array() {
+        Some(items) => items.iter().all(|item| is_pair(item)),
         None => false,
     }
 }

@@ -5,12 +5,17 @@ use crate::shape::{Names, Shape};
 #[derive(Clone, Copy, Drop)]
 pub(crate) enum Table {
     Plan,
+    /// A plan of version 2.
+    SecondPlan,
     Test,
+    /// A test of a plan of version 2.
+    RankedTest,
     Script,
     Group,
     Interceptor,
     MaxFail,
     Runners,
+    Stress,
     Slow,
     Leak,
     Retries,
@@ -21,12 +26,15 @@ impl Table {
     pub(crate) fn shape_at(self, key: &str) -> Option<Shape> {
         match self {
             Table::Plan => plan_shape(key),
+            Table::SecondPlan => second_plan_shape(key),
             Table::Test => test_shape(key),
+            Table::RankedTest => ranked_test_shape(key),
             Table::Script => script_shape(key),
             Table::Group => group_shape(key),
             Table::Interceptor => interceptor_shape(key),
             Table::MaxFail => max_fail_shape(key),
             Table::Runners => runners_shape(key),
+            Table::Stress => stress_shape(key),
             Table::Slow => slow_shape(key),
             Table::Leak => leak_shape(key),
             Table::Retries => retries_shape(key),
@@ -36,14 +44,22 @@ impl Table {
     /// The keys that it must have.
     pub(crate) fn required(self) -> &'static [&'static str] {
         match self {
-            Table::Plan => &["run_id", "tests"],
-            Table::Test => &["binary", "name", "command"],
+            Table::Plan | Table::SecondPlan => &["run_id", "tests"],
+            Table::Test | Table::RankedTest => &["binary", "name", "command"],
             Table::Script => &["id", "command"],
             Table::Group => &["name", "limit"],
             Table::Interceptor => &["kind", "command"],
             Table::MaxFail => &["count", "mode"],
             Table::Retries => &["count"],
-            Table::Runners | Table::Slow | Table::Leak => &[],
+            Table::Runners | Table::Stress | Table::Slow | Table::Leak => &[],
+        }
+    }
+
+    /// The two keys of which it must have exactly one, if there are such.
+    pub(crate) fn either(self) -> Option<(&'static str, &'static str)> {
+        match self {
+            Table::Stress => Some(("count", "duration")),
+            _ => None,
         }
     }
 }
@@ -52,14 +68,24 @@ impl Table {
 fn plan_shape(key: &str) -> Option<Shape> {
     match key {
         "args" => Some(Shape::Texts),
+        "expected" => Some(Shape::Pairs),
         "groups" => Some(Shape::Objects(Table::Group)),
         "interceptor" => Some(Shape::Object(Table::Interceptor)),
         "max_fail" => Some(Shape::Object(Table::MaxFail)),
         "retries" => Some(Shape::Object(Table::Retries)),
         "runners" => Some(Shape::Object(Table::Runners)),
         "scripts" => Some(Shape::Objects(Table::Script)),
+        "stress" => Some(Shape::Object(Table::Stress)),
         "tests" => Some(Shape::Objects(Table::Test)),
         _ => plan_leaf(key),
+    }
+}
+
+// What stands at a key of a plan of version 2.
+fn second_plan_shape(key: &str) -> Option<Shape> {
+    match key {
+        "tests" => Some(Shape::Objects(Table::RankedTest)),
+        _ => plan_shape(key),
     }
 }
 
@@ -105,6 +131,13 @@ fn test_shape(key: &str) -> Option<Shape> {
     }
 }
 
+fn ranked_test_shape(key: &str) -> Option<Shape> {
+    match key {
+        "priority" => Some(Shape::Priority),
+        _ => test_shape(key),
+    }
+}
+
 fn script_shape(key: &str) -> Option<Shape> {
     match key {
         "id" | "env_path" => Some(Shape::Text),
@@ -143,6 +176,14 @@ fn max_fail_shape(key: &str) -> Option<Shape> {
 fn runners_shape(key: &str) -> Option<Shape> {
     match key {
         "host" | "target" => Some(Shape::Program),
+        _ => None,
+    }
+}
+
+fn stress_shape(key: &str) -> Option<Shape> {
+    match key {
+        "count" => Some(Shape::Repeats),
+        "duration" => Some(Shape::U64),
         _ => None,
     }
 }

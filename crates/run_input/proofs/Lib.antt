@@ -1,4 +1,5 @@
 pub mod InputLemmas
 mod LineLemmas
 mod MomentLemmas
+mod StressLemmas
 mod ValueLemmas

@@ -1,11 +1,13 @@
 pub mod Fields
 pub mod Input
 pub mod Lines
+pub mod PlanExpected
 pub mod PlanHead
 pub mod PlanInterceptor
 pub mod PlanLine
 pub mod PlanRetries
 pub mod PlanScripts
+pub mod PlanStress
 pub mod PlanTest
 pub mod ReadsValue
 pub mod Refused

@@ -1,7 +1,7 @@
 -- What a plan line says.
 use Rattle.std.specs.Prelude.{ℕ, List, [], ◌∷◌, length, Option, Some, None, option_and_then, if◌then◌else◌, nat_eq}
 use Rattle.std.specs.Prelude.{codes}
-use Rattle.std.specs.Prelude.{◌+◌, ◌==◌, nat_lt, false}
+use Rattle.std.specs.Prelude.{◌+◌, ◌==◌, ◌||◌, nat_lt, false}
 use Rattle.serde_json.specs.Data.{Data, Items, no_items, item}
 use Rattle.serde_json.specs.Find.{get, as_str, as_array}
 use Rattle.run_capture.specs.declared.test_output.CaptureStrategy.{CaptureStrategy}
@@ -26,10 +26,12 @@ use Rattle.run_events.specs.declared.signal.SignalHandlerKind.{SignalHandlerKind
 use Rattle.run_events.specs.declared.signal.SignalHandlerKind.TheVariants as handlers
 use Rattle.run_input.specs.declared.plan_line.RunnerKeys.{RunnerKeys}
 use Rattle.run_input.specs.Fields.{◌>>=◌, when, is_object_of, optional, or_usual, truth_of, u32_of, u64_of}
+use Rattle.run_input.specs.PlanExpected.{expected_of}
 use Rattle.run_input.specs.PlanHead.{frame_of}
 use Rattle.run_input.specs.PlanInterceptor.{interceptor_of}
 use Rattle.run_input.specs.PlanRetries.{retries_from, flaky_from}
 use Rattle.run_input.specs.PlanScripts.{scripts_listed}
+use Rattle.run_input.specs.PlanStress.{stress_of}
 use Rattle.run_input.specs.PlanTest.{test_from}
 use lib.Pointwise.{pointwise}
 
@@ -77,20 +79,24 @@ retrying_of d = do
   flaky_result ← optional flaky_from (get (codes "flaky_result") d)
   Some (retries, flaky_result)
 
--- what the keys of a plan line set of a runner: where nothing else is said output is captured split, all tests run,
--- each has its own retries, and none runs under a debugger or a tracer
+-- what the keys of a plan line set of a runner: where nothing else is said output is captured split, all tests run
+-- once, each has its own retries, none runs under a debugger or a tracer, and the run is no rerun
 abbrev pub keys_of : Data → Option RunnerKeys
 keys_of d = do
   limits ← limits_from d
   retrying ← retrying_of d
+  stress ← optional stress_of (get (codes "stress") d)
   interceptor ← or_usual under.None interceptor_of (get (codes "interceptor") d)
+  expected ← optional expected_of (get (codes "expected") d)
   Some (record {
     capture = limits.0;
     threads = limits.1;
     max_fail = limits.2;
+    stress = stress;
     retries = retrying.0;
     flaky_result = retrying.1;
     interceptor = interceptor;
+    expected = expected;
   })
 
 -- the signals that a text names
@@ -149,22 +155,22 @@ groups_from (item d ds) = do
 abbrev pub groups_of : Data → Option (List Group)
 groups_of d = option_and_then groups_from (as_array d)
 
--- the tests of items, each of which is one
-abbrev pub tests_from : Items → Option (List PlanTest)
-tests_from no_items = Some []
-tests_from (item d ds) = do
-  test ← test_from d
-  tests ← tests_from ds
+-- the tests of items, each of which is one, in a plan line of this version
+abbrev pub tests_from : ℕ → Items → Option (List PlanTest)
+tests_from version no_items = Some []
+tests_from version (item d ds) = do
+  test ← test_from version d
+  tests ← tests_from version ds
   Some (test ∷ tests)
 
 -- a list of tests
-abbrev pub tests_of : Data → Option (List PlanTest)
-tests_of d = option_and_then tests_from (as_array d)
+abbrev pub tests_of : ℕ → Data → Option (List PlanTest)
+tests_of version d = option_and_then (tests_from version) (as_array d)
 
 -- the tests of a plan are fewer than 2^32
-abbrev pub plan_tests_of : Option Data → Option (List PlanTest)
-plan_tests_of d = do
-  tests ← option_and_then tests_of d
+abbrev pub plan_tests_of : ℕ → Option Data → Option (List PlanTest)
+plan_tests_of version d = do
+  tests ← option_and_then (tests_of version) d
   _ ← when (nat_lt (length tests) 4294967296)
   Some tests
 
@@ -183,11 +189,11 @@ plan_scripts_of d = do
   Some scripts
 
 -- the groups, the setup scripts and the tests of a plan: scripts and tests together are fewer than 2^32
-abbrev pub lists_of : Data → Option (List Group × List PlanScript × List PlanTest)
-lists_of d = do
+abbrev pub lists_of : ℕ → Data → Option (List Group × List PlanScript × List PlanTest)
+lists_of version d = do
   groups ← plan_groups_of (get (codes "groups") d)
   scripts ← plan_scripts_of (get (codes "scripts") d)
-  tests ← plan_tests_of (get (codes "tests") d)
+  tests ← plan_tests_of version (get (codes "tests") d)
   _ ← when (nat_lt (length scripts + length tests) 4294967296)
   Some (groups, scripts, tests)
 
@@ -207,26 +213,26 @@ plan_with rules frame lists = record {
 -- the keys that a plan line may have
 abbrev pub plan_names : List (List ℕ)
 plan_names =
-    codes "args" ∷ codes "capture" ∷ codes "flaky_result" ∷ codes "global_timeout" ∷ codes "groups"
+    codes "args" ∷ codes "capture" ∷ codes "expected" ∷ codes "flaky_result" ∷ codes "global_timeout" ∷ codes "groups"
     ∷ codes "input" ∷ codes "interceptor" ∷ codes "max_fail" ∷ codes "mode" ∷ codes "nextest_version" ∷ codes "profile"
     ∷ codes "quit_is_info" ∷ codes "recommended_version" ∷ codes "required_version" ∷ codes "retries" ∷ codes "run_id"
-    ∷ codes "runners" ∷ codes "scripts" ∷ codes "signals" ∷ codes "started_at" ∷ codes "tests" ∷ codes "threads"
-    ∷ codes "version" ∷ codes "workspace_root" ∷ []
+    ∷ codes "runners" ∷ codes "scripts" ∷ codes "signals" ∷ codes "started_at" ∷ codes "stress" ∷ codes "tests"
+    ∷ codes "threads" ∷ codes "version" ∷ codes "workspace_root" ∷ []
 
--- the version of the form of plan lines: there is the first alone
+-- the version of the form of plan lines: the second has the priorities of tests besides
 abbrev pub version_of : Data → Option ℕ
 version_of d = do
   version ← u64_of d
-  _ ← when (version == 1)
+  _ ← when (version == 1 || version == 2)
   Some version
 
 -- the plan, without what is set of a runner
 abbrev pub plan_alone_of : Data → Option Plan
 plan_alone_of d = do
-  _ ← or_usual 1 version_of (get (codes "version") d)
+  version ← or_usual 1 version_of (get (codes "version") d)
   rules ← rules_from d
   frame ← frame_of d
-  lists ← lists_of d
+  lists ← lists_of version d
   Some (plan_with rules frame lists)
 
 -- a plan line: what it sets of a runner, and its plan

@@ -20,8 +20,8 @@ grows_named name =
 abbrev pub grows_of : Data → Option Bool
 grows_of d = option_and_then grows_named (as_str d)
 
--- retries after the same delay each time, and after delays that grow, up to a limit where there is one: with no delay and
--- no jitter where nothing is said
+-- retries after the same delay each time, and after delays that grow, up to a limit where there is one: with no delay
+-- and no jitter where nothing is said
 unfoldable pub fixed_of : Data → Option RetryPolicy
 fixed_of d = do
   _ ← when (is_object_of (codes "backoff" ∷ codes "count" ∷ codes "delay" ∷ codes "jitter" ∷ []) d)

@@ -1,7 +1,8 @@
 -- What a plan line says of a test.
 use Rattle.std.specs.Prelude.{ℕ, List, [], ◌∷◌, Option, Some, None, option_and_then, if◌then◌else◌, nat_eq, codes}
+use Rattle.std.specs.Prelude.{ℤ, pos, negsuc, int_le, ◌==◌, ◌&&◌}
 use Rattle.serde_json.specs.Data.{Data}
-use Rattle.serde_json.specs.Find.{get, as_str}
+use Rattle.serde_json.specs.Find.{get, as_i64, as_number, as_str}
 use Rattle.run_commands.specs.declared.target_runner.BuildPlatform.{BuildPlatform}
 use Rattle.run_commands.specs.declared.target_runner.BuildPlatform.TheVariants as platforms
 use Rattle.run_events.specs.declared.plan.PlanTest.{PlanTest}
@@ -105,15 +106,27 @@ named_of d = do
   skip ← optional as_str (get (codes "skip") d)
   Some (usual_test id command skip)
 
--- a test in its group, for its platform, with its weight, its time-outs, its retries and its scripts
-unfoldable pub test_from : Data → Option PlanTest
-test_from d = do
+-- a number from -100 to 100
+abbrev pub priority_of : Data → Option ℤ
+priority_of d = option_and_then (λ z. if int_le (negsuc 99) z && int_le z (pos 100) then Some z else None)
+    (option_and_then as_i64 (as_number d))
+
+-- the priority of a test: 0 where nothing is said; it is said in plan lines of version 2 alone
+abbrev pub priority_said : ℕ → Option Data → Option ℤ
+priority_said version None = Some (pos 0)
+priority_said version (Some d) = if version == 2 then priority_of d else None
+
+-- a test in its group, for its platform, with its weight, its priority, its time-outs, its retries and its scripts, in
+-- a plan line of this version
+unfoldable pub test_from : ℕ → Data → Option PlanTest
+test_from version d = do
   _ ← when (is_object_of (codes "binary" ∷ codes "command" ∷ codes "flaky" ∷ codes "group" ∷ codes "leak"
-      ∷ codes "name" ∷ codes "platform" ∷ codes "retries" ∷ codes "scripts" ∷ codes "skip" ∷ codes "slow"
-      ∷ codes "weight" ∷ []) d)
+      ∷ codes "name" ∷ codes "platform" ∷ codes "priority" ∷ codes "retries" ∷ codes "scripts" ∷ codes "skip"
+      ∷ codes "slow" ∷ codes "weight" ∷ []) d)
   terms ← terms_from d
   trials ← trials_of d
   platform ← or_usual platforms.Target platform_of (get (codes "platform") d)
+  priority ← priority_said version (get (codes "priority") d)
   ties ← ties_of d
   test ← named_of d
   Some (record test {
@@ -125,4 +138,5 @@ test_from d = do
     group = ties.0;
     scripts = ties.1;
     platform = platform;
+    priority = priority;
   })

@@ -127,12 +127,13 @@ pub fn hearing_from(value: &Value) -> Option<Hearing>
     })
 }
 
-/// The version of a plan line, which is 1, also where nothing is said.
+/// The version of a plan line, 1 or 2: 1 where nothing is said.
 pub fn version_at(value: Option<&Value>) -> Option<u64>
     ensures { result ≡ or_usual 1 version_of (option_map (λ v. view v.now) value.entry) }
 {
     match u64_or(1, value)? {
         1 => Some(1),
+        2 => Some(2),
         _ => None,
     }
 }

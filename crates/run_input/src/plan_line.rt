@@ -12,17 +12,20 @@ use crate::LineError;
 use crate::both::both;
 use crate::fields::{optional_u32_at, optional_u64_at, text_at, u32_at};
 use crate::objects::has_keys_of;
+use crate::plan_expected::optional_expected_at;
 use crate::plan_head::frame_from;
 use crate::plan_interceptor::interceptor_at;
 use crate::plan_keys::{capture_at, hearing_from, max_fail_at, version_at};
 use crate::plan_retries::{optional_flaky_at, optional_retries_at};
 use crate::plan_scripts::scripts_at;
+use crate::plan_stress::optional_stress_at;
 use crate::plan_test::test_from;
 use crate::value::read_value;
 use run_capture::{CaptureStrategy, List};
-use run_commands::{Interceptor, TargetRunner};
+use run_commands::{Interceptor, StressCondition, TargetRunner};
 use run_events::{
     FlakyResult, Group, Hearing, MaxFail, Plan, PlanScript, PlanTest, RetryPolicy, RunHead,
+    TestInstanceId,
 };
 use serde_json::Value;
 use std::alloc::Global;
@@ -34,11 +37,15 @@ pub struct RunnerKeys {
     /// How much may run at a time, where it is given.
     pub threads: Option<u32>,
     pub max_fail: MaxFail,
+    /// When a stress run ends, where the run is one.
+    pub stress: Option<StressCondition>,
     /// What each test is given in place of its own, where it is given.
     pub retries: Option<RetryPolicy>,
     pub flaky_result: Option<FlakyResult>,
     /// What each test runs under.
     pub interceptor: Interceptor,
+    /// The tests that a rerun expects, where the run is one, in the order of their list.
+    pub expected: Option<List<TestInstanceId>>,
 }
 
 /// Reads a plan line: what it sets of a runner, and its plan.
@@ -50,20 +57,22 @@ pub struct RunnerKeys {
 /// truth value; `false` where it is missing), `global_timeout` (a number), `groups` (a list of groups) and `scripts` (a
 /// list of setup scripts). It may also have `profile`, `workspace_root`, `args` (a list of texts), `mode` (the text
 /// `test` or `benchmark`), `started_at` (a moment), `nextest_version`, `required_version`, `recommended_version`
-/// (versions), `version` (the number 1), and `runners`, which may have `host` and `target` (each a program with its
-/// arguments); what is missing is as usual. `max_fail` has `count` (a number) and `mode` (the text `wait` or
-/// `immediate`). A group has `limit` (a number) and `name`. A script has `command` (a list of texts) and `id`, and may
-/// have `env_path` (empty where it is missing), `capture_stdout` and `capture_stderr` (truth values, `true` where they
-/// are missing), `leak` and `slow`. A test has `binary`, `command` and `name`, and may have `group` (the name of one),
-/// `leak`, `platform` (the text `target` or `host`; `target` where it is missing), `scripts` (a list of numbers, each
-/// of a script; none where it is missing), `skip` (the reason for which it is skipped), `slow`, `weight` (a number, 1
-/// where it is missing), `retries` and `flaky` (the text `pass` or `fail`, as `flaky_result`; `pass` where it is
-/// missing). `slow` may have `grace`, `on_timeout` (the text `fail` or `pass`), `period` and `terminate_after`, and
-/// `leak` may have `period` and `result` (the text `fail` or `pass`); what is missing is as usual for a test or a
-/// script. `retries` has `count` (a number), and may have `delay` (0 where it is missing), `jitter` (`false` where it
-/// is missing), `backoff` (the text `fixed` or `exponential`; `fixed` where it is missing) and, where it is
-/// exponential, `max_delay`. `interceptor` may be there too, and has `command` (a text with a word at least, as a shell
-/// splits it) and `kind` (the text `debugger` or `tracer`).
+/// (versions), `version` (the number 1 or 2; 1 where it is missing), and `runners`, which may have `host` and `target`
+/// (each a program with its arguments); what is missing is as usual. `max_fail` has `count` (a number) and `mode` (the
+/// text `wait` or `immediate`). A group has `limit` (a number) and `name`. A script has `command` (a list of texts) and
+/// `id`, and may have `env_path` (empty where it is missing), `capture_stdout` and `capture_stderr` (truth values,
+/// `true` where they are missing), `leak` and `slow`. A test has `binary`, `command` and `name`, and may have `group`
+/// (the name of one), `leak`, `platform` (the text `target` or `host`; `target` where it is missing), `scripts` (a list
+/// of numbers, each of a script; none where it is missing), `skip` (the reason for which it is skipped), `slow`,
+/// `weight` (a number, 1 where it is missing), `retries` and `flaky` (the text `pass` or `fail`, as `flaky_result`;
+/// `pass` where it is missing). `slow` may have `grace`, `on_timeout` (the text `fail` or `pass`), `period` and
+/// `terminate_after`, and `leak` may have `period` and `result` (the text `fail` or `pass`); what is missing is as
+/// usual for a test or a script. `retries` has `count` (a number), and may have `delay` (0 where it is missing),
+/// `jitter` (`false` where it is missing), `backoff` (the text `fixed` or `exponential`; `fixed` where it is missing)
+/// and, where it is exponential, `max_delay`. `interceptor` may be there too, and has `command` (a text with a word at
+/// least, as a shell splits it) and `kind` (the text `debugger` or `tracer`). So may `stress`, which has `count` (the
+/// text `infinite` or decimal digits) or `duration` (a number), and `expected` (a list of tests, each a list of its
+/// binary and its name).
 pub fn read_plan_line(alloc: Global, line: &[u8]) -> Result<(RunnerKeys, Plan), LineError>
     ensures { ReadsValue result (option_and_then plan_of (json_value line.now)) }
 {
@@ -73,7 +82,8 @@ pub fn read_plan_line(alloc: Global, line: &[u8]) -> Result<(RunnerKeys, Plan), 
     }
 }
 
-/// The most groups that a plan may have, and the most scripts and tests together. No input within its limit has as many.
+/// The most groups that a plan may have, and the most scripts and tests together. No input within its limit has as
+/// many.
 const MOST: usize = 4_294_967_295;
 
 #[tactic(auto, unfolding(crate::specs::PlanLine::plan_of))]
@@ -85,6 +95,7 @@ fn plan_from(alloc: Global, value: &Value) -> Result<(RunnerKeys, Plan), LineErr
         &[
             "args",
             "capture",
+            "expected",
             "flaky_result",
             "global_timeout",
             "groups",
@@ -103,6 +114,7 @@ fn plan_from(alloc: Global, value: &Value) -> Result<(RunnerKeys, Plan), LineErr
             "scripts",
             "signals",
             "started_at",
+            "stress",
             "tests",
             "threads",
             "version",
@@ -119,10 +131,10 @@ fn plan_from(alloc: Global, value: &Value) -> Result<(RunnerKeys, Plan), LineErr
 fn plan_alone(alloc: Global, value: &Value) -> Result<Plan, LineError>
     ensures { ReadsValue result (plan_alone_of (view value.now)) }
 {
-    version_at(value.get("version")).ok_or(LineError::NotInTable)?;
+    let version = version_at(value.get("version")).ok_or(LineError::NotInTable)?;
     let rules = rules_from(value).ok_or(LineError::NotInTable)?;
     let frame = frame_from(alloc, value)?;
-    let (frame, lists) = both(frame, lists_from(alloc, value))?;
+    let (frame, lists) = both(frame, lists_from(alloc, version, value))?;
     Ok(plan_with(rules, frame, lists))
 }
 
@@ -151,14 +163,19 @@ fn runner_keys(alloc: Global, value: &Value) -> Result<RunnerKeys, LineError>
 {
     let (capture, threads, max_fail) = limits_from(value).ok_or(LineError::NotInTable)?;
     let (retries, flaky_result) = retrying_from(value).ok_or(LineError::NotInTable)?;
+    let stress = optional_stress_at(value.get("stress")).ok_or(LineError::NotInTable)?;
     let interceptor = interceptor_at(alloc, value.get("interceptor"))?;
+    let expected = optional_expected_at(alloc, value.get("expected"));
+    let (interceptor, expected) = both(interceptor, expected)?;
     Ok(RunnerKeys {
         capture,
         threads,
         max_fail,
+        stress,
         retries,
         flaky_result,
         interceptor,
+        expected,
     })
 }
 
@@ -196,13 +213,14 @@ fn plan_with(
 // The groups, the setup scripts and the tests of a plan: scripts and tests together are fewer than 2^32.
 fn lists_from(
     alloc: Global,
+    version: u64,
     value: &Value,
 ) -> Result<(List<Group>, List<PlanScript>, List<PlanTest>), LineError>
-    ensures { ReadsValue result (lists_of (view value.now)) }
+    ensures { ReadsValue result (lists_of version (view value.now)) }
 {
     let groups = groups_of_plan(alloc, value.get("groups"))?;
     let scripts = scripts_of_plan(alloc, value.get("scripts"))?;
-    let tests = tests_of_plan(alloc, value.get("tests"))?;
+    let tests = tests_of_plan(alloc, version, value.get("tests"))?;
     all_lists(groups, scripts, tests)
 }
 
@@ -288,31 +306,35 @@ fn groups_at(alloc: Global, value: Option<&Value>) -> Result<List<Group>, LineEr
     }
 }
 
-fn tests_in(alloc: Global, items: &[Value]) -> Result<List<PlanTest>, LineError>
-    ensures { ReadsValue result (tests_from (items_view items.now)) }
+fn tests_in(alloc: Global, version: u64, items: &[Value]) -> Result<List<PlanTest>, LineError>
+    ensures { ReadsValue result (tests_from version (items_view items.now)) }
 {
     let mut tests = List::new();
     for item in items {
-        tests.push(alloc, test_from(alloc, item)?)?;
+        tests.push(alloc, test_from(alloc, version, item)?)?;
     }
     Ok(tests)
 }
 
 // The tests of a list.
-fn tests_at(alloc: Global, value: Option<&Value>) -> Result<List<PlanTest>, LineError>
-    ensures { ReadsValue result (option_and_then tests_of (option_map (λ v. view v.now) value.entry)) }
+fn tests_at(alloc: Global, version: u64, value: Option<&Value>) -> Result<List<PlanTest>, LineError>
+    ensures { ReadsValue result (option_and_then (tests_of version) (option_map (λ v. view v.now) value.entry)) }
 {
     match value.and_then(Value::as_array) {
-        Some(items) => tests_in(alloc, items.as_slice()),
+        Some(items) => tests_in(alloc, version, items.as_slice()),
         None => Err(LineError::NotInTable),
     }
 }
 
 // The tests of a plan, which are fewer than 2^32.
-fn tests_of_plan(alloc: Global, value: Option<&Value>) -> Result<List<PlanTest>, LineError>
-    ensures { ReadsValue result (plan_tests_of (option_map (λ v. view v.now) value.entry)) }
+fn tests_of_plan(
+    alloc: Global,
+    version: u64,
+    value: Option<&Value>,
+) -> Result<List<PlanTest>, LineError>
+    ensures { ReadsValue result (plan_tests_of version (option_map (λ v. view v.now) value.entry)) }
 {
-    let tests = tests_at(alloc, value)?;
+    let tests = tests_at(alloc, version, value)?;
     if tests.len() > MOST {
         Err(LineError::NotInTable)
     } else {

@@ -5,7 +5,7 @@ ghost use Rattle.run_events.specs.Usual.{usual_leak};
 ghost use Rattle.run_input.specs.ReadsValue.{ReadsValue};
 ghost use Rattle.run_commands.specs.declared.target_runner.BuildPlatform.TheVariants as platforms;
 ghost use Rattle.run_input.specs.PlanTest.{id_of, named_of, platform_of, terms_from, test_from, ties_of, trials_of};
-ghost use Rattle.run_input.specs.PlanTest.{slow_of, leak_of, timeout_of, leak_result_of};
+ghost use Rattle.run_input.specs.PlanTest.{priority_of, priority_said, slow_of, leak_of, timeout_of, leak_result_of};
 ghost use Rattle.run_input.specs.Fields.{u32_of, or_usual};
 
 use crate::LineError;
@@ -24,16 +24,16 @@ use run_events::{
 use serde_json::Value;
 use std::alloc::Global;
 
-/// A test, by its keys.
+/// A test, by its keys, in a plan line of this version.
 #[tactic(auto, unfolding(crate::specs::PlanTest::test_from))]
-pub fn test_from(alloc: Global, value: &Value) -> Result<PlanTest, LineError>
-    ensures { ReadsValue result (test_from (view value.now)) }
+pub fn test_from(alloc: Global, version: u64, value: &Value) -> Result<PlanTest, LineError>
+    ensures { ReadsValue result (test_from version (view value.now)) }
 {
     if !has_keys_of(
         value,
         &[
-            "binary", "command", "flaky", "group", "leak", "name", "platform", "retries",
-            "scripts", "skip", "slow", "weight",
+            "binary", "command", "flaky", "group", "leak", "name", "platform", "priority",
+            "retries", "scripts", "skip", "slow", "weight",
         ],
     ) {
         return Err(LineError::NotInTable);
@@ -41,17 +41,19 @@ pub fn test_from(alloc: Global, value: &Value) -> Result<PlanTest, LineError>
     let terms = terms_from(value).ok_or(LineError::NotInTable)?;
     let trials = trials_from(value).ok_or(LineError::NotInTable)?;
     let platform = platform_at(value.get("platform")).ok_or(LineError::NotInTable)?;
+    let priority = priority_at(version, value.get("priority")).ok_or(LineError::NotInTable)?;
     let ties = ties_from(alloc, value)?;
     let (ties, test) = both(ties, named_from(alloc, value))?;
-    Ok(set(test, terms, trials, platform, ties))
+    Ok(set(test, terms, trials, (platform, priority), ties))
 }
 
-// A test of this weight, with these time-outs and retries, for this platform, in this group, with these scripts.
+// A test of this weight and priority, with these time-outs and retries, for this platform, in this group, with these
+// scripts.
 fn set(
     test: PlanTest,
     terms: (u32, SlowTimeout, LeakTimeout),
     trials: (RetryPolicy, FlakyResult),
-    platform: BuildPlatform,
+    rank: (BuildPlatform, i8),
     ties: (Option<Text>, List<u32>),
 ) -> PlanTest
     ensures { result ≡ record test {
@@ -62,13 +64,14 @@ fn set(
       flaky = trials.1;
       group = ties.0;
       scripts = ties.1;
-      platform = platform;
+      platform = rank.0;
+      priority = rank.1;
     } }
 {
     let mut test = test;
     (test.weight, test.slow, test.leak) = terms;
     (test.retries, test.flaky) = trials;
-    test.platform = platform;
+    (test.platform, test.priority) = rank;
     (test.group, test.scripts) = ties;
     test
 }
@@ -90,6 +93,29 @@ fn named_platform(value: Option<&Value>) -> Option<BuildPlatform>
         "target" => Some(BuildPlatform::Target),
         "host" => Some(BuildPlatform::Host),
         _ => None,
+    }
+}
+
+// A whole number from -100 to 100.
+fn priority_from(value: &Value) -> Option<i8>
+    ensures { result ≡ priority_of (view value.now) }
+{
+    let number = value.as_i64()?;
+    if -100 <= number && number <= 100 {
+        Some(number as i8)
+    } else {
+        None
+    }
+}
+
+// The priority of a test in a plan line of this version, and 0 where nothing is said.
+fn priority_at(version: u64, value: Option<&Value>) -> Option<i8>
+    ensures { result ≡ priority_said version (option_map (λ v. view v.now) value.entry) }
+{
+    match value {
+        Some(value) if version == 2 => priority_from(value),
+        Some(_) => None,
+        None => Some(0),
     }
 }
 

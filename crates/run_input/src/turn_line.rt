@@ -4,7 +4,8 @@ ghost use Rattle.serde_json.specs.View.{view};
 ghost use Rattle.run_input.specs.ReadsValue.{ReadsValue};
 ghost use Rattle.run_input.specs.ValueOf.{json_value};
 ghost use Rattle.run_input.specs.TurnLine.{bare_of, started_of, failed_of, start_failed_of, wait_failed_of, exit_from};
-ghost use Rattle.run_input.specs.TurnLine.{piece_of, stream_end_of, read_error_of, env_file_from, decide_of, due_timer_of};
+ghost use Rattle.run_input.specs.TurnLine.{piece_of, stream_end_of, read_error_of, env_file_from, decide_of};
+ghost use Rattle.run_input.specs.TurnLine.{due_timer_of};
 ghost use Rattle.run_input.specs.TurnLine.{due_of, take_from, clock_of, came_of, key_of, turn_by, turn_of};
 
 use crate::LineError;

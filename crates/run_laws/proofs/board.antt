@@ -1,21 +1,24 @@
--- The lemmas on the board: who is admitted, what each turn does, what holds after every legal journal, seats and limits.
+-- The lemmas on the board: who is admitted, what each turn does, what holds after every legal journal, seats and
+-- limits.
 pub mod Order
 pub mod Holds
 pub mod ByTurn
 pub mod Queue
 pub mod Scan
 pub mod OnBoard
+pub mod Nothing
 pub mod Newcomers
 pub mod Facts
 pub mod Ordered
 pub mod DeedFits
 pub mod UnitDeeds
+pub mod BoundDeeds
 pub mod Deeds
 pub mod RunDeeds
 pub mod RoundLemmas
-pub mod Whole
 pub mod KeptDeeds
 pub mod Kept
+pub mod Tallies
 pub mod Boards
 pub mod Ready
 pub mod Courses

@@ -1,7 +1,7 @@
 -- What is told of a run that is cancelled, turn by turn, and the lines of its units.
 use Rattle.std.specs.Prelude.{ℕ, nat_le, nat_lt, ◌==◌, if◌then◌else◌, ◌≡◌, ◌≤◌, ◌++◌, List, [], ◌∷◌, length, Bool, true}
 use Rattle.std.specs.Prelude.{false, Option, Some, None, is_some}
-use Rattle.std.specs.Prelude.{IfSome}
+use Rattle.std.specs.Prelude.{IfSome, option_and_then}
 use Rattle.run_events.specs.declared.cancel.CancelReason.{CancelReason}
 use Rattle.run_events.specs.declared.cancel.CancelReason.TheVariants.{SecondSignal, Interrupt, Signal as BySignal}
 use Rattle.run_events.specs.declared.cancel.CancelReason.TheVariants.{GlobalTimeout, ReportError, TestFailure}
@@ -23,7 +23,8 @@ use Rattle.run_events.specs.declared.events.ReporterEvent.{ReporterEvent}
 use Rattle.run_events.specs.declared.events.ReporterEvent.TheVariants.{Test}
 use Rattle.run_events.specs.declared.events.TestEventKind.{TestEventKind}
 use Rattle.run_events.specs.declared.events.TestEventKind.TheVariants.{RunBeginCancel, RunBeginKill, SetupScriptStarted}
-use Rattle.run_events.specs.declared.events.TestEventKind.TheVariants.{SetupScriptFinished, TestStarted, TestRetryStarted}
+use Rattle.run_events.specs.declared.events.TestEventKind.TheVariants.{SetupScriptFinished, TestStarted}
+use Rattle.run_events.specs.declared.events.TestEventKind.TheVariants.{TestRetryStarted}
 use Rattle.run_events.specs.declared.events.TestEventKind.TheVariants.{TestFinished}
 use Rattle.run_events.specs.declared.ask.Ask.{Ask}
 use Rattle.run_events.specs.declared.ask.Ask.TheVariants.{Start}
@@ -69,9 +70,9 @@ abbrev pub tells_start : ReporterEvent → Bool
 tells_start (Test event) = begins_in event.kind
 tells_start _ = false
 
--- what a turn is as a cause after others of its sub-run, if it is one: a shutdown signal, the first or the second that was
--- heard; the time of the sub-run; an event that was refused; the delivery of a script's finish, where it is no success; or
--- that of a test's, which is told with the counts after it, where as many tests have failed as end the run
+-- what a turn is as a cause after others of its sub-run, if it is one: a shutdown signal, the first or the second that
+-- was heard; the time of the sub-run; an event that was refused; the delivery of a script's finish, where it is no
+-- success; or that of a test's, which is told with the counts after it, where as many tests have failed as end the run
 abbrev pub first_signal : SignalKind → CancelReason
 first_signal Int = Interrupt
 first_signal _ = BySignal
@@ -122,15 +123,15 @@ abbrev pub asks_start : Ask → Bool
 asks_start (Start ask) = true
 asks_start _ = false
 
--- a turn after others of its sub-run: it is a cause by itself and what it tells; it tells that the run is cancelled exactly
--- where it is a cause whose reason is above that of each cause before it, with its own reason; and that it is killed
--- exactly for a second signal. Its other event comes first, and tells no such thing; and it tells a start, and asks one,
--- only where no cause came before
+-- a turn after others of its sub-run: it is a cause by itself and what it tells; it tells that the run is cancelled
+-- exactly where it is a cause whose reason is above that of each cause before it, with its own reason; and that it is
+-- killed exactly for a second signal. Its own event comes first, and tells no such thing; and it tells a start, and
+-- asks one, only where no cause came before
 pub record IsCancelled (p : Settings) (before : List Happening) (x : Happening) : Type 0 where
   pub cause : x.cause ≡ cause_by p before x.turn x.told
-  pub exactly : is_some x.cancel ≡ rises (reason before) x.cause
-  pub with_reason : IfSome x.cancel (λ event. reason_told event ≡ x.cause)
-  pub kills : IfSome x.cancel (λ event. kills event ≡ is_second x.cause)
+  pub exactly : is_some (option_and_then reason_told x.after) ≡ rises (reason before) x.cause
+  pub with_reason : IfSome (option_and_then reason_told x.after) (λ reason. Some reason ≡ x.cause)
+  pub kills : IfSome x.after (λ event. kills event ≡ is_second x.cause)
   pub own : IfSome x.told (λ event. reason_told event ≡ None)
   pub starts : IfSome x.told (λ event. tells_start event ≡ true → reason before ≡ None)
   pub asks : IfSome x.asked (λ ask. asks_start ask ≡ true → reason before ≡ None)
@@ -140,8 +141,8 @@ abbrev pub CancelsAreCaused : Type 0
 CancelsAreCaused = (p : Settings) (journal : List Entry) (e : Entry) → IsLegal p (journal ++ e ∷ [])
     → IsCancelled p (sub_run (past_of p journal)) (happening p (past_of p journal) e)
 
--- after every legal journal the line of each live unit in the newest sub-run is what was broadcast while it was live, but
--- for as many requests as it took, and it took no more
+-- after every legal journal the line of each live unit in the newest sub-run is what was broadcast while it was live,
+-- but for as many requests as it took, and it took no more
 pub record HasItsLine (run : List Happening) (k : ℕ) (u : UnitView) : Type 0 where
   pub line : u.line ≡ line_of k run
   pub took : taken_by k run ≤ length (broadcast_to k run)

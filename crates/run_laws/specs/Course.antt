@@ -49,8 +49,8 @@ pub record IsJournalOf (p : Settings) (turns : List Turn) (refuses : ℕ → Boo
 abbrev pub is_third_after : Settings → List Happening → Turn → Bool
 is_third_after p past turn = is_third_signal (board p past) turn
 
--- with this reporter the turns before this place are those of a legal journal, after which the turn there isn't enabled,
--- and is a third signal or not
+-- with this reporter the turns before this place are those of a legal journal, after which the turn there isn't
+-- enabled, and is a third signal or not
 abbrev pub Stops : Settings → List Turn → (ℕ → Bool) → ℕ → Bool → Type 0
 Stops p turns refuses place third =
     (journal : List Entry) × IsJournalOf p (take place turns) refuses journal

@@ -1,5 +1,6 @@
 -- The delays before further attempts, by a unit's own turns, and as they are told with the attempts that failed.
-use Rattle.std.specs.Prelude.{ℕ, ◌≡◌, ◌+◌, ◌==◌, List, [], ◌∷◌, ◌++◌, length, if◌then◌else◌, Option, Some, None, option_to_list}
+use Rattle.std.specs.Prelude.{ℕ, ◌≡◌, ◌+◌, ◌==◌, List, [], ◌∷◌, ◌++◌, length, if◌then◌else◌, Option, Some, None}
+use Rattle.std.specs.Prelude.{option_to_list}
 use Rattle.std.specs.Prelude.{filter_map}
 use Rattle.run_events.specs.declared.settings.Settings.{Settings}
 use Rattle.run_events.specs.declared.message.Message.{Message}
@@ -17,8 +18,8 @@ use Rattle.run_model.specs.Journal.{IsLegal, past_of}
 use Rattle.run_model.specs.Story.{Attempt, cut}
 use Rattle.run_model.specs.Words.{queue, sub_run, told}
 
--- the delay after the newest of some attempts, where it is decided that it is tried again; and those after all of them, in
--- order
+-- the delay after the newest of some attempts, where it is decided that it is tried again; and those after all of them,
+-- in order
 abbrev pub delay_next : AttemptTerms → List Attempt → Option ℕ
 delay_next terms [] = None
 delay_next terms (cut piece [] ∷ earlier) = None
@@ -51,8 +52,8 @@ delay_told k _ = None
 abbrev pub delays_told : ℕ → List ReporterEvent → List ℕ
 delays_told k events = filter_map (delay_told k) events
 
--- the delays that were told with the failed attempts of a unit, followed by those that wait to be told, are those of its own
--- turns: those that the statuses of its further attempts have
+-- the delays that were told with the failed attempts of a unit, followed by those that wait to be told, are those of
+-- its own turns: those that the statuses of its further attempts have
 abbrev pub AreDelaysOwn : Settings → List Happening → ℕ → Type 0
 AreDelaysOwn p run k =
     delays_told k (told run) ++ delays_waiting k (queue run) ≡ delays_by (unit_terms p k) (pieces_of k run)

@@ -17,7 +17,8 @@ finished_with [] = None
 finished_with (finished ss ∷ news) = Some ss
 finished_with (n ∷ news) = finished_with news
 
--- those told as they ended are the first of its attempts by its own turns, each once; and a finish is told with just those
+-- those told as they ended are the first of its attempts by its own turns, each once; and a finish is told with just
+-- those
 pub record IsToldOnce (p : Settings) (run : List Happening) (k : ℕ) : Type 0 where
   pub once : Extends (told_ended (account_of k (told run))) (statuses_of p k run)
   pub finish : IfSome (finished_with (account_of k (told run))) (λ ss. told_ended (account_of k (told run)) ≡ ss)

@@ -19,6 +19,7 @@ use Rattle.run_model.specs.Dispatch.{heard_by, takes_signal, go_of, CanDeliver}
 use Rattle.run_model.specs.Board.{Board, board, unit_in}
 use Rattle.run_model.specs.Turns.{starting, enabled, turn_of_unit, oldest_of}
 use Rattle.run_model.specs.Journal.{past_of, IsLegal}
+use Rattle.run_model.specs.Turns.{index_of}
 
 -- neither the dispatcher nor a unit took a turn later than the clock is
 pub record IsTimelyBoard (b : Board) : Type 0 where
@@ -46,12 +47,17 @@ CanDeliverOldest b (m ∷ rest) = CanDeliver b.dispatcher m × CanAnswer b (star
 
 -- the next script or test can be admitted
 pub record CanAdmit (p : Settings) (b : Board) : Type 0 where
-  pub candidate : is_some (newcomer p b.units) ≡ true
+  pub candidate : is_some (newcomer p (index_of b.dispatcher) b.units) ≡ true
   pub whole : length b.units ≡ units_in p
 
 -- one more round can be numbered
 abbrev pub HasRound : Board → Type 0
 HasRound b = b.dispatcher.rounds.count + 1 < 2 ^ 32
+
+-- one more sub-run can be counted
+abbrev pub HasSubRun : Board → Type 0
+HasSubRun b =
+    (b.dispatcher.sub_runs.failed ≤ b.dispatcher.sub_runs.ended) × (b.dispatcher.sub_runs.ended + 1 < 2 ^ 32)
 
 -- the oldest answer can be told
 abbrev pub CanAnswerNext : Board → Type 0
@@ -72,7 +78,7 @@ CanRun p b Answer = CanAnswerNext b
 CanRun p b InfoDue = ⊤
 CanRun p b GlobalDue = b.dispatcher.on ≡ true
 CanRun p b ReportCancel = b.dispatcher.on ≡ true
-CanRun p b End = b.dispatcher.on ≡ true
+CanRun p b End = (b.dispatcher.on ≡ true) × HasSubRun b
 CanRun p b _ = ⊥
 
 -- a turn can be taken: none is earlier than the latest that its taker took

@@ -1,5 +1,5 @@
--- The signals that are asked for the child of a unit, and the reports that it is slow, by its own turns alone, and as they
--- were asked and told.
+-- The signals that are asked for the child of a unit, and the reports that it is slow, by its own turns alone, and as
+-- they were asked and told.
 use Rattle.std.specs.Prelude.{ℕ, ◌≡◌, ◌+◌, ◌==◌, List, [], ◌∷◌, ◌++◌, length, Bool, not, ◌&&◌, ◌||◌, if◌then◌else◌}
 use Rattle.std.specs.Prelude.{Option, Some, None, option_map, option_to_list, filter_map}
 use Rattle.std.specs.Option.{option_or}
@@ -26,24 +26,25 @@ use Rattle.run_model.specs.declared.happening.Happening.{Happening}
 use Rattle.run_model.specs.Slow.{slow_time}
 use Rattle.run_model.specs.Terminate.{terminate_method}
 use Rattle.run_model.specs.Story.{OwnTurn, Attempt, cut, any_is}
-use Rattle.run_model.specs.Timing.{ends_wait, signal_of, slow_count, has_timed_out, is_slow_turn, is_timeout, ends_grace}
+use Rattle.run_model.specs.Timing.{ends_wait, signal_of, slow_count, has_timed_out, is_slow_turn, is_timeout}
+use Rattle.run_model.specs.Timing.{ends_grace}
 use Rattle.run_model.specs.Timing.{standing, pauses_in}
 use Rattle.run_model.specs.Attempts.{pieces_of}
 use Rattle.run_model.specs.Admission.{unit_terms}
 use Rattle.run_model.specs.Words.{sub_run, told, queue, asked}
 use Rattle.run_model.specs.Journal.{IsLegal, past_of}
 
--- the signal of a stop or a continue that is taken after these turns: a stop is one where its child is given time to end,
--- or is one that stops with the run; a continue where it is given time to end, or was stopped
+-- the signal of a stop or a continue that is taken after these turns: a stop is one where its child is given time to
+-- end, or is one that stops with the run; a continue where it is given time to end, or was stopped
 abbrev pub job_signal : Bool → SlowTimeout → Option Request → List OwnTurn → Option ChildSignal
 job_signal stops slow (Some (Stop round)) before = if (standing slow before).in_grace || stops then Some Tstp else None
 job_signal stops slow (Some Continue) before =
     if (standing slow before).in_grace || is_paused (pauses_in before) then Some Cont else None
 job_signal stops slow request before = None
 
--- the signal that comes with a turn of an attempt, after the turns before it: where it runs out of time its child is asked
--- to end, or is killed where it is given no time for that; where that time is over it is killed; and else, while it is
--- waited for, it gets the signal of the request that is taken
+-- the signal that comes with a turn of an attempt, after the turns before it: where it runs out of time its child is
+-- asked to end, or is killed where it is given no time for that; where that time is over it is killed; and else, while
+-- it is waited for, it gets the signal of the request that is taken
 abbrev pub signal_with : Bool → SlowTimeout → OwnTurn → List OwnTurn → Option ChildSignal
 signal_with stops slow t before =
     if is_timeout slow t before then Some (End (terminate_method Timeout slow.grace))
@@ -126,8 +127,8 @@ report_of k _ = None
 abbrev pub reports_told : ℕ → List ReporterEvent → List SlowReport
 reports_told k events = filter_map (report_of k) events
 
--- the signals that were asked for the child of a unit are those of its own turns, and so are the slow reports of it that
--- were told, followed by those that wait to be told
+-- the signals that were asked for the child of a unit are those of its own turns, and so are the slow reports of it
+-- that were told, followed by those that wait to be told
 pub record IsReportedByItsTurns (p : Settings) (run : List Happening) (k : ℕ) : Type 0 where
   pub signals : signals_asked k run ≡ signals_by (sends_sigtstp p.interceptor) (unit_terms p k).slow (pieces_of k run)
   pub reports : reports_told k (told run) ++ reports_waiting k (queue run)

@@ -18,8 +18,8 @@ use Rattle.run_model.specs.Story.{never_started, story_of}
 use Rattle.run_model.specs.Words.{sub_run, ended_runs, told, starts, finishes}
 use Rattle.run_laws.specs.Starts.{env_said}
 
--- script k in a sub-run that has ended: it was told started and then finished, with the one attempt that its own turns made,
--- and nothing else of it, or, exactly where a cause came before the delivery of its start, nothing at all
+-- script k in a sub-run that has ended: it was told started and then finished, with the one attempt that its own turns
+-- made, and nothing else of it, or, exactly where a cause came before the delivery of its start, nothing at all
 pub record HasScriptFate (p : Settings) (run : List Happening) (k : ℕ) : Type 0 where
   pub never : never_started k run ≡ true → account_of k (told run) ≡ []
   pub once : never_started k run ≡ false

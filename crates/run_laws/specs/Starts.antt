@@ -1,5 +1,6 @@
 -- The starts of children that are asked, and those of units that are told, as the plan says.
-use Rattle.std.specs.Prelude.{ℕ, zero, suc, ◌≡◌, ◌+◌, ◌-◌, ◌==◌, List, [], ◌∷◌, ◌++◌, map, length, if◌then◌else◌, Option}
+use Rattle.std.specs.Prelude.{ℕ, zero, suc, ◌≡◌, ◌+◌, ◌-◌, ◌==◌, List, [], ◌∷◌, ◌++◌, map, length, if◌then◌else◌}
+use Rattle.std.specs.Prelude.{Option}
 use Rattle.std.specs.Prelude.{Some, None, option_map, unwrap_or, slice_get, filter_map, codes, IfSome}
 use Rattle.std.specs.List.{All, list_any, range_with_len}
 use Rattle.run_commands.specs.Interceptor.{interceptor_words}
@@ -32,6 +33,8 @@ use Rattle.run_model.specs.Attempts.{env_in, pieces_of, statuses_of}
 use Rattle.run_model.specs.Words.{sub_run, told, asked}
 use Rattle.run_model.specs.Journal.{IsLegal, past_of}
 use Rattle.run_laws.specs.Limits.{slots_told}
+use Rattle.run_events.specs.declared.stress.StressIndex.{StressIndex}
+use Rattle.run_model.specs.SubRuns.{stress_index}
 
 -- what came of the environment file of a unit, by its own turns: the newest one that says it
 abbrev pub env_said : List OwnTurn → ScriptEnv
@@ -53,17 +56,17 @@ given_from given numbers k (suc n) =
 abbrev pub given_to : Settings → List Happening → PlanTest → List Variable
 given_to p run test = given_from (λ k. given_by p k run) test.scripts 0 (scripts_in p)
 
--- unit k by the plan, as it begins: a script, or a test in the slots with which it was told started, with what its scripts
--- give to it
-abbrev pub planned_test : Settings → List Happening → ℕ → PlanTest → UnitView
-planned_test p run k test =
-    first_view p k (unwrap_or (slots_told k (told run)) (global_slot 0)) (given_to p run test) test
+-- unit k by the plan, as it begins in such a sub-run of a stress run, if it is one: a script, or a test in the slots
+-- with which it was told started, with what its scripts give to it
+abbrev pub planned_test : Settings → Option StressIndex → List Happening → ℕ → PlanTest → UnitView
+planned_test p index run k test =
+    first_view p index k (unwrap_or (slots_told k (told run)) (global_slot 0)) (given_to p run test) test
 
-abbrev pub planned_unit : Settings → List Happening → ℕ → Option UnitView
-planned_unit p run k =
+abbrev pub planned_unit : Settings → Option StressIndex → List Happening → ℕ → Option UnitView
+planned_unit p index run k =
     if is_script p k
-    then option_map (script_view p k) (slice_get p.plan.scripts k)
-    else option_map (planned_test p run k) (slice_get p.plan.tests (k - scripts_in p))
+    then option_map (script_view p index k) (slice_get p.plan.scripts k)
+    else option_map (planned_test p index run k) (slice_get p.plan.tests (k - scripts_in p))
 
 -- the start of its child for the attempt of this number, and those for the first n attempts
 abbrev pub start_at : UnitView → ℕ → Ask
@@ -95,19 +98,19 @@ start_told _ = None
 abbrev pub message_of : UnitView → Message
 message_of u = start_message u.role u
 
-abbrev pub IsPlannedStart : Settings → List Happening → Message → Type 0
-IsPlannedStart p run m = (k : ℕ) × (option_map message_of (planned_unit p run k) ≡ Some m)
+abbrev pub IsPlannedStart : Settings → Option StressIndex → List Happening → Message → Type 0
+IsPlannedStart p index run m = (k : ℕ) × (option_map message_of (planned_unit p index run k) ≡ Some m)
 
--- for each script and test one start is asked for each attempt that was let go, in order, with the command, the variables,
--- the streams and all else that the plan says; and each start that is told is that of the plan
-pub record AreStartsPlanned (p : Settings) (run : List Happening) : Type 0 where
-  pub asked : (k : ℕ) → starts_asked k run ≡ starts_by (planned_unit p run k) (length (pieces_of k run))
-  pub told : All (λ e. IfSome (start_told e) (IsPlannedStart p run)) (told run)
+-- for each script and test one start is asked for each attempt that was let go, in order, with the command, the
+-- variables, the streams and all else that the plan says; and each start that is told is that of the plan
+pub record AreStartsPlanned (p : Settings) (index : Option StressIndex) (run : List Happening) : Type 0 where
+  pub asked : (k : ℕ) → starts_asked k run ≡ starts_by (planned_unit p index run k) (length (pieces_of k run))
+  pub told : All (λ e. IfSome (start_told e) (IsPlannedStart p index run)) (told run)
 
 -- that holds in the newest sub-run after every legal journal
 abbrev pub StartsArePlanned : Type 0
 StartsArePlanned = (p : Settings) (journal : List Entry) → IsLegal p journal
-    → AreStartsPlanned p (sub_run (past_of p journal))
+    → AreStartsPlanned p (stress_index p (past_of p journal)) (sub_run (past_of p journal))
 
 -- the words of a start that is asked, and the names of its variables, in order
 abbrev pub command_asked : Ask → List (List ℕ)
@@ -134,16 +137,18 @@ script_names =
 abbrev pub version_names : Settings → List (List ℕ)
 version_names p = map (λ v. v.0) (version_pairs p.plan.head.versions)
 
--- a test's child is started with the words of the interceptor, then those of its platform's runner, then its own; a script's
--- with its own alone. Their variables have these names, a test's last those that its scripts handed on
+-- a test's child is started with the words of the interceptor, then those of its platform's runner, then its own; a
+-- script's with its own alone. Their variables have these names, a test's last those that its scripts handed on
 pub record StartsHaveWords : Type 0 where
-  pub test : (p : Settings) (k : ℕ) (slot : TestSlotAssignment) (handed : List Variable) (test : PlanTest) (n : ℕ)
-      → command_asked (start_at (first_view p k slot handed test) n)
+  pub test : (p : Settings) (index : Option StressIndex) (k : ℕ) (slot : TestSlotAssignment) (handed : List Variable)
+      (test : PlanTest) (n : ℕ)
+      → command_asked (start_at (first_view p index k slot handed test) n)
       ≡ interceptor_words p.interceptor ++ (runner_words (runner_for p.plan.runners test.platform) ++ test.command)
-  pub test_variables : (p : Settings) (k : ℕ) (slot : TestSlotAssignment) (handed : List Variable) (test : PlanTest) (n : ℕ)
-      → names_asked (start_at (first_view p k slot handed test) n)
+  pub test_variables : (p : Settings) (index : Option StressIndex) (k : ℕ) (slot : TestSlotAssignment)
+      (handed : List Variable) (test : PlanTest) (n : ℕ)
+      → names_asked (start_at (first_view p index k slot handed test) n)
       ≡ test_names ++ (version_names p ++ map (λ v. v.0) handed)
-  pub script : (p : Settings) (k : ℕ) (script : PlanScript) (n : ℕ)
-      → command_asked (start_at (script_view p k script) n) ≡ script.command
-  pub script_variables : (p : Settings) (k : ℕ) (script : PlanScript) (n : ℕ)
-      → names_asked (start_at (script_view p k script) n) ≡ script_names ++ version_names p
+  pub script : (p : Settings) (index : Option StressIndex) (k : ℕ) (script : PlanScript) (n : ℕ)
+      → command_asked (start_at (script_view p index k script) n) ≡ script.command
+  pub script_variables : (p : Settings) (index : Option StressIndex) (k : ℕ) (script : PlanScript) (n : ℕ)
+      → names_asked (start_at (script_view p index k script) n) ≡ script_names ++ version_names p

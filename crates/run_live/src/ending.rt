@@ -1,5 +1,6 @@
 // What a run leaves once all threads have ended.
-ghost use Rattle.std.specs.Prelude.{◌≡◌, ◌≢◌, ◌+◌, ◌<◌, ℕ, [], IfOk, IfSome, IsSome, IsNone, IsTrue, ◌↔◌, Some, None, length};
+ghost use Rattle.std.specs.Prelude.{◌≡◌, ◌≢◌, ◌+◌, ◌<◌, ℕ, [], IfOk, IfSome, IsSome, IsNone, IsTrue, ◌↔◌, Some, None};
+ghost use Rattle.std.specs.Prelude.{length};
 ghost use Rattle.std.specs.List.{All, sum_by};
 ghost use Rattle.run_shared.specs.Receipts.{concatenated, receipt_numbers, times, StandsIn};
 ghost use Rattle.run_shared.specs.Closed.{IsLeft, Refuses};

@@ -4,8 +4,8 @@ use run_events::{AskList, RunOutcome};
 use run_model::Entry;
 use run_shared::{CloseError, Receipt};
 
-/// What a run of real children leaves: its closed journal, one list of receipts for each worker in their order and a last
-/// one of the ticker, the workers, and why the receipts were refused, if they were.
+/// What a run of real children leaves: its closed journal, one list of receipts for each worker in their order and a
+/// last one of the ticker, the workers, and why the receipts were refused, if they were.
 #[derive(Drop)]
 pub struct Live<W> {
     pub journal: List<Entry>,
@@ -14,8 +14,8 @@ pub struct Live<W> {
     pub error: Option<CloseError>,
 }
 
-/// What else it leaves: what was asked, the outcome if the run is over, and the reporter. Where the receipts were refused
-/// there is no ask and no outcome.
+/// What else it leaves: what was asked, the outcome if the run is over, and the reporter. Where the receipts were
+/// refused there is no ask and no outcome.
 #[derive(Drop)]
 pub struct Lived<W, R> {
     pub live: Live<W>,

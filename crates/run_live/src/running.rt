@@ -183,9 +183,9 @@ where
     }
 }
 
-/// Runs a plan with real children: the host makes a spawner for each worker and a ticker, each runs on a thread of its own,
-/// and once all have ended the receipts are compared with the journal. Without a worker no child starts. Where memory was
-/// wanting the reporter alone comes back, and no thread is left.
+/// Runs a plan with real children: the host makes a spawner for each worker and a ticker, each runs on a thread of its
+/// own, and once all have ended the receipts are compared with the journal. Without a worker no child starts. Where
+/// memory was wanting the reporter alone comes back, and no thread is left.
 pub fn live<H: Host, R: Reporter + Send, X: Threads + Wait + Sync>(
     rt: &X,
     alloc: Global,

@@ -3,7 +3,8 @@ use Rattle.std.proofs.Common.{ℕ, ◌≡◌, ◌+◌, ◌-◌, ◌≤◌, ◌�
 use Rattle.std.proofs.Common.{Some, None, is_some, unwrap_or, refl, ap, sym, ◌∙◌, arith}
 use Rattle.run_clock.specs.declared.sleep_state.SleepState.{SleepState}
 use Rattle.run_clock.specs.declared.sleep_state.SleepState.TheVariants.{Running, Paused}
-use Rattle.run_clock.specs.Counted.{Mark, Timer, pause, resume, mark_of, is_paused, IsInOrder, counted_time, marked, is_due}
+use Rattle.run_clock.specs.Counted.{Mark, Timer, pause, resume, mark_of, is_paused, IsInOrder, counted_time, marked}
+use Rattle.run_clock.specs.Counted.{is_due}
 use Rattle.run_clock.specs.Sleep.{Sleep, set_at, is_stopped, remaining_at, paused_at, resumed_at, fires_at, Keeps}
 use Rattle.run_clock.specs.Stopwatch.{Watch, started_at, active_by, Times}
 use Rattle.run_model.specs.Pauses.{watch_paused, watch_closed, watch_resumed, sleep_paused, sleep_resumed}
@@ -27,7 +28,8 @@ stopped_paused : (state : SleepState) (now : ℕ) → is_stopped (paused_at stat
 stopped_paused (Running deadline) now = refl
 stopped_paused (Paused remaining) now = refl
 
-remains_paused : (state : SleepState) (now later : ℕ) → remaining_at (paused_at state now) later ≡ remaining_at (paused_at state now) now
+remains_paused : (state : SleepState) (now later : ℕ)
+    → remaining_at (paused_at state now) later ≡ remaining_at (paused_at state now) now
 remains_paused (Running deadline) now later = refl
 remains_paused (Paused remaining) now later = refl
 
@@ -77,7 +79,8 @@ fires_as : (timer : Timer) (state : SleepState) (now : ℕ) → is_stopped state
 fires_as timer (Running deadline) now stopped remains =
     rw (sym stopped) (by_order (counted_time timer.set timer.past now) remains)
   where
-    by_order : (counted : ℕ) → deadline - now ≡ timer.duration - counted → nat_le deadline now ≡ nat_le timer.duration counted
+    by_order : (counted : ℕ) → deadline - now ≡ timer.duration - counted
+        → nat_le deadline now ≡ nat_le timer.duration counted
     by_order counted is = grind arith
 fires_as timer (Paused remaining) now stopped remains = rw (sym stopped) refl
 

@@ -130,8 +130,8 @@ IsDone true ss t q = HasLast ss (λ early s. AreTold (started ∷ tried early ++
 IsDone false [] t q = AreTold [] [] t q
 IsDone false (s ∷ ss) t q = HasLast (s ∷ ss) (IsFinishing (s ∷ ss) t q)
 
--- what was told of a script or a matched test and what waits to be told, by whether it was left, its phase and its ended
--- attempts
+-- what was told of a script or a matched test and what waits to be told, by whether it was left, its phase and its
+-- ended attempts
 abbrev pub HasAccountIn : Bool → Phase → List ExecuteStatus → List News → List News → Type 0
 HasAccountIn left StartSent ss t q = (ss ≡ []) × AreTold [] (started ∷ []) t q
 HasAccountIn left Starting ss t q = AreTold (started ∷ tried ss) [] t q

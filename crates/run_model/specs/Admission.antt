@@ -1,7 +1,9 @@
--- What an admission makes: the next setup script, or the test that is next by the rule of `run_admission`, and the unit that
--- it begins as.
-use Rattle.std.specs.Prelude.{ℕ, ◌+◌, ◌<◌, ◌^◌, List, [], ◌∷◌, ◌++◌, Bool, true, false, if◌then◌else◌, Option, Some, None, option_map}
-use Rattle.std.specs.Prelude.{option_and_then, map, length, take, drop, count_by, is_none, slice_get, unwrap_or, not, ◌&&◌}
+-- What an admission makes: the next setup script, or the test that is next by the rule of `run_admission`, and the unit
+-- that it begins as.
+use Rattle.std.specs.Prelude.{ℕ, ◌+◌, ◌<◌, ◌^◌, List, [], ◌∷◌, ◌++◌, Bool, true, false, if◌then◌else◌, Option, Some}
+use Rattle.std.specs.Prelude.{None, option_map}
+use Rattle.std.specs.Prelude.{option_and_then, map, length, take, drop, count_by, is_none, slice_get, unwrap_or, not}
+use Rattle.std.specs.Prelude.{◌&&◌}
 use Rattle.std.specs.Prelude.{◌-◌, ◌==◌, nat_lt}
 use Rattle.std.specs.List.{list_all, list_any}
 use Rattle.run_commands.specs.Interceptor.{disables_timeouts, skips_leak_detection, has_process_group}
@@ -15,6 +17,7 @@ use Rattle.run_capture.specs.declared.test_output.CaptureStrategy.TheVariants as
 use Rattle.run_capture.specs.Captured.{begun}
 use Rattle.run_events.specs.Usual.{usual_slow, usual_leak, no_retries}
 use Rattle.run_events.specs.declared.settings.Settings.{Settings}
+use Rattle.run_events.specs.declared.stress.StressIndex.{StressIndex}
 use Rattle.run_events.specs.declared.result.FlakyResult.{FlakyResult}
 use Rattle.run_events.specs.declared.result.ScriptEnv.{ScriptEnv}
 use Rattle.run_events.specs.declared.result.ScriptEnv.TheVariants.{Unread, Variables}
@@ -55,7 +58,8 @@ abbrev pub is_done : Option UnitView → Bool
 is_done None = false
 is_done (Some u) = is_last u.phase
 
--- what a test holds of the limits: it waits until it is admitted, and holds its slots until it is over. A script holds none
+-- what a test holds of the limits: it waits until it is admitted, and holds its slots until it is over. A script holds
+-- none
 abbrev pub seat_as : UnitRole → Seat
 seat_as (roles.Test t) = InUse t.slot.global (option_map (λ g. g.slot) t.slot.group)
 seat_as (roles.Script s) = Gone
@@ -67,6 +71,11 @@ seat_of (Some u) = if is_last u.phase then Gone else seat_as u.role
 -- whether a planned test matches, and so is to run
 abbrev pub is_matched : PlanTest → Bool
 is_matched test = is_none test.skip
+
+-- which sub-run of a stress run a unit is of, if it is of one
+abbrev pub index_of_role : UnitRole → Option StressIndex
+index_of_role (roles.Test t) = t.test.stress_index
+index_of_role (roles.Script s) = s.script.stress_index
 
 -- how many setup scripts, tests and units the plan has
 abbrev pub scripts_in : Settings → ℕ
@@ -225,56 +234,57 @@ begun_view role command around terms = record {
 }
 
 -- a test as a unit of this number, as it begins in this slot, where its scripts handed these variables on
-abbrev pub test_role : Settings → ℕ → TestSlotAssignment → List Variable → PlanTest → UnitRole
-test_role p k slot handed test = roles.Test (record {
-  test = record { unit = k; id = test.id; stress_index = None };
+abbrev pub test_role : Settings → Option StressIndex → ℕ → TestSlotAssignment → List Variable → PlanTest → UnitRole
+test_role p index k slot handed test = roles.Test (record {
+  test = record { unit = k; id = test.id; stress_index = index };
   slot = slot;
   flaky = flaky_of p test;
   handed = handed;
 })
 
-abbrev pub first_view : Settings → ℕ → TestSlotAssignment → List Variable → PlanTest → UnitView
-first_view p k slot handed test =
-    begun_view (test_role p k slot handed test) (command_of p test) (surroundings_of p) (terms_of p test)
+abbrev pub first_view : Settings → Option StressIndex → ℕ → TestSlotAssignment → List Variable → PlanTest → UnitView
+first_view p index k slot handed test =
+    begun_view (test_role p index k slot handed test) (command_of p test) (surroundings_of p) (terms_of p test)
 
 -- a skipped test as a unit: over from its admission, so it holds no slot, whatever its number
-abbrev pub skipped_view : Settings → ℕ → PlanTest → UnitView
-skipped_view p k test = record (first_view p k (global_slot 0) [] test) { phase = Over }
+abbrev pub skipped_view : Settings → Option StressIndex → ℕ → PlanTest → UnitView
+skipped_view p index k test = record (first_view p index k (global_slot 0) [] test) { phase = Over }
 
 -- a script as a unit, as it begins: its number is its place
-abbrev pub script_role : Settings → ℕ → PlanScript → UnitRole
-script_role p i script = roles.Script (record {
+abbrev pub script_role : Settings → Option StressIndex → ℕ → PlanScript → UnitRole
+script_role p index i script = roles.Script (record {
   script = record {
     unit = i;
     id = script.id;
     index = i;
     total = scripts_in p;
     no_capture = not (script.capture_stdout && script.capture_stderr);
-    stress_index = None;
+    stress_index = index;
   };
   env_path = script.env_path;
 })
 
-abbrev pub script_view : Settings → ℕ → PlanScript → UnitView
-script_view p i script =
-    begun_view (script_role p i script) script.command (script_surroundings p) (script_terms p script)
+abbrev pub script_view : Settings → Option StressIndex → ℕ → PlanScript → UnitView
+script_view p index i script =
+    begun_view (script_role p index i script) script.command (script_surroundings p) (script_terms p script)
 
 -- the message of a unit's start, and that of a test's skip for a reason
 abbrev pub start_message : UnitRole → UnitView → Message
 start_message (roles.Test t) u = Start (test_start t u)
 start_message (roles.Script s) u = ScriptStart (script_start s u)
 
-abbrev pub skip_message : ℕ → PlanTest → List ℕ → Message
-skip_message k test reason =
-    Skip (record { test = record { unit = k; id = test.id; stress_index = None }; reason = reason })
+abbrev pub skip_message : Option StressIndex → ℕ → PlanTest → List ℕ → Message
+skip_message index k test reason =
+    Skip (record { test = record { unit = k; id = test.id; stress_index = index }; reason = reason })
 
 -- what an admission makes: a unit, and the message that it sends
 pub record Newcomer : Type 0 where
   pub unit : UnitView
   pub sent : Message
 
-abbrev pub skipped_newcomer : Settings → ℕ → PlanTest → List ℕ → Newcomer
-skipped_newcomer p k test reason = record { unit = skipped_view p k test; sent = skip_message k test reason }
+abbrev pub skipped_newcomer : Settings → Option StressIndex → ℕ → PlanTest → List ℕ → Newcomer
+skipped_newcomer p index k test reason =
+    record { unit = skipped_view p index k test; sent = skip_message index k test reason }
 
 abbrev pub started_newcomer : UnitView → Newcomer
 started_newcomer u = record { unit = u; sent = start_message u.role u }
@@ -289,9 +299,9 @@ limits_of p us = record {
 }
 
 -- a test that doesn't match is skipped
-abbrev pub newcomer_skipped : Settings → ℕ → PlanTest → Option (List ℕ) → Option Newcomer
-newcomer_skipped p j test (Some reason) = Some (skipped_newcomer p (unit_of_test p j) test reason)
-newcomer_skipped p j test None = None
+abbrev pub newcomer_skipped : Settings → Option StressIndex → ℕ → PlanTest → Option (List ℕ) → Option Newcomer
+newcomer_skipped p index j test (Some reason) = Some (skipped_newcomer p index (unit_of_test p j) test reason)
+newcomer_skipped p index j test None = None
 
 -- the variables that a script handed on: none where it gave none
 abbrev pub variables_of : ScriptEnv → List Variable
@@ -317,11 +327,12 @@ abbrev pub handed_to : Settings → List (Option UnitView) → PlanTest → List
 handed_to p us test = handed_from test.scripts 0 (scripts_of p us)
 
 -- what an admission makes of a test of the plan: it is skipped, or starts in its slots
-abbrev pub newcomer_as : Settings → List (Option UnitView) → Admitted → Option PlanTest → Option Newcomer
-newcomer_as p us _ None = None
-newcomer_as p us (Skipped j) (Some test) = newcomer_skipped p j test test.skip
-newcomer_as p us (Run j global slot) (Some test) = Some (started_newcomer
-    (first_view p (unit_of_test p j) (slots_of test global slot) (handed_to p us test) test))
+abbrev pub newcomer_as : Settings → Option StressIndex → List (Option UnitView) → Admitted → Option PlanTest
+    → Option Newcomer
+newcomer_as p index us _ None = None
+newcomer_as p index us (Skipped j) (Some test) = newcomer_skipped p index j test test.skip
+newcomer_as p index us (Run j global slot) (Some test) = Some (started_newcomer
+    (first_view p index (unit_of_test p j) (slots_of test global slot) (handed_to p us test) test))
 
 -- the test that is admitted
 abbrev pub test_of : Admitted → ℕ
@@ -329,9 +340,9 @@ test_of (Skipped j) = j
 test_of (Run j global slot) = j
 
 -- what the next admission makes of a test, where one can be admitted
-abbrev pub test_newcomer : Settings → List (Option UnitView) → Option Newcomer
-test_newcomer p us =
-    option_and_then (λ a. newcomer_as p us a (slice_get p.plan.tests (test_of a))) (admitted (limits_of p us))
+abbrev pub test_newcomer : Settings → Option StressIndex → List (Option UnitView) → Option Newcomer
+test_newcomer p index us =
+    option_and_then (λ a. newcomer_as p index us a (slice_get p.plan.tests (test_of a))) (admitted (limits_of p us))
 
 -- the place of the first of some scripts that wasn't admitted, where each before it is over
 abbrev pub open_script : List (Option UnitView) → Option ℕ
@@ -340,17 +351,18 @@ open_script (None ∷ us) = Some 0
 open_script (Some u ∷ us) = if is_last u.phase then option_map (λ i. i + 1) (open_script us) else None
 
 -- what an admission makes of the script at a place
-abbrev pub script_newcomer : Settings → ℕ → Option PlanScript → Option Newcomer
-script_newcomer p i None = None
-script_newcomer p i (Some script) = Some (started_newcomer (script_view p i script))
+abbrev pub script_newcomer : Settings → Option StressIndex → ℕ → Option PlanScript → Option Newcomer
+script_newcomer p index i None = None
+script_newcomer p index i (Some script) = Some (started_newcomer (script_view p index i script))
 
 -- all scripts are over: tests come after them
 abbrev pub scripts_over : Settings → List (Option UnitView) → Bool
 scripts_over p us = list_all is_done (scripts_of p us)
 
--- what the next admission makes: a script once those before it are over, and a test once all are
-abbrev pub newcomer : Settings → List (Option UnitView) → Option Newcomer
-newcomer p us =
+-- what the next admission makes in such a sub-run of a stress run, if it is one: a script once those before it are
+-- over, and a test once all are
+abbrev pub newcomer : Settings → Option StressIndex → List (Option UnitView) → Option Newcomer
+newcomer p index us =
     if scripts_over p us
-    then test_newcomer p us
-    else option_and_then (λ i. script_newcomer p i (slice_get p.plan.scripts i)) (open_script (scripts_of p us))
+    then test_newcomer p index us
+    else option_and_then (λ i. script_newcomer p index i (slice_get p.plan.scripts i)) (open_script (scripts_of p us))

@@ -106,8 +106,9 @@ are_streams_done (captured.Apart stdout stderr) piece =
     (not stdout || is_stream_done Stdout piece) && (not stderr || is_stream_done Stderr piece)
 are_streams_done captured.Combined piece = is_stream_done Combined piece
 
--- what its child's end makes its result: it failed to run where its start was refused, and is a timeout where it has run
--- out of time, whatever its exit and its errors; else it is as its child ended, by its errors and by whether it leaked
+-- what its child's end makes its result: it failed to run where its start was refused, and is a timeout where it has
+-- run out of time, whatever its exit and its errors; else it is as its child ended, by its errors and by whether it
+-- leaked
 abbrev pub result_by : AttemptTerms → List OwnTurn → Option (List ℕ) → ExecutionResult
 result_by terms piece (Some error) = ExecFail
 result_by terms piece None =
@@ -135,8 +136,8 @@ abbrev pub result_in : AttemptTerms → List OwnTurn → ExecutionResult
 result_in terms piece =
     if is_fault (env_by piece) then ExecFail else result_by terms piece (start_error_of piece)
 
--- its child is done with where its start was refused, or it is waited for no more and its streams aren't waited for, are
--- done, or were waited for as long as they may be
+-- its child is done with where its start was refused, or it is waited for no more and its streams aren't waited for,
+-- are done, or were waited for as long as they may be
 abbrev pub is_settled : AttemptTerms → List OwnTurn → Bool
 is_settled terms piece =
     is_some (start_error_of piece)
@@ -174,8 +175,8 @@ abbrev pub output_by : Option (List ℕ) → ChildOutput → List ChildFdError �
 output_by (Some error) output errors = StartError error
 output_by None output errors = Output output errors
 
--- the status of a piece as the attempt of this number, after this delay, on these terms: it is slow where it was so once at
--- least
+-- the status of a piece as the attempt of this number, after this delay, on these terms: it is slow where it was so
+-- once at least
 abbrev pub status_of : AttemptTerms → ℕ → ℕ → List OwnTurn → ExecuteStatus
 status_of terms delay attempt piece = record {
   attempt = attempt;
@@ -248,8 +249,8 @@ delay_timer retries after attempts = record {
   past = pauses_in after;
 }
 
--- whether the timer of an attempt is due at a moment, whose child isn't done with, or after which a delay passes: it has
--- none from there until it is decided that it is tried again
+-- whether the timer of an attempt is due at a moment, whose child isn't done with, or after which a delay passes: it
+-- has none from there until it is decided that it is tried again
 abbrev pub is_due_in : AttemptTerms → ℕ → List Attempt → Bool
 is_due_in terms now [] = false
 is_due_in terms now (cut piece [] ∷ earlier) =

@@ -1,5 +1,6 @@
 -- The delays before the retries of a test.
-use Rattle.std.specs.Prelude.{ℕ, ◌+◌, ◌-◌, ◌*◌, ◌/◌, ◌^◌, ◌<◌, ◌≤◌, min, nat_lt, Bool, if◌then◌else◌, Option, Some, None}
+use Rattle.std.specs.Prelude.{ℕ, ◌+◌, ◌-◌, ◌*◌, ◌/◌, ◌^◌, ◌<◌, ◌≤◌, min, nat_lt, Bool, if◌then◌else◌, Option, Some}
+use Rattle.std.specs.Prelude.{None}
 use Rattle.run_events.specs.declared.retry_policy.RetryPolicy.{RetryPolicy}
 use Rattle.run_events.specs.declared.retry_policy.RetryPolicy.TheVariants.{Fixed, Exponential}
 
@@ -22,8 +23,8 @@ abbrev pub whole_delay : RetryPolicy → ℕ → ℕ
 whole_delay (Fixed count delay jitter) n = delay
 whole_delay (Exponential count delay jitter most) n = capped most (min (delay * 2 ^ n) (2 ^ 64 - 1))
 
--- the least whole number that is not below this part of a delay, by a random word of 32 bits: more than a half of it, and at
--- most all of it
+-- the least whole number that is not below this part of a delay, by a random word of 32 bits: more than a half of it,
+-- and at most all of it
 abbrev pub jittered : ℕ → ℕ → ℕ
 jittered word delay = (delay * (2 ^ 32 + word + 1) + (2 ^ 33 - 1)) / 2 ^ 33
 

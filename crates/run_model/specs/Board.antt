@@ -1,7 +1,7 @@
 -- The board: what a turn may read of a run, and what a deed does to it.
 use Rattle.std.specs.Prelude.{ℕ, ◌+◌, ◌||◌, ◌&&◌, not, List, [], ◌++◌, map, filter_map, drop, Bool, if◌then◌else◌}
 use Rattle.std.specs.Prelude.{Option, Some, None}
-use Rattle.std.specs.Prelude.{option_map, option_to_list, is_some, slice_index_or, slice_set}
+use Rattle.std.specs.Prelude.{option_map, option_to_list, is_some, slice_index_or, slice_set, false}
 use Rattle.std.specs.List.{list_any}
 use Rattle.run_events.specs.Cancel.{greater}
 use Rattle.run_events.specs.declared.request.Request.{Request}
@@ -17,6 +17,7 @@ use Rattle.run_model.specs.declared.dispatcher_view.CancelRules.{CancelRules}
 use Rattle.run_model.specs.declared.dispatcher_view.Causes.{Causes}
 use Rattle.run_model.specs.declared.dispatcher_view.DispatcherView.{DispatcherView}
 use Rattle.run_model.specs.declared.dispatcher_view.Rounds.{Rounds}
+use Rattle.run_model.specs.declared.dispatcher_view.SubRuns.{SubRuns}
 use Rattle.run_model.specs.declared.dispatcher_view.Tally.{Tally}
 use Rattle.run_model.specs.declared.happening.Happening.{Happening}
 use Rattle.run_model.specs.declared.happening.UnitPart.{UnitPart}
@@ -24,11 +25,17 @@ use Rattle.run_model.specs.declared.happening.UnitPart.TheVariants.{Joins, Acts}
 use Rattle.run_model.specs.declared.unit_view.UnitView.{UnitView}
 use Rattle.run_model.specs.Environment.{number}
 use Rattle.run_model.specs.Unit.{row, reached}
-use Rattle.run_model.specs.Words.{clock, ns_of, is_on, is_over, sub_run, heard, queue, units, tally, was_refused, armed}
+use Rattle.run_model.specs.Words.{clock, ns_of, is_on, is_over, sub_run, heard, queue, units, tally, told, was_refused}
+use Rattle.run_model.specs.Words.{armed}
+use Rattle.run_model.specs.Words.{initial_stats}
 use Rattle.run_model.specs.Words.{is_by_signal, is_by_report, is_by_time, causes_of}
-use Rattle.run_model.specs.Rounds.{act_of, asked_by, of_told, tells_answer, moves_time, global_act, watch_after, timer_after}
+use Rattle.run_model.specs.Rounds.{act_of, asked_by, of_told, tells_answer, moves_time, global_act, watch_after}
+use Rattle.run_model.specs.Rounds.{timer_after}
 use Rattle.run_model.specs.Rounds.{run_watch, opens_round, closes_round, rounds_of, answer_of, answers_waiting}
-use Rattle.run_model.specs.Dispatch.{head_of, rules_of, having_told}
+use Rattle.run_clock.specs.Stopwatch.{Watch, started_at}
+use Rattle.run_model.specs.Dispatch.{head_of, rules_of, no_causes, no_rounds, tally_from, having_told}
+use Rattle.run_model.specs.Reruns.{unseen_by, unseen_among}
+use Rattle.run_model.specs.SubRuns.{with_sub_run, sub_runs_of, sub_run_watch}
 
 -- what a turn may read: the units, the messages and the answers that wait, the dispatcher, the clock, and whether the
 -- reporter refused an event
@@ -40,17 +47,22 @@ pub record Board : Type 0 where
   pub clock : ℕ
   pub refused : Bool
 
--- the dispatcher and the board after a history, by words: what a turn reads is of the newest sub-run
+-- the dispatcher and the board after a history, by words: of the newest sub-run, but for the run's stopwatch, the
+-- sub-runs that have ended, and the tests that were seen
 abbrev pub dispatcher_of : Settings → List Happening → DispatcherView
 dispatcher_of p past = record {
   head = head_of p;
   rules = rules_of p;
+  initial = initial_stats p;
   on = is_on (sub_run past);
   over = is_over past;
   causes = causes_of p (sub_run past);
   tally = tally p (sub_run past);
   watch = run_watch past;
-  rounds = rounds_of past;
+  rounds = rounds_of (sub_run past);
+  sub_runs = sub_runs_of p past;
+  sub_run_watch = sub_run_watch past;
+  rerun = unseen_by p (told past);
   latest = heard (sub_run past);
 }
 
@@ -58,7 +70,7 @@ abbrev pub board : Settings → List Happening → Board
 board p past = record {
   units = units p (sub_run past);
   queue = queue (sub_run past);
-  answers = answers_waiting past;
+  answers = answers_waiting (sub_run past);
   dispatcher = dispatcher_of p past;
   clock = clock past;
   refused = was_refused past;
@@ -75,7 +87,7 @@ pub record Deed : Type 0 where
   pub info : List (ℕ × InfoResponse)
   pub taken : Bool
   pub told : Option ReporterEvent
-  pub cancel : Option ReporterEvent
+  pub after : Option ReporterEvent
   pub asked : Option Ask
   pub cause : Option CancelReason
   pub request : Option Request
@@ -95,7 +107,7 @@ said now e d = record {
   info = d.info;
   taken = d.taken;
   told = d.told;
-  cancel = d.cancel;
+  after = d.after;
   asked = d.asked;
   cause = d.cause;
   request = d.request;
@@ -107,7 +119,7 @@ said now e d = record {
 
 -- the events that a deed tells
 abbrev pub deed_events : Deed → List ReporterEvent
-deed_events d = option_to_list d.told ++ option_to_list d.cancel
+deed_events d = option_to_list d.told ++ option_to_list d.after
 
 -- the list of units after the part that one had in a turn
 abbrev pub units_after : ℕ → Option UnitPart → List (Option UnitView) → List (Option UnitView)
@@ -158,17 +170,35 @@ abbrev pub is_noted : Deed → Bool
 is_noted deed =
     deed.begins || deed.ends || deed.taken || is_some deed.cause || moves_time deed.stops deed.told
 
--- the dispatcher after a deed at a moment
-abbrev pub dispatched : ℕ → DispatcherView → Deed → DispatcherView
-dispatched now d deed = record d {
+-- the sub-runs that have ended after a deed, and the stopwatch of the sub-run, which starts anew where one ends
+abbrev pub sub_runs_after : Tally → SubRuns → Deed → SubRuns
+sub_runs_after t runs deed = if deed.ends then with_sub_run t.stats runs else runs
+
+abbrev pub sub_run_watch_after : ℕ → Watch → Deed → Watch
+sub_run_watch_after now watch deed =
+    if deed.ends then started_at now else watch_after now (global_act deed.stops deed.told) watch
+
+-- the dispatcher as a sub-run begins: nothing came of it yet
+abbrev pub cleared : DispatcherView → DispatcherView
+cleared d = record d { on = false; causes = no_causes; tally = tally_from d.initial; rounds = no_rounds; latest = 0 }
+
+-- the dispatcher after a deed at a moment of the sub-run that is on, or that begins with it
+abbrev pub dispatched_in : ℕ → DispatcherView → Deed → DispatcherView
+dispatched_in now d deed = record d {
   on = not deed.ends && (deed.begins || d.on);
   over = deed.over || d.over;
   causes = causes_after now d.rules d.causes deed;
-  tally = with_cause deed.cause (having_told (having_told d.tally deed.told) deed.cancel);
+  tally = with_cause deed.cause (having_told (having_told d.tally deed.told) deed.after);
   watch = watch_after now (act_of deed.told) d.watch;
   rounds = rounds_after now d.rounds deed;
+  sub_runs = sub_runs_after d.tally d.sub_runs deed;
+  sub_run_watch = sub_run_watch_after now d.sub_run_watch deed;
+  rerun = option_map (unseen_among (deed_events deed)) d.rerun;
   latest = if is_noted deed then now else d.latest;
 }
+
+abbrev pub dispatched : ℕ → DispatcherView → Deed → DispatcherView
+dispatched now d deed = dispatched_in now (if deed.begins then cleared d else d) deed
 
 -- the answers that wait after a deed, of a round that asks this: with a new round, and where one closes, none do
 abbrev pub answers_after : Option Request → Deed → List InfoResponse → List InfoResponse
@@ -176,16 +206,23 @@ answers_after asks deed waiting =
     if opens_round deed.request || closes_round deed.stops deed.told then []
     else drop (if tells_answer deed.told then 1 else 0) waiting ++ filter_map (answer_of asks) deed.info
 
+-- the board as a sub-run begins: no unit was admitted, and nothing waits
+abbrev pub anew : Board → Board
+anew b = record b { units = map (λ u. None) b.units; queue = []; answers = []; dispatcher = cleared b.dispatcher }
+
 -- the board after a deed
-abbrev pub moved : Board → Deed → Board
-moved b d = record {
+abbrev pub moved_in : Board → Deed → Board
+moved_in b d = record {
   units = reach_all d.request (units_after b.clock d.part b.units);
   queue = drop (if d.taken then 1 else 0) b.queue ++ option_to_list d.sent;
   answers = answers_after b.dispatcher.rounds.asks d b.answers;
-  dispatcher = dispatched b.clock b.dispatcher d;
+  dispatcher = dispatched_in b.clock b.dispatcher d;
   clock = b.clock;
   refused = b.refused;
 }
+
+abbrev pub moved : Board → Deed → Board
+moved b d = moved_in (if d.begins then anew b else b) d
 
 -- the board after a turn with this deed
 abbrev pub step : Board → Turn → Deed → Board

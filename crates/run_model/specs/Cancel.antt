@@ -56,8 +56,8 @@ script_failed = record { reason = reasons.SetupScriptFailure; request = OtherCan
 abbrev pub script_cause : ExecutionResult → Option Cause
 script_cause result = if is_success result then None else Some script_failed
 
--- the cause that a delivered message is, with the counts after it: the finish of a script that failed, and that of a test
--- that may be the last failure
+-- the cause that a delivered message is, with the counts after it: the finish of a script that failed, and that of a
+-- test that may be the last failure
 abbrev pub cause_of : CancelRules → Tally → Message → Option Cause
 cause_of rules t (ScriptFinish finish) = script_cause finish.status.result
 cause_of rules t (Finish finish) = failure_cause rules.max_fail t.stats
@@ -95,13 +95,13 @@ cancel_event reasons.SecondSignal t =
 cancel_event reason t =
     RunBeginCancel (record { running = t.running; scripts_running = t.scripts_running; stats = t.stats })
 
--- what a deed does with a cause at a moment, by the counts after all else that it does: a cause whose reason isn't above the current
--- one does nothing
+-- what a deed does with a cause at a moment, by the counts after all else that it does: a cause whose reason isn't
+-- above the current one does nothing
 abbrev pub caused : Moment → Tally → Option Cause → Deed → Deed
 caused moment t None d = d
 caused moment t (Some cause) d = record d {
   cause = Some cause.reason;
-  cancel =
+  after =
       if is_above t.stats.cancel_reason cause.reason
       then Some (event moment (cancel_event cause.reason (cancelled_for cause.reason t)))
       else None;

@@ -4,9 +4,11 @@ use Rattle.std.specs.Prelude.{if◌then◌else◌, Option, Some, None, is_none, 
 use Rattle.run_clock.specs.Sleep.{fires_now}
 use Rattle.run_clock.specs.Stopwatch.{Watch, started_at, active_by}
 use Rattle.run_events.specs.Stats.{AreBelow, plus}
+use Rattle.run_events.specs.declared.stats.RunStats.{RunStats}
 use Rattle.run_events.specs.declared.settings.Settings.{Settings}
 use Rattle.run_events.specs.declared.turn.Turn.{Turn}
-use Rattle.run_events.specs.declared.turn.Turn.TheVariants.{Begin, Deliver, GlobalDue, StopWaitDue, InfoDue, Answer, Tick}
+use Rattle.run_events.specs.declared.turn.Turn.TheVariants.{Begin, Deliver, GlobalDue, StopWaitDue, InfoDue, Answer}
+use Rattle.run_events.specs.declared.turn.Turn.TheVariants.{Tick}
 use Rattle.run_events.specs.declared.turn.Turn.TheVariants.{ReportCancel, End, Signal as SignalCame, Key as KeyCame}
 use Rattle.run_events.specs.declared.message.Message.{Message}
 use Rattle.run_events.specs.declared.message.Message.TheVariants.{ScriptStart, ScriptSlow, ScriptFinish, Start, Slow}
@@ -20,11 +22,15 @@ use Rattle.run_events.specs.declared.events.ReporterEvent.TheVariants.{Test}
 use Rattle.run_events.specs.declared.events.RunStarted.{RunStarted}
 use Rattle.run_events.specs.declared.events.TestEventKind.{TestEventKind}
 use Rattle.run_events.specs.declared.events.TestEventKind.TheVariants.{SetupScriptStarted, SetupScriptSlow}
-use Rattle.run_events.specs.declared.events.TestEventKind.TheVariants.{SetupScriptFinished, TestStarted, TestSlow, TestFinished}
+use Rattle.run_events.specs.declared.events.TestEventKind.TheVariants.{SetupScriptFinished, TestStarted, TestSlow}
+use Rattle.run_events.specs.declared.events.TestEventKind.TheVariants.{TestFinished}
 use Rattle.run_events.specs.declared.events.TestEventKind.TheVariants.{TestSkipped, TestAttemptFailedWillRetry}
 use Rattle.run_events.specs.declared.events.TestEventKind.TheVariants.{TestRetryStarted}
 use Rattle.run_model.specs.declared.dispatcher_view.CancelRules.{CancelRules}
+use Rattle.run_model.specs.declared.dispatcher_view.Causes.{Causes}
 use Rattle.run_model.specs.declared.dispatcher_view.DispatcherView.{DispatcherView}
+use Rattle.run_model.specs.declared.dispatcher_view.Rounds.{Rounds}
+use Rattle.run_model.specs.declared.dispatcher_view.SubRuns.{SubRuns}
 use Rattle.run_events.specs.Hearing.{heard_signal, heard_key}
 use Rattle.run_events.specs.declared.plan.Hearing.{Hearing}
 use Rattle.run_events.specs.declared.request.Request.{Request}
@@ -55,17 +61,34 @@ rules_of p = record {
   global_timeout = time_limit p;
 }
 
+-- before anything came: no cause, none that runs, no round, and no sub-run that has ended
+abbrev pub no_causes : Causes
+no_causes = record { signals = 0; reported = false; global = None }
+
+abbrev pub tally_from : RunStats → Tally
+tally_from stats = record { running = 0; scripts_running = 0; stats = stats }
+
+abbrev pub no_rounds : Rounds
+no_rounds = record { count = 0; asks = None; since = 0; total = 0; told = 0 }
+
+abbrev pub none_ended : SubRuns
+none_ended = record { ended = 0; failed = 0; cancelled = false; outcome = None }
+
 -- before the run begins: all scripts, and all tests that match, are to run
 abbrev pub unbegun : Settings → DispatcherView
 unbegun p = record {
   head = head_of p;
   rules = rules_of p;
+  initial = initial_stats p;
   on = false;
   over = false;
-  causes = record { signals = 0; reported = false; global = None };
-  tally = record { running = 0; scripts_running = 0; stats = initial_stats p };
+  causes = no_causes;
+  tally = tally_from (initial_stats p);
   watch = started_at 0;
-  rounds = record { count = 0; asks = None; since = 0; total = 0; told = 0 };
+  rounds = no_rounds;
+  sub_runs = none_ended;
+  sub_run_watch = started_at 0;
+  rerun = p.expected;
   latest = 0;
 }
 

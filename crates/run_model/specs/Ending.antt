@@ -62,8 +62,8 @@ ended now result output u = record u {
   leaked = false;
 }
 
--- a unit whose attempt ends at this moment by how its child ended, what was captured of it, whether it left a stream open
--- for longer than its streams are waited for, and what came of its environment file
+-- a unit whose attempt ends at this moment by how its child ended, what was captured of it, whether it left a stream
+-- open for longer than its streams are waited for, and what came of its environment file
 abbrev pub ended_with : ℕ → ScriptEnv → Option ChildExit → Bool → Captured → UnitView → UnitView
 ended_with now env exit leaked c u =
     ended now (result_with env (result_of exit c.errors leaked u)) (Output c.output c.errors) (record u { env = env })
@@ -90,7 +90,8 @@ exited now exit leaked c u =
     then awaiting_env now exit leaked c u
     else ended now (result_of exit c.errors leaked u) (Output c.output c.errors) u
 
--- the result by how its child ended and by this capture: none where the wait for it failed, unless it has run out of time
+-- the result by how its child ended and by this capture: none where the wait for it failed, unless it has run out of
+-- time
 abbrev pub result_so_far : Option ChildExit → Captured → UnitView → Option ExecutionResult
 result_so_far exit c u =
     if is_timed_out u || is_some exit then Some (result_of exit c.errors false u) else None

@@ -12,6 +12,7 @@ use Rattle.run_events.specs.declared.message.TestStart.{TestStart}
 use Rattle.run_events.specs.declared.retry_policy.RetryPolicy.{RetryPolicy}
 use Rattle.run_events.specs.declared.retry_policy.RunMode.{RunMode}
 use Rattle.run_events.specs.declared.retry_policy.RunMode.TheVariants as modes
+use Rattle.run_events.specs.declared.stress.StressIndex.{StressIndex}
 use Rattle.run_model.specs.declared.unit_view.CapturedStreams.{CapturedStreams}
 use Rattle.run_model.specs.declared.unit_view.CapturedStreams.TheVariants as captured
 use Rattle.run_model.specs.declared.unit_view.ScriptRole.{ScriptRole}
@@ -85,11 +86,24 @@ abbrev pub group_number : Option GroupSlot → List ℕ
 group_number (Some group) = decimal group.slot
 group_number None = codes "none"
 
--- where it runs: no test runs under stress yet
+-- which sub-run of a stress run it is in, and how many there are to be
+abbrev pub stress_current : Option StressIndex → List ℕ
+stress_current (Some index) = decimal index.current
+stress_current None = codes "none"
+
+abbrev pub count_text : Option ℕ → List ℕ
+count_text (Some count) = decimal count
+count_text None = codes "unknown"
+
+abbrev pub stress_total : Option StressIndex → List ℕ
+stress_total (Some index) = count_text index.total
+stress_total None = codes "none"
+
+-- where it runs
 unfoldable pub place_variables : TestRole → List Variable
 place_variables t =
-    (codes "NEXTEST_STRESS_CURRENT", codes "none")
-    ∷ (codes "NEXTEST_STRESS_TOTAL", codes "none")
+    (codes "NEXTEST_STRESS_CURRENT", stress_current t.test.stress_index)
+    ∷ (codes "NEXTEST_STRESS_TOTAL", stress_total t.test.stress_index)
     ∷ (codes "NEXTEST_TEST_GLOBAL_SLOT", decimal t.slot.global)
     ∷ (codes "NEXTEST_TEST_GROUP", group_name t.slot.group)
     ∷ (codes "NEXTEST_TEST_GROUP_SLOT", group_number t.slot.group)
@@ -124,8 +138,8 @@ abbrev pub streams_of : CapturedStreams → List Stream
 streams_of (captured.Apart stdout stderr) = split_streams stdout stderr
 streams_of captured.Combined = streams.Combined ∷ []
 
--- the start of a unit's child that is asked where its attempt is let go: the words of the interceptor, which a script has
--- none of, stand before its command
+-- the start of a unit's child that is asked where its attempt is let go: the words of the interceptor, which a script
+-- has none of, stand before its command
 unfoldable pub start_ask : UnitView → Ask
 start_ask u = AskStart (record {
   unit = number u;

@@ -1,11 +1,11 @@
 -- A journal and its history, and which journals are legal.
 use Rattle.std.specs.Prelude.{◌≡◌, List, [], ◌∷◌, length, reverse, if◌then◌else◌, Option, Some, None, IsTrue}
-use Rattle.run_events.specs.Outcome.{outcome_of, summary}
 use Rattle.run_events.specs.declared.settings.Settings.{Settings}
 use Rattle.run_events.specs.declared.outcome.RunOutcome.{RunOutcome}
 use Rattle.run_model.specs.declared.entry.Entry.{Entry}
 use Rattle.run_model.specs.declared.happening.Happening.{Happening}
-use Rattle.run_model.specs.Words.{events_in, is_over, sub_run, stats}
+use Rattle.run_model.specs.SubRuns.{outcome_in}
+use Rattle.run_model.specs.Words.{events_in, is_over, ended_runs}
 use Rattle.run_model.specs.Turns.{enabled, happening}
 
 -- the history of a journal, whose newest entry stands first
@@ -30,6 +30,6 @@ past_of p journal = history p (reverse journal)
 abbrev pub IsLegal : Settings → List Entry → Type 0
 IsLegal p journal = IsLegalBackward p (reverse journal)
 
--- the outcome of a run that is over
+-- the outcome of a run that is over: those of its sub-runs put together
 abbrev pub outcome : Settings → List Happening → Option RunOutcome
-outcome p past = if is_over past then Some (outcome_of (summary (stats p (sub_run past)))) else None
+outcome p past = if is_over past then outcome_in p (ended_runs past) else None

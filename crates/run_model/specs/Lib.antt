@@ -13,6 +13,8 @@ pub mod Unit
 pub mod Same
 pub mod Rounds
 pub mod Words
+pub mod SubRuns
+pub mod Reruns
 pub mod Admission
 pub mod Dispatch
 pub mod Board

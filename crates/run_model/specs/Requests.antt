@@ -62,8 +62,8 @@ continued now ph u =
 abbrev pub queried : ℕ → Phase → ℕ → UnitView → Row
 queried now ph round u = record (quiet u) { info = answers_to (round ∷ []) (answer_in now ph u) }
 
--- it takes a request: one to end its child is heeded until that ends, and kills it where it was asked to end before; and
--- one that cancels the run ends a delay
+-- it takes a request: one to end its child is heeded until that ends, and kills it where it was asked to end before;
+-- and one that cancels the run ends a delay
 abbrev pub requested : ℕ → Phase → Request → UnitView → Row
 requested now ph (Stop round) u = stopped now ph u
 requested now ph Continue u = continued now ph u

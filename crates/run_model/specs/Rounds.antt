@@ -1,5 +1,6 @@
 -- The pauses of a run, and the rounds in which its live units are stopped or asked what they are doing.
-use Rattle.std.specs.Prelude.{ℕ, ◌+◌, ◌==◌, List, [], ◌∷◌, ◌++◌, drop, filter_map, Bool, true, false, ◌||◌, if◌then◌else◌}
+use Rattle.std.specs.Prelude.{ℕ, ◌+◌, ◌==◌, List, [], ◌∷◌, ◌++◌, drop, filter_map, Bool, true, false, ◌||◌}
+use Rattle.std.specs.Prelude.{if◌then◌else◌}
 use Rattle.std.specs.Prelude.{Option, Some, None, option_map}
 use Rattle.run_clock.specs.Counted.{Act, Mark, pause, resume, other, mark_of}
 use Rattle.run_clock.specs.Sleep.{Sleep}
@@ -15,8 +16,8 @@ use Rattle.run_model.specs.declared.dispatcher_view.Rounds.{Rounds}
 use Rattle.run_model.specs.declared.happening.Happening.{Happening}
 use Rattle.run_model.specs.Pauses.{watch_paused, watch_resumed, sleep_paused, sleep_resumed}
 
--- what an event does to the run's stopwatch, whether it tells an answer, whether it ends a round of queries, and how many
--- units it says to be asked
+-- what an event does to the run's stopwatch, whether it tells an answer, whether it ends a round of queries, and how
+-- many units it says to be asked
 abbrev pub act_in : TestEventKind → Act
 act_in (kinds.RunPaused event) = pause
 act_in (kinds.RunContinued event) = resume
@@ -81,8 +82,8 @@ abbrev pub run_watch : List Happening → Watch
 run_watch [] = started_at 0
 run_watch (x ∷ past) = watch_after x.moment (act_of x.told) (run_watch past)
 
--- a round opens where each live unit is asked to stop, or asked what it is doing; one of stops closes where the runner is
--- asked to stop itself, and one of queries where that is told
+-- a round opens where each live unit is asked to stop, or asked what it is doing; one of stops closes where the runner
+-- is asked to stop itself, and one of queries where that is told
 abbrev pub opens_round : Option Request → Bool
 opens_round (Some (Stop round)) = true
 opens_round (Some (GetInfo round)) = true

@@ -1,5 +1,6 @@
 -- The story of a unit: its own turns, cut where it was let go.
-use Rattle.std.specs.Prelude.{ℕ, ◌+◌, ◌==◌, List, [], drop, ◌∷◌, ◌++◌, Bool, true, false, ◌||◌, if◌then◌else◌, Option, Some, None}
+use Rattle.std.specs.Prelude.{ℕ, ◌+◌, ◌==◌, List, [], drop, ◌∷◌, ◌++◌, Bool, true, false, ◌||◌, if◌then◌else◌, Option}
+use Rattle.std.specs.Prelude.{Some, None}
 use Rattle.std.specs.Prelude.{option_to_list, is_some, zero, suc, ◌&&◌}
 use Rattle.std.specs.Option.{option_or}
 use Rattle.run_events.specs.declared.request.Request.{Request}
@@ -76,8 +77,8 @@ decides _ = false
 pub data Attempt : Type 0 where
   cut : List OwnTurn → List OwnTurn → Attempt
 
--- the attempts of a story: each begins with the turn that let it go, and what comes before the first of these is in none.
--- The newest attempt stands first
+-- the attempts of a story: each begins with the turn that let it go, and what comes before the first of these is in
+-- none. The newest attempt stands first
 abbrev pub with_turn : OwnTurn → List Attempt → List Attempt
 with_turn t [] = []
 with_turn t (cut piece [] ∷ earlier) =

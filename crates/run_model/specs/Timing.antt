@@ -1,6 +1,7 @@
--- The timing of an attempt by its own turns alone: how often it was slow, whether it ran out of time, when its child was
--- given time to end by itself, whether it leaked, when it was paused, and which timer it waits for.
-use Rattle.std.specs.Prelude.{ℕ, ◌==◌, List, [], ◌∷◌, ◌++◌, Bool, true, false, not, ◌&&◌, ◌||◌, if◌then◌else◌, Option, Some}
+-- The timing of an attempt by its own turns alone: how often it was slow, whether it ran out of time, when its child
+-- was given time to end by itself, whether it leaked, when it was paused, and which timer it waits for.
+use Rattle.std.specs.Prelude.{ℕ, ◌==◌, List, [], ◌∷◌, ◌++◌, Bool, true, false, not, ◌&&◌, ◌||◌, if◌then◌else◌, Option}
+use Rattle.std.specs.Prelude.{Some}
 use Rattle.std.specs.Prelude.{None, is_some}
 use Rattle.run_clock.specs.Counted.{Mark, Timer, pause, resume, mark_of, is_paused, is_due as is_timer_due}
 use Rattle.run_events.specs.declared.plan.SlowTimeout.{SlowTimeout}
@@ -48,7 +49,8 @@ pub record Standing : Type 0 where
   pub slow_count : ℕ
   pub in_grace : Bool
 
--- whether a turn says that it is slow once more: its timer was due, and it neither had time to end nor had run out of it
+-- whether a turn says that it is slow once more: its timer was due, and it neither had time to end nor had run out of
+-- it
 abbrev pub says_slow : SlowTimeout → Standing → OwnTurn → Bool
 says_slow slow was t = is_due_turn t.turn && not was.in_grace && not (is_out_of_time slow was.slow_count)
 
@@ -83,8 +85,8 @@ slow_count slow piece = (standing slow piece).slow_count
 abbrev pub has_timed_out : SlowTimeout → List OwnTurn → Bool
 has_timed_out slow piece = is_out_of_time slow (slow_count slow piece)
 
--- the turns of an attempt that say so, after the turns before them: it is slow; it runs out of time; it is given time to
--- end by itself; that time is over
+-- the turns of an attempt that say so, after the turns before them: it is slow; it runs out of time; it is given time
+-- to end by itself; that time is over
 abbrev pub is_slow_turn : SlowTimeout → OwnTurn → List OwnTurn → Bool
 is_slow_turn slow t before = not (any_is ends_wait before) && says_slow slow (standing slow before) t
 

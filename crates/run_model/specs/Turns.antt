@@ -1,13 +1,16 @@
 -- The tables of turns: which turn is enabled on a board, and what it does.
-use Rattle.std.specs.Prelude.{ℕ, ◌+◌, ◌-◌, ◌^◌, nat_lt, List, [], ◌∷◌, count_by, Bool, true, false, ◌&&◌, not, Option, Some, None}
+use Rattle.std.specs.Prelude.{ℕ, ◌+◌, ◌-◌, ◌==◌, ◌^◌, nat_lt, List, [], ◌∷◌, count_by, Bool, true, false, ◌&&◌, not}
+use Rattle.std.specs.Prelude.{Option, Some, None}
 use Rattle.std.specs.Prelude.{is_some, option_map, option_and_then, unwrap_or, if◌then◌else◌}
 use Rattle.std.specs.List.{list_all, list_any}
 use Rattle.run_events.specs.declared.settings.Settings.{Settings}
 use Rattle.run_events.specs.declared.turn.Turn.{Turn}
 use Rattle.run_events.specs.declared.turn.Turn.TheVariants.{Begin, Admit, Deliver, Started, StartFailed, Exit}
 use Rattle.run_events.specs.declared.turn.Turn.TheVariants.{WaitFailed, Piece, StreamEnd, ReadError, Env, Decide, Clock}
-use Rattle.run_events.specs.declared.turn.Turn.TheVariants.{End, UnitDue as TurnDue, Take, GlobalDue, Signal, ReportCancel}
-use Rattle.run_events.specs.declared.turn.Turn.TheVariants.{StopWaitDue, InfoDue, Answer, Key as TurnKey, Tick as TurnTick}
+use Rattle.run_events.specs.declared.turn.Turn.TheVariants.{End, UnitDue as TurnDue, Take, GlobalDue, Signal}
+use Rattle.run_events.specs.declared.turn.Turn.TheVariants.{ReportCancel}
+use Rattle.run_events.specs.declared.turn.Turn.TheVariants.{StopWaitDue, InfoDue, Answer, Key as TurnKey}
+use Rattle.run_events.specs.declared.turn.Turn.TheVariants.{Tick as TurnTick}
 use Rattle.run_events.specs.Hearing.{heard_key}
 use Rattle.run_events.specs.declared.ask.Ask.TheVariants.{StopSelf}
 use Rattle.run_events.specs.declared.info.InfoResponse.{InfoResponse}
@@ -26,10 +29,19 @@ use Rattle.run_events.specs.declared.events.TestEventKind.{TestEventKind}
 use Rattle.run_events.specs.declared.events.JobControlled.{JobControlled}
 use Rattle.run_events.specs.declared.events.ReporterEvent.TheVariants.{Tick}
 use Rattle.run_events.specs.declared.events.TestEventKind.TheVariants.{RunStarted, RunFinished, RunPaused, RunContinued}
-use Rattle.run_events.specs.declared.events.TestEventKind.TheVariants.{InfoStarted, InfoResponse as InfoAnswer, InfoFinished}
+use Rattle.run_events.specs.declared.events.TestEventKind.TheVariants.{StressSubRunStarted, StressSubRunFinished}
+use Rattle.run_events.specs.declared.events.TestEventKind.TheVariants.{InfoStarted, InfoResponse as InfoAnswer}
+use Rattle.run_events.specs.declared.events.TestEventKind.TheVariants.{InfoFinished}
 use Rattle.run_events.specs.declared.events.TestEventKind.TheVariants.{InputEnter}
-use Rattle.run_events.specs.declared.events.RunFinishedStats.TheVariants.{Single}
-use Rattle.run_events.specs.declared.stats.RunStats.{RunStats}
+use Rattle.run_events.specs.declared.events.RunFinishedStats.{RunFinishedStats}
+use Rattle.run_events.specs.declared.events.RunFinishedStats.TheVariants.{Single, Stress}
+use Rattle.run_events.specs.declared.stress.StressIndex.{StressIndex}
+use Rattle.run_events.specs.declared.stress.StressProgress.{StressProgress}
+use Rattle.run_commands.specs.declared.stress_count.StressCondition.{StressCondition}
+use Rattle.run_clock.specs.Stopwatch.{active_by}
+use Rattle.run_events.specs.Outcome.{summary}
+use Rattle.run_model.specs.Reruns.{not_seen_of}
+use Rattle.run_model.specs.SubRuns.{index_at, progress_at, stops_after, stress_stats, with_sub_run}
 use Rattle.run_model.specs.declared.dispatcher_view.DispatcherView.{DispatcherView}
 use Rattle.run_model.specs.declared.dispatcher_view.Facts.{Facts}
 use Rattle.run_model.specs.declared.entry.Entry.{Entry}
@@ -40,12 +52,14 @@ use Rattle.run_model.specs.declared.unit_turn.UnitTurn.TheVariants.{Answered, St
 use Rattle.run_model.specs.declared.unit_turn.UnitTurn.TheVariants.{StartFailed as UnitStartFailed, Exit as UnitExit}
 use Rattle.run_model.specs.declared.unit_turn.UnitTurn.TheVariants.{WaitFailed as UnitWaitFailed, Piece as UnitPiece}
 use Rattle.run_model.specs.declared.unit_turn.UnitTurn.TheVariants.{StreamEnd as UnitStreamEnd}
-use Rattle.run_model.specs.declared.unit_turn.UnitTurn.TheVariants.{ReadError as UnitReadError, Decide as UnitDecide, Due as UnitDue}
+use Rattle.run_model.specs.declared.unit_turn.UnitTurn.TheVariants.{ReadError as UnitReadError, Decide as UnitDecide}
+use Rattle.run_model.specs.declared.unit_turn.UnitTurn.TheVariants.{Due as UnitDue}
 use Rattle.run_model.specs.declared.unit_turn.UnitTurn.TheVariants.{Take as UnitTake, Env as UnitEnv}
 use Rattle.run_model.specs.declared.unit_view.UnitView.{UnitView}
 use Rattle.run_model.specs.Unit.{row, takes}
 use Rattle.run_model.specs.Admission.{is_done, Newcomer, newcomer}
-use Rattle.run_model.specs.Dispatch.{dispatch_takes, moment_by, event, having_told, told_of, go_of, is_third, heard_by, is_halted}
+use Rattle.run_model.specs.Dispatch.{dispatch_takes, moment_by, event, having_told, told_of, go_of, is_third, heard_by}
+use Rattle.run_model.specs.Dispatch.{is_halted}
 use Rattle.run_model.specs.Same.{is_request}
 use Rattle.run_model.specs.Story.{is_live_unit}
 use Rattle.run_model.specs.Cancel.{Cause, time_is_up, event_refused, signal_cause, cause_of, caused}
@@ -112,9 +126,13 @@ facts b = record {
   refused = b.refused;
 }
 
+-- which sub-run of a stress run is on
+abbrev pub index_of : DispatcherView → Option StressIndex
+index_of d = option_map (λ condition. index_at condition d.sub_runs.ended) d.head.stress
+
 -- which turns of the run's own are enabled where it isn't over; the clock moves while it fits in a u64
 abbrev pub run_takes : Settings → Board → Turn → Bool
-run_takes p b Admit = b.dispatcher.on && is_some (newcomer p b.units)
+run_takes p b Admit = b.dispatcher.on && is_some (newcomer p (index_of b.dispatcher) b.units)
 run_takes p b (Clock ns) = nat_lt (b.clock + ns) (2 ^ 64)
 run_takes p b turn = dispatch_takes b.dispatcher (facts b) b.clock turn
 
@@ -135,7 +153,7 @@ nothing_done = record {
   info = [];
   taken = false;
   told = None;
-  cancel = None;
+  after = None;
   asked = None;
   cause = None;
   request = None;
@@ -197,16 +215,63 @@ delivers now d m answer =
 abbrev pub cancels_for : ℕ → DispatcherView → Cause → Deed
 cancels_for now d cause = caused (moment_by now d.watch) d.tally (Some cause) nothing_done
 
--- the end of a run: it tells the statistics
-abbrev pub finale : RunStats → TestEventKind
-finale stats = RunFinished (record { stats = Single stats; not_seen = None })
+-- how far a stress run is, after so many of its sub-runs
+abbrev pub progress_of : ℕ → DispatcherView → ℕ → StressCondition → StressProgress
+progress_of now d ended condition = progress_at condition ended (active_by d.watch now)
 
--- the begin and the end of a run
+-- a sub-run of a stress run starts, and ends with its statistics
+abbrev pub sub_run_started : ℕ → DispatcherView → StressCondition → ReporterEvent
+sub_run_started now d condition =
+    event (moment_by now d.watch) (StressSubRunStarted (progress_of now d d.sub_runs.ended condition))
+
+abbrev pub sub_run_finished : ℕ → DispatcherView → StressCondition → ReporterEvent
+sub_run_finished now d condition = event (moment_by now d.watch) (StressSubRunFinished (record {
+  progress = progress_of now d (d.sub_runs.ended + 1) condition;
+  sub_elapsed = active_by d.sub_run_watch now;
+  stats = d.tally.stats;
+}))
+
+-- the end of a run: it tells the statistics, and in a rerun the tests that it did not see
+abbrev pub run_finished : ℕ → DispatcherView → RunFinishedStats → ReporterEvent
+run_finished now d stats =
+    event (moment_by now d.watch) (RunFinished (record { stats = stats; not_seen = not_seen_of d.rerun }))
+
+-- the begin of a sub-run: the first tells that the run started, and in a stress run each tells that it starts
+abbrev pub begins_as : ℕ → DispatcherView → Bool → Deed
+begins_as now d true = record nothing_done {
+  told = Some (event (moment_by now d.watch) (RunStarted d.head));
+  after = option_map (sub_run_started now d) d.head.stress;
+  begins = true;
+}
+begins_as now d false = record nothing_done { told = option_map (sub_run_started now d) d.head.stress; begins = true }
+
 abbrev pub begins_at : ℕ → DispatcherView → Deed
-begins_at now d = record nothing_done { told = Some (event (moment_by now d.watch) (RunStarted d.head)); begins = true }
+begins_at now d = begins_as now d (d.sub_runs.ended == 0)
+
+-- whether a stress run stops after the sub-run that is on
+abbrev pub stops_with : ℕ → DispatcherView → StressCondition → Bool
+stops_with now d condition =
+    stops_after d.tally.stats (progress_of now d (d.sub_runs.ended + 1) condition) (d.sub_runs.ended + 1)
+
+-- the statistics that are told at the end of a stress run
+abbrev pub stress_finale : DispatcherView → StressCondition → RunFinishedStats
+stress_finale d condition =
+    Stress (stress_stats condition (with_sub_run d.tally.stats d.sub_runs) (summary d.tally.stats))
+
+-- the end of a sub-run: in a stress run that is told, and the end of the run after it where it stops there; any other
+-- run ends with it
+abbrev pub ends_as : ℕ → DispatcherView → Option StressCondition → Deed
+ends_as now d None =
+    record nothing_done { told = Some (run_finished now d (Single d.tally.stats)); ends = true; over = true }
+ends_as now d (Some condition) = record nothing_done {
+  told = Some (sub_run_finished now d condition);
+  after = if stops_with now d condition then Some (run_finished now d (stress_finale d condition)) else None;
+  ends = true;
+  over = stops_with now d condition;
+}
 
 abbrev pub ends_at : ℕ → DispatcherView → Deed
-ends_at now d = record nothing_done { told = Some (event (moment_by now d.watch) (finale d.tally.stats)); ends = true; over = true }
+ends_at now d = ends_as now d d.head.stress
 
 -- a deed that tells an event alone
 abbrev pub tells : ℕ → DispatcherView → TestEventKind → Deed
@@ -307,7 +372,7 @@ answered_by b (Some response) = answers_at b.clock b.dispatcher response
 -- what a turn of the run's own does; the clock does nothing but move
 abbrev pub run_turn : Settings → Board → Turn → Deed
 run_turn p b Begin = begun b
-run_turn p b Admit = admission (newcomer p b.units)
+run_turn p b Admit = admission (newcomer p (index_of b.dispatcher) b.units)
 run_turn p b Deliver = delivery b b.queue
 run_turn p b (Signal signal) = signals_at b.clock (live_in b.units) b.dispatcher signal
 run_turn p b (TurnKey key) = keys_at b.clock (live_in b.units) b.dispatcher key

@@ -1,6 +1,7 @@
 -- Words over a history: what each turn did, the newest first.
 use Rattle.std.specs.Prelude.{ℕ, ◌+◌, List, [], ◌∷◌, ◌++◌, map, length, drop, Bool, true, false, ◌&&◌, ◌||◌, not, ◌==◌}
-use Rattle.std.specs.Prelude.{if◌then◌else◌, Option, Some, None, option_map, option_to_list, filter_map, count_by, zip, is_some}
+use Rattle.std.specs.Prelude.{if◌then◌else◌, Option, Some, None, option_map, option_to_list, filter_map, count_by, zip}
+use Rattle.std.specs.Prelude.{is_some}
 use Rattle.std.specs.List.{range_with_len, list_any}
 use Rattle.run_clock.specs.Counted.{counted_time, is_paused}
 use Rattle.run_clock.specs.Sleep.{Sleep, set_at}
@@ -99,9 +100,9 @@ delivered (x ∷ past) = delivered past + (if x.taken then 1 else 0)
 abbrev pub queue : List Happening → List Message
 queue past = drop (delivered past) (sent past)
 
--- the events that a turn told: its own, and then its cause's
+-- the events that a turn told: its own, and then what it told after that
 abbrev pub events_in : Happening → List ReporterEvent
-events_in x = option_to_list x.told ++ option_to_list x.cancel
+events_in x = option_to_list x.told ++ option_to_list x.after
 
 -- the events told, in order
 abbrev pub told : List Happening → List ReporterEvent
@@ -241,8 +242,8 @@ skipped past = count_by skips (told past)
 abbrev pub initial_stats : Settings → RunStats
 initial_stats p = record nothing { initial_run_count = matched_in p; setup_scripts_initial_count = scripts_in p }
 
--- the statistics after so many skips and these finishes: a count of each kind over them, beside the numbers of scripts and
--- of tests to run and the reason
+-- the statistics after so many skips and these finishes: a count of each kind over them, beside the numbers of scripts
+-- and of tests to run and the reason
 abbrev pub stats_after : Settings → Option CancelReason → ℕ → List FinishedUnit → RunStats
 stats_after p why skips finishes =
     total_by adds_by (record (initial_stats p) { skipped = skips; cancel_reason = why }) finishes

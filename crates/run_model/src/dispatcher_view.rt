@@ -1,6 +1,7 @@
 // A dispatcher as its table sees it.
+use crate::RerunContext;
 use run_clock::{PausableSleep, StopwatchStart};
-use run_events::{Hearing, MaxFail, Request, RunStarted, RunStats};
+use run_events::{Hearing, MaxFail, Request, RunOutcome, RunStarted, RunStats};
 
 /// What a dispatcher asks of the rest of the run, to say which turns are enabled.
 #[derive(Clone, Copy, Drop)]
@@ -65,12 +66,26 @@ pub struct Rounds {
     pub told: u32,
 }
 
+/// The sub-runs that have ended.
+#[derive(Clone, Copy, Drop)]
+pub struct SubRuns {
+    pub ended: u32,
+    /// How many of them failed.
+    pub failed: u32,
+    /// Whether one of them was cancelled.
+    pub cancelled: bool,
+    /// Their outcomes put together: none where none has ended.
+    pub outcome: Option<RunOutcome>,
+}
+
 /// A dispatcher, as its table sees it.
 #[derive(Drop)]
 pub struct DispatcherView {
     /// What is told of the run as it starts.
     pub head: RunStarted,
     pub rules: CancelRules,
+    /// The statistics with which a sub-run begins.
+    pub initial: RunStats,
     /// Whether a sub-run has begun and not ended.
     pub on: bool,
     /// Whether the run has ended.
@@ -80,6 +95,10 @@ pub struct DispatcherView {
     /// The run's active time.
     pub watch: StopwatchStart,
     pub rounds: Rounds,
+    pub sub_runs: SubRuns,
+    /// The active time of the sub-run: from the end of the one before it.
+    pub sub_run_watch: StopwatchStart,
+    pub rerun: RerunContext,
     /// When it heard its latest turn, by the run's clock.
     pub latest: u64,
 }

@@ -29,8 +29,9 @@ pub struct Happening {
     pub taken: bool,
     /// The event that it told of its own.
     pub told: Option<ReporterEvent>,
-    /// The event that its cause told after that one.
-    pub cancel: Option<ReporterEvent>,
+    /// The event that it told after that one: that its cause cancels the run, that a sub-run of a stress run starts, or
+    /// that the run finished after its last sub-run.
+    pub after: Option<ReporterEvent>,
     /// What it asked of the outside.
     pub asked: Option<Ask>,
     /// Why it cancels the run, where it does.

@@ -8,7 +8,8 @@ use Rattle.run_events.specs.declared.events.ReporterEvent.{ReporterEvent}
 use Rattle.run_output.specs.Told.{IsWritten, HasTold}
 use Rattle.run_output.specs.Shown.{Screen, line_in, lines_in, screen_after, screen_after_all, IsScreen, HasShown}
 use Rattle.run_output.specs.Shown.{shown_lines}
-use Rattle.run_output.specs.Shown.{events_of, answer_errors, is_hidden_in, seen_in, now_in, shown_in, after_tick, next_tick}
+use Rattle.run_output.specs.Shown.{events_of, answer_errors, is_hidden_in, seen_in, now_in, shown_in, after_tick}
+use Rattle.run_output.specs.Shown.{next_tick}
 use Rattle.run_output.specs.Fields.{line_bytes}
 use Rattle.run_events.specs.declared.events.ReporterEvent.TheVariants.{Tick}
 use Rattle.run_progress.specs.declared.lines.Showing.{Showing}

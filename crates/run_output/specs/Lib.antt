@@ -18,6 +18,7 @@ pub mod EventsOfTests
 pub mod Events
 pub mod Asks
 pub mod Outcomes
+pub mod Summaries
 pub mod Faults
 pub mod Told
 pub mod Shown

@@ -20,8 +20,9 @@ fn step_name(step: RunStep) -> &'static str
     }
 }
 
+/// An outcome by its word, without the step.
 #[tactic(auto, unfolding(crate::specs::Outcomes::outcome_word))]
-fn outcome_name(outcome: RunOutcome) -> &'static str
+pub(crate) fn outcome_name(outcome: RunOutcome) -> &'static str
     ensures { result.now ≡ outcome_word outcome }
 {
     match outcome {

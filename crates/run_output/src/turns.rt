@@ -3,7 +3,8 @@ ghost use Rattle.std.specs.Prelude.{◌≡◌, ◌∷◌, Some, IfOk, codes, str
 ghost use Rattle.run_output.specs.Plain.{plain_data};
 ghost use Rattle.run_commands.specs.declared.script_helpers.EnvInput.TheVariants.{Bytes};
 ghost use Rattle.run_output.specs.Fields.{signed, object_of};
-ghost use Rattle.run_output.specs.Turns.{stream_word, signal_word, key_text, word_at, bare_fields, unit_fields, timer_fields};
+ghost use Rattle.run_output.specs.Turns.{stream_word, signal_word, key_text, word_at, bare_fields, unit_fields};
+ghost use Rattle.run_output.specs.Turns.{timer_fields};
 ghost use Rattle.run_output.specs.Turns.{failed_fields, exit_fields, env_fields, turn_data, turn_text};
 ghost use Rattle.run_events.specs.declared.turn.Turn.TheVariants as turns;
 

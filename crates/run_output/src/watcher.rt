@@ -1,6 +1,7 @@
 // A display that hears a run's events, and gives the line of each.
 ghost use Rattle.std.specs.Prelude.{◌≡◌, IfOk, OnErr, unwrap_or, slice_get};
-ghost use Rattle.run_output.specs.Shown.{IsScreen, line_in, screen_after, after_tick, first_screen, shown_in, next_tick};
+ghost use Rattle.run_output.specs.Shown.{IsScreen, line_in, screen_after, after_tick, first_screen, shown_in};
+ghost use Rattle.run_output.specs.Shown.{next_tick};
 ghost use Rattle.run_events.specs.declared.events.ReporterEvent.TheVariants.{Tick, Test};
 
 use run_capture::{List, Mem, Text};

@@ -1,5 +1,6 @@
 -- Where a story is cut.
-use Rattle.std.proofs.Common.{◌≡◌, ◌≢◌, length, ℕ, ◌+◌, ◌<◌, ◌≤◌, zero, suc, List, [], ◌∷◌, take, drop, Bool, true, false}
+use Rattle.std.proofs.Common.{◌≡◌, ◌≢◌, length, ℕ, ◌+◌, ◌<◌, ◌≤◌, zero, suc, List, [], ◌∷◌, take, drop, Bool, true}
+use Rattle.std.proofs.Common.{false}
 use Rattle.std.proofs.Common.{if◌then◌else◌, arith, ap, refl, ◌∙◌, sym}
 use Rattle.run_model.specs.Story.{OwnTurn, Attempt, cut, begins_attempt, decides, pieces, with_turn}
 use Rattle.run_plain.specs.Newest.{newest, with_one, decided_count, after_decide}
@@ -79,7 +80,8 @@ cut_one false (suc m) n d t before is within rest =
     ap (with_turn t) (rest m refl) ∙ turn_more t m d before within
     ∙ sym (ap (λ k. cut_at (suc k) (after_decide (decides t.turn) d) (t ∷ before)) next)
 
-cut_story : (story : List OwnTurn) (n : ℕ) → newest story ≡ suc n → pieces story ≡ cut_at (suc n) (decided_count story) story
+cut_story : (story : List OwnTurn) (n : ℕ) → newest story ≡ suc n
+    → pieces story ≡ cut_at (suc n) (decided_count story) story
 cut_story [] n is = absurd (omega arith)
 cut_story (t ∷ before) n is =
     cut_one (begins_attempt t.turn) (newest before) n (decided_count before) t before is (newest_within before)

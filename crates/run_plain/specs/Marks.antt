@@ -15,7 +15,8 @@ abbrev pub act_as : Act → Defined
 act_as Pause = pause
 act_as Resume = resume
 
--- which turns set a timer: until it is slow; until its time to end by itself is over; until its streams are waited for no more
+-- which turns set a timer: until it is slow; until its time to end by itself is over; until its streams are waited for
+-- no more
 abbrev pub sets_by : Sets → SlowTimeout → OwnTurn → List OwnTurn → Bool
 sets_by Slow slow = sets_slow slow
 sets_by Grace slow = begins_grace slow

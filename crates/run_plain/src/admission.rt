@@ -1,9 +1,10 @@
 // The admission rule: what of the limits is in use, and which test comes next.
-ghost use Rattle.std.specs.Prelude.{◌≡◌, ◌<◌, ◌^◌, length, option_map, position, slice_get, slice_index, sum_by};
-ghost use Rattle.std.specs.List.{zip};
+ghost use Rattle.std.specs.Prelude.{◌≡◌, ◌<◌, ◌^◌, ◌&&◌, int_lt, length, option_map, position, slice_get, slice_index};
+ghost use Rattle.std.specs.Prelude.{sum_by};
+ghost use Rattle.std.specs.List.{list_any, zip};
 ghost use Rattle.run_admission.specs.InUse.{candidate, candidate_at, fits_all, fits_beside, fits_its_group};
 ghost use Rattle.run_admission.specs.InUse.{group_weight_in_use, is_of, is_waiting, may_come, taken, taken_in};
-ghost use Rattle.run_admission.specs.InUse.{weight_in_use};
+ghost use Rattle.run_admission.specs.InUse.{comes_next, weight_in_use};
 
 use run_admission::{Candidate, Claim, Seat};
 use std::marker::Model;
@@ -157,16 +158,43 @@ fn may_come(admissions: &Admissions, claim: &Claim, seat: &Seat) -> bool
     is_waiting(seat) && (!claim.matched || fits_its_group(admissions, claim))
 }
 
-// The place of the first test that may come next.
+// Whether a test may come next, and has a greater priority than this.
+fn may_pass(admissions: &Admissions, priority: i8, claim: &Claim, seat: &Seat) -> bool
+    requires { length admissions.now.seats < 2 ^ 32 }
+    ensures { result ≡ (may_come admissions.now (claim.now, seat.now) && int_lt priority claim.now.priority) }
+{
+    may_come(admissions, claim, seat) && priority < claim.priority
+}
+
+// Whether a test of a greater priority may come next.
+fn is_passed(admissions: &Admissions, priority: i8) -> bool
+    requires { length admissions.now.seats < 2 ^ 32 }
+    ensures { result ≡ list_any (λ t. may_come admissions.now t && int_lt priority t.0.priority)
+        (zip admissions.now.claims admissions.now.seats) }
+{
+    admissions.claims.iter().zip(admissions.seats).any(|(claim, seat)| may_pass(
+        admissions, priority, claim, seat,
+    ))
+}
+
+// Whether a test comes next: it may, and none of a greater priority may.
+fn comes_next(admissions: &Admissions, claim: &Claim, seat: &Seat) -> bool
+    requires { length admissions.now.seats < 2 ^ 32 }
+    ensures { result ≡ comes_next admissions.now (claim.now, seat.now) }
+{
+    may_come(admissions, claim, seat) && !is_passed(admissions, claim.priority)
+}
+
+// The place of the first test that comes next.
 fn first_to_come(admissions: &Admissions) -> Option<usize>
     requires { length admissions.now.seats < 2 ^ 32 }
-    ensures { result ≡ position (may_come admissions.now) (zip admissions.now.claims admissions.now.seats) }
+    ensures { result ≡ position (comes_next admissions.now) (zip admissions.now.claims admissions.now.seats) }
 {
     admissions
         .claims
         .iter()
         .zip(admissions.seats)
-        .position(|(claim, seat)| may_come(admissions, claim, seat))
+        .position(|(claim, seat)| comes_next(admissions, claim, seat))
 }
 
 // How a test comes next.
@@ -211,7 +239,7 @@ fn candidate_of(admissions: &Admissions, place: usize) -> Option<Candidate>
     }
 }
 
-/// The candidate: the first test that may come next, and how it does.
+/// The candidate: the first test that comes next, and how it does.
 pub fn candidate(admissions: &Admissions) -> Option<Candidate>
     requires { length admissions.now.seats < 2 ^ 32 }
     ensures { result ≡ candidate admissions.now }

@@ -1,7 +1,9 @@
 // What came of each attempt of a unit, by its own turns.
-ghost use Rattle.std.specs.Prelude.{◌≡◌, ◌+◌, ◌<◌, ◌^◌, ◌∷◌, ◌++◌, [], length, map, not, ◌&&◌, if◌then◌else◌, IfOk, OnOk};
+ghost use Rattle.std.specs.Prelude.{◌≡◌, ◌+◌, ◌<◌, ◌^◌, ◌∷◌, ◌++◌, [], length, map, not, ◌&&◌, if◌then◌else◌, IfOk};
+ghost use Rattle.std.specs.Prelude.{OnOk};
 ghost use Rattle.run_model.specs.Attempts.{awaits_env_file, end_of, ended_statuses, has_ended, is_due_in, is_retried};
-ghost use Rattle.run_model.specs.Attempts.{attempt_pauses, is_settled, moment_if, none_goes_on, result_in, status_of, time_of};
+ghost use Rattle.run_model.specs.Attempts.{attempt_pauses, is_settled, moment_if, none_goes_on, result_in, status_of};
+ghost use Rattle.run_model.specs.Attempts.{time_of};
 ghost use Rattle.run_model.specs.Attempts.{delay_timer, is_delay_over};
 ghost use Rattle.run_model.specs.Backoff.{retry_count};
 ghost use Rattle.run_clock.specs.Counted.{is_due};
@@ -158,8 +160,8 @@ fn with_status(
     Ok(statuses)
 }
 
-/// What came of the attempts of a unit that have ended, in order, by its story, the newest turn first. They run on these
-/// terms. A time above the greatest `u64`, which no legal run has, is that.
+/// What came of the attempts of a unit that have ended, in order, by its story, the newest turn first. They run on
+/// these terms. A time above the greatest `u64`, which no legal run has, is that.
 pub fn statuses_of(
     alloc: Global,
     terms: AttemptTerms,

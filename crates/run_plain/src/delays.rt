@@ -1,7 +1,8 @@
 // The delays between the attempts of a unit, by its own turns.
 ghost use Rattle.std.specs.Prelude.{◌≡◌, ◌*◌, ◌-◌, ◌^◌, ◌<◌, min, length, IfOk};
 ghost use Rattle.run_model.specs.Backoff.{retry_count, has_jitter, whole_delay, jittered, delay_by};
-ghost use Rattle.run_model.specs.Attempts.{cancels, decided_at, delay_after, delay_timer, is_delay_over, moment_if, word_in};
+ghost use Rattle.run_model.specs.Attempts.{cancels, decided_at, delay_after, delay_timer, is_delay_over, moment_if};
+ghost use Rattle.run_model.specs.Attempts.{word_in};
 ghost use Rattle.run_model.specs.Attempts.{drawn_word};
 ghost use Rattle.run_model.specs.Story.{decides, first_said, pieces};
 

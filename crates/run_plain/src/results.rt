@@ -34,8 +34,8 @@ fn exit_result(exit: ChildExit, leaked: bool, leak: LeakTimeoutResult) -> Execut
     }
 }
 
-/// The result of an attempt whose start wasn't refused and that didn't run out of time: it failed to run where its child
-/// wasn't seen to end, and at an error; else it is as its child ended.
+/// The result of an attempt whose start wasn't refused and that didn't run out of time: it failed to run where its
+/// child wasn't seen to end, and at an error; else it is as its child ended.
 pub fn execution_result(
     exit: Option<ChildExit>,
     has_errors: bool,

@@ -38,7 +38,8 @@ pub fn decides(turn: &UnitTurn) -> bool
     matches!(turn, UnitTurn::Decide { .. })
 }
 
-// How many turns the newest attempt of a story has, where the story has the newest turn first; 0 where it has no attempt.
+// How many turns the newest attempt of a story has, where the story has the newest turn first; 0 where it has no
+// attempt.
 fn newest(story: &[OwnTurn]) -> usize
     ensures turns { result ≡ newest story.now }
     ensures within { result ≤ length story.now }

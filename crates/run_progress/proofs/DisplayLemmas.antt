@@ -118,7 +118,8 @@ edited-cons continues now pause false running rest = refl
 edited-cons other now pause false running rest = refl
 
 -- what starts by a deed, before a list after one more event
-started-push : (first : Change) (start before : ℕ) (later : List TestEvent) (event : TestEvent) (rest : List RunningTest)
+started-push : (first : Change) (start before : ℕ) (later : List TestEvent) (event : TestEvent)
+    (rest : List RunningTest)
     → started_by first start before (later ++ event ∷ [])
     ++ edited (last_or before (filter_map paused_in later)) event rest
     ≡ edited (last_or before (filter_map paused_in later)) event (started_by first start before later ++ rest)

@@ -5,7 +5,8 @@ use Rattle.std.specs.Prelude.{codes, decimal, nat_lt, length, ◌==◌, if◌the
 use Rattle.std.proofs.lemmas.Bool.{lt-ltb, ne_eqb}
 use Rattle.std.proofs.lemmas.List.Concat.{flat_map-append}
 use Rattle.run_events.specs.declared.stats.RunStats.{RunStats}
-use Rattle.run_progress.specs.Summary.{count_text, failed_kinds, in_parentheses, comma_joined, passed_kinds, summary_text}
+use Rattle.run_progress.specs.Summary.{count_text, failed_kinds, in_parentheses, comma_joined, passed_kinds}
+use Rattle.run_progress.specs.Summary.{summary_text}
 use Rattle.run_progress.specs.Parts.{after_commas, closed, with_kind}
 
 -- the first part, and each other after a comma

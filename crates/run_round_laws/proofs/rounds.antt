@@ -5,6 +5,7 @@ pub mod RowLeaves
 pub mod Delays
 pub mod Taken
 pub mod RoundDeeds
+pub mod JoinedRounds
 pub mod Rising
 pub mod RequestLaws
 pub mod FinishAnswers

@@ -61,34 +61,35 @@ is_info_due _ = false
 
 -- the answers that were given in the open round by now to what it asks, in the order of the turns that gave them
 abbrev pub given_so_far : List Happening → List InfoResponse
-given_so_far past = answers_given (open_round past) past
+given_so_far run = answers_given (open_round run) run
 
--- a turn after others broadcasts a query, and tells that units are asked, exactly where it asks what they are doing:
--- with its own number, and with the count of the live ones. The turns that ask for an answer tell one: the nth that
--- is told in a round, counted from 0, is the nth that was given in it. And those that ask for the end of a round tell
--- of how many of the units that were asked no answer was told
-pub record TellsOfQueries (p : Settings) (past : List Happening) (x : Happening) : Type 0 where
+-- a turn after others of a sub-run broadcasts a query, and tells that units are asked, exactly where it asks what they
+-- are doing: with its own number, and with the count of the live ones. The turns that ask for an answer tell one: the
+-- nth that is told in a round, counted from 0, is the nth that was given in it. And those that ask for the end of a
+-- round tell of how many of the units that were asked no answer was told
+pub record TellsOfQueries (p : Settings) (run : List Happening) (x : Happening) : Type 0 where
   pub queries : query_waits x.request ≡ asks_information p.plan.hearing x.turn
   pub asks : is_some (of_told asked_in None x.told) ≡ asks_information p.plan.hearing x.turn
   pub answers : is_some (of_told answer_told_in None x.told) ≡ is_answer_turn x.turn
   pub ends : is_some (of_told missing_in None x.told) ≡ is_info_due x.turn
   pub start : IfSome (of_told asked_in None x.told) (λ total.
-      (x.request ≡ Some (GetInfo (round_count past))) × (total ≡ live_in (units p (sub_run past))))
+      (x.request ≡ Some (GetInfo (round_count run))) × (total ≡ live_in (units p run)))
   pub answer : IfSome (of_told answer_told_in None x.told) (λ answer.
-      (answer.index ≡ answers_told past) × (answer.total ≡ round_total past)
-      × (slice_get (given_so_far past) (answers_told past) ≡ Some answer.response))
+      (answer.index ≡ answers_told run) × (answer.total ≡ round_total run)
+      × (slice_get (given_so_far run) (answers_told run) ≡ Some answer.response))
   pub finish : IfSome (of_told missing_in None x.told) (λ missing.
-      (query_waits (open_round past) ≡ true) × (answers_told past + missing ≡ round_total past))
+      (query_waits (open_round run) ≡ true) × (answers_told run + missing ≡ round_total run))
 
 -- that holds of each turn of every legal journal
 abbrev pub QueriesAreTold : Type 0
 QueriesAreTold = (p : Settings) (journal : List Entry) (e : Entry) → IsLegal p (journal ++ e ∷ [])
-    → TellsOfQueries p (past_of p journal) (happening p (past_of p journal) e)
+    → TellsOfQueries p (sub_run (past_of p journal)) (happening p (past_of p journal) e)
 
--- after every legal journal no more answers were given in a round of queries, and none more told, than units were asked
-pub record AnswersFit (past : List Happening) : Type 0 where
-  pub given : query_waits (open_round past) ≡ true → length (given_so_far past) ≤ round_total past
-  pub told : answers_told past ≤ round_total past
+-- in the newest sub-run of every legal journal no more answers were given in a round of queries, and none more told,
+-- than units were asked
+pub record AnswersFit (run : List Happening) : Type 0 where
+  pub given : query_waits (open_round run) ≡ true → length (given_so_far run) ≤ round_total run
+  pub told : answers_told run ≤ round_total run
 
 abbrev pub NoneAnswersTwice : Type 0
-NoneAnswersTwice = (p : Settings) (journal : List Entry) → IsLegal p journal → AnswersFit (past_of p journal)
+NoneAnswersTwice = (p : Settings) (journal : List Entry) → IsLegal p journal → AnswersFit (sub_run (past_of p journal))

@@ -5,10 +5,11 @@ ghost use Rattle.run_round_laws.specs.LiveCounts.{CountsMove};
 ghost use Rattle.run_round_laws.specs.Queries.{NoneAnswersTwice, QueriesAreTold};
 ghost use Rattle.run_round_laws.specs.Requests.{FinishesAnswer, RequestsAreAnswered, StopsAreCounted};
 
-/// In the newest sub-run of every legal journal what a script or test took is the first part of what was broadcast while it
-/// was live, in order; and it answered just the queries that it took, each once and in order, or, where it has ended its
-/// last attempt, just those that were broadcast to it. The turn with which it has ended that answers each query in its line
-/// once, with its own round and with what came of that attempt. Each stop that leaves a line is counted once.
+/// In the newest sub-run of every legal journal what a script or test took is the first part of what was broadcast
+/// while it was live, in order; and it answered just the queries that it took, each once and in order, or, where it has
+/// ended its last attempt, just those that were broadcast to it. The turn with which it has ended that answers each
+/// query in its line once, with its own round and with what came of that attempt. Each stop that leaves a line is
+/// counted once.
 pub fn requests_are_answered()
     ensures requests { RequestsAreAnswered }
     ensures finishes { FinishesAnswer }
@@ -16,30 +17,32 @@ pub fn requests_are_answered()
 {}
 
 /// Each turn of a legal journal broadcasts a query, and tells that units are asked, exactly where it asks what they are
-/// doing, with the count of the live ones. Each turn that asks for an answer tells one: the nth in its round, counted from 0,
-/// is the nth that was given in it, with that index and with as many as were asked. Each end of a round tells of how many of
-/// them no answer was told. No more answers are given in a round, and told, than units were asked.
+/// doing, with the count of the live ones. Each turn that asks for an answer tells one: the nth in its round, counted
+/// from 0, is the nth that was given in it, with that index and with as many as were asked. Each end of a round tells
+/// of how many of them no answer was told. No more answers are given in a round, and told, than units were asked. The
+/// rounds are those of the sub-run, counted from 0 in each.
 pub fn queries_are_told()
     ensures turns { QueriesAreTold }
     ensures fits { NoneAnswersTwice }
 {}
 
-/// After every legal journal the active time of the run, which its stopwatch shows and its events say, is how far the turns
-/// moved the clock while the run wasn't paused.
+/// After every legal journal the active time of the run, which its stopwatch shows and its events say, is how far the
+/// turns moved the clock while the run wasn't paused.
 pub fn active_time_is_counted()
     ensures { ActiveTimeIsCounted }
 {}
 
-/// With each turn of a legal journal the count of live units, and that of the units that hold a request which isn't asked
-/// with it, are moved by the unit alone whose turn it is; and what a new round asks is held by each live unit and no other.
+/// With each turn of a legal journal the count of live units, and that of the units that hold a request which isn't
+/// asked with it, are moved by the unit alone whose turn it is; and what a new round asks is held by each live unit and
+/// no other.
 pub fn live_counts_move()
     ensures { CountsMove }
 {}
 
-/// The turn of a legal journal with which a script or test takes a query answers that alone, with its round, and says what
-/// it is doing as its own turns say it: its child runs, is given time to end, or has ended and its streams are waited for;
-/// or its attempt failed, and a delay passes: as which process, for which time so far, since when it is slow, why it ends,
-/// how long it has waited and still does, and what was captured.
+/// The turn of a legal journal with which a script or test takes a query answers that alone, with its round, and says
+/// what it is doing as its own turns say it: its child runs, is given time to end, or has ended and its streams are
+/// waited for; or its attempt failed, and a delay passes: as which process, for which time so far, since when it is
+/// slow, why it ends, how long it has waited and still does, and what was captured.
 pub fn answers_are_own_turns()
     ensures { AnswersAreOwnTurns }
 {}

@@ -1,12 +1,13 @@
 -- What a closed run leaves.
-use Rattle.std.proofs.Common.{◌≡◌, ℕ, List, Bool, true, false, Option, Some, None, refl, sym, subst, ◌∙◌, rules, if◌then◌else◌}
+use Rattle.std.proofs.Common.{◌≡◌, ℕ, List, Bool, true, false, Option, None, refl, sym, subst, ◌∙◌, rules}
+use Rattle.std.proofs.Common.{if◌then◌else◌}
 use Rattle.std.specs.Option.{IsSome}
 use Rattle.run_events.specs.declared.ask.Ask.{Ask}
 use Rattle.run_events.specs.declared.events.ReporterEvent.{ReporterEvent}
 use Rattle.run_events.specs.declared.outcome.RunOutcome.{RunOutcome}
-use Rattle.run_events.specs.Outcome.{outcome_of, summary}
 use Rattle.run_model.specs.declared.entry.Entry.{Entry}
-use Rattle.run_model.specs.Words.{is_over, stats, sub_run}
+use Rattle.run_model.specs.Words.{is_over, ended_runs}
+use Rattle.run_model.specs.SubRuns.{outcome_in}
 use Rattle.run_model.specs.Journal.{outcome}
 use Rattle.run_engine.specs.World.{World, history_of}
 use Rattle.run_engine.specs.Standing.{IsRunnable}
@@ -18,13 +19,14 @@ use Rattle.run_shared.specs.declared.closing.CloseKind.{CloseKind}
 use Rattle.run_shared.specs.declared.closing.CloseKind.TheVariants.{OtherSettings, Mismatch, Repeated, OutOfMemory}
 
 -- a run with an outcome isn't broken
-not_broken : (b over : Bool) (x : RunOutcome) (end : Option RunOutcome) → (b ≡ true → over ≡ false)
-    → end ≡ (if over then Some x else None) → IsSome end → b ≡ false
-not_broken false over x end un is some = refl
-not_broken true true x end un is some = un refl
-not_broken true false x end un is some = let s = rw is at some in search rules
+not_broken : (b over : Bool) (ended end : Option RunOutcome) → (b ≡ true → over ≡ false)
+    → end ≡ (if over then ended else None) → IsSome end → b ≡ false
+not_broken false over ended end un is some = refl
+not_broken true true ended end un is some = un refl
+not_broken true false ended end un is some = let s = rw is at some in search rules
 
-pub left_of : {R E : Type 0} (tells : R → List (ReporterEvent × Option E) → Type 0) (r : R) (c : List (ℕ × Ask)) (w : World)
+pub left_of : {R E : Type 0} (tells : R → List (ReporterEvent × Option E) → Type 0) (r : R) (c : List (ℕ × Ask))
+    (w : World)
     (journal : List Entry) (end : Option RunOutcome) → journal ≡ w.journal → IsRunnable w.settings w.journal
     → (w.broken ≡ true → is_over (history_of w) ≡ false) → end ≡ outcome w.settings (history_of w)
     → IsHeard tells (λ list xs. list ≡ xs) r c w → IsLeft tells r c w.settings journal end
@@ -40,7 +42,7 @@ left_of tells r c w journal end same legal unfinished ended h =
       asked = h.asked;
       part = h.part;
       whole = λ some. h.whole (not_broken w.broken (is_over (history_of w))
-          (outcome_of (summary (stats w.settings (sub_run (history_of w))))) end unfinished ended some);
+          (outcome_in w.settings (ended_runs (history_of w))) end unfinished ended some);
     })
 
 -- settings that differ are reported as such

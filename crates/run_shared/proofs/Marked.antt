@@ -1,8 +1,12 @@
 -- Flags of receipts.
-use Rattle.std.proofs.Common.{◌≡◌, ◌≢◌, ℕ, ◌+◌, ◌<◌, ◌≤◌, ◌==◌, List, [], ◌∷◌, ◌++◌, length, map, Bool, true, false, refl, ap, sym}
-use Rattle.std.proofs.Common.{◌∙◌, arith, rules, length-append, take, drop, get_or, set, cond, zero, suc, subst, replicate}
-use Rattle.std.proofs.lemmas.List.{take_more, take-append-drop, append_assoc, map-append, append-nil, take_all, length-map}
-use Rattle.std.proofs.lemmas.List.{get_or-set_same, get_or-set_other, length-set, get_or_past, get_or-replicate, length-replicate}
+use Rattle.std.proofs.Common.{◌≡◌, ◌≢◌, ℕ, ◌+◌, ◌<◌, ◌≤◌, ◌==◌, List, [], ◌∷◌, ◌++◌, length, map, Bool, true, false}
+use Rattle.std.proofs.Common.{refl, ap, sym}
+use Rattle.std.proofs.Common.{◌∙◌, arith, rules, length-append, take, drop, get_or, set, cond, zero, suc, subst}
+use Rattle.std.proofs.Common.{replicate}
+use Rattle.std.proofs.lemmas.List.{take_more, take-append-drop, append_assoc, map-append, append-nil, take_all}
+use Rattle.std.proofs.lemmas.List.{length-map}
+use Rattle.std.proofs.lemmas.List.{get_or-set_same, get_or-set_other, length-set, get_or_past, get_or-replicate}
+use Rattle.std.proofs.lemmas.List.{length-replicate}
 use Rattle.std.proofs.lemmas.List.Sums.{sum_by-append, sum_by_push, sum_by-cons, sum_by-set, count_by-le-length}
 use Rattle.std.proofs.lemmas.List.Folds.{sum_by-replicate}
 use Rattle.std.proofs.lemmas.List.Elements.{All-append, Contains-append_left, Contains-append_right}
@@ -12,7 +16,8 @@ use Rattle.run_model.specs.declared.entry.Entry.{Entry}
 use Rattle.run_shared.specs.declared.shared.Receipt.{Receipt}
 use Rattle.run_shared.specs.declared.closing.CloseKind.{CloseKind}
 use Rattle.run_shared.specs.declared.closing.CloseKind.TheVariants.{OtherSettings, Mismatch, Repeated, OutOfMemory}
-use Rattle.run_shared.specs.Receipts.{concatenated, receipt_numbers, times, bit, StandsIn, Marks, Looked, IsFault, HasFault, Closes}
+use Rattle.run_shared.specs.Receipts.{concatenated, receipt_numbers, times, bit, StandsIn, Marks, Looked, IsFault}
+use Rattle.run_shared.specs.Receipts.{HasFault, Closes}
 
 times_append : (k : ℕ) (xs ys : List ℕ) → times k (xs ++ ys) ≡ times k xs + times k ys
 times_append k xs ys = sum_by-append (λ n. cond (n == k) 1 0) xs ys
@@ -47,7 +52,8 @@ looked_one journal seen r stands below fresh = record {
 pub looked_none : (journal : List Entry) (seen : List Bool) → Looked journal seen seen []
 looked_none journal seen = record { stands = (search rules); marked = λ ns m. rw append-nil m }
 
-pub looked_more : (journal : List Entry) (seen now after : List Bool) (rs ss : List Receipt) → Looked journal seen now rs
+pub looked_more : (journal : List Entry) (seen now after : List Bool) (rs ss : List Receipt)
+    → Looked journal seen now rs
     → Looked journal now after ss → Looked journal seen after (rs ++ ss)
 looked_more journal seen now after rs ss a b = record {
   stands = All-append (StandsIn journal) rs ss a.stands b.stands;
@@ -62,7 +68,8 @@ numbers_three rs ss after =
     map-append (λ (r : Receipt). r.number) rs (ss ++ after)
     ∙ ap (λ (ns : List ℕ). receipt_numbers rs ++ ns) (map-append (λ (r : Receipt). r.number) ss after)
 
-repeated_after : (n : ℕ) (ns xs ys zs : List ℕ) → 2 ≤ times n ((ns ++ xs) ++ ys) → 2 ≤ times n (ns ++ (xs ++ (ys ++ zs)))
+repeated_after : (n : ℕ) (ns xs ys zs : List ℕ) → 2 ≤ times n ((ns ++ xs) ++ ys)
+    → 2 ≤ times n (ns ++ (xs ++ (ys ++ zs)))
 repeated_after n ns xs ys zs h = omega (
   arith,
   h,
@@ -103,7 +110,8 @@ cut_at xs i x below is =
     ∙ append_assoc (take i xs) (x ∷ []) (drop (i + 1) xs)
 
 -- the same of lists that are concatenated
-pub joined_append : {X : Type 0} → (xss yss : List (List X)) → concatenated (xss ++ yss) ≡ concatenated xss ++ concatenated yss
+pub joined_append : {X : Type 0} → (xss yss : List (List X))
+    → concatenated (xss ++ yss) ≡ concatenated xss ++ concatenated yss
 joined_append [] yss = refl
 joined_append (xs ∷ xss) yss =
     ap (λ ys. xs ++ ys) (joined_append xss yss) ∙ sym (append_assoc xs (concatenated xss) (concatenated yss))
@@ -143,7 +151,8 @@ marks_none n = record {
 }
 
 once_each : (journal : List Entry) (now : List Bool) (rs : List Receipt) (k : ℕ) → length now ≡ length journal
-    → Marks now (receipt_numbers rs) → length rs ≡ length journal → k < length journal → times k (receipt_numbers rs) ≡ 1
+    → Marks now (receipt_numbers rs) → length rs ≡ length journal → k < length journal
+    → times k (receipt_numbers rs) ≡ 1
 once_each journal now rs k len m as_many below =
     m.each k ∙ ap bit (all_true now k (m.count ∙ length-map rs (λ (r : Receipt). r.number) ∙ as_many ∙ sym len)
     (omega (arith, len, below)))

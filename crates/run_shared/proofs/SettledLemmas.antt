@@ -1,5 +1,6 @@
 -- The turn that is settled is of a kind that a run takes by itself.
-use Rattle.std.proofs.Common.{◌≡◌, ℕ, List, [], ◌∷◌, ◌++◌, map, Bool, true, false, Option, Some, None, refl, sym, ◌∙◌, subst, if◌then◌else◌, rules}
+use Rattle.std.proofs.Common.{◌≡◌, ℕ, List, [], ◌∷◌, ◌++◌, map, Bool, true, false, Option, Some, None, refl, sym, ◌∙◌}
+use Rattle.std.proofs.Common.{subst, if◌then◌else◌, rules}
 use Rattle.std.proofs.Common.{option_map}
 use Rattle.std.proofs.lemmas.List.Elements.{All-append, All-nil, All-cons, All-head, All-tail}
 use Rattle.std.specs.List.{All, range_with_len}
@@ -53,7 +54,8 @@ found_settled : (enabled : Bool) (t : Turn) (rest : Option Turn) → Settled t �
 found_settled true t rest own later = own
 found_settled false t rest own later = later
 
-first_settled_kind : (p : Settings) (b : Board) (ts : List Turn) → All Settled ts → IfSome (first_enabled p b ts) Settled
+first_settled_kind : (p : Settings) (b : Board) (ts : List Turn) → All Settled ts
+    → IfSome (first_enabled p b ts) Settled
 first_settled_kind p b [] each = tt
 first_settled_kind p b (t ∷ ts) each =
     found_settled (enabled_on p b t) t (first_enabled p b ts) (All-head Settled t ts each)

@@ -89,8 +89,8 @@ impl<L: Ledger, R: Reporter> Locked<L, R> {
         Ok(place)
     }
 
-    /// Takes the first enabled turn of those that a run takes by itself, which the share counts, and answers its place and
-    /// the turn; none where there is none.
+    /// Takes the first enabled turn of those that a run takes by itself, which the share counts, and answers its place
+    /// and the turn; none where there is none.
     pub fn settle(
         &mut self,
         alloc: Global,

@@ -1,5 +1,6 @@
 // Whether receipts are those of a journal.
-ghost use Rattle.std.specs.Prelude.{◌≡◌, ◌<◌, ◌∷◌, ◌↔◌, ℕ, List as Items, [], length, IfOk, IfErr, OnOk, OnErr, IfSome, IsSome, IsNone};
+ghost use Rattle.std.specs.Prelude.{◌≡◌, ◌<◌, ◌∷◌, ◌↔◌, ℕ, List as Items, [], length, IfOk, IfErr, OnOk, OnErr, IfSome};
+ghost use Rattle.std.specs.Prelude.{IsSome, IsNone};
 ghost use Rattle.std.specs.Prelude.{IsTrue, Some, None, replicate, false};
 ghost use Rattle.run_shared.specs.Receipts.{concatenated, turn_at, StandsIn, IsFault, HasFault, Looked, Closes};
 

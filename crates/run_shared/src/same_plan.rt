@@ -97,6 +97,7 @@ impl Same for PlanTest {
             && self.command.same(&other.command)
             && self.skip.same(&other.skip)
             && self.weight == other.weight
+            && self.priority == other.priority
             && self.group.same(&other.group)
             && self.retries.same(&other.retries)
             && self.flaky == other.flaky

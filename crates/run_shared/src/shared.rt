@@ -1,5 +1,6 @@
 // A run that threads share.
-ghost use Rattle.std.specs.Prelude.{◌≡◌, ◌<◌, ◌+◌, [], Ok, Err, IfOk, IfErr, OnOk, OnErr, IfSome, IsNone, length, vec_len, true};
+ghost use Rattle.std.specs.Prelude.{◌≡◌, ◌<◌, ◌+◌, [], Ok, Err, IfOk, IfErr, OnOk, OnErr, IfSome, IsNone, length};
+ghost use Rattle.std.specs.Prelude.{vec_len, true};
 ghost use Rattle.run_shared.specs.Settled.{is_settled_turn};
 ghost use Rattle.std.specs.List.{All, sum_by};
 ghost use Rattle.run_engine.specs.Heard.{IsHeard};
@@ -43,8 +44,8 @@ impl Receipt {
     }
 }
 
-/// A run that was closed: its journal, the receipts as they were given, what it asked, its outcome if it is over, and its
-/// reporter.
+/// A run that was closed: its journal, the receipts as they were given, what it asked, its outcome if it is over, and
+/// its reporter.
 #[derive(Drop)]
 pub struct Closed<R: Reporter> {
     pub journal: List<Entry>,
@@ -254,8 +255,8 @@ fn unclosed_of<R: Reporter>(
 }
 
 impl<L: Ledger, R: Reporter> SharedRun<L, R> {
-    /// A run that has taken no turn, and a share of one part for each worker. Where memory is wanting the reporter comes
-    /// back.
+    /// A run that has taken no turn, and a share of one part for each worker. Where memory is wanting the reporter
+    /// comes back.
     pub fn new(
         alloc: Global,
         runner: TestRunner,
@@ -328,8 +329,8 @@ impl<L: Ledger, R: Reporter> SharedRun<L, R> {
         Ok(copy)
     }
 
-    /// Takes the first enabled turn of those that a run takes by itself, which the share counts, and answers its receipt;
-    /// none where there is none.
+    /// Takes the first enabled turn of those that a run takes by itself, which the share counts, and answers its
+    /// receipt; none where there is none.
     pub fn settle(
         &self,
         rt: &impl Wait,
@@ -353,8 +354,8 @@ impl<L: Ledger, R: Reporter> SharedRun<L, R> {
         }
     }
 
-    /// Waits until a start was asked that nobody has claimed, and claims the earliest; none where the run is over, given
-    /// up, broken or full.
+    /// Waits until a start was asked that nobody has claimed, and claims the earliest; none where the run is over,
+    /// given up, broken or full.
     pub fn next_start(&self, rt: &impl Wait) -> Option<StartAsk> {
         let mut run = self
             .moved
@@ -371,8 +372,8 @@ impl<L: Ledger, R: Reporter> SharedRun<L, R> {
         self.moved.notify_all();
     }
 
-    /// Takes the run out of its lock, and looks whether the receipts are those of its journal: each stands in it, and no
-    /// number comes twice.
+    /// Takes the run out of its lock, and looks whether the receipts are those of its journal: each stands in it, and
+    /// no number comes twice.
     pub fn close(
         self,
         alloc: Global,

@@ -1,5 +1,6 @@
 -- Which answers are to what the open round asks.
-use Rattle.std.proofs.Common.{◌≡◌, ℕ, List, [], ◌∷◌, ◌++◌, filter_map, option_and_then, Option, Some, None, option_to_list}
+use Rattle.std.proofs.Common.{◌≡◌, ℕ, List, [], ◌∷◌, ◌++◌, filter_map, option_and_then, Option, Some, None}
+use Rattle.std.proofs.Common.{option_to_list}
 use Rattle.std.proofs.Common.{append_assoc, refl, ap, sym, ◌∙◌}
 use Rattle.std.specs.List.{cons_option}
 use Rattle.std.proofs.lemmas.List.Elements.{filter_map-append}

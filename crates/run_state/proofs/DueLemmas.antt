@@ -1,5 +1,6 @@
 -- The timers of the units that were admitted and aren't over are those of all units.
-use Rattle.std.proofs.Common.{◌≡◌, ℕ, zero, suc, ◌+◌, ◌<◌, List, [], ◌∷◌, map, take, length, get_or, Bool, true, false, ◌||◌}
+use Rattle.std.proofs.Common.{◌≡◌, ℕ, zero, suc, ◌+◌, ◌<◌, List, [], ◌∷◌, map, take, length, get_or, Bool, true}
+use Rattle.std.proofs.Common.{false, ◌||◌}
 use Rattle.std.proofs.Common.{Option, Some, None, refl, ap, ap₂, sym, subst, ◌∙◌, arith}
 use Rattle.std.specs.List.{list_any, range_with_len}
 use Rattle.run_clock.specs.Sleep.{IsDueFrom}
@@ -92,7 +93,8 @@ pub any-due : (p : Settings) (b : Board) (now : ℕ) → b.dispatcher.over ≡ f
     || list_any (λ u. unit_takes now u Due) b.units)
     ≡ is_any_due p b now
 any-due p b now going whole =
-    or_assoc (dispatch_takes b.dispatcher (facts b) now GlobalDue) (dispatch_takes b.dispatcher (facts b) now StopWaitDue)
+    or_assoc (dispatch_takes b.dispatcher (facts b) now GlobalDue)
+    (dispatch_takes b.dispatcher (facts b) now StopWaitDue)
     (dispatch_takes b.dispatcher (facts b) now InfoDue) (list_any (λ u. unit_takes now u Due) b.units)
     ∙ ap₂ (λ a c. a || c) global (ap₂ (λ a c. a || c) stop (ap₂ (λ a c. a || c) info each))
   where
@@ -124,5 +126,6 @@ none_of f [] none = refl
 none_of f (t ∷ ts) none = rw (none t) (none_of f ts none)
 
 pub over-due : (p : Settings) (b : Board) (now : ℕ) → b.dispatcher.over ≡ true → is_any_due p b now ≡ false
-over-due p b now over = none_of (enabled_on p (record b { clock = now })) (GlobalDue ∷ StopWaitDue ∷ InfoDue ∷ of_each p UnitDue)
+over-due p b now over =
+    none_of (enabled_on p (record b { clock = now })) (GlobalDue ∷ StopWaitDue ∷ InfoDue ∷ of_each p UnitDue)
     (λ t. rw over refl)

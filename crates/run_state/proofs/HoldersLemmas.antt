@@ -1,11 +1,13 @@
 -- How many units are live, and how many have in their lines what the open round asks, as the units change.
-use Rattle.std.proofs.Common.{◌≡◌, ◌⊎◌, inl, inr, ℕ, zero, suc, ◌+◌, ◌<◌, ◌≤◌, ◌^◌, nat_lt, List, [], ◌∷◌, length, get_or, set}
+use Rattle.std.proofs.Common.{◌≡◌, ◌⊎◌, inl, inr, ℕ, zero, suc, ◌+◌, ◌<◌, ◌≤◌, ◌^◌, nat_lt, List, [], ◌∷◌, length}
+use Rattle.std.proofs.Common.{get_or, set}
 use Rattle.std.proofs.Common.{Bool, true, false, cond, Option, Some, None, count_by, refl, ap, sym, ◌∙◌, ◌||◌, arith}
 use Rattle.std.specs.List.{list_any}
 use Rattle.std.proofs.lemmas.List.{get_or-drop, length-set}
 use Rattle.std.proofs.lemmas.List.Sums.{sum_by-cons, sum_by-set, get_or-le-sum_by, count_by-le-length}
 use Rattle.run_events.specs.declared.request.Request.{Request}
 use Rattle.run_events.specs.declared.settings.Settings.{Settings}
+use Rattle.run_events.specs.declared.stress.StressIndex.{StressIndex}
 use Rattle.run_model.specs.declared.unit_view.UnitView.{UnitView}
 use Rattle.run_model.specs.Admission.{Newcomer, newcomer, scripts_in, unit_of_test}
 use Rattle.run_model.specs.Environment.{number}
@@ -47,6 +49,11 @@ counted_fits f us k count v was is counts inside few old now =
     let after : ◌≡◌ {A = ℕ} (cond is 1 0) (cond (f v) 1 0) = ap (λ b. cond b 1 0) now in
     omega arith
 
+-- a unit that wasn't admitted holds nothing
+none_holds : (asks : Option Request) → holds_asked asks None ≡ false
+none_holds None = refl
+none_holds (Some request) = refl
+
 -- of units none of which was admitted none is live
 pub absent_live : (us : List (Option UnitView)) → ((k : ℕ) → get_or us k None ≡ None) → 0 ≡ live_in us
 absent_live [] none = refl
@@ -54,6 +61,17 @@ absent_live (u ∷ us) none =
     let first = sum_by-cons (λ u. cond (is_live_unit u) 1 0) u us in
     let no : ◌≡◌ {A = ℕ} (cond (is_live_unit u) 1 0) 0 = ap (λ u. cond (is_live_unit u) 1 0) (none 0) in
     let rest = absent_live us (λ k. none (suc k)) in
+    omega arith
+
+-- and none holds what an open round asks
+pub absent_held : (asks : Option Request) (us : List (Option UnitView)) → ((k : ℕ) → get_or us k None ≡ None)
+    → 0 ≡ holders_in asks us
+absent_held asks [] none = refl
+absent_held asks (u ∷ us) none =
+    let first = sum_by-cons (λ u. cond (holds_asked asks u) 1 0) u us in
+    let no : ◌≡◌ {A = ℕ} (cond (holds_asked asks u) 1 0) 0 =
+    ap (λ u. cond (holds_asked asks u) 1 0) (none 0) ∙ ap (λ b. cond {A = ℕ} b 1 0) (none_holds asks) in
+    let rest = absent_held asks us (λ k. none (suc k)) in
     omega arith
 
 -- where no round is open none has what it asks
@@ -82,10 +100,6 @@ fresh_holds : (asks : Option Request) (v : UnitView) → v.line ≡ [] → holds
 fresh_holds None v line = refl
 fresh_holds (Some request) v line = ap (list_any (is_request request)) line
 
-none_holds : (asks : Option Request) → holds_asked asks None ≡ false
-none_holds None = refl
-none_holds (Some request) = refl
-
 fresh_set : (asks : Option Request) (us : List (Option UnitView)) (k : ℕ) (v : UnitView) → get_or us k None ≡ None
     → v.line ≡ [] → holders_in asks us ≡ holders_in asks (set us k (Some v))
 fresh_set asks [] k v absent line = refl
@@ -99,18 +113,18 @@ fresh_set asks (u ∷ us) (suc k) v absent line =
     ∙ ap (λ n. cond (holds_asked asks u) 1 0 + n) (fresh_set asks us k v absent line)
     ∙ sym (sum_by-cons (λ u. cond (holds_asked asks u) 1 0) u (set us k (Some v)))
 
-pub holders_joined : (asks : Option Request) (p : Settings) (us : List (Option UnitView))
-    → holders_in asks us ≡ holders_in asks (units_with p us (newcomer p us))
-holders_joined asks p us = by_new (newcomer p us) refl
+pub holders_joined : (asks : Option Request) (p : Settings) (index : Option StressIndex) (us : List (Option UnitView))
+    → holders_in asks us ≡ holders_in asks (units_with p us (newcomer p index us))
+holders_joined asks p index us = by_new (newcomer p index us) refl
   where
-    by_kind : (new : Newcomer) → Newcomes p us new ⊎ ScriptComes p us new
+    by_kind : (new : Newcomer) → Newcomes p index us new ⊎ ScriptComes p index us new
         → holders_in asks us ≡ holders_in asks (set us (number new.unit) (Some new.unit))
     by_kind new (inl found) = by_case found.is
       where
         absent : get_or us (unit_of_test p found.place) None ≡ None
         absent = sym (get_or-drop (scripts_in p) us found.place None) ∙ found.absent
 
-        by_case : Becomes p us found.place found.test new
+        by_case : Becomes p index us found.place found.test new
             → holders_in asks us ≡ holders_in asks (set us (number new.unit) (Some new.unit))
         by_case (inl (reason, skip, is)) =
             fresh_set asks us (number new.unit) new.unit
@@ -123,6 +137,6 @@ holders_joined asks p us = by_new (newcomer p us) refl
         (ap (λ (n : Newcomer). get_or us (number n.unit) None) found.is ∙ found.absent)
         (ap (λ (n : Newcomer). n.unit.line) found.is)
 
-    by_new : (o : Option Newcomer) → newcomer p us ≡ o → holders_in asks us ≡ holders_in asks (units_with p us o)
+    by_new : (o : Option Newcomer) → newcomer p index us ≡ o → holders_in asks us ≡ holders_in asks (units_with p us o)
     by_new None e = refl
-    by_new (Some new) e = by_kind new (newcomer_is p us new e)
+    by_new (Some new) e = by_kind new (newcomer_is p index us new e)

@@ -13,6 +13,7 @@ use Rattle.run_admission.specs.declared.seat.Seat.TheVariants.{Gone, InUse}
 use Rattle.run_admission.specs.InUse.{Admissions, released, seats_after}
 use Rattle.run_events.specs.declared.request.Request.{Request}
 use Rattle.run_events.specs.declared.settings.Settings.{Settings}
+use Rattle.run_events.specs.declared.stress.StressIndex.{StressIndex}
 use Rattle.run_model.specs.declared.unit_turn.UnitTurn.{UnitTurn}
 use Rattle.run_model.specs.declared.unit_view.UnitView.{UnitView}
 use Rattle.run_model.specs.Environment.{number}
@@ -21,7 +22,7 @@ use Rattle.run_model.specs.Admission.{limits_of, scripts_in, seat_of, newcomer, 
 use Rattle.run_laws.proofs.board.Newcomers.{Newcomes, Becomes, ScriptComes, newcomer_is}
 use Rattle.run_laws.proofs.units.Rows.{row_keeps}
 use Rattle.run_state.specs.Held.{given_back, units_with}
-use Rattle.run_state.specs.Placed.{AreTests, is_no_script, is_test}
+use Rattle.run_state.specs.Placed.{AreTests, HasSeats, is_no_script, is_test}
 
 -- scripts and tests that stay in their places
 pub tests-kept : (us vs : List (Option UnitView)) (a b : Admissions) → AreTests us a
@@ -91,6 +92,21 @@ seats-given p a k true = by_kind (nat_le (scripts_in p) k)
     by_kind true = length-set a.seats (k - scripts_in p) Gone
     by_kind false = refl
 
+-- so each test has a seat by then
+pub seats-left : (p : Settings) (a b : Admissions) (k : ℕ) (over : Bool) → HasSeats a
+    → b ≡ (if over then given_back p a k else a) → HasSeats b
+seats-left p a b k over has left =
+    ap (λ (b : Admissions). length b.seats) left ∙ seats-given p a k over ∙ has ∙ sym (claims over)
+    ∙ sym (ap (λ (b : Admissions). length b.claims) left)
+  where
+    of_kind : (c : Bool) → length (if c then released a (k - scripts_in p) else a).claims ≡ length a.claims
+    of_kind true = refl
+    of_kind false = refl
+
+    claims : (over : Bool) → length (if over then given_back p a k else a).claims ≡ length a.claims
+    claims true = of_kind (nat_le (scripts_in p) k)
+    claims false = refl
+
 -- an admission leaves how many seats there are
 pub seats-admitted : (seats : List Seat) (next : Option Admitted) → length (seats_after seats next) ≡ length seats
 seats-admitted seats None = refl
@@ -142,30 +158,31 @@ tests-set us a b k v are seats new j u at le = by_place (j == k) refl
     by_place false e = are j u (sym (set_other us k j (Some v) e) ∙ at) many
 
 -- the newcomer
-pub tests-after : (p : Settings) (us : List (Option UnitView)) (a b : Admissions) → AreTests us a → a ≡ limits_of p us
-    → length b.seats ≡ length a.seats → scripts_in p ≤ length us → AreTests (units_with p us (newcomer p us)) b
-tests-after p us a b are seated seats whole = by_new (newcomer p us) refl
+pub tests-after : (p : Settings) (index : Option StressIndex) (us : List (Option UnitView)) (a b : Admissions)
+    → AreTests us a → a ≡ limits_of p us
+    → length b.seats ≡ length a.seats → scripts_in p ≤ length us → AreTests (units_with p us (newcomer p index us)) b
+tests-after p index us a b are seated seats whole = by_new (newcomer p index us) refl
   where
-    of_test : (new : Newcomer) → Newcomes p us new → is_test new.unit.role ≡ true
+    of_test : (new : Newcomer) → Newcomes p index us new → is_test new.unit.role ≡ true
     of_test new found = by_case found.is
       where
-        by_case : Becomes p us found.place found.test new → is_test new.unit.role ≡ true
+        by_case : Becomes p index us found.place found.test new → is_test new.unit.role ≡ true
         by_case (inl (reason, skip, is)) = ap (λ (n : Newcomer). is_test n.unit.role) is
         by_case (inr (skip, (global, (slot, runs, is)))) = ap (λ (n : Newcomer). is_test n.unit.role) is
 
-    of_script : (new : Newcomer) → ScriptComes p us new → number new.unit < scripts_in p
+    of_script : (new : Newcomer) → ScriptComes p index us new → number new.unit < scripts_in p
     of_script new found =
         subst (λ (n : Newcomer). number n.unit < scripts_in p) (sym found.is)
         (slice_get_within p.plan.scripts found.place found.script found.planned)
 
-    by_kind : (new : Newcomer) → Newcomes p us new ⊎ ScriptComes p us new
+    by_kind : (new : Newcomer) → Newcomes p index us new ⊎ ScriptComes p index us new
         → length us ≤ number new.unit + length a.seats → is_test new.unit.role ≡ true
     by_kind new (inl found) le = of_test new found
     by_kind new (inr found) le =
         absurd (let below = of_script new found in
         omega (arith, below, le, whole, seats-many p us, ap (λ (a : Admissions). length a.seats) seated))
 
-    by_new : (o : Option Newcomer) → newcomer p us ≡ o → AreTests (units_with p us o) b
+    by_new : (o : Option Newcomer) → newcomer p index us ≡ o → AreTests (units_with p us o) b
     by_new None e = tests-kept us us a b are refl seats
     by_new (Some new) e =
-        tests-set us a b (number new.unit) new.unit are seats (by_kind new (newcomer_is p us new e))
+        tests-set us a b (number new.unit) new.unit are seats (by_kind new (newcomer_is p index us new e))

@@ -1,6 +1,9 @@
 -- What the dispatcher's turns do to the rounds, and to the board.
-use Rattle.std.proofs.Common.{◌≡◌, ℕ, ◌+◌, nat_le, option_map, List, [], ◌++◌, drop, filter_map, option_to_list, if◌then◌else◌}
+use Rattle.std.proofs.Common.{◌≡◌, ℕ, ◌+◌, nat_le, option_map, List, [], ◌++◌, drop, filter_map, option_to_list}
+use Rattle.std.proofs.Common.{if◌then◌else◌}
 use Rattle.std.proofs.Common.{Bool, true, false, ◌||◌, Option, Some, None, append-nil, refl, ap, ap₂, sym, ◌∙◌}
+use Rattle.std.proofs.Common.{◌==◌, map, length, get_or, arith}
+use Rattle.std.proofs.lemmas.List.{ext_get_or, get_or-map, length-map}
 use Rattle.run_events.specs.declared.info.InfoResponse.{InfoResponse}
 use Rattle.run_events.specs.declared.input.InputEvent.{InputEvent}
 use Rattle.run_events.specs.declared.input.InputEvent.TheVariants as inputs
@@ -22,14 +25,17 @@ use Rattle.run_events.specs.declared.signal.Signal.{Signal}
 use Rattle.run_events.specs.declared.signal.Signal.TheVariants as signals
 use Rattle.run_model.specs.declared.dispatcher_view.DispatcherView.{DispatcherView}
 use Rattle.run_model.specs.declared.unit_view.UnitView.{UnitView}
-use Rattle.run_model.specs.Board.{Board, Deed, answers_after, dispatched, moved, reach_all, round_from, units_after}
+use Rattle.run_model.specs.Board.{Board, Deed, anew, answers_after, cleared, dispatched, dispatched_in, moved, moved_in}
+use Rattle.run_model.specs.Board.{reach_all, round_from, units_after}
 use Rattle.run_model.specs.declared.dispatcher_view.CancelRules.{CancelRules}
 use Rattle.run_model.specs.declared.dispatcher_view.Tally.{Tally}
 use Rattle.run_model.specs.Cancel.{Cause, cause_of, caused, failure_cause, is_above, script_failed, too_many_failed}
-use Rattle.run_model.specs.Dispatch.{Moment, event, is_halted, may_go, moment_by, retried_event, started_event, with_start}
+use Rattle.run_model.specs.Dispatch.{Moment, event, is_halted, may_go, moment_by, retried_event, started_event}
+use Rattle.run_model.specs.Dispatch.{with_start}
 use Rattle.run_model.specs.Rounds.{answer_of, closes_round, opens_round, tells_answer}
 use Rattle.run_model.specs.Turns.{answered_by, continues_at, delivers, hears, job_deed, key_deed, signal_deed, stops_at}
-use Rattle.run_model.specs.Turns.{tally_by, told_by}
+use Rattle.run_model.specs.Turns.{begins_as, begun, ends_as, sub_run_started, tally_by, told_by}
+use Rattle.run_commands.specs.declared.stress_count.StressCondition.{StressCondition}
 use Rattle.run_dispatch.specs.declared.effects.DispatchEffects.{DispatchEffects}
 use Rattle.run_dispatch.specs.Deeds.{Does}
 use Rattle.run_state.specs.declared.effects.Effects.{Effects}
@@ -45,12 +51,15 @@ pub record IsOwn (deed : Deed) : Type 0 where
   pub taken : deed.taken ≡ false
   pub closes : closes_round deed.stops deed.told ≡ false
   pub tells : tells_answer deed.told ≡ false
+  pub begins : deed.begins ≡ false
 
 -- what the open round asks after it, where it opens none
 pub asks_kept : (now : ℕ) (d : DispatcherView) (deed : Deed) → opens_round deed.request ≡ false
-    → closes_round deed.stops deed.told ≡ false → (dispatched now d deed).rounds.asks ≡ d.rounds.asks
-asks_kept now d deed opens closes =
-    by_case (opens_round deed.request) (closes_round deed.stops deed.told) (tells_answer deed.told) opens closes
+    → closes_round deed.stops deed.told ≡ false → deed.begins ≡ false
+    → (dispatched now d deed).rounds.asks ≡ d.rounds.asks
+asks_kept now d deed opens closes begins =
+    ap (λ begins. (dispatched_in now (if begins then cleared d else d) deed).rounds.asks) begins
+    ∙ by_case (opens_round deed.request) (closes_round deed.stops deed.told) (tells_answer deed.told) opens closes
   where
     by_case : (o c t : Bool) → o ≡ false → c ≡ false
         → (if o then round_from now d.rounds deed
@@ -75,26 +84,26 @@ pub holders_unasked : (now : ℕ) (d e : DispatcherView) (deed : Deed) (us : Lis
     → IsOwn deed → n ≡ holders_in d.rounds.asks us → e ≡ dispatched now d deed → request ≡ deed.request → request ≡ None
     → n ≡ holders_in e.rounds.asks us
 holders_unasked now d e deed us n request own is after asked none =
-    holders_kept now d e deed us n is after (asks_kept now d deed (ap opens_round (sym asked ∙ none)) own.closes)
+    holders_kept now d e deed us n is after
+    (asks_kept now d deed (ap opens_round (sym asked ∙ none)) own.closes own.begins)
 
--- what it does to the board
-pub own_moved : (b : Board) (deed : Deed) → IsOwn deed
+own_in : (b : Board) (deed : Deed) → IsOwn deed
     → record b {
       units = reach_all deed.request b.units;
       answers = if opens_round deed.request then [] else b.answers;
-      dispatcher = dispatched b.clock b.dispatcher deed;
-    } ≡ moved b deed
-own_moved b deed own =
+      dispatcher = dispatched_in b.clock b.dispatcher deed;
+    } ≡ moved_in b deed
+own_in b deed own =
     ap (λ us. record b {
       units = us;
       answers = if opens_round deed.request then [] else b.answers;
-      dispatcher = dispatched b.clock b.dispatcher deed;
+      dispatcher = dispatched_in b.clock b.dispatcher deed;
     }) units
-    ∙ ap (λ q. record (moved b deed) {
+    ∙ ap (λ q. record (moved_in b deed) {
       queue = q;
       answers = if opens_round deed.request then [] else b.answers;
     }) queue
-    ∙ ap (λ answers. record (moved b deed) { answers = answers }) waits
+    ∙ ap (λ answers. record (moved_in b deed) { answers = answers }) waits
   where
     units : reach_all deed.request b.units ≡ reach_all deed.request (units_after b.clock deed.part b.units)
     units = ap (λ part. reach_all deed.request (units_after b.clock part b.units)) (sym own.part)
@@ -102,11 +111,13 @@ own_moved b deed own =
     queue : b.queue ≡ drop (if deed.taken then 1 else 0) b.queue ++ option_to_list deed.sent
     queue =
         sym (append-nil b.queue)
-        ∙ ap₂ (λ taken sent. drop (if taken then 1 else 0) b.queue ++ option_to_list sent) (sym own.taken) (sym own.sent)
+        ∙ ap₂ (λ taken sent. drop (if taken then 1 else 0) b.queue ++ option_to_list sent) (sym own.taken)
+        (sym own.sent)
 
     by_case : (o c t : Bool) (info : List (ℕ × InfoResponse)) → c ≡ false → t ≡ false → info ≡ []
         → (if o then [] else b.answers)
-        ≡ (if o || c then [] else drop (if t then 1 else 0) b.answers ++ filter_map (answer_of b.dispatcher.rounds.asks) info)
+        ≡ (if o || c then []
+        else drop (if t then 1 else 0) b.answers ++ filter_map (answer_of b.dispatcher.rounds.asks) info)
     by_case true c t info closes tells none = refl
     by_case false true t info closes tells none = cc
     by_case false false true info closes tells none = cc
@@ -116,11 +127,28 @@ own_moved b deed own =
 
     waits : (if opens_round deed.request then [] else b.answers) ≡ answers_after b.dispatcher.rounds.asks deed b.answers
     waits =
-        by_case (opens_round deed.request) (closes_round deed.stops deed.told) (tells_answer deed.told) deed.info own.closes
+        by_case (opens_round deed.request) (closes_round deed.stops deed.told)
+        (tells_answer deed.told) deed.info own.closes
         own.tells own.info
 
+-- what it does to the board
+pub own_moved : (b : Board) (deed : Deed) → IsOwn deed
+    → record b {
+      units = reach_all deed.request b.units;
+      answers = if opens_round deed.request then [] else b.answers;
+      dispatcher = dispatched b.clock b.dispatcher deed;
+    } ≡ moved b deed
+own_moved b deed own =
+    ap (λ begins. record b {
+      units = reach_all deed.request b.units;
+      answers = if opens_round deed.request then [] else b.answers;
+      dispatcher = dispatched_in b.clock (if begins then cleared b.dispatcher else b.dispatcher) deed;
+    }) own.begins
+    ∙ own_in b deed own ∙ sym (ap (λ begins. moved_in (if begins then anew b else b) deed) own.begins)
+
 -- the answers that wait after a deed that opens no round, closes none and tells no answer
-pub answers_kept : (asks : Option Request) (deed : Deed) (waiting : List InfoResponse) → opens_round deed.request ≡ false
+pub answers_kept : (asks : Option Request) (deed : Deed) (waiting : List InfoResponse)
+    → opens_round deed.request ≡ false
     → closes_round deed.stops deed.told ≡ false → tells_answer deed.told ≡ false
     → waiting ++ filter_map (answer_of asks) deed.info ≡ answers_after asks deed waiting
 answers_kept asks deed waiting opens closes tells = rw (opens, closes, tells) refl
@@ -130,6 +158,7 @@ pub record LeavesRound (deed : Deed) : Type 0 where
   pub opens : opens_round deed.request ≡ false
   pub closes : closes_round deed.stops deed.told ≡ false
   pub tells : tells_answer deed.told ≡ false
+  pub begins : deed.begins ≡ false
 
 -- what a delivery tells is none of a round, and what its cause asks opens none
 record IsQuiet (told : Option ReporterEvent) : Type 0 where
@@ -143,7 +172,8 @@ told_where false moment kind quiet = record { closes = refl; tells = refl }
 
 told_quiet : (now : ℕ) (d : DispatcherView) (m : Message) → IsQuiet (told_by now d m)
 told_quiet now d (ScriptStart start) =
-    told_where (may_go d.tally) (moment_by now d.watch) (SetupScriptStarted start) (record { closes = refl; tells = refl })
+    told_where (may_go d.tally) (moment_by now d.watch) (SetupScriptStarted start)
+    (record { closes = refl; tells = refl })
 told_quiet now d (Start start) =
     told_where (may_go d.tally) (moment_by now d.watch) (started_event start (with_start d.tally))
     (record { closes = refl; tells = refl })
@@ -175,8 +205,10 @@ cause_quiet rules t (Finish finish) = by_rule rules.max_fail
 cause_quiet rules t m = tt
 
 -- so a delivery leaves the round
-pub delivery_leaves : (now : ℕ) (d : DispatcherView) (m : Message) (answer : Deed) → LeavesRound (delivers now d m answer)
-delivery_leaves now d m answer = by_cause (cause_of d.rules (tally_by now d m) m) (cause_quiet d.rules (tally_by now d m) m)
+pub delivery_leaves : (now : ℕ) (d : DispatcherView) (m : Message) (answer : Deed)
+    → LeavesRound (delivers now d m answer)
+delivery_leaves now d m answer =
+    by_cause (cause_of d.rules (tally_by now d m) m) (cause_quiet d.rules (tally_by now d m) m)
   where
     quiet : IsQuiet (told_by now d m)
     quiet = told_quiet now d m
@@ -188,15 +220,17 @@ delivery_leaves now d m answer = by_cause (cause_of d.rules (tally_by now d m) m
 
     by_cause : (cause : Option Cause) → OpensNone cause
         → LeavesRound (caused (moment_by now d.watch) (tally_by now d m) cause (hears now d m answer))
-    by_cause None opens = record { opens = refl; closes = quiet.closes; tells = quiet.tells }
+    by_cause None opens = record { opens = refl; closes = quiet.closes; tells = quiet.tells; begins = refl }
     by_cause (Some cause) opens = record {
       opens = by_rank (is_above (tally_by now d m).stats.cancel_reason cause.reason) cause.request opens;
       closes = quiet.closes;
       tells = quiet.tells;
+      begins = refl;
     }
 
 -- so a call of the dispatcher does such a deed, where what it asks of the units reaches them
-pub done_own : (old : Held) (deed : Deed) (us : List (Option UnitView)) (answers : List InfoResponse) (e : DispatcherView)
+pub done_own : (old : Held) (deed : Deed) (us : List (Option UnitView)) (answers : List InfoResponse)
+    (e : DispatcherView)
     (fx : DispatchEffects) (go : Option Bool) (out : Effects)
     → IsOwn deed → us ≡ reach_all fx.request old.board.units
     → answers ≡ (if opens_round fx.request then [] else old.board.answers)
@@ -221,33 +255,130 @@ done_own old deed us answers e fx go out own reach waits does tells = record {
 pub signal_own : (now live : ℕ) (d : DispatcherView) (signal : Signal) (heard : Option Heard)
     → IsOwn (signal_deed now live d signal heard)
 signal_own now live d signal None =
-    record { part = refl; sent = refl; info = refl; taken = refl; closes = refl; tells = refl }
+    record { part = refl; sent = refl; info = refl; taken = refl; closes = refl; tells = refl; begins = refl }
 signal_own now live d signal (Some Shutdown) =
-    record { part = refl; sent = refl; info = refl; taken = refl; closes = refl; tells = refl }
+    record { part = refl; sent = refl; info = refl; taken = refl; closes = refl; tells = refl; begins = refl }
 signal_own now live d signal (Some Info) =
-    record { part = refl; sent = refl; info = refl; taken = refl; closes = refl; tells = refl }
+    record { part = refl; sent = refl; info = refl; taken = refl; closes = refl; tells = refl; begins = refl }
 signal_own now live d signal (Some JobControl) = by_signal signal
   where
     stopped : (halted : Bool) → is_halted d ≡ halted → IsOwn (stops_at now d)
-    stopped true is = rw is (record { part = refl; sent = refl; info = refl; taken = refl; closes = refl; tells = refl })
-    stopped false is = rw is (record { part = refl; sent = refl; info = refl; taken = refl; closes = refl; tells = refl })
+    stopped true is = rw is (record {
+      part = refl;
+      sent = refl;
+      info = refl;
+      taken = refl;
+      closes = refl;
+      tells = refl;
+      begins = refl;
+    })
+    stopped false is = rw is (record {
+      part = refl;
+      sent = refl;
+      info = refl;
+      taken = refl;
+      closes = refl;
+      tells = refl;
+      begins = refl;
+    })
 
     continued : (halted : Bool) → is_halted d ≡ halted → IsOwn (continues_at now d)
-    continued true is = rw is (record { part = refl; sent = refl; info = refl; taken = refl; closes = refl; tells = refl })
-    continued false is = rw is (record { part = refl; sent = refl; info = refl; taken = refl; closes = refl; tells = refl })
+    continued true is = rw is (record {
+      part = refl;
+      sent = refl;
+      info = refl;
+      taken = refl;
+      closes = refl;
+      tells = refl;
+      begins = refl;
+    })
+    continued false is = rw is (record {
+      part = refl;
+      sent = refl;
+      info = refl;
+      taken = refl;
+      closes = refl;
+      tells = refl;
+      begins = refl;
+    })
 
     by_signal : (signal : Signal) → IsOwn (job_deed now d signal)
     by_signal signals.Tstp = stopped (is_halted d) refl
     by_signal signal = continued (is_halted d) refl
 
 pub key_own : (now live : ℕ) (d : DispatcherView) (heard : Option InputEvent) → IsOwn (key_deed now live d heard)
-key_own now live d None = record { part = refl; sent = refl; info = refl; taken = refl; closes = refl; tells = refl }
+key_own now live d None = record {
+  part = refl;
+  sent = refl;
+  info = refl;
+  taken = refl;
+  closes = refl;
+  tells = refl;
+  begins = refl;
+}
 key_own now live d (Some inputs.Enter) =
-    record { part = refl; sent = refl; info = refl; taken = refl; closes = refl; tells = refl }
+    record { part = refl; sent = refl; info = refl; taken = refl; closes = refl; tells = refl; begins = refl }
 key_own now live d (Some inputs.Info) =
-    record { part = refl; sent = refl; info = refl; taken = refl; closes = refl; tells = refl }
+    record { part = refl; sent = refl; info = refl; taken = refl; closes = refl; tells = refl; begins = refl }
 
--- no unit acts where an answer is told
+-- no unit acts where an answer is told, and no sub-run begins
 pub answered_part : (b : Board) (answer : Option InfoResponse) → (answered_by b answer).part ≡ None
 answered_part b None = refl
 answered_part b (Some answer) = refl
+
+pub answered_on : (b : Board) (answer : Option InfoResponse) → (answered_by b answer).begins ≡ false
+answered_on b None = refl
+answered_on b (Some answer) = refl
+
+-- the end of a sub-run is such a deed
+pub end_own : (now : ℕ) (d : DispatcherView) (stress : Option StressCondition) → IsOwn (ends_as now d stress)
+end_own now d None =
+    record { part = refl; sent = refl; info = refl; taken = refl; closes = refl; tells = refl; begins = refl }
+end_own now d (Some condition) =
+    record { part = refl; sent = refl; info = refl; taken = refl; closes = refl; tells = refl; begins = refl }
+
+pub end_opens : (now : ℕ) (d : DispatcherView) (stress : Option StressCondition)
+    → opens_round (ends_as now d stress).request ≡ false
+end_opens now d None = refl
+end_opens now d (Some condition) = refl
+
+-- a cause asks what opens no round, where it asks anything
+pub cause_opens : (above : Bool) (request : Request) → opens_round (Some request) ≡ false
+    → opens_round (if above then Some request else None) ≡ false
+cause_opens true request is = is
+cause_opens false request is = refl
+
+-- a sub-run begins: it tells nothing of a round
+begin_quiet : (now : ℕ) (d : DispatcherView) (stress : Option StressCondition)
+    → IsQuiet (option_map (sub_run_started now d) stress)
+begin_quiet now d None = record { closes = refl; tells = refl }
+begin_quiet now d (Some condition) = record { closes = refl; tells = refl }
+
+-- so the board is one on which no unit was admitted and nothing waits
+begun_board : (b : Board) (first : Bool)
+    → record b {
+      units = map (λ u. None) b.units;
+      queue = [];
+      answers = [];
+      dispatcher = dispatched b.clock b.dispatcher (begins_as b.clock b.dispatcher first);
+    } ≡ moved b (begins_as b.clock b.dispatcher first)
+begun_board b true = refl
+begun_board b false =
+    let deed : Deed = begins_as b.clock b.dispatcher false in
+    let quiet = begin_quiet b.clock b.dispatcher b.dispatcher.head.stress in
+    ap (λ answers. record (moved b deed) { answers = answers })
+    (answers_kept None deed [] refl quiet.closes quiet.tells)
+
+pub begun_moved : (b : Board) (us : List (Option UnitView)) (d : DispatcherView) → length us ≡ length b.units
+    → ((k : ℕ) → get_or us k None ≡ None) → d ≡ dispatched b.clock b.dispatcher (begun b)
+    → record b { units = us; queue = []; answers = []; dispatcher = d } ≡ moved b (begun b)
+begun_moved b us d many none after =
+    ap₂ (λ us d. record b { units = us; queue = []; answers = []; dispatcher = d }) units after
+    ∙ begun_board b (b.dispatcher.sub_runs.ended == 0)
+  where
+    nones : List (Option UnitView)
+    nones = map (λ u. None) b.units
+
+    units : us ≡ nones
+    units = ext_get_or None us nones (many ∙ sym (length-map b.units (λ u. None)))
+        (λ i below. none i ∙ sym (get_or-map (λ u. None) b.units i None None (omega (arith, below, many))))

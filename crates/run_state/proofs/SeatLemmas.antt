@@ -8,6 +8,7 @@ use Rattle.std.proofs.lemmas.Option.{same_Some, slice_get-map, slice_get_cases, 
 use Rattle.std.proofs.lemmas.List.{drop-set-lt, drop-set-add, map-set, get_or-drop, get_or-map, length-drop}
 use Rattle.std.proofs.Math.Seq.{map-set_same}
 use Rattle.run_events.specs.declared.settings.Settings.{Settings}
+use Rattle.run_events.specs.declared.stress.StressIndex.{StressIndex}
 use Rattle.run_admission.specs.declared.seat.Seat.TheVariants.{InUse, Gone}
 use Rattle.run_events.specs.declared.plan.PlanScript.{PlanScript}
 use Rattle.run_events.specs.declared.plan.PlanTest.{PlanTest}
@@ -139,14 +140,20 @@ no_slot p us j test slot planned is none =
     is ∙ ap (option_and_then (free_group_slot (limits_of p us)))
     (slice_get-map (claim_of p.plan.groups) p.plan.tests j ∙ ap (option_map (claim_of p.plan.groups)) planned)
     ∙ ap (λ g. free_group_slot (limits_of p us)
-    (record { matched = is_none test.skip; weight = test.weight; group = option_and_then (group_of p.plan.groups) g }))
+    (record {
+      matched = is_none test.skip;
+      weight = test.weight;
+      priority = test.priority;
+      group = option_and_then (group_of p.plan.groups) g;
+    }))
     none
 
 -- what is held of the limits after a test was admitted
-pub limits-seated : (p : Settings) (us : List (Option UnitView)) (r : Admitted) (new : Newcomer)
-    → admitted (limits_of p us) ≡ Some r → newcomer_as p us r (slice_get p.plan.tests (test_of r)) ≡ Some new
+pub limits-seated : (p : Settings) (index : Option StressIndex) (us : List (Option UnitView)) (r : Admitted)
+    (new : Newcomer)
+    → admitted (limits_of p us) ≡ Some r → newcomer_as p index us r (slice_get p.plan.tests (test_of r)) ≡ Some new
     → after_admission (limits_of p us) ≡ limits_of p (units_with p us (Some new))
-limits-seated p us r new e made =
+limits-seated p index us r new e made =
     ap (λ o. record (limits_of p us) { seats = seats_after (map seat_of (drop (scripts_in p) us)) o }) e
     ∙ by_test (slice_get p.plan.tests (test_of r)) r refl (admitted_is (limits_of p us) r e).1 made
   where
@@ -157,25 +164,25 @@ limits-seated p us r new e made =
         ap (λ seats. record (limits_of p us) { seats = seats })
         (ap (set (map seat_of (drop (scripts_in p) us)) j) (sym is) ∙ sym (seats-set p us j (Some u)))
 
-    skipped : (j : ℕ) (test : PlanTest) (skip : Option (List ℕ)) → newcomer_skipped p j test skip ≡ Some new
+    skipped : (j : ℕ) (test : PlanTest) (skip : Option (List ℕ)) → newcomer_skipped p index j test skip ≡ Some new
         → record (limits_of p us) { seats = set (map seat_of (drop (scripts_in p) us)) j Gone }
         ≡ limits_of p (set us (number new.unit) (Some new.unit))
     skipped j test None e = cc
     skipped j test (Some reason) e =
-        let it : skipped_newcomer p (unit_of_test p j) test reason ≡ new = same_Some _ _ e in
+        let it : skipped_newcomer p index (unit_of_test p j) test reason ≡ new = same_Some _ _ e in
         subst (λ (n : Newcomer). record (limits_of p us) { seats = set (map seat_of (drop (scripts_in p) us)) j Gone }
         ≡ limits_of p (set us (number n.unit) (Some n.unit))) it
-        (at j (skipped_view p (unit_of_test p j) test) Gone refl)
+        (at j (skipped_view p index (unit_of_test p j) test) Gone refl)
 
     by_test : (o : Option PlanTest) (r : Admitted) → slice_get p.plan.tests (test_of r) ≡ o
-        → HasFreeSlots (limits_of p us) r → newcomer_as p us r o ≡ Some new
+        → HasFreeSlots (limits_of p us) r → newcomer_as p index us r o ≡ Some new
         → record (limits_of p us) { seats = seats_after (map seat_of (drop (scripts_in p) us)) (Some r) }
         ≡ limits_of p (set us (number new.unit) (Some new.unit))
     by_test None r planned free made = cc
     by_test (Some test) (Skipped j) planned free made = skipped j test test.skip made
     by_test (Some test) (Run j global slot) planned free made =
         let u : UnitView =
-        first_view p (unit_of_test p j) (slots_of test global slot) (handed_to p us test) test in
+        first_view p index (unit_of_test p j) (slots_of test global slot) (handed_to p us test) test in
         let it : started_newcomer u ≡ new = same_Some _ _ made in
         subst (λ (n : Newcomer).
         record (limits_of p us) { seats = set (map seat_of (drop (scripts_in p) us)) j (InUse global slot) }
@@ -184,23 +191,28 @@ limits-seated p us r new e made =
         (ap (InUse global) (slot-kept slot test.group (no_slot p us j test slot planned free.1))))
 
 -- the newcomer where all scripts are over
-newcomer-test : (p : Settings) (us : List (Option UnitView)) (r : Admitted) → scripts_over p us ≡ true
-    → admitted (limits_of p us) ≡ Some r → newcomer p us ≡ newcomer_as p us r (slice_get p.plan.tests (test_of r))
-newcomer-test p us r over e =
-    rw over (ap (option_and_then (λ a. newcomer_as p us a (slice_get p.plan.tests (test_of a)))) e)
+newcomer-test : (p : Settings) (index : Option StressIndex) (us : List (Option UnitView)) (r : Admitted)
+    → scripts_over p us ≡ true
+    → admitted (limits_of p us) ≡ Some r → newcomer p index us
+    ≡ newcomer_as p index us r (slice_get p.plan.tests (test_of r))
+newcomer-test p index us r over e =
+    rw over (ap (option_and_then (λ a. newcomer_as p index us a (slice_get p.plan.tests (test_of a)))) e)
 
 -- what is held of the limits after it
-pub limits-after : (p : Settings) (us : List (Option UnitView)) (r : Admitted) → scripts_over p us ≡ true
+pub limits-after : (p : Settings) (index : Option StressIndex) (us : List (Option UnitView)) (r : Admitted)
+    → scripts_over p us ≡ true
     → admitted (limits_of p us) ≡ Some r
-    → after_admission (limits_of p us) ≡ limits_of p (units_with p us (newcomer p us))
-limits-after p us r over e =
-    subst (λ o. after_admission (limits_of p us) ≡ limits_of p (units_with p us o)) (sym (newcomer-test p us r over e))
-    (by_new (newcomer_as p us r (slice_get p.plan.tests (test_of r))) refl (becomes p us r e))
+    → after_admission (limits_of p us) ≡ limits_of p (units_with p us (newcomer p index us))
+limits-after p index us r over e =
+    subst (λ o. after_admission (limits_of p us) ≡ limits_of p (units_with p us o))
+    (sym (newcomer-test p index us r over e))
+    (by_new (newcomer_as p index us r (slice_get p.plan.tests (test_of r))) refl (becomes p index us r e))
   where
-    by_new : (o : Option Newcomer) → newcomer_as p us r (slice_get p.plan.tests (test_of r)) ≡ o → is_some o ≡ true
+    by_new : (o : Option Newcomer) → newcomer_as p index us r (slice_get p.plan.tests (test_of r)) ≡ o
+        → is_some o ≡ true
         → after_admission (limits_of p us) ≡ limits_of p (units_with p us o)
     by_new None made h = cc
-    by_new (Some new) made h = limits-seated p us r new e made
+    by_new (Some new) made h = limits-seated p index us r new e made
 
 -- a script of the plan stands at each of their places
 some_planned : (xs : List PlanScript) (i : ℕ) → i < length xs → slice_get xs i ≡ None → ⊥
@@ -212,40 +224,44 @@ some_planned xs i within none = by_case (slice_get_cases xs i).1
     by_case (inr past) = let le = past.0 in omega (arith, le, within)
 
 -- the newcomer where not all scripts are over
-newcomer-script : (p : Settings) (us : List (Option UnitView)) (i : ℕ) → scripts_over p us ≡ false
-    → open_script (scripts_of p us) ≡ Some i → newcomer p us ≡ script_newcomer p i (slice_get p.plan.scripts i)
-newcomer-script p us i before e =
-    rw before (ap (option_and_then (λ i. script_newcomer p i (slice_get p.plan.scripts i))) e)
+newcomer-script : (p : Settings) (index : Option StressIndex) (us : List (Option UnitView)) (i : ℕ)
+    → scripts_over p us ≡ false
+    → open_script (scripts_of p us) ≡ Some i → newcomer p index us
+    ≡ script_newcomer p index i (slice_get p.plan.scripts i)
+newcomer-script p index us i before e =
+    rw before (ap (option_and_then (λ i. script_newcomer p index i (slice_get p.plan.scripts i))) e)
 
 -- there is one where a script is the next
-pub opens : (p : Settings) (us : List (Option UnitView)) → scripts_over p us ≡ false
-    → is_some (open_script (scripts_of p us)) ≡ is_some (newcomer p us)
-opens p us before = by_open (open_script (scripts_of p us)) refl
+pub opens : (p : Settings) (index : Option StressIndex) (us : List (Option UnitView)) → scripts_over p us ≡ false
+    → is_some (open_script (scripts_of p us)) ≡ is_some (newcomer p index us)
+opens p index us before = by_open (open_script (scripts_of p us)) refl
   where
     of_script : (i : ℕ) (o : Option PlanScript) → slice_get p.plan.scripts i ≡ o → i < scripts_in p
-        → true ≡ is_some (script_newcomer p i o)
+        → true ≡ is_some (script_newcomer p index i o)
     of_script i None planned within =
         absurd (some_planned p.plan.scripts i within planned)
     of_script i (Some script) planned within = refl
 
-    by_open : (o : Option ℕ) → open_script (scripts_of p us) ≡ o → is_some o ≡ is_some (newcomer p us)
+    by_open : (o : Option ℕ) → open_script (scripts_of p us) ≡ o → is_some o ≡ is_some (newcomer p index us)
     by_open None e =
         rw before
-        (ap (λ o. is_some (option_and_then (λ i. script_newcomer p i (slice_get p.plan.scripts i)) o)) (sym e))
+        (ap (λ o. is_some (option_and_then (λ i. script_newcomer p index i (slice_get p.plan.scripts i)) o)) (sym e))
     by_open (Some i) e =
         of_script i (slice_get p.plan.scripts i) refl (open_first (scripts_in p) us i e).0
-        ∙ sym (ap is_some (newcomer-script p us i before e))
+        ∙ sym (ap is_some (newcomer-script p index us i before e))
 
 -- a script leaves what is held of the limits
-pub limits-script : (p : Settings) (us : List (Option UnitView)) (i : ℕ) → scripts_over p us ≡ false
-    → open_script (scripts_of p us) ≡ Some i → limits_of p us ≡ limits_of p (units_with p us (newcomer p us))
-limits-script p us i before e =
-    subst (λ o. limits_of p us ≡ limits_of p (units_with p us o)) (sym (newcomer-script p us i before e))
+pub limits-script : (p : Settings) (index : Option StressIndex) (us : List (Option UnitView)) (i : ℕ)
+    → scripts_over p us ≡ false
+    → open_script (scripts_of p us) ≡ Some i → limits_of p us ≡ limits_of p (units_with p us (newcomer p index us))
+limits-script p index us i before e =
+    subst (λ o. limits_of p us ≡ limits_of p (units_with p us o)) (sym (newcomer-script p index us i before e))
     (by_script (slice_get p.plan.scripts i) refl)
   where
     by_script : (o : Option PlanScript) → slice_get p.plan.scripts i ≡ o
-        → limits_of p us ≡ limits_of p (units_with p us (script_newcomer p i o))
+        → limits_of p us ≡ limits_of p (units_with p us (script_newcomer p index i o))
     by_script None planned = refl
     by_script (Some script) planned =
         ap (λ seats. record (limits_of p us) { seats = seats })
-        (sym (seats-script p us i (Some (script_view p i script)) (slice_get_within p.plan.scripts i script planned)))
+        (sym (seats-script p us i (Some (script_view p index i script))
+        (slice_get_within p.plan.scripts i script planned)))

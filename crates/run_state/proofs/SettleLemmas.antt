@@ -8,7 +8,7 @@ use Rattle.run_model.specs.declared.unit_turn.UnitTurn.{UnitTurn}
 use Rattle.run_model.specs.Admission.{units_in}
 use Rattle.run_model.specs.Board.{Board, unit_in}
 use Rattle.run_model.specs.Turns.{enabled_on, turn_of_unit, unit_takes}
-use Rattle.run_state.specs.Settle.{of_each, first_enabled, IsFirst, NoneTakes}
+use Rattle.run_state.specs.Settle.{of_each, first_enabled, IsFirstTaker, NoneTakes}
 
 -- one that is enabled comes first, and one that isn't is passed over
 enabled_first : (p : Settings) (b : Board) (t : Turn) (ts : List Turn) → enabled_on p b t ≡ true
@@ -51,7 +51,7 @@ named-takes p b t k turn takes going named is = rw going (rw named is)
 
 pub unit_first : (p : Settings) (b : Board) (f : ℕ → Turn) (turn : UnitTurn) (rest : List Turn) (unit : ℕ)
     → ((k : ℕ) → turn_of_unit (f k) ≡ Some (k, turn)) → b.dispatcher.over ≡ false → length b.units ≡ units_in p
-    → IsFirst b turn unit → first_enabled p b (of_each p f ++ rest) ≡ Some (f unit)
+    → IsFirstTaker b turn unit → first_enabled p b (of_each p f ++ rest) ≡ Some (f unit)
 unit_first p b f turn rest unit names going whole first =
     finds p b f 0 (units_in p) rest unit unit (omega arith) (omega (arith, first.within, whole))
     (named-takes p b (f unit) unit turn true going (names unit) first.takes)

@@ -1,60 +1,90 @@
--- The words over the empty history.
-use Rattle.std.proofs.Common.{◌≡◌, ℕ, zero, suc, ◌+◌, List, [], length, get_or, Bool, false, cond, Option, None}
-use Rattle.std.proofs.Common.{count_by, refl, ap, sym, ◌∙◌, add-zero, ◌<◌, map, drop, replicate, arith}
-use Rattle.std.proofs.lemmas.List.{ext_get_or, get_or-replicate, length-replicate, get_or-map, length-map, get_or-drop}
-use Rattle.std.proofs.lemmas.List.{length-drop}
+-- A sub-run before any unit was admitted: what its tests hold of the limits, and the dispatcher before any turn.
+use Rattle.std.proofs.Common.{◌≡◌, ℕ, ◌+◌, ◌-◌, ◌<◌, List, [], length, get_or, Option, None, refl, ap, ap₂, sym, ◌∙◌}
+use Rattle.std.proofs.Common.{map, drop}
+use Rattle.std.proofs.Common.{replicate, Some, subst, arith}
+use Rattle.std.proofs.lemmas.List.{ext_get_or, get_or-replicate, length-replicate, get_or-map, length-map}
+use Rattle.std.proofs.lemmas.List.{get_or-drop, length-drop}
 use Rattle.run_admission.specs.declared.seat.Seat.TheVariants.{Waiting}
-use Rattle.std.specs.List.{range_with_len}
-use Rattle.std.proofs.lemmas.List.FromFn.{fill_by_all}
-use Rattle.std.proofs.lemmas.List.Sums.{sum_by-cons}
-use Rattle.run_events.specs.Stats.{total_by}
-use Rattle.run_events.specs.declared.stats.RunStats.{RunStats}
+use Rattle.run_admission.specs.InUse.{Admissions, begun, claim_of}
+use Rattle.run_events.specs.declared.info.InfoResponse.{InfoResponse}
+use Rattle.run_events.specs.declared.message.Message.{Message}
+use Rattle.run_events.specs.declared.request.Request.{Request}
 use Rattle.run_events.specs.declared.settings.Settings.{Settings}
+use Rattle.run_model.proofs.RerunLemmas.{unseen-none}
+use Rattle.run_model.specs.declared.dispatcher_view.DispatcherView.{DispatcherView}
 use Rattle.run_model.specs.declared.unit_view.UnitView.{UnitView}
-use Rattle.run_model.specs.Admission.{units_in, tests_in, scripts_in, seat_of}
-use Rattle.run_laws.proofs.board.OnBoard.{units-length, units-at}
-use Rattle.run_model.specs.Words.{units, unit_of, running, scripts_running, is_running, adds_by}
+use Rattle.run_model.specs.Admission.{limits_of, scripts_in, seat_of, tests_in, units_in}
+use Rattle.run_model.specs.Board.{board, dispatcher_of}
+use Rattle.run_model.specs.Dispatch.{unbegun}
+use Rattle.run_laws.proofs.board.Nothing.{tally-nil, units-nil}
+use Rattle.run_state.specs.Held.{Held, held}
+use Rattle.run_state.specs.Placed.{FitsUnits, HasSeats}
+use Rattle.run_state.proofs.HoldersLemmas.{absent_held}
 
--- no finish adds nothing
-pub total-nil : (start : RunStats) → total_by adds_by start [] ≡ start
-unfolding total_by
-total-nil start = simp add-zero refl
-
--- no unit counts
-count-none : (f : ℕ → Bool) (n a : ℕ) → ((k : ℕ) → f k ≡ false) → count_by f (range_with_len a n) ≡ 0
-count-none f zero a none = refl
-count-none f (suc n) a none =
-    sum_by-cons (λ x. cond (f x) 1 0) a (range_with_len (a + 1) n)
-    ∙ ap (λ b. cond b 1 0 + count_by f (range_with_len (a + 1) n)) (none a)
-    ∙ ap (λ m. 0 + m) (count-none f n (a + 1) none)
-
--- no test runs, and no script
-pub running-nil : (p : Settings) → running p [] ≡ 0
-running-nil p = count-none (is_running []) (tests_in p) (scripts_in p) (λ k. refl)
-
-pub scripts_running-nil : (p : Settings) → scripts_running p [] ≡ 0
-scripts_running-nil p = count-none (is_running []) (scripts_in p) 0 (λ k. refl)
-
--- no unit was admitted
-pub units-nil : (p : Settings) (us : List (Option UnitView)) → length us ≡ units_in p
-    → ((k : ℕ) → get_or us k None ≡ None) → us ≡ units p []
-units-nil p us whole none = fill_by_all (λ k. unit_of k []) us (units_in p) None whole (λ k h. none k)
-
--- each test waits
-pub seats-nil : (p : Settings) → replicate (tests_in p) Waiting ≡ map seat_of (drop (scripts_in p) (units p []))
-seats-nil p =
-    ext_get_or Waiting (replicate (tests_in p) Waiting) (map seat_of (drop (scripts_in p) (units p [])))
-    (omega (arith, length-replicate (tests_in p) Waiting, long))
-    (λ i h. let below : i < tests_in p = omega (arith, length-replicate (tests_in p) Waiting) in
-    get_or-replicate (tests_in p) i Waiting Waiting below ∙ sym (waits i below))
+-- of units none of which was admitted, each after the scripts waits
+waits : (us : List (Option UnitView)) (n many : ℕ) → ((k : ℕ) → get_or us k None ≡ None) → length (drop n us) ≡ many
+    → replicate many Waiting ≡ map seat_of (drop n us)
+waits us n many none long =
+    ext_get_or Waiting (replicate many Waiting) (map seat_of (drop n us))
+    (length-replicate many Waiting ∙ sym (length-map (drop n us) seat_of ∙ long))
+    (λ i h. let below : i < many = omega (arith, length-replicate many Waiting) in
+    get_or-replicate many i Waiting Waiting below ∙ sym (waiting i (omega (arith, below, long))))
   where
-    whole : length (drop (scripts_in p) (units p [])) ≡ tests_in p
-    whole = let n = units-length p [] in omega (arith, length-drop (scripts_in p) (units p []))
+    waiting : (i : ℕ) → i < length (drop n us) → get_or (map seat_of (drop n us)) i Waiting ≡ Waiting
+    waiting i inside =
+        get_or-map seat_of (drop n us) i None Waiting inside ∙ ap seat_of (get_or-drop n us i None ∙ none (n + i))
 
-    long : length (map seat_of (drop (scripts_in p) (units p []))) ≡ tests_in p
-    long = length-map (drop (scripts_in p) (units p [])) seat_of ∙ whole
+-- so the limits as a sub-run begins are those of these units
+pub limits-anew : (p : Settings) (us : List (Option UnitView)) → ((k : ℕ) → get_or us k None ≡ None)
+    → length (drop (scripts_in p) us) ≡ tests_in p → begun p.threads p.plan.groups p.plan.tests ≡ limits_of p us
+limits-anew p us none long =
+    ap (λ seats. record (limits_of p us) { seats = seats }) (waits us (scripts_in p) (tests_in p) none long)
 
-    waits : (i : ℕ) → i < tests_in p → get_or (map seat_of (drop (scripts_in p) (units p []))) i Waiting ≡ Waiting
-    waits i below =
-        get_or-map seat_of (drop (scripts_in p) (units p [])) i None Waiting (omega (arith, whole))
-        ∙ ap seat_of (get_or-drop (scripts_in p) (units p []) i None ∙ units-at p [] (scripts_in p + i) (omega arith))
+-- each test has a seat then
+seats-anew : (p : Settings) → HasSeats (begun p.threads p.plan.groups p.plan.tests)
+seats-anew p = length-replicate (tests_in p) Waiting ∙ sym (length-map p.plan.tests (claim_of p.plan.groups))
+
+-- and none has in its line what an open round asks
+pub fits-anew : (p : Settings) (asks : Option Request) (us : List (Option UnitView)) (a : Admissions)
+    → ((k : ℕ) → get_or us k None ≡ None) → a ≡ begun p.threads p.plan.groups p.plan.tests → FitsUnits asks us 0 a
+fits-anew p asks us a none limits = (
+  (λ k u at many. let never : None ≡ Some u = sym (none k) ∙ at in cc),
+  absent_held asks us none,
+  subst HasSeats (sym limits) (seats-anew p),
+)
+
+-- where each test has a seat, the units after the scripts are as many as the tests
+pub tests-many : (p : Settings) (us vs : List (Option UnitView)) (a : Admissions) → a ≡ limits_of p us → HasSeats a
+    → length vs ≡ length us → length (drop (scripts_in p) vs) ≡ tests_in p
+tests-many p us vs a seated has same =
+    length-drop (scripts_in p) vs ∙ ap (λ n. n - scripts_in p) same ∙ sym (length-drop (scripts_in p) us)
+    ∙ sym (length-map (drop (scripts_in p) us) seat_of) ∙ sym (ap (λ (a : Admissions). length a.seats) seated) ∙ has
+    ∙ ap (λ (a : Admissions). length a.claims) seated ∙ length-map p.plan.tests (claim_of p.plan.groups)
+
+-- the dispatcher of a run that hasn't begun is that of the empty history
+dispatcher-nil : (p : Settings) → unbegun p ≡ dispatcher_of p []
+dispatcher-nil p =
+    ap₂ (λ t rerun. record (unbegun p) { tally = t; rerun = rerun }) (tally-nil p)
+    (sym (unseen-none [] (λ id. refl) p.expected))
+
+-- and so is its state
+pub state-nil : (p : Settings) (us : List (Option UnitView)) (queue : List Message) (answers : List InfoResponse)
+    (d : DispatcherView) (a : Admissions)
+    → length us ≡ units_in p → ((k : ℕ) → get_or us k None ≡ None) → queue ≡ [] → answers ≡ [] → d ≡ unbegun p
+    → a ≡ begun p.threads p.plan.groups p.plan.tests
+    → record (held p (board p [])) {
+      board = record (board p []) { units = us; queue = queue; answers = answers; dispatcher = d };
+      limits = a;
+    } ≡ held p (board p [])
+state-nil p us queue answers d a whole none waits gives unbegins limits =
+    ap₂ (λ queue answers. record h {
+      board = record h.board { units = us; queue = queue; answers = answers; dispatcher = d };
+      limits = a;
+    }) waits gives
+    ∙ ap₂ (λ d a. record h { board = record h.board { units = us; dispatcher = d }; limits = a })
+    (unbegins ∙ dispatcher-nil p)
+    (limits ∙ limits-anew p us none (omega (arith, length-drop (scripts_in p) us, whole)))
+    ∙ ap (λ us. record h { board = record h.board { units = us }; limits = limits_of p us }) (units-nil p us whole none)
+  where
+    h : Held
+    h = held p (board p [])

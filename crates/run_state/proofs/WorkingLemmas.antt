@@ -1,5 +1,6 @@
 -- The numbers of the units that were admitted and aren't over, as the units change.
-use Rattle.std.proofs.Common.{◌≡◌, ◌⊎◌, inl, inr, ℕ, zero, suc, ◌+◌, ◌<◌, ◌≤◌, ◌++◌, List, [], ◌∷◌, map, take, drop, length}
+use Rattle.std.proofs.Common.{◌≡◌, ◌⊎◌, inl, inr, ℕ, zero, suc, ◌+◌, ◌<◌, ◌≤◌, ◌++◌, List, [], ◌∷◌, map, take, drop}
+use Rattle.std.proofs.Common.{length}
 use Rattle.std.proofs.Common.{get_or, set, Bool, true, false, not, if◌then◌else◌, Option, Some, None, option_map}
 use Rattle.std.proofs.Common.{refl, ap, ap₂, sym, subst, ◌∙◌, arith}
 use Rattle.std.specs.List.{insert, remove}
@@ -14,13 +15,14 @@ use Rattle.run_model.specs.Board.{Board, unit_in}
 use Rattle.run_model.specs.Turns.{unit_takes}
 use Rattle.run_model.specs.Unit.{is_live, reached, takes}
 use Rattle.run_state.specs.Counted.{is_working, places, working_in}
-use Rattle.run_state.specs.Settle.{IsFirst, NoneTakes}
+use Rattle.run_state.specs.Settle.{IsFirstTaker, NoneTakes}
 use Rattle.run_state.proofs.CountedLemmas.{not_last, stands_inside}
 
 -- the places are no less than the number of the first
 above : (i : ℕ) (bs : List Bool) (k : ℕ) → k < length (places i bs) → i ≤ get_or (places i bs) k 0
 above i [] k below = absurd (omega arith)
-above i (false ∷ bs) k below = let more : i + 1 ≤ get_or (places (i + 1) bs) k 0 = above (i + 1) bs k below in omega arith
+above i (false ∷ bs) k below =
+    let more : i + 1 ≤ get_or (places (i + 1) bs) k 0 = above (i + 1) bs k below in omega arith
 above i (true ∷ bs) zero below = omega arith
 above i (true ∷ bs) (suc k) below =
     let more : i + 1 ≤ get_or (places (i + 1) bs) k 0 = above (i + 1) bs k (omega arith) in omega arith
@@ -106,7 +108,8 @@ absent_working us none = sym (absent-from 0 us none)
 
 -- a unit was set, whose flag is this
 pub working-set : (us : List (Option UnitView)) (k : ℕ) (v : UnitView) (over : Bool) (ns : List ℕ)
-    → is_last v.phase ≡ over → ns ≡ places 0 (set (map is_working us) k (not over)) → ns ≡ working_in (set us k (Some v))
+    → is_last v.phase ≡ over → ns ≡ places 0 (set (map is_working us) k (not over))
+    → ns ≡ working_in (set us k (Some v))
 working-set us k v over ns ends is =
     is ∙ ap (λ b. places 0 (set (map is_working us) k (not b))) (sym ends)
     ∙ ap (places 0) (sym (map-set is_working us k (Some v)))
@@ -148,7 +151,8 @@ working-failed request n us vs k new d is same =
     ∙ working-some request n us vs is
 
 -- a unit that takes a turn was admitted and isn't over
-pub taken_working : (now : ℕ) (o : Option UnitView) (turn : UnitTurn) → unit_takes now o turn ≡ true → is_working o ≡ true
+pub taken_working : (now : ℕ) (o : Option UnitView) (turn : UnitTurn) → unit_takes now o turn ≡ true
+    → is_working o ≡ true
 taken_working now None turn e = cc
 taken_working now (Some u) turn e = ap not (not_last now u turn e)
 
@@ -168,7 +172,7 @@ listed b k on = found 0 (map is_working b.units) k k (omega arith) (flag-at b.un
 pub first_working : (b : Board) (turn : UnitTurn) (ns : List ℕ) (at unit : ℕ) → ns ≡ working_in b.units → at < length ns
     → get_or ns at 0 ≡ unit
     → ((j : ℕ) → j < at → unit_takes b.clock (unit_in b (get_or ns j 0)) turn ≡ false)
-    → unit_takes b.clock (unit_in b unit) turn ≡ true → IsFirst b turn unit
+    → unit_takes b.clock (unit_in b unit) turn ≡ true → IsFirstTaker b turn unit
 first_working b turn ns at unit is inside here none takes =
     record { within = by_unit (unit_in b unit) refl takes; takes = takes; before = before }
   where

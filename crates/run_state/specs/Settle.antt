@@ -1,5 +1,6 @@
 -- The turns that a run takes by itself, and the first of them that is enabled.
-use Rattle.std.specs.Prelude.{ℕ, ◌≡◌, ◌<◌, List, [], ◌∷◌, ◌++◌, map, length, true, false, if◌then◌else◌, Option, Some, None}
+use Rattle.std.specs.Prelude.{ℕ, ◌≡◌, ◌<◌, List, [], ◌∷◌, ◌++◌, map, length, true, false, if◌then◌else◌, Option, Some}
+use Rattle.std.specs.Prelude.{None}
 use Rattle.std.specs.List.{range_with_len}
 use Rattle.run_events.specs.declared.settings.Settings.{Settings}
 use Rattle.run_events.specs.declared.turn.Turn.{Turn}
@@ -44,7 +45,7 @@ first_enabled p b [] = None
 first_enabled p b (t ∷ ts) = if enabled_on p b t then Some t else first_enabled p b ts
 
 -- the unit of this number is the first that takes a turn; none takes it
-pub record IsFirst (b : Board) (turn : UnitTurn) (unit : ℕ) : Type 0 where
+pub record IsFirstTaker (b : Board) (turn : UnitTurn) (unit : ℕ) : Type 0 where
   pub within : unit < length b.units
   pub takes : unit_takes b.clock (unit_in b unit) turn ≡ true
   pub before : (k : ℕ) → k < unit → unit_takes b.clock (unit_in b k) turn ≡ false

@@ -1,6 +1,7 @@
 // What an admission makes.
 ghost use Rattle.std.specs.Prelude.{◌≡◌, ◌<◌, length, IfOk, None, Some, option_map, is_some, slice_get};
-ghost use Rattle.std.specs.Prelude.{slice_index_or, true};
+ghost use Rattle.std.specs.Prelude.{slice_index_or, true, Option};
+ghost use Rattle.run_events.specs.declared.stress.StressIndex.{StressIndex};
 ghost use Rattle.run_admission.specs.InUse.{admitted};
 ghost use Rattle.run_model.specs.Admission.{first_view, group_slot, handed_to, limits_of, newcomer, newcomer_as};
 ghost use Rattle.run_model.specs.Admission.{open_script, scripts_of, scripts_over, script_newcomer, skip_message};
@@ -12,7 +13,7 @@ ghost use Rattle.run_state.specs.Held.{IsNext};
 use crate::units::Units;
 use run_admission::{Admission, Admitted, Candidate};
 use run_capture::{Duplicate, List, Mem, Text};
-use run_events::{GroupSlot, Message, PlanTest, Settings, TestSlotAssignment};
+use run_events::{GroupSlot, Message, PlanTest, Settings, StressIndex, TestSlotAssignment};
 use run_unit::{Unit, skip_message};
 use std::alloc::Global;
 
@@ -49,7 +50,7 @@ fn comes_next(admission: &Admission) -> bool
 pub fn can_admit(settings: &Settings, units: &Units, admission: &Admission) -> bool
     requires whole { length units.now ≡ units_in settings.now }
     requires seated { admission.now ≡ limits_of settings.now units.now }
-    ensures { result ≡ is_some (newcomer settings.now units.now) }
+    ensures { (index : Option StressIndex) → result ≡ is_some (newcomer settings.now index units.now) }
 {
     if are_scripts_over(settings, units) {
         comes_next(admission)
@@ -65,16 +66,21 @@ pub struct Newcomer {
     pub sent: Message,
 }
 
-/// What an admission makes of a script of the plan.
-pub fn script_of(alloc: Global, settings: &Settings, place: u32) -> Mem<Newcomer>
+/// What an admission makes of a script of the plan, in this sub-run of a stress run.
+pub fn script_of(
+    alloc: Global,
+    settings: &Settings,
+    index: Option<StressIndex>,
+    place: u32,
+) -> Mem<Newcomer>
     requires planned { place < length settings.now.plan.scripts }
     requires few { AreFew settings.now }
-    ensures made { IfOk result (λ a. script_newcomer settings.now place
+    ensures made { IfOk result (λ a. script_newcomer settings.now index place
         (slice_get settings.now.plan.scripts place)
         ≡ Some (record { unit = a.unit; sent = a.sent })) }
     ensures place { IfOk result (λ a. number a.unit ≡ place) }
 {
-    let unit = Unit::script(alloc, settings, place)?;
+    let unit = Unit::script(alloc, settings, index, place)?;
     let sent = unit.start_message(alloc)?;
     Ok(Newcomer { unit, sent })
 }
@@ -83,6 +89,7 @@ pub fn script_of(alloc: Global, settings: &Settings, place: u32) -> Mem<Newcomer
 fn skip_test(
     alloc: Global,
     settings: &Settings,
+    index: Option<StressIndex>,
     test: u32,
     planned: &PlanTest,
     reason: &Text,
@@ -90,13 +97,13 @@ fn skip_test(
     requires planned { slice_get settings.now.plan.tests test ≡ Some planned.now }
     requires few { AreFew settings.now }
     ensures unit { IfOk result (λ a. a.unit
-        ≡ skipped_view settings.now (unit_of_test settings.now test) planned.now) }
+        ≡ skipped_view settings.now index (unit_of_test settings.now test) planned.now) }
     ensures sent { IfOk result (λ a. a.sent
-        ≡ skip_message (unit_of_test settings.now test) planned.now reason.now) }
+        ≡ skip_message index (unit_of_test settings.now test) planned.now reason.now) }
 {
-    let unit = Unit::skipped(alloc, settings, test)?;
+    let unit = Unit::skipped(alloc, settings, index, test)?;
     let number = settings.plan.scripts.len() as u32 + test;
-    let sent = skip_message(alloc, number, planned, reason)?;
+    let sent = skip_message(alloc, index, number, planned, reason)?;
     Ok(Newcomer { unit, sent })
 }
 
@@ -117,6 +124,7 @@ fn group_slot(alloc: Global, slot: Option<u32>, group: &Option<Text>) -> Mem<Opt
 fn start_test(
     alloc: Global,
     settings: &Settings,
+    index: Option<StressIndex>,
     test: u32,
     slots: TestSlotAssignment,
     handed: List<(Text, Text)>,
@@ -124,11 +132,11 @@ fn start_test(
     requires planned { test < length settings.now.plan.tests }
     requires few { AreFew settings.now }
     ensures unit { IfOk result (λ a. option_map
-        (first_view settings.now (unit_of_test settings.now test) slots handed)
+        (first_view settings.now index (unit_of_test settings.now test) slots handed)
         (slice_get settings.now.plan.tests test) ≡ Some a.unit) }
     ensures sent { IfOk result (λ a. a.sent ≡ start_message a.unit.role a.unit) }
 {
-    let unit = Unit::test(alloc, settings, test, slots, handed)?;
+    let unit = Unit::test(alloc, settings, index, test, slots, handed)?;
     let sent = unit.start_message(alloc)?;
     Ok(Newcomer { unit, sent })
 }
@@ -170,19 +178,20 @@ pub fn place_of(admitted: &Admitted) -> u32
     }
 }
 
-/// What an admission makes of a test of the plan.
+/// What an admission makes of a test of the plan, in this sub-run of a stress run.
 pub fn newcomer_of(
     alloc: Global,
     settings: &Settings,
+    index: Option<StressIndex>,
     units: &Units,
     admitted: Admitted,
 ) -> Mem<Newcomer>
     requires whole { length units.now ≡ units_in settings.now }
     requires planned { test_of admitted < length settings.now.plan.tests }
-    requires made { is_some (newcomer_as settings.now units.now admitted
+    requires made { is_some (newcomer_as settings.now index units.now admitted
         (slice_get settings.now.plan.tests (test_of admitted))) ≡ true }
     requires few { AreFew settings.now }
-    ensures made { IfOk result (λ a. newcomer_as settings.now units.now admitted
+    ensures made { IfOk result (λ a. newcomer_as settings.now index units.now admitted
         (slice_get settings.now.plan.tests (test_of admitted))
         ≡ Some (record { unit = a.unit; sent = a.sent })) }
     ensures place { IfOk result (λ a. number a.unit ≡ unit_of_test settings.now
@@ -191,7 +200,7 @@ pub fn newcomer_of(
     let planned = &settings.plan.tests.as_slice()[place_of(&admitted) as usize];
     match (admitted, &planned.skip) {
         (Admitted::Skip { test }, Some(reason)) => {
-            skip_test(alloc, settings, test, planned, reason)
+            skip_test(alloc, settings, index, test, planned, reason)
         }
         (Admitted::Skip { .. }, None) => unreachable!(),
         (
@@ -204,7 +213,7 @@ pub fn newcomer_of(
         ) => {
             let slots = slots_of(alloc, planned, global_slot, group_slot)?;
             let handed = handed_to(alloc, settings, units, planned)?;
-            start_test(alloc, settings, test, slots, handed)
+            start_test(alloc, settings, index, test, slots, handed)
         }
     }
 }
@@ -218,17 +227,18 @@ pub enum Next {
     Test(Admitted),
 }
 
-/// The unit that comes next, as a newcomer, and its number.
+/// The unit that comes next in this sub-run of a stress run, as a newcomer, and its number.
 pub fn next_newcomer(
     alloc: Global,
     settings: &Settings,
+    index: Option<StressIndex>,
     units: &Units,
     next: Next,
 ) -> Mem<(u32, Newcomer)>
     requires next { IsNext settings.now units.now next }
     requires whole { length units.now ≡ units_in settings.now }
     requires few { AreFew settings.now }
-    ensures made { IfOk result (λ r. newcomer settings.now units.now
+    ensures made { IfOk result (λ r. newcomer settings.now index units.now
         ≡ Some (record { unit = r.1.unit; sent = r.1.sent })) }
     ensures number { IfOk result (λ r. number r.1.unit ≡ r.0) }
     ensures within { IfOk result (λ r. r.0 < length units.now) }
@@ -237,12 +247,12 @@ pub fn next_newcomer(
     match next {
         Next::Script(place) => {
             let place = place as u32;
-            let new = script_of(alloc, settings, place)?;
+            let new = script_of(alloc, settings, index, place)?;
             Ok((place, new))
         }
         Next::Test(admitted) => {
             let place = settings.plan.scripts.len() as u32 + place_of(&admitted);
-            let new = newcomer_of(alloc, settings, units, admitted)?;
+            let new = newcomer_of(alloc, settings, index, units, admitted)?;
             Ok((place, new))
         }
     }

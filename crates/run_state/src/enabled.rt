@@ -121,8 +121,8 @@ fn takes(state: &State, unit: u32, turn: UnitTurn) -> bool
     takes
 }
 
-// Whether the unit of this number takes the end of its child, of a captured stream, or of the reading of its environment
-// file.
+// Whether the unit of this number takes the end of its child, of a captured stream, or of the reading of its
+// environment file.
 fn takes_exit(state: &State, unit: u32) -> bool
     requires timely { IsTimelyBoard state.now.board }
     ensures { result ≡ unit_takes state.now.board.clock (unit_in state.now.board unit)

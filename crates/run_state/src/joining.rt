@@ -4,7 +4,7 @@ ghost use Rattle.std.specs.Prelude.{None, Some, length, option_map, slice_index_
 ghost use Rattle.std.specs.VecDeque.{deque_len, deque_capacity};
 ghost use Rattle.run_model.specs.Admission.{newcomer, scripts_over, units_in, AreFew};
 ghost use Rattle.run_model.specs.Board.{moved};
-ghost use Rattle.run_model.specs.Turns.{admission};
+ghost use Rattle.run_model.specs.Turns.{admission, index_of};
 ghost use Rattle.run_laws.specs.Ready.{CanAdmit};
 ghost use Rattle.run_state.specs.Held.{KeepsSeats, IsNext, units_with};
 
@@ -12,7 +12,7 @@ use crate::admission::{Newcomer, Next, are_scripts_over, next_newcomer, next_scr
 use crate::state::State;
 use crate::units::Units;
 use run_capture::{Mem, OutOfMemory};
-use run_events::{Message, Settings};
+use run_events::{Message, Settings, StressIndex};
 use std::alloc::Global;
 use std::collections::VecDeque;
 
@@ -21,8 +21,9 @@ pub fn admit(alloc: Global, settings: &Settings, state: &mut State) -> Mem<()>
     requires can { CanAdmit settings.now state.old.board }
     requires seated { KeepsSeats settings.now state.old }
     requires few { AreFew settings.now }
-    ensures after { OnOk result (state.new.board
-        ≡ moved state.old.board (admission (newcomer settings.now state.old.board.units))) }
+    ensures after { let b = state.old.board in
+        OnOk result (state.new.board
+        ≡ moved b (admission (newcomer settings.now (index_of b.dispatcher) b.units))) }
     ensures seated { OnOk result (KeepsSeats settings.now state.new) }
 {
     if are_scripts_over(settings, &state.units) {
@@ -38,14 +39,23 @@ fn admit_test(alloc: Global, settings: &Settings, state: &mut State) -> Mem<()>
     requires over { scripts_over settings.now state.old.board.units ≡ true }
     requires seated { KeepsSeats settings.now state.old }
     requires few { AreFew settings.now }
-    ensures after { OnOk result (state.new.board
-        ≡ moved state.old.board (admission (newcomer settings.now state.old.board.units))) }
+    ensures after { let b = state.old.board in
+        OnOk result (state.new.board
+        ≡ moved b (admission (newcomer settings.now (index_of b.dispatcher) b.units))) }
     ensures seated { OnOk result (KeepsSeats settings.now state.new) }
 {
     match state.admission.admit() {
         Some(admitted) => {
             let next = Next::Test(admitted);
-            seat(alloc, settings, &mut state.units, &mut state.queue, next)?;
+            let index = state.dispatcher.stress_index();
+            seat(
+                alloc,
+                settings,
+                index,
+                &mut state.units,
+                &mut state.queue,
+                next,
+            )?;
             Ok(())
         }
         None => unreachable!(),
@@ -58,14 +68,23 @@ fn admit_script(alloc: Global, settings: &Settings, state: &mut State) -> Mem<()
     requires before { scripts_over settings.now state.old.board.units ≡ false }
     requires seated { KeepsSeats settings.now state.old }
     requires few { AreFew settings.now }
-    ensures after { OnOk result (state.new.board
-        ≡ moved state.old.board (admission (newcomer settings.now state.old.board.units))) }
+    ensures after { let b = state.old.board in
+        OnOk result (state.new.board
+        ≡ moved b (admission (newcomer settings.now (index_of b.dispatcher) b.units))) }
     ensures seated { OnOk result (KeepsSeats settings.now state.new) }
 {
     match next_script(settings, &state.units) {
         Some(place) => {
             let next = Next::Script(place);
-            seat(alloc, settings, &mut state.units, &mut state.queue, next)?;
+            let index = state.dispatcher.stress_index();
+            seat(
+                alloc,
+                settings,
+                index,
+                &mut state.units,
+                &mut state.queue,
+                next,
+            )?;
             Ok(())
         }
         None => unreachable!(),
@@ -76,6 +95,7 @@ fn admit_script(alloc: Global, settings: &Settings, state: &mut State) -> Mem<()
 fn seat(
     alloc: Global,
     settings: &Settings,
+    index: Option<StressIndex>,
     units: &mut Units,
     queue: &mut VecDeque<Message>,
     next: Next,
@@ -84,13 +104,13 @@ fn seat(
     requires whole { length units.old ≡ units_in settings.now }
     requires few { AreFew settings.now }
     ensures units { OnOk result (units.new
-        ≡ units_with settings.now units.old (newcomer settings.now units.old)) }
+        ≡ units_with settings.now units.old (newcomer settings.now index units.old)) }
     ensures queue { OnOk result (queue.new.items ≡ queue.old.items
-        ++ option_to_list (option_map (λ n. n.sent) (newcomer settings.now units.old))) }
+        ++ option_to_list (option_map (λ n. n.sent) (newcomer settings.now index units.old))) }
     ensures err { OnErr result (units.new ≡ units.old) }
 {
     queue.reserve(1)?;
-    let (place, new) = next_newcomer(alloc, settings, units, next)?;
+    let (place, new) = next_newcomer(alloc, settings, index, units, next)?;
     join(units, queue, place, new)
 }
 

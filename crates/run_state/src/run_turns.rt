@@ -1,23 +1,61 @@
-// The turns of the run that open no round and close none.
-ghost use Rattle.std.specs.Prelude.{◌≡◌, ◌≤◌, IfOk, true, false};
+// The turns of the run that open no round and close none: where a sub-run begins and ends, ticks, and causes.
+ghost use Rattle.std.specs.Prelude.{ℕ, ◌≡◌, ◌≤◌, IfOk, None, OnOk, OnErr, true, false, length, slice_index_or};
+ghost use Rattle.run_admission.specs.InUse.{begun as limits_begun};
+ghost use Rattle.run_dispatch.specs.Stress.{CanCount};
+ghost use Rattle.run_model.specs.Admission.{AreFew};
+ghost use Rattle.run_model.specs.Board.{deed_events, moved};
 ghost use Rattle.run_model.specs.Cancel.{time_is_up, event_refused};
 ghost use Rattle.run_model.specs.Turns.{begun, cancelled, ended, ticks};
 ghost use Rattle.run_state.specs.Done.{Done};
+ghost use Rattle.run_state.specs.Held.{KeepsSeats};
 
 use crate::broadcast::broadcast;
 use crate::effects::{Effects, telling};
-use crate::state::State;
+use crate::state::{State, new_parts};
+use crate::units::Units;
+use run_admission::Admission;
 use run_capture::Mem;
+use run_events::Settings;
 use std::alloc::Global;
 
-/// Begins the run.
-pub fn begin(alloc: Global, state: &mut State) -> Mem<Effects>
+// As many units again, none of which was admitted, and limits of which no test holds anything.
+fn renew(
+    alloc: Global,
+    settings: &Settings,
+    units: &mut Units,
+    admission: &mut Admission,
+) -> Mem<()>
+    requires { AreFew settings.now }
+    ensures count { OnOk result (length units.new ≡ length units.old) }
+    ensures none { OnOk result ((k : ℕ) → slice_index_or units.new k None ≡ None) }
+    ensures limits { let plan = settings.now.plan in
+        OnOk result (admission.new ≡ limits_begun settings.now.threads plan.groups plan.tests) }
+    ensures err { OnErr result ((units.new ≡ units.old) × (admission.new ≡ admission.old)) }
+{
+    let (new_units, new_admission) = new_parts(alloc, settings, units.len())?;
+    *units = new_units;
+    *admission = new_admission;
+    Ok(())
+}
+
+/// Begins a sub-run: no unit was admitted, and nothing waits. After want of memory the units and limits
+/// alone may be anew.
+pub fn begin(alloc: Global, settings: &Settings, state: &mut State) -> Mem<Effects>
     requires idle { state.old.board.dispatcher.on ≡ false }
     requires later { state.old.board.dispatcher.latest ≤ state.old.board.clock }
-    ensures { IfOk result (Done state.old (begun state.old.board) state.new) }
+    requires seated { KeepsSeats settings.now state.old }
+    requires few { AreFew settings.now }
+    ensures after { OnOk result (state.new.board ≡ moved state.old.board (begun state.old.board)) }
+    ensures seated { OnOk result (KeepsSeats settings.now state.new) }
+    ensures told { IfOk result (λ effects. effects.events ≡ deed_events (begun state.old.board)) }
+    ensures asked { IfOk result (λ effects. effects.asked ≡ (begun state.old.board).asked) }
 {
+    renew(alloc, settings, &mut state.units, &mut state.admission)?;
+    state.holders = 0;
     let now = state.clock;
     let effects = state.dispatcher.begin(alloc, now)?;
+    state.queue.truncate(0);
+    state.answers.truncate(0);
     Ok(telling(effects))
 }
 
@@ -65,9 +103,10 @@ pub fn refuse(alloc: Global, state: &mut State) -> Mem<Effects>
     Ok(telling(effects))
 }
 
-/// Ends the run.
+/// Ends a sub-run.
 pub fn end(alloc: Global, state: &mut State) -> Mem<Effects>
     requires on { state.old.board.dispatcher.on ≡ true }
+    requires count { CanCount state.old.board.dispatcher.sub_runs }
     requires later { state.old.board.dispatcher.latest ≤ state.old.board.clock }
     ensures { IfOk result (Done state.old (ended state.old.board) state.new) }
 {

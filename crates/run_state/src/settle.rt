@@ -3,7 +3,8 @@ ghost use Rattle.std.specs.Prelude.{◌≤◌, ◌≡◌, ◌<◌, ◌^◌, ◌+
 ghost use Rattle.run_model.specs.Admission.{units_in};
 ghost use Rattle.run_laws.specs.Ready.{IsTimelyBoard};
 ghost use Rattle.run_state.specs.Held.{KeepsSeats};
-ghost use Rattle.run_state.specs.Settle.{settled_turn, of_each, first_turns, last_turns, settling, first_enabled, IsFirst};
+ghost use Rattle.run_state.specs.Settle.{settled_turn, of_each, first_turns, last_turns, settling, first_enabled};
+ghost use Rattle.run_state.specs.Settle.{IsFirstTaker};
 ghost use Rattle.run_state.specs.Settle.{NoneTakes};
 ghost use Rattle.run_events.specs.declared.turn.Turn.TheVariants as turns;
 ghost use Rattle.run_model.specs.declared.unit_turn.UnitTurn.TheVariants as own;
@@ -50,7 +51,7 @@ impl Settled {
 fn first_unit(state: &State, turn: &UnitTurn) -> Option<u32>
     requires timely { IsTimelyBoard state.now.board }
     requires few { length state.now.board.units < 2 ^ 32 }
-    ensures first { IfSome result (IsFirst state.now.board turn.now) }
+    ensures first { IfSome result (IsFirstTaker state.now.board turn.now) }
     ensures none { IsNone result → NoneTakes state.now.board turn.now
         (length state.now.board.units) }
 {
@@ -66,7 +67,7 @@ fn first_unit(state: &State, turn: &UnitTurn) -> Option<u32>
 fn first_decide(state: &State, word: u32) -> Option<u32>
     requires timely { IsTimelyBoard state.now.board }
     requires few { length state.now.board.units < 2 ^ 32 }
-    ensures first { IfSome result (IsFirst state.now.board (own.Decide word)) }
+    ensures first { IfSome result (IsFirstTaker state.now.board (own.Decide word)) }
     ensures none { IsNone result → NoneTakes state.now.board (own.Decide word)
         (length state.now.board.units) }
 {

@@ -1,8 +1,10 @@
 // What a run keeps of its history.
-ghost use Rattle.std.specs.Prelude.{◌≡◌, ◌<◌, ◌^◌, [], IfOk, length, option_map};
+ghost use Rattle.std.specs.Prelude.{ℕ, ◌≡◌, ◌<◌, ◌^◌, [], IfOk, None, length, option_map, slice_index_or};
 ghost use Rattle.run_clock.specs.Sleep.{IsDueFrom};
 ghost use Rattle.run_events.specs.declared.settings.Settings.{Settings};
+ghost use Rattle.run_admission.specs.InUse.{begun};
 ghost use Rattle.run_model.specs.Admission.{units_in};
+ghost use Rattle.run_model.specs.Reruns.{AreAscending};
 ghost use Rattle.std.specs.List.{list_any};
 ghost use Rattle.run_model.specs.Board.{board, answered, unit_in};
 ghost use Rattle.run_model.specs.Dispatch.{is_halted};
@@ -15,7 +17,7 @@ use run_admission::Admission;
 use run_capture::Mem;
 use run_clock::sooner;
 use run_dispatch::Dispatcher;
-use run_events::{InfoResponse, Message, Request, RunStats, Settings, Turn};
+use run_events::{InfoResponse, Message, Request, RunOutcome, RunStats, Settings, Turn};
 use run_model::{Facts, Phase};
 use std::alloc::Global;
 use std::collections::VecDeque;
@@ -43,10 +45,8 @@ pub struct State {
 }
 
 impl Model for State {
-    ghost use Rattle.std.specs.Prelude.{◌≡◌};
-    ghost use Rattle.run_state.specs.Counted.{holders_in};
     ghost use Rattle.run_state.specs.Held.{Held};
-    ghost use Rattle.run_state.specs.Placed.{AreTests};
+    ghost use Rattle.run_state.specs.Placed.{FitsUnits};
 
     ghost Value = { Held };
 
@@ -62,8 +62,7 @@ impl Model for State {
       limits = s.admission;
     } };
 
-    ghost invariant = { λ s. AreTests s.units s.admission
-        × (s.holders ≡ holders_in s.dispatcher.rounds.asks s.units) };
+    ghost invariant = { λ s. FitsUnits s.dispatcher.rounds.asks s.units s.holders s.admission };
 }
 
 // Whether one of these was refused.
@@ -73,22 +72,34 @@ fn is_one_refused(refused: &[bool]) -> bool
     refused.iter().any(|refused| *refused)
 }
 
+/// So many units, none of which was admitted, and the limits, of which no test holds anything.
+pub fn new_parts(alloc: Global, settings: &Settings, count: usize) -> Mem<(Units, Admission)>
+    requires few { count < 2 ^ 32 }
+    requires tests { length settings.now.plan.tests < 2 ^ 32 }
+    ensures count { IfOk result (λ parts. length parts.0 ≡ count) }
+    ensures none { IfOk result (λ parts. (k : ℕ) → slice_index_or parts.0 k None ≡ None) }
+    ensures limits { let plan = settings.now.plan in
+        IfOk result (λ parts. parts.1 ≡ begun settings.now.threads plan.groups plan.tests) }
+{
+    let units = unadmitted(alloc, count)?;
+    let groups = settings.plan.groups.as_slice();
+    let tests = settings.plan.tests.as_slice();
+    let admission = Admission::new(alloc, settings.threads, groups, tests)?;
+    Ok((Units::new(alloc, units), admission))
+}
+
 impl State {
     /// The state of a run that has taken no turn.
     pub fn new(alloc: Global, settings: &Settings) -> Mem<State>
-        requires { units_in settings.now < 2 ^ 32 }
+        requires few { units_in settings.now < 2 ^ 32 }
+        requires ascending { AreAscending settings.now.expected }
         ensures { IfOk result (λ s. s ≡ held settings.now (board settings.now [])) }
     {
-        let units = unadmitted(
-            alloc,
-            settings.plan.scripts.len() + settings.plan.tests.len(),
-        )?;
+        let count = settings.plan.scripts.len() + settings.plan.tests.len();
+        let (units, admission) = new_parts(alloc, settings, count)?;
         let dispatcher = Dispatcher::new(alloc, settings)?;
-        let groups = settings.plan.groups.as_slice();
-        let tests = settings.plan.tests.as_slice();
-        let admission = Admission::new(alloc, settings.threads, groups, tests)?;
         Ok(State {
-            units: Units::new(alloc, units),
+            units,
             queue: VecDeque::new(alloc),
             answers: VecDeque::new(alloc),
             dispatcher,
@@ -125,6 +136,13 @@ impl State {
         ensures { result ≡ self.now.board.dispatcher.tally.stats }
     {
         self.dispatcher.stats()
+    }
+
+    /// The outcomes of the sub-runs that have ended, put together: none where none has.
+    pub fn outcome(&self) -> Option<RunOutcome>
+        ensures { result ≡ self.now.board.dispatcher.sub_runs.outcome }
+    {
+        self.dispatcher.outcome()
     }
 
     /// How many tests of the newest sub-run were told started and not told finished.
@@ -177,8 +195,8 @@ impl State {
         self.dispatcher.round_request()
     }
 
-    /// The least moment of the run's clock at which a timer is due: that of the run, of the open round, or of a unit. It
-    /// looks at the units that were admitted and aren't over.
+    /// The least moment of the run's clock at which a timer is due: that of the run, of the open round, or of a unit.
+    /// It looks at the units that were admitted and aren't over.
     pub fn next_due(&self) -> Option<u64>
         ensures { (p : Settings) → length self.now.board.units ≡ units_in p
             → IsDueFrom (is_any_due p self.now.board) result }

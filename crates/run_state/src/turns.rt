@@ -62,7 +62,7 @@ fn advance_run(alloc: Global, settings: &Settings, state: &mut State, turn: &Tur
         IfOk result (λ effects. effects.asked ≡ deed.asked) }
 {
     match turn {
-        Turn::Begin => begin(alloc, state),
+        Turn::Begin => begin(alloc, settings, state),
         Turn::Admit => {
             admit(alloc, settings, state)?;
             Ok(asking(None))

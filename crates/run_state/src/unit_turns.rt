@@ -3,21 +3,25 @@ ghost use Rattle.std.specs.Prelude.{◌≡◌, ◌<◌, ◌≤◌, ◌-◌, ◌+
 ghost use Rattle.std.specs.Prelude.{if◌then◌else◌, option_and_then, Some};
 ghost use Rattle.std.specs.VecDeque.{deque_len, deque_capacity};
 ghost use Rattle.run_admission.specs.InUse.{is_test_in_use};
-ghost use Rattle.run_model.specs.Admission.{scripts_in};
-ghost use Rattle.run_model.specs.Board.{unit_in, moved};
+ghost use Rattle.run_model.specs.Admission.{limits_of, scripts_in};
+ghost use Rattle.run_model.specs.Board.{unit_in, moved, units_after};
 ghost use Rattle.run_events.specs.declared.request.Request.TheVariants.{GetInfo};
 ghost use Rattle.run_model.specs.Info.{round_of};
 ghost use Rattle.run_model.specs.Rounds.{answer_of};
 ghost use Rattle.run_model.specs.Turns.{taken_by};
 ghost use Rattle.run_laws.specs.Ready.{CanTakeTurn};
 ghost use Rattle.run_state.specs.Held.{KeepsSeats, given_back};
+ghost use Rattle.run_state.specs.Placed.{FitsUnits};
+ghost use Rattle.run_state.specs.UnitTurns.{MayTake, unit_deed};
 
 use crate::counts::count_after;
 use crate::state::State;
+use crate::units::Units;
 use run_admission::Admission;
 use run_capture::{List, Mem, OutOfMemory};
 use run_events::{Ask, InfoResponse, Message, Request, Settings};
 use run_model::UnitTurn;
+use run_unit::UnitEffects;
 use std::alloc::Global;
 use std::collections::VecDeque;
 
@@ -44,8 +48,8 @@ fn release(settings: &Settings, admission: &mut Admission, unit: u32, over: bool
     }
 }
 
-// Makes room for a message and an answer, so that neither is lost once a unit has moved: no unit has a second query of the
-// open round in its line, so it gives no second answer.
+// Makes room for a message and an answer, so that neither is lost once a unit has moved: no unit has a second query of
+// the open round in its line, so it gives no second answer.
 fn make_room(queue: &mut VecDeque<Message>, answers: &mut VecDeque<InfoResponse>) -> Mem<()>
     ensures queue { queue.new.items ≡ queue.old.items }
     ensures room { OnOk result (deque_len queue.new < deque_capacity queue.new) }
@@ -114,6 +118,40 @@ fn keep_answers(
     }
 }
 
+// A unit takes a turn: those that hold what the open round asks are counted anew, and where it is over, what it held of
+// the limits is given back.
+fn act(
+    alloc: Global,
+    settings: &Settings,
+    units: &mut Units,
+    holders: &mut u32,
+    admission: &mut Admission,
+    asks: Option<Request>,
+    unit: u32,
+    turn: UnitTurn,
+    now: u64,
+) -> Mem<UnitEffects>
+    requires takes { MayTake now unit turn units.old }
+    requires fits { FitsUnits asks units.old holders.old admission.old }
+    requires seated { admission.old ≡ limits_of settings.now units.old }
+    ensures fits { FitsUnits asks units.new holders.new admission.new }
+    ensures seated { admission.new ≡ limits_of settings.now units.new }
+    ensures after { let deed = unit_deed now unit turn units.old in
+        OnOk result (units.new ≡ units_after now deed.part units.old) }
+    ensures sent { let deed = unit_deed now unit turn units.old in
+        IfOk result (λ e. e.sent ≡ deed.sent) }
+    ensures asked { let deed = unit_deed now unit turn units.old in
+        IfOk result (λ e. e.asked ≡ deed.asked) }
+    ensures info { let deed = unit_deed now unit turn units.old in
+        IfOk result (λ e. e.info ≡ deed.info) }
+{
+    let held = units.holds(unit, asks);
+    let effects = units.step(alloc, unit, turn, now)?;
+    *holders = count_after(*holders, held, units.holds(unit, asks));
+    release(settings, admission, unit, effects.over);
+    Ok(effects)
+}
+
 /// A unit takes a turn of its own.
 pub fn take_turn(
     alloc: Global,
@@ -136,10 +174,17 @@ pub fn take_turn(
     };
     let now = state.clock;
     let asks = state.dispatcher.round_request();
-    let held = state.units.holds(unit, asks);
-    let effects = state.units.step(alloc, unit, turn, now)?;
-    state.holders = count_after(state.holders, held, state.units.holds(unit, asks));
-    release(settings, &mut state.admission, unit, effects.over);
+    let effects = act(
+        alloc,
+        settings,
+        &mut state.units,
+        &mut state.holders,
+        &mut state.admission,
+        asks,
+        unit,
+        turn,
+        now,
+    )?;
     send(&mut state.queue, effects.sent);
     keep_answers(alloc, &mut state.answers, asks, effects.info)?;
     Ok(effects.asked)

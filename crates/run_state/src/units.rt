@@ -87,6 +87,14 @@ impl Units {
         }
     }
 
+    /// How many they are.
+    pub fn len(&self) -> usize
+        ensures count { result ≡ length self.now }
+        ensures few { length self.now < 2 ^ 32 }
+    {
+        self.items.len()
+    }
+
     /// Whether a unit takes a turn at a moment of the run's clock, no earlier than its latest turn; a number of no
     /// admitted unit takes none.
     pub fn takes(&self, unit: u32, turn: &UnitTurn, now: u64) -> bool

@@ -1,6 +1,7 @@
 // The numbers of the units that were admitted and aren't over, in ascending order. Contracts speak of a flag for each
 // unit, of which the numbers are the places.
-ghost use Rattle.std.specs.Prelude.{◌≡◌, ◌≢◌, ◌<◌, ◌≤◌, ℕ, List, Bool, length, slice_index_or, slice_set, IfSome, IsNone};
+ghost use Rattle.std.specs.Prelude.{◌≡◌, ◌≢◌, ◌<◌, ◌≤◌, ℕ, List, Bool, length, slice_index_or, slice_set, IfSome};
+ghost use Rattle.std.specs.Prelude.{IsNone};
 ghost use Rattle.std.specs.Prelude.{OnOk, OnErr, true, false, not};
 ghost use Rattle.run_state.specs.Counted.{places};
 

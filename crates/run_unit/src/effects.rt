@@ -12,7 +12,8 @@ pub struct UnitEffects {
     pub sent: Option<Message>,
     /// What it asks of the outside.
     pub asked: Option<Ask>,
-    /// Its answers to the queries that it took or that were left at its end, each with the round of its query, in order.
+    /// Its answers to the queries that it took or that were left at its end, each with the round of its query, in
+    /// order.
     pub info: List<(u32, InfoResponse)>,
     /// How many stops left its line: they are taken, or gone with the unit.
     pub acks: u64,

@@ -3,11 +3,12 @@ ghost use Rattle.std.specs.Prelude.{◌≡◌, ◌<◌, ◌^◌, ◌++◌, ◌�
 ghost use Rattle.uuid.specs.Text.{hyphenated_text, lower};
 ghost use Rattle.run_model.specs.Environment.{attempts, mode_name, group_name, group_number, run_variables};
 ghost use Rattle.run_model.specs.Environment.{shared_variables, identity_variables, place_variables, test_variables};
-ghost use Rattle.run_model.specs.Environment.{script_variables, environment_as};
+ghost use Rattle.run_model.specs.Environment.{script_variables, environment_as, count_text, stress_current};
+ghost use Rattle.run_model.specs.Environment.{stress_total};
 
 use crate::messages::attempts;
 use run_capture::{Duplicate, List, Mem, Text};
-use run_events::{GroupSlot, RunMode};
+use run_events::{GroupSlot, RunMode, StressIndex};
 use run_model::{ScriptRole, Surroundings, TestRole, UnitRole, UnitView};
 use std::alloc::Global;
 use uuid::Uuid;
@@ -104,15 +105,32 @@ fn identity_variables(alloc: Global, role: &TestRole, view: &UnitView) -> Mem<Va
     Ok(list)
 }
 
-// No test runs under stress yet.
-fn stress_variables(alloc: Global) -> Mem<Vec<(Text, Text)>>
-    ensures { IfOk result (λ v. v.items ≡ (codes "NEXTEST_STRESS_CURRENT", codes "none")
-        ∷ (codes "NEXTEST_STRESS_TOTAL", codes "none") ∷ []) }
+// How many sub-runs of a stress run there are to be.
+fn with_total(alloc: Global, list: Variables, total: Option<u32>) -> Mem<Variables>
+    ensures { IfOk result (λ v. v.items ≡ list.items ++ (codes "NEXTEST_STRESS_TOTAL", count_text total) ∷ []) }
+{
+    match total {
+        Some(count) => with_number(alloc, list, "NEXTEST_STRESS_TOTAL", count),
+        None => with_text(alloc, list, "NEXTEST_STRESS_TOTAL", "unknown"),
+    }
+}
+
+// Which sub-run of a stress run it is in.
+fn stress_variables(alloc: Global, index: Option<StressIndex>) -> Mem<Variables>
+    ensures { IfOk result (λ v. v.items ≡ (codes "NEXTEST_STRESS_CURRENT", stress_current index)
+        ∷ (codes "NEXTEST_STRESS_TOTAL", stress_total index) ∷ []) }
 {
     let list = Vec::new(alloc);
-    let list = with_text(alloc, list, "NEXTEST_STRESS_CURRENT", "none")?;
-    let list = with_text(alloc, list, "NEXTEST_STRESS_TOTAL", "none")?;
-    Ok(list)
+    match index {
+        Some(index) => {
+            let list = with_number(alloc, list, "NEXTEST_STRESS_CURRENT", index.current)?;
+            with_total(alloc, list, index.total)
+        }
+        None => {
+            let list = with_text(alloc, list, "NEXTEST_STRESS_CURRENT", "none")?;
+            with_text(alloc, list, "NEXTEST_STRESS_TOTAL", "none")
+        }
+    }
 }
 
 // The group that a test runs in, and its slot there.
@@ -137,7 +155,7 @@ fn with_group(alloc: Global, list: Variables, group: &Option<GroupSlot>) -> Mem<
 fn place_variables(alloc: Global, role: &TestRole) -> Mem<Variables>
     ensures { IfOk result (λ v. v.items ≡ place_variables role.now) }
 {
-    let list = stress_variables(alloc)?;
+    let list = stress_variables(alloc, role.test.stress_index)?;
     let list = with_number(alloc, list, "NEXTEST_TEST_GLOBAL_SLOT", role.slot.global)?;
     let list = with_group(alloc, list, &role.slot.group)?;
     Ok(list)

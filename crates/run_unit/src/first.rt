@@ -10,7 +10,8 @@ use crate::start::with_command;
 use run_capture::{CaptureStrategy, ChildAccumulator, Duplicate, List, Mem, Text};
 use run_commands::PlatformRunner;
 use run_events::{
-    FlakyResult, PlanTest, RetryPolicy, ScriptEnv, Settings, TerminateReason, TestSlotAssignment,
+    FlakyResult, PlanTest, RetryPolicy, ScriptEnv, Settings, StressIndex, TerminateReason,
+    TestSlotAssignment,
 };
 use run_model::{AttemptTerms, CapturedStreams, Phase, Surroundings, TestRole, UnitRole, UnitView};
 use std::alloc::Global;
@@ -163,14 +164,15 @@ fn start_parts(
 fn test_role(
     alloc: Global,
     settings: &Settings,
+    index: Option<StressIndex>,
     unit: u32,
     slot: TestSlotAssignment,
     handed: List<(Text, Text)>,
     planned: &PlanTest,
 ) -> Mem<UnitRole>
-    ensures { IfOk result (λ role. role ≡ test_role settings.now unit slot handed planned.now) }
+    ensures { IfOk result (λ role. role ≡ test_role settings.now index unit slot handed planned.now) }
 {
-    let test = test_unit(alloc, unit, planned)?;
+    let test = test_unit(alloc, index, unit, planned)?;
     Ok(UnitRole::Test(TestRole {
         test,
         slot,
@@ -183,14 +185,15 @@ fn test_role(
 pub fn first_view(
     alloc: Global,
     settings: &Settings,
+    index: Option<StressIndex>,
     unit: u32,
     slot: TestSlotAssignment,
     handed: List<(Text, Text)>,
     planned: &PlanTest,
 ) -> Mem<UnitView>
-    ensures { IfOk result (λ u. u ≡ first_view settings.now unit slot handed planned.now) }
+    ensures { IfOk result (λ u. u ≡ first_view settings.now index unit slot handed planned.now) }
 {
-    let role = test_role(alloc, settings, unit, slot, handed, planned)?;
+    let role = test_role(alloc, settings, index, unit, slot, handed, planned)?;
     let (command, around) = start_parts(alloc, settings, planned)?;
     let terms = terms_of(settings, planned);
     Ok(begun_view(role, command, around, terms))

@@ -2,8 +2,10 @@
 ghost use Rattle.std.specs.Prelude.{◌≡◌, ◌≤◌, ◌<◌, ◌^◌, ◌∷◌, ◌++◌, [], IfOk, OnOk, OnErr, option_map};
 ghost use Rattle.run_model.specs.Ending.{last_status};
 ghost use Rattle.run_model.specs.Environment.{attempts};
-ghost use Rattle.run_model.specs.Info.{waiting_at, time_at, slow_after, running_state, terminating_state, exiting_state};
-ghost use Rattle.run_model.specs.Info.{fault_in, exited_state, delay_state, subject_of, answer_as, captured_by, exited_answer};
+ghost use Rattle.run_model.specs.Info.{waiting_at, time_at, slow_after, running_state, terminating_state};
+ghost use Rattle.run_model.specs.Info.{exiting_state};
+ghost use Rattle.run_model.specs.Info.{fault_in, exited_state, delay_state, subject_of, answer_as, captured_by};
+ghost use Rattle.run_model.specs.Info.{exited_answer};
 ghost use Rattle.run_model.specs.Info.{delay_answer, answer_in, rounds_in, is_stop, stops_in, answers_to};
 ghost use Rattle.run_unit.specs.Timely.{IsTimely};
 

@@ -13,8 +13,8 @@ use crate::script::{script_finish, script_slow, script_start};
 use crate::slow::{is_out_of_time, slow_time};
 use run_capture::{Duplicate, Mem, Text};
 use run_events::{
-    AttemptFailed, ExecuteStatus, Message, PlanTest, TestFinish, TestRetry, TestSkip, TestSlow,
-    TestStart, TestUnit,
+    AttemptFailed, ExecuteStatus, Message, PlanTest, StressIndex, TestFinish, TestRetry, TestSkip,
+    TestSlow, TestStart, TestUnit,
 };
 use run_model::{ScriptRole, TestRole, UnitRole, UnitView, retry_count};
 use std::alloc::Global;
@@ -37,15 +37,20 @@ pub fn attempts(view: &UnitView) -> u32
     retry_count(&view.terms.retries) + 1
 }
 
-/// A planned test as the unit of this number.
-pub fn test_unit(alloc: Global, unit: u32, planned: &PlanTest) -> Mem<TestUnit>
-    ensures { IfOk result (λ test. test ≡ record { unit = unit; id = planned.now.id; stress_index = None }) }
+/// A planned test as the unit of this number, in this sub-run of a stress run.
+pub fn test_unit(
+    alloc: Global,
+    index: Option<StressIndex>,
+    unit: u32,
+    planned: &PlanTest,
+) -> Mem<TestUnit>
+    ensures { IfOk result (λ test. test ≡ record { unit = unit; id = planned.now.id; stress_index = index }) }
 {
     let id = planned.id.copy(alloc)?;
     Ok(TestUnit {
         unit,
         id,
-        stress_index: None,
+        stress_index: index,
     })
 }
 
@@ -79,12 +84,19 @@ pub fn start_message(alloc: Global, view: &UnitView) -> Mem<Message>
     }
 }
 
-/// The message that a planned test, as the unit of this number, is skipped for a reason.
-pub fn skip_message(alloc: Global, unit: u32, test: &PlanTest, reason: &Text) -> Mem<Message>
-    ensures { IfOk result (λ m. m ≡ skip_message unit test.now reason.now) }
+/// The message that a planned test, as the unit of this number in this sub-run of a stress run, is skipped for a
+/// reason.
+pub fn skip_message(
+    alloc: Global,
+    index: Option<StressIndex>,
+    unit: u32,
+    test: &PlanTest,
+    reason: &Text,
+) -> Mem<Message>
+    ensures { IfOk result (λ m. m ≡ skip_message index unit test.now reason.now) }
 {
     let reason = reason.copy(alloc)?;
-    let test = test_unit(alloc, unit, test)?;
+    let test = test_unit(alloc, index, unit, test)?;
     Ok(Message::Skip(TestSkip { test, reason }))
 }
 

@@ -1,6 +1,7 @@
 // The timers of a unit: from when on something is waited for, and their pauses.
 ghost use Rattle.std.specs.Prelude.{◌≡◌, ◌≤◌, IfSome, option_map};
-ghost use Rattle.run_model.specs.Pauses.{watch_paused, watch_resumed, sleep_paused, sleep_resumed, all_paused, all_resumed};
+ghost use Rattle.run_model.specs.Pauses.{watch_paused, watch_resumed, sleep_paused, sleep_resumed, all_paused};
+ghost use Rattle.run_model.specs.Pauses.{all_resumed};
 ghost use Rattle.run_model.specs.Pauses.{timers_from, waits_from, held, leaks_from, closed};
 ghost use Rattle.run_unit.specs.Timely.{IsTimely};
 

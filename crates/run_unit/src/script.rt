@@ -12,7 +12,7 @@ use crate::slow::{is_out_of_time, slow_time};
 use run_capture::{CaptureStrategy, Duplicate, List, Mem, Text};
 use run_events::{
     ExecuteStatus, PlanScript, RetryPolicy, ScriptEnv, ScriptFinish, ScriptSlow, ScriptStart,
-    ScriptUnit, Settings, SetupScriptExecuteStatus, SlowTimeout, SlowTimeoutResult,
+    ScriptUnit, Settings, SetupScriptExecuteStatus, SlowTimeout, SlowTimeoutResult, StressIndex,
 };
 use run_model::{AttemptTerms, CapturedStreams, ScriptRole, Surroundings, UnitRole, UnitView};
 use std::alloc::Global;
@@ -66,9 +66,15 @@ fn script_surroundings(alloc: Global, settings: &Settings) -> Mem<Surroundings>
 }
 
 // The script at this place of the plan: as a unit its number is its place.
-fn script_role(alloc: Global, settings: &Settings, place: u32, script: &PlanScript) -> Mem<UnitRole>
+fn script_role(
+    alloc: Global,
+    settings: &Settings,
+    index: Option<StressIndex>,
+    place: u32,
+    script: &PlanScript,
+) -> Mem<UnitRole>
     requires { scripts_in settings.now < 2 ^ 32 }
-    ensures { IfOk result (λ role. role ≡ script_role settings.now place script.now) }
+    ensures { IfOk result (λ role. role ≡ script_role settings.now index place script.now) }
 {
     let env_path = script.env_path.copy(alloc)?;
     let id = script.id.copy(alloc)?;
@@ -78,7 +84,7 @@ fn script_role(alloc: Global, settings: &Settings, place: u32, script: &PlanScri
         index: place,
         total: settings.plan.scripts.len() as u32,
         no_capture: !(script.capture_stdout && script.capture_stderr),
-        stress_index: None,
+        stress_index: index,
     };
     Ok(UnitRole::Script(ScriptRole { script, env_path }))
 }
@@ -100,13 +106,14 @@ fn start_parts(
 pub fn script_view(
     alloc: Global,
     settings: &Settings,
+    index: Option<StressIndex>,
     place: u32,
     script: &PlanScript,
 ) -> Mem<UnitView>
     requires { scripts_in settings.now < 2 ^ 32 }
-    ensures { IfOk result (λ u. u ≡ script_view settings.now place script.now) }
+    ensures { IfOk result (λ u. u ≡ script_view settings.now index place script.now) }
 {
-    let role = script_role(alloc, settings, place, script)?;
+    let role = script_role(alloc, settings, index, place, script)?;
     let (command, around) = start_parts(alloc, settings, script)?;
     let terms = script_terms(settings, script);
     Ok(begun_view(role, command, around, terms))

@@ -78,8 +78,8 @@ pub fn result_of(
     }
 }
 
-/// The result by how its child ended and by what was captured of it: none where the wait for it failed, unless its attempt
-/// has run out of time.
+/// The result by how its child ended and by what was captured of it: none where the wait for it failed, unless its
+/// attempt has run out of time.
 pub fn result_so_far(view: &UnitView, exit: Option<ChildExit>) -> Option<ExecutionResult>
     ensures { result ≡ result_so_far exit view.now.capture view.now }
 {

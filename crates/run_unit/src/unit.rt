@@ -1,5 +1,6 @@
 // A unit: a setup script, or one test with its attempts.
-ghost use Rattle.std.specs.Prelude.{◌≡◌, ◌+◌, ◌≤◌, ◌<◌, ◌^◌, length, IfOk, OnOk, OnErr, Some, option_map, slice_get, true};
+ghost use Rattle.std.specs.Prelude.{◌≡◌, ◌+◌, ◌≤◌, ◌<◌, ◌^◌, length, IfOk, OnOk, OnErr, Some, option_map, slice_get};
+ghost use Rattle.std.specs.Prelude.{true};
 ghost use Rattle.std.specs.List.{list_any};
 ghost use Rattle.run_clock.specs.Sleep.{IsDueFrom};
 ghost use Rattle.run_model.specs.Unit.{row, takes, is_live, reached};
@@ -19,7 +20,7 @@ use crate::requests::{holds, is_live};
 use crate::script::script_view;
 use crate::timing::next_due;
 use run_capture::{List, Mem, Text};
-use run_events::{Message, Request, ScriptEnv, Settings, TestSlotAssignment};
+use run_events::{Message, Request, ScriptEnv, Settings, StressIndex, TestSlotAssignment};
 use run_model::{Phase, UnitTurn, UnitView};
 use std::alloc::Global;
 use std::marker::Model;
@@ -42,10 +43,12 @@ impl Model for Unit {
 }
 
 impl Unit {
-    /// The test at this place of the plan, admitted in this slot, where its scripts handed these variables on.
+    /// The test at this place of the plan, admitted in this sub-run of a stress run and in this slot, where its scripts
+    /// handed these variables on.
     pub fn test(
         alloc: Global,
         settings: &Settings,
+        index: Option<StressIndex>,
         test: u32,
         slot: TestSlotAssignment,
         handed: List<(Text, Text)>,
@@ -54,22 +57,27 @@ impl Unit {
         requires numbered { unit_of_test settings.now test < 2 ^ 32 }
         requires attempts { retry_count (terms_at settings.now test).retries + 1 < 2 ^ 32 }
         ensures view { IfOk result (λ u. option_map
-            (first_view settings.now (unit_of_test settings.now test) slot handed)
+            (first_view settings.now index (unit_of_test settings.now test) slot handed)
             (slice_get settings.now.plan.tests test) ≡ Some u) }
         ensures phase { IfOk result (λ u. u.phase ≡ phases.StartSent) }
     {
         let planned = &settings.plan.tests.as_slice()[test as usize];
         let unit = settings.plan.scripts.len() as u32 + test;
-        let view = first_view(alloc, settings, unit, slot, handed, planned)?;
+        let view = first_view(alloc, settings, index, unit, slot, handed, planned)?;
         Ok(Unit { view })
     }
 
     /// The test at this place of the plan, which doesn't match: it is over from its admission.
-    pub fn skipped(alloc: Global, settings: &Settings, test: u32) -> Mem<Unit>
+    pub fn skipped(
+        alloc: Global,
+        settings: &Settings,
+        index: Option<StressIndex>,
+        test: u32,
+    ) -> Mem<Unit>
         requires planned { test < length settings.now.plan.tests }
         requires numbered { unit_of_test settings.now test < 2 ^ 32 }
         requires attempts { retry_count (terms_at settings.now test).retries + 1 < 2 ^ 32 }
-        ensures view { IfOk result (λ u. option_map (skipped_view settings.now (unit_of_test settings.now test))
+        ensures view { IfOk result (λ u. option_map (skipped_view settings.now index (unit_of_test settings.now test))
             (slice_get settings.now.plan.tests test) ≡ Some u) }
         ensures phase { IfOk result (λ u. u.phase ≡ phases.Over) }
     {
@@ -77,21 +85,26 @@ impl Unit {
             global: 0,
             group: None,
         };
-        let mut unit = Unit::test(alloc, settings, test, slot, List::new())?;
+        let mut unit = Unit::test(alloc, settings, index, test, slot, List::new())?;
         unit.view.phase = Phase::Over;
         Ok(unit)
     }
 
     /// The script at this place of the plan.
-    pub fn script(alloc: Global, settings: &Settings, script: u32) -> Mem<Unit>
+    pub fn script(
+        alloc: Global,
+        settings: &Settings,
+        index: Option<StressIndex>,
+        script: u32,
+    ) -> Mem<Unit>
         requires planned { script < length settings.now.plan.scripts }
         requires numbered { scripts_in settings.now < 2 ^ 32 }
-        ensures view { IfOk result (λ u. option_map (script_view settings.now script)
+        ensures view { IfOk result (λ u. option_map (script_view settings.now index script)
             (slice_get settings.now.plan.scripts script) ≡ Some u) }
         ensures phase { IfOk result (λ u. u.phase ≡ phases.StartSent) }
     {
         let planned = &settings.plan.scripts.as_slice()[script as usize];
-        let view = script_view(alloc, settings, script, planned)?;
+        let view = script_view(alloc, settings, index, script, planned)?;
         Ok(Unit { view })
     }
 

@@ -1,5 +1,6 @@
 // What a run is asked. No answer takes memory.
-ghost use Rattle.std.specs.Prelude.{◌≡◌, ◌&&◌, ◌||◌, length, nat_le, not, if◌then◌else◌, option_map, Some, None, true, false};
+ghost use Rattle.std.specs.Prelude.{◌≡◌, ◌&&◌, ◌||◌, length, nat_le, not, if◌then◌else◌, option_map, Some, None, true};
+ghost use Rattle.std.specs.Prelude.{false};
 ghost use Rattle.run_clock.specs.Sleep.{IsDueFrom};
 ghost use Rattle.run_model.specs.Board.{board, unit_in};
 ghost use Rattle.run_model.specs.Dispatch.{is_halted};
@@ -32,7 +33,7 @@ impl Run {
         if self.broken || !self.state.is_over() {
             return None;
         }
-        Some(RunOutcome::from_final_stats(self.state.stats().summarize_final()))
+        self.state.outcome()
     }
 
     /// Whether the run takes no turn any more: it is over, or broken, or its journal is full.
@@ -43,8 +44,8 @@ impl Run {
         self.broken || self.is_over() || self.journal.len() >= MOST_TURNS
     }
 
-    /// Whether a turn is enabled after the journal: `step` takes it, but where the journal is full or memory is wanting.
-    /// None is in a broken run.
+    /// Whether a turn is enabled after the journal: `step` takes it, but where the journal is full or memory is
+    /// wanting. None is in a broken run.
     pub fn is_enabled(&self, turn: &Turn) -> bool
         ensures { result ≡ (not self.now.broken
             && enabled self.now.settings (history_of self.now) turn.now) }
@@ -55,9 +56,9 @@ impl Run {
         is_enabled(self.settings.get(), &self.state, turn)
     }
 
-    /// The least moment of the run's clock, in nanoseconds, at which a timer is due: with the clock there the turn of the
-    /// run's timer, of the open round's wait or of a unit's timer is enabled, and with the clock at an earlier moment none
-    /// is. None where none is due at any moment of a `u64`, and of a broken run.
+    /// The least moment of the run's clock, in nanoseconds, at which a timer is due: with the clock there the turn of
+    /// the run's timer, of the open round's wait or of a unit's timer is enabled, and with the clock at an earlier
+    /// moment none is. None where none is due at any moment of a `u64`, and of a broken run.
     pub fn next_due(&self) -> Option<u64>
         ensures due { self.now.broken ≡ false → IsDueFrom
             (is_any_due self.now.settings (board self.now.settings (history_of self.now))) result }
@@ -110,8 +111,8 @@ impl Run {
         Some(self.state.running())
     }
 
-    /// The phase of a script or test of the newest sub-run, which says what turns it waits for: none before its admission,
-    /// and none in a broken run.
+    /// The phase of a script or test of the newest sub-run, which says what turns it waits for: none before its
+    /// admission, and none in a broken run.
     pub fn phase(&self, unit: u32) -> Option<Phase>
         ensures { result ≡ (if self.now.broken then None else option_map (λ unit. unit.phase)
             (unit_in (board self.now.settings (history_of self.now)) unit)) }

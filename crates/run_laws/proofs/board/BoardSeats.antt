@@ -108,7 +108,8 @@ report_quiet (Some (Slow slow)) h = tt
 report_quiet (Some (ScriptSlow slow)) h = tt
 report_quiet (Some m) h = absurd h
 
-failed_quiet : (delay : ℕ) (role : UnitRole) (status : Option ExecuteStatus) → IsQuiet (failure_message role delay status)
+failed_quiet : (delay : ℕ) (role : UnitRole) (status : Option ExecuteStatus)
+    → IsQuiet (failure_message role delay status)
 failed_quiet delay (roles.Test t) None = tt
 failed_quiet delay (roles.Test t) (Some status) = tt
 failed_quiet delay (roles.Script s) status = tt
@@ -117,7 +118,8 @@ retry_quiet : (role : UnitRole) (u : UnitView) → IsQuiet (retry_message role u
 retry_quiet (roles.Test t) u = tt
 retry_quiet (roles.Script s) u = tt
 
-script_quiet : (s : ScriptRole) (u : UnitView) (status : Option ExecuteStatus) → IsQuiet (option_map (script_finish s u) status)
+script_quiet : (s : ScriptRole) (u : UnitView) (status : Option ExecuteStatus)
+    → IsQuiet (option_map (script_finish s u) status)
 script_quiet s u None = tt
 script_quiet s u (Some status) = tt
 

@@ -15,6 +15,8 @@ use Rattle.run_model.specs.declared.entry.Entry.{Entry}
 use Rattle.run_model.specs.declared.happening.Happening.{Happening}
 use Rattle.run_model.specs.Words.{events_in, is_over, sub_run, stats}
 use Rattle.run_model.specs.Turns.{enabled, happening}
+use Rattle.run_model.specs.SubRuns.{outcome_in}
+use Rattle.run_model.specs.Words.{ended_runs}
 use Rattle.run_model.specs.Journal.{history, past_of, IsLegalBackward, outcome}
 use Rattle.run_laws.specs.Course.{is_third_after, turns_of, refusals, none_refused, refuses_none, AreAnswersOf}
 use Rattle.run_laws.specs.Course.{IsJournalOf, Stops, HasOneCourse}
@@ -179,7 +181,7 @@ passes_first p turns refuses a b s t lt first (journal, j, rest) =
 
 -- a run with an outcome is over, and it has one
 outcome_if : Settings → List Happening → Bool → Option RunOutcome
-outcome_if p past over = if over then Some (outcome_of (summary (stats p (sub_run past)))) else None
+outcome_if p past over = if over then outcome_in p (ended_runs past) else None
 
 pub one_course : (p : Settings) (turns : List Turn) (refuses : ℕ → Bool) → HasOneCourse p turns refuses
 unfolding outcome_if

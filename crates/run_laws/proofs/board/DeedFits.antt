@@ -30,15 +30,19 @@ use Rattle.run_model.specs.Dispatch.{event, having_told}
 use Rattle.run_model.specs.Board.{Deed, deed_events}
 use Rattle.run_model.specs.Turns.{is_complete, nothing_done, run_turn}
 use Rattle.run_model.specs.Accounts.{HasAccount, is_mismatched, account_of, pending_of}
-use Rattle.run_laws.proofs.told.Cancels.{cancel_for, IsCancel, cancel_is}
+use Rattle.run_laws.proofs.told.Cancels.{cancel_for, IsAfter, cancel_is}
+use Rattle.run_laws.proofs.told.Bounds.{IsBound, IsBoundAfter, bound_after}
 use Rattle.run_laws.proofs.units.AccountLemmas.{IsFirst}
 use Rattle.run_laws.proofs.units.RowSends.{IsOfKindIf, IsAsRole}
 use Rattle.run_laws.proofs.board.Order.{AreSettled}
 use Rattle.run_laws.specs.Scripts.{starts_test}
 use Rattle.run_laws.proofs.units.FaceLemmas.{said_of}
 use Rattle.run_laws.proofs.told.Reported.{DoesReport}
-use Rattle.run_laws.proofs.board.OnBoard.{board_of, moment_in}
+use Rattle.run_laws.proofs.board.OnBoard.{Frame, board_of, moment_in}
 use Rattle.run_laws.proofs.board.Newcomers.{IsNew}
+use Rattle.run_events.specs.declared.stress.StressIndex.{StressIndex}
+use Rattle.run_model.specs.Admission.{index_of_role}
+use Rattle.run_laws.proofs.board.OnBoard.{index_in}
 
 -- what an answer says
 abbrev pub go_in : UnitTurn → Bool
@@ -71,26 +75,44 @@ abbrev pub ToldFits : Settings → List ReporterEvent → Option ReporterEvent �
 ToldFits p es (Some (Test e)) = ToldFitsIn p es e.kind
 ToldFits p es _ = ⊤
 
--- a deed tells of its cause after all else; a sub-run begins with it where nothing has happened, and else one is on, or
--- nothing has happened and nothing is done; it ends the run only as the end of a complete run does. The runner stops
--- itself with one that tells nothing; a round is opened where a sub-run is on; and an answer is told that was given and
--- wasn't told
-pub record Marks (p : Settings) (over : Bool) (now : ℕ) (run : List Happening) (d : Deed) : Type 0 where
-  pub cancel : d.cancel ≡ cancel_for (moment_in now run) (having_told (tally p run) d.told) d.cause
-  pub begins : d.begins ≡ true → run ≡ []
-  pub still : (d.begins || is_on run) ≡ false → (run ≡ []) × (d ≡ nothing_done)
-  pub finishes : d.over ≡ d.ends
-  pub ends : d.ends ≡ true → (d ≡ run_turn p (board_of p over now run) End)
-      × (is_complete (board_of p over now run) ≡ true)
+-- a deed that begins a sub-run does nothing else but tell it
+pub record IsBegin (d : Deed) : Type 0 where
+  pub part : d.part ≡ None
+  pub sent : d.sent ≡ None
+  pub info : d.info ≡ []
+  pub taken : d.taken ≡ false
+  pub asked : d.asked ≡ None
+  pub cause : d.cause ≡ None
+  pub request : d.request ≡ None
+  pub stops : d.stops ≡ false
+  pub ends : d.ends ≡ false
+
+-- a deed tells of its cause after all else, but where a sub-run begins or ends with it, which has no cause; a sub-run
+-- begins with it where nothing has happened in it, and else one is on, or nothing is done; it ends the run only as the
+-- end of a complete sub-run does. The runner stops itself with one that tells nothing; a round is opened where a
+-- sub-run is on; and an answer is told that was given and wasn't told
+pub record Marks (p : Settings) (f : Frame) (now : ℕ) (run : List Happening) (d : Deed) : Type 0 where
+  pub cancel : (d.begins || d.ends) ≡ false
+      → d.after ≡ cancel_for (moment_in now f) (having_told (tally p run) d.told) d.cause
+  pub bounds : (d.begins || d.ends) ≡ true → IsBound d.told × IsBoundAfter d.after × (d.cause ≡ None)
+  pub begins : d.begins ≡ true → (run ≡ []) × IsBegin d
+  pub still : (d.begins || is_on run) ≡ false → d ≡ nothing_done
+  pub finishes : d.over ≡ true → d.ends ≡ true
+  pub ends : d.ends ≡ true → (d ≡ run_turn p (board_of p f now run) End)
+      × (is_complete (board_of p f now run) ≡ true)
   pub stops : d.stops ≡ true → d.told ≡ None
   pub opens : opens_round d.request ≡ true → is_on run ≡ true
   pub answers : tells_answer d.told ≡ true → answers_told run < length (answers_given (open_round run) run)
 
--- what it tells of its cause is that the run is cancelled
-pub cancel_told : (p : Settings) (over : Bool) (now : ℕ) (run : List Happening) (d : Deed) → Marks p over now run d
-    → IsCancel d.cancel
-cancel_told p over now run d marks =
-    subst IsCancel (sym marks.cancel) (cancel_is (moment_in now run) (having_told (tally p run) d.told) d.cause)
+-- what it tells after its own event says nothing of a unit
+pub cancel_told : (p : Settings) (f : Frame) (now : ℕ) (run : List Happening) (d : Deed) → Marks p f now run d
+    → IsAfter d.after
+cancel_told p f now run d marks = by_bound (d.begins || d.ends) refl
+  where
+    by_bound : (b : Bool) → (d.begins || d.ends) ≡ b → IsAfter d.after
+    by_bound true is = bound_after d.after (marks.bounds is).1
+    by_bound false is =
+        subst IsAfter (sym (marks.cancel is)) (cancel_is (moment_in now f) (having_told (tally p run) d.told) d.cause)
 
 -- whether unit k was left, after one more turn with this part
 abbrev pub left_with : ℕ → List Happening → Option UnitPart → Bool
@@ -131,8 +153,8 @@ abbrev pub starts_script : ReporterEvent → Bool
 starts_script (Test event) = starts_script_in event.kind
 starts_script _ = false
 
--- a test is told started once no script is to be told anything more, and a script before that; a start, and the finish of
--- a script, that is told is the oldest message
+-- a test is told started once no script is to be told anything more, and a script before that; a start, and the finish
+-- of a script, that is told is the oldest message
 pub record IsInOrder (p : Settings) (run : List Happening) (e : ReporterEvent) : Type 0 where
   pub test : starts_test e ≡ true → AreSettled p run
   pub script : starts_script e ≡ true → list_any starts_test (told run) ≡ false
@@ -153,9 +175,15 @@ IsSentAs now run (Some (Joins first)) None = ⊤
 IsSentAs now run (Some (Joins first)) (Some m) = (skipped : Bool) × IsFirst skipped first m
 IsSentAs now run (Some (Acts j turn)) sent = sent ≡ option_and_then (λ v. (row now turn v).sent) (unit_of j run)
 
+-- a unit that joins is of this sub-run of a stress run
+abbrev pub JoinsAs : Option StressIndex → Option UnitPart → Type 0
+JoinsAs index (Some (Joins first)) = index_of_role first.role ≡ index
+JoinsAs index part = ⊤
+
 -- what a deed does fits a sub-run
-pub record Does (p : Settings) (over : Bool) (now : ℕ) (run : List Happening) (d : Deed) : Type 0 where
+pub record Does (p : Settings) (f : Frame) (now : ℕ) (run : List Happening) (d : Deed) : Type 0 where
   pub part : PartFits p now run d.part
+  pub index : JoinsAs (index_in p f) d.part
   pub room : delivered run + (if d.taken then 1 else 0) ≤ length (sent run)
   pub sends : IsOfKindIf p d.sent
   pub tells : ToldFits p (told run) d.told
@@ -168,4 +196,4 @@ pub record Does (p : Settings) (over : Bool) (now : ℕ) (run : List Happening) 
   pub asks : d.asked ≡ asked_with now run d
   pub sent_as : IsSentAs now run d.part d.sent
   pub order : IfSome d.told (IsInOrder p run)
-  pub marks : Marks p over now run d
+  pub marks : Marks p f now run d

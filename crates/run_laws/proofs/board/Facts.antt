@@ -120,9 +120,9 @@ start_own start = rw (itself start.test.unit) refl
 pub script_own : (start : ScriptStart) → pending_in start.script.unit (ScriptStarts start) ≡ Some started
 script_own start = rw (itself start.script.unit) refl
 
-pub start_waits : (p : Settings) (over : Bool) (now : ℕ) (run : List Happening) (k : ℕ) (m : Message) (rest : List Message)
-    → Holds p over now run → queue run ≡ m ∷ rest → pending_in k m ≡ Some started → Waits p now run k
-start_waits p over now run k m rest h eq starts =
+pub start_waits : (p : Settings) (now : ℕ) (run : List Happening) (k : ℕ) (m : Message) (rest : List Message)
+    → Holds p now run → queue run ≡ m ∷ rest → pending_in k m ≡ Some started → Waits p now run k
+start_waits p now run k m rest h eq starts =
     let found = start_of_unit (is_mismatched p k) (was_left k run) k m (unit_of k run)
     (account_of k (told run)) rest starts (rw eq at (h.accounts k)) in
     let named = h.named k found.0 found.1 in
@@ -177,10 +177,10 @@ retry_of_unit mm left retry (Some u) t rest h = (
       (rw (itself retry.start.test.unit) at h),
 )
 
-pub retry_waits : (p : Settings) (over : Bool) (now : ℕ) (run : List Happening) (retry : TestRetry)
+pub retry_waits : (p : Settings) (now : ℕ) (run : List Happening) (retry : TestRetry)
     (rest : List Message)
-    → Holds p over now run → queue run ≡ Retry retry ∷ rest → WaitsAgain p now run retry.start.test.unit
-retry_waits p over now run retry rest h eq =
+    → Holds p now run → queue run ≡ Retry retry ∷ rest → WaitsAgain p now run retry.start.test.unit
+retry_waits p now run retry rest h eq =
     let k : ℕ = retry.start.test.unit in
     let found = retry_of_unit (is_mismatched p k) (was_left k run) retry (unit_of k run)
     (account_of k (told run)) rest (rw eq at (h.accounts k)) in
@@ -243,10 +243,10 @@ pub script_finish_own : (finish : ScriptFinish)
     → pending_in finish.script.unit (ScriptFinishes finish) ≡ Some (finished (attempt_of finish.status ∷ []))
 script_finish_own finish = rw (itself finish.script.unit) refl
 
-pub finish_follows : (p : Settings) (over : Bool) (now : ℕ) (run : List Happening) (k : ℕ) (m : Message)
+pub finish_follows : (p : Settings) (now : ℕ) (run : List Happening) (k : ℕ) (m : Message)
     (fs : List ExecuteStatus) (rest : List Message)
-    → Holds p over now run → queue run ≡ m ∷ rest → pending_in k m ≡ Some (finished fs) → Finishes p run k fs
-finish_follows p over now run k m fs rest h eq ends =
+    → Holds p now run → queue run ≡ m ∷ rest → pending_in k m ≡ Some (finished fs) → Finishes p run k fs
+finish_follows p now run k m fs rest h eq ends =
     let found = finish_of_unit (is_mismatched p k) (was_left k run) k m fs (unit_of k run)
     (account_of k (told run)) rest ends (rw eq at (h.accounts k)) in
     let named = h.named k found.0 found.1 in
@@ -267,9 +267,9 @@ pub may_go-is : (p : Settings) (run : List Happening) → may_go (tally p run) �
 may_go-is p run = ap is_none (stats-reason p (reason run) (skipped run) (finishes_told run))
 
 -- the oldest message is one of its kind
-pub oldest_kind : (p : Settings) (over : Bool) (now : ℕ) (run : List Happening) (m : Message) (rest : List Message)
-    → Holds p over now run → queue run ≡ m ∷ rest → IsOfKind p m
-oldest_kind p over now run m rest h eq =
+pub oldest_kind : (p : Settings) (now : ℕ) (run : List Happening) (m : Message) (rest : List Message)
+    → Holds p now run → queue run ≡ m ∷ rest → IsOfKind p m
+oldest_kind p now run m rest h eq =
     All-head (IsOfKind p) m rest (All-same (IsOfKind p) (m ∷ rest) (queue run) (sym eq)
     (All-drop (IsOfKind p) (delivered run) (sent run) h.kinds))
 

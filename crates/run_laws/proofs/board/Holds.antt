@@ -34,8 +34,8 @@ abbrev pub is_script_role : UnitRole → Bool
 is_script_role (roles.Test t) = false
 is_script_role (roles.Script s) = true
 
--- a unit is known by its number, that is one of the plan, and took no turn later than now; it is a script where its number
--- says so
+-- a unit is known by its number, that is one of the plan, and took no turn later than now; it is a script where its
+-- number says so
 abbrev pub IsNamed : Settings → ℕ → ℕ → Option UnitView → Type 0
 IsNamed p now k v = (u : UnitView) → v ≡ Some u
     → (number u ≡ k) × (k < units_in p) × (u.latest ≤ now) × (is_script_role u.role ≡ is_script p k)
@@ -91,7 +91,8 @@ abbrev pub IsOverWith : ℕ → ℕ → List ExecuteStatus → Way → Type 0
 IsOverWith retries attempt [] w = w.stopped ≡ Some 0
 IsOverWith retries attempt (s ∷ ss) w = (attempt ≡ length (s ∷ ss)) × HasEndedAs w.stopped retries (s ∷ ss)
 
--- how far a test is on its way, by its phase, its attempts and the number of the current one; one that is skipped has no way
+-- how far a test is on its way, by its phase, its attempts and the number of the current one; one that is skipped has
+-- no way
 abbrev pub IsOnWayIn : ℕ → Phase → ℕ → List ExecuteStatus → Way → Type 0
 IsOnWayIn retries StartSent attempt ss w = IsWaiting w × (attempt ≡ 1) × (ss ≡ [])
 IsOnWayIn retries Deciding attempt ss w =
@@ -122,6 +123,11 @@ abbrev pub IsFewer : (List Happening → ℕ) → List Happening → Type 0
 IsFewer count [] = ⊤
 IsFewer count (x ∷ run) = count (x ∷ run) ≤ length run
 
+-- a unit that was admitted is over
+abbrev pub IsStill : Option UnitView → Type 0
+IsStill None = ⊤
+IsStill (Some u) = u.phase ≡ Over
+
 -- a sub-run has more turns than it opened rounds, and than its latest round told answers; and of the open round no more
 -- answers were told than given
 pub record HasRounds (run : List Happening) : Type 0 where
@@ -129,10 +135,10 @@ pub record HasRounds (run : List Happening) : Type 0 where
   pub told : IsFewer answers_told run
   pub given : is_some (open_round run) ≡ true → answers_told run ≤ length (answers_given (open_round run) run)
 
--- of a sub-run at this moment, by whether the run is over: no more messages are delivered than sent, no more skips and
+-- of a sub-run at this moment: no more messages are delivered than sent, no more skips and
 -- finishes are told than it has turns, the dispatcher heard none later, its rounds are as above, units are named, each
 -- has its account, and its attempts, signals and slow reports are its own turns
-pub record Holds (p : Settings) (over : Bool) (now : ℕ) (run : List Happening) : Type 0 where
+pub record Holds (p : Settings) (now : ℕ) (run : List Happening) : Type 0 where
   pub fits : delivered run ≤ length (sent run)
   pub counted : skipped run + length (finished run) ≤ length run
   pub heard : heard run ≤ now
@@ -141,8 +147,8 @@ pub record Holds (p : Settings) (over : Bool) (now : ℕ) (run : List Happening)
   pub accounts : (k : ℕ) → IsAccounted p k run
   pub reported : (k : ℕ) → IsReported (unit_terms p k) k run
   pub made : (k : ℕ) → IsMadeIf (unit_terms p k) (unit_of k run) (story_of k run)
-  -- before a sub-run is on, and the run not over, nothing has happened: no further sub-run begins yet
-  pub fresh : is_on run ≡ false → over ≡ false → run ≡ []
+  -- where it is off, each of its units is over
+  pub still : is_on run ≡ false → (k : ℕ) → IsStill (unit_of k run)
   pub kinds : All (IsOfKind p) (sent run)
   pub on_way : (k : ℕ) → IsOnWay (is_mismatched p k) (unit_of k run) (way_of k run)
   pub lines : (k : ℕ) → HasLine (unit_of k run) (line_of k run)

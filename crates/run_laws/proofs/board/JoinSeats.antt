@@ -35,6 +35,8 @@ use Rattle.run_laws.proofs.board.OpenSeats.{opened, at_last, AreLower}
 use Rattle.run_laws.proofs.units.AccountLemmas.{IsFirst}
 use Rattle.run_laws.proofs.board.Newcomers.{Becomes, Newcomes, ScriptComes, newcomer_is, IsNew}
 use Rattle.run_laws.proofs.board.BoardSeats.{board_seat, seat_after, AreKeptIn, kept_fewer}
+use Rattle.run_laws.proofs.board.OnBoard.{index_in}
+use Rattle.run_events.specs.declared.stress.StressIndex.{StressIndex}
 
 -- the seats of the tests on the board are those of the history, one by one
 seats_listed : (p : Settings) (run : List Happening)
@@ -103,21 +105,22 @@ no_group_slot p us test place global slot planned runs none = by_run (run_is (li
         (option_and_then (group_of p.plan.groups) o)) none
 
 -- the admission of a test keeps the limits on the board
-test_kept : (p : Settings) (now : ℕ) (run : List Happening) (new : Newcomer) → Newcomes p (units p run) new
+test_kept : (p : Settings) (now : ℕ) (index : Option StressIndex) (run : List Happening) (new : Newcomer)
+    → Newcomes p index (units p run) new
     → AreKeptIn p (board_seat run) → AreKeptIn p (seat_after now (Some (Joins new.unit)) run)
-test_kept p now run new found kept = by_case found.is
+test_kept p now index run new found kept = by_case found.is
   where
     k : ℕ
     k = unit_of_test p found.place
 
     first_in : ℕ → Option ℕ → UnitView
     first_in global slot =
-        first_view p k (slots_of found.test global slot) (handed_to p (units p run) found.test) found.test
+        first_view p index k (slots_of found.test global slot) (handed_to p (units p run) found.test) found.test
 
-    skips : AreLower (seat_after now (Some (Joins (skipped_view p k found.test))) run) (board_seat run)
+    skips : AreLower (seat_after now (Some (Joins (skipped_view p index k found.test))) run) (board_seat run)
     skips i = by_unit (k == i)
       where
-        by_unit : (b : Bool) → IsBelow (seat_of (if b then Some (skipped_view p k found.test) else unit_of i run))
+        by_unit : (b : Bool) → IsBelow (seat_of (if b then Some (skipped_view p index k found.test) else unit_of i run))
             (board_seat run i)
         by_unit true used = cc
         by_unit false used = refl
@@ -151,40 +154,42 @@ test_kept p now run new found kept = by_case found.is
             let other : (k == unit_of_test p j) ≡ false = grind arith in
             ap (λ b. seat_of (if b then Some first else unit_of (unit_of_test p j) run)) other
 
-    by_case : Becomes p (units p run) found.place found.test new
+    by_case : Becomes p index (units p run) found.place found.test new
         → AreKeptIn p (seat_after now (Some (Joins new.unit)) run)
     by_case (inl (reason, skip, is)) =
         subst (λ (n : Newcomer). AreKeptIn p (seat_after now (Some (Joins n.unit)) run)) (sym is)
-        (kept_fewer p (seat_after now (Some (Joins (skipped_view p k found.test))) run) (board_seat run) skips kept)
+        (kept_fewer p (seat_after now (Some (Joins (skipped_view p index k found.test))) run) (board_seat run) skips kept)
     by_case (inr (skip, (global, (slot, runs, is)))) =
         subst (λ (n : Newcomer). AreKeptIn p (seat_after now (Some (Joins n.unit)) run)) (sym is)
         (starts global slot runs)
 
 -- and so does that of a script, which holds none
-script_kept : (p : Settings) (now : ℕ) (run : List Happening) (new : Newcomer) → ScriptComes p (units p run) new
+script_kept : (p : Settings) (now : ℕ) (index : Option StressIndex) (run : List Happening) (new : Newcomer)
+    → ScriptComes p index (units p run) new
     → AreKeptIn p (board_seat run) → AreKeptIn p (seat_after now (Some (Joins new.unit)) run)
-script_kept p now run new found kept =
+script_kept p now index run new found kept =
     subst (λ (n : Newcomer). AreKeptIn p (seat_after now (Some (Joins n.unit)) run)) (sym found.is)
-    (kept_fewer p (seat_after now (Some (Joins (script_view p found.place found.script))) run) (board_seat run) lower kept)
+    (kept_fewer p (seat_after now (Some (Joins (script_view p index found.place found.script))) run) (board_seat run) lower kept)
   where
-    lower : AreLower (seat_after now (Some (Joins (script_view p found.place found.script))) run) (board_seat run)
+    lower : AreLower (seat_after now (Some (Joins (script_view p index found.place found.script))) run) (board_seat run)
     lower i = by_unit (found.place == i)
       where
         by_unit : (b : Bool)
-            → IsBelow (seat_of (if b then Some (script_view p found.place found.script) else unit_of i run))
+            → IsBelow (seat_of (if b then Some (script_view p index found.place found.script) else unit_of i run))
             (board_seat run i)
         by_unit true used = cc
         by_unit false used = refl
 
 -- an admission keeps the limits on the board
-pub joins_kept : (p : Settings) (now : ℕ) (run : List Happening) (new : Newcomer) → newcomer p (units p run) ≡ Some new
+pub joins_kept : (p : Settings) (now : ℕ) (index : Option StressIndex) (run : List Happening) (new : Newcomer)
+    → newcomer p index (units p run) ≡ Some new
     → AreKeptIn p (board_seat run) → AreKeptIn p (seat_after now (Some (Joins new.unit)) run)
-joins_kept p now run new e kept = by_kind (newcomer_is p (units p run) new e)
+joins_kept p now index run new e kept = by_kind (newcomer_is p index (units p run) new e)
   where
-    by_kind : Newcomes p (units p run) new ⊎ ScriptComes p (units p run) new
+    by_kind : Newcomes p index (units p run) new ⊎ ScriptComes p index (units p run) new
         → AreKeptIn p (seat_after now (Some (Joins new.unit)) run)
-    by_kind (inl test) = test_kept p now run new test kept
-    by_kind (inr script) = script_kept p now run new script kept
+    by_kind (inl test) = test_kept p now index run new test kept
+    by_kind (inr script) = script_kept p now index run new script kept
 
 -- an admission leaves the last seats below the board's: a start opens its seat
 pub joins_last : (p : Settings) (now : ℕ) (run : List Happening) (first : UnitView) (sent : Message) (seat : ℕ → Seat)
@@ -211,7 +216,8 @@ joins_last p now run first sent seat new below = by_kind _ first sent new.first 
         by_unit true e = unseated u k unknown e
         by_unit false e = below k
 
-    starts : (u : UnitView) (role : UnitRole) (k : ℕ) → u.role ≡ role → u.phase ≡ StartSent → unit_of (number u) run ≡ None
+    starts : (u : UnitView) (role : UnitRole) (k : ℕ) → u.role ≡ role → u.phase ≡ StartSent
+        → unit_of (number u) run ≡ None
         → IsBelow (opened (start_message role u) seat k) (seat_of (if number u == k then Some u else unit_of k run))
     starts u (roles.Script s) k is ph unknown = still u k unknown
     starts u (roles.Test t) k is ph unknown =

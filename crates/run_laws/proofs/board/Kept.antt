@@ -23,52 +23,48 @@ use Rattle.run_model.specs.declared.phase.Phase.TheVariants.{EnvWait, Deciding, 
 use Rattle.run_laws.proofs.board.Holds.{Holds, HasLine, HasLineIn}
 use Rattle.run_laws.proofs.units.AttemptLemmas.{IsMade, IsMadeIf, made_statuses, made_due}
 use Rattle.run_laws.proofs.board.DeedFits.{Does}
-use Rattle.run_laws.proofs.board.Whole.{IsAlike, alike-none, alike-cons, alike-idle, board_now, board-is}
-use Rattle.run_laws.proofs.board.Deeds.{does}
+use Rattle.run_laws.proofs.board.OnBoard.{frame_of}
+use Rattle.run_laws.proofs.board.BoundDeeds.{holds-none}
+use Rattle.run_laws.proofs.board.Deeds.{base_of, does}
 use Rattle.run_model.specs.Attempts.{pieces_of}
 use Rattle.run_laws.proofs.told.Reported.{stops_by_terms}
-use Rattle.run_laws.proofs.board.KeptDeeds.{holds-cons, holds-none}
+use Rattle.run_laws.proofs.board.KeptDeeds.{holds-cons}
 
--- the newest sub-run after a turn that begins one where nothing has happened, or finds one that is on
-sub_run-cons : (x : Happening) (past : List Happening) → (x.begins ≡ true → sub_run past ≡ [])
-    → (x.begins || is_on (sub_run past)) ≡ true → sub_run (x ∷ past) ≡ x ∷ sub_run past
-sub_run-cons x past fresh on = by_begin x.begins refl on
-  where
-    joins : (run : List Happening) → is_on run ≡ true → joined_run x run ≡ x ∷ run
-    joins [] on = cc
-    joins (y ∷ run) on = refl
-
-    by_begin : (b : Bool) → x.begins ≡ b → (b || is_on (sub_run past)) ≡ true
-        → (if b then x ∷ [] else joined_run x (sub_run past)) ≡ x ∷ sub_run past
-    by_begin true is on = ap (λ run. x ∷ run) (sym (fresh is))
-    by_begin false is on = joins (sub_run past) on
-
--- what holds after a history, and what an enabled turn does to it
-pub record HoldsAfter (p : Settings) (past : List Happening) : Type 0 where
-  pub run : Holds p (is_over past) (clock past) (sub_run past)
-  pub alike : IsAlike past (sub_run past)
-
--- and what it does there is what it does on the board of the newest sub-run
-pub on_board_now : (p : Settings) (past : List Happening) (turn : Turn) (P : Deed → Type 0) → HoldsAfter p past
-    → enabled p past turn ≡ true
-    → (enabled_on p (board_now p past) turn ≡ true → P (deed_on p (board_now p past) turn))
-    → P (deed_on p (board p past) turn)
-on_board_now p past turn P h en does =
-    subst (λ b. P (deed_on p b turn)) (sym same) (does (subst (λ b. enabled_on p b turn ≡ true) same en))
-  where
-    same : board p past ≡ board_now p past
-    same = board-is p past h.alike
+-- what holds of the newest sub-run is kept by a turn that joins none before it
+abbrev pub HoldsAfter : Settings → List Happening → Type 0
+HoldsAfter p past = Holds p (clock past) (sub_run past)
 
 pub does_after : (p : Settings) (past : List Happening) (e : Entry) → HoldsAfter p past → enabled p past e.turn ≡ true
-    → Does p (is_over past) (clock past) (sub_run past) (deed_on p (board p past) e.turn)
-does_after p past e h en =
-    on_board_now p past e.turn (Does p (is_over past) (clock past) (sub_run past)) h en
-    (does p (is_over past) (was_refused past) (clock past) (sub_run past) e.turn h.run)
+    → Does p (frame_of p past) (clock past) (base_of (happening p past e).begins (sub_run past))
+    (deed_on p (board p past) e.turn)
+does_after p past e h en = does p (frame_of p past) (was_refused past) (clock past) (sub_run past) e.turn h en
 
--- a turn joins the newest sub-run, or comes before the first one and does nothing but move the clock
+-- a turn joins the newest sub-run or begins one, of which this happened before it; or it comes before the first one and
+-- does nothing but move the clock
 pub record IsOfRun (p : Settings) (past : List Happening) (e : Entry) : Type 0 where
-  pub on : ((happening p past e).begins || is_on (sub_run past)) ≡ true
-  pub joins : sub_run (happening p past e ∷ past) ≡ happening p past e ∷ sub_run past
+  pub base : List Happening
+  pub is : base ≡ base_of (happening p past e).begins (sub_run past)
+  pub joins : sub_run (happening p past e ∷ past) ≡ happening p past e ∷ base
+  pub holds : Holds p (clock past) base
+  pub does : Does p (frame_of p past) (clock past) base (deed_on p (board p past) e.turn)
+
+-- what holds of no sub-run and of the newest one holds of that
+pub from_base : (P : List Happening → Type 0) (p : Settings) (past : List Happening) (e : Entry) (of : IsOfRun p past e)
+    → P [] → P (sub_run past) → P of.base
+from_base P p past e of none was = subst P (sym of.is) (by_begin (happening p past e).begins)
+  where
+    by_begin : (b : Bool) → P (base_of b (sub_run past))
+    by_begin true = none
+    by_begin false = was
+
+-- something happened in a sub-run that a turn joins and doesn't begin
+pub some_base : (p : Settings) (past : List Happening) (e : Entry) (of : IsOfRun p past e)
+    → (happening p past e).begins ≡ false → of.base ≡ [] → ⊥
+some_base p past e of begins none =
+    let x : Happening = happening p past e in
+    let run : sub_run past ≡ [] = sym (of.is ∙ ap (λ b. base_of b (sub_run past)) begins) ∙ none in
+    let never : [] ≡ x ∷ of.base = sym (ap (λ b. if b then x ∷ [] else joined_run x (sub_run past)) begins
+    ∙ ap (joined_run x) run) ∙ of.joins in cc
 
 pub record IsBeforeRuns (p : Settings) (past : List Happening) (e : Entry) : Type 0 where
   pub none : sub_run past ≡ []
@@ -77,23 +73,38 @@ pub record IsBeforeRuns (p : Settings) (past : List Happening) (e : Entry) : Typ
 
 pub where_joins : (p : Settings) (past : List Happening) (e : Entry) → HoldsAfter p past
     → enabled p past e.turn ≡ true → IsOfRun p past e ⊎ IsBeforeRuns p past e
-where_joins p past e h en = by_on ((happening p past e).begins || is_on (sub_run past)) refl
+where_joins p past e h en = by_begin (happening p past e).begins refl (does_after p past e h en)
   where
-    does : Does p (is_over past) (clock past) (sub_run past)
-        (deed_on p (board p past) e.turn)
-    does = does_after p past e h en
+    x : Happening
+    x = happening p past e
 
-    by_on : (b : Bool) → ((happening p past e).begins || is_on (sub_run past)) ≡ b
+    by_begin : (b : Bool) → x.begins ≡ b
+        → Does p (frame_of p past) (clock past) (base_of b (sub_run past)) (deed_on p (board p past) e.turn)
         → IsOfRun p past e ⊎ IsBeforeRuns p past e
-    by_on true on = inl (record { on = on; joins = sub_run-cons (happening p past e) past does.marks.begins on })
-    by_on false off =
-        let still = does.marks.still off in
-        let begins : (happening p past e).begins ≡ false = ap (λ (d : Deed). d.begins) still.1 in
-        inr (record {
-          none = still.0;
-          idle = still.1;
-          still = ap (λ b. if b then happening p past e ∷ [] else joined_run (happening p past e) (sub_run past)) begins
-              ∙ ap (joined_run (happening p past e)) still.0;
+    by_begin true begins does = inl (record {
+      base = [];
+      is = ap (λ b. base_of b (sub_run past)) (sym begins);
+      joins = ap (λ b. if b then x ∷ [] else joined_run x (sub_run past)) begins;
+      holds = holds-none p (clock past);
+      does = does;
+    })
+    by_begin false begins does = by_run (sub_run past) refl
+      where
+        joined : sub_run (x ∷ past) ≡ joined_run x (sub_run past)
+        joined = ap (λ b. if b then x ∷ [] else joined_run x (sub_run past)) begins
+
+        by_run : (run : List Happening) → sub_run past ≡ run → IsOfRun p past e ⊎ IsBeforeRuns p past e
+        by_run [] is = inr (record {
+          none = is;
+          idle = does.marks.still (ap (λ b. b || is_on (sub_run past)) begins ∙ ap is_on is);
+          still = joined ∙ ap (joined_run x) is;
+        })
+        by_run (y ∷ run) is = inl (record {
+          base = sub_run past;
+          is = ap (λ b. base_of b (sub_run past)) (sym begins);
+          joins = joined ∙ ap (joined_run x) is ∙ ap (λ run. x ∷ run) (sym is);
+          holds = h;
+          does = does;
         })
 
 pub kept : (p : Settings) (past : List Happening) (e : Entry) → HoldsAfter p past → enabled p past e.turn ≡ true
@@ -101,29 +112,20 @@ pub kept : (p : Settings) (past : List Happening) (e : Entry) → HoldsAfter p p
 kept p past e h en = by_run (where_joins p past e h en)
   where
     by_run : IsOfRun p past e ⊎ IsBeforeRuns p past e → HoldsAfter p (happening p past e ∷ past)
-    by_run (inl of) = record {
-      run = subst (Holds p (is_over (happening p past e ∷ past)) (clock (happening p past e ∷ past))) (sym of.joins)
-          (holds-cons p (is_over past) (clock past) (sub_run past) e _ h.run (does_after p past e h en) of.on);
-      alike = subst (IsAlike (happening p past e ∷ past)) (sym of.joins)
-          (alike-cons (happening p past e) past (sub_run past) h.alike);
-    }
-    by_run (inr before) = record {
-      run = subst (Holds p (is_over (happening p past e ∷ past)) (clock (happening p past e ∷ past))) (sym before.still)
-          (holds-none p (is_over (happening p past e ∷ past)) (clock (happening p past e ∷ past)));
-      alike = subst (IsAlike (happening p past e ∷ past)) (before.none ∙ sym before.still)
-          (subst (λ (d : Deed). IsAlike (said (clock past) e d ∷ past) (sub_run past)) (sym before.idle)
-          (alike-idle (clock past) e past (sub_run past) h.alike));
-    }
+    by_run (inl of) = subst (Holds p (clock (happening p past e ∷ past))) (sym of.joins)
+        (holds-cons p (frame_of p past) (clock past) of.base e _ of.holds of.does)
+    by_run (inr before) = subst (Holds p (clock (happening p past e ∷ past))) (sym before.still)
+        (holds-none p (clock (happening p past e ∷ past)))
 
 -- what holds after every legal journal
 pub holds : (p : Settings) (backward : List Entry) → IsLegalBackward p backward → HoldsAfter p (history p backward)
-holds p [] legal = record { run = holds-none p false 0; alike = alike-none }
+holds p [] legal = holds-none p 0
 holds p (e ∷ before) legal = kept p (history p before) e (holds p before legal.2) legal.0
 
 -- so each unit has its account
 pub accounts : (p : Settings) (backward : List Entry) → IsLegalBackward p backward → (k : ℕ)
     → IsAccounted p k (sub_run (history p backward))
-accounts p backward legal k = (holds p backward legal).run.accounts k
+accounts p backward legal k = (holds p backward legal).accounts k
 
 -- and its attempts are its own turns
 pub made : (p : Settings) (backward : List Entry) → IsLegalBackward p backward → (k : ℕ) (u : UnitView)
@@ -132,7 +134,7 @@ made p backward legal k u is =
     let ps : List Attempt = pieces (story_of k (sub_run (history p backward))) in
     let it : IsMade (unit_terms p k) u ps =
     subst (λ v. IsMadeIf (unit_terms p k) v (story_of k (sub_run (history p backward)))) is
-    ((holds p backward legal).run.made k) in
+    ((holds p backward legal).made k) in
     record {
       statuses = made_statuses (unit_terms p k) u ps it;
       attempt = it.attempt;
@@ -144,7 +146,7 @@ made p backward legal k u is =
 pub reported : (p : Settings) (backward : List Entry) → IsLegalBackward p backward → (k : ℕ)
     → IsReportedByItsTurns p (sub_run (history p backward)) k
 reported p backward legal k =
-    let it = (holds p backward legal).run.reported k in
+    let it = (holds p backward legal).reported k in
     record {
       signals = it.signals ∙ ap (λ b. signals_by b (unit_terms p k).slow (pieces_of k run)) (stops_by_terms p k);
       reports = it.reports;
@@ -160,8 +162,8 @@ pub lined : (p : Settings) (backward : List Entry) → IsLegalBackward p backwar
 lined p backward legal k u is live =
     let run : List Happening = sub_run (history p backward) in
     record {
-      line = live_line u.phase live (subst (λ v. HasLine v (line_of k run)) is ((holds p backward legal).run.lines k));
-      took = (holds p backward legal).run.taken k;
+      line = live_line u.phase live (subst (λ v. HasLine v (line_of k run)) is ((holds p backward legal).lines k));
+      took = (holds p backward legal).taken k;
     }
   where
     live_line : (ph : Phase) → is_live ph ≡ true → HasLineIn ph u.line (line_of k (sub_run (history p backward)))

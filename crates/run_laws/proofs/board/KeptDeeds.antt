@@ -21,7 +21,7 @@ use Rattle.run_model.specs.declared.unit_view.AttemptTerms.{AttemptTerms}
 use Rattle.run_model.specs.declared.unit_view.UnitView.{UnitView}
 use Rattle.run_model.specs.Unit.{at_moment, row, is_live, reach}
 use Rattle.run_model.specs.Words.{events_in, ns_of, is_on, is_heard, heard, sent, delivered, queue, told}
-use Rattle.run_model.specs.Words.{finish_of, finished, skips, skipped, unit_of, unit_after}
+use Rattle.run_model.specs.Words.{finish_of, finished, skips, skipped, unit_of, unit_after, units}
 use Rattle.run_model.specs.Environment.{number_of, number}
 use Rattle.run_model.specs.Admission.{is_script, units_in, unit_terms}
 use Rattle.run_model.specs.Dispatch.{Moment, event}
@@ -38,11 +38,25 @@ use Rattle.run_laws.proofs.units.LetGo.{on_way_after}
 use Rattle.run_laws.proofs.board.Ordered.{IsOrdered, ordered_after}
 use Rattle.run_laws.proofs.units.Lines.{own_request}
 use Rattle.run_laws.proofs.units.LineMoves.{line_after}
-use Rattle.run_laws.proofs.told.Cancels.{IsCancel, cancel_skips, cancel_finishes}
+use Rattle.run_laws.proofs.told.Cancels.{IsAfter, cancel_skips, cancel_finishes}
 use Rattle.run_laws.proofs.told.Reported.{reported_after}
 use Rattle.run_laws.proofs.board.DeedFits.{cancel_told, PartFits, left_with, left-cons, Does}
 use Rattle.run_laws.proofs.board.RoundLemmas.{rounds_kept}
 use Rattle.run_laws.proofs.board.Deeds.{does}
+use Rattle.run_laws.proofs.board.OnBoard.{Frame, board_of, units-at, units-length}
+use Rattle.std.proofs.Common.{nat_lt}
+use Rattle.std.specs.List.{list_all}
+use Rattle.run_laws.proofs.board.Holds.{IsStill}
+use Rattle.run_model.specs.declared.phase.Phase.{Phase}
+use Rattle.run_model.specs.declared.phase.Phase.TheVariants.{StartSent, Starting, Running, Grace, KillWait, Leak}
+use Rattle.run_model.specs.declared.phase.Phase.TheVariants.{EnvWait, Deciding, Delay, RetrySent, Over}
+use Rattle.run_commands.specs.declared.stress_count.StressCondition.{StressCondition}
+use Rattle.run_model.specs.Turns.{ends_as}
+use Rattle.run_model.specs.Admission.{is_last}
+use Rattle.run_model.specs.Admission.{is_done}
+use Rattle.run_model.specs.Turns.{is_complete, is_empty}
+use Rattle.std.specs.Cmp.{second_so}
+use Rattle.run_laws.proofs.board.Order.{all_at}
 
 -- a request says nothing of an account, nor of the name of a unit
 reach_account : (mm left : Bool) (request : Option Request) (v : Option UnitView) (t q : List News)
@@ -105,17 +119,17 @@ counted_one (Some (Test e)) = by_kind e.kind
     by_kind (SetupScriptFinished finish) = omega arith
     by_kind kind = omega arith
 
-counted-cons : (x : Happening) (run : List Happening) → IsCancel x.cancel
+counted-cons : (x : Happening) (run : List Happening) → IsAfter x.after
     → skipped run + length (finished run) ≤ length run
     → skipped (x ∷ run) + length (finished (x ∷ run)) ≤ length (x ∷ run)
 counted-cons x run none short =
     let plain : count_by skips (events_in x) ≡ count_by skips (option_to_list x.told ++ []) =
-    sum_by-append (λ e. cond (skips e) 1 0) (option_to_list x.told) (option_to_list x.cancel)
-    ∙ ap (λ n. count_by skips (option_to_list x.told) + n) (cancel_skips x.cancel none)
+    sum_by-append (λ e. cond (skips e) 1 0) (option_to_list x.told) (option_to_list x.after)
+    ∙ ap (λ n. count_by skips (option_to_list x.told) + n) (cancel_skips x.after none)
     ∙ sym (sum_by-append (λ e. cond (skips e) 1 0) (option_to_list x.told) []) in
     let same : filter_map finish_of (events_in x) ≡ filter_map finish_of (option_to_list x.told ++ []) =
-    filter_map-append finish_of (option_to_list x.told) (option_to_list x.cancel)
-    ∙ ap (λ fs. filter_map finish_of (option_to_list x.told) ++ fs) (cancel_finishes x.cancel none)
+    filter_map-append finish_of (option_to_list x.told) (option_to_list x.after)
+    ∙ ap (λ fs. filter_map finish_of (option_to_list x.told) ++ fs) (cancel_finishes x.after none)
     ∙ sym (filter_map-append finish_of (option_to_list x.told) []) in
     let one = counted_one x.told in
     let now : count_by skips (events_in x) + length (filter_map finish_of (events_in x)) ≤ 1 =
@@ -208,26 +222,81 @@ made_after p run now k (Some (Acts j turn)) h named line taken = by_unit (j == k
         is taken.takes (named taken.unit is).2 h)
     by_unit false e = h
 
--- once it is on, a sub-run is on or the run is over
-stays_on : (begins on ends over_now over : Bool) → over_now ≡ ends → (begins || on) ≡ true
-    → (not ends && (begins || on)) ≡ false → (over_now || over) ≡ false → ⊥
-stays_on begins on true true over e is off going = cc
-stays_on begins on true false over e is off going = cc
-stays_on begins on false over_now over e is off going = let never : true ≡ false = sym is ∙ off in cc
-
 -- no turn was heard later than now
 heard-within : (hears : Bool) (now ns was : ℕ) → was ≤ now → (if hears then now else was) ≤ now + ns
 heard-within true now ns was h = omega arith
 heard-within false now ns was h = omega arith
 
+-- once a sub-run is off, each of its units is over: it is complete where it ends, and nothing is done after that
+over_still : (v : Option UnitView) → is_done v ≡ true → IsStill v
+over_still None done = cc
+over_still (Some u) done = by_phase u.phase done
+  where
+    by_phase : (ph : Phase) → is_last ph ≡ true → ph ≡ Over
+    by_phase Over last = refl
+    by_phase StartSent last = cc
+    by_phase Starting last = cc
+    by_phase Running last = cc
+    by_phase Grace last = cc
+    by_phase KillWait last = cc
+    by_phase Leak last = cc
+    by_phase EnvWait last = cc
+    by_phase Deciding last = cc
+    by_phase Delay last = cc
+    by_phase RetrySent last = cc
+
+complete_still : (p : Settings) (f : Frame) (now : ℕ) (run : List Happening) → Holds p now run
+    → is_complete (board_of p f now run) ≡ true → (k : ℕ) → IsStill (unit_of k run)
+complete_still p f now run h complete k = by_part (nat_lt k (units_in p)) refl
+  where
+    all : list_all is_done (units p run) ≡ true
+    all = second_so (is_empty (queue run)) (list_all is_done (units p run)) complete
+
+    none : (v : Option UnitView) → unit_of k run ≡ v → units_in p ≤ k → IsStill v
+    none None e le = tt
+    none (Some u) e le = absurd (let below : k < units_in p = (h.named k u e).1 in omega arith)
+
+    by_part : (b : Bool) → nat_lt k (units_in p) ≡ b → IsStill (unit_of k run)
+    by_part true e =
+        let below : k < units_in p = grind arith in
+        over_still (unit_of k run) (sym (ap is_done (units-at p run k below))
+        ∙ all_at is_done (units p run) k None all (omega (arith, units-length p run)))
+    by_part false e = none (unit_of k run) refl (grind arith)
+
+still_after : (p : Settings) (f : Frame) (now : ℕ) (run : List Happening) (e : Entry) (d : Deed) → Holds p now run
+    → Does p f now run d → is_on (said now e d ∷ run) ≡ false → (k : ℕ) → IsStill (unit_of k (said now e d ∷ run))
+still_after p f now run e d h does off k = by_end d.ends refl (d.begins || is_on run) refl off
+  where
+    by_deed : (it : Deed) → d ≡ it → IsStill (unit_of k (said now e it ∷ run))
+        → IsStill (unit_of k (said now e d ∷ run))
+    by_deed it is still = subst (λ d. IsStill (unit_of k (said now e d ∷ run))) (sym is) still
+
+    ended : (o : Option StressCondition) → IsStill (unit_of k run)
+        → IsStill (unit_of k (said now e (ends_as now (board_of p f now run).dispatcher o) ∷ run))
+    ended None still = still
+    ended (Some condition) still = still
+
+    second_false : (a b : Bool) → (a || b) ≡ false → b ≡ false
+    second_false false b e = e
+    second_false true b e = cc
+
+    by_end : (ends : Bool) → d.ends ≡ ends → (on : Bool) → (d.begins || is_on run) ≡ on → (not ends && on) ≡ false
+        → IsStill (unit_of k (said now e d ∷ run))
+    by_end true is on at off =
+        let end = does.marks.ends is in
+        by_deed _ end.0 (ended p.stress (complete_still p f now run h end.1 k))
+    by_end false is true at off = cc
+    by_end false is false at off =
+        by_deed _ (does.marks.still at) (h.still (second_false d.begins (is_on run) at) k)
+
 -- what holds after one more deed that fits
-pub holds-cons : (p : Settings) (over : Bool) (now : ℕ) (run : List Happening) (e : Entry) (d : Deed)
-    → Holds p over now run → Does p over now run d → (d.begins || is_on run) ≡ true
-    → Holds p (d.over || over) (now + ns_of e.turn) (said now e d ∷ run)
-holds-cons p over now run e d h does on = record {
+pub holds-cons : (p : Settings) (f : Frame) (now : ℕ) (run : List Happening) (e : Entry) (d : Deed)
+    → Holds p now run → Does p f now run d
+    → Holds p (now + ns_of e.turn) (said now e d ∷ run)
+holds-cons p f now run e d h does = record {
   fits = let room = does.room in omega (arith, length-append (sent run) (option_to_list d.sent));
-  counted = counted-cons (said now e d) run (cancel_told p over now run d does.marks) h.counted;
-  rounds = rounds_kept p over now run e d h.rounds does.marks;
+  counted = counted-cons (said now e d) run (cancel_told p f now run d does.marks) h.counted;
+  rounds = rounds_kept p f now run e d h.rounds does.marks;
   heard = heard-within (is_heard (said now e d)) now (ns_of e.turn) (heard run) h.heard;
   named = λ k. reach_named p (now + ns_of e.turn) k d.request (unit_after now k d.part (unit_of k run))
       (named_after p run now (now + ns_of e.turn) k d.part (unit_of k run) (omega arith) (h.named k) does.part);
@@ -236,7 +305,7 @@ holds-cons p over now run e d h does on = record {
       (does.reported k);
   made = λ k. reach_made_if (unit_terms p k) d.request (unit_after now k d.part (unit_of k run)) _
       (made_after p run now k d.part (h.made k) (h.named k) (h.lines k) does.part);
-  fresh = λ off going. absurd (stays_on d.begins (is_on run) d.ends d.over over does.marks.finishes on off going);
+  still = still_after p f now run e d h does;
   kinds = All-append (IsOfKind p) (sent run) (option_to_list d.sent) h.kinds (kind_if p d.sent does.sends);
   on_way = λ k. on_way_after p run now k d.request d.part (unit_of k run) _ _ (way_of k run) (h.on_way k)
       (h.accounts k) refl does.part;
@@ -249,26 +318,4 @@ holds-cons p over now run e d h does on = record {
 }
   where
     ordered : IsOrdered p (said now e d ∷ run)
-    ordered = ordered_after p over now run e d h does
-
--- what holds where no sub-run has begun
-pub holds-none : (p : Settings) (over : Bool) (now : ℕ) → Holds p over now []
-holds-none p over now = record {
-  fits = omega arith;
-  counted = omega arith;
-  heard = omega arith;
-  rounds = record { opened = tt; told = tt; given = λ some. cc };
-  named = λ k u e. cc;
-  accounts = λ k. (refl, refl);
-  reported = λ k. record { signals = refl; reports = refl };
-  made = λ k. refl;
-  fresh = λ off going. refl;
-  kinds = All-nil (IsOfKind p);
-  on_way = λ k. (refl, refl);
-  lines = λ k. refl;
-  taken = λ k. omega arith;
-  admitted = λ k test some. cc;
-  tests_sent = λ some. cc;
-  sorted = tt;
-  tests_told = λ some. cc;
-}
+    ordered = ordered_after p f now run e d h does

@@ -1,5 +1,5 @@
 -- After each event told in a legal journal the limits are kept.
-use Rattle.std.proofs.Common.{◌≡◌, ◌⊎◌, inl, inr, ℕ, zero, suc, ◌<◌, ◌≤◌, List, [], ◌∷◌, ◌++◌, length, take, drop}
+use Rattle.std.proofs.Common.{◌≡◌, ◌||◌, ◌⊎◌, inl, inr, ℕ, zero, suc, ◌<◌, ◌≤◌, List, [], ◌∷◌, ◌++◌, length, take, drop}
 use Rattle.std.proofs.Common.{Bool, true, false, if◌then◌else◌, Option, Some, None, is_some, option_to_list, nat_lt}
 use Rattle.std.proofs.Common.{refl, ap, sym, subst, ◌∙◌, arith, length-append}
 use Rattle.std.specs.List.{range_with_len}
@@ -25,20 +25,24 @@ use Rattle.run_model.specs.Turns.{deed_on}
 use Rattle.run_model.specs.Journal.{history, IsLegalBackward}
 use Rattle.run_laws.specs.Limits.{seat_told, limits_with}
 use Rattle.run_laws.proofs.board.Queue.{queue-cons}
-use Rattle.run_laws.proofs.told.Cancels.{IsCancel, cancel_apart}
+use Rattle.run_laws.proofs.told.Cancels.{IsAfter, cancel_apart}
 use Rattle.run_laws.proofs.board.DeedFits.{cancel_told, Does}
-use Rattle.run_laws.proofs.board.Kept.{HoldsAfter, on_board_now, does_after, IsOfRun, IsBeforeRuns, where_joins}
+use Rattle.run_laws.proofs.board.Kept.{HoldsAfter, IsOfRun, IsBeforeRuns, where_joins}
 use Rattle.run_laws.proofs.board.Kept.{holds}
 use Rattle.run_laws.proofs.board.OpenSeats.{opened, at_last, Along, AreLower, same_lower, along-now, along-lower}
 use Rattle.run_laws.proofs.board.OpenSeats.{along-append, along-drop, at_last-lower, at_last-append, at_last-drop}
 use Rattle.run_laws.proofs.board.BoardSeats.{board_seat, seat_after, AreKeptIn, kept_fewer}
 use Rattle.run_laws.proofs.told.ToldSeats.{seat_told-nothing, seat_told-other}
 use Rattle.run_laws.proofs.board.StartMoves.{MovesSeats}
-use Rattle.run_laws.proofs.board.SeatMoves.{moves}
+use Rattle.run_laws.proofs.board.SeatMoves.{begin_moves, moves}
+use Rattle.run_laws.proofs.board.OnBoard.{Frame}
+use Rattle.run_laws.proofs.board.OnBoard.{frame_of}
+use Rattle.run_laws.proofs.board.Deeds.{base_of}
+use Rattle.run_laws.proofs.board.Kept.{from_base}
 
--- after each event told in a sub-run the limits are kept, and in the board's seats they are. Where no cause stands they are kept
--- too while the messages that wait are told, and the seats after the last of these are below the board's: once one
--- stands no further seat is opened, and a test that is left holds by what was told a seat that it has given back
+-- after each event told in a sub-run the limits are kept, and in the board's seats they are. Where no cause stands they
+-- are kept too while the messages that wait are told, and the seats after the last of these are below the board's: once
+-- one stands no further seat is opened, and a test that is left holds by what was told a seat that it has given back
 record AreOpen (p : Settings) (run : List Happening) : Type 0 where
   before : (n : ℕ) → AreKeptIn p (seat_told (take n (told run)))
   along : reason run ≡ None → Along (AreKeptIn p) (seat_told (told run)) (queue run)
@@ -92,17 +96,17 @@ along_sent p seat other ms (Some m) along lower kept =
     along-append (AreKeptIn p) ms seat m along (kept_fewer p (opened m (at_last seat ms)) other lower kept)
 
 -- an event that the run is cancelled leaves the seats
-seat_told-cancel : (k : ℕ) (es : List ReporterEvent) (o : Option ReporterEvent) → IsCancel o
+seat_told-cancel : (k : ℕ) (es : List ReporterEvent) (o : Option ReporterEvent) → IsAfter o
     → seat_told (es ++ option_to_list o) k ≡ seat_told es k
 seat_told-cancel k es None h = seat_told-nothing k es
 seat_told-cancel k es (Some e) h = let apart = cancel_apart e h in seat_told-other k es e (apart.0 k) (apart.1 k)
 
 -- what holds of the seats after a sub-run holds after one more deed
-open-cons : (p : Settings) (over : Bool) (now : ℕ) (run : List Happening) (e : Entry) (d : Deed)
-    → Does p over now run d → MovesSeats p now run d → AreOpen p run → AreOpen p (said now e d ∷ run)
-open-cons p over now run e d does moves o = record {
+open-cons : (p : Settings) (f : Frame) (now : ℕ) (run : List Happening) (e : Entry) (d : Deed)
+    → Does p f now run d → MovesSeats p now run d → AreOpen p run → AreOpen p (said now e d ∷ run)
+open-cons p f now run e d does moves o = record {
   before = λ n. subst (λ es. AreKeptIn p (seat_told (take n es))) events
-      (prefixes (λ es. AreKeptIn p (seat_told es)) own d.cancel
+      (prefixes (λ es. AreKeptIn p (seat_told es)) own d.after
       (prefixes (λ es. AreKeptIn p (seat_told es)) (told run) d.told o.before own_kept)
       (subst (λ es. AreKeptIn p (seat_told es)) (sym events) (kept_fewer p after (seat_told own) after_own own_kept)) n);
   along = λ calm. subst (Along (AreKeptIn p) after) (sym waiting)
@@ -123,14 +127,14 @@ open-cons p over now run e d does moves o = record {
     own : List ReporterEvent
     own = told run ++ option_to_list d.told
 
-    events : own ++ option_to_list d.cancel ≡ told run ++ deed_events d
-    events = append_assoc (told run) (option_to_list d.told) (option_to_list d.cancel)
+    events : own ++ option_to_list d.after ≡ told run ++ deed_events d
+    events = append_assoc (told run) (option_to_list d.told) (option_to_list d.after)
 
-    cancels : IsCancel d.cancel
-    cancels = cancel_told p over now run d does.marks
+    cancels : IsAfter d.after
+    cancels = cancel_told p f now run d does.marks
 
     after_own : AreLower after (seat_told own)
-    after_own = same_lower _ _ (λ k. ap (λ es. seat_told es k) (sym events) ∙ seat_told-cancel k own d.cancel cancels)
+    after_own = same_lower _ _ (λ k. ap (λ es. seat_told es k) (sym events) ∙ seat_told-cancel k own d.after cancels)
 
     -- a broadcast leaves the seats
     seat_reached : (request : Option Request) (v : Option UnitView) → seat_of (reach request v) ≡ seat_of v
@@ -182,7 +186,8 @@ open-cons p over now run e d does moves o = record {
         (at_last (seat_told (told run)) (take (if d.taken then 1 else 0) (queue run))) moves.tells))
         (o.last calm)
 
-    sent : reason run ≡ None → AreLower (at_last (at_last after rest) (option_to_list d.sent)) (seat_after now d.part run)
+    sent : reason run ≡ None
+        → AreLower (at_last (at_last after rest) (option_to_list d.sent)) (seat_after now d.part run)
     sent calm = lower-on (at_last (at_last after rest) (option_to_list d.sent))
         (at_last (at_last (seat_told own) rest) (option_to_list d.sent)) (seat_after now d.part run)
         (at_last-lower (option_to_list d.sent) (at_last after rest) (at_last (seat_told own) rest)
@@ -227,12 +232,20 @@ opens p (e ∷ before) legal = one_more (opens p before legal.2) (holds p before
         by_run : IsOfRun p past e ⊎ IsBeforeRuns p past e → AreOpen p (sub_run (history p (e ∷ before)))
         by_run (inl of) =
             subst (AreOpen p) (sym of.joins)
-            (open-cons p (is_over past) (clock past) (sub_run past) e
-            (deed_on p (board p past) e.turn)
-            (does_after p past e h legal.0)
-            (on_board_now p past e.turn (MovesSeats p (clock past) (sub_run past)) h legal.0
-            (moves p (is_over past) (was_refused past) (clock past) (sub_run past) e.turn h.run))
-            o)
+            (open-cons p (frame_of p past) (clock past) of.base e (deed_on p (board p past) e.turn) of.does
+            (moves_base d.begins refl)
+            (from_base (AreOpen p) p past e of (open-nil p) o))
+          where
+            d : Deed
+            d = deed_on p (board p past) e.turn
+
+            moves_base : (b : Bool) → d.begins ≡ b → MovesSeats p (clock past) of.base d
+            moves_base true is =
+                subst (λ run. MovesSeats p (clock past) run d) (sym (of.is ∙ ap (λ b. base_of b (sub_run past)) is))
+                (begin_moves p (clock past) d (of.does.marks.begins is).1 (of.does.marks.bounds (ap (λ b. b || d.ends) is)).0)
+            moves_base false is =
+                subst (λ run. MovesSeats p (clock past) run d) (sym (of.is ∙ ap (λ b. base_of b (sub_run past)) is))
+                (moves p (frame_of p past) (was_refused past) (clock past) (sub_run past) e.turn h legal.0)
         by_run (inr before) = subst (AreOpen p) (sym before.still) (open-nil p)
 
 -- the limits are kept after each event told in the newest sub-run after every legal journal

@@ -29,37 +29,39 @@ use Rattle.run_model.specs.Admission.{skipped_newcomer, started_newcomer, terms_
 use Rattle.run_model.specs.Admission.{unit_terms, newcomer_skipped, newcomer_as, test_of, test_newcomer, scripts_of}
 use Rattle.run_model.specs.Admission.{open_script, script_newcomer, newcomer}
 use Rattle.run_model.specs.Accounts.{is_skip, is_mismatched}
+use Rattle.run_model.specs.Admission.{index_of_role}
+use Rattle.run_events.specs.declared.stress.StressIndex.{StressIndex}
 use Rattle.run_laws.proofs.board.Holds.{is_script_role}
 use Rattle.run_laws.proofs.units.AccountLemmas.{IsFirst}
 use Rattle.run_laws.proofs.board.Admitted.{IsAdmitted, runs, admitted_is}
 use Rattle.run_laws.proofs.board.OnBoard.{units-at}
 
 -- what becomes of a test that is admitted: it is skipped, or it starts in the slots that it gets
-abbrev pub Becomes : Settings → List (Option UnitView) → ℕ → PlanTest → Newcomer → Type 0
-Becomes p us place test new =
+abbrev pub Becomes : Settings → Option StressIndex → List (Option UnitView) → ℕ → PlanTest → Newcomer → Type 0
+Becomes p index us place test new =
     ((reason : List ℕ) × (test.skip ≡ Some reason)
-    × (new ≡ skipped_newcomer p (unit_of_test p place) test reason))
+    × (new ≡ skipped_newcomer p index (unit_of_test p place) test reason))
     ⊎ ((test.skip ≡ None)
     × ((global : ℕ) × ((slot : Option ℕ) × (admitted (limits_of p us) ≡ Some (Run place global slot))
     × (new ≡ started_newcomer
-    (first_view p (unit_of_test p place) (slots_of test global slot) (handed_to p us test) test)))))
+    (first_view p index (unit_of_test p place) (slots_of test global slot) (handed_to p us test) test)))))
 
 -- who is admitted: a test of the plan that wasn't yet
-pub record Newcomes (p : Settings) (us : List (Option UnitView)) (new : Newcomer) : Type 0 where
+pub record Newcomes (p : Settings) (index : Option StressIndex) (us : List (Option UnitView)) (new : Newcomer) : Type 0 where
   pub place : ℕ
   pub test : PlanTest
   pub absent : get_or (drop (scripts_in p) us) place None ≡ None
   pub planned : slice_get p.plan.tests place ≡ Some test
   pub scripts : scripts_over p us ≡ true
-  pub is : Becomes p us place test new
+  pub is : Becomes p index us place test new
 
 -- or the next script, which wasn't yet either
-pub record ScriptComes (p : Settings) (us : List (Option UnitView)) (new : Newcomer) : Type 0 where
+pub record ScriptComes (p : Settings) (index : Option StressIndex) (us : List (Option UnitView)) (new : Newcomer) : Type 0 where
   pub place : ℕ
   pub script : PlanScript
   pub absent : get_or us place None ≡ None
   pub planned : slice_get p.plan.scripts place ≡ Some script
-  pub is : new ≡ started_newcomer (script_view p place script)
+  pub is : new ≡ started_newcomer (script_view p index place script)
 
 -- a test that waits isn't a unit yet
 absent_where : (v : Option UnitView) → is_waiting (seat_of v) ≡ true → v ≡ None
@@ -141,27 +143,30 @@ seats p us r e =
     }
 
 -- so something becomes of it
-pub becomes : (p : Settings) (us : List (Option UnitView)) (r : Admitted) → admitted (limits_of p us) ≡ Some r
-    → is_some (newcomer_as p us r (slice_get p.plan.tests (test_of r))) ≡ true
-becomes p us r e =
-    let it = seats p us r e in ap (λ o. is_some (newcomer_as p us r o)) it.planned ∙ made r it.test it.matched
+pub becomes : (p : Settings) (index : Option StressIndex) (us : List (Option UnitView)) (r : Admitted)
+    → admitted (limits_of p us) ≡ Some r
+    → is_some (newcomer_as p index us r (slice_get p.plan.tests (test_of r))) ≡ true
+becomes p index us r e =
+    let it = seats p us r e in ap (λ o. is_some (newcomer_as p index us r o)) it.planned ∙ made r it.test it.matched
   where
     skipped : (j : ℕ) (test : PlanTest) (skip : Option (List ℕ)) → is_none skip ≡ false
-        → is_some (newcomer_skipped p j test skip) ≡ true
+        → is_some (newcomer_skipped p index j test skip) ≡ true
     skipped j test None h = cc
     skipped j test (Some reason) h = refl
 
-    made : (r : Admitted) (test : PlanTest) → is_none test.skip ≡ runs r → is_some (newcomer_as p us r (Some test)) ≡ true
+    made : (r : Admitted) (test : PlanTest) → is_none test.skip ≡ runs r
+        → is_some (newcomer_as p index us r (Some test)) ≡ true
     made (Skipped j) test h = skipped j test test.skip h
     made (Run j global slot) test h = refl
 
-pub newcomer_is : (p : Settings) (us : List (Option UnitView)) (new : Newcomer) → newcomer p us ≡ Some new
-    → Newcomes p us new ⊎ ScriptComes p us new
-newcomer_is p us new e = by_scripts (scripts_over p us) refl e
+pub newcomer_is : (p : Settings) (index : Option StressIndex) (us : List (Option UnitView)) (new : Newcomer)
+    → newcomer p index us ≡ Some new
+    → Newcomes p index us new ⊎ ScriptComes p index us new
+newcomer_is p index us new e = by_scripts (scripts_over p us) refl e
   where
     skipped : (j : ℕ) (test : PlanTest) (skip : Option (List ℕ)) → scripts_over p us ≡ true → test.skip ≡ skip
         → slice_get p.plan.tests j ≡ Some test → IsAdmitted (limits_of p us) j false
-        → newcomer_skipped p j test skip ≡ Some new → Newcomes p us new
+        → newcomer_skipped p index j test skip ≡ Some new → Newcomes p index us new
     skipped j test None over es planned it e = cc
     skipped j test (Some reason) over es planned it e = record {
       place = j;
@@ -174,7 +179,8 @@ newcomer_is p us new e = by_scripts (scripts_over p us) refl e
 
     by_test : (r : Admitted) (o : Option PlanTest) → scripts_over p us ≡ true → slice_get p.plan.tests (test_of r) ≡ o
         → admitted (limits_of p us) ≡ Some r
-        → IsAdmitted (limits_of p us) (test_of r) (runs r) → newcomer_as p us r o ≡ Some new → Newcomes p us new
+        → IsAdmitted (limits_of p us) (test_of r) (runs r) → newcomer_as p index us r o ≡ Some new
+        → Newcomes p index us new
     by_test r None over planned is it e = cc
     by_test (Skipped j) (Some test) over planned is it e = skipped j test test.skip over refl planned it e
     by_test (Run j global slot) (Some test) over planned is it e = record {
@@ -191,13 +197,15 @@ newcomer_is p us new e = by_scripts (scripts_over p us) refl e
     }
 
     by_admitted : (o : Option Admitted) → scripts_over p us ≡ true → admitted (limits_of p us) ≡ o
-        → option_and_then (λ a. newcomer_as p us a (slice_get p.plan.tests (test_of a))) o ≡ Some new → Newcomes p us new
+        → option_and_then (λ a. newcomer_as p index us a (slice_get p.plan.tests (test_of a))) o ≡ Some new
+        → Newcomes p index us new
     by_admitted None over is e = cc
     by_admitted (Some r) over is e =
         by_test r (slice_get p.plan.tests (test_of r)) over refl is (admitted_is (limits_of p us) r is).0 e
 
-    by_script : (i : ℕ) (o : Option PlanScript) → open_script (scripts_of p us) ≡ Some i → slice_get p.plan.scripts i ≡ o
-        → script_newcomer p i o ≡ Some new → ScriptComes p us new
+    by_script : (i : ℕ) (o : Option PlanScript) → open_script (scripts_of p us) ≡ Some i
+        → slice_get p.plan.scripts i ≡ o
+        → script_newcomer p index i o ≡ Some new → ScriptComes p index us new
     by_script i None opens planned e = cc
     by_script i (Some script) opens planned e = record {
       place = i;
@@ -209,14 +217,15 @@ newcomer_is p us new e = by_scripts (scripts_over p us) refl e
     }
 
     by_open : (o : Option ℕ) → open_script (scripts_of p us) ≡ o
-        → option_and_then (λ i. script_newcomer p i (slice_get p.plan.scripts i)) o ≡ Some new → ScriptComes p us new
+        → option_and_then (λ i. script_newcomer p index i (slice_get p.plan.scripts i)) o ≡ Some new
+        → ScriptComes p index us new
     by_open None opens e = cc
     by_open (Some i) opens e = by_script i (slice_get p.plan.scripts i) opens refl e
 
     by_scripts : (b : Bool) → scripts_over p us ≡ b → (if b
-        then test_newcomer p us
-        else option_and_then (λ i. script_newcomer p i (slice_get p.plan.scripts i)) (open_script (scripts_of p us)))
-        ≡ Some new → Newcomes p us new ⊎ ScriptComes p us new
+        then test_newcomer p index us
+        else option_and_then (λ i. script_newcomer p index i (slice_get p.plan.scripts i)) (open_script (scripts_of p us)))
+        ≡ Some new → Newcomes p index us new ⊎ ScriptComes p index us new
     by_scripts true over e = inl (by_admitted (admitted (limits_of p us)) over refl e)
     by_scripts false over e = inr (by_open (open_script (scripts_of p us)) refl e)
 
@@ -230,19 +239,20 @@ test_number p j = grind (arith, nat_tests)
 pub script_number : (p : Settings) (i : ℕ) → i < scripts_in p → is_script p i ≡ true
 script_number p i within = grind (arith, nat_tests)
 
--- the unit that the plan makes of this number, as it begins: a script, or a test in some slots with what its scripts handed on
+-- the unit that the plan makes of this number, as it begins: a script, or a test in some slots with what its scripts
+-- handed on
 pub record IsPlannedScript (p : Settings) (k : ℕ) (u : UnitView) : Type 0 where
   pub script : PlanScript
   pub kind : is_script p k ≡ true
   pub planned : slice_get p.plan.scripts k ≡ Some script
-  pub is : u ≡ script_view p k script
+  pub is : u ≡ script_view p (index_of_role u.role) k script
 
 pub record IsPlannedTest (p : Settings) (us : List (Option UnitView)) (k : ℕ) (u : UnitView) : Type 0 where
   pub test : PlanTest
   pub slot : TestSlotAssignment
   pub kind : is_script p k ≡ false
   pub planned : slice_get p.plan.tests (k - scripts_in p) ≡ Some test
-  pub is : u ≡ first_view p k slot (handed_to p us test) test
+  pub is : u ≡ first_view p (index_of_role u.role) k slot (handed_to p us test) test
 
 abbrev pub IsPlanned : Settings → List (Option UnitView) → ℕ → UnitView → Type 0
 IsPlanned p us k u = IsPlannedScript p k u ⊎ IsPlannedTest p us k u
@@ -265,9 +275,10 @@ pub record IsNew (p : Settings) (run : List Happening) (u : UnitView) (sent : Me
   pub planned : is_mismatched p (number u) ≡ false → IsPlanned p (units p run) (number u) u
 
 -- a newcomer begins
-new_test : (p : Settings) (run : List Happening) (new : Newcomer) → Newcomes p (units p run) new
+new_test : (p : Settings) (index : Option StressIndex) (run : List Happening) (new : Newcomer)
+    → Newcomes p index (units p run) new
     → IsNew p run new.unit new.sent
-new_test p run new found = by_case found.is
+new_test p index run new found = by_case found.is
   where
     k : ℕ
     k = unit_of_test p found.place
@@ -286,7 +297,7 @@ new_test p run new found = by_case found.is
     terms : terms_of p found.test ≡ unit_terms p k
     terms = sym (rw (test_number p found.place, place-of_test p found.place) (ap (terms_if p) found.planned))
 
-    by_case : Becomes p (units p run) found.place found.test new → IsNew p run new.unit new.sent
+    by_case : Becomes p index (units p run) found.place found.test new → IsNew p run new.unit new.sent
     by_case (inl (reason, skip, is)) =
         let mm : is_mismatched p k ≡ true = mismatched ∙ ap is_some skip in
         subst (λ (n : Newcomer). IsNew p run n.unit n.sent) (sym is) (record {
@@ -330,9 +341,10 @@ new_test p run new found = by_case found.is
           });
         })
 
-new_script : (p : Settings) (run : List Happening) (new : Newcomer) → ScriptComes p (units p run) new
+new_script : (p : Settings) (index : Option StressIndex) (run : List Happening) (new : Newcomer)
+    → ScriptComes p index (units p run) new
     → IsNew p run new.unit new.sent
-new_script p run new found =
+new_script p index run new found =
     subst (λ (n : Newcomer). IsNew p run n.unit n.sent) (sym found.is) (record {
       below = below;
       unknown = sym (units-at p run found.place below) ∙ found.absent;
@@ -362,10 +374,24 @@ new_script p run new found =
     mm : is_mismatched p found.place ≡ false
     mm = rw script refl
 
-pub new_unit : (p : Settings) (run : List Happening) (new : Newcomer) → newcomer p (units p run) ≡ Some new
+pub new_unit : (p : Settings) (index : Option StressIndex) (run : List Happening) (new : Newcomer)
+    → newcomer p index (units p run) ≡ Some new
     → IsNew p run new.unit new.sent
-new_unit p run new e = by_kind (newcomer_is p (units p run) new e)
+new_unit p index run new e = by_kind (newcomer_is p index (units p run) new e)
   where
-    by_kind : Newcomes p (units p run) new ⊎ ScriptComes p (units p run) new → IsNew p run new.unit new.sent
-    by_kind (inl test) = new_test p run new test
-    by_kind (inr script) = new_script p run new script
+    by_kind : Newcomes p index (units p run) new ⊎ ScriptComes p index (units p run) new → IsNew p run new.unit new.sent
+    by_kind (inl test) = new_test p index run new test
+    by_kind (inr script) = new_script p index run new script
+
+-- and it is of that sub-run of a stress run
+pub new_index : (p : Settings) (index : Option StressIndex) (us : List (Option UnitView)) (new : Newcomer)
+    → newcomer p index us ≡ Some new → index_of_role new.unit.role ≡ index
+new_index p index us new e = by_kind (newcomer_is p index us new e)
+  where
+    by_case : (place : ℕ) (test : PlanTest) → Becomes p index us place test new → index_of_role new.unit.role ≡ index
+    by_case place test (inl (reason, skip, is)) = ap (λ (n : Newcomer). index_of_role n.unit.role) is
+    by_case place test (inr (skip, (global, (slot, runs, is)))) = ap (λ (n : Newcomer). index_of_role n.unit.role) is
+
+    by_kind : Newcomes p index us new ⊎ ScriptComes p index us new → index_of_role new.unit.role ≡ index
+    by_kind (inl found) = by_case found.place found.test found.is
+    by_kind (inr found) = ap (λ (n : Newcomer). index_of_role n.unit.role) found.is

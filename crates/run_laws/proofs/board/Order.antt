@@ -75,7 +75,8 @@ sorted-drop zero ms h = h
 sorted-drop (suc n) [] h = h
 sorted-drop (suc n) (m ∷ ms) h = sorted-drop n ms h.1
 
-pub none-drop : (n : ℕ) (ms : List Message) → list_any is_of_script ms ≡ false → list_any is_of_script (drop n ms) ≡ false
+pub none-drop : (n : ℕ) (ms : List Message) → list_any is_of_script ms ≡ false
+    → list_any is_of_script (drop n ms) ≡ false
 none-drop zero ms h = h
 none-drop (suc n) [] h = h
 none-drop (suc n) (m ∷ ms) h = none-drop n ms (either_false (is_of_script m) _ h).1

@@ -28,13 +28,16 @@ use Rattle.run_model.specs.Environment.{number}
 use Rattle.run_model.specs.Unit.{row, takes, takes_at, is_live, reach}
 use Rattle.run_model.specs.Words.{queue, sent, told, unit_after, unit_of, units}
 use Rattle.run_laws.specs.Scripts.{starts_test, starts_test_in}
-use Rattle.run_laws.proofs.told.Cancels.{IsCancel, IsCancelKind}
+use Rattle.run_laws.proofs.told.Cancels.{IsAfter, IsAfterKind}
 use Rattle.run_laws.proofs.board.DeedFits.{cancel_told, PartFits, IsSentFor, IsSentBy, IsInOrder, Does}
 use Rattle.run_laws.proofs.board.Holds.{Holds}
 use Rattle.run_laws.proofs.board.OnBoard.{units-at, units-length}
 use Rattle.run_laws.proofs.board.Order.{is_of_script, no_test, AreSorted, AreScriptsOver, AreSettled, all_at}
 use Rattle.run_laws.proofs.board.Order.{sorted-if, none-drop}
 use Rattle.run_laws.proofs.board.Queue.{queue-cons}
+use Rattle.run_laws.proofs.board.OnBoard.{Frame}
+use Rattle.run_events.specs.declared.events.TestEventKind.TheVariants.{StressSubRunStarted}
+use Rattle.run_events.specs.declared.events.TestEventKind.TheVariants.{RunFinished}
 
 -- each script is over where all on the board are
 pub board_over : (p : Settings) (run : List Happening) → scripts_over p (units p run) ≡ true → AreScriptsOver p run
@@ -62,7 +65,8 @@ done_reach (Some request) (Some u) done = by_live (is_live u.phase)
     by_live false = done
 
 -- a part leaves a unit that is over as it is
-pub over_kept : (p : Settings) (run : List Happening) (now k : ℕ) (part : Option UnitPart) → is_done (unit_of k run) ≡ true
+pub over_kept : (p : Settings) (run : List Happening) (now k : ℕ) (part : Option UnitPart)
+    → is_done (unit_of k run) ≡ true
     → PartFits p now run part → unit_after now k part (unit_of k run) ≡ unit_of k run
 over_kept p run now k None done fits = refl
 over_kept p run now k (Some (Joins first)) done (sent, new) = by_unit (number first == k) refl
@@ -92,26 +96,26 @@ scripts_kept p now run e d over fits k within =
 pub number_below : (p : Settings) (k : ℕ) → is_script p k ≡ true → k < scripts_in p
 number_below p k is = grind (arith, nat_tests)
 
-sends_none : (p : Settings) (over : Bool) (now : ℕ) (run : List Happening) (part : Option UnitPart) (m : Message)
-    → Holds p over now run → AreScriptsOver p run → PartFits p now run part → IsSentFor run part (Some m)
+sends_none : (p : Settings) (f : Frame) (now : ℕ) (run : List Happening) (part : Option UnitPart) (m : Message)
+    → Holds p now run → AreScriptsOver p run → PartFits p now run part → IsSentFor run part (Some m)
     → is_of_script m ≡ true → ⊥
-sends_none p over now run None m h all fits from script = from
-sends_none p over now run (Some (Joins first)) m h all (sent, new) from script =
+sends_none p f now run None m h all fits from script = from
+sends_none p f now run (Some (Joins first)) m h all (sent, new) from script =
     let is : is_script p (number first) ≡ true = sym new.role ∙ sym from ∙ script in
     let never : false ≡ true = sym (ap is_done new.unknown) ∙ all (number first) (number_below p (number first) is) in cc
-sends_none p over now run (Some (Acts j turn)) m h all taken from script =
+sends_none p f now run (Some (Acts j turn)) m h all taken from script =
     let own : IsSentBy (Some taken.unit) m = subst (λ v. IsSentBy v m) taken.is from in
     let is : is_script p j ≡ true = sym (h.named j taken.unit taken.is).3 ∙ sym own ∙ script in
     still_on now turn taken.unit taken.takes (sym (ap is_done taken.is) ∙ all j (number_below p j is))
 
 -- and a test sends once each is
-test_sends : (p : Settings) (over : Bool) (now : ℕ) (run : List Happening) (part : Option UnitPart) (m : Message)
-    → Holds p over now run → PartFits p now run part → IsSentFor run part (Some m) → is_of_script m ≡ false
+test_sends : (p : Settings) (f : Frame) (now : ℕ) (run : List Happening) (part : Option UnitPart) (m : Message)
+    → Holds p now run → PartFits p now run part → IsSentFor run part (Some m) → is_of_script m ≡ false
     → AreScriptsOver p run
-test_sends p over now run None m h fits from test = absurd from
-test_sends p over now run (Some (Joins first)) m h (sent, new) from test =
+test_sends p f now run None m h fits from test = absurd from
+test_sends p f now run (Some (Joins first)) m h (sent, new) from test =
     board_over p run (new.scripts (sym new.role ∙ sym from ∙ test))
-test_sends p over now run (Some (Acts j turn)) m h taken from test =
+test_sends p f now run (Some (Acts j turn)) m h taken from test =
     let own : IsSentBy (Some taken.unit) m = subst (λ v. IsSentBy v m) taken.is from in
     h.admitted j (sym (h.named j taken.unit taken.is).3 ∙ sym own ∙ test) (ap is_some taken.is)
 
@@ -121,11 +125,11 @@ some_reach None v e = e
 some_reach (Some request) None e = e
 some_reach (Some request) (Some u) e = refl
 
-admitted_after : (p : Settings) (over : Bool) (now : ℕ) (run : List Happening) (k : ℕ) (part : Option UnitPart)
-    → Holds p over now run → PartFits p now run part → is_script p k ≡ false
+admitted_after : (p : Settings) (f : Frame) (now : ℕ) (run : List Happening) (k : ℕ) (part : Option UnitPart)
+    → Holds p now run → PartFits p now run part → is_script p k ≡ false
     → is_some (unit_after now k part (unit_of k run)) ≡ true → AreScriptsOver p run
-admitted_after p over now run k None h fits test e = h.admitted k test e
-admitted_after p over now run k (Some (Joins first)) h (sent, new) test e = by_unit (number first == k) refl e
+admitted_after p f now run k None h fits test e = h.admitted k test e
+admitted_after p f now run k (Some (Joins first)) h (sent, new) test e = by_unit (number first == k) refl e
   where
     by_unit : (b : Bool) → (number first == k) ≡ b → is_some (if b then Some first else unit_of k run) ≡ true
         → AreScriptsOver p run
@@ -133,7 +137,7 @@ admitted_after p over now run k (Some (Joins first)) h (sent, new) test e = by_u
     by_unit true at e =
         let here : number first ≡ k = grind arith in
         board_over p run (new.scripts (ap (is_script p) here ∙ test))
-admitted_after p over now run k (Some (Acts j turn)) h taken test e = by_unit (j == k) e
+admitted_after p f now run k (Some (Acts j turn)) h taken test e = by_unit (j == k) e
   where
     still_some : (v : Option UnitView) → is_some (option_map (λ v. (row now turn v).next) v) ≡ true → is_some v ≡ true
     still_some None e = e
@@ -150,16 +154,18 @@ either : (a b : Bool) → (a || b) ≡ true → (a ≡ true) ⊎ (b ≡ true)
 either true b e = inl refl
 either false b e = inr e
 
-pub cancel_starts : (e : ReporterEvent) → IsCancel (Some e) → starts_test e ≡ false
+pub cancel_starts : (e : ReporterEvent) → IsAfter (Some e) → starts_test e ≡ false
 cancel_starts Tick h = absurd h
 cancel_starts (Test e) h = by_kind e.kind h
   where
-    by_kind : (kind : TestEventKind) → IsCancelKind kind → starts_test_in kind ≡ false
+    by_kind : (kind : TestEventKind) → IsAfterKind kind → starts_test_in kind ≡ false
     by_kind (RunBeginCancel cancelled) h = refl
     by_kind (RunBeginKill cancelled) h = refl
+    by_kind (StressSubRunStarted progress) h = refl
+    by_kind (RunFinished finished) h = refl
     by_kind kind h = absurd h
 
-cancel_starts_if : (o : Option ReporterEvent) → IsCancel o → list_any starts_test (option_to_list o) ≡ false
+cancel_starts_if : (o : Option ReporterEvent) → IsAfter o → list_any starts_test (option_to_list o) ≡ false
 cancel_starts_if None h = refl
 cancel_starts_if (Some e) h = rw (cancel_starts e h) refl
 
@@ -169,10 +175,10 @@ pub record IsOrdered (p : Settings) (run : List Happening) : Type 0 where
   pub sorted : AreSorted (sent run)
   pub tests_told : list_any starts_test (told run) ≡ true → AreSettled p run
 
-pub ordered_after : (p : Settings) (over : Bool) (now : ℕ) (run : List Happening) (e : Entry) (d : Deed)
-    → Holds p over now run → Does p over now run d → IsOrdered p (said now e d ∷ run)
-ordered_after p over now run e d h does = record {
-  admitted = λ k test some. kept (admitted_after p over now run k d.part h does.part test
+pub ordered_after : (p : Settings) (f : Frame) (now : ℕ) (run : List Happening) (e : Entry) (d : Deed)
+    → Holds p now run → Does p f now run d → IsOrdered p (said now e d ∷ run)
+ordered_after p f now run e d h does = record {
+  admitted = λ k test some. kept (admitted_after p f now run k d.part h does.part test
       (some_reach d.request (unit_after now k d.part (unit_of k run)) some));
   tests_sent = λ some. kept (by_sent d.sent does.source
       (either _ _ (sym (list_any-append (λ m. not (is_of_script m)) (sent run) (option_to_list d.sent)) ∙ some)));
@@ -194,17 +200,17 @@ ordered_after p over now run e d h does = record {
     by_sent o from (inl some) = h.tests_sent some
     by_sent None from (inr some) = cc
     by_sent (Some m) from (inr some) =
-        test_sends p over now run d.part m h does.part from (by_kind m (is_of_script m) refl some)
+        test_sends p f now run d.part m h does.part from (by_kind m (is_of_script m) refl some)
 
     early : (m : Message) → d.sent ≡ Some m → is_of_script m ≡ true → (b : Bool)
         → list_any (λ m. not (is_of_script m)) (sent run) ≡ b → no_test (sent run)
     early m is script false some = some
     early m is script true some =
-        absurd (sends_none p over now run d.part m h (h.tests_sent some) does.part
+        absurd (sends_none p f now run d.part m h (h.tests_sent some) does.part
         (subst (IsSentFor run d.part) is does.source) script)
 
-    cancels : IsCancel d.cancel
-    cancels = cancel_told p over now run d does.marks
+    cancels : IsAfter d.after
+    cancels = cancel_told p f now run d does.marks
 
     by_event : (o : Option ReporterEvent) → IfSome o (IsInOrder p run) → list_any starts_test (option_to_list o) ≡ true
         → AreSettled p run
@@ -216,25 +222,26 @@ ordered_after p over now run e d h does = record {
         one false some = some
 
     by_told : (o : Option ReporterEvent) → IfSome o (IsInOrder p run)
-        → (list_any starts_test (told run) ≡ true) ⊎ (list_any starts_test (option_to_list o ++ option_to_list d.cancel) ≡ true)
+        → (list_any starts_test (told run) ≡ true) ⊎ (list_any starts_test (option_to_list o ++ option_to_list d.after) ≡ true)
         → AreSettled p run
     by_told o order (inl some) = h.tests_told some
     by_told o order (inr some) =
-        by_own (either _ _ (sym (list_any-append starts_test (option_to_list o) (option_to_list d.cancel)) ∙ some))
+        by_own (either _ _ (sym (list_any-append starts_test (option_to_list o) (option_to_list d.after)) ∙ some))
       where
-        by_own : (list_any starts_test (option_to_list o) ≡ true) ⊎ (list_any starts_test (option_to_list d.cancel) ≡ true)
+        by_own : (list_any starts_test (option_to_list o) ≡ true) ⊎ (list_any starts_test (option_to_list d.after) ≡ true)
             → AreSettled p run
         by_own (inl own) = by_event o order own
-        by_own (inr cancel) = let never : false ≡ true = sym (cancel_starts_if d.cancel cancels) ∙ cancel in cc
+        by_own (inr cancel) = let never : false ≡ true = sym (cancel_starts_if d.after cancels) ∙ cancel in cc
 
-    none_sent : (o : Option Message) → d.sent ≡ o → AreScriptsOver p run → list_any is_of_script (option_to_list o) ≡ false
+    none_sent : (o : Option Message) → d.sent ≡ o → AreScriptsOver p run
+        → list_any is_of_script (option_to_list o) ≡ false
     none_sent None is all = refl
     none_sent (Some m) is all = by_script (is_of_script m) refl
       where
         by_script : (b : Bool) → is_of_script m ≡ b → (b || false) ≡ false
         by_script false script = refl
         by_script true script =
-            absurd (sends_none p over now run d.part m h all does.part (subst (IsSentFor run d.part) is does.source) script)
+            absurd (sends_none p f now run d.part m h all does.part (subst (IsSentFor run d.part) is does.source) script)
 
     settled : AreSettled p run → AreSettled p (said now e d ∷ run)
     settled (none, all) = (

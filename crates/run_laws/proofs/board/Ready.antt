@@ -44,28 +44,36 @@ use Rattle.run_model.specs.Board.{board}
 use Rattle.run_model.specs.Turns.{enabled, enabled_on, takes_turn, turn_of_unit, unit_takes, is_empty, is_complete}
 use Rattle.run_model.specs.Journal.{history, past_of, IsLegal}
 use Rattle.run_laws.proofs.board.Holds.{Holds}
-use Rattle.run_laws.specs.Ready.{HasRound, moved_by, IsTimelyBoard, CanTakeTurn, CanDeliverOldest, CanAdvance}
+use Rattle.run_model.specs.SubRuns.{is_failed, summary_of}
+use Rattle.run_model.specs.Words.{ended_runs}
+use Rattle.run_laws.proofs.told.FewEnded.{few-ended}
+use Rattle.run_laws.specs.Ready.{HasRound, HasSubRun, moved_by, IsTimelyBoard, CanTakeTurn, CanDeliverOldest}
+use Rattle.run_laws.specs.Ready.{CanAdvance}
 use Rattle.run_laws.proofs.board.ByTurn.{by_turn}
 use Rattle.run_laws.proofs.board.OnBoard.{event_in, board_of, board_with, units-length, unit_in-is}
 use Rattle.run_laws.proofs.board.Facts.{start_waits, start_own, script_own, retry_waits, finish_follows, finish_own}
 use Rattle.run_laws.proofs.board.Facts.{script_finish_own, oldest_kind, script_below, test_above}
 use Rattle.run_laws.proofs.board.RoundLemmas.{below_length}
-use Rattle.run_laws.proofs.board.Whole.{board_now, board-is}
 use Rattle.run_laws.proofs.board.Kept.{HoldsAfter, holds}
 use Rattle.run_laws.proofs.told.Running.{running_in_told, running-started, running-finished}
+use Rattle.run_laws.proofs.board.OnBoard.{Frame}
+use Rattle.run_laws.proofs.board.OnBoard.{index_in}
+use Rattle.run_laws.proofs.board.OnBoard.{frame_of}
 
 -- an admitted unit is one of them, and was let go before now
-take_ready : (p : Settings) (over refused : Bool) (now : ℕ) (run : List Happening) (k : ℕ) (turn : UnitTurn)
-    (v : Option UnitView) → Holds p over now run
-    → get_or (units p run) k None ≡ v → unit_takes now v turn ≡ true → CanTakeTurn (board_with p refused over now run) k turn
-take_ready p over refused now run k turn None h e t = cc
-take_ready p over refused now run k turn (Some u) h e t =
-    let named = h.named k u (sym (unit_in-is p over now run k h) ∙ e) in
+take_ready : (p : Settings) (f : Frame) (refused : Bool) (now : ℕ) (run : List Happening) (k : ℕ) (turn : UnitTurn)
+    (v : Option UnitView) → Holds p now run
+    → get_or (units p run) k None ≡ v → unit_takes now v turn ≡ true
+    → CanTakeTurn (board_with p refused f now run) k turn
+take_ready p f refused now run k turn None h e t = cc
+take_ready p f refused now run k turn (Some u) h e t =
+    let named = h.named k u (sym (unit_in-is p now run k h) ∙ e) in
     let below : k < units_in p = named.1 in
     record { unit = u; is = e; named = named.0; below = omega (arith, units-length p run); takes = t; later = named.2 }
 
 -- no finished unit adds to the numbers of tests and of scripts to run
-test_adds_none : (f : FinishedTest) → ((adds_of f).initial_run_count ≡ 0) × ((adds_of f).setup_scripts_initial_count ≡ 0)
+test_adds_none : (f : FinishedTest)
+    → ((adds_of f).initial_run_count ≡ 0) × ((adds_of f).setup_scripts_initial_count ≡ 0)
 unfolding adds_of
 test_adds_none f = search rules
 
@@ -121,57 +129,58 @@ most_run a n es = let most = count_by-le-length (is_running es) (range_with_len 
     omega (arith, length-range_with_len a n)
 
 -- the oldest message can be delivered
-start_ready : (p : Settings) (over refused : Bool) (now : ℕ) (run : List Happening) (k : ℕ) (m : Message)
-    (rest : List Message) → Holds p over now run → queue run ≡ m ∷ rest → pending_in k m ≡ Some started
-    → CanTakeTurn (board_with p refused over now run) k (Answered (may_go (tally p run)))
-start_ready p over refused now run k m rest h eq starts =
-    let waits = start_waits p over now run k m rest h eq starts in
-    take_ready p over refused now run k (Answered (may_go (tally p run))) (Some waits.unit) h
-    (unit_in-is p over now run k h ∙ waits.is)
+start_ready : (p : Settings) (f : Frame) (refused : Bool) (now : ℕ) (run : List Happening) (k : ℕ) (m : Message)
+    (rest : List Message) → Holds p now run → queue run ≡ m ∷ rest → pending_in k m ≡ Some started
+    → CanTakeTurn (board_with p refused f now run) k (Answered (may_go (tally p run)))
+start_ready p f refused now run k m rest h eq starts =
+    let waits = start_waits p now run k m rest h eq starts in
+    take_ready p f refused now run k (Answered (may_go (tally p run))) (Some waits.unit) h
+    (unit_in-is p now run k h ∙ waits.is)
     (ap (λ ph. takes_at now ph waits.unit (Answered (may_go (tally p run)))) waits.phase)
 
-oldest_ready : (p : Settings) (over refused : Bool) (now : ℕ) (run : List Happening) (q : List Message) → Holds p over now run
+oldest_ready : (p : Settings) (f : Frame) (refused : Bool) (now : ℕ) (run : List Happening) (q : List Message)
+    → Holds p now run
     → is_on run ≡ true
     → units_in p < 2 ^ 32 → length run < 2 ^ 32 → queue run ≡ q → not (is_empty q) ≡ true
-    → CanDeliverOldest (board_with p refused over now run) q
-oldest_ready p over refused now run [] h on few short eq en = cc
-oldest_ready p over refused now run (ScriptStart start ∷ rest) h on few short eq en =
+    → CanDeliverOldest (board_with p refused f now run) q
+oldest_ready p f refused now run [] h on few short eq en = cc
+oldest_ready p f refused now run (ScriptStart start ∷ rest) h on few short eq en =
     let k : ℕ = start.script.unit in
-    let e = event_in 0 [] (SetupScriptStarted start) in
-    let waits = start_waits p over now run k (ScriptStart start) rest h eq (script_own start) in
-    let below = script_below p k (oldest_kind p over now run (ScriptStart start) rest h eq) in
+    let e = event_in 0 f (SetupScriptStarted start) in
+    let waits = start_waits p now run k (ScriptStart start) rest h eq (script_own start) in
+    let below = script_below p k (oldest_kind p now run (ScriptStart start) rest h eq) in
     let more = running-started 0 (scripts_in p) k (told run) e (omega arith) (omega (arith, below)) waits.untold (λ k. refl)
     (λ k. refl) in
     let most = most_run 0 (scripts_in p) (told run ++ e ∷ []) in
-    ((on, omega arith), start_ready p over refused now run k (ScriptStart start) rest h eq (script_own start))
-oldest_ready p over refused now run (Start start ∷ rest) h on few short eq en =
+    ((on, omega arith), start_ready p f refused now run k (ScriptStart start) rest h eq (script_own start))
+oldest_ready p f refused now run (Start start ∷ rest) h on few short eq en =
     let k : ℕ = start.test.unit in
-    let e = event_in 0 [] (started_event start (tally p run)) in
-    let waits = start_waits p over now run k (Start start) rest h eq (start_own start) in
-    let above = test_above p k (oldest_kind p over now run (Start start) rest h eq) in
+    let e = event_in 0 f (started_event start (tally p run)) in
+    let waits = start_waits p now run k (Start start) rest h eq (start_own start) in
+    let above = test_above p k (oldest_kind p now run (Start start) rest h eq) in
     let more = running-started (scripts_in p) (tests_in p) k (told run) e above waits.below waits.untold (λ k. refl)
     (λ k. refl) in
     let most = most_run (scripts_in p) (tests_in p) (told run ++ e ∷ []) in
-    ((on, omega arith), start_ready p over refused now run k (Start start) rest h eq (start_own start))
-oldest_ready p over refused now run (Retry retry ∷ rest) h on few short eq en =
-    let waits = retry_waits p over now run retry rest h eq in (
+    ((on, omega arith), start_ready p f refused now run k (Start start) rest h eq (start_own start))
+oldest_ready p f refused now run (Retry retry ∷ rest) h on few short eq en =
+    let waits = retry_waits p now run retry rest h eq in (
       (on, tt),
-      take_ready p over refused now run retry.start.test.unit (Answered (may_go (tally p run))) (Some waits.unit) h
-          (unit_in-is p over now run retry.start.test.unit h ∙ waits.is)
+      take_ready p f refused now run retry.start.test.unit (Answered (may_go (tally p run))) (Some waits.unit) h
+          (unit_in-is p now run retry.start.test.unit h ∙ waits.is)
           (ap (λ ph. takes_at now ph waits.unit (Answered (may_go (tally p run)))) waits.phase),
     )
-oldest_ready p over refused now run (AttemptFailed failure ∷ rest) h on few short eq en = ((on, tt), tt)
-oldest_ready p over refused now run (Slow slow ∷ rest) h on few short eq en = ((on, tt), tt)
-oldest_ready p over refused now run (ScriptSlow slow ∷ rest) h on few short eq en = ((on, tt), tt)
-oldest_ready p over refused now run (Skip skip ∷ rest) h on few short eq en =
+oldest_ready p f refused now run (AttemptFailed failure ∷ rest) h on few short eq en = ((on, tt), tt)
+oldest_ready p f refused now run (Slow slow ∷ rest) h on few short eq en = ((on, tt), tt)
+oldest_ready p f refused now run (ScriptSlow slow ∷ rest) h on few short eq en = ((on, tt), tt)
+oldest_ready p f refused now run (Skip skip ∷ rest) h on few short eq en =
     let counted = h.counted in
     ((on, (stats_below p (reason run) (skipped run) (2 ^ 32) (finished run) (omega arith) (omega arith)).skipped), tt)
-oldest_ready p over refused now run (ScriptFinish finish ∷ rest) h on few short eq en =
+oldest_ready p f refused now run (ScriptFinish finish ∷ rest) h on few short eq en =
     let k : ℕ = finish.script.unit in
-    let follows = finish_follows p over now run k (ScriptFinish finish) (attempt_of finish.status ∷ []) rest h eq
+    let follows = finish_follows p now run k (ScriptFinish finish) (attempt_of finish.status ∷ []) rest h eq
     (script_finish_own finish) in
-    let below = script_below p k (oldest_kind p over now run (ScriptFinish finish) rest h eq) in
-    let less = running-finished 0 (scripts_in p) k (told run) (event_in 0 [] (SetupScriptFinished finish)) (omega arith)
+    let below = script_below p k (oldest_kind p now run (ScriptFinish finish) rest h eq) in
+    let less = running-finished 0 (scripts_in p) k (told run) (event_in 0 f (SetupScriptFinished finish)) (omega arith)
     (omega (arith, below)) follows.runs (λ k. refl) (λ k. refl) in
     let counted = h.counted in (
       (
@@ -180,12 +189,12 @@ oldest_ready p over refused now run (ScriptFinish finish ∷ rest) h on few shor
       ),
       tt,
     )
-oldest_ready p over refused now run (Finish finish ∷ rest) h on few short eq en =
+oldest_ready p f refused now run (Finish finish ∷ rest) h on few short eq en =
     let k : ℕ = finish.test.unit in
-    let follows = finish_follows p over now run k (Finish finish) finish.statuses rest h eq (finish_own finish) in
-    let above = test_above p k (oldest_kind p over now run (Finish finish) rest h eq) in
+    let follows = finish_follows p now run k (Finish finish) finish.statuses rest h eq (finish_own finish) in
+    let above = test_above p k (oldest_kind p now run (Finish finish) rest h eq) in
     let less = running-finished (scripts_in p) (tests_in p) k (told run)
-    (event_in 0 [] (finished_event finish (tally p run))) above follows.below follows.runs (λ k. refl) (λ k. refl) in
+    (event_in 0 f (finished_event finish (tally p run))) above follows.below follows.runs (λ k. refl) (λ k. refl) in
     let counted = h.counted in (
       (
         on,
@@ -199,28 +208,28 @@ oldest_ready p over refused now run (Finish finish ∷ rest) h on few short eq e
     )
 
 -- each enabled turn can be taken
-ready : (p : Settings) (over refused : Bool) (now : ℕ) (run : List Happening) (turn : Turn) → Holds p over now run
-    → units_in p < 2 ^ 32 → length run < 2 ^ 32
-    → enabled_on p (board_with p refused over now run) turn ≡ true
-    → CanAdvance p (board_with p refused over now run) turn (turn_of_unit turn)
-ready p over refused now run turn h few short en =
-    by_turn (λ turn named. takes_turn p (board_with p refused over now run) turn named ≡ true
-    → CanAdvance p (board_with p refused over now run) turn named)
+ready : (p : Settings) (f : Frame) (refused : Bool) (now : ℕ) (run : List Happening) (turn : Turn) → Holds p now run
+    → units_in p < 2 ^ 32 → length run < 2 ^ 32 → (f.over ≡ false → HasSubRun (board_of p f now run))
+    → enabled_on p (board_with p refused f now run) turn ≡ true
+    → CanAdvance p (board_with p refused f now run) turn (turn_of_unit turn)
+ready p f refused now run turn h few short counts en =
+    by_turn (λ turn named. takes_turn p (board_with p refused f now run) turn named ≡ true
+    → CanAdvance p (board_with p refused f now run) turn named)
     (record {
-      begin = λ en. (h.heard, off (is_on run) (not over) en);
+      begin = λ en. (h.heard, off (is_on run) (not f.over) en);
       admit = λ en. (
         h.heard,
         record {
-          candidate = second_so (is_on run) (is_some (newcomer p (units p run))) en;
+          candidate = second_so (is_on run) (is_some (newcomer p (index_in p f) (units p run))) en;
           whole = units-length p run;
         },
       );
       deliver = λ en. (
         h.heard,
-        oldest_ready p over refused now run (queue run) h (main (not (is_empty (queue run))) en) few short refl
+        oldest_ready p f refused now run (queue run) h (main (not (is_empty (queue run))) en) few short refl
             (second_so (is_main b.dispatcher) (not (is_empty (queue run))) en),
       );
-      named = λ turn k to other en. take_ready p over refused now run k to _ h refl en;
+      named = λ turn k to other en. take_ready p f refused now run k to _ h refl en;
       clock = λ ns en. (h.heard, grind (arith, en));
       signal = λ signal en.
           let takes : Bool = takes_signal (signals_heard run) (heard_by p.plan.hearing signal) in
@@ -245,13 +254,17 @@ ready p over refused now run turn h few short en =
       );
       end = λ en. (
         h.heard,
-        main (is_complete b) (first_so (is_main b.dispatcher && is_complete b) (not (is_halted b.dispatcher)) en),
+        (
+          main (is_complete b) (first_so (is_main b.dispatcher && is_complete b) (not (is_halted b.dispatcher)) en),
+          counts (going f.over
+              (first_so (not f.over) (takes_turn p (board_with p refused f now run) turn (turn_of_unit turn)) whole)),
+        ),
       );
     })
-    turn (second_so (not over) (takes_turn p (board_with p refused over now run) turn (turn_of_unit turn)) en)
+    turn (second_so (not f.over) (takes_turn p (board_with p refused f now run) turn (turn_of_unit turn)) en)
   where
     b : Board
-    b = board_with p refused over now run
+    b = board_with p refused f now run
 
     main : (more : Bool) → (is_main b.dispatcher && more) ≡ true → is_on run ≡ true
     main more en = first_so (is_on run) (is_none (open_round run)) (first_so (is_main b.dispatcher) more en)
@@ -268,6 +281,13 @@ ready p over refused now run turn h few short en =
     off : (b c : Bool) → (not b && c) ≡ true → b ≡ false
     off true c e = cc
     off false c e = refl
+
+    going : (b : Bool) → not b ≡ true → b ≡ false
+    going true e = cc
+    going false e = refl
+
+    whole : enabled_on p (board_with p refused f now run) turn ≡ true
+    whole = en
 
 -- a history is as long as its journal, and its newest sub-run is no longer
 history-length : (p : Settings) (backward : List Entry) → length (history p backward) ≡ length backward
@@ -288,36 +308,32 @@ sub_run-length (x ∷ past) = by_begin x.begins (sub_run past) (sub_run-length p
     by_begin false (y ∷ run) h = omega arith
 
 -- neither the dispatcher nor a unit took a turn later than the clock is
-timely_board : (p : Settings) (over : Bool) (now : ℕ) (run : List Happening) → Holds p over now run
-    → IsTimelyBoard (board_of p over now run)
-timely_board p over now run h = record {
+timely_board : (p : Settings) (f : Frame) (now : ℕ) (run : List Happening) → Holds p now run
+    → IsTimelyBoard (board_of p f now run)
+timely_board p f now run h = record {
   dispatcher = h.heard;
-  units = λ k u is. let named = h.named k u (sym (unit_in-is p over now run k h) ∙ is) in named.2;
+  units = λ k u is. let named = h.named k u (sym (unit_in-is p now run k h) ∙ is) in named.2;
 }
 
 pub timely : (p : Settings) (journal : List Entry) → IsLegal p journal → IsTimelyBoard (board p (past_of p journal))
 timely p journal legal =
     let past : List Happening = past_of p journal in
-    let it = timely_board p (is_over past) (clock past) (sub_run past) (holds p (reverse journal) legal).run in
+    let it = timely_board p (frame_of p past) (clock past) (sub_run past) (holds p (reverse journal) legal) in
     record { dispatcher = it.dispatcher; units = it.units }
 
 pub ready_after : (p : Settings) (journal : List Entry) (turn : Turn) → IsLegal p journal → units_in p < 2 ^ 32
     → length journal < 2 ^ 32
     → enabled p (past_of p journal) turn ≡ true → CanAdvance p (board p (past_of p journal)) turn (turn_of_unit turn)
 ready_after p journal turn legal few short en =
-    subst (λ b. CanAdvance p b turn (turn_of_unit turn)) (sym same)
-    (ready p (is_over past) (was_refused past) (clock past) (sub_run past) turn h.run few
+    ready p (frame_of p past) (was_refused past) (clock past) (sub_run past) turn (holds p (reverse journal) legal) few
     (omega (arith, past_of-length p journal, sub_run-length past))
-    (subst (λ b. enabled_on p b turn ≡ true) same en))
+    (λ going. (
+      count_by-le-length (λ run. is_failed (summary_of p run)) (ended_runs past),
+      few-ended p (reverse journal) legal going,
+    )) en
   where
     past : List Happening
     past = past_of p journal
-
-    h : HoldsAfter p past
-    h = holds p (reverse journal) legal
-
-    same : board p past ≡ board_now p past
-    same = board-is p past h.alike
 
 -- the clock moves by its turns
 moved-is : (turn : Turn) → ns_of turn ≡ moved_by turn

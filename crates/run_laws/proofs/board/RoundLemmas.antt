@@ -21,6 +21,7 @@ use Rattle.run_model.specs.Board.{Deed, said, rounds_after, answers_after}
 use Rattle.run_laws.proofs.board.Queue.{drop-sent}
 use Rattle.run_laws.proofs.board.Holds.{IsFewer, HasRounds}
 use Rattle.run_laws.proofs.board.DeedFits.{Marks}
+use Rattle.run_laws.proofs.board.OnBoard.{Frame}
 
 -- more turns than counted, after one more that begins a sub-run and isn't counted, or comes in one that is on
 fewer-cons : (count : List Happening → ℕ) (x : Happening) (run : List Happening) → IsFewer count run
@@ -51,9 +52,9 @@ one_at_most n true = omega arith
 one_at_most n false = omega arith
 
 -- what holds of the rounds of a sub-run holds after one more deed
-pub rounds_kept : (p : Settings) (over : Bool) (now : ℕ) (run : List Happening) (e : Entry) (d : Deed) → HasRounds run
-    → Marks p over now run d → HasRounds (said now e d ∷ run)
-rounds_kept p over now run e d h marks = record {
+pub rounds_kept : (p : Settings) (f : Frame) (now : ℕ) (run : List Happening) (e : Entry) (d : Deed) → HasRounds run
+    → Marks p f now run d → HasRounds (said now e d ∷ run)
+rounds_kept p f now run e d h marks = record {
   opened = fewer-cons round_count (said now e d) run h.opened (one_at_most (round_count run) (opens_round d.request))
       (first_opens (opens_round d.request) refl);
   told = fewer-cons answers_told (said now e d) run h.told (one_told (opens_round d.request) (tells_answer d.told))
@@ -158,10 +159,10 @@ drop_none zero = refl
 drop_none (suc n) = refl
 
 -- the answers that wait after one more deed
-pub answers-cons : (p : Settings) (over : Bool) (now : ℕ) (run : List Happening) (e : Entry) (d : Deed) → HasRounds run
-    → Marks p over now run d
+pub answers-cons : (p : Settings) (f : Frame) (now : ℕ) (run : List Happening) (e : Entry) (d : Deed) → HasRounds run
+    → Marks p f now run d
     → answers_waiting (said now e d ∷ run) ≡ answers_after (open_round run) d (answers_waiting run)
-answers-cons p over now run e d h marks =
+answers-cons p f now run e d h marks =
     by_deed (opens_round d.request) (closes_round d.stops d.told) (tells_answer d.told) refl
   where
     more : Option Request → List InfoResponse

@@ -48,14 +48,17 @@ use Rattle.run_laws.proofs.told.ToldSeats.{seat_told-started, finished_gone}
 use Rattle.run_laws.proofs.board.BoardSeats.{board_seat, seat_after, AreKeptIn, kept_fewer, acts_lower, acts_last}
 use Rattle.run_laws.proofs.board.BoardSeats.{acts_refused}
 use Rattle.run_laws.proofs.board.JoinSeats.{joins_kept, joins_last}
+use Rattle.run_laws.proofs.board.OnBoard.{Frame}
+use Rattle.run_laws.proofs.board.OnBoard.{index_in}
+use Rattle.run_events.specs.declared.stress.StressIndex.{StressIndex}
 
 -- the messages that wait after a deed has taken one
 abbrev pub rest_of : Deed → List Happening → List Message
 rest_of d run = drop (if d.taken then 1 else 0) (queue run)
 
 -- what a deed does to the seats: what it tells leaves them below what the messages that it takes say, and as they were
--- or lower where a cause stands; it keeps the limits on the board; and, where none stands, what it sends leaves the last
--- seats below the board's
+-- or lower where a cause stands; it keeps the limits on the board; and, where none stands, what it sends leaves the
+-- last seats below the board's
 pub record MovesSeats (p : Settings) (now : ℕ) (run : List Happening) (d : Deed) : Type 0 where
   pub tells : AreLower (seat_told (told run ++ option_to_list d.told))
       (at_last (seat_told (told run)) (take (if d.taken then 1 else 0) (queue run)))
@@ -72,27 +75,28 @@ pub tells_nothing : (run : List Happening) → AreLower (seat_told (told run ++ 
 tells_nothing run = same_lower _ _ (λ k. seat_told-nothing k (told run))
 
 -- what an admission does to the seats
-pub admits : (p : Settings) (now : ℕ) (run : List Happening) (o : Option Newcomer) → newcomer p (units p run) ≡ o
+pub admits : (p : Settings) (now : ℕ) (index : Option StressIndex) (run : List Happening) (o : Option Newcomer)
+    → newcomer p index (units p run) ≡ o
     → MovesSeats p now run (admission o)
-admits p now run None e = record {
+admits p now index run None e = record {
   tells = tells_nothing run;
   opens_none = λ cause. tells_nothing run;
   keeps = λ h. h;
   sends = λ calm h. h;
 }
-admits p now run (Some new) e = record {
+admits p now index run (Some new) e = record {
   tells = tells_nothing run;
   opens_none = λ cause. tells_nothing run;
-  keeps = joins_kept p now run new e;
-  sends = λ calm. joins_last p now run new.unit new.sent _ (new_unit p run new e);
+  keeps = joins_kept p now index run new e;
+  sends = λ calm. joins_last p now run new.unit new.sent _ (new_unit p index run new e);
 }
 
 -- what a unit's own turn does to the seats
-pub unit_moves : (p : Settings) (over : Bool) (now : ℕ) (run : List Happening) (j : ℕ) (turn : UnitTurn)
-    (v : Option UnitView) → Holds p over now run → unit_of j run ≡ v → unit_takes now v turn ≡ true
+pub unit_moves : (p : Settings) (f : Frame) (now : ℕ) (run : List Happening) (j : ℕ) (turn : UnitTurn)
+    (v : Option UnitView) → Holds p now run → unit_of j run ≡ v → unit_takes now v turn ≡ true
     → is_answer turn ≡ false → MovesSeats p now run (taken_by now j turn v)
-unit_moves p over now run j turn None h e en other = cc
-unit_moves p over now run j turn (Some u) h e en other = record {
+unit_moves p f now run j turn None h e en other = cc
+unit_moves p f now run j turn (Some u) h e en other = record {
   tells = tells_nothing run;
   opens_none = λ cause. tells_nothing run;
   keeps = λ kept. kept_fewer p _ (board_seat run) (acts_lower now j turn run) kept;
@@ -145,9 +149,9 @@ at_last_apart k (m ∷ ms) seat none =
     both (Some news) e none = let never = rw e at none in cc
 
 -- what waits of a unit whose start is the oldest message: nothing else
-start_alone : (p : Settings) (over : Bool) (now : ℕ) (run : List Happening) (k : ℕ) (m : Message) (rest : List Message)
-    → Holds p over now run → queue run ≡ m ∷ rest → pending_in k m ≡ Some started → pending_of k rest ≡ []
-start_alone p over now run k m rest h eq starts =
+start_alone : (p : Settings) (f : Frame) (now : ℕ) (run : List Happening) (k : ℕ) (m : Message) (rest : List Message)
+    → Holds p now run → queue run ≡ m ∷ rest → pending_in k m ≡ Some started → pending_of k rest ≡ []
+start_alone p f now run k m rest h eq starts =
     alone (is_mismatched p k) (was_left k run) (unit_of k run) (account_of k (told run)) (rw eq at (h.accounts k))
   where
     alone : (mm left : Bool) (v : Option UnitView) (t : List News)
@@ -162,33 +166,33 @@ goes_on None some none = some
 goes_on (Some r) some none = none
 
 -- what the delivery of a start does to the seats: one that isn't let go leaves its seat
-pub start_moves : (p : Settings) (over : Bool) (now : ℕ) (run : List Happening) (start : TestStart) (rest : List Message)
-    (go : Bool) (w : Option UnitView) → Holds p over now run → queue run ≡ Start start ∷ rest
+pub start_moves : (p : Settings) (f : Frame) (now : ℕ) (run : List Happening) (start : TestStart) (rest : List Message)
+    (go : Bool) (w : Option UnitView) → Holds p now run → queue run ≡ Start start ∷ rest
     → go ≡ is_none (reason run) → unit_of start.test.unit run ≡ w
     → MovesSeats p now run (record (taken_by now start.test.unit (Answered go) w) {
       taken = true;
-      told = option_map (event_in now run) (if go then Some (started_event start (with_start (tally p run))) else None);
+      told = option_map (event_in now f) (if go then Some (started_event start (with_start (tally p run))) else None);
     })
-start_moves p over now run start rest go None h eq goes ew =
-    let waits = start_waits p over now run start.test.unit (Start start) rest h eq (start_own start) in
+start_moves p f now run start rest go None h eq goes ew =
+    let waits = start_waits p now run start.test.unit (Start start) rest h eq (start_own start) in
     let never : None ≡ Some waits.unit = sym ew ∙ waits.is in cc
-start_moves p over now run start rest true (Some u) h eq goes ew =
-    let waits = start_waits p over now run start.test.unit (Start start) rest h eq (start_own start) in
+start_moves p f now run start rest true (Some u) h eq goes ew =
+    let waits = start_waits p now run start.test.unit (Start start) rest h eq (start_own start) in
     let same : waits.unit ≡ u = cc (sym waits.is ∙ ew) in
     let waiting : takes now u (Answered true) ≡ true =
     ap (λ (u : UnitView). takes now u (Answered true)) (sym same)
     ∙ ap (λ ph. takes_at now ph waits.unit (Answered true)) waits.phase in
     record {
       tells = same_lower _ _ (λ k.
-          seat_told-started k (moment_in now run) (told run) start (with_start (tally p run)) waits.untold
+          seat_told-started k (moment_in now f) (told run) start (with_start (tally p run)) waits.untold
           ∙ ap (λ q. at_last (seat_told (told run)) (take 1 q) k) (sym eq));
       opens_none = λ cause. absurd (let never = goes_on (reason run) cause (sym goes) in cc);
       keeps = λ kept. kept_fewer p _ (board_seat run) (acts_lower now start.test.unit (Answered true) run) kept;
       sends = λ calm. acts_last now start.test.unit (Answered true) run u _ ew waiting (λ is. cc)
           (h.named start.test.unit u ew).0;
     }
-start_moves p over now run start rest false (Some u) h eq goes ew =
-    let waits = start_waits p over now run start.test.unit (Start start) rest h eq (start_own start) in
+start_moves p f now run start rest false (Some u) h eq goes ew =
+    let waits = start_waits p now run start.test.unit (Start start) rest h eq (start_own start) in
     let same : waits.unit ≡ u = cc (sym waits.is ∙ ew) in
     let phase : u.phase ≡ StartSent = ap (λ (u : UnitView). u.phase) (sym same) ∙ waits.phase in
     let untold : seat_told (told run ++ []) start.test.unit ≡ Gone =
@@ -200,7 +204,7 @@ start_moves p over now run start rest false (Some u) h eq goes ew =
       keeps = λ kept. kept_fewer p _ (board_seat run) (acts_lower now start.test.unit (Answered false) run) kept;
       sends = λ calm. acts_refused now start.test.unit run u _ ew phase
           (ap (λ q. at_last (seat_told (told run ++ [])) (drop 1 q) start.test.unit) eq
-          ∙ at_last_apart start.test.unit rest (seat_told (told run ++ [])) (start_alone p over now run start.test.unit (Start start) rest h eq (start_own start))
+          ∙ at_last_apart start.test.unit rest (seat_told (told run ++ [])) (start_alone p f now run start.test.unit (Start start) rest h eq (start_own start))
           ∙ untold);
     }
   where
@@ -253,18 +257,19 @@ script_finished k moment es finish = by_unit (finish.script.unit == k) refl
     by_unit false is used = seat_told-other k es e refl is
 
 -- what the delivery of a script's start does to the seats
-pub script_moves : (p : Settings) (over : Bool) (now : ℕ) (run : List Happening) (start : ScriptStart) (rest : List Message)
-    (go : Bool) (w : Option UnitView) → Holds p over now run → queue run ≡ ScriptStarts start ∷ rest
+pub script_moves : (p : Settings) (f : Frame) (now : ℕ) (run : List Happening) (start : ScriptStart)
+    (rest : List Message)
+    (go : Bool) (w : Option UnitView) → Holds p now run → queue run ≡ ScriptStarts start ∷ rest
     → go ≡ is_none (reason run) → unit_of start.script.unit run ≡ w
     → MovesSeats p now run (record (taken_by now start.script.unit (Answered go) w) {
       taken = true;
-      told = option_map (event_in now run) (if go then Some (SetupScriptStarted start) else None);
+      told = option_map (event_in now f) (if go then Some (SetupScriptStarted start) else None);
     })
-script_moves p over now run start rest go None h eq goes ew =
-    let waits = start_waits p over now run start.script.unit (ScriptStarts start) rest h eq (script_own start) in
+script_moves p f now run start rest go None h eq goes ew =
+    let waits = start_waits p now run start.script.unit (ScriptStarts start) rest h eq (script_own start) in
     let never : None ≡ Some waits.unit = sym ew ∙ waits.is in cc
-script_moves p over now run start rest go (Some u) h eq goes ew =
-    let waits = start_waits p over now run start.script.unit (ScriptStarts start) rest h eq (script_own start) in
+script_moves p f now run start rest go (Some u) h eq goes ew =
+    let waits = start_waits p now run start.script.unit (ScriptStarts start) rest h eq (script_own start) in
     let same : waits.unit ≡ u = cc (sym waits.is ∙ ew) in
     let phase : u.phase ≡ StartSent = ap (λ (u : UnitView). u.phase) (sym same) ∙ waits.phase in
     record {
@@ -276,9 +281,9 @@ script_moves p over now run start rest go (Some u) h eq goes ew =
     }
   where
     tells : (go : Bool) (k : ℕ) → account_of start.script.unit (told run) ≡ []
-        → IsBelow (seat_told (told run ++ option_to_list (option_map (event_in now run)
+        → IsBelow (seat_told (told run ++ option_to_list (option_map (event_in now f)
         (if go then Some (SetupScriptStarted start) else None))) k) (seat_told (told run) k)
-    tells true k untold used = script_started k (moment_in now run) (told run) start untold used
+    tells true k untold used = script_started k (moment_in now f) (told run) start untold used
     tells false k untold used = seat_told-nothing k (told run)
 
     by_go : (go : Bool) → u.phase ≡ StartSent → go ≡ true → {seat : ℕ → Seat} → AreLower seat (board_seat run)
@@ -290,23 +295,23 @@ script_moves p over now run start rest go (Some u) h eq goes ew =
         (λ is. cc) (h.named start.script.unit u ew).0 below
 
 -- the delivery of a retry leaves the seats by what was told
-retry_told : (run : List Happening) (now : ℕ) (retry : TestRetry) (t : Tally) (go : Bool) (k : ℕ)
-    → seat_told (told run ++ option_to_list (option_map (event_in now run)
+retry_told : (run : List Happening) (f : Frame) (now : ℕ) (retry : TestRetry) (t : Tally) (go : Bool) (k : ℕ)
+    → seat_told (told run ++ option_to_list (option_map (event_in now f)
     (if go then Some (retried_event retry t) else None))) k ≡ seat_told (told run) k
-retry_told run now retry t true k = seat_told-other k (told run) _ refl refl
-retry_told run now retry t false k = seat_told-nothing k (told run)
+retry_told run f now retry t true k = seat_told-other k (told run) _ refl refl
+retry_told run f now retry t false k = seat_told-nothing k (told run)
 
-pub retry_moves : (p : Settings) (over : Bool) (now : ℕ) (run : List Happening) (retry : TestRetry) (rest : List Message)
-    (go : Bool) (w : Option UnitView) → Holds p over now run → queue run ≡ Retry retry ∷ rest
+pub retry_moves : (p : Settings) (f : Frame) (now : ℕ) (run : List Happening) (retry : TestRetry) (rest : List Message)
+    (go : Bool) (w : Option UnitView) → Holds p now run → queue run ≡ Retry retry ∷ rest
     → go ≡ is_none (reason run) → unit_of retry.start.test.unit run ≡ w
     → MovesSeats p now run (record (taken_by now retry.start.test.unit (Answered go) w) {
       taken = true;
-      told = option_map (event_in now run) (if go then Some (retried_event retry (tally p run)) else None);
+      told = option_map (event_in now f) (if go then Some (retried_event retry (tally p run)) else None);
     })
-retry_moves p over now run retry rest go w h eq goes ew = record {
-  tells = same_lower _ _ (λ k. retry_told run now retry (tally p run) go k
+retry_moves p f now run retry rest go w h eq goes ew = record {
+  tells = same_lower _ _ (λ k. retry_told run f now retry (tally p run) go k
       ∙ ap (λ q. at_last (seat_told (told run)) (take 1 q) k) (sym eq));
-  opens_none = λ cause. same_lower _ _ (retry_told run now retry (tally p run) go);
+  opens_none = λ cause. same_lower _ _ (retry_told run f now retry (tally p run) go);
   keeps = keeps w;
   sends = λ calm. by_go go w ew (goes ∙ ap is_none calm);
 }
@@ -326,7 +331,7 @@ retry_moves p over now run retry rest go w h eq goes ew = record {
     by_go false w ew lets below = cc
     by_go true None ew lets below = below
     by_go true (Some u) ew lets below =
-        let waits = retry_waits p over now run retry rest h eq in
+        let waits = retry_waits p now run retry rest h eq in
         let same : waits.unit ≡ u = cc (sym waits.is ∙ ew) in
         let waiting : takes now u (Answered true) ≡ true =
         ap (λ (u : UnitView). takes now u (Answered true)) (sym same)

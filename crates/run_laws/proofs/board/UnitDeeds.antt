@@ -1,8 +1,7 @@
 -- What a unit's own turn does, and the delivery of its start and of its retry, fits the sub-run before it.
 use Rattle.std.proofs.Common.{◌≡◌, ℕ, zero, suc, ◌<◌, ◌||◌, ◌==◌, List, [], ◌∷◌, ◌++◌, drop, Bool, true, false, not}
-use Rattle.std.proofs.Common.{if◌then◌else◌, Option, Some, None, option_to_list, option_map, is_none, is_some}
-use Rattle.std.proofs.Common.{option_and_then, refl, ap, sym, subst, ◌∙◌, arith}
-use Rattle.std.specs.Prelude.{IfSome}
+use Rattle.std.proofs.Common.{if◌then◌else◌, Option, Some, None, option_and_then, option_map, option_to_list}
+use Rattle.std.proofs.Common.{is_none, is_some, IfSome, refl, ap, sym, subst, ◌∙◌, arith}
 use Rattle.std.specs.Option.{option_or}
 use Rattle.std.proofs.lemmas.List.{append-nil}
 use Rattle.run_events.specs.declared.settings.Settings.{Settings}
@@ -21,7 +20,7 @@ use Rattle.run_model.specs.declared.unit_view.UnitRole.TheVariants as roles
 use Rattle.run_model.specs.declared.unit_view.UnitView.{UnitView}
 use Rattle.run_model.specs.Environment.{number}
 use Rattle.run_model.specs.Unit.{at_moment, row, takes, takes_at}
-use Rattle.run_model.specs.declared.phase.Phase.TheVariants.{StartSent, RetrySent}
+use Rattle.run_model.specs.declared.phase.Phase.TheVariants.{Over, RetrySent, StartSent}
 use Rattle.run_model.specs.Story.{story_of, line_of, lets_go, deliveries, is_at_retry, stopped_at, was_left}
 use Rattle.run_model.specs.Words.{is_on, reason, sent, delivered, queue, told, unit_of, units, unit_after, tally}
 use Rattle.run_model.specs.Admission.{is_script, units_in, unit_terms, start_message, Newcomer, newcomer}
@@ -30,33 +29,34 @@ use Rattle.run_model.specs.Dispatch.{Moment, event, having_told, retried_event}
 use Rattle.run_model.specs.Board.{Deed, deed_events}
 use Rattle.run_model.specs.Turns.{unit_takes, taken_by, admission}
 use Rattle.run_model.specs.Accounts.{started, HasAccount, is_mismatched, account_of, news_in, pending_in, pending_of}
-use Rattle.run_laws.proofs.board.Holds.{HasLine, Holds, IsOnWay, IsOnWayAt, IsWaiting, is_script_role, way_of}
+use Rattle.run_laws.proofs.board.Holds.{HasLine, Holds, IsOnWay, IsOnWayAt, IsStill, IsWaiting, is_script_role, way_of}
 use Rattle.run_laws.proofs.units.OneOff.{tried_once, once_later}
 use Rattle.run_laws.proofs.units.Lines.{own_request}
 use Rattle.run_laws.proofs.told.Cancels.{cancel_for}
 use Rattle.run_laws.proofs.board.Queue.{lt-from_queue}
 use Rattle.run_laws.proofs.board.ByTurn.{is_answer}
-use Rattle.run_laws.proofs.units.AccountLemmas.{of_row, of_start, of_retry, begins, IsFirst, first_kind, first_role}
+use Rattle.run_laws.proofs.units.AccountLemmas.{begins, first_kind, first_role, news_for, of_retry, of_row, of_start}
+use Rattle.run_laws.proofs.units.AccountLemmas.{IsFirst}
 use Rattle.run_laws.proofs.units.RowSends.{HoldsIf, IsAsRole, row_sends_kind, row_sends_role}
-use Rattle.run_laws.proofs.units.AccountLemmas.{news_for}
 use Rattle.run_laws.proofs.units.Rows.{takes_moment}
 use Rattle.run_laws.specs.Reports.{report_in, report_of_kind, reports_told, reports_waiting}
 use Rattle.run_laws.proofs.told.Reported.{DoesReport, still_reports, acts_report}
-use Rattle.run_laws.proofs.board.Newcomers.{new_unit}
-use Rattle.run_laws.proofs.board.OnBoard.{moment_in, event_in}
-use Rattle.run_laws.proofs.board.Facts.{itself, start_waits, retry_waits, unleft, unstopped, undelivered}
-use Rattle.run_laws.proofs.board.Facts.{delivered_once, delay_number}
+use Rattle.run_laws.proofs.board.Newcomers.{new_unit, new_index}
+use Rattle.run_laws.proofs.board.OnBoard.{Frame, event_in, index_in, moment_in}
+use Rattle.run_laws.proofs.board.Facts.{delay_number, delivered_once, itself, retry_waits, start_waits, undelivered}
+use Rattle.run_laws.proofs.board.Facts.{unleft, unstopped}
 use Rattle.run_laws.proofs.board.DeedFits.{go_in, ToldFitsIn, ToldFits, Marks, left_with, IsSentFor, IsInOrder, Does}
 
 -- a deed that neither cancels nor begins nor ends
-pub quiet : (p : Settings) (over : Bool) (now : ℕ) (run : List Happening) (d : Deed) → is_on run ≡ true
-    → d.cause ≡ None → d.cancel ≡ None → d.begins ≡ false → d.over ≡ false → d.ends ≡ false → d.stops ≡ false
-    → tells_answer d.told ≡ false → Marks p over now run d
-quiet p over now run d on cause cancel begins over_not ends stops answers = record {
-  cancel = cancel ∙ sym (ap (cancel_for (moment_in now run) (having_told (tally p run) d.told)) cause);
+pub quiet : (p : Settings) (f : Frame) (now : ℕ) (run : List Happening) (d : Deed) → is_on run ≡ true
+    → d.cause ≡ None → d.after ≡ None → d.begins ≡ false → d.over ≡ false → d.ends ≡ false → d.stops ≡ false
+    → tells_answer d.told ≡ false → Marks p f now run d
+quiet p f now run d on cause cancel begins over_not ends stops answers = record {
+  cancel = λ _. cancel ∙ sym (ap (cancel_for (moment_in now f) (having_told (tally p run) d.told)) cause);
+  bounds = λ some. let never : false ≡ true = sym (rw (begins, ends) refl) ∙ some in cc;
   begins = λ h. cc;
   still = λ off. let never : true ≡ false = sym (ap (λ b. b || is_on run) begins ∙ on) ∙ off in cc;
-  finishes = over_not ∙ sym ends;
+  finishes = λ over. let never : false ≡ true = sym over_not ∙ over in cc;
   ends = λ h. cc;
   stops = λ h. cc;
   opens = λ _. on;
@@ -64,15 +64,15 @@ quiet p over now run d on cause cancel begins over_not ends stops answers = reco
 }
 
 -- what a unit's own turn asks and reports, in a deed that tells no report
-acts_reported : (p : Settings) (over : Bool) (now : ℕ) (run : List Happening) (j : ℕ) (turn : UnitTurn) (u : UnitView)
-    (k : ℕ) (d : Deed) → Holds p over now run → unit_of j run ≡ Some u → takes now u turn ≡ true
+acts_reported : (p : Settings) (f : Frame) (now : ℕ) (run : List Happening) (j : ℕ) (turn : UnitTurn) (u : UnitView)
+    (k : ℕ) (d : Deed) → Holds p now run → unit_of j run ≡ Some u → takes now u turn ≡ true
     → d.part ≡ Some (Acts j turn) → d.asked ≡ (row now turn u).asked → d.sent ≡ (row now turn u).sent
     → reports_told k (deed_events d) ++ reports_waiting k (drop (if d.taken then 1 else 0) (queue run))
     ≡ reports_waiting k (queue run)
     → DoesReport (unit_terms p k) k now run d
-acts_reported p over now run j turn u k d h is en part asked sent tells =
+acts_reported p f now run j turn u k d h is en part asked sent tells =
     let it = acts_report (unit_terms p k) k now j turn u (unit_of k run) (line_of k run) (story_of k run) en
-    (h.named j u is).2 (tried_once p over now run j u h is) (h.named j u is).0
+    (h.named j u is).2 (tried_once p now run j u h is) (h.named j u is).0
     (λ same. let here : k ≡ j = grind arith in own_request now turn u (line_of k run) en
     (subst (λ v. HasLine v (line_of k run)) (ap (λ k. unit_of k run) here ∙ is) (h.lines k)))
     (λ same. let here : k ≡ j = grind arith in ap (λ k. unit_of k run) here ∙ is) (h.made k) in
@@ -89,14 +89,15 @@ first_reports true u sent k (ph, (t, (role, (reason, is)))) = rw is refl
 first_reports false u sent k (ph, is) = rw is (start_silent u.role u k)
 
 -- what an admission does
-pub admits : (p : Settings) (over : Bool) (now : ℕ) (run : List Happening) (o : Option Newcomer) → Holds p over now run
+pub admits : (p : Settings) (f : Frame) (now : ℕ) (run : List Happening) (o : Option Newcomer) → Holds p now run
     → is_on run ≡ true
-    → newcomer p (units p run) ≡ o → is_some o ≡ true → Does p over now run (admission o)
-admits p over now run None h on e en = cc
-admits p over now run (Some new) h on e en =
-    let it = new_unit p run new e in
+    → newcomer p (index_in p f) (units p run) ≡ o → is_some o ≡ true → Does p f now run (admission o)
+admits p f now run None h on e en = cc
+admits p f now run (Some new) h on e en =
+    let it = new_unit p (index_in p f) run new e in
     record {
       part = (new.sent, it);
+      index = new_index p (index_in p f) (units p run) new e;
       room = omega (arith, h.fits);
       sends = first_kind p _ new.unit new.sent it.role it.first;
       tells = tt;
@@ -111,7 +112,7 @@ admits p over now run (Some new) h on e en =
       asks = refl;
       sent_as = (_, it.first);
       order = tt;
-      marks = quiet p over now run _ on refl refl refl refl refl refl refl;
+      marks = quiet p f now run _ on refl refl refl refl refl refl refl;
     }
 
 -- a turn that is no answer delivers no start, nor a retry
@@ -125,9 +126,9 @@ left_apart : (k : ℕ) (run : List Happening) (part : Option UnitPart) → lets_
 left_apart k run part none = rw none refl
 
 -- a unit has the role that its number says
-kind_of : (p : Settings) (over : Bool) (now : ℕ) (run : List Happening) (k : ℕ) (u : UnitView) → Holds p over now run
+kind_of : (p : Settings) (f : Frame) (now : ℕ) (run : List Happening) (k : ℕ) (u : UnitView) → Holds p now run
     → unit_of k run ≡ Some u → is_script_role u.role ≡ is_script p (number u)
-kind_of p over now run k u h is = let named = h.named k u is in named.3 ∙ ap (is_script p) (sym named.0)
+kind_of p f now run k u h is = let named = h.named k u is in named.3 ∙ ap (is_script p) (sym named.0)
 
 -- what its row sends is sent for it
 sent_for : (run : List Happening) (j : ℕ) (turn : UnitTurn) (u : UnitView) (o : Option Message) → unit_of j run ≡ Some u
@@ -135,13 +136,18 @@ sent_for : (run : List Happening) (j : ℕ) (turn : UnitTurn) (u : UnitView) (o 
 sent_for run j turn u None e h = tt
 sent_for run j turn u (Some m) e h = rw e h
 
+-- a unit that is over takes no turn
+takes_none : (now : ℕ) (u : UnitView) (turn : UnitTurn) → u.phase ≡ Over → takes now u turn ≡ true → ⊥
+takes_none now u turn over en =
+    let never : false ≡ true = sym (ap (λ ph. takes_at now ph u turn) over) ∙ en in cc
+
 -- what a unit's own turn does
-pub unit_does : (p : Settings) (over : Bool) (now : ℕ) (run : List Happening) (j : ℕ) (turn : UnitTurn)
-    (v : Option UnitView) → Holds p over now run
-    → over ≡ false → unit_of j run ≡ v → unit_takes now v turn ≡ true → is_answer turn ≡ false
-    → Does p over now run (taken_by now j turn v)
-unit_does p over now run j turn None h going e en other = cc
-unit_does p over now run j turn (Some u) h going e en other = record {
+pub unit_does : (p : Settings) (f : Frame) (now : ℕ) (run : List Happening) (j : ℕ) (turn : UnitTurn)
+    (v : Option UnitView) → Holds p now run
+    → unit_of j run ≡ v → unit_takes now v turn ≡ true → is_answer turn ≡ false
+    → Does p f now run (taken_by now j turn v)
+unit_does p f now run j turn None h e en other = cc
+unit_does p f now run j turn (Some u) h e en other = record {
   part = record {
     unit = u;
     is = e;
@@ -149,8 +155,9 @@ unit_does p over now run j turn (Some u) h going e en other = record {
     answers = λ go is. let same : is_answer turn ≡ true = ap is_answer is in
         cc;
   };
+  index = tt;
   room = omega (arith, h.fits);
-  sends = row_sends_kind p now u.phase turn (at_moment now u) (kind_of p over now run j u h e) refl
+  sends = row_sends_kind p now u.phase turn (at_moment now u) (kind_of p f now run j u h e) refl
       (takes_moment now u.phase u turn en);
   tells = tt;
   accounts = λ k. subst (λ b. HasAccount (is_mismatched p k) b
@@ -160,16 +167,16 @@ unit_does p over now run j turn (Some u) h going e en other = record {
       (unit_of k run) (account_of k (told run)) (queue run)
       en other (h.named j u e).0 (λ same. own k same) (λ same. unleft (is_mismatched p k) now u turn
       (way_of k run) en (subst (λ v. IsOnWay (is_mismatched p k) v (way_of k run)) (own k same) (h.on_way k)))
-      (once_later now u (tried_once p over now run j u h e)) (λ same. delay_number (is_mismatched p k) u (way_of k run)
+      (once_later now u (tried_once p now run j u h e)) (λ same. delay_number (is_mismatched p k) u (way_of k run)
       (subst (λ v. IsOnWay (is_mismatched p k) v (way_of k run)) (own k same) (h.on_way k))) (h.accounts k)));
-  reported = λ k. acts_reported p over now run j turn u k _ h e en refl refl refl
+  reported = λ k. acts_reported p f now run j turn u k _ h e en refl refl refl
       refl;
   source = sent_for run j turn u (row now turn u).sent e
       (row_sends_role now u.phase turn (at_moment now u) refl (takes_moment now u.phase u turn en));
   asks = sym (ap (option_and_then (λ v. (row now turn v).asked)) e);
   sent_as = sym (ap (option_and_then (λ v. (row now turn v).sent)) e);
   order = tt;
-  marks = quiet p over now run _ (by_on (is_on run) refl) refl refl refl refl refl refl refl;
+  marks = quiet p f now run _ (by_on (is_on run) refl) refl refl refl refl refl refl refl;
 }
   where
     own : (k : ℕ) → (j == k) ≡ true → unit_of k run ≡ Some u
@@ -180,8 +187,7 @@ unit_does p over now run j turn (Some u) h going e en other = record {
 
     by_on : (b : Bool) → is_on run ≡ b → is_on run ≡ true
     by_on true is = is
-    by_on false is = let none : unit_of j run ≡ None = ap (unit_of j) (h.fresh is going) in
-        let never : None ≡ Some u = sym none ∙ e in cc
+    by_on false is = absurd (takes_none now u turn (subst IsStill e (h.still is j)) en)
 
 -- a start that is told, or isn't, is no answer to a query
 tells_none : (go : Bool) (moment : Moment) (kind : TestEventKind) → is_told_answer kind ≡ false
@@ -190,23 +196,24 @@ tells_none true moment kind none = none
 tells_none false moment kind none = refl
 
 -- what the delivery of a start message does, which tells an event of this kind where its unit is let go
-pub start_does : (p : Settings) (over : Bool) (now : ℕ) (run : List Happening) (i : ℕ) (m : Message) (kind : TestEventKind)
+pub start_does : (p : Settings) (f : Frame) (now : ℕ) (run : List Happening) (i : ℕ) (m : Message)
+    (kind : TestEventKind)
     (rest : List Message) (go : Bool) (w : Option UnitView)
-    → Holds p over now run → is_on run ≡ true → go ≡ is_none (reason run) → queue run ≡ m ∷ rest
+    → Holds p now run → is_on run ≡ true → go ≡ is_none (reason run) → queue run ≡ m ∷ rest
     → ((k : ℕ) → pending_in k m ≡ news_for i started k) → ((k : ℕ) → news_in k kind ≡ news_for i started k)
     → ((k : ℕ) → report_in k m ≡ None) → ((k : ℕ) → report_of_kind k kind ≡ None) → is_told_answer kind ≡ false
     → (account_of i (told run) ≡ [] → i < units_in p → ToldFitsIn p (told run) kind)
-    → (is_some (unit_of i run) ≡ true → IsInOrder p run (event_in now run kind))
+    → (is_some (unit_of i run) ≡ true → IsInOrder p run (event_in now f kind))
     → unit_of i run ≡ w
-    → Does p over now run (record (taken_by now i (Answered go) w) {
+    → Does p f now run (record (taken_by now i (Answered go) w) {
       taken = true;
-      told = option_map (event_in now run) (if go then Some kind else None);
+      told = option_map (event_in now f) (if go then Some kind else None);
     })
-start_does p over now run i m kind rest go None h on goes eq pends news silent quiet_kind no_answer fits order ew =
-    let waits = start_waits p over now run i m rest h eq (pends i ∙ rw (itself i) refl) in
+start_does p f now run i m kind rest go None h on goes eq pends news silent quiet_kind no_answer fits order ew =
+    let waits = start_waits p now run i m rest h eq (pends i ∙ rw (itself i) refl) in
     let never : None ≡ Some waits.unit = sym ew ∙ waits.is in cc
-start_does p over now run i m kind rest go (Some u) h on goes eq pends news silent quiet_kind no_answer fits order ew =
-    let waits = start_waits p over now run i m rest h eq (pends i ∙ rw (itself i) refl) in
+start_does p f now run i m kind rest go (Some u) h on goes eq pends news silent quiet_kind no_answer fits order ew =
+    let waits = start_waits p now run i m rest h eq (pends i ∙ rw (itself i) refl) in
     let same : waits.unit ≡ u = cc (sym waits.is ∙ ew) in
     let at : u.phase ≡ StartSent = ap (λ (u : UnitView). u.phase) (sym same) ∙ waits.phase in
     let waiting : takes now u (Answered go) ≡ true = ap (λ ph. takes_at now ph u (Answered go)) at in
@@ -217,24 +224,25 @@ start_does p over now run i m kind rest go (Some u) h on goes eq pends news sile
         takes = waiting;
         answers = λ answer is. sym (ap go_in is) ∙ goes;
       };
+      index = tt;
       room = lt-from_queue (delivered run) (sent run) rest _ eq;
-      sends = row_sends_kind p now u.phase (Answered go) (at_moment now u) (kind_of p over now run i u h ew) refl
+      sends = row_sends_kind p now u.phase (Answered go) (at_moment now u) (kind_of p f now run i u h ew) refl
           (takes_moment now u.phase u (Answered go) waiting);
       tells = start_told go (fits waits.untold waits.below);
       accounts = λ k. rw (eq, told_events go, left_still k u ew at)
-          (of_start (is_mismatched p k) (was_left k run) now (moment_in now run) k i go u (unit_of k run)
+          (of_start (is_mismatched p k) (was_left k run) now (moment_in now f) k i go u (unit_of k run)
           (account_of k (told run)) rest m kind (pends k) (news k) at (λ same. own k u ew same)
           (λ same. unleft (is_mismatched p k) now u (Answered go)
           (way_of k run) waiting (on_way k u ew same))
           (rw eq at (h.accounts k)));
-      reported = λ k. acts_reported p over now run i (Answered go) u k _ h ew waiting refl refl refl
+      reported = λ k. acts_reported p f now run i (Answered go) u k _ h ew waiting refl refl refl
           (rw eq (start_reports k go));
       source = sent_for run i (Answered go) u (row now (Answered go) u).sent ew
           (row_sends_role now u.phase (Answered go) (at_moment now u) refl (takes_moment now u.phase u (Answered go) waiting));
       asks = sym (ap (option_and_then (λ v. (row now (Answered go) v).asked)) ew);
       sent_as = sym (ap (option_and_then (λ v. (row now (Answered go) v).sent)) ew);
       order = in_order go (order (ap is_some ew));
-      marks = quiet p over now run _ on refl refl refl refl refl refl
+      marks = quiet p f now run _ on refl refl refl refl refl refl
           (tells_none go _ _ no_answer);
     }
   where
@@ -264,23 +272,23 @@ start_does p over now run i m kind rest go (Some u) h on goes eq pends news sile
         by_unit false e = left_apart k run (Some (Acts i (Answered go))) e
 
     start_told : (go : Bool) → ToldFitsIn p (told run) kind
-        → ToldFits p (told run) (option_map (event_in now run) (if go then Some kind else None))
+        → ToldFits p (told run) (option_map (event_in now f) (if go then Some kind else None))
     start_told true fits = fits
     start_told false fits = tt
 
-    in_order : (go : Bool) → IsInOrder p run (event_in now run kind)
-        → IfSome (option_map (event_in now run) (if go then Some kind else None)) (IsInOrder p run)
+    in_order : (go : Bool) → IsInOrder p run (event_in now f kind)
+        → IfSome (option_map (event_in now f) (if go then Some kind else None)) (IsInOrder p run)
     in_order true order = order
     in_order false order = tt
 
     told_events : (go : Bool)
-        → option_to_list (option_map (event_in now run) (if go then Some kind else None)) ++ []
-        ≡ option_to_list (if go then Some (event_in now run kind) else None)
+        → option_to_list (option_map (event_in now f) (if go then Some kind else None)) ++ []
+        ≡ option_to_list (if go then Some (event_in now f kind) else None)
     told_events true = refl
     told_events false = refl
 
     start_reports : (k : ℕ) (go : Bool)
-        → reports_told k (option_to_list (option_map (event_in now run) (if go then Some kind else None)) ++ [])
+        → reports_told k (option_to_list (option_map (event_in now f) (if go then Some kind else None)) ++ [])
         ++ reports_waiting k rest ≡ reports_waiting k (m ∷ rest)
     start_reports k true = rw (silent k, quiet_kind k) refl
     start_reports k false = rw (silent k) refl
@@ -289,19 +297,19 @@ same_unit : (j k : ℕ) → (j == k) ≡ true → k ≡ j
 same_unit j k e = grind arith
 
 -- what the delivery of a retry does
-pub retry_does : (p : Settings) (over : Bool) (now : ℕ) (run : List Happening) (retry : TestRetry) (rest : List Message)
+pub retry_does : (p : Settings) (f : Frame) (now : ℕ) (run : List Happening) (retry : TestRetry) (rest : List Message)
     (go : Bool) (w : Option UnitView)
-    → Holds p over now run → is_on run ≡ true → go ≡ is_none (reason run) → queue run ≡ Retry retry ∷ rest
+    → Holds p now run → is_on run ≡ true → go ≡ is_none (reason run) → queue run ≡ Retry retry ∷ rest
     → unit_of retry.start.test.unit run ≡ w
-    → Does p over now run (record (taken_by now retry.start.test.unit (Answered go) w) {
+    → Does p f now run (record (taken_by now retry.start.test.unit (Answered go) w) {
       taken = true;
-      told = option_map (event_in now run) (if go then Some (retried_event retry (tally p run)) else None);
+      told = option_map (event_in now f) (if go then Some (retried_event retry (tally p run)) else None);
     })
-retry_does p over now run retry rest go None h on goes eq ew =
-    let waits = retry_waits p over now run retry rest h eq in
+retry_does p f now run retry rest go None h on goes eq ew =
+    let waits = retry_waits p now run retry rest h eq in
     let never : None ≡ Some waits.unit = sym ew ∙ waits.is in cc
-retry_does p over now run retry rest go (Some u) h on goes eq ew =
-    let waits = retry_waits p over now run retry rest h eq in
+retry_does p f now run retry rest go (Some u) h on goes eq ew =
+    let waits = retry_waits p now run retry rest h eq in
     let same : waits.unit ≡ u = cc (sym waits.is ∙ ew) in
     let at : u.phase ≡ RetrySent = ap (λ (u : UnitView). u.phase) (sym same) ∙ waits.phase in
     let waiting : takes now u (Answered go) ≡ true = ap (λ ph. takes_at now ph u (Answered go)) at in
@@ -312,25 +320,26 @@ retry_does p over now run retry rest go (Some u) h on goes eq ew =
         takes = waiting;
         answers = λ answer is. sym (ap go_in is) ∙ goes;
       };
+      index = tt;
       room = lt-from_queue (delivered run) (sent run) rest _ eq;
       sends = row_sends_kind p now u.phase (Answered go) (at_moment now u)
-          (kind_of p over now run retry.start.test.unit u h ew) refl (takes_moment now u.phase u (Answered go) waiting);
+          (kind_of p f now run retry.start.test.unit u h ew) refl (takes_moment now u.phase u (Answered go) waiting);
       tells = retry_told go;
       accounts = λ k. rw (eq, told_events go) (of_retry (is_mismatched p k) (was_left k run)
-          (left_with k run (Some (Acts retry.start.test.unit (Answered go)))) now (moment_in now run) k go u
+          (left_with k run (Some (Acts retry.start.test.unit (Answered go)))) now (moment_in now f) k go u
           (unit_of k run) (account_of k (told run)) rest retry (tally p run) at (λ same. own k u ew same)
           (λ same. left_now k u ew at waits.matched same (unstopped (is_mismatched p k) now u (Answered go)
           (way_of k run) waiting (on_way k u ew same)))
           (left_apart k run (Some (Acts retry.start.test.unit (Answered go))))
           (rw eq at (h.accounts k)));
-      reported = λ k. acts_reported p over now run retry.start.test.unit (Answered go) u k _ h ew waiting refl refl refl
+      reported = λ k. acts_reported p f now run retry.start.test.unit (Answered go) u k _ h ew waiting refl refl refl
           (rw eq (retry_reports k go));
       source = sent_for run retry.start.test.unit (Answered go) u (row now (Answered go) u).sent ew
           (row_sends_role now u.phase (Answered go) (at_moment now u) refl (takes_moment now u.phase u (Answered go) waiting));
       asks = sym (ap (option_and_then (λ v. (row now (Answered go) v).asked)) ew);
       sent_as = sym (ap (option_and_then (λ v. (row now (Answered go) v).sent)) ew);
       order = in_order go;
-      marks = quiet p over now run _ on refl refl refl refl refl refl
+      marks = quiet p f now run _ on refl refl refl refl refl refl
           (tells_none go _ _ refl);
     }
   where
@@ -366,25 +375,25 @@ retry_does p over now run retry rest go (Some u) h on goes eq ew =
         by_go true (suc n) some = refl
 
     in_order : (go : Bool)
-        → IfSome (option_map (event_in now run) (if go then Some (retried_event retry (tally p run)) else None))
+        → IfSome (option_map (event_in now f) (if go then Some (retried_event retry (tally p run)) else None))
         (IsInOrder p run)
     in_order true = record { test = λ e. cc; script = λ e. cc; said = λ m e. cc }
     in_order false = tt
 
     retry_told : (go : Bool) → ToldFits p (told run)
-        (option_map (event_in now run) (if go then Some (retried_event retry (tally p run)) else None))
+        (option_map (event_in now f) (if go then Some (retried_event retry (tally p run)) else None))
     retry_told true = tt
     retry_told false = tt
 
     told_events : (go : Bool)
-        → option_to_list (option_map (event_in now run)
+        → option_to_list (option_map (event_in now f)
         (if go then Some (retried_event retry (tally p run)) else None)) ++ []
-        ≡ option_to_list (if go then Some (event_in now run (retried_event retry (tally p run))) else None)
+        ≡ option_to_list (if go then Some (event_in now f (retried_event retry (tally p run))) else None)
     told_events true = refl
     told_events false = refl
 
     retry_reports : (k : ℕ) (go : Bool)
-        → reports_told k (option_to_list (option_map (event_in now run)
+        → reports_told k (option_to_list (option_map (event_in now f)
         (if go then Some (retried_event retry (tally p run)) else None)) ++ [])
         ++ reports_waiting k rest ≡ reports_waiting k (Retry retry ∷ rest)
     retry_reports k true = refl

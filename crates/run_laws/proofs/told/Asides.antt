@@ -1,5 +1,5 @@
--- The deeds of pauses, rounds, keys and ticks: each tells one event at most, of no unit, and neither a unit nor a message
--- has a part in it.
+-- The deeds of pauses, rounds, keys and ticks: each tells one event at most, of no unit, and neither a unit nor a
+-- message has a part in it.
 use Rattle.std.proofs.Common.{◌≡◌, ℕ, List, [], ◌∷◌, Bool, true, false, if◌then◌else◌, Option, Some, None, refl, sym}
 use Rattle.std.proofs.Common.{◌∙◌}
 use Rattle.std.specs.Prelude.{⊤, IfSome}
@@ -27,9 +27,14 @@ use Rattle.run_events.specs.declared.message.Message.{Message}
 use Rattle.run_events.specs.declared.settings.Settings.{Settings}
 use Rattle.run_events.specs.declared.turn.Turn.{Turn}
 use Rattle.run_laws.proofs.board.ByTurn.{by_turn}
+use Rattle.run_laws.proofs.told.Bounds.{begin_cases, end_cases}
 use Rattle.run_model.specs.Turns.{admission, answer_to, deed_on, delivery, done_by, hears, live_in, oldest_of, starting}
 use Rattle.run_model.specs.Turns.{tally_by, answered_by, asks_at, cancels_for, informs_at, job_deed, job_event}
 use Rattle.run_model.specs.Turns.{key_deed, nothing_done, signal_deed, stops_itself, tells, ticks}
+use Rattle.run_commands.specs.declared.stress_count.StressCondition.{StressCondition}
+use Rattle.run_model.specs.Turns.{index_of}
+use Rattle.run_model.specs.Turns.{begins_as}
+use Rattle.run_model.specs.Turns.{ends_as}
 
 -- an event of no unit: a pause, a continue, what is told of a round of queries, a key, or a tick
 abbrev pub IsAsideKind : TestEventKind → Type 0
@@ -52,7 +57,7 @@ pub record IsAside (d : Deed) : Type 0 where
   pub info : d.info ≡ []
   pub taken : d.taken ≡ false
   pub told : IfSome d.told IsAsideEvent
-  pub cancel : d.cancel ≡ None
+  pub cancel : d.after ≡ None
   pub cause : d.cause ≡ None
   pub begins : d.begins ≡ false
   pub ends : d.ends ≡ false
@@ -178,8 +183,8 @@ pub stops_alone : (p : Settings) (b : Board) (turn : Turn) → (deed_on p b turn
 stops_alone p b turn =
     by_turn (λ turn named. (done_by p b turn named).stops ≡ true → (done_by p b turn named).part ≡ None)
     (record {
-      begin = λ s. refl;
-      admit = admits (newcomer p b.units);
+      begin = begin_cases (λ d. d.stops ≡ true → d.part ≡ None) (λ told after own later s. refl) b.clock b.dispatcher;
+      admit = admits (newcomer p (index_of b.dispatcher) b.units);
       deliver = delivers b.queue;
       named = λ turn k to other s. cc;
       clock = λ ns s. refl;
@@ -187,7 +192,7 @@ stops_alone p b turn =
           (heard_by b.dispatcher.rules.hearing signal) (λ s. refl) (λ d aside s. aside.part);
       global_due = λ s. refl;
       report_cancel = λ s. refl;
-      end = λ s. refl;
+      end = end_cases (λ d. d.stops ≡ true → d.part ≡ None) (λ told after over own later s. refl) b.clock b.dispatcher;
       key = λ key s. (key_aside b.clock (live_in b.units) b.dispatcher (heard_key b.dispatcher.rules.hearing.input key)).part;
       tick = λ s. refl;
       stop_wait_due = λ s. refl;
@@ -200,7 +205,8 @@ stops_alone p b turn =
     admits None s = refl
     admits (Some new) s = cc
 
-    by_cause : (now : Moment) (t : Tally) (o : Option Cause) (d : Deed) → d.stops ≡ false → (caused now t o d).stops ≡ false
+    by_cause : (now : Moment) (t : Tally) (o : Option Cause) (d : Deed) → d.stops ≡ false
+        → (caused now t o d).stops ≡ false
     by_cause now t None d none = none
     by_cause now t (Some cause) d none = none
 

@@ -1,6 +1,6 @@
 -- What each enabled turn tells as a cause.
-use Rattle.std.proofs.Common.{◌≡◌, ℕ, ◌++◌, List, [], ◌∷◌, Bool, true, false, if◌then◌else◌, Option, Some, None}
-use Rattle.std.proofs.Common.{option_map, is_none, is_some, reverse, refl, ap, sym, subst, ◌∙◌}
+use Rattle.std.proofs.Common.{◌≡◌, ◌||◌, ℕ, ◌++◌, List, [], ◌∷◌, Bool, true, false, if◌then◌else◌, Option, Some, None}
+use Rattle.std.proofs.Common.{option_map, is_none, is_some, reverse, refl, ap, sym, subst, ◌∙◌, option_and_then}
 use Rattle.std.specs.Prelude.{IfSome}
 use Rattle.std.proofs.lemmas.List.{reverse-append}
 use Rattle.run_events.specs.declared.ask.Ask.{Ask}
@@ -55,8 +55,18 @@ use Rattle.run_laws.proofs.told.Asides.{stop_aside, answer_aside, inform_aside}
 use Rattle.run_laws.proofs.board.DeedFits.{Does, PartFits, asked_by}
 use Rattle.run_laws.proofs.units.OpenRows.{IsNoStart}
 use Rattle.run_laws.proofs.units.Rows.{row_starts_none, takes_moment}
-use Rattle.run_laws.proofs.board.Boards.{counts-more}
+use Rattle.run_laws.proofs.board.Tallies.{counts-more}
 use Rattle.run_laws.proofs.board.Kept.{HoldsAfter, does_after, holds}
+use Rattle.run_laws.proofs.board.OnBoard.{Frame}
+use Rattle.run_laws.proofs.board.OnBoard.{index_in}
+use Rattle.run_laws.proofs.board.OnBoard.{frame_of}
+use Rattle.run_laws.proofs.board.Deeds.{base_of}
+use Rattle.run_events.specs.declared.events.TestEventKind.TheVariants.{StressSubRunStarted}
+use Rattle.run_events.specs.declared.events.TestEventKind.TheVariants.{RunFinished}
+use Rattle.run_model.specs.Turns.{index_of}
+use Rattle.run_laws.proofs.told.Bounds.{IsBoundAfter}
+use Rattle.run_laws.proofs.told.Bounds.{IsBound, IsBoundKind, IsBoundAfterKind, begin_cases, end_cases}
+use Rattle.run_events.specs.declared.events.TestEventKind.TheVariants.{RunStarted, StressSubRunFinished}
 
 -- a deed's own event is no cancel event, and a start only where no cause came
 abbrev TellsOwn : List Happening → Option ReporterEvent → Type 0
@@ -141,11 +151,12 @@ aside_own run d aside = by_told d.told aside.told
         let it = by_kind event.kind h in
         (it.0, λ e. let never : false ≡ true = sym it.1 ∙ e in cc)
 
-own : (p : Settings) (past : List Happening) (turn : Turn) → TellsOwn (sub_run past) (deed_on p (board p past) turn).told
+own : (p : Settings) (past : List Happening) (turn : Turn)
+    → TellsOwn (sub_run past) (deed_on p (board p past) turn).told
 own p past turn = by_turn (λ turn named. TellsOwn run (done_by p b turn named).told)
     (record {
-      begin = (refl, λ e. cc);
-      admit = admits_own run (newcomer p (units p run));
+      begin = begin_cases (λ d. TellsOwn run d.told) (λ told after own later. bound_own told own) (clock past) b.dispatcher;
+      admit = admits_own run (newcomer p (index_of b.dispatcher) (units p run));
       deliver = delivers_own p past (queue run);
       named = λ turn k to other. (tt, tt);
       clock = λ ns. (tt, tt);
@@ -153,7 +164,7 @@ own p past turn = by_turn (λ turn named. TellsOwn run (done_by p b turn named).
           (heard_by p.plan.hearing signal) (tt, tt) (aside_own run);
       global_due = (tt, tt);
       report_cancel = (tt, tt);
-      end = (refl, λ e. cc);
+      end = end_cases (λ d. TellsOwn run d.told) (λ told after over own later. bound_own told own) (clock past) b.dispatcher;
       key = λ key. aside_own run _ (key_aside (clock past) (live_in (units p run)) b.dispatcher
           (heard_key p.plan.hearing.input key));
       tick = aside_own run _ tick_aside;
@@ -163,11 +174,23 @@ own p past turn = by_turn (λ turn named. TellsOwn run (done_by p b turn named).
     })
     turn
   where
-    b : Board
-    b = board p past
-
     run : List Happening
     run = sub_run past
+
+    bound_own : (o : Option ReporterEvent) → IsBound o → TellsOwn run o
+    bound_own None h = (tt, tt)
+    bound_own (Some Tick) h = absurd h
+    bound_own (Some (Test event)) h = by_kind event.kind h
+      where
+        by_kind : (kind : TestEventKind) → IsBoundKind kind → TellsOwn run (Some (Test (record event { kind = kind })))
+        by_kind (RunStarted s) h = (refl, λ e. cc)
+        by_kind (StressSubRunStarted s) h = (refl, λ e. cc)
+        by_kind (StressSubRunFinished s) h = (refl, λ e. cc)
+        by_kind (RunFinished s) h = (refl, λ e. cc)
+        by_kind kind h = absurd h
+
+    b : Board
+    b = board p past
 
 -- a start is asked only where no cause came
 abbrev AsksFirst : List Happening → Option Ask → Type 0
@@ -192,11 +215,13 @@ asks_first now run p (Some (Acts j turn)) taken = rw taken.is (by_turn_of turn t
     any_ask none None = tt
     any_ask none (Some ask) = λ e. none
 
-    others : (turn : UnitTurn) → takes now u turn ≡ true → begins_attempt turn ≡ false → AsksFirst run (row now turn u).asked
+    others : (turn : UnitTurn) → takes now u turn ≡ true → begins_attempt turn ≡ false
+        → AsksFirst run (row now turn u).asked
     others turn en none = no_start run (row now turn u).asked
         (row_starts_none now u.phase turn (at_moment now u) refl (takes_moment now u.phase u turn en) none)
 
-    by_turn_of : (turn : UnitTurn) → takes now u turn ≡ true → ((go : Bool) → turn ≡ Answered go → go ≡ is_none (reason run))
+    by_turn_of : (turn : UnitTurn) → takes now u turn ≡ true
+        → ((go : Bool) → turn ≡ Answered go → go ≡ is_none (reason run))
         → AsksFirst run (row now turn u).asked
     by_turn_of (Answered true) en answers =
         any_ask (no_reason (reason run) (sym (answers true refl))) (row now (Answered true) u).asked
@@ -233,8 +258,8 @@ rises-is (Some before) r = refl
 
 -- what a cause tells by counts with this reason
 record TellsCause (why cause : Option CancelReason) (o : Option ReporterEvent) : Type 0 where
-  exactly : is_some o ≡ rises why cause
-  with_reason : IfSome o (λ event. reason_told event ≡ cause)
+  exactly : is_some (option_and_then reason_told o) ≡ rises why cause
+  with_reason : IfSome (option_and_then reason_told o) (λ reason. Some reason ≡ cause)
   killing : IfSome o (λ event. kills event ≡ is_second cause)
 
 tells_cause : (now : Moment) (t : Tally) (cause : Option CancelReason)
@@ -246,8 +271,8 @@ tells_cause now t (Some r) = by_rank (is_above t.stats.cancel_reason r) refl
         → TellsCause t.stats.cancel_reason (Some r)
         (if b then Some (event now (cancel_event r (cancelled_for r t))) else None)
     by_rank true e = record {
-      exactly = sym (rises-is t.stats.cancel_reason r ∙ e);
-      with_reason = event_reason now r t;
+      exactly = ap is_some (event_reason now r t) ∙ sym (rises-is t.stats.cancel_reason r ∙ e);
+      with_reason = subst (λ o. IfSome o (λ reason. Some reason ≡ Some r)) (sym (event_reason now r t)) refl;
       killing = event_kills now r t;
     }
     by_rank false e = record {
@@ -257,9 +282,9 @@ tells_cause now t (Some r) = by_rank (is_above t.stats.cancel_reason r) refl
     }
 
 -- the counts after a deed's own event have the reason of those before
-reason_kept : (p : Settings) (over : Bool) (now : ℕ) (run : List Happening) (d : Deed) → Does p over now run d
+reason_kept : (p : Settings) (f : Frame) (now : ℕ) (run : List Happening) (d : Deed) → Does p f now run d
     → (having_told (tally p run) d.told).stats.cancel_reason ≡ reason run
-reason_kept p over now run d does =
+reason_kept p f now run d does =
     ap (λ (t : Tally). t.stats.cancel_reason) (sym (counts-more p (reason run) d.told (told run) does.tells))
     ∙ stats-reason p (reason run) _ _
 
@@ -273,27 +298,58 @@ cancelled_after p past e h en = record {
   kills = told_cause.killing;
   own = tells.0;
   starts = tells.1;
-  asks = subst (AsksFirst run) (sym does.asks) (asks_so d.stops);
+  asks = asks_by x.begins refl;
 }
   where
     run : List Happening
     run = sub_run past
 
+    x : Happening
+    x = happening p past e
+
     d : Deed
     d = deed_on p (board p past) e.turn
 
-    does : Does p (is_over past) (clock past) run d
+    does : Does p (frame_of p past) (clock past) (base_of d.begins run) d
     does = does_after p past e h en
 
-    asks_so : (b : Bool) → AsksFirst run (if b then Some StopSelf else asked_by (clock past) run d.part)
-    asks_so true = λ e. cc
-    asks_so false = asks_first (clock past) run p d.part does.part
+    here : d.begins ≡ false → Does p (frame_of p past) (clock past) run d
+    here is = subst (λ b. Does p (frame_of p past) (clock past) (base_of b run) d) is does
 
-    told_cause : TellsCause (reason run) d.cause d.cancel
-    told_cause =
-        subst (λ why. TellsCause why d.cause d.cancel) (reason_kept p (is_over past) (clock past) run d does)
-        (subst (TellsCause (having_told (tally p run) d.told).stats.cancel_reason d.cause) (sym does.marks.cancel)
-        (tells_cause (moment_in (clock past) run) (having_told (tally p run) d.told) d.cause))
+    asks_so : PartFits p (clock past) run d.part → (b : Bool)
+        → AsksFirst run (if b then Some StopSelf else asked_by (clock past) run d.part)
+    asks_so fits true = λ e. cc
+    asks_so fits false = asks_first (clock past) run p d.part fits
+
+    asks_by : (b : Bool) → d.begins ≡ b → AsksFirst run d.asked
+    asks_by true is = subst (AsksFirst run) (sym (does.marks.begins is).1.asked) tt
+    asks_by false is = subst (AsksFirst run) (sym (here is).asks) (asks_so (here is).part d.stops)
+
+    bound_tells : (o : Option ReporterEvent) → IsBoundAfter o → d.cause ≡ None → TellsCause (reason run) d.cause o
+    bound_tells None bound none = rw none (record { exactly = refl; with_reason = tt; killing = tt })
+    bound_tells (Some Tick) bound none = absurd bound
+    bound_tells (Some (Test event)) bound none = by_kind event.kind bound
+      where
+        by_kind : (kind : TestEventKind) → IsBoundAfterKind kind
+            → TellsCause (reason run) d.cause (Some (Test (record event { kind = kind })))
+        by_kind (StressSubRunStarted s) bound = rw none (record { exactly = refl; with_reason = tt; killing = refl })
+        by_kind (RunFinished s) bound = rw none (record { exactly = refl; with_reason = tt; killing = refl })
+        by_kind kind bound = absurd bound
+
+    first_false : (a b : Bool) → (a || b) ≡ false → a ≡ false
+    first_false false b is = refl
+    first_false true b is = cc
+
+    told_by : (b : Bool) → (d.begins || d.ends) ≡ b → TellsCause (reason run) d.cause d.after
+    told_by true is = let bounds = does.marks.bounds is in bound_tells d.after bounds.1 bounds.2
+    told_by false is =
+        let at = here (first_false d.begins d.ends is) in
+        subst (λ why. TellsCause why d.cause d.after) (reason_kept p (frame_of p past) (clock past) run d at)
+        (subst (TellsCause (having_told (tally p run) d.told).stats.cancel_reason d.cause) (sym (at.marks.cancel is))
+        (tells_cause (moment_in (clock past) (frame_of p past)) (having_told (tally p run) d.told) d.cause))
+
+    told_cause : TellsCause (reason run) d.cause d.after
+    told_cause = told_by (d.begins || d.ends) refl
 
     tells : TellsOwn run d.told
     tells = own p past e.turn

@@ -40,7 +40,11 @@ use Rattle.run_model.specs.Turns.{signal_deed, live_in, oldest_of}
 use Rattle.run_model.specs.Words.{clock, queue, signals_heard, sub_run, units}
 use Rattle.run_laws.specs.Cancels.{cause_by, delivery_reason, failure_reason, failures_reason, script_reason}
 use Rattle.run_laws.specs.Cancels.{first_signal, signal_reason}
+use Rattle.run_laws.proofs.told.Bounds.{begin_cases, end_cases}
+use Rattle.run_events.specs.declared.turn.Turn.TheVariants.{Begin, End}
 use Rattle.run_laws.proofs.told.Asides.{answer_aside, job_aside, key_aside}
+use Rattle.run_laws.proofs.board.OnBoard.{index_in}
+use Rattle.run_model.specs.Turns.{index_of}
 
 -- the moment of what is told on a board
 abbrev moment_on : Board → Moment
@@ -155,11 +159,13 @@ by_heard p past signal None = refl
 -- so each turn
 pub cause_is : (p : Settings) (past : List Happening) (turn : Turn)
     → (deed_on p (board p past) turn).cause ≡ cause_by p (sub_run past) turn (deed_on p (board p past) turn).told
-cause_is p past Admit = admits_none (newcomer p (units p (sub_run past)))
+cause_is p past Admit = admits_none (newcomer p (index_of (dispatcher_of p past)) (units p (sub_run past)))
 cause_is p past Deliver = delivery_is p (board p past) (queue (sub_run past)) refl
+cause_is p past Begin = begin_cases (λ d. d.cause ≡ None) (λ told after own later. refl) (clock past) (dispatcher_of p past)
+cause_is p past End = end_cases (λ d. d.cause ≡ None) (λ told after over own later. refl) (clock past) (dispatcher_of p past)
 cause_is p past (Signal signal) = by_heard p past signal (heard_by p.plan.hearing signal)
 cause_is p past (Key key) =
     (key_aside (clock past) (live_in (units p (sub_run past))) (dispatcher_of p past)
     (heard_key p.plan.hearing.input key)).cause
-cause_is p past Answer = (answer_aside (board p past) (oldest_of (answers_waiting past))).cause
+cause_is p past Answer = (answer_aside (board p past) (oldest_of (answers_waiting (sub_run past)))).cause
 cause_is p past turn = refl

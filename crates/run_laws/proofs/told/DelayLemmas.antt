@@ -1,5 +1,6 @@
 -- The delays that are told with failed attempts are those of a unit's own turns.
-use Rattle.std.proofs.Common.{◌≡◌, ◌⊎◌, inl, inr, ℕ, ◌==◌, List, [], ◌∷◌, ◌++◌, drop, Bool, true, false, if◌then◌else◌}
+use Rattle.std.proofs.Common.{◌||◌, ◌≡◌, ◌⊎◌, inl, inr, ℕ, ◌==◌, List, [], ◌∷◌, ◌++◌, drop, Bool, true, false}
+use Rattle.std.proofs.Common.{if◌then◌else◌}
 use Rattle.std.proofs.Common.{Option, Some, None, option_and_then, option_map, option_to_list, refl, ap, sym, subst}
 use Rattle.std.proofs.Common.{◌∙◌, arith, append-nil, append_assoc}
 use Rattle.std.specs.Prelude.{IfSome}
@@ -40,7 +41,7 @@ use Rattle.run_model.specs.Dispatch.{started_event, with_start}
 use Rattle.run_model.specs.Journal.{history, IsLegalBackward}
 use Rattle.run_model.specs.Story.{OwnTurn, own_turn, story_of, line_of, request_of, pieces}
 use Rattle.run_model.specs.Turns.{live_in, oldest_of, admission, cancelled, deed_on, delivered_as, delivery, done_by}
-use Rattle.run_model.specs.Turns.{event_of, nothing_done, tally_with}
+use Rattle.run_model.specs.Turns.{event_of, nothing_done, tally_with, index_of}
 use Rattle.run_model.specs.Ending.{last_status}
 use Rattle.run_model.specs.Retries.{failure_message, next_delay}
 use Rattle.run_model.specs.Unit.{at_moment, row, row_at, takes_at}
@@ -52,7 +53,10 @@ use Rattle.run_laws.proofs.units.AttemptLemmas.{HasPieces, IsMade, IsMadeIf}
 use Rattle.run_laws.proofs.board.ByTurn.{by_turn}
 use Rattle.run_laws.proofs.told.Asides.{IsAside, IsAsideKind, IsAsideEvent, by_signal, key_aside, tick_aside}
 use Rattle.run_laws.proofs.told.Asides.{stop_aside, answer_aside, inform_aside}
-use Rattle.run_laws.proofs.told.Cancels.{IsCancel, IsCancelKind, cancel_for, cancel_is}
+use Rattle.run_laws.proofs.told.Bounds.{IsBound, IsBoundKind, IsBoundAfter, bound_after, bound_deed, begin_cases}
+use Rattle.run_laws.proofs.told.Bounds.{end_cases}
+use Rattle.run_events.specs.declared.events.TestEventKind.TheVariants.{RunStarted, StressSubRunFinished}
+use Rattle.run_laws.proofs.told.Cancels.{IsAfter, IsAfterKind, cancel_for, cancel_is}
 use Rattle.run_laws.proofs.board.DeedFits.{PartFits, IsSentAs, Does}
 use Rattle.run_laws.proofs.board.Holds.{Holds}
 use Rattle.run_laws.proofs.board.Kept.{HoldsAfter, does_after, IsOfRun, IsBeforeRuns, where_joins, holds}
@@ -62,9 +66,16 @@ use Rattle.run_laws.proofs.board.Queue.{queue-cons}
 use Rattle.run_laws.proofs.units.Rows.{Takes, answers, opens, decides as decides_now, passes, again, continues}
 use Rattle.run_laws.proofs.units.Rows.{decide_cases, row_moves, row_passes, row_takes, takes_moment}
 use Rattle.run_laws.proofs.units.RowDelays.{delays_sent, report_none, finish_none, way_none, AddsDelay, row_adds}
+use Rattle.run_laws.proofs.board.OnBoard.{Frame}
+use Rattle.run_laws.proofs.board.OnBoard.{frame_of}
+use Rattle.run_events.specs.declared.events.TestEventKind.TheVariants.{StressSubRunStarted}
+use Rattle.run_events.specs.declared.events.TestEventKind.TheVariants.{RunFinished}
+use Rattle.run_laws.proofs.board.Kept.{from_base}
+use Rattle.run_laws.proofs.board.Deeds.{base_of}
 
 -- what a row sends of delays is of its own unit
-own_only : (now : ℕ) (ph : Phase) (turn : UnitTurn) (u : UnitView) (k : ℕ) → u.phase ≡ ph → takes_at now ph u turn ≡ true
+own_only : (now : ℕ) (ph : Phase) (turn : UnitTurn) (u : UnitView) (k : ℕ) → u.phase ≡ ph
+    → takes_at now ph u turn ≡ true
     → (number u == k) ≡ false → delays_sent k (row_at now ph turn u).sent ≡ []
 own_only now ph turn u k at en apart = by_take (row_takes now ph turn u en)
   where
@@ -94,16 +105,16 @@ first_none k false u m (ph, is) = rw is (by_role u.role)
     by_role (roles.Script s) = refl
 
 -- what is sent with a part
-part_adds : (p : Settings) (over : Bool) (now : ℕ) (run : List Happening) (k : ℕ) (part : Option UnitPart)
-    (sent : Option Message) → Holds p over now run → PartFits p now run part → IsSentAs now run part sent
+part_adds : (p : Settings) (f : Frame) (now : ℕ) (run : List Happening) (k : ℕ) (part : Option UnitPart)
+    (sent : Option Message) → Holds p now run → PartFits p now run part → IsSentAs now run part sent
     → delays_by (unit_terms p k) (pieces (option_to_list (own_turn k now part (line_of k run)) ++ story_of k run))
     ≡ delays_by (unit_terms p k) (pieces_of k run) ++ delays_sent k sent
-part_adds p over now run k None sent h fits from = rw from (sym (append-nil (delays_by (unit_terms p k) (pieces_of k run))))
-part_adds p over now run k (Some (Joins u)) None h fits from = sym (append-nil (delays_by (unit_terms p k) (pieces_of k run)))
-part_adds p over now run k (Some (Joins u)) (Some m) h fits (skipped, from) =
+part_adds p f now run k None sent h fits from = rw from (sym (append-nil (delays_by (unit_terms p k) (pieces_of k run))))
+part_adds p f now run k (Some (Joins u)) None h fits from = sym (append-nil (delays_by (unit_terms p k) (pieces_of k run)))
+part_adds p f now run k (Some (Joins u)) (Some m) h fits (skipped, from) =
     sym (append-nil (delays_by (unit_terms p k) (pieces_of k run)))
     ∙ sym (ap (λ ds. delays_by (unit_terms p k) (pieces_of k run) ++ ds) (first_none k skipped u m from))
-part_adds p over now run k (Some (Acts j turn)) sent h taken from = by_unit (j == k) refl
+part_adds p f now run k (Some (Acts j turn)) sent h taken from = by_unit (j == k) refl
   where
     u : UnitView
     u = taken.unit
@@ -131,7 +142,7 @@ part_adds p over now run k (Some (Acts j turn)) sent h taken from = by_unit (j =
         subst (λ v. IsMadeIf (unit_terms p k) v (story_of k run)) is (h.made k) in
         let own_row : AddsDelay u.terms (number u) own (pieces_of k run) (row now turn u).sent =
         row_adds now u.phase turn (at_moment now u) own (pieces_of k run) refl refl moved
-        (once_later now u (tried_once p over now run k u h is))
+        (once_later now u (tried_once p now run k u h is))
         (later_pieces u.terms now u.phase u (pieces_of k run) (h.named k u is).2
         (subst (λ terms. HasPieces terms u.phase u (pieces_of k run)) (sym made.terms) made.has)) made.attempt in
         subst (λ terms. delays_by terms (pieces (own ∷ story_of k run)) ≡ delays_by terms (pieces_of k run) ++ delays_sent k sent)
@@ -144,29 +155,31 @@ part_adds p over now run k (Some (Acts j turn)) sent h taken from = by_unit (j =
         ∙ own_only now u.phase turn (at_moment now u) k refl moved (grind arith)))
 
 -- a delivery tells what waited
-cancel_none : (k : ℕ) (o : Option ReporterEvent) → IsCancel o → delays_told k (option_to_list o) ≡ []
+cancel_none : (k : ℕ) (o : Option ReporterEvent) → IsAfter o → delays_told k (option_to_list o) ≡ []
 cancel_none k None h = refl
 cancel_none k (Some Tick) h = absurd h
 cancel_none k (Some (Test e)) h = by_kind e.kind h
   where
-    by_kind : (kind : TestEventKind) → IsCancelKind kind → cons_option (delay_of_kind k kind) [] ≡ []
+    by_kind : (kind : TestEventKind) → IsAfterKind kind → cons_option (delay_of_kind k kind) [] ≡ []
     by_kind (RunBeginCancel cancelled) h = refl
     by_kind (RunBeginKill cancelled) h = refl
+    by_kind (StressSubRunStarted progress) h = refl
+    by_kind (RunFinished finished) h = refl
     by_kind kind h = absurd h
 
 abbrev KeepsDelays : ℕ → List Message → Deed → Type 0
 KeepsDelays k q d =
     delays_told k (deed_events d) ++ delays_waiting k (drop (if d.taken then 1 else 0) q) ≡ delays_waiting k q
 
-caused_keeps : (k : ℕ) (now : Moment) (q : List Message) (t : Tally) (o : Option Cause) (d : Deed) → d.cancel ≡ None
+caused_keeps : (k : ℕ) (now : Moment) (q : List Message) (t : Tally) (o : Option Cause) (d : Deed) → d.after ≡ None
     → KeepsDelays k q d → KeepsDelays k q (caused now t o d)
 caused_keeps k now q t None d none keeps = keeps
 caused_keeps k now q t (Some c) d none keeps =
     ap (λ ds. ds ++ delays_waiting k (drop (if d.taken then 1 else 0) q))
     (filter_map-append (delay_told k) (option_to_list d.told) (option_to_list (cancel_for now t (Some c.reason)))
     ∙ ap (λ ds. delays_told k (option_to_list d.told) ++ ds) (cancel_none k _ (cancel_is now t (Some c.reason))
-    ∙ sym (cancel_none k d.cancel (subst IsCancel (sym none) tt)))
-    ∙ sym (filter_map-append (delay_told k) (option_to_list d.told) (option_to_list d.cancel))) ∙ keeps
+    ∙ sym (cancel_none k d.after (subst IsAfter (sym none) tt)))
+    ∙ sym (filter_map-append (delay_told k) (option_to_list d.told) (option_to_list d.after))) ∙ keeps
 
 admission_keeps : (k : ℕ) (q : List Message) (o : Option Newcomer) → KeepsDelays k q (admission o)
 admission_keeps k q None = refl
@@ -179,7 +192,8 @@ told_if : (k : ℕ) (now : Moment) (kind : TestEventKind) (m : Message) (rest : 
 told_if k now kind m rest true none quiet_message = rw (none, quiet_message) refl
 told_if k now kind m rest false none quiet_message = rw quiet_message refl
 
-told_so : (k : ℕ) (now : Moment) (kind : TestEventKind) (m : Message) (rest : List Message) → delay_of_kind k kind ≡ delay_in k m
+told_so : (k : ℕ) (now : Moment) (kind : TestEventKind) (m : Message) (rest : List Message)
+    → delay_of_kind k kind ≡ delay_in k m
     → delays_told k (event now kind ∷ []) ++ delays_waiting k rest ≡ delays_waiting k (m ∷ rest)
 told_so k now kind m rest same = rw same (by_delay (delay_in k m))
   where
@@ -229,12 +243,38 @@ aside_keeps k q d aside =
     by_told (Some Tick) h = refl
     by_told (Some (Test event)) h = rw (by_kind event.kind h) refl
 
+-- the begin and the end of a sub-run tell none
+bounds_none : (k : ℕ) (told after : Option ReporterEvent) → IsBound told → IsBoundAfter after
+    → delays_told k (option_to_list told ++ option_to_list after) ≡ []
+bounds_none k told after own later =
+    filter_map-append (delay_told k) (option_to_list told) (option_to_list after)
+    ∙ ap (λ ds. delays_told k (option_to_list told) ++ ds) (cancel_none k after (bound_after after later))
+    ∙ append-nil (delays_told k (option_to_list told)) ∙ none told own
+  where
+    by_kind : (kind : TestEventKind) → IsBoundKind kind → cons_option (delay_of_kind k kind) [] ≡ []
+    by_kind (RunStarted s) h = refl
+    by_kind (StressSubRunStarted s) h = refl
+    by_kind (StressSubRunFinished s) h = refl
+    by_kind (RunFinished s) h = refl
+    by_kind kind h = absurd h
+
+    none : (o : Option ReporterEvent) → IsBound o → delays_told k (option_to_list o) ≡ []
+    none None h = refl
+    none (Some Tick) h = absurd h
+    none (Some (Test e)) h = by_kind e.kind h
+
+bound_keeps : (k : ℕ) (q : List Message) (told after : Option ReporterEvent) (begins ends over : Bool) → IsBound told
+    → IsBoundAfter after → KeepsDelays k q (bound_deed told after begins ends over)
+bound_keeps k q told after begins ends over own later =
+    ap (λ ds. ds ++ delays_waiting k q) (bounds_none k told after own later)
+
 keeps : (p : Settings) (b : Board) (k : ℕ) (turn : Turn) → KeepsDelays k b.queue (deed_on p b turn)
 keeps p b k turn =
     by_turn (λ turn named. KeepsDelays k b.queue (done_by p b turn named))
     (record {
-      begin = refl;
-      admit = admission_keeps k b.queue (newcomer p b.units);
+      begin = begin_cases (KeepsDelays k b.queue) (λ told after own later. bound_keeps k b.queue told after true false false own later)
+          b.clock b.dispatcher;
+      admit = admission_keeps k b.queue (newcomer p (index_of b.dispatcher) b.units);
       deliver = delivery_keeps k b b.queue;
       named = λ turn k to other. refl;
       clock = λ ns. refl;
@@ -243,7 +283,8 @@ keeps p b k turn =
           (aside_keeps k b.queue);
       global_due = cancels time_is_up;
       report_cancel = cancels event_refused;
-      end = refl;
+      end = end_cases (KeepsDelays k b.queue) (λ told after over own later. bound_keeps k b.queue told after false true over own later)
+          b.clock b.dispatcher;
       key = λ key. aside_keeps k b.queue _ (key_aside b.clock (live_in b.units) b.dispatcher
           (heard_key b.dispatcher.rules.hearing.input key));
       tick = aside_keeps k b.queue _ tick_aside;
@@ -258,10 +299,10 @@ keeps p b k turn =
         nothing_done refl refl
 
 -- so the delays are those of own turns after one more deed
-delays-cons : (p : Settings) (over : Bool) (now : ℕ) (run : List Happening) (e : Entry) (d : Deed) (k : ℕ)
-    → Holds p over now run → Does p over now run d → KeepsDelays k (queue run) d → AreDelaysOwn p run k
+delays-cons : (p : Settings) (f : Frame) (now : ℕ) (run : List Happening) (e : Entry) (d : Deed) (k : ℕ)
+    → Holds p now run → Does p f now run d → KeepsDelays k (queue run) d → AreDelaysOwn p run k
     → AreDelaysOwn p (said now e d ∷ run) k
-delays-cons p over now run e d k h does kept was =
+delays-cons p f now run e d k h does kept was =
     ap (λ q. delays_told k (told run ++ deed_events d) ++ delays_waiting k q) (queue-cons (said now e d) run does.room)
     ∙ ap (λ ds. ds ++ delays_waiting k (rest ++ option_to_list d.sent))
     (filter_map-append (delay_told k) (told run) (deed_events d))
@@ -270,7 +311,7 @@ delays-cons p over now run e d k h does kept was =
     ∙ sym (append_assoc (before ++ delays_told k (deed_events d)) (delays_waiting k rest) (delays_sent k d.sent))
     ∙ ap (λ ds. ds ++ delays_sent k d.sent) (append_assoc before (delays_told k (deed_events d)) (delays_waiting k rest)
     ∙ ap (λ ds. before ++ ds) kept ∙ was)
-    ∙ sym (part_adds p over now run k d.part d.sent h does.part does.sent_as)
+    ∙ sym (part_adds p f now run k d.part d.sent h does.part does.sent_as)
   where
     rest : List Message
     rest = drop (if d.taken then 1 else 0) (queue run)
@@ -292,7 +333,19 @@ own_delays p (e ∷ before) legal k = one_more (own_delays p before legal.2 k) (
       where
         by_run : IsOfRun p past e ⊎ IsBeforeRuns p past e → AreDelaysOwn p (sub_run (history p (e ∷ before))) k
         by_run (inl of) = subst (λ run. AreDelaysOwn p run k) (sym of.joins)
-            (delays-cons p (is_over past) (clock past) (sub_run past) e (deed_on p (board p past) e.turn) k h.run
-            (does_after p past e h legal.0)
-            (keeps p (board p past) k e.turn) was)
+            (delays-cons p (frame_of p past) (clock past) of.base e (deed_on p (board p past) e.turn) k of.holds of.does
+            (keeps_base d.begins refl) (from_base (λ run. AreDelaysOwn p run k) p past e of refl was))
+          where
+            d : Deed
+            d = deed_on p (board p past) e.turn
+
+            here : (b : Bool) → d.begins ≡ b → queue of.base ≡ queue (base_of b (sub_run past))
+            here b is = ap queue (of.is ∙ ap (λ b. base_of b (sub_run past)) is)
+
+            keeps_base : (b : Bool) → d.begins ≡ b → KeepsDelays k (queue of.base) d
+            keeps_base true is =
+                let bounds = of.does.marks.bounds (ap (λ b. b || d.ends) is) in
+                subst (λ q. KeepsDelays k q d) (sym (here true is))
+                (rw (of.does.marks.begins is).1.taken (ap (λ ds. ds ++ []) (bounds_none k d.told d.after bounds.0 bounds.1)))
+            keeps_base false is = subst (λ q. KeepsDelays k q d) (sym (here false is)) (keeps p (board p past) k e.turn)
         by_run (inr none) = subst (λ run. AreDelaysOwn p run k) (sym none.still) refl

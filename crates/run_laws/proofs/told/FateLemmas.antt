@@ -37,7 +37,12 @@ use Rattle.run_laws.proofs.board.Holds.{Holds, Way, way_of, HasEndedAs, IsOnWayI
 use Rattle.run_laws.proofs.units.AttemptLemmas.{IsMadeIf, made_statuses, made_ended, made_last}
 use Rattle.run_laws.proofs.board.OnBoard.{board_of, units-length, units-at}
 use Rattle.run_laws.proofs.board.Order.{all_at}
+use Rattle.run_laws.proofs.told.Bounds.{IsBound, IsBoundAfter, bound_deed, bounds_news, end_cases}
 use Rattle.run_laws.proofs.board.Kept.{HoldsAfter, does_after, IsOfRun, IsBeforeRuns, where_joins, holds}
+use Rattle.run_laws.proofs.board.OnBoard.{Frame}
+use Rattle.run_laws.proofs.board.OnBoard.{frame_of}
+use Rattle.run_events.specs.declared.events.ReporterEvent.{ReporterEvent}
+use Rattle.std.proofs.Common.{option_to_list}
 
 -- all that was told of some attempts: each but the last was tried again, and the last finished, or failed too
 but_last-append : (early : List ExecuteStatus) (s : ExecuteStatus) → but_last (early ++ s ∷ []) ≡ early
@@ -149,10 +154,11 @@ empty_is [] h = refl
 empty_is (m ∷ ms) h = cc
 
 -- the end of a complete sub-run leaves each unit with its fate
-end_fates : (p : Settings) (over : Bool) (now : ℕ) (run : List Happening) (e : Entry) (k : ℕ) → Holds p over now run
-    → k < units_in p → is_complete (board_of p over now run) ≡ true
-    → HasFate p (said now e (run_turn p (board_of p over now run) End) ∷ run) k
-end_fates p over now run e k h below complete =
+ended_fate : (p : Settings) (f : Frame) (now : ℕ) (run : List Happening) (e : Entry) (k : ℕ) → Holds p now run
+    → k < units_in p → is_complete (board_of p f now run) ≡ true
+    → (tells after : Option ReporterEvent) (over : Bool) → IsBound tells → IsBoundAfter after
+    → HasFate p (said now e (bound_deed tells after false true over) ∷ run) k
+ended_fate p f now run e k h below complete tells after over own later =
     let all : list_all is_done (units p run) ≡ true =
     second_so (is_empty (queue run)) (list_all is_done (units p run)) complete in
     let empty : queue run ≡ [] = empty_is (queue run)
@@ -170,40 +176,49 @@ end_fates p over now run e k h below complete =
     (fate_of (is_mismatched p k) (way_of k run) (unit_terms p k) (unit_of k run) (story_of k run)
     (account_of k (told run)) done (h.on_way k) made told_all) in
     record {
-      account = filter_map-append (news_of k) (told run) _ ∙ append-nil (account_of k (told run)) ∙ fate.0;
+      account = nothing_more ∙ fate.0;
       finished = fate.1;
       left = fate.2;
       ended = going_none (unit_terms p k) (unit_of k run) (story_of k run) done made;
-      once = ap told_ended (filter_map-append (news_of k) (told run) _ ∙ append-nil (account_of k (told run)))
+      once = ap told_ended (nothing_more)
           ∙ all_told (is_mismatched p k) (was_left k run) (unit_of k run) (statuses_of p k run) (account_of k (told run)) done
           told_all (λ u is. own_statuses u is made);
       each = each_of (is_mismatched p k) (way_of k run) (unit_terms p k) (unit_of k run) (story_of k run)
           (account_of k (told run)) done (h.on_way k) made told_all;
     }
   where
+    nothing_more : account_of k (told run ++ (option_to_list tells ++ option_to_list after)) ≡ account_of k (told run)
+    nothing_more =
+        filter_map-append (news_of k) (told run) (option_to_list tells ++ option_to_list after)
+        ∙ ap (λ ns. account_of k (told run) ++ ns) (bounds_news k tells after own later)
+        ∙ append-nil (account_of k (told run))
+
     own_statuses : (u : UnitView) → unit_of k run ≡ Some u → IsMadeIf (unit_terms p k) (unit_of k run) (story_of k run)
         → u.statuses ≡ statuses_of p k run
     own_statuses u is made =
         made_statuses (unit_terms p k) u (pieces (story_of k run))
         (subst (λ v. IsMadeIf (unit_terms p k) v (story_of k run)) is made)
 
+end_fates : (p : Settings) (f : Frame) (now : ℕ) (run : List Happening) (e : Entry) (k : ℕ) → Holds p now run
+    → k < units_in p → is_complete (board_of p f now run) ≡ true
+    → HasFate p (said now e (run_turn p (board_of p f now run) End) ∷ run) k
+end_fates p f now run e k h below complete =
+    end_cases (λ d. HasFate p (said now e d ∷ run) k) (ended_fate p f now run e k h below complete) now
+    (board_of p f now run).dispatcher
+
 -- each unit has its fate in the sub-run that a turn ends
 ends_fates : (p : Settings) (past : List Happening) (e : Entry) (j : ℕ) → HoldsAfter p past
     → IsTrue (enabled p past e.turn)
     → (happening p past e).ends ≡ true → j < units_in p → HasFate p (sub_run (happening p past e ∷ past)) j
-ends_fates p past e j h en ends below =
-    let end = (does_after p past e h en).marks.ends ends in by_run end (where_joins p past e h en)
+ends_fates p past e j h en ends below = by_run (where_joins p past e h en)
   where
-    b : Board
-    b = board_of p (is_over past) (clock past) (sub_run past)
-
-    by_run : (deed_on p (board p past) e.turn ≡ run_turn p b End) × (is_complete b ≡ true)
-        → IsOfRun p past e ⊎ IsBeforeRuns p past e → HasFate p (sub_run (happening p past e ∷ past)) j
-    by_run end (inl of) =
+    by_run : IsOfRun p past e ⊎ IsBeforeRuns p past e → HasFate p (sub_run (happening p past e ∷ past)) j
+    by_run (inl of) =
+        let end = of.does.marks.ends ends in
         subst (λ run. HasFate p run j) (sym of.joins)
-        (subst (λ d. HasFate p (said (clock past) e d ∷ sub_run past) j) (sym end.0)
-        (end_fates p (is_over past) (clock past) (sub_run past) e j h.run below end.1))
-    by_run end (inr before) =
+        (subst (λ d. HasFate p (said (clock past) e d ∷ of.base) j) (sym end.0)
+        (end_fates p (frame_of p past) (clock past) of.base e j of.holds below end.1))
+    by_run (inr before) =
         let never : false ≡ true = sym (ap (λ (d : Deed). d.ends) before.idle) ∙ ends in cc
 
 -- each unit has its fate in each sub-run that has ended
@@ -247,8 +262,8 @@ over_ended p (e ∷ before) legal over =
         (first_so (not (is_over past)) (takes_turn p (board p past) e.turn (turn_of_unit e.turn)) legal.0)
 
     ends : (happening p past e).ends ≡ true
-    ends = sym (does_after p past e (holds p before legal.2) legal.0).marks.finishes
-        ∙ first_holds (happening p past e).over (is_over past) over going
+    ends = (does_after p past e (holds p before legal.2) legal.0).marks.finishes
+        (first_holds (happening p past e).over (is_over past) over going)
 
 -- so where the run is over each unit has its fate in its newest sub-run
 pub fates : (p : Settings) (backward : List Entry) → IsLegalBackward p backward → is_over (history p backward) ≡ true

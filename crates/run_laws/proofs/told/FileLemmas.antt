@@ -44,7 +44,7 @@ use Rattle.run_model.specs.Words.{clock, delivered, is_over, sent, sub_run, tall
 use Rattle.run_laws.specs.Scripts.{IsToldAsRead, script_told, script_told_in}
 use Rattle.run_laws.specs.Starts.{env_said}
 use Rattle.run_laws.proofs.units.AccountLemmas.{IsFirst}
-use Rattle.run_laws.proofs.told.Cancels.{IsCancel, IsCancelKind, cancel_is}
+use Rattle.run_laws.proofs.told.Cancels.{IsAfter, IsAfterKind, cancel_is}
 use Rattle.run_laws.proofs.board.OnBoard.{moment_in}
 use Rattle.run_laws.proofs.board.DeedFits.{PartFits, IsInOrder, IsSentAs, Does}
 use Rattle.run_laws.proofs.units.FaceLemmas.{said_in, said_of}
@@ -57,6 +57,12 @@ use Rattle.run_laws.proofs.units.OpenRows.{IsReport}
 use Rattle.run_laws.proofs.units.Rows.{StaysOrGoes, Takes, answers, opens, decides, passes, again, continues}
 use Rattle.run_laws.proofs.units.Rows.{decide_cases, row_moves, row_passes, row_takes, takes_moment}
 use Rattle.run_laws.proofs.told.StartLemmas.{has_starts}
+use Rattle.run_laws.proofs.board.OnBoard.{Frame}
+use Rattle.run_laws.proofs.board.OnBoard.{frame_of}
+use Rattle.run_laws.proofs.board.DeedFits.{cancel_told}
+use Rattle.run_events.specs.declared.events.TestEventKind.TheVariants.{StressSubRunStarted}
+use Rattle.run_events.specs.declared.events.TestEventKind.TheVariants.{RunFinished}
+use Rattle.run_laws.proofs.board.Kept.{from_base}
 
 -- the finish of a script that a message has
 abbrev finish_said : Message → Option ScriptFinish
@@ -154,10 +160,10 @@ over_stays p now run e d finish fits it = record {
     kept : after ≡ unit_of finish.script.unit run
     kept = over_kept p run now finish.script.unit d.part it.over fits
 
-sent_over : (p : Settings) (over : Bool) (now : ℕ) (run : List Happening) (e : Entry) (d : Deed) → Holds p over now run
+sent_over : (p : Settings) (f : Frame) (now : ℕ) (run : List Happening) (e : Entry) (d : Deed) → Holds p now run
     → PartFits p now run d.part → IsSentAs now run d.part d.sent
     → IfSome (finish_if d.sent) (IsOverWith (said now e d ∷ run))
-sent_over p over now run e d h fits from = by_part d.part d.sent refl fits from
+sent_over p f now run e d h fits from = by_part d.part d.sent refl fits from
   where
     first : (skipped : Bool) (u : UnitView) (m : Message) → IsFirst skipped u m → finish_said m ≡ None
     first true u m (ph, (t, (role, (reason, is)))) = ap finish_said is
@@ -181,7 +187,8 @@ sent_over p over now run e d h fits from = by_part d.part d.sent refl fits from
         own : IfSome (finish_if (row now turn u).sent) (IsFinishOf (at_moment now u) (row now turn u).next)
         own = row_finishes now u.phase turn (at_moment now u) refl (takes_moment now u.phase u turn taken.takes)
 
-        by_sent : (o : Option Message) → o ≡ (row now turn u).sent → IfSome (finish_if o) (IsOverWith (said now e d ∷ run))
+        by_sent : (o : Option Message) → o ≡ (row now turn u).sent
+            → IfSome (finish_if o) (IsOverWith (said now e d ∷ run))
         by_sent o same = by_finish (finish_if o)
             (subst (λ o. IfSome (finish_if o) (IsFinishOf (at_moment now u) (row now turn u).next)) (sym same) own)
           where
@@ -218,28 +225,30 @@ told_said (Test event) finish is = by_kind event.kind is
     by_kind (SetupScriptFinished other) is = ap (λ f. Some (FinishMessage f)) (same_Some _ _ is)
     by_kind kind is = cc
 
-cancel_none : (e : ReporterEvent) → IsCancel (Some e) → script_told e ≡ None
+cancel_none : (e : ReporterEvent) → IsAfter (Some e) → script_told e ≡ None
 cancel_none Tick h = absurd h
 cancel_none (Test event) h = by_kind event.kind h
   where
-    by_kind : (kind : TestEventKind) → IsCancelKind kind → script_told_in kind ≡ None
+    by_kind : (kind : TestEventKind) → IsAfterKind kind → script_told_in kind ≡ None
     by_kind (RunBeginCancel cancelled) h = refl
     by_kind (RunBeginKill cancelled) h = refl
+    by_kind (StressSubRunStarted progress) h = refl
+    by_kind (RunFinished finished) h = refl
     by_kind kind h = absurd h
 
-finishes-cons : (p : Settings) (over : Bool) (now : ℕ) (run : List Happening) (e : Entry) (d : Deed)
-    → Holds p over now run → Does p over now run d → HasFinishes run → HasFinishes (said now e d ∷ run)
-finishes-cons p over now run e d h does was = record {
+finishes-cons : (p : Settings) (f : Frame) (now : ℕ) (run : List Happening) (e : Entry) (d : Deed)
+    → Holds p now run → Does p f now run d → HasFinishes run → HasFinishes (said now e d ∷ run)
+finishes-cons p f now run e d h does was = record {
   sends = All-append (λ m. IfSome (finish_said m) Later) (sent run) (option_to_list d.sent)
       (All-weaker (λ m. IfSome (finish_said m) (IsOverWith run)) (λ m. IfSome (finish_said m) Later)
       (λ m it. stays (finish_said m) it) (sent run) was.sends)
-      (by_sent d.sent (sent_over p over now run e d h does.part does.sent_as));
+      (by_sent d.sent (sent_over p f now run e d h does.part does.sent_as));
   tells = All-append (λ x. IfSome (script_told x) Later) (told run) (deed_events d)
       (All-weaker (λ x. IfSome (script_told x) (IsOverWith run)) (λ x. IfSome (script_told x) Later)
       (λ x it. stays (script_told x) it) (told run) was.tells)
-      (All-append (λ x. IfSome (script_told x) Later) (option_to_list d.told) (option_to_list d.cancel)
-      (by_told d.told does.order) (by_cancel d.cancel
-      (subst IsCancel (sym does.marks.cancel) (cancel_is (moment_in now run) (having_told (tally p run) d.told) d.cause))));
+      (All-append (λ x. IfSome (script_told x) Later) (option_to_list d.told) (option_to_list d.after)
+      (by_told d.told does.order) (by_cancel d.after
+      (cancel_told p f now run d does.marks)));
 }
   where
     Later : ScriptFinish → Type 0
@@ -249,7 +258,8 @@ finishes-cons p over now run e d h does was = record {
     stays None it = tt
     stays (Some finish) it = over_stays p now run e d finish does.part it
 
-    by_sent : (o : Option Message) → IfSome (finish_if o) Later → All (λ m. IfSome (finish_said m) Later) (option_to_list o)
+    by_sent : (o : Option Message) → IfSome (finish_if o) Later
+        → All (λ m. IfSome (finish_said m) Later) (option_to_list o)
     by_sent None it = All-nil (λ m. IfSome (finish_said m) Later)
     by_sent (Some m) it = All-cons (λ m. IfSome (finish_said m) Later) m [] it (All-nil (λ m. IfSome (finish_said m) Later))
 
@@ -269,7 +279,7 @@ finishes-cons p over now run e d h does was = record {
     by_told (Some x) order = All-cons (λ x. IfSome (script_told x) Later) x [] (one x (script_told x) refl order)
         (All-nil (λ x. IfSome (script_told x) Later))
 
-    by_cancel : (o : Option ReporterEvent) → IsCancel o → All (λ x. IfSome (script_told x) Later) (option_to_list o)
+    by_cancel : (o : Option ReporterEvent) → IsAfter o → All (λ x. IfSome (script_told x) Later) (option_to_list o)
     by_cancel None none = All-nil (λ x. IfSome (script_told x) Later)
     by_cancel (Some x) none = All-cons (λ x. IfSome (script_told x) Later) x []
         (subst (λ o. IfSome o Later) (sym (cancel_none x none)) tt) (All-nil (λ x. IfSome (script_told x) Later))
@@ -293,8 +303,8 @@ has_finishes p (e ∷ before) legal = one_more (has_finishes p before legal.2) (
       where
         by_run : IsOfRun p past e ⊎ IsBeforeRuns p past e → HasFinishes (sub_run (history p (e ∷ before)))
         by_run (inl of) = subst HasFinishes (sym of.joins)
-            (finishes-cons p (is_over past) (clock past) (sub_run past) e (deed_on p (board p past) e.turn) h.run
-            (does_after p past e h legal.0) has)
+            (finishes-cons p (frame_of p past) (clock past) of.base e (deed_on p (board p past) e.turn) of.holds of.does
+            (from_base HasFinishes p past e of finishes-none has))
         by_run (inr none) = subst HasFinishes (sym none.still) finishes-none
 
 pub told_as_read : (p : Settings) (backward : List Entry) → IsLegalBackward p backward

@@ -33,7 +33,7 @@ use Rattle.run_model.specs.Turns.{deed_on}
 use Rattle.run_model.specs.Words.{clock, delivered, ended_runs, finishes, is_over, queue, sent, starts, starts_in}
 use Rattle.run_model.specs.Words.{sub_run, tally, told, unit_of}
 use Rattle.run_laws.specs.Scripts.{ComeFirst, HasScriptFate, starts_test, starts_test_in}
-use Rattle.run_laws.proofs.told.Cancels.{IsCancel, cancel_is, cancel_apart}
+use Rattle.run_laws.proofs.told.Cancels.{IsAfter, cancel_is, cancel_apart}
 use Rattle.run_laws.proofs.board.OnBoard.{moment_in}
 use Rattle.run_laws.proofs.board.DeedFits.{Does, IsInOrder, ToldFits, ToldFitsIn, starts_script_in}
 use Rattle.run_laws.proofs.told.FateLemmas.{ended_fates}
@@ -44,6 +44,10 @@ use Rattle.run_laws.proofs.units.OneOff.{matches, no_retries_of, script_way}
 use Rattle.run_laws.proofs.board.Order.{is_of_script, AreSettled, oldest_not}
 use Rattle.run_laws.proofs.board.Ordered.{cancel_starts}
 use Rattle.run_laws.proofs.told.Running.{is_finish, is_start, finishes-account, starts-account}
+use Rattle.run_laws.proofs.board.OnBoard.{Frame}
+use Rattle.run_laws.proofs.board.OnBoard.{frame_of}
+use Rattle.run_laws.proofs.board.DeedFits.{cancel_told}
+use Rattle.run_laws.proofs.board.Kept.{from_base}
 
 -- a place in events with one more is the new one, or one among them
 split_last : (es before after : List ReporterEvent) (x e : ReporterEvent) → es ++ x ∷ [] ≡ before ++ e ∷ after
@@ -52,7 +56,8 @@ split_last [] [] after x e is = inl (refl, cc)
 split_last (y ∷ es) [] after x e is = inr (es, cc)
 split_last [] (b ∷ before) after x e is = absurd (nothing before e after cc)
   where
-    nothing : (before : List ReporterEvent) (e : ReporterEvent) (after : List ReporterEvent) → [] ≡ before ++ e ∷ after → ⊥
+    nothing : (before : List ReporterEvent) (e : ReporterEvent) (after : List ReporterEvent)
+        → [] ≡ before ++ e ∷ after → ⊥
     nothing [] e after is = cc
     nothing (b ∷ before) e after is = cc
 split_last (y ∷ es) (b ∷ before) after x e is = by_rest (split_last es before after x e cc)
@@ -65,8 +70,8 @@ split_last (y ∷ es) (b ∷ before) after x e is = by_rest (split_last es befor
     by_rest (inl last) = inl (ap (λ es. b ∷ es) last.0 ∙ ap (λ c. c ∷ es) (sym same), last.1)
     by_rest (inr found) = inr (found.0, ap (λ es. y ∷ es) found.1 ∙ ap (λ c. c ∷ before ++ e ∷ found.0) same)
 
--- what holds of events holds of one more, which is of no script where it is a test's start or one was told before, and before
--- which each script that was told started is told finished where it is a test's start
+-- what holds of events holds of one more, which is of no script where it is a test's start or one was told before, and
+-- before which each script that was told started is told finished where it is a test's start
 some_more : (f : ReporterEvent → Bool) (es : List ReporterEvent) (x : ReporterEvent) → list_any f (es ++ x ∷ []) ≡ true
     → f x ≡ false → list_any f es ≡ true
 some_more f es x some none = by_last (list_any f es) (sym (list_any-append f es (x ∷ [])) ∙ some)
@@ -162,9 +167,10 @@ not_left Over attempt (s ∷ ss) w last (at, way) = by_stop w.stopped way
 not_left ph attempt ss w last h = cc
 
 -- so each script that was told started is told finished once no message of a script waits and each is over
-pub settled_finished : (p : Settings) (over : Bool) (now : ℕ) (run : List Happening) (k : ℕ) → Holds p over now run
-    → AreSettled p run → k < scripts_in p → list_any (starts k) (told run) ≡ true → list_any (finishes k) (told run) ≡ true
-settled_finished p over now run k h (none, all) below some =
+pub settled_finished : (p : Settings) (f : Frame) (now : ℕ) (run : List Happening) (k : ℕ) → Holds p now run
+    → AreSettled p run → k < scripts_in p → list_any (starts k) (told run) ≡ true
+    → list_any (finishes k) (told run) ≡ true
+settled_finished p f now run k h (none, all) below some =
     finishes-account k (told run)
     ∙ by_unit (unit_of k run) refl (all k below) (h.accounts k) (sym (starts-account k (told run)) ∙ some)
   where
@@ -186,7 +192,7 @@ settled_finished p over now run k h (none, all) below some =
         (matches p k script) a))) some
       where
         left : was_left k run ≡ false
-        left = not_left u.phase u.attempt u.statuses (way_of k run) done (script_way p over now run k u h is script)
+        left = not_left u.phase u.attempt u.statuses (way_of k run) done (script_way p now run k u h is script)
 
 -- a test's start is of no script, and no script's start comes after one
 test_apart : (p : Settings) (k n : ℕ) → k < scripts_in p → scripts_in p ≤ n → (n == k) ≡ false
@@ -208,23 +214,23 @@ start_apart p run k (Test e) below fits order test = by_kind e.kind fits order.s
     by_kind kind fits early test = refl
 
 -- what holds of the events told after one more deed
-first_after : (p : Settings) (over : Bool) (now : ℕ) (run : List Happening) (d : Deed) → Holds p over now run
-    → Does p over now run d → ComeFirst p (told run) → ComeFirst p (told run ++ deed_events d)
-first_after p over now run d h does first =
-    subst (ComeFirst p) (append_assoc (told run) (option_to_list d.told) (option_to_list d.cancel))
-    (with_cancel (told run ++ option_to_list d.told) d.cancel cancels (with_own d.told does.tells does.order))
+first_after : (p : Settings) (f : Frame) (now : ℕ) (run : List Happening) (d : Deed) → Holds p now run
+    → Does p f now run d → ComeFirst p (told run) → ComeFirst p (told run ++ deed_events d)
+first_after p f now run d h does first =
+    subst (ComeFirst p) (append_assoc (told run) (option_to_list d.told) (option_to_list d.after))
+    (with_cancel (told run ++ option_to_list d.told) d.after cancels (with_own d.told does.tells does.order))
   where
-    cancels : IsCancel d.cancel
-    cancels = subst IsCancel (sym does.marks.cancel) (cancel_is (moment_in now run) (having_told (tally p run) d.told) d.cause)
+    cancels : IsAfter d.after
+    cancels = cancel_told p f now run d does.marks
 
     with_own : (o : Option ReporterEvent) → ToldFits p (told run) o → IfSome o (IsInOrder p run)
         → ComeFirst p (told run ++ option_to_list o)
     with_own None fits order = subst (ComeFirst p) (sym (append-nil (told run))) first
     with_own (Some x) fits order = first_more p (told run) x first
-        (λ test k below some. settled_finished p over now run k h (order.test test) below some)
+        (λ test k below some. settled_finished p f now run k h (order.test test) below some)
         (λ k below test. start_apart p run k x below fits order test)
 
-    with_cancel : (es : List ReporterEvent) (o : Option ReporterEvent) → IsCancel o → ComeFirst p es
+    with_cancel : (es : List ReporterEvent) (o : Option ReporterEvent) → IsAfter o → ComeFirst p es
         → ComeFirst p (es ++ option_to_list o)
     with_cancel es None none first = subst (ComeFirst p) (sym (append-nil es)) first
     with_cancel es (Some x) none first = first_more p es x first
@@ -243,14 +249,15 @@ come_first p (e ∷ before) legal = one_more (come_first p before legal.2) (hold
     past : List Happening
     past = history p before
 
-    one_more : ComeFirst p (told (sub_run past)) → HoldsAfter p past → ComeFirst p (told (sub_run (history p (e ∷ before))))
+    one_more : ComeFirst p (told (sub_run past)) → HoldsAfter p past
+        → ComeFirst p (told (sub_run (history p (e ∷ before))))
     one_more first h = by_run (where_joins p past e h legal.0)
       where
         by_run : IsOfRun p past e ⊎ IsBeforeRuns p past e → ComeFirst p (told (sub_run (history p (e ∷ before))))
         by_run (inl of) =
             subst (λ run. ComeFirst p (told run)) (sym of.joins)
-            (first_after p (is_over past) (clock past) (sub_run past) (deed_on p (board p past) e.turn) h.run
-            (does_after p past e h legal.0) first)
+            (first_after p (frame_of p past) (clock past) of.base (deed_on p (board p past) e.turn) of.holds of.does
+            (from_base (λ run. ComeFirst p (told run)) p past e of (first_none p) first))
         by_run (inr none) = subst (λ run. ComeFirst p (told run)) (sym none.still) (first_none p)
 
 -- and each script has its fate

@@ -61,7 +61,8 @@ begun ss = record {
 }
 
 -- the last one wasn't told, or was as one that failed, or with the finish
-waiting : (early ss : List ExecuteStatus) (s : ExecuteStatus) → ss ≡ early ++ s ∷ [] → TellsOnce (started ∷ tried early) ss
+waiting : (early ss : List ExecuteStatus) (s : ExecuteStatus) → ss ≡ early ++ s ∷ []
+    → TellsOnce (started ∷ tried early) ss
 waiting early ss s e = record {
   once = (s ∷ [], e ∙ sym (ap (λ ts. ts ++ s ∷ []) (all_tried early)));
   finish = rw (none_finished early) tt;

@@ -34,9 +34,9 @@ use Rattle.run_model.specs.Attempts.{pieces_of}
 use Rattle.run_model.specs.Words.{asked, delivered, sent, told, tally, unit_after, unit_of, units}
 use Rattle.run_laws.specs.Starts.{start_for, starts_by, starts_asked, start_told, start_told_in}
 use Rattle.run_laws.proofs.units.AccountLemmas.{IsFirst}
-use Rattle.run_laws.proofs.told.Cancels.{IsCancel, IsCancelKind, cancel_is}
+use Rattle.run_laws.proofs.told.Cancels.{IsAfter, IsAfterKind, cancel_is}
 use Rattle.run_laws.proofs.board.OnBoard.{moment_in}
-use Rattle.run_laws.proofs.board.DeedFits.{asked_by, PartFits, IsInOrder, IsSentAs, Does}
+use Rattle.run_laws.proofs.board.DeedFits.{asked_by, PartFits, IsInOrder, IsSentAs, Does, cancel_told}
 use Rattle.run_laws.proofs.units.FaceLemmas.{face, face_reach, face_row, message_face, starts_in, is_start}
 use Rattle.run_laws.proofs.units.FaceLemmas.{SendsNoStart, row_sends_none, said_in, said_of, handed-to, given-same}
 use Rattle.run_laws.proofs.board.Facts.{itself}
@@ -47,6 +47,10 @@ use Rattle.run_laws.proofs.board.Ordered.{board_over, over_kept}
 use Rattle.run_laws.proofs.units.Rows.{takes_moment}
 use Rattle.run_laws.proofs.told.PlannedTurns.{IsPlannedIf, IsStartOfUnit, HasStarts, asked_after, read_reach}
 use Rattle.run_laws.proofs.told.PlannedTurns.{read_after}
+use Rattle.run_laws.proofs.board.OnBoard.{Frame}
+use Rattle.run_model.specs.Admission.{index_of_role}
+use Rattle.run_events.specs.declared.events.TestEventKind.TheVariants.{StressSubRunStarted}
+use Rattle.run_events.specs.declared.events.TestEventKind.TheVariants.{RunFinished}
 
 -- a unit that was admitted keeps its face
 face_after : (p : Settings) (run : List Happening) (now k : ℕ) (part : Option UnitPart) (v : UnitView)
@@ -90,7 +94,8 @@ handed_reach None v = refl
 handed_reach (Some request) None = refl
 handed_reach (Some request) (Some u) = by_live (is_live u.phase)
   where
-    by_live : (b : Bool) → handed_by (Some (if b then record u { line = u.line ++ request ∷ [] } else u)) ≡ handed_by (Some u)
+    by_live : (b : Bool)
+        → handed_by (Some (if b then record u { line = u.line ++ request ∷ [] } else u)) ≡ handed_by (Some u)
     by_live true = refl
     by_live false = refl
 
@@ -113,7 +118,7 @@ planned_kept p now run e d k u all fits (inr test) = inr (record {
   slot = test.slot;
   kind = test.kind;
   planned = test.planned;
-  is = test.is ∙ ap (λ vs. first_view p k test.slot vs test.test) (handed_kept p now run e d test.test (all test.kind) fits);
+  is = test.is ∙ ap (λ vs. first_view p (index_of_role u.role) k test.slot vs test.test) (handed_kept p now run e d test.test (all test.kind) fits);
 })
 
 planned_face : (p : Settings) (us : List (Option UnitView)) (k : ℕ) (u : UnitView) → IsPlanned p us k u
@@ -132,11 +137,11 @@ planned_face p us k u (inr test) = inr (record {
   is = ap face test.is;
 })
 
-planned_after : (p : Settings) (over : Bool) (now : ℕ) (run : List Happening) (e : Entry) (d : Deed) (k : ℕ)
-    → Holds p over now run → PartFits p now run d.part → is_mismatched p k ≡ false
+planned_after : (p : Settings) (f : Frame) (now : ℕ) (run : List Happening) (e : Entry) (d : Deed) (k : ℕ)
+    → Holds p now run → PartFits p now run d.part → is_mismatched p k ≡ false
     → IsPlannedIf p (units p run) k (option_map face (unit_of k run))
     → IsPlannedIf p (units p (said now e d ∷ run)) k (option_map face (unit_of k (said now e d ∷ run)))
-planned_after p over now run e d k h fits matched was =
+planned_after p f now run e d k h fits matched was =
     subst (IsPlannedIf p (units p (said now e d ∷ run)) k)
     (sym (face_reach d.request (unit_after now k d.part (unit_of k run)))) (by_part d.part refl fits)
   where
@@ -153,7 +158,8 @@ planned_after p over now run e d k h fits matched was =
     by_part None is none = kept (unit_of k run) refl was
     by_part (Some (Joins first)) is (first_sent, new) = by_unit (number first == k) refl
       where
-        by_unit : (b : Bool) → (number first == k) ≡ b → Later (option_map face (if b then Some first else unit_of k run))
+        by_unit : (b : Bool) → (number first == k) ≡ b
+            → Later (option_map face (if b then Some first else unit_of k run))
         by_unit false at = kept (unit_of k run) refl was
         by_unit true at =
             let here : number first ≡ k = grind arith in
@@ -170,10 +176,11 @@ planned_after p over now run e d k h fits matched was =
         by_unit true = subst Later (sym (face_row now turn (unit_of k run))) (kept (unit_of k run) refl was)
 
 -- a start that is sent is that of the unit that joins
-sent_after : (p : Settings) (over : Bool) (now : ℕ) (run : List Happening) (e : Entry) (d : Deed) → PartFits p now run d.part
+sent_after : (p : Settings) (f : Frame) (now : ℕ) (run : List Happening) (e : Entry) (d : Deed)
+    → PartFits p now run d.part
     → IsSentAs now run d.part d.sent
     → All (λ m. is_start m ≡ true → IsStartOfUnit p (said now e d ∷ run) m) (option_to_list d.sent)
-sent_after p over now run e d fits from = by_sent d.part d.sent refl fits from
+sent_after p f now run e d fits from = by_sent d.part d.sent refl fits from
   where
     x : Happening
     x = said now e d
@@ -211,7 +218,8 @@ sent_after p over now run e d fits from = by_sent d.part d.sent refl fits from
         joined true e = refl
         joined false e = cc
 
-    by_sent : (part : Option UnitPart) (o : Option Message) → d.part ≡ part → PartFits p now run part → IsSentAs now run part o
+    by_sent : (part : Option UnitPart) (o : Option Message) → d.part ≡ part → PartFits p now run part
+        → IsSentAs now run part o
         → All Fine (option_to_list o)
     by_sent part None is fits from = All-nil Fine
     by_sent part (Some m) is fits from = All-cons Fine m [] (one part m is fits from) (All-nil Fine)
@@ -235,20 +243,24 @@ started_said (Test event) m is = by_kind event.kind is
     by_kind (TestStarted start) is = is
     by_kind kind is = cc
 
-cancel_told : (e : ReporterEvent) → IsCancel (Some e) → start_told e ≡ None
-cancel_told Tick h = absurd h
-cancel_told (Test event) h = by_kind event.kind h
+cancel_none : (e : ReporterEvent) → IsAfter (Some e) → start_told e ≡ None
+cancel_none Tick h = absurd h
+cancel_none (Test event) h = by_kind event.kind h
   where
-    by_kind : (kind : TestEventKind) → IsCancelKind kind → start_told_in kind ≡ None
+    by_kind : (kind : TestEventKind) → IsAfterKind kind → start_told_in kind ≡ None
     by_kind (RunBeginCancel cancelled) h = refl
     by_kind (RunBeginKill cancelled) h = refl
+    by_kind (StressSubRunStarted progress) h = refl
+    by_kind (RunFinished finished) h = refl
     by_kind kind h = absurd h
 
-told_after : (p : Settings) (over : Bool) (now : ℕ) (run : List Happening) (e : Entry) (d : Deed) → PartFits p now run d.part
-    → All (λ m. is_start m ≡ true → IsStartOfUnit p run m) (sent run) → IfSome d.told (IsInOrder p run) → IsCancel d.cancel
+told_after : (p : Settings) (f : Frame) (now : ℕ) (run : List Happening) (e : Entry) (d : Deed)
+    → PartFits p now run d.part
+    → All (λ m. is_start m ≡ true → IsStartOfUnit p run m) (sent run) → IfSome d.told (IsInOrder p run)
+    → IsAfter d.after
     → All (λ x. IfSome (start_told x) (IsStartOfUnit p (said now e d ∷ run))) (deed_events d)
-told_after p over now run e d fits starts order cancels =
-    All-append Fine (option_to_list d.told) (option_to_list d.cancel) (by_told d.told order) (by_cancel d.cancel cancels)
+told_after p f now run e d fits starts order cancels =
+    All-append Fine (option_to_list d.told) (option_to_list d.after) (by_told d.told order) (by_cancel d.after cancels)
   where
     Fine : ReporterEvent → Type 0
     Fine x = IfSome (start_told x) (IsStartOfUnit p (said now e d ∷ run))
@@ -268,10 +280,10 @@ told_after p over now run e d fits starts order cancels =
     by_told None order = All-nil Fine
     by_told (Some x) order = All-cons Fine x [] (one x (start_told x) refl order) (All-nil Fine)
 
-    by_cancel : (o : Option ReporterEvent) → IsCancel o → All Fine (option_to_list o)
+    by_cancel : (o : Option ReporterEvent) → IsAfter o → All Fine (option_to_list o)
     by_cancel None none = All-nil Fine
     by_cancel (Some x) none =
-        All-cons Fine x [] (subst (λ o. IfSome o (IsStartOfUnit p (said now e d ∷ run))) (sym (cancel_told x none)) tt)
+        All-cons Fine x [] (subst (λ o. IfSome o (IsStartOfUnit p (said now e d ∷ run))) (sym (cancel_none x none)) tt)
         (All-nil Fine)
 
 -- what was asked after one more deed
@@ -281,31 +293,31 @@ asked_one k n None = refl
 asked_one k n (Some ask) = refl
 
 -- so all of that holds after one more deed
-pub starts-cons : (p : Settings) (over : Bool) (now : ℕ) (run : List Happening) (e : Entry) (d : Deed)
-    → Holds p over now run → Does p over now run d → (d.stops ≡ true → d.part ≡ None) → HasStarts p run
+pub starts-cons : (p : Settings) (f : Frame) (now : ℕ) (run : List Happening) (e : Entry) (d : Deed)
+    → Holds p now run → Does p f now run d → (d.stops ≡ true → d.part ≡ None) → HasStarts p run
     → HasStarts p (said now e d ∷ run)
-starts-cons p over now run e d h does alone was = record {
+starts-cons p f now run e d h does alone was = record {
   asked = λ k. filter_map-append (λ (a : ℕ × Ask). start_for k a.1) (asked run)
       (map (λ ask. (length run, ask)) (option_to_list d.asked))
       ∙ ap (λ s. starts_asked k run ++ s) (asked_one k (length run) d.asked
       ∙ ap (starts_in k) does.asks ∙ by_stop k d.stops refl)
-      ∙ asked_after p over now run k d.part h does.part (was.asked k)
+      ∙ asked_after p f now run k d.part h does.part (was.asked k)
       ∙ sym (ap (λ v. starts_by v (length (pieces_of k (said now e d ∷ run))))
       (face_reach d.request (unit_after now k d.part (unit_of k run))));
   reads = λ k. read_reach d.request (unit_after now k d.part (unit_of k run)) _
-      (read_after p over now run k d.part h does.part (was.reads k));
-  planned = λ k matched. planned_after p over now run e d k h does.part matched (was.planned k matched);
+      (read_after p f now run k d.part h does.part (was.reads k));
+  planned = λ k matched. planned_after p f now run e d k h does.part matched (was.planned k matched);
   sent = All-append (λ m. is_start m ≡ true → IsStartOfUnit p (said now e d ∷ run) m) (sent run) (option_to_list d.sent)
       (All-weaker (λ m. is_start m ≡ true → IsStartOfUnit p run m)
       (λ m. is_start m ≡ true → IsStartOfUnit p (said now e d ∷ run) m)
       (λ m it starts. start_stays p now run e d m does.part (it starts)) (sent run) was.sent)
-      (sent_after p over now run e d does.part does.sent_as);
+      (sent_after p f now run e d does.part does.sent_as);
   told = All-append (λ x. IfSome (start_told x) (IsStartOfUnit p (said now e d ∷ run))) (told run) (deed_events d)
       (All-weaker (λ x. IfSome (start_told x) (IsStartOfUnit p run))
       (λ x. IfSome (start_told x) (IsStartOfUnit p (said now e d ∷ run)))
       (λ x it. stays (start_told x) it) (told run) was.told)
-      (told_after p over now run e d does.part was.sent does.order
-      (subst IsCancel (sym does.marks.cancel) (cancel_is (moment_in now run) (having_told (tally p run) d.told) d.cause)));
+      (told_after p f now run e d does.part was.sent does.order
+      (cancel_told p f now run d does.marks));
 }
   where
     by_stop : (k : ℕ) (b : Bool) → d.stops ≡ b

@@ -41,6 +41,7 @@ use Rattle.run_laws.proofs.board.Holds.{Holds}
 use Rattle.run_laws.proofs.board.Newcomers.{IsPlanned}
 use Rattle.run_laws.proofs.units.ReadLemmas.{is_given, HasRead, awaited_result, row_reads}
 use Rattle.run_laws.proofs.units.Rows.{row_starts_none, takes_moment}
+use Rattle.run_laws.proofs.board.OnBoard.{Frame}
 
 -- what came of its environment file is what its own turns say; of a unit that wasn't admitted there is none
 abbrev pub HasReadIf : Option UnitView → List OwnTurn → Type 0
@@ -97,14 +98,14 @@ next_attempt terms now ph (Answered true) u ps en begins h at = cc
 next_attempt terms now ph turn u ps en begins h at = cc
 
 -- the starts asked after a part
-pub asked_after : (p : Settings) (over : Bool) (now : ℕ) (run : List Happening) (k : ℕ) (part : Option UnitPart)
-    → Holds p over now run → PartFits p now run part
+pub asked_after : (p : Settings) (f : Frame) (now : ℕ) (run : List Happening) (k : ℕ) (part : Option UnitPart)
+    → Holds p now run → PartFits p now run part
     → starts_asked k run ≡ starts_by (option_map face (unit_of k run)) (length (pieces_of k run))
     → starts_asked k run ++ starts_in k (asked_by now run part)
     ≡ starts_by (option_map face (unit_after now k part (unit_of k run)))
     (length (pieces (option_to_list (own_turn k now part (line_of k run)) ++ story_of k run)))
-asked_after p over now run k None h fits was = append-nil (starts_asked k run) ∙ was
-asked_after p over now run k (Some (Joins first)) h (first_sent, new) was =
+asked_after p f now run k None h fits was = append-nil (starts_asked k run) ∙ was
+asked_after p f now run k (Some (Joins first)) h (first_sent, new) was =
     append-nil (starts_asked k run) ∙ by_unit (number first == k) refl
   where
     by_unit : (b : Bool) → (number first == k) ≡ b → starts_asked k run
@@ -116,7 +117,7 @@ asked_after p over now run k (Some (Joins first)) h (first_sent, new) was =
         let story : story_of k run ≡ [] = subst (λ v. IsMadeIf (unit_terms p k) v (story_of k run)) none (h.made k) in
         was ∙ ap (λ v. starts_by (option_map face v) (length (pieces_of k run))) none
         ∙ sym (ap (λ s. starts_by (Some (face first)) (length (pieces s))) story)
-asked_after p over now run k (Some (Acts j turn)) h taken was = by_unit (j == k) refl
+asked_after p f now run k (Some (Acts j turn)) h taken was = by_unit (j == k) refl
   where
     u : UnitView
     u = taken.unit
@@ -184,7 +185,8 @@ asked_after p over now run k (Some (Acts j turn)) h taken was = by_unit (j == k)
         (by_begin (begins_attempt turn) false refl (grind arith) ∙ none (begins_attempt turn))
         ∙ append-nil (starts_asked k run) ∙ was
       where
-        none : (b : Bool) → (if b then (if false then start_at w (attempt_to u.phase u.attempt) ∷ [] else []) else []) ≡ []
+        none : (b : Bool)
+            → (if b then (if false then start_at w (attempt_to u.phase u.attempt) ∷ [] else []) else []) ≡ []
         none true = refl
         none false = refl
 
@@ -219,21 +221,22 @@ first_read true u m (ph, more) env =
     subst (λ ph. HasRead ph u) (sym ph) (λ given. let never : false ≡ true = sym (ap is_given env) ∙ given in cc)
 first_read false u m (ph, is) env = subst (λ ph. HasRead ph u) (sym ph) (ap is_given env)
 
-pub read_after : (p : Settings) (over : Bool) (now : ℕ) (run : List Happening) (k : ℕ) (part : Option UnitPart)
-    → Holds p over now run → PartFits p now run part → HasReadIf (unit_of k run) (story_of k run)
+pub read_after : (p : Settings) (f : Frame) (now : ℕ) (run : List Happening) (k : ℕ) (part : Option UnitPart)
+    → Holds p now run → PartFits p now run part → HasReadIf (unit_of k run) (story_of k run)
     → HasReadIf (unit_after now k part (unit_of k run))
     (option_to_list (own_turn k now part (line_of k run)) ++ story_of k run)
-read_after p over now run k None h fits was = was
-read_after p over now run k (Some (Joins first)) h (first_sent, new) was = by_unit (number first == k) refl
+read_after p f now run k None h fits was = was
+read_after p f now run k (Some (Joins first)) h (first_sent, new) was = by_unit (number first == k) refl
   where
-    by_unit : (b : Bool) → (number first == k) ≡ b → HasReadIf (if b then Some first else unit_of k run) (story_of k run)
+    by_unit : (b : Bool) → (number first == k) ≡ b
+        → HasReadIf (if b then Some first else unit_of k run) (story_of k run)
     by_unit false e = was
     by_unit true e =
         let here : k ≡ number first = grind arith in
         let none : unit_of k run ≡ None = ap (λ k. unit_of k run) here ∙ new.unknown in
         let story : story_of k run ≡ [] = subst (λ v. IsMadeIf (unit_terms p k) v (story_of k run)) none (h.made k) in
         (new.env ∙ sym (ap env_said story), first_read _ first first_sent new.first new.env)
-read_after p over now run k (Some (Acts j turn)) h taken was = by_unit (j == k) refl
+read_after p f now run k (Some (Acts j turn)) h taken was = by_unit (j == k) refl
   where
     u : UnitView
     u = taken.unit

@@ -56,7 +56,8 @@ pub record DoesReport (terms : AttemptTerms) (k now : ℕ) (run : List Happening
 
 -- a deed that is no turn of a unit
 pub still_reports : (terms : AttemptTerms) (k now : ℕ) (run : List Happening) (d : Deed)
-    → own_turn k now d.part (line_of k run) ≡ None → signals_for k d.asked ≡ [] → reports_waiting k (option_to_list d.sent) ≡ []
+    → own_turn k now d.part (line_of k run) ≡ None → signals_for k d.asked ≡ []
+    → reports_waiting k (option_to_list d.sent) ≡ []
     → reports_told k (deed_events d) ++ reports_waiting k (drop (if d.taken then 1 else 0) (queue run))
     ≡ reports_waiting k (queue run)
     → DoesReport terms k now run d
@@ -132,7 +133,8 @@ pub told_report : (k : ℕ) (moment : Moment) (m : Message) (kind : TestEventKin
     → reports_told k (event moment kind ∷ []) ++ reports_waiting k rest ≡ reports_waiting k (m ∷ rest)
 told_report k moment m kind rest same = rw same (by_report (report_in k m))
   where
-    by_report : (o : Option SlowReport) → cons_option o [] ++ reports_waiting k rest ≡ cons_option o (reports_waiting k rest)
+    by_report : (o : Option SlowReport)
+        → cons_option o [] ++ reports_waiting k rest ≡ cons_option o (reports_waiting k rest)
     by_report None = refl
     by_report (Some report) = refl
 
@@ -185,7 +187,8 @@ stops_by_terms p k = by_kind (is_script p k)
     by_script None = refl
     by_script (Some script) = refl
 
-    by_kind : (b : Bool) → (if b then script_terms_if p (slice_get p.plan.scripts k) else terms_at p (k - scripts_in p)).stops
+    by_kind : (b : Bool)
+        → (if b then script_terms_if p (slice_get p.plan.scripts k) else terms_at p (k - scripts_in p)).stops
         ≡ sends_sigtstp p.interceptor
     by_kind true = by_script (slice_get p.plan.scripts k)
     by_kind false = by_place (slice_get p.plan.tests (k - scripts_in p))

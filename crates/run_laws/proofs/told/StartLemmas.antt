@@ -53,16 +53,23 @@ use Rattle.run_laws.proofs.board.Newcomers.{IsPlanned}
 use Rattle.run_laws.proofs.board.Order.{AreScriptsOver}
 use Rattle.run_laws.proofs.told.PlannedTurns.{HasStarts, IsStartOfUnit, HasReadIf, IsPlannedIf}
 use Rattle.run_laws.proofs.told.Planned.{starts-cons, starts-none}
+use Rattle.run_laws.proofs.told.Indexes.{AreIndexed, index_of_face, indexed}
+use Rattle.run_model.specs.SubRuns.{stress_index}
+use Rattle.run_model.specs.Admission.{index_of_role}
+use Rattle.run_events.specs.declared.stress.StressIndex.{StressIndex}
 use Rattle.run_laws.proofs.units.ReadLemmas.{is_given, HasRead}
 use Rattle.run_laws.proofs.told.Running.{is_start, starts-account}
 use Rattle.run_laws.proofs.told.Asides.{stops_alone}
+use Rattle.run_laws.proofs.board.OnBoard.{Frame}
+use Rattle.run_laws.proofs.board.OnBoard.{frame_of}
+use Rattle.run_laws.proofs.board.Kept.{from_base}
 
 -- a start that an event tells is that of a unit, and that of the plan
 abbrev IsToldOfUnit : Settings → List Happening → ReporterEvent → Type 0
 IsToldOfUnit p run e = IfSome (start_told e) (IsStartOfUnit p run)
 
-abbrev IsToldAsPlanned : Settings → List Happening → ReporterEvent → Type 0
-IsToldAsPlanned p run e = IfSome (start_told e) (IsPlannedStart p run)
+abbrev IsToldAsPlanned : Settings → Option StressIndex → List Happening → ReporterEvent → Type 0
+IsToldAsPlanned p index run e = IfSome (start_told e) (IsPlannedStart p index run)
 
 -- what a script that is over handed on is what it gives
 given_so : (env : ScriptEnv) (passed : Bool) → (is_given env ≡ true → passed ≡ true)
@@ -77,11 +84,12 @@ read_over : (ph : Phase) (u : UnitView) → is_last ph ≡ true → HasRead ph u
 read_over Over u last h = h
 read_over ph u last h = cc
 
-given_is : (p : Settings) (over : Bool) (now : ℕ) (run : List Happening) (i : ℕ) → Holds p over now run → HasStarts p run
+given_is : (p : Settings) (f : Frame) (now : ℕ) (run : List Happening) (i : ℕ) → Holds p now run → HasStarts p run
     → is_done (unit_of i run) ≡ true → given_by p i run ≡ handed_by (unit_of i run)
-given_is p over now run i h has done = by_unit (unit_of i run) refl done (h.made i) (has.reads i)
+given_is p f now run i h has done = by_unit (unit_of i run) refl done (h.made i) (has.reads i)
   where
-    by_unit : (v : Option UnitView) → unit_of i run ≡ v → is_done v ≡ true → IsMadeIf (unit_terms p i) v (story_of i run)
+    by_unit : (v : Option UnitView) → unit_of i run ≡ v → is_done v ≡ true
+        → IsMadeIf (unit_terms p i) v (story_of i run)
         → HasReadIf v (story_of i run) → given_by p i run ≡ handed_by v
     by_unit None is done made reads = cc
     by_unit (Some u) is done made (env, has) =
@@ -90,11 +98,11 @@ given_is p over now run i h has done = by_unit (unit_of i run) refl done (h.made
         ∙ ap (λ env. if has_passed (last_status u.statuses) then variables_of env else []) (sym env)
         ∙ given_so u.env (has_passed (last_status u.statuses)) (read_over u.phase u done has)
 
-given_handed : (p : Settings) (over : Bool) (now : ℕ) (run : List Happening) (test : PlanTest) → Holds p over now run
+given_handed : (p : Settings) (f : Frame) (now : ℕ) (run : List Happening) (test : PlanTest) → Holds p now run
     → HasStarts p run → AreScriptsOver p run → given_to p run test ≡ handed_to p (units p run) test
-given_handed p over now run test h has all =
+given_handed p f now run test h has all =
     given-same (λ i. given_by p i run) (λ i. handed_by (unit_of i run)) test.scripts 0 (scripts_in p)
-    (λ i below. given_is p over now run i h has (all i (omega arith)))
+    (λ i below. given_is p f now run i h has (all i (omega arith)))
     ∙ sym (handed-to p run test)
 
 -- the number of the unit whose start a message is
@@ -110,36 +118,36 @@ message_number v m is = by_role v.role ∙ ap number_said is
     by_role (roles.Test t) = refl
     by_role (roles.Script s) = refl
 
-face_named : (p : Settings) (over : Bool) (now : ℕ) (run : List Happening) (k : ℕ) (v : UnitView) → Holds p over now run
+face_named : (p : Settings) (f : Frame) (now : ℕ) (run : List Happening) (k : ℕ) (v : UnitView) → Holds p now run
     → option_map face (unit_of k run) ≡ Some v → number v ≡ k
-face_named p over now run k v h is = by_unit (unit_of k run) refl is
+face_named p f now run k v h is = by_unit (unit_of k run) refl is
   where
     by_unit : (w : Option UnitView) → unit_of k run ≡ w → option_map face w ≡ Some v → number v ≡ k
     by_unit None at is = cc
     by_unit (Some u) at is = sym (ap number (same_Some _ _ is)) ∙ (h.named k u at).0
 
-start_number : (p : Settings) (over : Bool) (now : ℕ) (run : List Happening) (m : Message) → Holds p over now run
+start_number : (p : Settings) (f : Frame) (now : ℕ) (run : List Happening) (m : Message) → Holds p now run
     → (it : IsStartOfUnit p run m) → it.unit ≡ number_said m
-start_number p over now run m h it =
-    sym (face_named p over now run it.unit it.view h it.is) ∙ message_number it.view m it.sent
+start_number p f now run m h it =
+    sym (face_named p f now run it.unit it.view h it.is) ∙ message_number it.view m it.sent
 
 -- a test that was told started was told so in its slots
 abbrev slot_said : Message → TestSlotAssignment
 slot_said (Start start) = start.slot
 slot_said _ = global_slot 0
 
-slots_one : (p : Settings) (over : Bool) (now : ℕ) (run : List Happening) (k : ℕ) (slot : TestSlotAssignment)
-    (vs : List Variable) (test : PlanTest) (e : ReporterEvent) → Holds p over now run
-    → option_map face (unit_of k run) ≡ Some (first_view p k slot vs test)
+slots_one : (p : Settings) (f : Frame) (now : ℕ) (run : List Happening) (k : ℕ) (index : Option StressIndex)
+    (slot : TestSlotAssignment) (vs : List Variable) (test : PlanTest) (e : ReporterEvent) → Holds p now run
+    → option_map face (unit_of k run) ≡ Some (first_view p index k slot vs test)
     → IfSome (start_told e) (IsStartOfUnit p run) → starts k e ≡ true → slots_by k e ≡ Some slot
-slots_one p over now run k slot vs test Tick h is of start = cc
-slots_one p over now run k slot vs test (Test event) h is of start = by_kind event.kind of start
+slots_one p f now run k index slot vs test Tick h is of start = cc
+slots_one p f now run k index slot vs test (Test event) h is of start = by_kind event.kind of start
   where
     sent_so : (m : Message) → IsStartOfUnit p run m → number_said m ≡ k
-        → message_of (first_view p k slot vs test) ≡ m
+        → message_of (first_view p index k slot vs test) ≡ m
     sent_so m it here =
-        let at : it.unit ≡ k = start_number p over now run m h it ∙ here in
-        let view : it.view ≡ first_view p k slot vs test =
+        let at : it.unit ≡ k = start_number p f now run m h it ∙ here in
+        let view : it.view ≡ first_view p index k slot vs test =
         same_Some _ _ (sym it.is ∙ ap (λ k. option_map face (unit_of k run)) at ∙ is) in
         sym (ap message_of view) ∙ it.sent
 
@@ -159,27 +167,27 @@ slots_other k (Test event) other = by_kind event.kind other
     by_kind (TestStarted s) other = rw other refl
     by_kind kind other = refl
 
-slots_all : (p : Settings) (over : Bool) (now : ℕ) (run : List Happening) (k : ℕ) (slot : TestSlotAssignment)
-    (vs : List Variable) (test : PlanTest) (es : List ReporterEvent) → Holds p over now run
-    → option_map face (unit_of k run) ≡ Some (first_view p k slot vs test)
+slots_all : (p : Settings) (f : Frame) (now : ℕ) (run : List Happening) (k : ℕ) (index : Option StressIndex)
+    (slot : TestSlotAssignment) (vs : List Variable) (test : PlanTest) (es : List ReporterEvent) → Holds p now run
+    → option_map face (unit_of k run) ≡ Some (first_view p index k slot vs test)
     → All (IsToldOfUnit p run) es → list_any (starts k) es ≡ true
     → slots_told k es ≡ Some slot
-slots_all p over now run k slot vs test [] h is of some = cc
-slots_all p over now run k slot vs test (e ∷ es) h is of some =
-    by_start (slots_all p over now run k slot vs test es h is (All-tail (IsToldOfUnit p run) e es of)) (starts k e) refl
+slots_all p f now run k index slot vs test [] h is of some = cc
+slots_all p f now run k index slot vs test (e ∷ es) h is of some =
+    by_start (slots_all p f now run k index slot vs test es h is (All-tail (IsToldOfUnit p run) e es of)) (starts k e) refl
     some
   where
     by_start : (list_any (starts k) es ≡ true → slots_told k es ≡ Some slot) → (b : Bool) → starts k e ≡ b
         → (b || list_any (starts k) es) ≡ true → option_or (slots_by k e) (slots_told k es) ≡ Some slot
     by_start later true start some =
-        rw (slots_one p over now run k slot vs test e h is (All-head (IsToldOfUnit p run) e es of) start) refl
+        rw (slots_one p f now run k index slot vs test e h is (All-head (IsToldOfUnit p run) e es of) start) refl
     by_start later false start some = rw (slots_other k e start) (later some)
 
 -- a unit that was told started is that of the plan
-planned_is : (p : Settings) (over : Bool) (now : ℕ) (run : List Happening) (k : ℕ) (v : UnitView) → Holds p over now run
+planned_is : (p : Settings) (f : Frame) (now : ℕ) (run : List Happening) (k : ℕ) (v : UnitView) → Holds p now run
     → HasStarts p run → is_mismatched p k ≡ false → option_map face (unit_of k run) ≡ Some v
-    → list_any (starts k) (told run) ≡ true → planned_unit p run k ≡ Some v
-planned_is p over now run k v h has matched is some =
+    → list_any (starts k) (told run) ≡ true → planned_unit p (index_of_role v.role) run k ≡ Some v
+planned_is p f now run k v h has matched is some =
     by_planned (subst (IsPlannedIf p (units p run) k) is (has.planned k matched))
   where
     admitted : is_some (unit_of k run) ≡ true
@@ -189,12 +197,12 @@ planned_is p over now run k v h has matched is some =
         by_unit None is = cc
         by_unit (Some u) is = refl
 
-    by_planned : IsPlanned p (units p run) k v → planned_unit p run k ≡ Some v
+    by_planned : IsPlanned p (units p run) k v → planned_unit p (index_of_role v.role) run k ≡ Some v
     by_planned (inl script) = rw (script.kind, script.planned) (ap Some (sym script.is))
     by_planned (inr test) =
-        let slots = slots_all p over now run k test.slot (handed_to p (units p run) test.test) test.test (told run) h
+        let slots = slots_all p f now run k (index_of_role v.role) test.slot (handed_to p (units p run) test.test) test.test (told run) h
         (is ∙ ap Some test.is) has.told some in
-        let given = given_handed p over now run test.test h has (h.admitted k test.kind admitted) in
+        let given = given_handed p f now run test.test h has (h.admitted k test.kind admitted) in
         rw (test.kind, test.planned, slots, given) (ap Some (sym test.is))
 
 -- a test that is skipped is let go for no attempt
@@ -254,12 +262,13 @@ no_starts : (o : Option UnitView) → starts_by o 0 ≡ []
 no_starts None = refl
 no_starts (Some u) = refl
 
-asked_so : (p : Settings) (over : Bool) (now : ℕ) (run : List Happening) (k : ℕ) → Holds p over now run → HasStarts p run
-    → starts_asked k run ≡ starts_by (planned_unit p run k) (length (pieces_of k run))
-asked_so p over now run k h has = has.asked k ∙ by_pieces (length (pieces_of k run)) refl
+asked_so : (p : Settings) (f : Frame) (now : ℕ) (index : Option StressIndex) (run : List Happening) (k : ℕ)
+    → Holds p now run → HasStarts p run → AreIndexed index run
+    → starts_asked k run ≡ starts_by (planned_unit p index run k) (length (pieces_of k run))
+asked_so p f now index run k h has indexed = has.asked k ∙ by_pieces (length (pieces_of k run)) refl
   where
     by_unit : (v : Option UnitView) → unit_of k run ≡ v → 0 < length (pieces_of k run)
-        → option_map face v ≡ planned_unit p run k
+        → option_map face v ≡ planned_unit p index run k
     by_unit None is some =
         let story : story_of k run ≡ [] = subst (λ v. IsMadeIf (unit_terms p k) v (story_of k run)) is (h.made k) in
         let none : length (pieces_of k run) ≡ 0 = ap (λ s. length (pieces s)) story in absurd (omega arith)
@@ -272,8 +281,9 @@ asked_so p over now run k h has = has.asked k ∙ by_pieces (length (pieces_of k
         let started : list_any (starts k) (told run) ≡ true = starts-account k (told run)
         ∙ told_start (is_mismatched p k) (was_left k run) (unit_terms p k) u (pieces_of k run) (account_of k (told run))
         (pending_of k (queue run)) made some account in
-        sym (planned_is p over now run k (face u) h has
+        sym (planned_is p f now run k (face u) h has
         (matched (is_mismatched p k) refl u made some account) (ap (option_map face) is) started)
+        ∙ ap (λ index. planned_unit p index run k) (index_of_face index run k (face u) indexed (ap (option_map face) is))
       where
         matched : (b : Bool) → is_mismatched p k ≡ b → (u : UnitView) → IsMade (unit_terms p k) u (pieces_of k run)
             → 0 < length (pieces_of k run)
@@ -285,8 +295,8 @@ asked_so p over now run k h has = has.asked k ∙ by_pieces (length (pieces_of k
             account some)
 
     by_pieces : (n : ℕ) → length (pieces_of k run) ≡ n
-        → starts_by (option_map face (unit_of k run)) n ≡ starts_by (planned_unit p run k) n
-    by_pieces zero e = no_starts (option_map face (unit_of k run)) ∙ sym (no_starts (planned_unit p run k))
+        → starts_by (option_map face (unit_of k run)) n ≡ starts_by (planned_unit p index run k) n
+    by_pieces zero e = no_starts (option_map face (unit_of k run)) ∙ sym (no_starts (planned_unit p index run k))
     by_pieces (suc n) e = ap (λ v. starts_by v (suc n)) (by_unit (unit_of k run) refl (omega (arith, e)))
 
 -- and so are those that were told
@@ -300,13 +310,14 @@ start_begins (Test event) m is = by_kind event.kind is
         ap (λ m. s.start.test.unit == number_said m) (sym (same_Some _ _ is)) ∙ itself s.start.test.unit
     by_kind kind is = cc
 
-told_so : (p : Settings) (over : Bool) (now : ℕ) (run : List Happening) (es : List ReporterEvent) → Holds p over now run
-    → HasStarts p run → ((k : ℕ) → list_any (starts k) es ≡ true → list_any (starts k) (told run) ≡ true)
-    → All (IsToldOfUnit p run) es → All (IsToldAsPlanned p run) es
-told_so p over now run [] h has among of = All-nil _
-told_so p over now run (e ∷ es) h has among of =
-    All-cons (IsToldAsPlanned p run) e es (one (start_told e) refl (All-head (IsToldOfUnit p run) e es of))
-    (told_so p over now run es h has (λ k some. among k (later (starts k e) (list_any (starts k) es) some))
+told_so : (p : Settings) (f : Frame) (now : ℕ) (index : Option StressIndex) (run : List Happening)
+    (es : List ReporterEvent) → Holds p now run → HasStarts p run → AreIndexed index run
+    → ((k : ℕ) → list_any (starts k) es ≡ true → list_any (starts k) (told run) ≡ true)
+    → All (IsToldOfUnit p run) es → All (IsToldAsPlanned p index run) es
+told_so p f now index run [] h has indexed among of = All-nil _
+told_so p f now index run (e ∷ es) h has indexed among of =
+    All-cons (IsToldAsPlanned p index run) e es (one (start_told e) refl (All-head (IsToldOfUnit p run) e es of))
+    (told_so p f now index run es h has indexed (λ k some. among k (later (starts k e) (list_any (starts k) es) some))
     (All-tail (IsToldOfUnit p run) e es of))
   where
     later : (a b : Bool) → b ≡ true → (a || b) ≡ true
@@ -316,13 +327,15 @@ told_so p over now run (e ∷ es) h has among of =
     first : (a b : Bool) → a ≡ true → (a || b) ≡ true
     first a b e = rw e refl
 
-    one : (o : Option Message) → start_told e ≡ o → IfSome o (IsStartOfUnit p run) → IfSome o (IsPlannedStart p run)
+    one : (o : Option Message) → start_told e ≡ o → IfSome o (IsStartOfUnit p run)
+        → IfSome o (IsPlannedStart p index run)
     one None is it = tt
     one (Some m) is it =
         let some : starts it.unit e ≡ true =
-        ap (λ k. starts k e) (start_number p over now run m h it) ∙ start_begins e m is in (
+        ap (λ k. starts k e) (start_number p f now run m h it) ∙ start_begins e m is in (
           it.unit,
-          ap (option_map message_of) (planned_is p over now run it.unit it.view h has it.matched it.is
+          ap (option_map message_of) (ap (λ index. planned_unit p index run it.unit) (sym (index_of_face index run it.unit it.view indexed it.is))
+              ∙ planned_is p f now run it.unit it.view h has it.matched it.is
               (among it.unit (first (starts it.unit e) (list_any (starts it.unit) es) some))) ∙ ap Some it.sent,
         )
 
@@ -340,22 +353,24 @@ has_starts p (e ∷ before) legal = one_more (has_starts p before legal.2) (hold
       where
         by_run : IsOfRun p past e ⊎ IsBeforeRuns p past e → HasStarts p (sub_run (history p (e ∷ before)))
         by_run (inl of) = subst (HasStarts p) (sym of.joins)
-            (starts-cons p (is_over past) (clock past) (sub_run past) e (deed_on p (board p past) e.turn) h.run
-            (does_after p past e h legal.0) (stops_alone p (board p past) e.turn) has)
+            (starts-cons p (frame_of p past) (clock past) of.base e (deed_on p (board p past) e.turn) of.holds of.does
+            (stops_alone p (board p past) e.turn) (from_base (HasStarts p) p past e of (starts-none p) has))
         by_run (inr none) = subst (HasStarts p) (sym none.still) (starts-none p)
 
 pub starts_planned : (p : Settings) (backward : List Entry) → IsLegalBackward p backward
-    → AreStartsPlanned p (sub_run (history p backward))
+    → AreStartsPlanned p (stress_index p (history p backward)) (sub_run (history p backward))
 starts_planned p backward legal = record {
-  asked = λ k. asked_so p (is_over past) (clock past) (sub_run past) k h has;
-  told = told_so p (is_over past) (clock past) (sub_run past) (told (sub_run past)) h has (λ k some. some) has.told;
+  asked = λ k. asked_so p (frame_of p past) (clock past) (stress_index p past) (sub_run past) k h has
+      (indexed p backward legal);
+  told = told_so p (frame_of p past) (clock past) (stress_index p past) (sub_run past) (told (sub_run past)) h has
+      (indexed p backward legal) (λ k some. some) has.told;
 }
   where
     past : List Happening
     past = history p backward
 
-    h : Holds p (is_over past) (clock past) (sub_run past)
-    h = (holds p backward legal).run
+    h : Holds p (clock past) (sub_run past)
+    h = (holds p backward legal)
 
     has : HasStarts p (sub_run past)
     has = has_starts p backward legal

@@ -312,7 +312,8 @@ of_skip mm left moment k v t rest skip h = by_unit (skip.test.unit == k) refl
     by_unit true e = rw (e, append-nil rest) (skip_told mm left v t (pending_of k rest) (rw e at h))
     by_unit false e = rw (e, append-nil rest, append-nil t) (rw e at h)
 
--- how a unit begins, by whether it is a test that doesn't match: it is over, and its skip is sent, or it waits for its start
+-- how a unit begins, by whether it is a test that doesn't match: it is over, and its skip is sent, or it waits for its
+-- start
 abbrev pub IsFirst : Bool → UnitView → Message → Type 0
 IsFirst true u sent = (u.phase ≡ Over)
     × ((t : TestRole) × ((u.role ≡ roles.Test t)
@@ -338,7 +339,8 @@ first_role false u sent (ph, is) = rw is (by_role u.role)
     by_role (roles.Script s) = refl
 
 -- what its start message tells
-start_pends : (role : UnitRole) (u : UnitView) (k : ℕ) → pending_in k (start_message role u) ≡ news_for (number_of role) started k
+start_pends : (role : UnitRole) (u : UnitView) (k : ℕ)
+    → pending_in k (start_message role u) ≡ news_for (number_of role) started k
 start_pends (roles.Test t) u k = refl
 start_pends (roles.Script s) u k = refl
 

@@ -62,7 +62,8 @@ done_by (x ∷ ss) early s t q e h = (early, (s, (e, h)))
 pub data Stands (mm left : Bool) (ph : Phase) (ss : List ExecuteStatus) (t q : List News) : Type 0 where
   idle : q ≡ [] → Stands mm left ph ss t q
   starts : mm ≡ false → ph ≡ StartSent → ss ≡ [] → t ≡ [] → q ≡ started ∷ [] → Stands mm left ph ss t q
-  fails : mm ≡ false → (early : List ExecuteStatus) → (s : ExecuteStatus) → ss ≡ early ++ s ∷ [] → t ≡ started ∷ tried early
+  fails : mm ≡ false → (early : List ExecuteStatus) → (s : ExecuteStatus) → ss ≡ early ++ s ∷ []
+      → t ≡ started ∷ tried early
       → ((ph ≡ Delay) × (q ≡ failed s ∷ [])) ⊎ ((ph ≡ RetrySent) × (q ≡ failed s ∷ retried (length early + 2) ∷ []))
       → Stands mm left ph ss t q
   retries : mm ≡ false → ph ≡ RetrySent → (early : List ExecuteStatus) → (s : ExecuteStatus) → ss ≡ early ++ s ∷ []
@@ -255,7 +256,8 @@ passes_accounted false left u r t q at once numbered it (early, (s, (e, h))) = b
 
 -- a row other than an answer keeps the account of its unit, which wasn't left, and in a delay is at the number of its
 -- last attempt
-pub row_accounted : (mm left : Bool) (now : ℕ) (ph : Phase) (turn : UnitTurn) (u : UnitView) (t : List News) (q : List Message)
+pub row_accounted : (mm left : Bool) (now : ℕ) (ph : Phase) (turn : UnitTurn) (u : UnitView) (t : List News)
+    (q : List Message)
     → u.phase ≡ ph → takes_at now ph u turn ≡ true → is_answer turn ≡ false → left ≡ false → IsTriedOnce u
     → (mm ≡ false → u.phase ≡ Delay → u.attempt ≡ length u.statuses)
     → HasAccountAt mm left u.phase u.statuses t (pending_of (number u) q)

@@ -66,7 +66,8 @@ message_face u = by_role u.role
     by_role (roles.Script s) = refl
 
 -- a request, and a turn that lets no new unit join under this number, leave it
-pub face_reach : (request : Option Request) (v : Option UnitView) → option_map face (reach request v) ≡ option_map face v
+pub face_reach : (request : Option Request) (v : Option UnitView)
+    → option_map face (reach request v) ≡ option_map face v
 face_reach None v = refl
 face_reach (Some request) None = refl
 face_reach (Some request) (Some u) = by_live (is_live u.phase)

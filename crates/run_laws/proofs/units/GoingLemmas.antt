@@ -35,8 +35,8 @@ use Rattle.run_laws.proofs.units.PieceLemmas.{refused_ends, quiet_said, time_is}
 abbrev pub IsUnended : AttemptTerms → List OwnTurn → Type 0
 IsUnended terms piece = (end_of terms piece ≡ None) × (env_read piece ≡ None)
 
--- the attempt of a unit goes on after the turns of a piece, on these terms and in this phase: whether its child is waited
--- for no more, and how that ended
+-- the attempt of a unit goes on after the turns of a piece, on these terms and in this phase: whether its child is
+-- waited for no more, and how that ended
 pub record IsGoing (terms : AttemptTerms) (ph : Phase) (waited : Bool) (exit : Option ChildExit) (u : UnitView)
     (piece : List OwnTurn) : Type 0 where
   pub is_at : IsAt terms u.timers.stopwatch.start waited exit false u.timers.slow_count u.capture piece
@@ -234,7 +234,8 @@ ended_awaiting true true e = refl
 ended_awaiting false true e = refl
 ended_awaiting settled false e = cc
 
-pub awaiting_exited : (now : ℕ) (exit : Option ChildExit) (leaked : Bool) (c : Captured) (turn : UnitTurn) (u : UnitView)
+pub awaiting_exited : (now : ℕ) (exit : Option ChildExit) (leaked : Bool) (c : Captured) (turn : UnitTurn)
+    (u : UnitView)
     (piece : List OwnTurn)
     → IsAt u.terms u.timers.stopwatch.start true exit leaked u.timers.slow_count c (taken now turn None ∷ piece)
     → IsUnended u.terms piece → env_in turn ≡ None → (u.terms.skips_leak_detection || is_done c || leaked) ≡ true

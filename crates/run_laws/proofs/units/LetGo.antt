@@ -229,7 +229,8 @@ retried_on_way now true u w None is (on, at, failed, some) =
     )
 retried_on_way now false u w (Some why) is (on, at, failed, some) = over u.statuses at failed some
   where
-    over : (ss : List ExecuteStatus) → u.attempt ≡ length ss → AreFailed (retry_count u.terms.retries) ss → 0 < length ss
+    over : (ss : List ExecuteStatus) → u.attempt ≡ length ss → AreFailed (retry_count u.terms.retries) ss
+        → 0 < length ss
         → IsOverWith (retry_count u.terms.retries) u.attempt ss (way_with true (Some why) w)
     over [] at failed some = absurd (omega arith)
     over (s ∷ ss) at failed some =
@@ -238,7 +239,8 @@ retried_on_way now true u w (Some why) is h = cc
 retried_on_way now false u w None is h = cc
 
 -- what an own turn of a unit makes of that: one that is skipped takes none
-own_on_way : (mm : Bool) (now : ℕ) (turn : UnitTurn) (u : UnitView) (t q : List News) (w : Way) (why : Option CancelReason)
+own_on_way : (mm : Bool) (now : ℕ) (turn : UnitTurn) (u : UnitView) (t q : List News) (w : Way)
+    (why : Option CancelReason)
     → takes now u turn ≡ true → ((go : Bool) → turn ≡ Answered go → go ≡ is_none why)
     → HasAccountAt mm (is_at_retry w.stopped) u.phase u.statuses t q → IsOnWayAt mm u w
     → IsOnWayAt mm (row now turn u).next (way_with (is_answer turn) why w)

@@ -97,9 +97,9 @@ once terms u ps w none made way = record {
 pub matches : (p : Settings) (k : ℕ) → is_script p k ≡ true → is_mismatched p k ≡ false
 matches p k script = rw script refl
 
-pub tried_once : (p : Settings) (over : Bool) (now : ℕ) (run : List Happening) (k : ℕ) (u : UnitView)
-    → Holds p over now run → unit_of k run ≡ Some u → IsTriedOnce u
-tried_once p over now run k u h is r role =
+pub tried_once : (p : Settings) (now : ℕ) (run : List Happening) (k : ℕ) (u : UnitView)
+    → Holds p now run → unit_of k run ≡ Some u → IsTriedOnce u
+tried_once p now run k u h is r role =
     let script : is_script p k ≡ true = sym (h.named k u is).3 ∙ ap is_script_role role in
     once (unit_terms p k) u (pieces (story_of k run)) (way_of k run) (no_retries_of p k script)
     (subst (λ v. IsMadeIf (unit_terms p k) v (story_of k run)) is (h.made k))
@@ -107,10 +107,10 @@ tried_once p over now run k u h is r role =
     (subst (λ v. IsOnWay (is_mismatched p k) v (way_of k run)) is (h.on_way k)))
 
 -- and it is on its way with no retry
-pub script_way : (p : Settings) (over : Bool) (now : ℕ) (run : List Happening) (k : ℕ) (u : UnitView)
-    → Holds p over now run → unit_of k run ≡ Some u → is_script p k ≡ true
+pub script_way : (p : Settings) (now : ℕ) (run : List Happening) (k : ℕ) (u : UnitView)
+    → Holds p now run → unit_of k run ≡ Some u → is_script p k ≡ true
     → IsOnWayIn 0 u.phase u.attempt u.statuses (way_of k run)
-script_way p over now run k u h is script =
+script_way p now run k u h is script =
     let made : IsMade (unit_terms p k) u (pieces (story_of k run)) =
     subst (λ v. IsMadeIf (unit_terms p k) v (story_of k run)) is (h.made k) in
     let none : retry_count u.terms.retries ≡ 0 =

@@ -40,7 +40,8 @@ timer_of-marked terms act t piece due ends starts marks none =
 
 -- its stage after such a turn
 stage_stopped : (terms : AttemptTerms) (ph : Phase) (timers : Timers) (t : OwnTurn) (piece : List OwnTurn)
-    → is_due_turn t.turn ≡ false → starts_child t.turn ≡ false → pause_at t.moment t.request ≡ mark_of pause t.moment ∷ []
+    → is_due_turn t.turn ≡ false → starts_child t.turn ≡ false
+    → pause_at t.moment t.request ≡ mark_of pause t.moment ∷ []
     → signal_of terms.slow t.request ≡ None → IsAtStage terms ph timers t.moment piece
     → IsAtStage terms ph (all_paused t.moment timers) t.moment (t ∷ piece)
 stage_stopped terms Starting timers t piece due starts marks none (count, grace) =

@@ -79,8 +79,10 @@ at_due terms start waited exit count more c now piece it counted = record {
     or_false true = refl
     or_false false = refl
 
--- its child is done with where it is waited for no more, and its streams aren't waited for, its capture is done, or it leaked
-pub settled_as : (terms : AttemptTerms) (start : ℕ) (waited : Bool) (exit : Option ChildExit) (leaked : Bool) (count : ℕ)
+-- its child is done with where it is waited for no more, and its streams aren't waited for, its capture is done, or it
+-- leaked
+pub settled_as : (terms : AttemptTerms) (start : ℕ) (waited : Bool) (exit : Option ChildExit) (leaked : Bool)
+    (count : ℕ)
     (c : Captured) (piece : List OwnTurn) → IsAt terms start waited exit leaked count c piece
     → is_settled terms piece ≡ (waited && (terms.skips_leak_detection || is_done c || leaked))
 settled_as terms start waited exit leaked count c piece it =
@@ -88,7 +90,8 @@ settled_as terms start waited exit leaked count c piece it =
     (ap (λ d. waited && (terms.skips_leak_detection || d || leaked)) (sym (done_as terms.streams piece) ∙ ap is_done (sym it.captured)))
 
 -- what its child's end makes its result
-pub result_as : (start : ℕ) (waited : Bool) (exit : Option ChildExit) (leaked : Bool) (c : Captured) (piece : List OwnTurn)
+pub result_as : (start : ℕ) (waited : Bool) (exit : Option ChildExit) (leaked : Bool) (c : Captured)
+    (piece : List OwnTurn)
     (u : UnitView) → IsAt u.terms start waited exit leaked u.timers.slow_count c piece
     → result_by u.terms piece (start_error_of piece) ≡ result_of exit c.errors leaked u
 result_as start waited exit leaked c piece u it =
@@ -100,7 +103,8 @@ and_true true true = refl
 and_true true false = refl
 and_true false b = refl
 
-pub awaits_as : (start : ℕ) (waited : Bool) (exit : Option ChildExit) (leaked : Bool) (c : Captured) (piece : List OwnTurn)
+pub awaits_as : (start : ℕ) (waited : Bool) (exit : Option ChildExit) (leaked : Bool) (c : Captured)
+    (piece : List OwnTurn)
     (u : UnitView) → IsAt u.terms start waited exit leaked u.timers.slow_count c piece → env_read piece ≡ None
     → awaits_env_file u.terms piece ≡ awaits_env (result_of exit c.errors leaked u) u
 awaits_as start waited exit leaked c piece u it unread =
@@ -123,7 +127,8 @@ time_is terms piece start now begins ends =
     ∙ ap (λ e. counted_time start (attempt_pauses terms piece) (unwrap_or e 0)) ends
 
 -- a result with what came of its environment file
-with_is : (env : ScriptEnv) (result : ExecutionResult) → result_with env result ≡ (if is_fault env then ExecFail else result)
+with_is : (env : ScriptEnv) (result : ExecutionResult)
+    → result_with env result ≡ (if is_fault env then ExecFail else result)
 with_is Unread result = refl
 with_is (Variables pairs) result = refl
 with_is (Fault fault) result = refl
@@ -157,7 +162,8 @@ refuses : (reads unread : Bool) → not (reads && false && unread) ≡ true
 refuses true unread = refl
 refuses false unread = refl
 
-pub refused_ends : (terms : AttemptTerms) (now : ℕ) (error : List ℕ) (piece : List OwnTurn) → start_error_of piece ≡ None
+pub refused_ends : (terms : AttemptTerms) (now : ℕ) (error : List ℕ) (piece : List OwnTurn)
+    → start_error_of piece ≡ None
     → has_ended terms (taken now (StartFailed error) None ∷ piece) ≡ true
 refused_ends terms now error piece none =
     rw none (refuses terms.reads_env (not (is_some (env_read (taken now (StartFailed error) None ∷ piece)))))

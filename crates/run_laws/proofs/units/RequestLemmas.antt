@@ -238,7 +238,8 @@ take_running now (request ∷ line) u piece earlier ph latest a (on, ss) =
     (going_lined u.terms Running false None line u piece on, ss)
 
 pub take_grace : (now : ℕ) (line : List Request) (u : UnitView) (piece : List OwnTurn) (earlier : List Attempt)
-    → u.phase ≡ Grace → u.latest ≡ now → u.attempt ≡ length earlier + 1 → GoesOn u.terms Grace false None u piece earlier
+    → u.phase ≡ Grace → u.latest ≡ now → u.attempt ≡ length earlier + 1
+    → GoesOn u.terms Grace false None u piece earlier
     → IsMade u.terms (take_row now Grace line u).next (cut (taken now Take (oldest line) ∷ piece) [] ∷ earlier)
 take_grace now [] u piece earlier ph latest a h =
     ignored_made Grace now None u piece earlier (λ h. h) ph a h refl refl

@@ -169,7 +169,8 @@ decided_adds now u t word (cut piece [] ∷ earlier) is at once past a =
         (λ r role. let never : false ≡ true = sym ((once r role).done at) ∙ retry in cc)
 
 pub row_adds : (now : ℕ) (ph : Phase) (turn : UnitTurn) (u : UnitView) (t : OwnTurn) (ps : List Attempt) → t.turn ≡ turn
-    → u.phase ≡ ph → takes_at now ph u turn ≡ true → IsTriedOnce u → HasPieces u.terms ph u ps → u.attempt ≡ attempt_in ps
+    → u.phase ≡ ph → takes_at now ph u turn ≡ true → IsTriedOnce u → HasPieces u.terms ph u ps
+    → u.attempt ≡ attempt_in ps
     → AddsDelay u.terms (number u) t ps (row_at now ph turn u).sent
 row_adds now ph turn u t ps is at en once h a = by_take (row_takes now ph turn u en)
   where

@@ -177,7 +177,8 @@ row_sends_role now ph turn u is en = row_sends (IsAsRole u.role) now ph turn u (
     report (roles.Script s) (Some (Slow slow)) h own = absurd own
     report role (Some m) h own = absurd h
 
-    failure : (role : UnitRole) (delay : ℕ) (o : Option ExecuteStatus) → HoldsIf (IsAsRole role) (failure_message role delay o)
+    failure : (role : UnitRole) (delay : ℕ) (o : Option ExecuteStatus)
+        → HoldsIf (IsAsRole role) (failure_message role delay o)
     failure (roles.Test t) delay None = tt
     failure (roles.Test t) delay (Some s) = refl
     failure (roles.Script r) delay o = tt
@@ -186,7 +187,8 @@ row_sends_role now ph turn u is en = row_sends (IsAsRole u.role) now ph turn u (
     retry (roles.Test t) = refl
     retry (roles.Script r) = tt
 
-    status : (r : ScriptRole) (o : Option ExecuteStatus) → HoldsIf (IsAsRole (roles.Script r)) (option_map (script_finish r u) o)
+    status : (r : ScriptRole) (o : Option ExecuteStatus)
+        → HoldsIf (IsAsRole (roles.Script r)) (option_map (script_finish r u) o)
     status r None = tt
     status r (Some s) = refl
 

@@ -161,8 +161,8 @@ pub continues : (u : UnitView) (r : Row) → Moves u r → Continues r
 continues u r (inl on) = record { phase = open_on r.next.phase on.phase; sent = on.sent }
 continues u r (inr end) = record { phase = ap is_last end.phase; sent = subst IsReport (sym end.sent) tt }
 
--- a unit that takes a turn waits for an answer and gets it, at first or once more, has an attempt that goes on, decides, or
--- is in a delay
+-- a unit that takes a turn waits for an answer and gets it, at first or once more, has an attempt that goes on,
+-- decides, or is in a delay
 pub data Takes (ph : Phase) (turn : UnitTurn) : Type 0 where
   answers : (go : Bool) → ph ≡ StartSent → turn ≡ Answered go → Takes ph turn
   opens : is_open ph ≡ true → Takes ph turn

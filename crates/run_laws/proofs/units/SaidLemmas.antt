@@ -80,7 +80,8 @@ itself k = grind arith
 
 -- a turn that adds nothing to a piece says nothing
 pub said_apart : (terms : AttemptTerms) (k : ℕ) (t : OwnTurn) (ps : List Attempt) (r : Row)
-    → signals_by terms.stops terms.slow (more t ps) ≡ signals_by terms.stops terms.slow ps → reports_by terms.slow (more t ps) ≡ reports_by terms.slow ps
+    → signals_by terms.stops terms.slow (more t ps) ≡ signals_by terms.stops terms.slow ps
+    → reports_by terms.slow (more t ps) ≡ reports_by terms.slow ps
     → r.asked ≡ None → reports_waiting k (option_to_list r.sent) ≡ [] → IsSaid terms k t ps r
 said_apart terms k t ps r signals reports asks sends = record {
   asks = signals ∙ sym (append-nil (signals_by terms.stops terms.slow ps))
@@ -95,11 +96,13 @@ failure_silent k delay (roles.Test t) None = refl
 failure_silent k delay (roles.Test t) (Some status) = refl
 failure_silent k delay (roles.Script r) o = refl
 
-pub retry_silent : (k : ℕ) (role : UnitRole) (u : UnitView) → reports_waiting k (option_to_list (retry_message role u)) ≡ []
+pub retry_silent : (k : ℕ) (role : UnitRole) (u : UnitView)
+    → reports_waiting k (option_to_list (retry_message role u)) ≡ []
 retry_silent k (roles.Test t) u = refl
 retry_silent k (roles.Script r) u = refl
 
-pub finish_silent : (k : ℕ) (role : UnitRole) (u : UnitView) → reports_waiting k (option_to_list (finish_message role u)) ≡ []
+pub finish_silent : (k : ℕ) (role : UnitRole) (u : UnitView)
+    → reports_waiting k (option_to_list (finish_message role u)) ≡ []
 finish_silent k (roles.Test t) u = refl
 finish_silent k (roles.Script r) u = by_last (last_status u.statuses)
   where

@@ -86,7 +86,8 @@ timer_grace terms after now latest piece le wait slow is next some =
     none = slow_timer_by terms (t ∷ piece) true (out_next terms now piece true is next)
 
 -- it has run out of time, and is killed at once
-pub timer_kill_wait : (terms : AttemptTerms) (after : Timers) (now latest : ℕ) (piece : List OwnTurn) → IsSlow terms piece
+pub timer_kill_wait : (terms : AttemptTerms) (after : Timers) (now latest : ℕ) (piece : List OwnTurn)
+    → IsSlow terms piece
     → is_out_of_time terms.slow (one_more (slow_count terms.slow piece)) ≡ true → (terms.slow.grace == 0) ≡ true
     → HasTimer terms KillWait after latest (taken now Due None ∷ piece)
 timer_kill_wait terms after now latest piece is next none =

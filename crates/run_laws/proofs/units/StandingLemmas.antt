@@ -8,7 +8,8 @@ use Rattle.run_model.specs.declared.unit_view.AttemptTerms.{AttemptTerms}
 use Rattle.run_model.specs.Slow.{one_more, ends_after, is_out_of_time}
 use Rattle.run_model.specs.Story.{OwnTurn, any_is}
 use Rattle.run_model.specs.Timing.{ends_wait, starts_child, is_due_turn, signal_of, gives_time, Standing, standing}
-use Rattle.run_model.specs.Timing.{standing_after, slow_count, has_timed_out, sets_slow, timer_since, slow_timer, pause_at}
+use Rattle.run_model.specs.Timing.{standing_after, slow_count, has_timed_out, sets_slow, timer_since, slow_timer}
+use Rattle.run_model.specs.Timing.{pause_at}
 use Rattle.run_laws.proofs.units.CaptureLemmas.{taken}
 
 -- whether its child is given time to end by itself
@@ -156,7 +157,8 @@ count_killed slow t piece grace = by_case (any_is ends_wait piece) (is_due_turn 
     by_case false false e f = count_next slow t piece e ∙ rw f refl
 
 -- and the timer until it is slow stays as it was
-pub slow_timer-killed : (terms : AttemptTerms) (t : OwnTurn) (piece : List OwnTurn) → is_in_grace terms.slow piece ≡ true
+pub slow_timer-killed : (terms : AttemptTerms) (t : OwnTurn) (piece : List OwnTurn)
+    → is_in_grace terms.slow piece ≡ true
     → any_is ends_wait piece ≡ false → starts_child t.turn ≡ false → pause_at t.moment t.request ≡ []
     → slow_timer terms (t ∷ piece) ≡ slow_timer terms piece
 slow_timer-killed terms t piece grace waited starts goes_on =

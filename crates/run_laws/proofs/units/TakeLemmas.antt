@@ -55,7 +55,8 @@ asked_signal now reason Quit u = refl
 asked_signal now reason Kill u = refl
 
 -- and it sends nothing
-sent_none : (now : ℕ) (reason : TerminateReason) (signal : TermSignal) (u : UnitView) → (asked_to_end now reason signal u).sent ≡ None
+sent_none : (now : ℕ) (reason : TerminateReason) (signal : TermSignal) (u : UnitView)
+    → (asked_to_end now reason signal u).sent ≡ None
 sent_none now reason Interrupt u = refl
 sent_none now reason Term u = refl
 sent_none now reason Hangup u = refl

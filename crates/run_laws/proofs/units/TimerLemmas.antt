@@ -75,8 +75,8 @@ set_by_marked now act (Some t) order = let now_is : now ≤ now = omega arith in
 pub active_since : (watch : Watch) (now : ℕ) → watch ≡ started_at watch.start → active_by watch now ≡ now - watch.start
 active_since watch now is = rw is (omega arith)
 
--- what else is known of the timing of an attempt in a phase: before its child starts it was never slow; its child is given
--- time to end by itself in Grace, where the timer until it is slow is kept
+-- what else is known of the timing of an attempt in a phase: before its child starts it was never slow; its child is
+-- given time to end by itself in Grace, where the timer until it is slow is kept
 abbrev pub IsAtStage : AttemptTerms → Phase → Timers → ℕ → List OwnTurn → Type 0
 IsAtStage terms Starting t latest piece =
     (slow_count terms.slow piece ≡ 0) × (is_in_grace terms.slow piece ≡ false)
@@ -109,7 +109,8 @@ timer_later terms ph t latest now piece le h = record {
 }
 
 -- an attempt whose timer is known
-pub timer_known : (terms : AttemptTerms) (ph : Phase) (t : Timers) (latest : ℕ) (piece : List OwnTurn) (timer : Option Timer)
+pub timer_known : (terms : AttemptTerms) (ph : Phase) (t : Timers) (latest : ℕ) (piece : List OwnTurn)
+    (timer : Option Timer)
     → timer_of terms piece ≡ timer → IsSetBy latest timer → KeepsSome timer (waits ph t)
     → IsAtStage terms ph t latest piece → HasTimer terms ph t latest piece
 timer_known terms ph t latest piece timer is set keeps stage = record {
@@ -210,8 +211,8 @@ timer_left terms t now latest turn piece le stopped ends = record {
   stage = tt;
 }
 
--- a turn that is neither due, nor ends the wait for its child, nor starts it, and whose request is no stop and no continue
--- and isn't heeded, says nothing of its time
+-- a turn that is neither due, nor ends the wait for its child, nor starts it, and whose request is no stop and no
+-- continue and isn't heeded, says nothing of its time
 timer_of-still : (terms : AttemptTerms) (t : OwnTurn) (piece : List OwnTurn)
     → is_due_turn t.turn ≡ false → ends_wait t.turn ≡ false → starts_child t.turn ≡ false
     → pause_at t.moment t.request ≡ [] → is_heeded terms.slow t piece ≡ false
@@ -253,7 +254,8 @@ stage_still terms Grace timers latest t piece due starts goes_on heeds (child, g
 )
 stage_still terms ph timers latest t piece due starts goes_on heeds h = h
 
-pub timer_still : (terms : AttemptTerms) (ph : Phase) (timers : Timers) (latest : ℕ) (t : OwnTurn) (piece : List OwnTurn)
+pub timer_still : (terms : AttemptTerms) (ph : Phase) (timers : Timers) (latest : ℕ) (t : OwnTurn)
+    (piece : List OwnTurn)
     → is_due_turn t.turn ≡ false → ends_wait t.turn ≡ false → starts_child t.turn ≡ false
     → pause_at t.moment t.request ≡ [] → is_heeded terms.slow t piece ≡ false
     → HasTimer terms ph timers latest piece → HasTimer terms ph timers latest (t ∷ piece)

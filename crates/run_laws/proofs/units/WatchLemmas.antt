@@ -12,7 +12,8 @@ use Rattle.run_model.specs.Story.{OwnTurn}
 use Rattle.run_model.specs.Timing.{pause_at, pauses_in}
 use Rattle.run_model.specs.Attempts.{is_settled, attempt_pauses}
 use Rattle.run_laws.proofs.units.CaptureLemmas.{taken}
-use Rattle.run_model.proofs.PauseLemmas.{times_started, times_paused, times_resumed, IsSoundBy, sound_started, sound_later}
+use Rattle.run_model.proofs.PauseLemmas.{times_started, times_paused, times_resumed, IsSoundBy, sound_started}
+use Rattle.run_model.proofs.PauseLemmas.{sound_later}
 use Rattle.run_model.proofs.PauseLemmas.{sound_paused, sound_resumed}
 
 -- a stopwatch times an attempt by this moment: its pauses are those of the turns of a piece
@@ -49,13 +50,15 @@ pub pauses_by : (terms : AttemptTerms) (t : OwnTurn) (piece : List OwnTurn) (set
 pauses_by terms t piece settled is = ap (pauses_if t (attempt_pauses terms piece)) is
 
 -- while it isn't, they are those of its requests
-pub pauses_unsettled : (terms : AttemptTerms) (t : OwnTurn) (piece : List OwnTurn) → is_settled terms (t ∷ piece) ≡ false
+pub pauses_unsettled : (terms : AttemptTerms) (t : OwnTurn) (piece : List OwnTurn)
+    → is_settled terms (t ∷ piece) ≡ false
     → attempt_pauses terms piece ≡ pauses_in piece → attempt_pauses terms (t ∷ piece) ≡ pauses_in (t ∷ piece)
 pauses_unsettled terms t piece still is =
     pauses_by terms t piece false still ∙ ap (λ past. pause_at t.moment t.request ++ past) is
 
 timed_by : (terms : AttemptTerms) (watch : Watch) (now : ℕ) (piece : List OwnTurn) (past : List Mark)
-    → attempt_pauses terms piece ≡ past → Times watch.start past watch → IsInOrder watch.start past now → IsSoundBy watch now
+    → attempt_pauses terms piece ≡ past → Times watch.start past watch → IsInOrder watch.start past now
+    → IsSoundBy watch now
     → IsTimed terms watch now piece
 timed_by terms watch now piece past is times order sound = record {
   times = subst (λ past. Times watch.start past watch) (sym is) times;

@@ -35,10 +35,11 @@ use Rattle.run_model.specs.declared.happening.Happening.{Happening}
 use Rattle.run_model.specs.Board.{Deed, board}
 use Rattle.run_model.specs.declared.entry.Entry.{Entry}
 use Rattle.run_model.specs.Journal.{IsLegalBackward, IsLegal, past_of}
-use Rattle.run_model.specs.Words.{clock, is_over, sub_run, unit_of}
+use Rattle.run_model.specs.Words.{clock, sub_run, unit_of}
 use Rattle.run_model.specs.Turns.{deed_on, happening}
 use Rattle.run_model.specs.Admission.{unit_terms}
-use Rattle.run_round_laws.specs.Answers.{answer_with, why_ended, grace_timer, pid_of, result_then, slow_so_far, state_then}
+use Rattle.run_round_laws.specs.Answers.{answer_with, why_ended, grace_timer, pid_of, result_then, slow_so_far}
+use Rattle.run_round_laws.specs.Answers.{state_then}
 use Rattle.run_round_laws.specs.Answers.{state_in, time_so_far, waiting_for, AnswersAsItIs}
 use Rattle.run_round_laws.proofs.rounds.Delays.{last_of}
 use Rattle.run_laws.proofs.units.AttemptLemmas.{HasPieces, IsMade, IsMadeIf}
@@ -48,11 +49,13 @@ use Rattle.run_laws.proofs.units.Lines.{own_request}
 use Rattle.run_laws.proofs.units.Rows.{takes_moment}
 use Rattle.run_round_laws.proofs.rounds.Shown.{IsShown, WaitsFor, pid_said}
 use Rattle.run_round_laws.proofs.rounds.ShownRuns.{shown, IsShownIf, shown_later}
-use Rattle.run_round_laws.proofs.rounds.DeedAnswers.{answers_as, info_by}
+use Rattle.run_round_laws.proofs.rounds.DeedAnswers.{answers_as, info_by, part_fits}
 use Rattle.run_round_laws.proofs.rounds.FinishAnswers.{subject_at}
 use Rattle.run_laws.proofs.board.Holds.{HasLine, Holds}
-use Rattle.run_laws.proofs.board.Kept.{HoldsAfter, does_after, holds}
+use Rattle.run_laws.proofs.board.Kept.{HoldsAfter, holds}
 use Rattle.run_laws.proofs.board.DeedFits.{PartFits}
+use Rattle.run_laws.proofs.board.OnBoard.{Frame}
+use Rattle.run_laws.proofs.board.OnBoard.{frame_of}
 
 -- the line says nothing of which unit it is
 subject_lined : (line : List Request) (u : UnitView)
@@ -232,14 +235,14 @@ oldest_is [] request is = cc
 oldest_is (first ∷ rest) request is = (rest, ap (λ first. first ∷ rest) (same_Some _ _ is))
 
 -- so a unit's own turn with which it takes a query
-turn_says : (p : Settings) (over : Bool) (now : ℕ) (run : List Happening) (k round : ℕ) (u : UnitView)
-    → Holds p over now run
+turn_says : (p : Settings) (f : Frame) (now : ℕ) (run : List Happening) (k round : ℕ) (u : UnitView)
+    → Holds p now run
     → IsShownIf (unit_of k run) (story_of k run) → unit_of k run ≡ Some u → takes now u Take ≡ true
     → oldest (line_of k run) ≡ Some (GetInfo round)
     → (said : UnitState × ChildExecutionOutput)
     × ((state_then (unit_terms p k) now (pieces_of k run) ≡ Some said)
     × ((row now Take u).info ≡ (round, answer_with u said) ∷ []))
-turn_says p over now run k round u h shows is en first =
+turn_says p f now run k round u h shows is en first =
     let old = oldest_is u.line (GetInfo round) (sym asked ∙ first) in
     let it : Says (at_moment now u) now round ps (row now Take u).info =
     take_says now round u.phase old.0 (at_moment now u) ps refl (takes_moment now u.phase u Take en) made.start
@@ -265,24 +268,24 @@ turn_says p over now run k round u h shows is en first =
     asked : oldest (line_of k run) ≡ oldest u.line
     asked = own_request now Take u (line_of k run) en (subst (λ v. HasLine v (line_of k run)) is (h.lines k))
 
-part_says : (p : Settings) (over : Bool) (now : ℕ) (run : List Happening) (k round : ℕ) (u : UnitView)
-    (info : List (ℕ × InfoResponse)) → Holds p over now run → IsShownIf (unit_of k run) (story_of k run)
+part_says : (p : Settings) (f : Frame) (now : ℕ) (run : List Happening) (k round : ℕ) (u : UnitView)
+    (info : List (ℕ × InfoResponse)) → Holds p now run → IsShownIf (unit_of k run) (story_of k run)
     → PartFits p now run (Some (Acts k Take)) → info ≡ info_by now run (Some (Acts k Take)) → unit_of k run ≡ Some u
     → oldest (line_of k run) ≡ Some (GetInfo round)
     → (said : UnitState × ChildExecutionOutput)
     × ((state_then (unit_terms p k) now (pieces_of k run) ≡ Some said) × (info ≡ (round, answer_with u said) ∷ []))
-part_says p over now run k round u info h shows fits given is first =
+part_says p f now run k round u info h shows fits given is first =
     let same : fits.unit ≡ u = same_Some _ _ (sym fits.is ∙ is) in
-    let it = turn_says p over now run k round u h shows is (ap (λ u. takes now u Take) (sym same) ∙ fits.takes) first in
+    let it = turn_says p f now run k round u h shows is (ap (λ u. takes now u Take) (sym same) ∙ fits.takes) first in
     (it.0, (it.1.0, given ∙ ap (λ v. unwrap_or (option_map (λ v. (row now Take v).info) v) []) is ∙ it.1.1))
 
 pub answers_so : (p : Settings) (journal : List Entry) (e : Entry) → IsLegal p (journal ++ e ∷ [])
     → AnswersAsItIs p (sub_run (past_of p journal)) (happening p (past_of p journal) e)
 answers_so p journal e legal k round u part is first =
-    part_says p (is_over past) (clock past) (sub_run past) k round u d.info h.run
+    part_says p (frame_of p past) (clock past) (sub_run past) k round u d.info h
     (shown p (reverse journal) backward.2 k)
-    (subst (PartFits p (clock past) (sub_run past)) part (does_after p past e h backward.0).part)
-    (answers_as p past e.turn h.run ∙ ap (info_by (clock past) (sub_run past)) part) is first
+    (subst (PartFits p (clock past) (sub_run past)) part (part_fits p past e h backward.0))
+    (answers_as p past e.turn h ∙ ap (info_by (clock past) (sub_run past)) part) is first
   where
     past : List Happening
     past = past_of p journal

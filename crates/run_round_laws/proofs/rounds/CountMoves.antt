@@ -25,11 +25,12 @@ use Rattle.run_model.specs.Same.{is_request}
 use Rattle.run_model.specs.Story.{is_live_unit, line_of}
 use Rattle.run_model.specs.Turns.{deed_on, happening, holds as has_request, live_in}
 use Rattle.run_model.specs.Unit.{is_live, reach, row}
-use Rattle.run_model.specs.Words.{clock, is_over, sub_run, unit_after, unit_of, units}
+use Rattle.run_model.specs.Words.{clock, sub_run, unit_after, unit_of, units}
 use Rattle.run_round_laws.specs.LiveCounts.{MovesBy, MovesCounts, holders, is_asked, unit_before, unit_then}
 use Rattle.run_laws.proofs.board.DeedFits.{PartFits}
 use Rattle.run_laws.proofs.board.Holds.{HasLine, HasLineIn, Holds}
-use Rattle.run_laws.proofs.board.Kept.{HoldsAfter, does_after, holds}
+use Rattle.run_laws.proofs.board.Kept.{HoldsAfter, holds}
+use Rattle.run_round_laws.proofs.rounds.DeedAnswers.{part_fits}
 use Rattle.run_laws.proofs.units.AccountLemmas.{IsFirst}
 use Rattle.run_round_laws.proofs.rounds.Fresh.{before_all, new_to_line}
 use Rattle.run_round_laws.proofs.rounds.RangeSums.{sum-one, sum-same, sum-through}
@@ -47,14 +48,14 @@ first_waits true first m (ph, sends) = ap is_live ph
 first_waits false first m (ph, sends) = ap is_live ph
 
 -- such a count is moved by the unit whose turn it is alone, where a request doesn't change what it counts
-moves_by : (is : Option UnitView → Bool) (p : Settings) (over : Bool) (run : List Happening) (now : ℕ) (e : Entry)
+moves_by : (is : Option UnitView → Bool) (p : Settings) (run : List Happening) (now : ℕ) (e : Entry)
     (d : Deed)
-    → Holds p over now run → PartFits p now run d.part → is None ≡ false
+    → Holds p now run → PartFits p now run d.part → is None ≡ false
     → ((first : UnitView) (mm : Bool) (m : Message) → IsFirst mm first m → first.line ≡ [] → is (Some first) ≡ false)
     → ((v : Option UnitView) → is (reach d.request v) ≡ is v)
     → MovesBy (count_by is (units p run)) (is (unit_before run d.part)) (is (unit_then now run d.part))
     (count_by is (units p (said now e d ∷ run)))
-moves_by is p over run now e d h fits none first reached =
+moves_by is p run now e d h fits none first reached =
     ap (λ n. n + cond (is (unit_before run d.part)) 1 0) (count-each is p (said now e d ∷ run)) ∙ by_moves d.part fits
   where
     one : ℕ → ℕ
@@ -175,9 +176,9 @@ reach_opened request (Some u) line opens h new = by_live (is_live u.phase) refl
 moves_counts : (p : Settings) (backward : List Entry) (e : Entry) → IsLegalBackward p (e ∷ backward)
     → MovesCounts p (sub_run (history p backward)) (happening p (history p backward) e)
 moves_counts p backward e legal = record {
-  live = moves_by is_live_unit p (is_over past) run (clock past) e d h.run fits refl
+  live = moves_by is_live_unit p run (clock past) e d h fits refl
       (λ first mm m new line. first_waits mm first m new) (reach_live d.request);
-  held = λ request other. moves_by (has_request request) p (is_over past) run (clock past) e d h.run fits refl
+  held = λ request other. moves_by (has_request request) p run (clock past) e d h fits refl
       (λ first mm m new line. ap (list_any (is_request request)) line) (λ v. reach_held request d.request v other);
   opened = λ request opens is. opened request opens is;
 }
@@ -195,7 +196,7 @@ moves_counts p backward e legal = record {
     h = holds p backward legal.2
 
     fits : PartFits p (clock past) run d.part
-    fits = (does_after p past e h legal.0).part
+    fits = part_fits p past e h legal.0
 
     it : IsOfRound (board p past) d
     it = of_round p (board p past) e.turn legal.0
@@ -214,8 +215,8 @@ moves_counts p backward e legal = record {
         new : opens_round (Some request) ≡ true
         new = sym (ap opens_round is) ∙ opens
 
-        number : IsNumbered (round_count past) (Some request)
-        number = subst (IsNumbered (round_count past)) is it.number
+        number : IsNumbered (round_count run) (Some request)
+        number = subst (IsNumbered (round_count run)) is it.number
 
         one : (k : ℕ) → one_if (has_request request (unit_of k (happening p past e ∷ run)))
             ≡ one_if (is_live_unit (unit_of k (happening p past e ∷ run)))
@@ -223,8 +224,8 @@ moves_counts p backward e legal = record {
             (ap (λ part. has_request request (reach d.request (unit_after (clock past) k part (unit_of k run))))
             (it.alone opens)
             ∙ ap (λ request0. has_request request (reach request0 (unit_of k run))) is
-            ∙ reach_opened request (unit_of k run) (line_of k run) new (h.run.lines k)
-            (new_to_line (round_count past) k run request (answered p backward legal.2 k)
+            ∙ reach_opened request (unit_of k run) (line_of k run) new (h.lines k)
+            (new_to_line (round_count run) k run request (answered p backward legal.2 k)
             (before_all p backward legal.2 k)
             number new)
             ∙ sym (ap (λ part. is_live_unit (reach d.request (unit_after (clock past) k part (unit_of k run))))

@@ -1,12 +1,13 @@
 -- What a turn answers to queries is what the row of its unit answers.
-use Rattle.std.proofs.Common.{◌≡◌, ℕ, List, [], ◌∷◌, Bool, Option, Some, None, option_map, unwrap_or, refl, ap, sym}
-use Rattle.std.proofs.Common.{◌∙◌}
+use Rattle.std.proofs.Common.{◌≡◌, ℕ, List, [], ◌∷◌, Bool, true, false, Option, Some, None, option_map, unwrap_or}
+use Rattle.std.proofs.Common.{refl, ap, sym, subst, ◌∙◌}
 use Rattle.run_events.specs.Hearing.{heard_key}
 use Rattle.run_events.specs.declared.info.InfoResponse.{InfoResponse}
 use Rattle.run_events.specs.declared.message.Message.{Message}
 use Rattle.run_events.specs.declared.settings.Settings.{Settings}
 use Rattle.run_events.specs.declared.turn.Turn.{Turn}
 use Rattle.run_model.specs.declared.dispatcher_view.Tally.{Tally}
+use Rattle.run_model.specs.declared.entry.Entry.{Entry}
 use Rattle.run_model.specs.declared.happening.Happening.{Happening}
 use Rattle.run_model.specs.declared.happening.UnitPart.{UnitPart}
 use Rattle.run_model.specs.declared.happening.UnitPart.TheVariants.{Joins, Acts}
@@ -18,14 +19,18 @@ use Rattle.run_model.specs.Board.{Board, Deed, board, unit_in}
 use Rattle.run_model.specs.Cancel.{Cause, cause_of, caused}
 use Rattle.run_model.specs.Dispatch.{Moment, go_of, heard_by, moment_by}
 use Rattle.run_model.specs.Turns.{admission, answer_to, deed_on, delivery, done_by, hears, live_in, oldest_of, starting}
-use Rattle.run_model.specs.Turns.{taken_by, tally_by}
+use Rattle.run_model.specs.Turns.{enabled, index_of, taken_by, tally_by}
 use Rattle.run_model.specs.Unit.{row}
-use Rattle.run_model.specs.Words.{clock, is_over, sub_run, unit_of}
+use Rattle.run_model.specs.Words.{clock, sub_run, unit_of}
 use Rattle.run_laws.proofs.board.ByTurn.{by_turn}
 use Rattle.run_laws.proofs.board.Holds.{Holds}
-use Rattle.run_laws.proofs.board.OnBoard.{unit_in-is}
+use Rattle.run_laws.proofs.board.DeedFits.{Does, PartFits}
+use Rattle.run_laws.proofs.board.Deeds.{base_of}
+use Rattle.run_laws.proofs.board.Kept.{HoldsAfter, IsOfRun, does_after}
+use Rattle.run_laws.proofs.board.OnBoard.{frame_of, unit_in-is}
 use Rattle.run_laws.proofs.told.Asides.{IsAside, answer_aside, by_signal, inform_aside, key_aside, stop_aside}
 use Rattle.run_laws.proofs.told.Asides.{tick_aside}
+use Rattle.run_laws.proofs.told.Bounds.{begin_cases, end_cases}
 
 -- what a part answers, by the units
 abbrev pub info_as : ℕ → (ℕ → Option UnitView) → Option UnitPart → List (ℕ × InfoResponse)
@@ -72,8 +77,8 @@ pub info_is : (p : Settings) (b : Board) (turn : Turn)
 info_is p b turn =
     by_turn (λ turn named. IsInfo b (done_by p b turn named))
     (record {
-      begin = refl;
-      admit = admission_info b (newcomer p b.units);
+      begin = begin_cases (IsInfo b) (λ told after own later. refl) b.clock b.dispatcher;
+      admit = admission_info b (newcomer p (index_of b.dispatcher) b.units);
       deliver = delivery_info b b.queue;
       named = λ turn k to other. taken_info b k to;
       clock = λ ns. refl;
@@ -81,7 +86,7 @@ info_is p b turn =
           (heard_by b.dispatcher.rules.hearing signal) refl (aside_info b);
       global_due = refl;
       report_cancel = refl;
-      end = refl;
+      end = end_cases (IsInfo b) (λ told after over own later. refl) b.clock b.dispatcher;
       key = λ key. aside_info b _ (key_aside b.clock (live_in b.units) b.dispatcher
           (heard_key b.dispatcher.rules.hearing.input key));
       tick = aside_info b _ tick_aside;
@@ -96,7 +101,7 @@ abbrev pub info_by : ℕ → List Happening → Option UnitPart → List (ℕ ×
 info_by now run part = info_as now (λ k. unit_of k run) part
 
 pub answers_as : (p : Settings) (past : List Happening) (turn : Turn)
-    → Holds p (is_over past) (clock past) (sub_run past)
+    → Holds p (clock past) (sub_run past)
     → (deed_on p (board p past) turn).info ≡ info_by (clock past) (sub_run past) (deed_on p (board p past) turn).part
 answers_as p past turn h = info_is p (board p past) turn ∙ by_part (deed_on p (board p past) turn).part
   where
@@ -106,4 +111,33 @@ answers_as p past turn h = info_is p (board p past) turn ∙ by_part (deed_on p 
     by_part (Some (Joins first)) = refl
     by_part (Some (Acts j turn)) =
         ap (λ v. unwrap_or (option_map (λ v. (row (clock past) turn v).info) v) [])
-        (unit_in-is p (is_over past) (clock past) (sub_run past) j h)
+        (unit_in-is p (clock past) (sub_run past) j h)
+
+-- a turn has its part in the newest sub-run, where it doesn't begin one
+pub part_fits : (p : Settings) (past : List Happening) (e : Entry) → HoldsAfter p past → enabled p past e.turn ≡ true
+    → PartFits p (clock past) (sub_run past) (deed_on p (board p past) e.turn).part
+part_fits p past e h en = by_begin d.begins refl (does_after p past e h en)
+  where
+    d : Deed
+    d = deed_on p (board p past) e.turn
+
+    by_begin : (b : Bool) → d.begins ≡ b → Does p (frame_of p past) (clock past) (base_of b (sub_run past)) d
+        → PartFits p (clock past) (sub_run past) d.part
+    by_begin true is does = subst (PartFits p (clock past) (sub_run past)) (sym (does.marks.begins is).1.part) tt
+    by_begin false is does = does.part
+
+-- and it answers by the sub-run that it joins
+pub answers_in : (p : Settings) (past : List Happening) (e : Entry) → HoldsAfter p past → (of : IsOfRun p past e)
+    → (deed_on p (board p past) e.turn).info ≡ info_by (clock past) of.base (deed_on p (board p past) e.turn).part
+answers_in p past e h of = by_begin d.begins refl
+  where
+    d : Deed
+    d = deed_on p (board p past) e.turn
+
+    by_begin : (b : Bool) → d.begins ≡ b → d.info ≡ info_by (clock past) of.base d.part
+    by_begin true is =
+        let nothing = (of.does.marks.begins is).1 in
+        nothing.info ∙ sym (ap (info_by (clock past) of.base) nothing.part)
+    by_begin false is =
+        answers_as p past e.turn h
+        ∙ ap (λ run. info_by (clock past) run d.part) (sym (of.is ∙ ap (λ b. base_of b (sub_run past)) is))

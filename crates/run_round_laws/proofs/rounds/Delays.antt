@@ -1,6 +1,6 @@
--- The last status of a list with one more, and the timer of a delay after one more turn: as in `AfterLemmas` of run_laws,
--- where they are private.
-use Rattle.std.proofs.Common.{◌≡◌, ℕ, List, [], ◌∷◌, ◌++◌, false, if◌then◌else◌, Some, None, unwrap_or, refl, ap, ◌∙◌}
+-- The last status of a list with one more, and the timer of a delay after one more turn: as in `AfterLemmas` of
+-- run_laws, where they are private.
+use Rattle.std.proofs.Common.{◌≡◌, List, [], ◌∷◌, ◌++◌, false, if◌then◌else◌, Some, None, unwrap_or, refl, ap, ◌∙◌}
 use Rattle.std.specs.Option.{option_or}
 use Rattle.run_clock.specs.Counted.{Mark}
 use Rattle.run_events.specs.declared.result.ExecuteStatus.{ExecuteStatus}

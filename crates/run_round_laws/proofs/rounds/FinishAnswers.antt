@@ -32,15 +32,15 @@ use Rattle.run_model.specs.Row.{Row}
 use Rattle.run_model.specs.Story.{deliveries, lets_go, line_of, pieces, stopped_at, story_of, was_left, Attempt, cut}
 use Rattle.run_model.specs.Turns.{deed_on, enabled, happening}
 use Rattle.run_model.specs.Unit.{at_moment, row, row_at, takes, takes_at}
-use Rattle.run_model.specs.Words.{clock, is_over, queue, reason, sub_run, told, unit_after, unit_of}
+use Rattle.run_model.specs.Words.{clock, queue, reason, sub_run, told, unit_after, unit_of}
 use Rattle.run_round_laws.specs.Requests.{AnswersAsExited, exited_with, is_turn_of}
 use Rattle.run_laws.specs.Starts.{env_said}
 use Rattle.run_laws.proofs.board.ByTurn.{is_answer}
 use Rattle.run_laws.proofs.board.DeedFits.{PartFits}
 use Rattle.run_laws.proofs.board.Facts.{unstopped}
 use Rattle.run_laws.proofs.board.Holds.{HasLine, HasLineIn, Holds, IsOnWay, way_of}
-use Rattle.run_laws.proofs.board.Kept.{HoldsAfter, does_after, holds}
-use Rattle.run_round_laws.proofs.rounds.DeedAnswers.{answers_as, info_by}
+use Rattle.run_laws.proofs.board.Kept.{HoldsAfter, holds}
+use Rattle.run_round_laws.proofs.rounds.DeedAnswers.{answers_as, info_by, part_fits}
 use Rattle.run_round_laws.proofs.rounds.RowLeaves.{reach_done, stopped_with}
 use Rattle.run_round_laws.proofs.rounds.Taken.{ended_in}
 use Rattle.run_round_laws.proofs.rounds.Shown.{IsShown}
@@ -53,6 +53,8 @@ use Rattle.run_laws.proofs.units.Rows.{StaysOrGoes, Takes, answers, opens, decid
 use Rattle.run_laws.proofs.units.Rows.{decide_cases, row_moves, row_passes, row_takes, takes_moment}
 use Rattle.run_laws.proofs.units.GoingLemmas.{ended_statuses-past, next_status}
 use Rattle.run_round_laws.proofs.rounds.Delays.{last_of}
+use Rattle.run_laws.proofs.board.OnBoard.{Frame}
+use Rattle.run_laws.proofs.board.OnBoard.{frame_of}
 
 -- one that a cause stops is stopped
 is_stopped : (stopped : Option ℕ) (why : Option CancelReason) (delivered : ℕ) → stopped ≡ None → false ≡ is_none why
@@ -135,8 +137,8 @@ slow_said u (cut piece [] ∷ earlier) s past counted last =
     ap (λ (s : ExecuteStatus). s.slow) same ∙ ap (nat_lt 0) counted
 
 -- so a turn with which a unit has finished
-turn_finishes : (p : Settings) (over : Bool) (now : ℕ) (run : List Happening) (k : ℕ) (turn : UnitTurn) (u : UnitView)
-    → Holds p over now run → IsShownIf (unit_of k run) (story_of k run)
+turn_finishes : (p : Settings) (f : Frame) (now : ℕ) (run : List Happening) (k : ℕ) (turn : UnitTurn) (u : UnitView)
+    → Holds p now run → IsShownIf (unit_of k run) (story_of k run)
     → HasReadIf (unit_of k run) (story_of k run) → unit_of k run ≡ Some u
     → takes now u turn ≡ true
     → ((go : Bool) → turn ≡ Answered go → go ≡ is_none (reason run))
@@ -146,7 +148,7 @@ turn_finishes : (p : Settings) (over : Bool) (now : ℕ) (run : List Happening) 
     × ((row now turn u).info
     ≡ map (λ round. (round, exited_with (unit_terms p k) (env_said (story_of k run)) s u))
     (rounds_in (line_of k run))))
-turn_finishes p over now run k turn u h shows reads is en goes done on =
+turn_finishes p f now run k turn u h shows reads is en goes done on =
     let it = row_finishes now u.phase turn (at_moment now u) (stopped_at k run) (reason run) (deliveries k run) refl
     (takes_moment now u.phase u turn en) none goes done on in
     let last = ended_in (is_mismatched p k) (was_left k run) u.phase u.statuses (account_of k (told run))
@@ -198,8 +200,8 @@ turn_finishes p over now run k turn u h shows reads is en goes done on =
 pub numbered : (j k : ℕ) → (j == k) ≡ true → k ≡ j
 numbered j k own = grind arith
 
-part_finishes : (p : Settings) (over : Bool) (now : ℕ) (run : List Happening) (k : ℕ) (u : UnitView)
-    (part : Option UnitPart) (info : List (ℕ × InfoResponse)) → Holds p over now run → IsShownIf (unit_of k run)
+part_finishes : (p : Settings) (f : Frame) (now : ℕ) (run : List Happening) (k : ℕ) (u : UnitView)
+    (part : Option UnitPart) (info : List (ℕ × InfoResponse)) → Holds p now run → IsShownIf (unit_of k run)
     (story_of k run) → HasReadIf (unit_of k run) (story_of k run) → PartFits p now run part
     → info ≡ info_by now run part → is_turn_of k part ≡ true → unit_of k run ≡ Some u
     → is_done (unit_after now k part (unit_of k run)) ≡ true
@@ -207,14 +209,14 @@ part_finishes : (p : Settings) (over : Bool) (now : ℕ) (run : List Happening) 
     → (s : ExecuteStatus) × ((last_status (statuses_of p k run) ≡ Some s)
     × (info ≡ map (λ round. (round, exited_with (unit_terms p k) (env_said (story_of k run)) s u))
     (rounds_in (line_of k run))))
-part_finishes p over now run k u None info h shows reads fits given own is done on = cc
-part_finishes p over now run k u (Some (Joins first)) info h shows reads fits given own is done on = cc
-part_finishes p over now run k u (Some (Acts j turn)) info h shows reads fits given own is done on =
+part_finishes p f now run k u None info h shows reads fits given own is done on = cc
+part_finishes p f now run k u (Some (Joins first)) info h shows reads fits given own is done on = cc
+part_finishes p f now run k u (Some (Acts j turn)) info h shows reads fits given own is done on =
     let here : k ≡ j = numbered j k own in
     let same : fits.unit ≡ u = same_Some _ _ (sym fits.is ∙ ap (λ k. unit_of k run) (sym here) ∙ is) in
     let en : takes now u turn ≡ true = ap (λ u. takes now u turn) (sym same) ∙ fits.takes in
     let over_now : is_last (row now turn u).next.phase ≡ true = over_by (rw own at done) in
-    let it = turn_finishes p over now run k turn u h shows reads is en fits.answers over_now (on_by own) in (
+    let it = turn_finishes p f now run k turn u h shows reads is en fits.answers over_now (on_by own) in (
       it.0,
       (
         it.1.0,
@@ -237,8 +239,8 @@ finishes : (p : Settings) (past : List Happening) (e : Entry) → HoldsAfter p p
     → ((k : ℕ) → HasReadIf (unit_of k (sub_run past)) (story_of k (sub_run past))) → enabled p past e.turn ≡ true
     → AnswersAsExited p (sub_run past) (happening p past e)
 finishes p past e h shows reads en k u own is done =
-    part_finishes p (is_over past) (clock past) run k u d.part d.info h.run (shows k) (reads k) (does_after p past e h en).part
-    (answers_as p past e.turn h.run) own is
+    part_finishes p (frame_of p past) (clock past) run k u d.part d.info h (shows k) (reads k) (part_fits p past e h en)
+    (answers_as p past e.turn h) own is
     (sym (reach_done d.request v) ∙ first_so (is_done after) (is_none (stopped_at k (happening p past e ∷ run))) done)
     (second_so (is_done after) (is_none (stopped_at k (happening p past e ∷ run))) done)
   where

@@ -9,14 +9,14 @@ use Rattle.std.proofs.lemmas.Option.{same_Some}
 use Rattle.run_model.specs.declared.happening.UnitPart.TheVariants.{Acts, Joins}
 use Rattle.run_model.specs.declared.happening.Happening.{Happening}
 use Rattle.run_model.specs.declared.happening.UnitPart.{UnitPart}
-use Rattle.run_model.specs.Board.{Deed, board, said}
+use Rattle.run_model.specs.Board.{Deed, said}
 use Rattle.run_model.specs.declared.entry.Entry.{Entry}
 use Rattle.run_model.specs.declared.unit_view.UnitView.{UnitView}
 use Rattle.run_model.specs.Rounds.{answer_of, answers_given, asked_by, closes_round, of_told, open_round, opens_round}
 use Rattle.run_model.specs.Rounds.{round_count, round_total}
 use Rattle.run_model.specs.Story.{broadcast_to, is_live_unit, line_of}
-use Rattle.run_model.specs.Words.{clock, is_over, sub_run, unit_after, unit_of, units}
-use Rattle.run_model.specs.Turns.{deed_on, enabled, happening, live_in}
+use Rattle.run_model.specs.Words.{unit_after, unit_of, units}
+use Rattle.run_model.specs.Turns.{live_in}
 use Rattle.run_model.specs.Dispatch.{query_waits}
 use Rattle.run_model.specs.Environment.{number}
 use Rattle.run_model.specs.Unit.{reach, row}
@@ -31,21 +31,21 @@ use Rattle.run_events.specs.declared.events.ReporterEvent.TheVariants.{Test, Tic
 use Rattle.run_events.specs.declared.events.TestEventKind.{TestEventKind}
 use Rattle.run_events.specs.declared.settings.Settings.{Settings}
 use Rattle.run_round_laws.proofs.rounds.Taken.{HasAnswered}
-use Rattle.run_round_laws.proofs.rounds.RoundDeeds.{IsNumbered, IsOfRound, of_round}
-use Rattle.run_round_laws.proofs.rounds.DeedAnswers.{answers_as, info_by}
+use Rattle.run_round_laws.proofs.rounds.RoundDeeds.{IsNumbered, IsOfRound}
+use Rattle.run_round_laws.proofs.rounds.DeedAnswers.{info_by}
 use Rattle.run_round_laws.proofs.rounds.AnswersFit.{line_below, queries_in, reach_query, reach_still}
 use Rattle.run_round_laws.proofs.rounds.Queried.{own_keeps_queries, queries_of, times}
 use Rattle.run_round_laws.proofs.rounds.RangeSums.{sum-one, sum-same, sum-through}
 use Rattle.run_laws.proofs.board.Holds.{HasLine, Holds}
-use Rattle.run_laws.proofs.board.Kept.{HoldsAfter, does_after}
+use Rattle.run_laws.proofs.board.OnBoard.{Frame, board_of}
 use Rattle.run_laws.proofs.board.DeedFits.{PartFits}
 use Rattle.run_round_laws.specs.Queries.{asked_in}
 
 -- of the open round of queries the answers that were given, and the queries that stand in lines, are as many as the
 -- units that were asked, at most
-pub record IsFilled (p : Settings) (past : List Happening) : Type 0 where
-  pub most : (round : ℕ) → open_round past ≡ Some (GetInfo round)
-      → length (answers_given (Some (GetInfo round)) past) + queries_in p round (sub_run past) ≤ round_total past
+pub record IsFilled (p : Settings) (run : List Happening) : Type 0 where
+  pub most : (round : ℕ) → open_round run ≡ Some (GetInfo round)
+      → length (answers_given (Some (GetInfo round)) run) + queries_in p round run ≤ round_total run
 
 -- how many units an event says to be asked
 total_is : (o : Option ReporterEvent) (total : ℕ) → of_told asked_in None o ≡ Some total → of_told asked_by 0 o ≡ total
@@ -93,18 +93,18 @@ moved : (m n before after a : ℕ) (own : ℕ) → m + before ≡ n + after → 
 moved m n before after a own sums is less = omega arith
 
 -- any other turn: what is answered leaves a line
-part_filled : (p : Settings) (over : Bool) (run : List Happening) (now round : ℕ) (request : Option Request)
-    (part : Option UnitPart) (info : List (ℕ × InfoResponse)) → Holds p over now run → PartFits p now run part
+part_filled : (p : Settings) (run : List Happening) (now round : ℕ) (request : Option Request)
+    (part : Option UnitPart) (info : List (ℕ × InfoResponse)) → Holds p now run → PartFits p now run part
     → info ≡ info_by now run part → opens_round request ≡ false
     → sum_by (λ k. queries_of round (reach request (unit_after now k part (unit_of k run))))
     (range_with_len 0 (units_in p))
     + length (filter_map (answer_of (Some (GetInfo round))) info)
     ≤ queries_in p round run
-part_filled p over run now round request None info h fits is none =
+part_filled p run now round request None info h fits is none =
     let same = sum-same (λ k. queries_of round (unit_of k run)) (λ k. queries_of round (reach request (unit_of k run)))
     (units_in p) 0 (λ k low. reach_still round request (unit_of k run) none) in
     as_many _ _ _ same (ap (λ info. length (filter_map (answer_of (Some (GetInfo round))) info)) is)
-part_filled p over run now round request (Some (Joins first)) info h (sent, new) is none =
+part_filled p run now round request (Some (Joins first)) info h (sent, new) is none =
     as_many _ _ _ (sum-same (λ k. queries_of round (unit_of k run))
     (λ k. queries_of round (reach request (unit_after now k (Some (Joins first)) (unit_of k run)))) (units_in p) 0
     (λ k low. reach_still round request (unit_after now k (Some (Joins first)) (unit_of k run)) none
@@ -118,7 +118,7 @@ part_filled p over run now round request (Some (Joins first)) info h (sent, new)
         ap (λ line. times round (rounds_in line)) new.line
         ∙ sym (ap (queries_of round) (ap (λ k. unit_of k run) here ∙ new.unknown))
     begins k false e = refl
-part_filled p over run now round request (Some (Acts j turn)) info h fits is none =
+part_filled p run now round request (Some (Acts j turn)) info h fits is none =
     moved _ _ _ _ _ _ (sum-one (λ k. queries_of round (unit_of k run))
     (λ k. queries_of round (reach request (unit_after now k (Some (Acts j turn)) (unit_of k run)))) (units_in p) 0 j
     (omega arith) (below (h.named j u fits.is).1) others)
@@ -164,59 +164,49 @@ part_filled p over run now round request (Some (Acts j turn)) info h fits is non
         + length (filter_map (answer_of (Some (GetInfo round))) info) ≤ queries_of round (Some u)) (sym given)
         (own_keeps_queries round now turn u fits.takes))
 
-pub filled-cons : (p : Settings) (past : List Happening) (e : Entry) → enabled p past e.turn ≡ true → HoldsAfter p past
-    → ((k : ℕ) → HasAnswered k (sub_run past))
-    → ((k : ℕ) → list_all (λ n. nat_lt n (round_count past)) (rounds_in (broadcast_to k (sub_run past))) ≡ true)
-    → IsFilled p past → (round : ℕ) → open_round (happening p past e ∷ past) ≡ Some (GetInfo round)
-    → length (answers_given (Some (GetInfo round)) (happening p past e ∷ past))
-    + queries_in p round (happening p past e ∷ sub_run past) ≤ round_total (happening p past e ∷ past)
-filled-cons p past e en h answered below was round opened = by_opens (opens_round d.request) refl opened
+pub filled-cons : (p : Settings) (f : Frame) (now : ℕ) (run : List Happening) (e : Entry) (d : Deed) → Holds p now run
+    → PartFits p now run d.part → d.info ≡ info_by now run d.part → IsOfRound (board_of p f now run) d
+    → ((k : ℕ) → HasAnswered k run)
+    → ((k : ℕ) → list_all (λ n. nat_lt n (round_count run)) (rounds_in (broadcast_to k run)) ≡ true)
+    → IsFilled p run → IsFilled p (said now e d ∷ run)
+filled-cons p f now run e d h fits is it answered below was =
+    record { most = λ round opened. by_opens round (opens_round d.request) refl opened }
   where
-    d : Deed
-    d = deed_on p (board p past) e.turn
+    Most : ℕ → Bool → Type 0
+    Most round opens = length (if opens then []
+        else answers_given (Some (GetInfo round)) run ++ filter_map (answer_of (Some (GetInfo round))) d.info)
+        + queries_in p round (said now e d ∷ run)
+        ≤ (if opens then of_told asked_by 0 d.told else round_total run)
 
-    run : List Happening
-    run = sub_run past
-
-    it : IsOfRound (board p past) d
-    it = of_round p (board p past) e.turn en
-
-    Most : Bool → Type 0
-    Most opens = length (if opens then []
-        else answers_given (Some (GetInfo round)) past ++ filter_map (answer_of (Some (GetInfo round))) d.info)
-        + queries_in p round (happening p past e ∷ run)
-        ≤ (if opens then of_told asked_by 0 d.told else round_total past)
-
-    new : d.request ≡ Some (GetInfo round) → opens_round d.request ≡ true → Most true
-    new request opens =
-        let number : round ≡ round_count past = subst (IsNumbered (round_count past)) request it.number in
-        let many : queries_in p round (happening p past e ∷ run) ≡ live_in (units p run) =
-        opens_filled p run (clock past) round e d h.run.lines answered
+    new : (round : ℕ) → d.request ≡ Some (GetInfo round) → opens_round d.request ≡ true → Most round true
+    new round request opens =
+        let number : round ≡ round_count run = subst (IsNumbered (round_count run)) request it.number in
+        let many : queries_in p round (said now e d ∷ run) ≡ live_in (units p run) =
+        opens_filled p run now round e d h.lines answered
         (λ k. subst (λ count. list_all (λ n. nat_lt n count) (rounds_in (broadcast_to k run)) ≡ true) (sym number)
         (below k))
         (it.alone opens) request in
         let total : of_told asked_by 0 d.told ≡ live_in (units p run) =
-        asks_total d.told d.request (round_count past) (live_in (units p run)) (ap query_waits request) it.asked
+        asks_total d.told d.request (round_count run) (live_in (units p run)) (ap query_waits request) it.asked
         it.start in
         omega arith
 
-    more : open_round past ≡ Some (GetInfo round) → opens_round d.request ≡ false → Most false
-    more open_before none =
+    more : (round : ℕ) → open_round run ≡ Some (GetInfo round) → opens_round d.request ≡ false → Most round false
+    more round open_before none =
         let before = was.most round open_before in
-        let step = part_filled p (is_over past) run (clock past) round d.request d.part d.info h.run
-        (does_after p past e h en).part (answers_as p past e.turn h.run) none in
-        let long = length-append (answers_given (Some (GetInfo round)) past)
+        let step = part_filled p run now round d.request d.part d.info h fits is none in
+        let long = length-append (answers_given (Some (GetInfo round)) run)
         (filter_map (answer_of (Some (GetInfo round))) d.info) in
         omega (arith, before, step, long)
 
-    by_closes : (b : Bool) → closes_round d.stops d.told ≡ b → opens_round d.request ≡ false
-        → (if b then None else open_round past) ≡ Some (GetInfo round) → Most false
-    by_closes true closes none opened = cc
-    by_closes false closes none opened = more opened none
+    by_closes : (round : ℕ) (b : Bool) → closes_round d.stops d.told ≡ b → opens_round d.request ≡ false
+        → (if b then None else open_round run) ≡ Some (GetInfo round) → Most round false
+    by_closes round true closes none opened = cc
+    by_closes round false closes none opened = more round opened none
 
-    by_opens : (b : Bool) → opens_round d.request ≡ b
-        → (if b then d.request else if closes_round d.stops d.told then None else open_round past)
+    by_opens : (round : ℕ) (b : Bool) → opens_round d.request ≡ b
+        → (if b then d.request else if closes_round d.stops d.told then None else open_round run)
         ≡ Some (GetInfo round)
-        → Most b
-    by_opens true opens opened = new opened opens
-    by_opens false none opened = by_closes (closes_round d.stops d.told) refl none opened
+        → Most round b
+    by_opens round true opens opened = new round opened opens
+    by_opens round false none opened = by_closes round (closes_round d.stops d.told) refl none opened

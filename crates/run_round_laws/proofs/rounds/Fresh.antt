@@ -11,7 +11,6 @@ use Rattle.run_events.specs.declared.settings.Settings.{Settings}
 use Rattle.run_model.specs.declared.entry.Entry.{Entry}
 use Rattle.run_model.specs.declared.happening.Happening.{Happening}
 use Rattle.run_model.specs.declared.unit_view.UnitView.{UnitView}
-use Rattle.run_model.specs.Board.{board}
 use Rattle.run_model.specs.Journal.{IsLegalBackward, history}
 use Rattle.run_model.specs.Rounds.{opens_round, round_count}
 use Rattle.run_model.specs.Same.{is_request}
@@ -19,8 +18,9 @@ use Rattle.run_model.specs.Story.{broadcast_to, is_live_unit, line_of, story_of}
 use Rattle.run_model.specs.Turns.{happening}
 use Rattle.run_model.specs.Words.{sub_run, unit_after, unit_of}
 use Rattle.run_round_laws.specs.Requests.{requests_taken}
-use Rattle.run_laws.proofs.board.Kept.{HoldsAfter, IsBeforeRuns, IsOfRun, holds, where_joins}
-use Rattle.run_round_laws.proofs.rounds.RoundDeeds.{IsNumbered, of_round}
+use Rattle.run_laws.proofs.board.Kept.{IsBeforeRuns, IsOfRun, from_base, holds, where_joins}
+use Rattle.run_round_laws.proofs.rounds.JoinedRounds.{of_round_in}
+use Rattle.run_round_laws.proofs.rounds.RoundDeeds.{IsNumbered}
 use Rattle.run_round_laws.proofs.rounds.Taken.{HasAnswered}
 
 -- whether the round of a request, if it has one, is below this number
@@ -64,40 +64,41 @@ asked_before count (Some Continue) true number = refl
 asked_before count (Some (Shutdown reason)) true number = refl
 asked_before count (Some OtherCancel) true number = refl
 
+-- what was broadcast to a unit is before the count of a sub-run
+abbrev pub AreBefore : ℕ → List Happening → Type 0
+AreBefore k run = list_all (is_before (round_count run)) (broadcast_to k run) ≡ true
+
+before_more : (k : ℕ) (x : Happening) (run : List Happening) → IsNumbered (round_count run) x.request → AreBefore k run
+    → AreBefore k (x ∷ run)
+before_more k x run number was =
+    list_all-append (is_before (round_count (x ∷ run))) (broadcast_to k run)
+    (if is_live_unit v then option_to_list x.request else [])
+    ∙ rw (
+      all_later (round_count run) (if opens_round x.request then 1 else 0) (broadcast_to k run) was,
+      asked_before (round_count run) x.request (is_live_unit v) number,
+    ) refl
+  where
+    v : Option UnitView
+    v = unit_after x.moment k x.part (unit_of k run)
+
 pub before_all : (p : Settings) (backward : List Entry) → IsLegalBackward p backward → (k : ℕ)
-    → list_all (is_before (round_count (history p backward))) (broadcast_to k (sub_run (history p backward))) ≡ true
+    → AreBefore k (sub_run (history p backward))
 before_all p [] legal k = refl
-before_all p (e ∷ before) legal k = one_more (before_all p before legal.2 k) (holds p before legal.2)
+before_all p (e ∷ before) legal k =
+    by_run (where_joins p past e (holds p before legal.2) legal.0) (before_all p before legal.2 k)
   where
     past : List Happening
     past = history p before
 
-    run : List Happening
-    run = sub_run past
-
     x : Happening
     x = happening p past e
 
-    v : Option UnitView
-    v = unit_after x.moment k x.part (unit_of k run)
-
-    AllBefore : List Happening → Type 0
-    AllBefore run = list_all (is_before (round_count (x ∷ past))) (broadcast_to k run) ≡ true
-
-    one_more : list_all (is_before (round_count past)) (broadcast_to k run) ≡ true → HoldsAfter p past
-        → AllBefore (sub_run (x ∷ past))
-    one_more was h = by_run (where_joins p past e h legal.0)
-      where
-        by_run : IsOfRun p past e ⊎ IsBeforeRuns p past e → AllBefore (sub_run (x ∷ past))
-        by_run (inl of) = subst AllBefore (sym of.joins)
-            (list_all-append (is_before (round_count (x ∷ past))) (broadcast_to k run)
-            (if is_live_unit v then option_to_list x.request else [])
-            ∙ rw (
-              all_later (round_count past) (if opens_round x.request then 1 else 0) (broadcast_to k run) was,
-              asked_before (round_count past) x.request (is_live_unit v)
-                  (of_round p (board p past) e.turn legal.0).number,
-            ) refl)
-        by_run (inr none) = subst AllBefore (sym none.still) refl
+    by_run : IsOfRun p past e ⊎ IsBeforeRuns p past e → AreBefore k (sub_run past) → AreBefore k (sub_run (x ∷ past))
+    by_run (inl of) was =
+        subst (AreBefore k) (sym of.joins)
+        (before_more k x of.base (of_round_in p past e of legal.0).number
+        (from_base (AreBefore k) p past e of refl was))
+    by_run (inr none) was = subst (AreBefore k) (sym none.still) refl
 
 -- so no line has a request of a new round
 none_same : (count : ℕ) (request : Request) (line : List Request) → IsNumbered count (Some request)

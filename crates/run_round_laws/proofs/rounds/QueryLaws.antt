@@ -21,45 +21,44 @@ use Rattle.run_model.specs.Dispatch.{query_waits}
 use Rattle.run_model.specs.Journal.{IsLegal, IsLegalBackward, history, past_of}
 use Rattle.run_model.specs.Rounds.{answer_of, answers_given, answers_told, is_answer, of_told, open_round, opens_round}
 use Rattle.run_model.specs.Rounds.{asked_by, round_total, tells_answer}
-use Rattle.run_model.specs.Turns.{deed_on, enabled, happening, nothing_done, oldest_of}
+use Rattle.run_model.specs.Turns.{deed_on, enabled, happening, oldest_of}
 use Rattle.run_model.specs.Words.{clock, sub_run}
 use Rattle.run_round_laws.specs.Queries.{AnswersFit, TellsOfQueries, answer_told_in, given_so_far, missing_in}
-use Rattle.run_laws.proofs.board.Kept.{HoldsAfter, IsBeforeRuns, IsOfRun, holds, where_joins}
-use Rattle.run_round_laws.proofs.rounds.AnswersFit.{queries_in}
+use Rattle.run_laws.proofs.board.Kept.{HoldsAfter, IsBeforeRuns, IsOfRun, from_base, holds, where_joins}
+use Rattle.run_laws.proofs.board.OnBoard.{Frame, board_of, frame_of}
+use Rattle.run_round_laws.proofs.rounds.DeedAnswers.{answers_in}
+use Rattle.run_round_laws.proofs.rounds.Taken.{HasAnswered, answered-none}
 use Rattle.run_round_laws.proofs.rounds.FitSteps.{IsFilled, filled-cons}
 use Rattle.run_round_laws.proofs.rounds.RequestLaws.{answered}
-use Rattle.run_round_laws.proofs.rounds.Rising.{risen}
+use Rattle.run_round_laws.proofs.rounds.Rising.{IsRisen, risen}
+use Rattle.run_round_laws.proofs.rounds.JoinedRounds.{of_round_in}
 use Rattle.run_round_laws.proofs.rounds.RoundDeeds.{IsOfRound, TellsExactly, exactly, of_round}
 
--- before a sub-run begins no round is open
-idle_filled : (p : Settings) (past : List Happening) (e : Entry) → HoldsAfter p past → sub_run past ≡ []
-    → deed_on p (board p past) e.turn ≡ nothing_done → open_round (happening p past e ∷ past) ≡ None
-idle_filled p past e h none idle =
-    ap (λ (d : Deed). open_round (said (clock past) e d ∷ past)) idle ∙ h.alike.asks ∙ ap open_round none
+-- no round is open where nothing has happened
+filled_none : (p : Settings) → IsFilled p []
+filled_none p = record { most = λ round opened. cc }
 
-pub filled : (p : Settings) (backward : List Entry) → IsLegalBackward p backward → IsFilled p (history p backward)
-filled p [] legal = record { most = λ round opened. cc }
-filled p (e ∷ before) legal = one_more (filled p before legal.2) (holds p before legal.2)
+pub filled : (p : Settings) (backward : List Entry) → IsLegalBackward p backward
+    → IsFilled p (sub_run (history p backward))
+filled p [] legal = filled_none p
+filled p (e ∷ before) legal = by_run (where_joins p past e h legal.0) (filled p before legal.2)
   where
     past : List Happening
     past = history p before
 
-    one_more : IsFilled p past → HoldsAfter p past → IsFilled p (history p (e ∷ before))
-    one_more was h = by_run (where_joins p past e h legal.0)
-      where
-        by_run : IsOfRun p past e ⊎ IsBeforeRuns p past e → IsFilled p (history p (e ∷ before))
-        by_run (inl of) = record {
-          most = λ round opened.
-              subst (λ run. length (answers_given (Some (GetInfo round)) (happening p past e ∷ past))
-              + queries_in p round run ≤ round_total (happening p past e ∷ past)) (sym of.joins)
-              (filled-cons p past e legal.0 h (λ k. answered p before legal.2 k)
-              (λ k. (risen p before legal.2 k).below) was
-              round opened);
-        }
-        by_run (inr none) = record {
-          most = λ round opened.
-              let never : None ≡ Some (GetInfo round) = sym (idle_filled p past e h none.none none.idle) ∙ opened in cc;
-        }
+    h : HoldsAfter p past
+    h = holds p before legal.2
+
+    by_run : IsOfRun p past e ⊎ IsBeforeRuns p past e → IsFilled p (sub_run past)
+        → IsFilled p (sub_run (happening p past e ∷ past))
+    by_run (inl of) was =
+        subst (IsFilled p) (sym of.joins)
+        (filled-cons p (frame_of p past) (clock past) of.base e (deed_on p (board p past) e.turn) of.holds of.does.part
+        (answers_in p past e h of) (of_round_in p past e of legal.0)
+        (λ k. from_base (HasAnswered k) p past e of (answered-none k) (answered p before legal.2 k))
+        (λ k. (from_base (IsRisen k) p past e of (risen p [] tt k) (risen p before legal.2 k)).below)
+        (from_base (IsFilled p) p past e of (filled_none p) was))
+    by_run (inr none) was = subst (IsFilled p) (sym none.still) (filled_none p)
 
 -- an answer that waits is the next of those that were given
 next_given : (n : ℕ) (given : List InfoResponse) → oldest_of (drop n given) ≡ slice_get given n
@@ -138,38 +137,54 @@ told_below p past response it oldest = by_waits (query_waits (open_round past)) 
         nothing_given [] (answers_told past) refl
         (ap (λ given. slice_get given (answers_told past)) (sym (given_none (open_round past) past none)) ∙ some)
 
-told_step : (p : Settings) (past : List Happening) (e : Entry) → IsFilled p past
-    → IsOfRound (board p past) (deed_on p (board p past) e.turn) → answers_told past ≤ round_total past
-    → answers_told (happening p past e ∷ past) ≤ round_total (happening p past e ∷ past)
-told_step p past e full it was = by_opens (opens_round d.request)
+told_step : (p : Settings) (f : Frame) (now : ℕ) (run : List Happening) (e : Entry) (d : Deed) → IsFilled p run
+    → IsOfRound (board_of p f now run) d → answers_told run ≤ round_total run
+    → answers_told (said now e d ∷ run) ≤ round_total (said now e d ∷ run)
+told_step p f now run e d full it was = by_opens (opens_round d.request)
   where
-    d : Deed
-    d = deed_on p (board p past) e.turn
-
-    one_more : (b : Bool) → tells_answer d.told ≡ b → answers_told past + (if b then 1 else 0) ≤ round_total past
+    one_more : (b : Bool) → tells_answer d.told ≡ b → answers_told run + (if b then 1 else 0) ≤ round_total run
     one_more true tells =
         let some = tells_some d.told tells in
-        let waited = subst (λ o. IfSome o (λ answer. (answer.index ≡ answers_told past)
-        × (answer.total ≡ round_total past)
-        × (oldest_of (drop (answers_told past) (given_so_far past)) ≡ Some answer.response))) some.1 it.answer in
-        told_below p past some.0.response full waited.2
+        let waited = subst (λ o. IfSome o (λ answer. (answer.index ≡ answers_told run)
+        × (answer.total ≡ round_total run)
+        × (oldest_of (drop (answers_told run) (given_so_far run)) ≡ Some answer.response))) some.1 it.answer in
+        told_below p run some.0.response full waited.2
     one_more false tells = omega arith
 
-    by_opens : (b : Bool) → (if b then 0 else answers_told past + (if tells_answer d.told then 1 else 0))
-        ≤ (if b then of_told asked_by 0 d.told else round_total past)
+    by_opens : (b : Bool) → (if b then 0 else answers_told run + (if tells_answer d.told then 1 else 0))
+        ≤ (if b then of_told asked_by 0 d.told else round_total run)
     by_opens true = omega arith
     by_opens false = one_more (tells_answer d.told) refl
 
+-- so no more were told in a sub-run
+abbrev AreToldWithin : List Happening → Type 0
+AreToldWithin run = answers_told run ≤ round_total run
+
 told_fits : (p : Settings) (backward : List Entry) → IsLegalBackward p backward
-    → answers_told (history p backward) ≤ round_total (history p backward)
+    → AreToldWithin (sub_run (history p backward))
 told_fits p [] legal = omega arith
 told_fits p (e ∷ before) legal =
-    told_step p (history p before) e (filled p before legal.2) (of_round p (board p (history p before)) e.turn legal.0)
-    (told_fits p before legal.2)
+    by_run (where_joins p past e (holds p before legal.2) legal.0) (told_fits p before legal.2)
+  where
+    past : List Happening
+    past = history p before
 
-pub fits : (p : Settings) (backward : List Entry) → IsLegalBackward p backward → AnswersFit (history p backward)
+    none_told : AreToldWithin []
+    none_told = omega arith
+
+    by_run : IsOfRun p past e ⊎ IsBeforeRuns p past e → AreToldWithin (sub_run past)
+        → AreToldWithin (sub_run (happening p past e ∷ past))
+    by_run (inl of) was =
+        subst AreToldWithin (sym of.joins)
+        (told_step p (frame_of p past) (clock past) of.base e (deed_on p (board p past) e.turn)
+        (from_base (IsFilled p) p past e of (filled_none p) (filled p before legal.2)) (of_round_in p past e of legal.0)
+        (from_base AreToldWithin p past e of none_told was))
+    by_run (inr none) was = subst AreToldWithin (sym none.still) none_told
+
+pub fits : (p : Settings) (backward : List Entry) → IsLegalBackward p backward
+    → AnswersFit (sub_run (history p backward))
 fits p backward legal = record {
-  given = given_fits p (history p backward) (filled p backward legal);
+  given = given_fits p (sub_run (history p backward)) (filled p backward legal);
   told = told_fits p backward legal;
 }
 
@@ -182,7 +197,7 @@ rest_is : (told total missing : ℕ) → told ≤ total → missing ≡ total - 
 rest_is told total missing le is = omega arith
 
 tells : (p : Settings) (past : List Happening) (e : Entry) → enabled p past e.turn ≡ true
-    → answers_told past ≤ round_total past → TellsOfQueries p past (happening p past e)
+    → AreToldWithin (sub_run past) → TellsOfQueries p (sub_run past) (happening p past e)
 tells p past e en within = record {
   queries = it.asked ∙ tells_now.asks;
   asks = tells_now.asks;
@@ -190,11 +205,14 @@ tells p past e en within = record {
   ends = tells_now.ends;
   start = it.start;
   answer = if_some (of_told answer_told_in None d.told) (λ answer h.
-      (h.0, h.1, sym (next_given (answers_told past) (given_so_far past)) ∙ h.2)) it.answer;
+      (h.0, h.1, sym (next_given (answers_told run) (given_so_far run)) ∙ h.2)) it.answer;
   finish = if_some (of_told missing_in None d.told) (λ missing h.
-      (h.0, rest_is (answers_told past) (round_total past) missing within h.1)) it.finish;
+      (h.0, rest_is (answers_told run) (round_total run) missing within h.1)) it.finish;
 }
   where
+    run : List Happening
+    run = sub_run past
+
     d : Deed
     d = deed_on p (board p past) e.turn
 
@@ -205,7 +223,7 @@ tells p past e en within = record {
     tells_now = exactly p (board p past) e.turn en
 
 pub tells_so : (p : Settings) (journal : List Entry) (e : Entry) → IsLegal p (journal ++ e ∷ [])
-    → TellsOfQueries p (past_of p journal) (happening p (past_of p journal) e)
+    → TellsOfQueries p (sub_run (past_of p journal)) (happening p (past_of p journal) e)
 tells_so p journal e legal =
     let backward : IsLegalBackward p (e ∷ reverse journal) =
     subst (IsLegalBackward p) (reverse-append journal (e ∷ [])) legal in

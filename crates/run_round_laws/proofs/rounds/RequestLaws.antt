@@ -12,10 +12,11 @@ use Rattle.run_model.specs.Info.{round_of, rounds_in}
 use Rattle.run_model.specs.Journal.{IsLegalBackward, history}
 use Rattle.run_model.specs.Story.{broadcast_to, line_of, story_of}
 use Rattle.run_model.specs.Turns.{deed_on}
-use Rattle.run_model.specs.Words.{clock, is_over, sub_run}
+use Rattle.run_model.specs.Words.{clock, sub_run}
 use Rattle.run_round_laws.specs.Requests.{HasItsRequests, has_finished, requests_taken}
-use Rattle.run_laws.proofs.board.Kept.{HoldsAfter, IsBeforeRuns, IsOfRun, does_after, holds, where_joins}
-use Rattle.run_round_laws.proofs.rounds.DeedAnswers.{answers_as}
+use Rattle.run_laws.proofs.board.Kept.{HoldsAfter, IsBeforeRuns, IsOfRun, from_base, holds, where_joins}
+use Rattle.run_round_laws.proofs.rounds.DeedAnswers.{answers_in}
+use Rattle.run_laws.proofs.board.OnBoard.{frame_of}
 use Rattle.run_round_laws.proofs.rounds.Rising.{risen}
 use Rattle.run_round_laws.proofs.rounds.Taken.{HasAnswered, answered-cons, answered-none}
 
@@ -32,8 +33,8 @@ answered p (e ∷ before) legal k = one_more (answered p before legal.2 k) (hold
       where
         by_run : IsOfRun p past e ⊎ IsBeforeRuns p past e → HasAnswered k (sub_run (history p (e ∷ before)))
         by_run (inl of) = subst (HasAnswered k) (sym of.joins)
-            (answered-cons p (is_over past) (sub_run past) (clock past) k e (deed_on p (board p past) e.turn) h.run
-            (does_after p past e h legal.0).part (answers_as p past e.turn h.run) was)
+            (answered-cons p (frame_of p past) of.base (clock past) k e (deed_on p (board p past) e.turn) of.holds
+            of.does.part (answers_in p past e h of) (from_base (HasAnswered k) p past e of (answered-none k) was))
         by_run (inr none) = subst (HasAnswered k) (sym none.still) (answered-none k)
 
 pub requests : (p : Settings) (backward : List Entry) → IsLegalBackward p backward → (k : ℕ)

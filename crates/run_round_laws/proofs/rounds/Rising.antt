@@ -13,7 +13,6 @@ use Rattle.run_events.specs.declared.settings.Settings.{Settings}
 use Rattle.run_model.specs.declared.entry.Entry.{Entry}
 use Rattle.run_model.specs.declared.happening.Happening.{Happening}
 use Rattle.run_model.specs.declared.unit_view.UnitView.{UnitView}
-use Rattle.run_model.specs.Board.{board}
 use Rattle.run_model.specs.Info.{round_of, rounds_in}
 use Rattle.run_model.specs.Journal.{IsLegalBackward, history}
 use Rattle.run_model.specs.Rounds.{opens_round, round_count}
@@ -21,8 +20,9 @@ use Rattle.run_model.specs.Story.{broadcast_to, is_live_unit}
 use Rattle.run_model.specs.Turns.{happening}
 use Rattle.run_model.specs.Words.{sub_run, unit_after, unit_of}
 use Rattle.run_round_laws.specs.Requests.{are_rising}
-use Rattle.run_laws.proofs.board.Kept.{HoldsAfter, IsBeforeRuns, IsOfRun, holds, where_joins}
-use Rattle.run_round_laws.proofs.rounds.RoundDeeds.{IsNumbered, of_round}
+use Rattle.run_laws.proofs.board.Kept.{IsBeforeRuns, IsOfRun, from_base, holds, where_joins}
+use Rattle.run_round_laws.proofs.rounds.JoinedRounds.{of_round_in}
+use Rattle.run_round_laws.proofs.rounds.RoundDeeds.{IsNumbered}
 
 both : (a b : Bool) → a ≡ true → b ≡ true → (a && b) ≡ true
 both a b first second = rw (first, second) refl
@@ -84,39 +84,40 @@ risen-append count rounds heard opens was (inr (one, opened)) = rw (one, opened)
     next : nat_lt count (count + 1) ≡ true
     next = grind (arith, nat_tests)
 
-pub risen : (p : Settings) (backward : List Entry) → IsLegalBackward p backward → (k : ℕ)
-    → AreRisen (round_count (history p backward)) (rounds_in (broadcast_to k (sub_run (history p backward))))
-risen p [] legal k = record { rising = refl; below = refl }
-risen p (e ∷ before) legal k = one_more (risen p before legal.2 k) (holds p before legal.2)
+-- so in a sub-run
+abbrev pub IsRisen : ℕ → List Happening → Type 0
+IsRisen k run = AreRisen (round_count run) (rounds_in (broadcast_to k run))
+
+risen_more : (k : ℕ) (x : Happening) (run : List Happening) → IsNumbered (round_count run) x.request → IsRisen k run
+    → IsRisen k (x ∷ run)
+risen_more k x run number was =
+    subst (AreRisen (round_count (x ∷ run))) (sym (filter_map-append round_of (broadcast_to k run) heard))
+    (risen-append (round_count run) (rounds_in (broadcast_to k run)) (rounds_in heard) (opens_round x.request) was
+    (heard_round (round_count run) x.request (is_live_unit v) number))
   where
-    past : List Happening
-    past = history p before
-
-    run : List Happening
-    run = sub_run past
-
-    x : Happening
-    x = happening p past e
-
     v : Option UnitView
     v = unit_after x.moment k x.part (unit_of k run)
 
     heard : List Request
     heard = if is_live_unit v then option_to_list x.request else []
 
-    one_more : AreRisen (round_count past) (rounds_in (broadcast_to k run)) → HoldsAfter p past
-        → AreRisen (round_count (x ∷ past)) (rounds_in (broadcast_to k (sub_run (x ∷ past))))
-    one_more was h = by_run (where_joins p past e h legal.0)
-      where
-        by_run : IsOfRun p past e ⊎ IsBeforeRuns p past e
-            → AreRisen (round_count (x ∷ past)) (rounds_in (broadcast_to k (sub_run (x ∷ past))))
-        by_run (inl of) =
-            subst (λ run. AreRisen (round_count (x ∷ past)) (rounds_in (broadcast_to k run))) (sym of.joins)
-            (subst (AreRisen (round_count (x ∷ past))) (sym (filter_map-append round_of (broadcast_to k run) heard))
-            (risen-append (round_count past) (rounds_in (broadcast_to k run)) (rounds_in heard)
-            (opens_round x.request) was
-            (heard_round (round_count past) x.request (is_live_unit v)
-            (of_round p (board p past) e.turn legal.0).number)))
-        by_run (inr none) =
-            subst (λ run. AreRisen (round_count (x ∷ past)) (rounds_in (broadcast_to k run))) (sym none.still)
-            (record { rising = refl; below = refl })
+pub risen : (p : Settings) (backward : List Entry) → IsLegalBackward p backward → (k : ℕ)
+    → IsRisen k (sub_run (history p backward))
+risen p [] legal k = record { rising = refl; below = refl }
+risen p (e ∷ before) legal k =
+    by_run (where_joins p past e (holds p before legal.2) legal.0) (risen p before legal.2 k)
+  where
+    past : List Happening
+    past = history p before
+
+    x : Happening
+    x = happening p past e
+
+    none : IsRisen k []
+    none = record { rising = refl; below = refl }
+
+    by_run : IsOfRun p past e ⊎ IsBeforeRuns p past e → IsRisen k (sub_run past) → IsRisen k (sub_run (x ∷ past))
+    by_run (inl of) was =
+        subst (IsRisen k) (sym of.joins)
+        (risen_more k x of.base (of_round_in p past e of legal.0).number (from_base (IsRisen k) p past e of none was))
+    by_run (inr before_runs) was = subst (IsRisen k) (sym before_runs.still) none

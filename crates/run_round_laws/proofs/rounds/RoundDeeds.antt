@@ -6,7 +6,10 @@ use Rattle.std.specs.Prelude.{⊤, IfSome}
 use Rattle.run_events.specs.Hearing.{heard_key}
 use Rattle.run_events.specs.declared.events.ReporterEvent.{ReporterEvent}
 use Rattle.run_events.specs.declared.events.TestEventKind.{TestEventKind}
+use Rattle.run_events.specs.declared.events.ReporterEvent.TheVariants.{Tick, Test}
 use Rattle.run_events.specs.declared.events.TestEventKind.TheVariants.{SetupScriptStarted, RunPaused, RunContinued}
+use Rattle.run_events.specs.declared.events.TestEventKind.TheVariants.{RunStarted, RunFinished, StressSubRunStarted}
+use Rattle.run_events.specs.declared.events.TestEventKind.TheVariants.{StressSubRunFinished}
 use Rattle.run_events.specs.declared.info.InfoResponse.{InfoResponse}
 use Rattle.run_events.specs.declared.input.InputEvent.{InputEvent}
 use Rattle.run_events.specs.declared.input.InputEvent.TheVariants as inputs
@@ -26,7 +29,7 @@ use Rattle.run_events.specs.declared.signal.Signal.{Signal as SignalKind}
 use Rattle.run_events.specs.declared.signal.Signal.TheVariants.{Tstp}
 use Rattle.run_events.specs.declared.stats.RunStats.{RunStats}
 use Rattle.run_events.specs.declared.turn.Turn.{Turn}
-use Rattle.run_events.specs.declared.turn.Turn.TheVariants.{Admit, Answer, Deliver, Key as KeyCame}
+use Rattle.run_events.specs.declared.turn.Turn.TheVariants.{Admit, Answer, Begin, Deliver, End, Key as KeyCame}
 use Rattle.run_events.specs.declared.turn.Turn.TheVariants.{Signal as SignalCame}
 use Rattle.run_model.specs.declared.dispatcher_view.CancelRules.{CancelRules}
 use Rattle.run_model.specs.declared.dispatcher_view.DispatcherView.{DispatcherView}
@@ -40,15 +43,18 @@ use Rattle.run_events.specs.Result.{is_success}
 use Rattle.run_events.specs.declared.result.ExecutionResult.{ExecutionResult}
 use Rattle.run_model.specs.Dispatch.{retried_event, started_event, with_start, Moment, event, go_of, heard_by}
 use Rattle.run_model.specs.Dispatch.{is_halted, may_go, moment_by, query_waits}
-use Rattle.run_model.specs.Turns.{enabled_on, admission, answer_to, answered_by, asks_at, cancels_for, deed_on}
-use Rattle.run_model.specs.Turns.{delivery, done_by, hears, job_deed, job_event, key_deed, live_in, nothing_done}
+use Rattle.run_model.specs.Turns.{enabled_on, admission, answer_to, answered_by, asks_at, begins_at, cancels_for}
+use Rattle.run_model.specs.Turns.{deed_on, delivery, done_by, ends_at, hears, index_of, job_deed, job_event}
+use Rattle.run_model.specs.Turns.{key_deed, live_in, nothing_done}
 use Rattle.run_model.specs.Turns.{oldest_of, signal_deed, starting, takes_turn, tally_by, tells, told_by, turn_of_unit}
 use Rattle.run_model.specs.Rounds.{of_told, opens_round}
-use Rattle.run_round_laws.specs.Queries.{answer_told_in, asked_in, asks_information, is_answer_turn, is_info_due, is_info_key}
+use Rattle.run_round_laws.specs.Queries.{answer_told_in, asked_in, asks_information, is_answer_turn, is_info_due}
+use Rattle.run_round_laws.specs.Queries.{is_info_key}
 use Rattle.run_round_laws.specs.Queries.{is_info_signal, missing_in}
 use Rattle.run_events.specs.declared.plan.Hearing.{Hearing}
 use Rattle.run_events.specs.declared.input.Key.{Key as KeyName}
 use Rattle.run_laws.proofs.board.ByTurn.{by_turn}
+use Rattle.run_laws.proofs.told.Bounds.{IsBound, IsBoundKind, begin_cases, end_cases}
 
 -- a request that opens a round has this number
 abbrev pub IsNumbered : ℕ → Option Request → Type 0
@@ -70,11 +76,11 @@ pub record IsOfRound (b : Board) (d : Deed) : Type 0 where
   pub number : IsNumbered b.dispatcher.rounds.count d.request
 
 -- one that tells nothing of rounds, and opens none
-record IsOutside (d : Deed) : Type 0 where
-  asked : of_told asked_in None d.told ≡ None
-  answer : of_told answer_told_in None d.told ≡ None
-  finish : of_told missing_in None d.told ≡ None
-  opens : opens_round d.request ≡ false
+pub record IsOutside (d : Deed) : Type 0 where
+  pub asked : of_told asked_in None d.told ≡ None
+  pub answer : of_told answer_told_in None d.told ≡ None
+  pub finish : of_told missing_in None d.told ≡ None
+  pub opens : opens_round d.request ≡ false
 
 unnumbered : (n : ℕ) (request : Option Request) → opens_round request ≡ false
     → IsNumbered n request × (query_waits request ≡ false)
@@ -85,7 +91,7 @@ unnumbered n (Some (Shutdown request)) none = (tt, refl)
 unnumbered n (Some OtherCancel) none = (tt, refl)
 unnumbered n (Some (GetInfo round)) none = cc
 
-outside : (b : Board) (d : Deed) → IsOutside d → IsOfRound b d
+pub outside : (b : Board) (d : Deed) → IsOutside d → IsOfRound b d
 outside b d it = record {
   asked = (unnumbered 0 d.request it.opens).1 ∙ sym (ap is_some it.asked);
   start = rw it.asked tt;
@@ -198,6 +204,30 @@ cancels_outside : (now : ℕ) (d : DispatcherView) (cause : Cause) → IsQuietCa
 cancels_outside now d cause quiet =
     caused_outside (moment_by now d.watch) d.tally (Some cause) nothing_done quiet none_outside
 
+-- nor does the begin of a sub-run, or its end
+bound_tells : (o : Option ReporterEvent) → IsBound o → TellsNone o
+bound_tells None h = (refl, refl, refl)
+bound_tells (Some Tick) h = absurd h
+bound_tells (Some (Test event)) h = by_kind event.kind h
+  where
+    by_kind : (kind : TestEventKind) → IsBoundKind kind → TellsNone (Some (Test (record event { kind = kind })))
+    by_kind (RunStarted e) h = (refl, refl, refl)
+    by_kind (StressSubRunStarted e) h = (refl, refl, refl)
+    by_kind (StressSubRunFinished e) h = (refl, refl, refl)
+    by_kind (RunFinished e) h = (refl, refl, refl)
+    by_kind kind h = absurd h
+
+pub bound_outside : (d : Deed) → IsBound d.told → d.request ≡ None → IsOutside d
+bound_outside d own none =
+    let tells = bound_tells d.told own in
+    record { asked = tells.0; answer = tells.1; finish = tells.2; opens = ap opens_round none }
+
+begin_outside : (now : ℕ) (d : DispatcherView) → IsOutside (begins_at now d)
+begin_outside now d = begin_cases IsOutside (λ told after own later. bound_outside _ own refl) now d
+
+end_outside : (now : ℕ) (d : DispatcherView) → IsOutside (ends_at now d)
+end_outside now d = end_cases IsOutside (λ told after over own later. bound_outside _ own refl) now d
+
 -- a round of queries
 asks_round : (b : Board) → IsOfRound b (asks_at b.clock (live_in b.units) b.dispatcher)
 asks_round b = record {
@@ -259,15 +289,15 @@ pub of_round : (p : Settings) (b : Board) (turn : Turn) → enabled_on p b turn 
 of_round p b turn en =
     by_turn (λ turn named. takes_turn p b turn named ≡ true → IsOfRound b (done_by p b turn named))
     (record {
-      begin = λ en. outside b _ (record { asked = refl; answer = refl; finish = refl; opens = refl });
-      admit = λ en. outside b _ (admission_outside (newcomer p b.units));
+      begin = λ en. outside b _ (begin_outside b.clock b.dispatcher);
+      admit = λ en. outside b _ (admission_outside (newcomer p (index_of b.dispatcher) b.units));
       deliver = λ en. outside b _ (delivery_outside b b.queue);
       named = λ turn k to other en. outside b _ (record { asked = refl; answer = refl; finish = refl; opens = refl });
       clock = λ ns en. outside b _ none_outside;
       signal = λ signal en. signal_round b signal (heard_by b.dispatcher.rules.hearing signal);
       global_due = λ en. outside b _ (cancels_outside b.clock b.dispatcher time_is_up refl);
       report_cancel = λ en. outside b _ (cancels_outside b.clock b.dispatcher event_refused refl);
-      end = λ en. outside b _ (record { asked = refl; answer = refl; finish = refl; opens = refl });
+      end = λ en. outside b _ (end_outside b.clock b.dispatcher);
       key = λ key en. key_round b (heard_key b.dispatcher.rules.hearing.input key);
       tick = λ en. outside b _ (record { asked = refl; answer = refl; finish = refl; opens = refl });
       stop_wait_due = λ en. outside b _ (record { asked = refl; answer = refl; finish = refl; opens = refl });
@@ -352,8 +382,13 @@ answer_exactly b (Some response) some = record { asks = refl; answers = refl; en
 
 pub exactly : (p : Settings) (b : Board) (turn : Turn) → enabled_on p b turn ≡ true
     → TellsExactly b.dispatcher.rules.hearing turn (deed_on p b turn)
+exactly p b Begin en =
+    tells_outside b.dispatcher.rules.hearing Begin _ (begin_outside b.clock b.dispatcher) refl refl refl
+exactly p b End en =
+    tells_outside b.dispatcher.rules.hearing End _ (end_outside b.clock b.dispatcher) refl refl refl
 exactly p b Admit en =
-    tells_outside b.dispatcher.rules.hearing Admit _ (admission_outside (newcomer p b.units)) refl refl refl
+    tells_outside b.dispatcher.rules.hearing Admit _
+    (admission_outside (newcomer p (index_of b.dispatcher) b.units)) refl refl refl
 exactly p b Deliver en =
     tells_outside b.dispatcher.rules.hearing Deliver _ (delivery_outside b b.queue) refl refl refl
 exactly p b (SignalCame signal) en = signal_exactly b signal (heard_by b.dispatcher.rules.hearing signal) refl

@@ -27,7 +27,8 @@ use Rattle.run_laws.proofs.units.Rows.{decide_cases}
 use Rattle.run_laws.proofs.units.SlowLemmas.{in_time}
 use Rattle.run_laws.proofs.units.StandingLemmas.{is_in_grace, count_kept, count_still}
 use Rattle.run_laws.proofs.units.WatchLemmas.{timed_open}
-use Rattle.run_round_laws.proofs.rounds.Shown.{IsShown, WaitsFor, ending_kept, gives_none, grace_kept, leak_kept, pid_more}
+use Rattle.run_round_laws.proofs.rounds.Shown.{IsShown, WaitsFor, ending_kept, gives_none, grace_kept, leak_kept}
+use Rattle.run_round_laws.proofs.rounds.Shown.{pid_more}
 use Rattle.run_round_laws.proofs.rounds.Shown.{pid_said, result_kept, waits_set}
 use Rattle.run_clock.specs.Stopwatch.{started_at}
 use Rattle.run_model.specs.Retries.{decide_row}

@@ -22,11 +22,11 @@ use Rattle.run_model.specs.Story.{Attempt, OwnTurn, cut, line_of, own_turn, piec
 use Rattle.run_model.specs.Timing.{leak_timer}
 use Rattle.run_model.specs.Turns.{deed_on}
 use Rattle.run_model.specs.Unit.{at_moment, is_live, reach, row, takes}
-use Rattle.run_model.specs.Words.{clock, is_over, sub_run, unit_after, unit_of}
+use Rattle.run_model.specs.Words.{clock, sub_run, unit_after, unit_of}
 use Rattle.run_round_laws.specs.Answers.{grace_timer}
 use Rattle.run_laws.proofs.board.DeedFits.{PartFits}
 use Rattle.run_laws.proofs.board.Holds.{HasLine, HasLineIn, Holds}
-use Rattle.run_laws.proofs.board.Kept.{HoldsAfter, IsBeforeRuns, IsOfRun, does_after, holds, where_joins}
+use Rattle.run_laws.proofs.board.Kept.{HoldsAfter, IsBeforeRuns, IsOfRun, from_base, holds, where_joins}
 use Rattle.run_laws.proofs.units.AttemptLemmas.{HasPieces, IsMade, IsMadeIf, more}
 use Rattle.run_laws.proofs.units.Lines.{own_request}
 use Rattle.run_laws.proofs.units.MadeLemmas.{later_pieces}
@@ -34,6 +34,8 @@ use Rattle.run_laws.proofs.units.Rows.{takes_moment}
 use Rattle.run_round_laws.proofs.rounds.Shown.{IsShown, waits_later}
 use Rattle.run_round_laws.proofs.rounds.ShownMoves.{row_shown}
 use Rattle.run_round_laws.proofs.rounds.ShownRows.{Shows}
+use Rattle.run_laws.proofs.board.OnBoard.{Frame}
+use Rattle.run_laws.proofs.board.OnBoard.{frame_of}
 
 -- one that took no turn keeps nothing
 none_shown : (ph : Phase) (u : UnitView) → IsShown ph u []
@@ -92,11 +94,11 @@ reach_shown (Some request) (Some u) story h = by_live (is_live u.phase)
     by_live false = h
 
 -- a unit's own turn
-own_shown : (p : Settings) (over : Bool) (now : ℕ) (run : List Happening) (k : ℕ) (turn : UnitTurn) (u : UnitView)
-    → Holds p over now run → unit_of k run ≡ Some u → takes now u turn ≡ true → Shows u (pieces (story_of k run))
+own_shown : (p : Settings) (f : Frame) (now : ℕ) (run : List Happening) (k : ℕ) (turn : UnitTurn) (u : UnitView)
+    → Holds p now run → unit_of k run ≡ Some u → takes now u turn ≡ true → Shows u (pieces (story_of k run))
     → Shows (row now turn u).next
     (pieces (record { moment = now; turn = turn; request = request_of turn (line_of k run) } ∷ story_of k run))
-own_shown p over now run k turn u h is en shown =
+own_shown p f now run k turn u h is en shown =
     subst (λ request. Shows (row now turn u).next
     (more (record { moment = now; turn = turn; request = request }) (pieces (story_of k run)))) (sym asked)
     (row_shown now u.phase turn (at_moment now u) (pieces (story_of k run))
@@ -117,12 +119,12 @@ own_shown p over now run k turn u h is en shown =
     asked : request_of turn (line_of k run) ≡ request_of turn u.line
     asked = own_request now turn u (line_of k run) en line
 
-part_shown : (p : Settings) (over : Bool) (now : ℕ) (run : List Happening) (k : ℕ) (part : Option UnitPart)
-    → Holds p over now run → PartFits p now run part → IsShownIf (unit_of k run) (story_of k run)
+part_shown : (p : Settings) (f : Frame) (now : ℕ) (run : List Happening) (k : ℕ) (part : Option UnitPart)
+    → Holds p now run → PartFits p now run part → IsShownIf (unit_of k run) (story_of k run)
     → IsShownIf (unit_after now k part (unit_of k run))
     (option_to_list (own_turn k now part (line_of k run)) ++ story_of k run)
-part_shown p over now run k None h fits shown = shown
-part_shown p over now run k (Some (Joins first)) h (sent, new) shown = begins (number first == k) refl
+part_shown p f now run k None h fits shown = shown
+part_shown p f now run k (Some (Joins first)) h (sent, new) shown = begins (number first == k) refl
   where
     begins : (b : Bool) → (number first == k) ≡ b
         → IsShownIf (if b then Some first else unit_of k run) (story_of k run)
@@ -132,7 +134,7 @@ part_shown p over now run k (Some (Joins first)) h (sent, new) shown = begins (n
         let story : story_of k run ≡ [] = subst (λ v. IsMadeIf (unit_terms p k) v (story_of k run)) none (h.made k) in
         subst (λ story. Shows first (pieces story)) (sym story) (none_shown first.phase first)
     begins false e = shown
-part_shown p over now run k (Some (Acts j turn)) h fits shown = by_unit (j == k) refl
+part_shown p f now run k (Some (Acts j turn)) h fits shown = by_unit (j == k) refl
   where
     by_unit : (b : Bool) → (j == k) ≡ b
         → IsShownIf (if b then option_map (λ w. (row now turn w).next) (unit_of k run) else unit_of k run)
@@ -144,7 +146,7 @@ part_shown p over now run k (Some (Acts j turn)) h fits shown = by_unit (j == k)
         let mine : unit_of k run ≡ Some fits.unit = ap (λ k. unit_of k run) here ∙ fits.is in
         subst (λ v. IsShownIf (option_map (λ w. (row now turn w).next) v)
         (record { moment = now; turn = turn; request = request_of turn (line_of k run) } ∷ story_of k run)) (sym mine)
-        (own_shown p over now run k turn fits.unit h mine fits.takes
+        (own_shown p f now run k turn fits.unit h mine fits.takes
         (subst (λ v. IsShownIf v (story_of k run)) mine shown))
     by_unit false e = shown
 
@@ -167,7 +169,7 @@ shown p (e ∷ before) legal k = one_more (shown p before legal.2 k) (holds p be
       where
         by_run : IsOfRun p past e ⊎ IsBeforeRuns p past e → Shown (sub_run (history p (e ∷ before)))
         by_run (inl of) = subst Shown (sym of.joins)
-            (reach_shown d.request (unit_after (clock past) k d.part (unit_of k (sub_run past))) _
-            (part_shown p (is_over past) (clock past) (sub_run past) k d.part h.run
-            (does_after p past e h legal.0).part was))
+            (reach_shown d.request (unit_after (clock past) k d.part (unit_of k of.base)) _
+            (part_shown p (frame_of p past) (clock past) of.base k d.part of.holds of.does.part
+            (from_base Shown p past e of tt was)))
         by_run (inr none) = subst Shown (sym none.still) tt

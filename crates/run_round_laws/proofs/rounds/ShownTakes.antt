@@ -18,7 +18,8 @@ use Rattle.run_model.specs.Timing.{begins_grace, ends_wait, gives_time, leak_tim
 use Rattle.run_round_laws.specs.Answers.{why_ended, grace_timer}
 use Rattle.run_laws.proofs.units.CaptureLemmas.{taken}
 use Rattle.run_laws.proofs.units.StandingLemmas.{is_in_grace}
-use Rattle.run_round_laws.proofs.rounds.Shown.{IsShown, WaitsFor, ending_kept, gives_none, grace_kept, leak_kept, pid_more}
+use Rattle.run_round_laws.proofs.rounds.Shown.{IsShown, WaitsFor, ending_kept, gives_none, grace_kept, leak_kept}
+use Rattle.run_round_laws.proofs.rounds.Shown.{pid_more}
 use Rattle.run_round_laws.proofs.rounds.Shown.{pid_said, waits_paused, waits_resumed, waits_set}
 use Rattle.run_clock.specs.Stopwatch.{Watch, started_at}
 use Rattle.run_round_laws.proofs.rounds.Delays.{delay_marked}

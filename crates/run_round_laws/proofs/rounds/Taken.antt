@@ -42,6 +42,7 @@ use Rattle.run_laws.proofs.units.LineMoves.{part_line}
 use Rattle.run_laws.proofs.units.Lines.{is_take, own_request, takes_request-is}
 use Rattle.run_laws.proofs.units.LetGo.{and_false, and_true, lets_go-is}
 use Rattle.run_laws.proofs.units.Rows.{takes_moment}
+use Rattle.run_laws.proofs.board.OnBoard.{Frame}
 
 -- the request that a part takes from this line, if it is a turn of unit k that takes one
 abbrev pub request_with : ℕ → ℕ → Option UnitPart → List Request → List Request
@@ -53,12 +54,12 @@ taken_more None story = sym (append-nil (requests_taken story))
 taken_more (Some t) story = refl
 
 -- the line after one more turn
-pub line-cons : (p : Settings) (over : Bool) (run : List Happening) (now k : ℕ) (e : Entry) (d : Deed)
-    → Holds p over now run → PartFits p now run d.part
+pub line-cons : (p : Settings) (f : Frame) (run : List Happening) (now k : ℕ) (e : Entry) (d : Deed)
+    → Holds p now run → PartFits p now run d.part
     → line_of k (said now e d ∷ run)
     ≡ drop (if takes_request k d.part then 1 else 0) (line_of k run)
     ++ heard_with d.request (unit_after now k d.part (unit_of k run))
-line-cons p over run now k e d h fits =
+line-cons p f run now k e d h fits =
     drop-sent (taken_by k run) (if takes_request k d.part then 1 else 0) (broadcast_to k run)
     (heard_with d.request (unit_after now k d.part (unit_of k run)))
     (part_line p run now k d.part (h.lines k) (h.taken k) fits).1
@@ -95,14 +96,14 @@ pub record HasAnswered (k : ℕ) (run : List Happening) : Type 0 where
   pub rounds : rounds_by (answers_by k run)
       ≡ rounds_in (requests_taken (story_of k run)) ++ rounds_in (if has_finished k run then line_of k run else [])
 
-pub whole-cons : (p : Settings) (over : Bool) (run : List Happening) (now k : ℕ) (e : Entry) (d : Deed)
-    → Holds p over now run → PartFits p now run d.part → HasAnswered k run
+pub whole-cons : (p : Settings) (f : Frame) (run : List Happening) (now k : ℕ) (e : Entry) (d : Deed)
+    → Holds p now run → PartFits p now run d.part → HasAnswered k run
     → requests_taken (story_of k (said now e d ∷ run)) ++ line_of k (said now e d ∷ run)
     ≡ broadcast_to k (said now e d ∷ run)
-whole-cons p over run now k e d h fits was =
+whole-cons p f run now k e d h fits was =
     ap (λ rs. rs ++ line_of k (said now e d ∷ run))
     (taken_more (own_turn k now d.part (line_of k run)) (story_of k run))
-    ∙ ap (λ rs. (taken ++ asked) ++ rs) (line-cons p over run now k e d h fits)
+    ∙ ap (λ rs. (taken ++ asked) ++ rs) (line-cons p f run now k e d h fits)
     ∙ append_assoc taken asked (left ++ heard) ∙ ap (λ rs. taken ++ rs) (sym (append_assoc asked left heard))
     ∙ ap (λ rs. taken ++ (rs ++ heard)) (request_line k now d.part (line_of k run))
     ∙ sym (append_assoc taken (line_of k run) heard) ∙ ap (λ rs. rs ++ heard) was.whole
@@ -149,12 +150,12 @@ ended_in false left Delay ss t q at (early, (s, (e, h))) = (s, ap last_status e 
 ended_in false left ph ss t q (inl at) h = cc
 ended_in false left ph ss t q (inr at) h = cc
 
-own_leaves : (p : Settings) (over : Bool) (now : ℕ) (run : List Happening) (k : ℕ) (turn : UnitTurn) (u : UnitView)
-    → Holds p over now run → unit_of k run ≡ Some u → takes now u turn ≡ true
+own_leaves : (p : Settings) (f : Frame) (now : ℕ) (run : List Happening) (k : ℕ) (turn : UnitTurn) (u : UnitView)
+    → Holds p now run → unit_of k run ≡ Some u → takes now u turn ≡ true
     → ((go : Bool) → turn ≡ Answered go → go ≡ is_none (reason run))
     → LeavesOwn turn (line_of k run) (stopped_with (stopped_at k run) (is_answer turn) (reason run) (deliveries k run))
     (row now turn u)
-own_leaves p over now run k turn u h is en goes =
+own_leaves p f now run k turn u h is en goes =
     row_leaves now u.phase turn (at_moment now u) (line_of k run) (stopped_at k run) (reason run)
     (deliveries k run) refl
     (takes_moment now u.phase u turn en) (own_request now turn u (line_of k run) en line)
@@ -178,11 +179,11 @@ takes_on now u turn en = by_phase u.phase en
     by_phase Over en = cc
     by_phase ph en = refl
 
-part_leaves : (p : Settings) (over : Bool) (now : ℕ) (run : List Happening) (k : ℕ) (part : Option UnitPart)
-    (info : List (ℕ × InfoResponse)) → Holds p over now run → PartFits p now run part → info ≡ info_by now run part
+part_leaves : (p : Settings) (f : Frame) (now : ℕ) (run : List Happening) (k : ℕ) (part : Option UnitPart)
+    (info : List (ℕ × InfoResponse)) → Holds p now run → PartFits p now run part → info ≡ info_by now run part
     → Leaves k now run part info
-part_leaves p over now run k None info h fits is = leaves_still k run
-part_leaves p over now run k (Some (Joins first)) info h (sent, new) is = begins (number first == k) refl
+part_leaves p f now run k None info h fits is = leaves_still k run
+part_leaves p f now run k (Some (Joins first)) info h (sent, new) is = begins (number first == k) refl
   where
     begins : (b : Bool) → (number first == k) ≡ b
         → rounds_in (if has_finished k run then line_of k run else []) ++ []
@@ -198,7 +199,7 @@ part_leaves p over now run k (Some (Joins first)) info h (sent, new) is = begins
         either true = refl
         either false = refl
     begins false e = leaves_still k run
-part_leaves p over now run k (Some (Acts j turn)) info h fits is = by_unit (j == k) refl
+part_leaves p f now run k (Some (Acts j turn)) info h fits is = by_unit (j == k) refl
   where
     u : UnitView
     u = fits.unit
@@ -226,7 +227,7 @@ part_leaves p over now run k (Some (Acts j turn)) info h fits is = by_unit (j ==
         let going : has_finished k run ≡ false =
         ap (λ v. is_done v && is_none (stopped_at k run)) mine
         ∙ ap (λ b. b && is_none (stopped_at k run)) (takes_on now u turn fits.takes) in
-        rw (going, mine, given) (own_leaves p over now run k turn u h mine fits.takes fits.answers)
+        rw (going, mine, given) (own_leaves p f now run k turn u h mine fits.takes fits.answers)
 
     by_unit : (b : Bool) → (j == k) ≡ b → Leaves k now run (Some (Acts j turn)) info
     by_unit true e =
@@ -243,22 +244,22 @@ part_leaves p over now run k (Some (Acts j turn)) info h fits is = by_unit (j ==
         ) apart
 
 -- so what a unit took and answered after one more turn
-rounds-cons : (p : Settings) (over : Bool) (run : List Happening) (now k : ℕ) (e : Entry) (d : Deed)
-    → Holds p over now run → PartFits p now run d.part → d.info ≡ info_by now run d.part → HasAnswered k run
+rounds-cons : (p : Settings) (f : Frame) (run : List Happening) (now k : ℕ) (e : Entry) (d : Deed)
+    → Holds p now run → PartFits p now run d.part → d.info ≡ info_by now run d.part → HasAnswered k run
     → rounds_by (answers_by k (said now e d ∷ run))
     ≡ rounds_in (requests_taken (story_of k (said now e d ∷ run)))
     ++ rounds_in (if has_finished k (said now e d ∷ run) then line_of k (said now e d ∷ run) else [])
-rounds-cons p over run now k e d h fits is was =
+rounds-cons p f run now k e d h fits is was =
     map-append (λ (a : ℕ × InfoResponse). a.0) (answers_by k run) (if is_turn_of k d.part then d.info else [])
     ∙ ap (λ ns. ns ++ given) was.rounds ∙ append_assoc (rounds_in took) before given
-    ∙ ap (λ ns. rounds_in took ++ ns) (part_leaves p over now run k d.part d.info h fits is)
+    ∙ ap (λ ns. rounds_in took ++ ns) (part_leaves p f now run k d.part d.info h fits is)
     ∙ sym (append_assoc (rounds_in took) (rounds_in asked) _)
     ∙ ap (λ ns. ns ++ rounds_in (if is_done v && is_none stopped then left else []))
     (sym (filter_map-append round_of took asked)
     ∙ ap rounds_in (sym (taken_more (own_turn k now d.part (line_of k run)) (story_of k run))))
     ∙ ap (λ rs. rounds_in (requests_taken (story_of k (said now e d ∷ run))) ++ rounds_in rs)
     (sym (ap (λ rs. if is_done (reach d.request v) && is_none stopped then rs else [])
-    (line-cons p over run now k e d h fits)
+    (line-cons p f run now k e d h fits)
     ∙ still_left d.request v stopped left))
   where
     took : List Request
@@ -282,12 +283,12 @@ rounds-cons p over run now k e d h fits is was =
     left : List Request
     left = drop (if takes_request k d.part then 1 else 0) (line_of k run)
 
-pub answered-cons : (p : Settings) (over : Bool) (run : List Happening) (now k : ℕ) (e : Entry) (d : Deed)
-    → Holds p over now run → PartFits p now run d.part → d.info ≡ info_by now run d.part → HasAnswered k run
+pub answered-cons : (p : Settings) (f : Frame) (run : List Happening) (now k : ℕ) (e : Entry) (d : Deed)
+    → Holds p now run → PartFits p now run d.part → d.info ≡ info_by now run d.part → HasAnswered k run
     → HasAnswered k (said now e d ∷ run)
-answered-cons p over run now k e d h fits is was = record {
-  whole = whole-cons p over run now k e d h fits was;
-  rounds = rounds-cons p over run now k e d h fits is was;
+answered-cons p f run now k e d h fits is was = record {
+  whole = whole-cons p f run now k e d h fits was;
+  rounds = rounds-cons p f run now k e d h fits is was;
 }
 
 pub answered-none : (k : ℕ) → HasAnswered k []

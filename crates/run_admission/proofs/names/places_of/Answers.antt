@@ -5,7 +5,8 @@ use Rattle.std.specs.Cmp.Lexicographic.{slice_cmp}
 use Rattle.run_admission.specs.Names.{HasPlaces}
 use Rattle.run_admission.proofs.NameLemmas.{places_none, more_same, more_new}
 use Rattle.run_admission.proofs.names.places_of.Goals as goal
-use Rattle.run_admission.proofs.names.places_of.Goals.{then-not-contains_key+in_ok-copy+in_ok-insert, else-not-contains_key}
+use Rattle.run_admission.proofs.names.places_of.Goals.{then-not-contains_key+in_ok-copy+in_ok-insert}
+use Rattle.run_admission.proofs.names.places_of.Goals.{else-not-contains_key}
 
 pub loop-place-init : goal.loop-place-init
 loop-place-init c = places_none c.new-places.result c.new-places.ensures.empty

@@ -1,7 +1,6 @@
 use Rattle.std.proofs.Common.{reverse}
-use Rattle.run_call_laws.proofs.WholeLemmas.{one_run}
 use Rattle.run_call_laws.proofs.ToldLemmas.{causes_told}
 use Rattle.run_call_laws.proofs.laws.causes_are_told.Goals as goal
 
 pub returns : goal.returns
-returns c = λ p journal legal. causes_told p (reverse journal) legal (one_run p (reverse journal) legal).same.told
+returns c = λ p journal legal. causes_told p (reverse journal) legal

@@ -5,5 +5,5 @@ use Rattle.run_call_laws.proofs.laws.each_unit_finishes_once.Goals as goal
 pub returns : goal.returns
 returns c = record {
   at_most = λ p journal legal k. at_most p (reverse journal) legal k;
-  at_end = λ p journal legal over k. at_end p (reverse journal) legal over k;
+  at_end = λ p journal legal. at_end p (reverse journal) legal;
 }

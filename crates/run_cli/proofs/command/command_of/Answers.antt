@@ -10,16 +10,16 @@ returns-in-len1-clause-some c =
     let decided = bytes_eq-Decides c.as_str.result.now (codes "replay") in
     rw same (grind (rules, decided))
 
-pub returns-in_ok-width_of-in-len2-clause-some : goal.returns-in_ok-width_of-in-len2-clause-some
-returns-in_ok-width_of-in-len2-clause-some c =
+pub returns-in_ok-number_of-in-len2-clause-some : goal.returns-in_ok-number_of-in-len2-clause-some
+returns-in_ok-number_of-in-len2-clause-some c =
     let word = c.word-item-then-words-lt3 in
     let width = c.width-item in
     let same = two_items string_bytes c.args.words.now word.result width.result (omega arith) (omega arith) word.is
     width.is in
     let decided = bytes_eq-Decides c.as_str-then-words-lt3.result.now (codes "progress") in
     let named : string_bytes word.result ≡ codes "progress" = grind (rules, decided) in
-    let says = c.in_ok-width_of-in-len2.ensures.some in (
+    let says = c.in_ok-number_of-in-len2.ensures.some in (
       string_bytes width.result,
       same ∙ ap (λ w. w ∷ string_bytes width.result ∷ []) named,
-      subst (λ text. IsWidth text c.in_ok-width_of-in-len2.field-0) c.as_str-in-len2.ensures.value says,
+      subst (λ text. IsWidth text c.in_ok-number_of-in-len2.field-0) c.as_str-in-len2.ensures.value says,
     )

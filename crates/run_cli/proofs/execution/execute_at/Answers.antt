@@ -1,6 +1,5 @@
-use Rattle.std.proofs.Common.{[], subst}
+use Rattle.std.proofs.Common.{[]}
 use Rattle.run_engine.proofs.CourseLemmas.{unless_weaker}
-use Rattle.run_output.specs.Told.{HasTold}
 use Rattle.run_cli.specs.Call.{writing_of}
 use Rattle.run_cli.proofs.ToldLines.{executed_whole}
 use Rattle.run_cli.proofs.execution.execute_at.Goals as goal

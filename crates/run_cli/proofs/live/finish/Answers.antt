@@ -1,4 +1,4 @@
-use Rattle.std.proofs.Common.{rules, ◌≡◌, refl, sym, ◌∙◌, None, Some}
+use Rattle.std.proofs.Common.{rules, ◌≡◌, refl, sym, ◌∙◌, None}
 use Rattle.std.specs.Option.{IsNone}
 use Rattle.run_model.specs.Journal.{past_of, outcome}
 use Rattle.run_cli.specs.Call.{Writing}

@@ -11,8 +11,7 @@ pub returns-in-Ok : goal.returns-in-Ok
 returns-in-Ok g c =
     let input = c.args.input in
     let w = writing_of g.K.Sink c.args.sink c.replay.result.sink in
-    let built : IsBuilt (builder_of input.keys) input.plan (Ok c.in-Ok.runner) =
-    subst (λ b. IsBuilt b input.plan (Ok c.in-Ok.runner)) c.builder_of.ensures c.in-Ok.ensures.built in
+    let built : IsBuilt (builder_of input.keys) input.plan (Ok c.in-Ok.runner) = c.in-Ok.ensures in
     accepted_ends c.args.command input.keys input.plan input.turns w c.replay.result.ending built.0
     (subst (λ p. IsReplayEnding (form_of c.args.command p) p input.turns w c.replay.result.ending) built.1
     (subst (λ ts. IsReplayEnding (form_of c.args.command c.in-Ok.runner)

@@ -5,7 +5,7 @@ use Rattle.run_model.specs.Journal.{past_of}
 use Rattle.run_state.specs.Held.{Held, KeepsSeats, held}
 use Rattle.run_engine.specs.World.{entry_of}
 use Rattle.run_engine.specs.Standing.{IsRunnable}
-use Rattle.run_engine.proofs.PartLemmas.{breaks_off}
+use Rattle.run_engine.proofs.PartLemmas.{breaks_off, breaks_idle}
 use Rattle.run_engine.proofs.CarryLemmas.{held-is, can_advance, stands_next, runnable_next, takes_from}
 use Rattle.run_engine.proofs.carry.carry_out.Goals as goal
 
@@ -17,40 +17,44 @@ act-requires-clause-can g c =
 pub act-requires-clause-seated : goal.act-requires-clause-seated
 act-requires-clause-seated g c = subst (KeepsSeats c.args.settings.now) (sym c.requires.stands) refl
 
-pub returns-in-Ok-clause-takes : goal.returns-in-Ok-clause-takes
-returns-in-Ok-clause-takes g c claimed =
-    let refused = c.in-Ok.field-0.refused in
-    let told = c.in-Ok.ensures in
+pub returns-in-Ok-act-clause-takes : goal.returns-in-Ok-act-clause-takes
+returns-in-Ok-act-clause-takes g c claimed =
+    let refused = c.in-Ok-act.field-0.refused in
+    let told = c.in-Ok-act.ensures in
     takes_from g.R.Reporter.told g.C.Children.asked _ c.args.settings.now c.args.journal.now.items
-    c.push_reserved.new.self.items c.args.state.now.board c.args.turn refused c.in-Ok.field-0.refusal claimed
-    (ap (λ (h : Held). h.board) c.requires.stands) c.requires.enabled told.answered told.marked told.told told.asked
-    told.faults
-    (c.push_reserved.ensures.items ∙ ap (λ j. j ++ entry_of c.args.turn refused ∷ []) c.act.ensures.same)
+    c.push_reserved.new.self.items c.args.state.now.board c.args.turn refused c.in-Ok-act.field-0.refusal claimed
+    c.in-Ok.place c.in-Ok.ensures.place (ap (λ (h : Held). h.board) c.requires.stands) c.requires.enabled told.answered
+    told.marked told.told told.asked told.faults
+    (c.push_reserved.ensures.items ∙ ap (λ j. j ++ entry_of c.args.turn refused ∷ []) c.make_room.ensures.same)
 
-pub returns-in-Ok-clause-runnable : goal.returns-in-Ok-clause-runnable
-returns-in-Ok-clause-runnable g c =
+pub returns-in-Ok-act-clause-runnable : goal.returns-in-Ok-act-clause-runnable
+returns-in-Ok-act-clause-runnable g c =
     let p = c.args.settings.now in
     let journal = c.args.journal.now.items in
-    let refused = c.in-Ok.field-0.refused in
+    let refused = c.in-Ok-act.field-0.refused in
     subst (IsRunnable p)
-    (sym (c.push_reserved.ensures.items ∙ ap (λ j. j ++ entry_of c.args.turn refused ∷ []) c.act.ensures.same))
+    (sym (c.push_reserved.ensures.items ∙ ap (λ j. j ++ entry_of c.args.turn refused ∷ []) c.make_room.ensures.same))
     (runnable_next p journal c.args.turn refused c.requires.runnable c.requires.room c.requires.enabled
-    (c.in-Ok.ensures.answered
+    (c.in-Ok-act.ensures.answered
     ∙ ap (λ (h : Held). length (deed_events (deed_on p h.board c.args.turn))) c.requires.stands))
 
-pub returns-in-Ok-clause-stands : goal.returns-in-Ok-clause-stands
-returns-in-Ok-clause-stands g c =
+pub returns-in-Ok-act-clause-stands : goal.returns-in-Ok-act-clause-stands
+returns-in-Ok-act-clause-stands g c =
     let p = c.args.settings.now in
     let journal = c.args.journal.now.items in
-    let refused = c.in-Ok.field-0.refused in
+    let refused = c.in-Ok-act.field-0.refused in
     subst (λ journal. c.act.new.state ≡ held p (board p (past_of p journal)))
-    (sym (c.push_reserved.ensures.items ∙ ap (λ j. j ++ entry_of c.args.turn refused ∷ []) c.act.ensures.same))
-    (held-is p c.act.new.state _ c.in-Ok.ensures.seated
+    (sym (c.push_reserved.ensures.items ∙ ap (λ j. j ++ entry_of c.args.turn refused ∷ []) c.make_room.ensures.same))
+    (held-is p c.act.new.state _ c.in-Ok-act.ensures.seated
     (stands_next p journal c.args.state.now.board c.act.new.state.board c.args.turn refused c.requires.runnable
-    (ap (λ (h : Held). h.board) c.requires.stands) c.requires.enabled c.in-Ok.ensures.after))
+    (ap (λ (h : Held). h.board) c.requires.stands) c.requires.enabled c.in-Ok-act.ensures.after))
 
 pub returns-in-Err-clause-part : goal.returns-in-Err-clause-part
 returns-in-Err-clause-part g c =
     breaks_off g.R.Reporter.told g.C.Children.asked _ c.args.settings.now c.args.journal.now.items
-    c.args.state.now.board c.args.turn (ap (λ (h : Held). h.board) c.requires.stands) c.requires.enabled
-    c.in-Err.ensures.part
+    c.args.state.now.board c.args.turn c.in-Ok.place c.in-Ok.ensures.place
+    (ap (λ (h : Held). h.board) c.requires.stands) c.requires.enabled c.in-Err.ensures.part
+
+pub returns-in_default-clause-part : goal.returns-in_default-clause-part
+returns-in_default-clause-part g c =
+    breaks_idle g.R.Reporter.told g.C.Children.asked g.R.Reporter.faults c.args.report.now c.args.children.now _ _ _

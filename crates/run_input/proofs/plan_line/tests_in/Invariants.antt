@@ -5,5 +5,5 @@ use Rattle.run_input.proofs.plan_line.tests_in.Given as goal
 
 abbrev pub invariant-loop-item : goal.invariant-loop-item
 invariant-loop-item l =
-    option_map (λ tests. l.tests ++ tests) (tests_from (items_view (drop l.item-index l.items)))
-    ≡ tests_from (items_view l.items)
+    option_map (λ tests. l.tests ++ tests) (tests_from l.version (items_view (drop l.item-index l.items)))
+    ≡ tests_from l.version (items_view l.items)

@@ -1,5 +1,6 @@
 use Rattle.run_events.specs.declared.result.ExecuteStatus.{ExecuteStatus}
-use Rattle.std.proofs.Common.{◌≡◌, ℕ, List, ◌+◌, ◌∷◌, ◌++◌, [], Some, length, map, if◌then◌else◌, IfOk, ap, sym, subst, ◌∙◌}
+use Rattle.std.proofs.Common.{◌≡◌, ℕ, List, ◌+◌, ◌∷◌, ◌++◌, [], Some, length, map, if◌then◌else◌, IfOk, ap, sym, subst}
+use Rattle.std.proofs.Common.{◌∙◌}
 use Rattle.run_model.specs.Attempts.{ended_statuses, has_ended, status_of, delay_after}
 use Rattle.run_model.specs.Story.{pieces}
 use Rattle.run_plain.specs.Marks.{with_time}

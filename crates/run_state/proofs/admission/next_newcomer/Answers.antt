@@ -41,7 +41,7 @@ newcomer_of-requires-clause-made c =
     let p = c.args.settings.now in
     let us = c.args.units.now in
     let comes : Comes p us c.in-Test.admitted = subst (IsNext p us) c.in-Test.is c.requires.next in
-    becomes p us c.in-Test.admitted comes.is
+    becomes p c.args.index us c.in-Test.admitted comes.is
 
 pub returns-in_ok-new-in-Script-clause-within : goal.returns-in_ok-new-in-Script-clause-within
 returns-in_ok-new-in-Script-clause-within c =

@@ -9,7 +9,8 @@ use Rattle.run_state.proofs.broadcast.reach_each.Goals as goal
 pub loop-unit-preserved : goal.loop-unit-preserved
 loop-unit-preserved c =
     rw (c.in_ok-reach.ensures.ok, ← c.unit-item.is)
-    (map_over_more (option_map (reached c.args.request)) _ _ _ _ c.loop-unit-test.true c.loop-unit.invariant c.unit-item.is)
+    (map_over_more (option_map (reached c.args.request)) _ _ _ _ c.loop-unit-test.true c.loop-unit.invariant
+    c.unit-item.is)
 
 pub returns-in_err-reach-clause-left : goal.returns-in_err-reach-clause-left
 returns-in_err-reach-clause-left c =

@@ -20,7 +20,8 @@ returns-clause-after c =
     let waits : c.state.inside.queue.items ≡ c.in-Some.message ∷ rest =
     c.pop_front.ensures.items ∙ ap (λ m. option_to_list m ++ rest) c.in-Some.is in
     let x : Board = record b { queue = rest; dispatcher = c.deliver.new.self } in
-    delivered b x (moved x (answer_to x c.starting-unit.result c.in_ok-events-in-Some.field-0.go)) c.heed.new.state.board
+    delivered b x (moved x (answer_to x c.starting-unit.result c.in_ok-events-in-Some.field-0.go))
+    c.heed.new.state.board
     c.in-Some.message rest
     c.starting-unit.result c.in_ok-events-in-Some.field-0.go c.in_ok-events-in-Some.field-0.request
     waits (ap (λ d. record b { queue = rest; dispatcher = d }) c.in_ok-events-in-Some.ensures.does.after)
@@ -51,4 +52,5 @@ invariant_of-state-in-Some c =
       c.state.invariant.0,
       holders_kept now d c.deliver.new.self (delivers now d m nothing_done) c.state.inside.units c.state.inside.holders
           c.state.invariant.1 c.in_ok-events-in-Some.ensures.does.after (delivery_asks now d m nothing_done),
+      c.state.invariant.2,
     )

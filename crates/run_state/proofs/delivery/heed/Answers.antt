@@ -19,6 +19,7 @@ invariant_of-state c =
       tests-kept c.state.inside.units c.broadcast.new.units a a c.state.invariant.0 c.broadcast.ensures.scripts refl,
       c.broadcast.ensures.counted
           ∙ ap (λ asks. holders_in asks c.broadcast.new.units) c.round_request-asks.ensures,
+      c.state.invariant.2,
     )
 
 pub invariant_of-state-2 : goal.invariant_of-state-2
@@ -27,4 +28,5 @@ invariant_of-state-2 c =
       tests-kept c.state.inside.units c.broadcast.new.units a a c.state.invariant.0 c.broadcast.ensures.scripts refl,
       c.broadcast.ensures.counted
           ∙ ap (λ asks. holders_in asks c.broadcast.new.units) c.round_request-asks.ensures,
+      c.state.invariant.2,
     )

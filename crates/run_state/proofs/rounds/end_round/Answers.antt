@@ -9,4 +9,5 @@ invariant_of-state-2 c =
     let us = c.state.inside.units in (
       c.state.invariant.0,
       none_held us ∙ sym (ap (λ (d : DispatcherView). holders_in d.rounds.asks us) c.in_ok-effects.ensures.does.after),
+      c.state.invariant.2,
     )

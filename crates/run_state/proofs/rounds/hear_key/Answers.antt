@@ -30,6 +30,7 @@ invariant_of-state-in_err-broadcast c =
       tests-kept c.state.inside.units c.broadcast.new.units a a c.state.invariant.0 c.broadcast.ensures.scripts refl,
       c.broadcast.ensures.counted
           ∙ ap (λ asks. holders_in asks c.broadcast.new.units) c.round_request-asks.ensures,
+      c.state.invariant.2,
     )
 
 pub invariant_of-state-2 : goal.invariant_of-state-2
@@ -38,6 +39,7 @@ invariant_of-state-2 c =
       tests-kept c.state.inside.units c.broadcast.new.units a a c.state.invariant.0 c.broadcast.ensures.scripts refl,
       c.broadcast.ensures.counted
           ∙ ap (λ asks. holders_in asks c.broadcast.new.units) c.round_request-asks.ensures,
+      c.state.invariant.2,
     )
 
 pub returns : goal.returns
@@ -67,7 +69,8 @@ returns c =
       };
     }) c.telling.result) c.state.view_is
     (done_own old (keys_at now (live_in us) d c.args.key) c.broadcast.new.units c.make_way.new.answers.items
-    c.key.new.self c.in_ok-effects.effects None c.telling.result (key_own now (live_in us) d (heard_key d.rules.hearing.input c.args.key))
+    c.key.new.self c.in_ok-effects.effects None c.telling.result (key_own now (live_in us) d
+    (heard_key d.rules.hearing.input c.args.key))
     c.in_ok-broadcast.ensures.after c.make_way.ensures
     (subst (λ live. Does now d (keys_at now live d c.args.key) None c.key.new.self c.in_ok-effects.effects) live
     c.in_ok-effects.ensures.does) c.telling.ensures)

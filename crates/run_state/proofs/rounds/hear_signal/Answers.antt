@@ -30,6 +30,7 @@ invariant_of-state-in_err-broadcast c =
       tests-kept c.state.inside.units c.broadcast.new.units a a c.state.invariant.0 c.broadcast.ensures.scripts refl,
       c.broadcast.ensures.counted
           ∙ ap (λ asks. holders_in asks c.broadcast.new.units) c.round_request-asks.ensures,
+      c.state.invariant.2,
     )
 
 pub invariant_of-state-2 : goal.invariant_of-state-2
@@ -38,6 +39,7 @@ invariant_of-state-2 c =
       tests-kept c.state.inside.units c.broadcast.new.units a a c.state.invariant.0 c.broadcast.ensures.scripts refl,
       c.broadcast.ensures.counted
           ∙ ap (λ asks. holders_in asks c.broadcast.new.units) c.round_request-asks.ensures,
+      c.state.invariant.2,
     )
 
 pub returns : goal.returns
@@ -67,7 +69,9 @@ returns c =
       };
     }) c.telling.result) c.state.view_is
     (done_own old (signals_at now (live_in us) d c.args.signal) c.broadcast.new.units c.make_way.new.answers.items
-    c.signal.new.self c.in_ok-effects.effects None c.telling.result (signal_own now (live_in us) d c.args.signal (heard_by d.rules.hearing c.args.signal))
+    c.signal.new.self c.in_ok-effects.effects None c.telling.result (signal_own now (live_in us) d c.args.signal
+    (heard_by d.rules.hearing c.args.signal))
     c.in_ok-broadcast.ensures.after c.make_way.ensures
-    (subst (λ live. Does now d (signals_at now live d c.args.signal) None c.signal.new.self c.in_ok-effects.effects) live
+    (subst (λ live. Does now d (signals_at now live d c.args.signal) None c.signal.new.self c.in_ok-effects.effects)
+    live
     c.in_ok-effects.ensures.does) c.telling.ensures)

@@ -8,5 +8,7 @@ pub invariant_of-state : goal.invariant_of-state
 invariant_of-state c =
     let us = c.state.inside.units in (
       c.state.invariant.0,
-      none_held us ∙ sym (ap (λ (d : DispatcherView). holders_in d.rounds.asks us) c.stop_wait_due-effects.ensures.after),
+      none_held us ∙ sym (ap (λ (d : DispatcherView). holders_in d.rounds.asks us)
+          c.stop_wait_due-effects.ensures.after),
+      c.state.invariant.2,
     )

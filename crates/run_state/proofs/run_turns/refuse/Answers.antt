@@ -1,4 +1,10 @@
-use Rattle.std.proofs.Common.{refl, ap, ◌∙◌}
+use Rattle.std.proofs.Common.{[], if◌then◌else◌, None, refl, ap, ◌∙◌, sym, subst}
+use Rattle.run_model.specs.Cancel.{event_refused, is_above}
+use Rattle.run_model.specs.Rounds.{opens_round}
+use Rattle.run_model.specs.Turns.{cancels_for}
+use Rattle.run_state.specs.Done.{Done}
+use Rattle.run_state.specs.Held.{Held}
+use Rattle.run_state.proofs.RoundLemmas.{cause_opens, done_own}
 use Rattle.run_state.specs.Counted.{holders_in}
 use Rattle.run_state.proofs.PlaceLemmas.{tests-kept}
 use Rattle.run_state.proofs.run_turns.refuse.Goals as goal
@@ -9,6 +15,7 @@ invariant_of-state-in_err-broadcast c =
       tests-kept c.state.inside.units c.broadcast.new.units a a c.state.invariant.0 c.broadcast.ensures.scripts refl,
       c.broadcast.ensures.counted
           ∙ ap (λ asks. holders_in asks c.broadcast.new.units) c.round_request-asks.ensures,
+      c.state.invariant.2,
     )
 
 pub invariant_of-state-2 : goal.invariant_of-state-2
@@ -17,4 +24,35 @@ invariant_of-state-2 c =
       tests-kept c.state.inside.units c.broadcast.new.units a a c.state.invariant.0 c.broadcast.ensures.scripts refl,
       c.broadcast.ensures.counted
           ∙ ap (λ asks. holders_in asks c.broadcast.new.units) c.round_request-asks.ensures,
+      c.state.invariant.2,
     )
+
+pub returns : goal.returns
+returns c =
+    let old : Held = record {
+      board = record {
+        units = c.state.inside.units;
+        queue = c.state.inside.queue.items;
+        answers = c.state.inside.answers.items;
+        dispatcher = c.state.inside.dispatcher;
+        clock = c.state.inside.clock;
+        refused = c.state.inside.refused;
+      };
+      limits = c.state.inside.admission;
+    } in
+    let deed = cancels_for old.board.clock old.board.dispatcher event_refused in
+    subst (λ (h : Held). Done h (cancels_for h.board.clock h.board.dispatcher event_refused)
+    (record old { board = record old.board { units = c.broadcast.new.units; dispatcher = c.report_cancel.new.self } })
+    c.telling.result)
+    c.state.view_is
+    (done_own old deed c.broadcast.new.units c.state.inside.answers.items c.report_cancel.new.self
+    c.in_ok-effects.effects None
+    c.telling.result
+    (record { part = refl; sent = refl; info = refl; taken = refl; closes = refl; tells = refl; begins = refl })
+    c.in_ok-broadcast.ensures.after
+    (sym (ap (λ request. if opens_round request then [] else c.state.inside.answers.items)
+    c.in_ok-effects.ensures.does.request
+    ∙ ap (λ opens. if opens then [] else c.state.inside.answers.items)
+    (cause_opens (is_above old.board.dispatcher.tally.stats.cancel_reason event_refused.reason) event_refused.request
+    refl)))
+    c.in_ok-effects.ensures.does c.telling.ensures)

@@ -13,6 +13,7 @@ invariant_of-state-2 c = (
   holders_kept c.state.inside.clock c.state.inside.dispatcher c.tick.new.self
       ticks c.state.inside.units c.state.inside.holders
       c.state.invariant.1 (c.in_ok-effects.ensures.does c.state.inside.clock).after refl,
+  c.state.invariant.2,
 )
 
 pub returns : goal.returns
@@ -28,11 +29,12 @@ returns c =
       };
       limits = c.state.inside.admission;
     } in
-    subst (λ (h : Held). Done h ticks (record old { board = record old.board { dispatcher = c.tick.new.self } }) c.telling.result)
+    subst (λ (h : Held). Done h ticks (record old { board = record old.board { dispatcher = c.tick.new.self } })
+    c.telling.result)
     c.state.view_is
     (done_own old ticks c.state.inside.units c.state.inside.answers.items c.tick.new.self c.in_ok-effects.effects None
     c.telling.result
-    (record { part = refl; sent = refl; info = refl; taken = refl; closes = refl; tells = refl })
+    (record { part = refl; sent = refl; info = refl; taken = refl; closes = refl; tells = refl; begins = refl })
     (sym (ap (λ request. reach_all request c.state.inside.units)
     (c.in_ok-effects.ensures.does c.state.inside.clock).request))
     (sym (ap (λ request. if opens_round request then [] else c.state.inside.answers.items)

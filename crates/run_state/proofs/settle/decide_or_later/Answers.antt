@@ -6,5 +6,6 @@ use Rattle.run_state.proofs.settle.decide_or_later.Goals as goal
 pub returns-in-None : goal.returns-in-None
 returns-in-None c =
     c.due_or_later.ensures
-    ∙ sym (unit_none c.args.settings.now c.args.state.now.board (λ unit. turns.Decide unit c.args.word) _ _ (λ k. refl) c.requires.going c.requires.whole
+    ∙ sym (unit_none c.args.settings.now c.args.state.now.board (λ unit. turns.Decide unit c.args.word) _ _
+    (λ k. refl) c.requires.going c.requires.whole
     (c.in-None.ensures.none (search rules)))

@@ -7,4 +7,5 @@ use Rattle.run_state.proofs.settle.first_unit.Given as goal
 abbrev pub invariant-loop-unit : goal.invariant-loop-unit
 invariant-loop-unit l =
     (j : ℕ) → j < l.unit-index
-    → unit_takes l.state.board.clock (unit_in l.state.board (get_or (working_in l.state.board.units) j 0)) l.turn ≡ false
+    → unit_takes l.state.board.clock (unit_in l.state.board (get_or (working_in l.state.board.units) j 0)) l.turn
+    ≡ false

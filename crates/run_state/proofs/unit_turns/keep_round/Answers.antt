@@ -1,4 +1,4 @@
-use Rattle.std.proofs.Common.{◌++◌, option_to_list, Some, ap, sym, ◌∙◌}
+use Rattle.std.proofs.Common.{◌++◌, option_to_list, Some, ap, ◌∙◌}
 use Rattle.run_events.specs.declared.request.Request.TheVariants.{GetInfo}
 use Rattle.run_model.specs.Rounds.{answer_of}
 use Rattle.run_state.proofs.AnswerLemmas.{kept_more}

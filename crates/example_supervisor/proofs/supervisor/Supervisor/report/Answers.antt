@@ -21,7 +21,8 @@ returns c =
     (ap (λ (w : World). w.broken) grown ∙ c.requires.sound) legal in
     let over = sym c.in-Some-false.ensures.outcome in
     let calm : list_any tells_cancel events ≡ false = sym (ap (λ l. l.cancelled) is) ∙ c.in-Some-false.is-1 in
-    let once = c.nothing_stops_without_a_cause.ensures.each run.settings run.journal legal
+    let single = ap (λ (w : World). w.settings.stress) grown ∙ c.requires.single in
+    let once = c.nothing_stops_without_a_cause.ensures.one run.settings run.journal single legal
     (over_is run.settings (history_of run) c.in-Some-false.outcome over) calm in
     let results = c.replace-results.ensures.value ∙ ap (λ l. l.results) is in
     record {

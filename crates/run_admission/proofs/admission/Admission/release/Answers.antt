@@ -82,7 +82,8 @@ refresh-requires c =
     c.give_in_group.ensures ∙ ap (λ l. give_in l claim.group c.in-InUse.group claim.weight) c.deref_mut.ensures.value in
     let many : length c.give_in_group.new.groups ≡ v.groups.len =
     omega (arith, ap length after, length_give_in v.groups.items claim.group c.in-InUse.group claim.weight) in
-    line_low v.waiting v.whole v.groups.items v.lines v.claims.items v.seats.items c.args.test claim c.len.result w of
+    line_low v.waiting v.whole v.groups.items v.lines v.order.items v.claims.items v.seats.items c.args.test
+    claim c.len.result w of
     (omega (arith, many, ap length after, length_give_in v.groups.items claim.group c.in-InUse.group claim.weight))
     c.unwrap_or-line.result c.unwrap_or-line.ensures
 
@@ -99,12 +100,12 @@ invariant_of-self c =
     c.give_in_group.ensures ∙ ap (λ l. give_in l claim.group c.in-InUse.group claim.weight) c.deref_mut.ensures.value in
     let many : length c.give_in_group.new.groups ≡ v.groups.len =
     omega (arith, ap length after, length_give_in v.groups.items claim.group c.in-InUse.group claim.weight) in
-    let low = line_low v.waiting v.whole v.groups.items v.lines v.claims.items v.seats.items c.args.test claim
-    c.len.result w of
+    let low = line_low v.waiting v.whole v.groups.items v.lines v.order.items v.claims.items v.seats.items
+    c.args.test claim c.len.result w of
     (omega (arith, many, ap length after, length_give_in v.groups.items claim.group c.in-InUse.group claim.weight))
     c.unwrap_or-line.result c.unwrap_or-line.ensures in
-    release_ready v.waiting v.whole _ v.groups.items (with_items v.groups c.give_in_group.new.groups).items v.lines c.refresh.new.self v.claims.items v.seats.items
-    c.args.test _ c.unwrap_or-line.result c.room_of-room.result _ claim w can of c.give_back.ensures (with_items_is v.groups c.give_in_group.new.groups many ∙ after) low
+    release_ready v.waiting v.whole _ v.groups.items (with_items v.groups c.give_in_group.new.groups).items v.lines
+    c.refresh.new.self v.order.items v.claims.items v.seats.items c.args.test _ c.unwrap_or-line.result c.room_of-room.result _ claim w can of c.give_back.ensures (with_items_is v.groups c.give_in_group.new.groups many ∙ after) low
     (λ h e. c.unwrap_or-line.ensures ∙ ap (λ o. unwrap_or o c.len.result) e)
     (c.room_of-room.ensures ∙ ap (λ l. room_of l c.unwrap_or-line.result) c.deref.ensures.value) c.refresh.ensures
 

@@ -7,6 +7,8 @@ use Rattle.run_admission.specs.declared.seat.Seat.TheVariants.{InUse}
 use Rattle.run_admission.specs.InUse.{candidate, admitted, after_admission}
 use Rattle.run_admission.specs.Kept.{Use, CanTake, nobody, free_within, take_in}
 use Rattle.run_admission.specs.Lined.{Queues, empty, line_of, room_of, without}
+use Rattle.run_admission.proofs.FirstLemmas.{first_is}
+use Rattle.run_admission.specs.declared.seat.Candidate.TheVariants.{Fits}
 use Rattle.run_admission.proofs.RuleLemmas.{can_run, run_kept, run_said, run_seen}
 use Rattle.run_admission.proofs.WholeLemmas.{length_take_in}
 use Rattle.run_admission.proofs.WaitLemmas.{one_fewer}
@@ -91,8 +93,10 @@ leave-requires-clause-line c =
     ≡ line_of (map (λ (u : Use). u.limit) v.groups.items) (get_or v.claims.items c.args.test nobody.0) =
     c.line_of-line.ensures ∙ ap (λ l. line_of (map (λ (u : Use). u.limit) l) claim) c.deref.ensures.value
     ∙ ap (line_of (map (λ (u : Use). u.limit) v.groups.items)) of in
-    let at = in_line v.waiting v.whole v.groups.items v.lines v.claims.items v.seats.items c.args.test
-    c.line_of-line.result w can.inside own in
+    let at = in_line v.waiting v.whole v.groups.items v.lines v.order.items v.claims.items v.seats.items
+    c.first-first.result c.args.test c.line_of-line.result w
+    (first_is v.waiting v.whole v.groups.items v.lines v.order.items v.claims.items v.seats.items c.first-first.result w
+    c.first-first.ensures (Fits c.args.test) is) own in
     at.low
 
 pub leave-requires-clause-test : goal.leave-requires-clause-test
@@ -108,8 +112,10 @@ leave-requires-clause-test c =
     ≡ line_of (map (λ (u : Use). u.limit) v.groups.items) (get_or v.claims.items c.args.test nobody.0) =
     c.line_of-line.ensures ∙ ap (λ l. line_of (map (λ (u : Use). u.limit) l) claim) c.deref.ensures.value
     ∙ ap (line_of (map (λ (u : Use). u.limit) v.groups.items)) of in
-    let at = in_line v.waiting v.whole v.groups.items v.lines v.claims.items v.seats.items c.args.test
-    c.line_of-line.result w can.inside own in
+    let at = in_line v.waiting v.whole v.groups.items v.lines v.order.items v.claims.items v.seats.items
+    c.first-first.result c.args.test c.line_of-line.result w
+    (first_is v.waiting v.whole v.groups.items v.lines v.order.items v.claims.items v.seats.items c.first-first.result w
+    c.first-first.ensures (Fits c.args.test) is) own in
     at.known
 
 pub leave-requires-clause-place : goal.leave-requires-clause-place
@@ -125,8 +131,10 @@ leave-requires-clause-place c =
     ≡ line_of (map (λ (u : Use). u.limit) v.groups.items) (get_or v.claims.items c.args.test nobody.0) =
     c.line_of-line.ensures ∙ ap (λ l. line_of (map (λ (u : Use). u.limit) l) claim) c.deref.ensures.value
     ∙ ap (line_of (map (λ (u : Use). u.limit) v.groups.items)) of in
-    let at = in_line v.waiting v.whole v.groups.items v.lines v.claims.items v.seats.items c.args.test
-    c.line_of-line.result w can.inside own in
+    let at = in_line v.waiting v.whole v.groups.items v.lines v.order.items v.claims.items v.seats.items
+    c.first-first.result c.args.test c.line_of-line.result w
+    (first_is v.waiting v.whole v.groups.items v.lines v.order.items v.claims.items v.seats.items c.first-first.result w
+    c.first-first.ensures (Fits c.args.test) is) own in
     at.here
 
 pub refresh-requires : goal.refresh-requires
@@ -142,14 +150,16 @@ refresh-requires c =
     ≡ line_of (map (λ (u : Use). u.limit) v.groups.items) (get_or v.claims.items c.args.test nobody.0) =
     c.line_of-line.ensures ∙ ap (λ l. line_of (map (λ (u : Use). u.limit) l) claim) c.deref.ensures.value
     ∙ ap (line_of (map (λ (u : Use). u.limit) v.groups.items)) of in
-    let at = in_line v.waiting v.whole v.groups.items v.lines v.claims.items v.seats.items c.args.test
-    c.line_of-line.result w can.inside own in
+    let at = in_line v.waiting v.whole v.groups.items v.lines v.order.items v.claims.items v.seats.items
+    c.first-first.result c.args.test c.line_of-line.result w
+    (first_is v.waiting v.whole v.groups.items v.lines v.order.items v.claims.items v.seats.items c.first-first.result w
+    c.first-first.ensures (Fits c.args.test) is) own in
     omega (
       arith,
       at.low,
       ap (λ (q : Queues). length q.lines) c.leave.ensures,
       length-set v.lines.lines c.line_of-line.result
-          (without (get_or v.lines.lines c.line_of-line.result empty) (get_or v.lines.places c.args.test 0)),
+          (without (get_or v.lines.lines c.line_of-line.result empty) (get_or v.lines.places c.first-first.result 0)),
     )
 
 pub index_mut-requires : goal.index_mut-requires
@@ -191,15 +201,16 @@ invariant_of-self c =
     ≡ line_of (map (λ (u : Use). u.limit) v.groups.items) (get_or v.claims.items c.args.test nobody.0) =
     c.line_of-line.ensures ∙ ap (λ l. line_of (map (λ (u : Use). u.limit) l) claim) c.deref.ensures.value
     ∙ ap (line_of (map (λ (u : Use). u.limit) v.groups.items)) of in
-    let at = in_line v.waiting v.whole v.groups.items v.lines v.claims.items v.seats.items c.args.test
-    c.line_of-line.result w can.inside own in
     let after : c.take_in_group-group.new.groups ≡ take_in v.groups.items claim.group c.args.test claim.weight =
     c.take_in_group-group.ensures.after
     ∙ ap (λ l. take_in l claim.group c.args.test claim.weight) c.deref_mut.ensures.value in
     let many : length c.take_in_group-group.new.groups ≡ v.groups.len =
     omega (arith, ap length after, length_take_in v.groups.items claim.group c.args.test claim.weight) in
-    run_ready v.waiting v.whole _ v.groups.items (with_items v.groups c.take_in_group-group.new.groups).items v.lines c.leave.new.self c.refresh.new.self v.claims.items
-    v.seats.items c.args.test _ c.line_of-line.result c.room_of-room.result _ claim w is of c.take-global.ensures.slot
+    run_ready v.waiting v.whole _ v.groups.items (with_items v.groups c.take_in_group-group.new.groups).items v.lines
+    c.leave.new.self c.refresh.new.self v.order.items v.claims.items v.seats.items c.first-first.result c.args.test _ c.line_of-line.result
+    c.room_of-room.result _ claim w is
+    (first_is v.waiting v.whole v.groups.items v.lines v.order.items v.claims.items v.seats.items c.first-first.result w
+    c.first-first.ensures (Fits c.args.test) is) of c.take-global.ensures.slot
     (c.take_in_group-group.ensures.slot ∙ ap (λ l. free_within l claim.group) c.deref_mut.ensures.value)
     c.take-global.ensures.after (with_items_is v.groups c.take_in_group-group.new.groups many ∙ after) own c.leave.ensures
     (c.room_of-room.ensures ∙ ap (λ l. room_of l c.line_of-line.result) c.deref-2.ensures.value) c.refresh.ensures

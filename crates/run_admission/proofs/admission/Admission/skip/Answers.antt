@@ -4,7 +4,9 @@ use Rattle.std.proofs.lemmas.List.{get_or_read}
 use Rattle.run_admission.specs.InUse.{candidate}
 use Rattle.run_admission.specs.Kept.{Use, nobody}
 use Rattle.run_admission.specs.Lined.{Queues, empty, line_of, room_of, without}
+use Rattle.run_admission.proofs.FirstLemmas.{first_is}
 use Rattle.run_admission.proofs.RuleLemmas.{can_skip}
+use Rattle.run_admission.specs.declared.seat.Candidate.TheVariants.{Skip}
 use Rattle.run_admission.specs.declared.seat.Seat.TheVariants.{Gone}
 use Rattle.run_admission.proofs.ReadyLemmas.{in_line, skip_ready, within_of}
 use Rattle.run_admission.proofs.WaitLemmas.{one_fewer}
@@ -28,7 +30,10 @@ leave-requires-clause-line c =
     let of : c.line_of-line.result ≡ line_of (map (λ (u : Use). u.limit) v.groups.items) (get_or v.claims.items c.args.test nobody.0) =
     c.line_of-line.ensures ∙ ap (λ l. line_of (map (λ (u : Use). u.limit) l) c.index.result.now) c.deref.ensures.value
     ∙ ap (line_of (map (λ (u : Use). u.limit) v.groups.items)) read in
-    let at = in_line v.waiting v.whole v.groups.items v.lines v.claims.items v.seats.items c.args.test c.line_of-line.result w can.0 of in
+    let at = in_line v.waiting v.whole v.groups.items v.lines v.order.items v.claims.items v.seats.items
+    c.first-first.result c.args.test c.line_of-line.result w
+    (first_is v.waiting v.whole v.groups.items v.lines v.order.items v.claims.items v.seats.items c.first-first.result w
+    c.first-first.ensures (Skip c.args.test) (ap candidate c.self.view_is ∙ c.requires)) of in
     at.low
 
 pub leave-requires-clause-test : goal.leave-requires-clause-test
@@ -42,7 +47,10 @@ leave-requires-clause-test c =
     let of : c.line_of-line.result ≡ line_of (map (λ (u : Use). u.limit) v.groups.items) (get_or v.claims.items c.args.test nobody.0) =
     c.line_of-line.ensures ∙ ap (λ l. line_of (map (λ (u : Use). u.limit) l) c.index.result.now) c.deref.ensures.value
     ∙ ap (line_of (map (λ (u : Use). u.limit) v.groups.items)) read in
-    let at = in_line v.waiting v.whole v.groups.items v.lines v.claims.items v.seats.items c.args.test c.line_of-line.result w can.0 of in
+    let at = in_line v.waiting v.whole v.groups.items v.lines v.order.items v.claims.items v.seats.items
+    c.first-first.result c.args.test c.line_of-line.result w
+    (first_is v.waiting v.whole v.groups.items v.lines v.order.items v.claims.items v.seats.items c.first-first.result w
+    c.first-first.ensures (Skip c.args.test) (ap candidate c.self.view_is ∙ c.requires)) of in
     at.known
 
 pub leave-requires-clause-place : goal.leave-requires-clause-place
@@ -56,7 +64,10 @@ leave-requires-clause-place c =
     let of : c.line_of-line.result ≡ line_of (map (λ (u : Use). u.limit) v.groups.items) (get_or v.claims.items c.args.test nobody.0) =
     c.line_of-line.ensures ∙ ap (λ l. line_of (map (λ (u : Use). u.limit) l) c.index.result.now) c.deref.ensures.value
     ∙ ap (line_of (map (λ (u : Use). u.limit) v.groups.items)) read in
-    let at = in_line v.waiting v.whole v.groups.items v.lines v.claims.items v.seats.items c.args.test c.line_of-line.result w can.0 of in
+    let at = in_line v.waiting v.whole v.groups.items v.lines v.order.items v.claims.items v.seats.items
+    c.first-first.result c.args.test c.line_of-line.result w
+    (first_is v.waiting v.whole v.groups.items v.lines v.order.items v.claims.items v.seats.items c.first-first.result w
+    c.first-first.ensures (Skip c.args.test) (ap candidate c.self.view_is ∙ c.requires)) of in
     at.here
 
 pub refresh-requires : goal.refresh-requires
@@ -70,13 +81,16 @@ refresh-requires c =
     let of : c.line_of-line.result ≡ line_of (map (λ (u : Use). u.limit) v.groups.items) (get_or v.claims.items c.args.test nobody.0) =
     c.line_of-line.ensures ∙ ap (λ l. line_of (map (λ (u : Use). u.limit) l) c.index.result.now) c.deref.ensures.value
     ∙ ap (line_of (map (λ (u : Use). u.limit) v.groups.items)) read in
-    let at = in_line v.waiting v.whole v.groups.items v.lines v.claims.items v.seats.items c.args.test c.line_of-line.result w can.0 of in
+    let at = in_line v.waiting v.whole v.groups.items v.lines v.order.items v.claims.items v.seats.items
+    c.first-first.result c.args.test c.line_of-line.result w
+    (first_is v.waiting v.whole v.groups.items v.lines v.order.items v.claims.items v.seats.items c.first-first.result w
+    c.first-first.ensures (Skip c.args.test) (ap candidate c.self.view_is ∙ c.requires)) of in
     omega (
       arith,
       at.low,
       ap (λ (q : Queues). length q.lines) c.leave.ensures,
       length-set v.lines.lines c.line_of-line.result
-          (without (get_or v.lines.lines c.line_of-line.result empty) (get_or v.lines.places c.args.test 0)),
+          (without (get_or v.lines.lines c.line_of-line.result empty) (get_or v.lines.places c.first-first.result 0)),
     )
 
 pub index_mut-requires : goal.index_mut-requires
@@ -106,8 +120,10 @@ invariant_of-self c =
     let of : c.line_of-line.result ≡ line_of (map (λ (u : Use). u.limit) v.groups.items) (get_or v.claims.items c.args.test nobody.0) =
     c.line_of-line.ensures ∙ ap (λ l. line_of (map (λ (u : Use). u.limit) l) c.index.result.now) c.deref.ensures.value
     ∙ ap (line_of (map (λ (u : Use). u.limit) v.groups.items)) read in
-    let at = in_line v.waiting v.whole v.groups.items v.lines v.claims.items v.seats.items c.args.test c.line_of-line.result w can.0 of in
-    skip_ready v.waiting v.whole v.groups.items v.lines c.leave.new.self c.refresh.new.self v.claims.items v.seats.items
-    c.args.test c.line_of-line.result c.room_of-room.result w (ap candidate c.self.view_is ∙ c.requires) of
+    skip_ready v.waiting v.whole v.groups.items v.lines c.leave.new.self c.refresh.new.self v.order.items v.claims.items
+    v.seats.items c.first-first.result c.args.test c.line_of-line.result c.room_of-room.result w
+    (ap candidate c.self.view_is ∙ c.requires)
+    (first_is v.waiting v.whole v.groups.items v.lines v.order.items v.claims.items v.seats.items c.first-first.result w
+    c.first-first.ensures (Skip c.args.test) (ap candidate c.self.view_is ∙ c.requires)) of
     c.leave.ensures
     (c.room_of-room.ensures ∙ ap (λ l. room_of l c.line_of-line.result) c.deref-2.ensures.value) c.refresh.ensures

@@ -1,4 +1,4 @@
-use Rattle.std.proofs.Common.{rules, ◌≡◌, length, slice_get, Some, None, sym, subst, arith, ◌∙◌, ap}
+use Rattle.std.proofs.Common.{rules, ◌≡◌, slice_get, Some, None, sym, subst, arith}
 use Rattle.run_engine.specs.World.{World}
 use Rattle.run_engine.specs.Starts.{starts_of}
 use Rattle.run_engine.proofs.StartsLemmas.{empty_of, claims-take, claims-none, starts-fit}

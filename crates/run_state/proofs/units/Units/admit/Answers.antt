@@ -33,11 +33,13 @@ invariant_of-self-2 c =
           ∙ set_left us c.args.place c.self.inside.left c.args.unit c.is_over-over.result c.self.invariant.0
           (ap is_left absent) within (sym c.is_over-over.ensures)
           ∙ sym (ap (count_by is_left) c.put.ensures),
-      working-set us c.args.place c.args.unit c.is_over-over.result c.admit.new.numbers.items (sym c.is_over-over.ensures)
+      working-set us c.args.place c.args.unit c.is_over-over.result c.admit.new.numbers.items
+          (sym c.is_over-over.ensures)
           (c.in-Ok.ensures.ok (map is_working us) c.self.invariant.1 listed
           (flag-at us c.args.place None _ (ap is_working absent)))
           ∙ sym (ap working_in c.put.ensures),
-      counted_set is_live_unit us c.args.place c.self.inside.live c.count_after-self-inside.result (Some c.args.unit) false
+      counted_set is_live_unit us c.args.place c.self.inside.live c.count_after-self-inside.result
+          (Some c.args.unit) false
           c.is_live-live.result c.self.invariant.2 within (sym (ap is_live_unit absent)) c.is_live-live.ensures
           c.count_after-self-inside.ensures
           ∙ sym (ap live_in c.put.ensures),

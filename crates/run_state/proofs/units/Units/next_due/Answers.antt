@@ -17,7 +17,8 @@ loop-unit-preserved c =
     subst (λ us. ns ≡ working_in us) c.self.view_is (c.as_slice-unit-items.ensures.value ∙ c.self.invariant.1) in
     let more : suc i ≡ i + 1 = omega arith in
     let inside : i < length (working_in us) = subst (λ (ms : List ℕ). i < length ms) is c.loop-unit-test.true in
-    due-same _ _ c.sooner-first.result (λ now. sym (any-taken (λ k. unit_takes now (get_or us k None) Due) (working_in us) i inside)
+    due-same _ _ c.sooner-first.result (λ now. sym (any-taken (λ k. unit_takes now (get_or us k None) Due)
+    (working_in us) i inside)
     ∙ ap (λ n. list_any (λ k. unit_takes now (get_or us k None) Due) (take n (working_in us))) more)
     (c.sooner-first.ensures
     (λ now. list_any (λ k. unit_takes now (get_or us k None) Due) (take i (working_in us)))
@@ -32,7 +33,8 @@ returns c =
     let is : ns ≡ working_in us =
     subst (λ us. ns ≡ working_in us) c.self.view_is (c.as_slice-unit-items.ensures.value ∙ c.self.invariant.1) in
     let at : c.loop-unit.unit-index ≡ length ns = omega arith in
-    let all : c.loop-unit.unit-index ≡ length (working_in us) = subst (λ (ms : List ℕ). c.loop-unit.unit-index ≡ length ms) is at in
+    let all : c.loop-unit.unit-index ≡ length (working_in us) =
+    subst (λ (ms : List ℕ). c.loop-unit.unit-index ≡ length ms) is at in
     due-same _ _ c.loop-unit.first
     (λ now. ap (list_any (λ k. unit_takes now (get_or us k None) Due))
     (ap (λ n. take n (working_in us)) all ∙ take-length (working_in us)) ∙ any-working now us)

@@ -1,0 +1,6 @@
+mod FirstLemmas
+mod NameLemmas
+mod AcceptLemmas
+mod Attempts
+mod ChildLemmas
+mod WayLemmas

@@ -1,0 +1,4 @@
+pub mod Plan
+pub mod Turns
+pub mod OnWay
+pub mod Generated
