@@ -34,3 +34,5 @@ mod output;
 mod rows;
 #[cfg(test)]
 mod runners;
+#[cfg(test)]
+mod unit_lines;

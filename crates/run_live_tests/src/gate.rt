@@ -14,8 +14,8 @@ const AT_A_TIME: u64 = 2;
 // How often a child looks whether the gate is open.
 const LOOKS: u32 = 100_000_000;
 
-/// A spawner whose child waits until so many were started at a time, says the ends of its streams, and exits with 0. The
-/// spawners of a host share the count of the children that were started.
+/// A spawner whose child waits until so many were started at a time, says the ends of its streams, and exits with 0.
+/// The spawners of a host share the count of the children that were started.
 #[derive(Drop)]
 pub(crate) struct GateSpawner {
     started: Option<Arc<AtomicU64, Global>>,

@@ -1,6 +1,7 @@
 //! Worked rows: whole inputs that the top call carries out from memory into memory. The folder `data/` has the table of
-//! the rows, their inputs, and of each the whole of what is to be written, and of some what standard error is to say. Each
-//! byte and each status is compared, and a line is printed for each row; where a row differs, what was written follows.
+//! the rows, their inputs, and of each the whole of what is to be written, and of some what standard error is to say.
+//! Each byte and each status is compared, and a line is printed for each row; where a row differs, what was written
+//! follows.
 #![tactic(auto)]
 
 mod carried;

@@ -128,8 +128,8 @@ fn is_only_one(told: &ExecuteStatus, attempts: &[ExecuteStatus]) -> bool {
     }
 }
 
-// Whether the attempts that the last event tells are these, where it tells that a test finished, or that its first attempt
-// failed.
+// Whether the attempts that the last event tells are these, where it tells that a test finished, or that its first
+// attempt failed.
 fn are_told(events: &[ReporterEvent], attempts: &[ExecuteStatus]) -> bool {
     match (last_finished(events), last_failed(events)) {
         (Some(told), _) => are_same_attempts(told, attempts),

@@ -49,8 +49,8 @@ pub struct Taken<'a> {
     pub moment: u64,
 }
 
-// What a turn is to the first unit. It is the only one that starts, and a start, or a retry, whose delivery tells nothing
-// is one that comes to nothing: the unit is let go exactly where nothing cancelled the run before.
+// What a turn is to the first unit. It is the only one that starts, and a start, or a retry, whose delivery tells
+// nothing is one that comes to nothing: the unit is let go exactly where nothing cancelled the run before.
 fn own_turn(rt: &impl Abort, alloc: Global, taken: Taken<'_>) -> Option<UnitTurn> {
     let go = !taken.is_cancelled;
     match taken.turn {
@@ -68,7 +68,8 @@ fn own_turn(rt: &impl Abort, alloc: Global, taken: Taken<'_>) -> Option<UnitTurn
     }
 }
 
-// Puts a turn before the first unit's story, the newest turn first, where it is its own, with the request that it takes.
+// Puts a turn before the first unit's story, the newest turn first, where it is its own, with the request that it
+// takes.
 pub fn put_own(
     rt: &impl Abort,
     alloc: Global,
