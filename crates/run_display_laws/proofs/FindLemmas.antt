@@ -22,74 +22,79 @@ use Rattle.run_display_laws.specs.Displays.{test_going_on}
 use Rattle.run_display_laws.proofs.CourseLemmas.{IsCourse, course_first, course_goes_on, course_shown, course_starts}
 use Rattle.run_display_laws.proofs.CourseLemmas.{goes_on_by, runs_by}
 use Rattle.run_display_laws.proofs.NewsLemmas.{displayed_news}
-use Rattle.run_display_laws.proofs.SameLemmas.{unit_named}
+use Rattle.run_display_laws.proofs.SameLemmas.{test_planned, unit_named}
 use Rattle.run_display_laws.proofs.SlowTold.{slows_found}
-use Rattle.run_display_laws.proofs.WholeLemmas.{IsToldInOne, account_append, account_split, all_at, course_whole}
-use Rattle.run_display_laws.proofs.WholeLemmas.{named_whole}
+use Rattle.run_display_laws.proofs.SubRunLemmas.{IsInSubRun, in_sub_run}
+use Rattle.run_display_laws.proofs.WholeLemmas.{account_append, account_split, all_at, course_newest, named_whole}
 
-module _ (p : Settings) (backward : List Entry) (once : HasEachIdOnce p) (legal : IsLegalBackward p backward)
-    (one : IsToldInOne (history p backward)) (before after : List ReporterEvent) (event : TestEvent)
-    (is : told (history p backward) ≡ before ++ Test event ∷ after) where
-  named_all : All (NamesThePlan p) (before ++ Test event ∷ after)
-  named_all = subst (All (NamesThePlan p)) is (named_whole p backward legal)
+module _ (p : Settings) (once : HasEachIdOnce p) (before : List ReporterEvent) (event : TestEvent)
+    (named_before : All (NamesThePlan p) before) (run : IsInSubRun p before (Test event)) where
+  course_at : (k : ℕ) → IsCourse (account_of k (run.earlier ++ Test event ∷ run.later))
+  course_at k = subst (λ es. IsCourse (account_of k es)) run.is (course_newest p run.backward run.legal k)
 
-  course_at : (k : ℕ) → IsCourse (account_of k (before ++ Test event ∷ after))
-  course_at k = subst (λ es. IsCourse (account_of k es)) is (course_whole p backward legal one k)
-
-  -- where news of a unit are told, what was told before them is a course that goes on with them
+  -- where news of a unit are told, what its sub-run told before them is a course that goes on with them
   course_with : (k : ℕ) (n : News) → news_in k event.kind ≡ Some n
-      → IsCourse (account_of k before ++ n ∷ account_of k after)
-  course_with k n so = subst IsCourse (account_split k before after event n so) (course_at k)
+      → IsCourse (account_of k run.earlier ++ n ∷ account_of k run.later)
+  course_with k n so = subst IsCourse (account_split k run.earlier run.later event n so) (course_at k)
 
-  course_before : (k : ℕ) → IsCourse (account_of k before)
+  course_before : (k : ℕ) → IsCourse (account_of k run.earlier)
   course_before k =
-      course_first (account_of k before) (account_of k (Test event ∷ after))
-      (subst IsCourse (account_append k before (Test event ∷ after)) (course_at k))
+      course_first (account_of k run.earlier) (account_of k (Test event ∷ run.later))
+      (subst IsCourse (account_append k run.earlier (Test event ∷ run.later)) (course_at k))
 
   -- the test of a unit is displayed before them where the unit runs
   displayed_as : (unit : TestUnit) → IsTestNamed p unit
-      → is_displayed unit.id (tests_displayed before) ≡ runs_by (account_of unit.unit before)
+      → is_displayed unit.id (tests_displayed before) ≡ runs_by (account_of unit.unit run.earlier)
   displayed_as unit named =
       let it = unit_named p unit named in
       ap (λ id. is_displayed id (tests_displayed before)) it.1.1
-      ∙ displayed_news p unit.unit it.0 once it.1.0 before
-      (All-before (NamesThePlan p) before (Test event ∷ after) named_all)
-      ∙ course_shown (account_of unit.unit before) (course_before unit.unit)
+      ∙ displayed_news p unit.unit it.0 once it.1.0 before named_before
+      ∙ run.same unit.unit (test_planned p unit.unit it.0 it.1.0)
+      ∙ course_shown (account_of unit.unit run.earlier) (course_before unit.unit)
 
   goes_on : (unit : TestUnit) (n : News) → IsTestNamed p unit → news_in unit.unit event.kind ≡ Some n
       → goes_on_by n ≡ true → is_displayed unit.id (tests_displayed before) ≡ true
   goes_on unit n named so on =
       displayed_as unit named
-      ∙ course_goes_on (account_of unit.unit before) (account_of unit.unit after) n on (course_with unit.unit n so)
+      ∙ course_goes_on (account_of unit.unit run.earlier) (account_of unit.unit run.later) n on
+      (course_with unit.unit n so)
 
   begins : (unit : TestUnit) → IsTestNamed p unit → news_in unit.unit event.kind ≡ Some started
       → is_displayed unit.id (tests_displayed before) ≡ false
   begins unit named so =
       displayed_as unit named
-      ∙ course_starts (account_of unit.unit before) (account_of unit.unit after) (course_with unit.unit started so)
+      ∙ course_starts (account_of unit.unit run.earlier) (account_of unit.unit run.later)
+      (course_with unit.unit started so)
 
   is_slow : (unit : TestUnit) (report : SlowReport) → IsTestNamed p unit
       → report_of_kind unit.unit event.kind ≡ Some report
       → is_displayed unit.id (tests_displayed before) ≡ true
   is_slow unit report named so =
       displayed_as unit named
-      ∙ slows_found p backward legal one unit.unit before after (Test event) is (ap is_some so)
+      ∙ slows_found p run.backward run.legal unit.unit run.earlier run.later (Test event) run.is (ap is_some so)
 
 -- of a unit the news of its own
 own_news : {X : Type 0} (k : ℕ) (x : X) → (if k == k then Some x else None) ≡ Some x
 own_news k x = let itself : (k == k) ≡ true = grind arith in rw itself refl
 
 pub finds_test : (p : Settings) (backward : List Entry) → HasEachIdOnce p → IsLegalBackward p backward
-    → IsToldInOne (history p backward)
     → (before after : List ReporterEvent) (event : TestEvent)
     → told (history p backward) ≡ before ++ Test event ∷ after → FindsItsTest before event
-finds_test p backward once legal one before after event is =
-    by_kind event.kind refl (all_at (NamesThePlan p) before after (Test event)
-    (named_all p backward once legal one before after event is))
+finds_test p backward once legal before after event is =
+    by_kind event.kind refl (all_at (NamesThePlan p) before after (Test event) named_all)
   where
+    named_all : All (NamesThePlan p) (before ++ Test event ∷ after)
+    named_all = subst (All (NamesThePlan p)) is (named_whole p backward legal)
+
+    named_before : All (NamesThePlan p) before
+    named_before = All-before (NamesThePlan p) before (Test event ∷ after) named_all
+
+    run : IsInSubRun p before (Test event)
+    run = in_sub_run p backward legal before after (Test event) is
+
     on : (unit : TestUnit) (n : News) → IsTestNamed p unit → news_in unit.unit event.kind ≡ Some n
         → goes_on_by n ≡ true → is_displayed unit.id (tests_displayed before) ≡ true
-    on = goes_on p backward once legal one before after event is
+    on = goes_on p once before event named_before run
 
     Finds : TestEventKind → Type 0
     Finds kind = IfSome (test_begun kind) (λ id. is_displayed id (tests_displayed before) ≡ false)
@@ -101,13 +106,13 @@ finds_test p backward once legal one before after event is =
 
     finds : (kind : TestEventKind) → event.kind ≡ kind → NamesThePlanIn p kind → Finds kind
     finds (kinds.TestStarted t) e named = (
-      begins p backward once legal one before after event is t.start.test named
+      begins p once before event named_before run t.start.test named
           (news t.start.test.unit _ started e (own_news t.start.test.unit started)),
       tt,
     )
     finds (kinds.TestSlow t) e named = (
       tt,
-      is_slow p backward once legal one before after event is t.test
+      is_slow p once before event named_before run t.test
           (record { attempt = t.attempt; elapsed = t.elapsed_slow; terminates = t.terminates }) named
           (ap (report_of_kind t.test.unit) e ∙ own_news t.test.unit _),
     )

@@ -7,6 +7,7 @@ mod RunningLemmas
 mod OffsetLemmas
 mod SlowLemmas
 mod SlowTold
+mod SubRunLemmas
 mod FindLemmas
 mod LastTold
 mod HiddenLemmas

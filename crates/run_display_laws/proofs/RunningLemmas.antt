@@ -14,7 +14,7 @@ use Rattle.run_events.specs.declared.events.TestEventKind.TheVariants as kinds
 use Rattle.run_model.specs.declared.entry.Entry.{Entry}
 use Rattle.run_model.specs.Accounts.{account_of}
 use Rattle.run_model.specs.Journal.{history, IsLegalBackward}
-use Rattle.run_model.specs.Words.{is_running, told}
+use Rattle.run_model.specs.Words.{is_running, sub_run, told}
 use Rattle.run_progress.specs.declared.running_test.RunningTestStatus.{RunningTestStatus}
 use Rattle.run_progress.specs.declared.running_test.RunningTestStatus.TheVariants as statuses
 use Rattle.run_progress.specs.Deeds.{deed_of, paused_in, starts}
@@ -23,17 +23,20 @@ use Rattle.run_event_laws.specs.Names.{IsTestNamed, NamesThePlan, NamesThePlanIn
 use Rattle.run_display_laws.specs.Displays.{HasEachIdOnce, IsOfPlan, tests_displayed, events_heard, is_displayed}
 use Rattle.run_display_laws.proofs.CourseLemmas.{course_shown}
 use Rattle.run_display_laws.proofs.NewsLemmas.{displayed_news}
-use Rattle.run_display_laws.proofs.SameLemmas.{unit_named}
-use Rattle.run_display_laws.proofs.WholeLemmas.{IsToldInOne, course_whole, named_whole, runs-is}
+use Rattle.run_display_laws.proofs.SameLemmas.{test_planned, unit_named}
+use Rattle.run_display_laws.proofs.SubRunLemmas.{shown_newest}
+use Rattle.run_display_laws.proofs.WholeLemmas.{course_newest, named_whole, runs-is}
 
 pub displays_running : (p : Settings) (backward : List Entry) → HasEachIdOnce p → IsLegalBackward p backward
-    → IsToldInOne (history p backward)
     → (k : ℕ) (test : PlanTest) → test_of_unit p k ≡ Some test
-    → is_displayed test.id (tests_displayed (told (history p backward))) ≡ is_running (told (history p backward)) k
-displays_running p backward once legal one k test there =
+    → is_displayed test.id (tests_displayed (told (history p backward)))
+    ≡ is_running (told (sub_run (history p backward))) k
+displays_running p backward once legal k test there =
+    let run : List ReporterEvent = told (sub_run (history p backward)) in
     displayed_news p k test once there (told (history p backward)) (named_whole p backward legal)
-    ∙ course_shown (account_of k (told (history p backward))) (course_whole p backward legal one k)
-    ∙ runs-is k (told (history p backward))
+    ∙ shown_newest p backward legal k (test_planned p k test there)
+    ∙ course_shown (account_of k run) (course_newest p backward legal k)
+    ∙ runs-is k run
 
 -- a test that is started by an event that names the plan is one of the plan
 module _ (p : Settings) (start before : ℕ) (later : List TestEvent) where

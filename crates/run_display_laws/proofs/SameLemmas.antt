@@ -4,6 +4,7 @@ use Rattle.std.proofs.Common.{if◌then◌else◌, Option, Some, None, option_ma
 use Rattle.std.proofs.Common.{arith}
 use Rattle.std.specs.Cmp.{first_so, second_so}
 use Rattle.std.specs.List.{IsDistinct}
+use Rattle.std.proofs.lemmas.Bool.Decides.{nat_tests}
 use Rattle.std.proofs.lemmas.Map.Keys.{apart_from_distinct}
 use Rattle.std.proofs.lemmas.Option.{get_or_from_slice_get, slice_get-map, slice_get_within}
 use Rattle.std.proofs.lemmas.Slice.Eq.{bytes_eq-Decides}
@@ -11,7 +12,7 @@ use Rattle.run_events.specs.declared.message.TestUnit.{TestUnit}
 use Rattle.run_events.specs.declared.plan.PlanTest.{PlanTest}
 use Rattle.run_events.specs.declared.plan.TestInstanceId.{TestInstanceId}
 use Rattle.run_events.specs.declared.settings.Settings.{Settings}
-use Rattle.run_model.specs.Admission.{is_script, scripts_in}
+use Rattle.run_model.specs.Admission.{is_script, scripts_in, tests_in, units_in}
 use Rattle.run_progress.specs.Deeds.{is_same}
 use Rattle.run_event_laws.specs.Names.{IsTestNamed, test_named, test_of_unit}
 use Rattle.run_display_laws.specs.Displays.{HasEachIdOnce}
@@ -43,6 +44,14 @@ test_at p k test there = by_kind (is_script p k) there
         → (b ≡ false) × (slice_get p.plan.tests (k - scripts_in p) ≡ Some test)
     by_kind true there = cc
     by_kind false there = (refl, there)
+
+-- it is one of its units
+pub test_planned : (p : Settings) (k : ℕ) (test : PlanTest) → test_of_unit p k ≡ Some test → k < units_in p
+test_planned p k test there =
+    let it = test_at p k test there in
+    let within : k - scripts_in p < tests_in p = slice_get_within p.plan.tests (k - scripts_in p) test it.1 in
+    let above : nat_lt k (scripts_in p) ≡ false = it.0 in
+    grind (arith, nat_tests)
 
 abbrev pub ids_of : List PlanTest → List TestInstanceId
 ids_of tests = map (λ (test : PlanTest). test.id) tests

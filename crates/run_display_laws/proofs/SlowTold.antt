@@ -24,7 +24,7 @@ use Rattle.run_model.specs.Dispatch.{may_go}
 use Rattle.run_model.specs.Journal.{history, IsLegalBackward}
 use Rattle.run_model.specs.Turns.{deed_on}
 use Rattle.run_model.specs.Unit.{at_moment, row, takes_at}
-use Rattle.run_model.specs.Words.{queue, tally, told, unit_after, unit_of}
+use Rattle.run_model.specs.Words.{queue, sub_run, tally, told, unit_after, unit_of}
 use Rattle.run_laws.specs.Reports.{report_in, report_of, report_of_kind}
 use Rattle.run_laws.proofs.board.DeedFits.{IsSentAs, PartFits, left_with}
 use Rattle.run_laws.proofs.board.Holds.{Holds}
@@ -37,7 +37,6 @@ use Rattle.run_event_laws.proofs.Told.{message_in, message_of, messages_of, is_t
 use Rattle.run_display_laws.proofs.CourseLemmas.{runs_by}
 use Rattle.run_display_laws.proofs.SlowLemmas.{SlowsFind, find_sent, find_taken, first_silent, open_account, report_own}
 use Rattle.run_display_laws.proofs.SlowLemmas.{slow_opens}
-use Rattle.run_display_laws.proofs.WholeLemmas.{IsToldInOne}
 
 -- what events tell of a unit is what the messages would whose delivery they tell
 news-message : (k : ℕ) (kind : TestEventKind) → news_in k kind ≡ option_and_then (pending_in k) (message_in kind)
@@ -158,13 +157,13 @@ finds_kept p f refused now run e h en does was k =
         (ap runs_by accounted ∙ it.0, it.1)
 
 -- where a list that goes on is split: among the first, or after them
-abbrev SplitsFirst : {X : Type 0} → List X → List X → X → Type 0
+abbrev pub SplitsFirst : {X : Type 0} → List X → List X → X → Type 0
 SplitsFirst {X} xs before e = (rest : List X) × (xs ≡ before ++ e ∷ rest)
 
-abbrev SplitsLater : {X : Type 0} → List X → List X → List X → List X → X → Type 0
+abbrev pub SplitsLater : {X : Type 0} → List X → List X → List X → List X → X → Type 0
 SplitsLater {X} xs ys before after e = (more : List X) × ((before ≡ xs ++ more) × (ys ≡ more ++ e ∷ after))
 
-split_append : {X : Type 0} (xs ys before after : List X) (e : X) → xs ++ ys ≡ before ++ e ∷ after
+pub split_append : {X : Type 0} (xs ys before after : List X) (e : X) → xs ++ ys ≡ before ++ e ∷ after
     → SplitsFirst xs before e ⊎ SplitsLater xs ys before after e
 split_append [] ys before after e is = inr (before, (refl, is))
 split_append (x ∷ xs) ys [] after e is = let head : x ≡ e = cc in inl (xs, ap (λ y. y ∷ xs) head)
@@ -264,8 +263,5 @@ found_none k [] after e is slow = cc
 found_none k (x ∷ before) after e is slow = cc
 
 pub slows_found : (p : Settings) (backward : List Entry) → IsLegalBackward p backward
-    → IsToldInOne (history p backward)
-    → SlowsFound (told (history p backward))
-slows_found p backward legal one =
-    subst SlowsFound (sym one)
-    (by_journal p AreFound (λ k. tt, found_none) (found_kept p) backward legal).1
+    → SlowsFound (told (sub_run (history p backward)))
+slows_found p backward legal = (by_journal p AreFound (λ k. tt, found_none) (found_kept p) backward legal).1

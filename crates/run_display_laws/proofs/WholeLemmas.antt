@@ -50,18 +50,14 @@ named_whole p (e ∷ before) legal =
     by_run (inr idle) =
         subst (λ d. All (NamesThePlan p) (deed_events d)) (sym idle.idle) (All-nil (NamesThePlan p))
 
--- all that is told in a history is told in its newest sub-run, as in a run that is no stress run
-abbrev pub IsToldInOne : List Happening → Type 0
-IsToldInOne past = told past ≡ told (sub_run past)
-
-pub course_whole : (p : Settings) (backward : List Entry) → IsLegalBackward p backward
-    → IsToldInOne (history p backward) → (k : ℕ)
-    → IsCourse (account_of k (told (history p backward)))
-course_whole p backward legal one k =
-    let run : List Happening = sub_run (history p backward) in
-    subst (λ es. IsCourse (account_of k es)) (sym one)
-    (account_course (is_mismatched p k) (was_left k run) (unit_of k run) (account_of k (told run))
-    (pending_of k (queue run)) ((holds p backward legal).accounts k))
+pub course_newest : (p : Settings) (backward : List Entry) → IsLegalBackward p backward → (k : ℕ)
+    → IsCourse (account_of k (told (sub_run (history p backward))))
+course_newest p backward legal k =
+    account_course (is_mismatched p k) (was_left k run) (unit_of k run) (account_of k (told run))
+    (pending_of k (queue run)) ((holds p backward legal).accounts k)
+  where
+    run : List Happening
+    run = sub_run (history p backward)
 
 -- what is told of a unit says whether it runs
 pub runs-is : (k : ℕ) (events : List ReporterEvent) → runs_by (account_of k events) ≡ is_running events k

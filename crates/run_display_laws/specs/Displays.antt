@@ -16,7 +16,7 @@ use Rattle.run_events.specs.declared.events.TestEventKind.TheVariants.{TestAttem
 use Rattle.run_events.specs.declared.events.TestEventKind.TheVariants.{TestRetryStarted, TestFinished}
 use Rattle.run_model.specs.declared.entry.Entry.{Entry}
 use Rattle.run_model.specs.Journal.{IsLegal, past_of}
-use Rattle.run_model.specs.Words.{is_running, told}
+use Rattle.run_model.specs.Words.{is_running, sub_run, told}
 use Rattle.run_engine.specs.Builder.{Builder, IsBuilt}
 use Rattle.run_progress.specs.declared.running_test.RunningTest.{RunningTest}
 use Rattle.run_progress.specs.Deeds.{is_same}
@@ -53,13 +53,13 @@ abbrev pub BuiltPlansHaveIdsOnce : Type 0
 BuiltPlansHaveIdsOnce = (builder : Builder) (plan : Plan) (settings : Settings)
     → IsBuilt builder plan (Ok settings) → HasEachIdOnce settings
 
--- after every legal journal of such a plan, of a run that is no stress run, each test of it is displayed exactly
--- where it was told started and not told finished
+-- after every legal journal of such a plan each test of it is displayed exactly where it was told started in the newest
+-- sub-run and not told finished in it
 abbrev pub DisplaysShowRunning : Type 0
-DisplaysShowRunning = (p : Settings) (journal : List Entry) → p.stress ≡ None → HasEachIdOnce p
-    → IsLegal p journal → (k : ℕ) (test : PlanTest) → test_of_unit p k ≡ Some test
+DisplaysShowRunning = (p : Settings) (journal : List Entry) → HasEachIdOnce p → IsLegal p journal
+    → (k : ℕ) (test : PlanTest) → test_of_unit p k ≡ Some test
     → is_displayed test.id (tests_displayed (told (past_of p journal)))
-    ≡ is_running (told (past_of p journal)) k
+    ≡ is_running (told (sub_run (past_of p journal))) k
 
 -- a displayed test is one of the plan
 abbrev pub IsOfPlan : Settings → RunningTest → Type 0
@@ -89,9 +89,8 @@ pub record FindsItsTest (before : List ReporterEvent) (event : TestEvent) : Type
   pub begun : IfSome (test_begun event.kind) (λ id. is_displayed id (tests_displayed before) ≡ false)
   pub going_on : IfSome (test_going_on event.kind) (λ id. is_displayed id (tests_displayed before) ≡ true)
 
--- each event that a legal journal of a plan with each id once tells, of a run that is no stress run, does so, after
--- those told before it
+-- each event that a legal journal of a plan with each id once tells does so, after all told before it
 abbrev pub EventsFindTheirTests : Type 0
-EventsFindTheirTests = (p : Settings) (journal : List Entry) → p.stress ≡ None → HasEachIdOnce p
-    → IsLegal p journal → (before after : List ReporterEvent) (event : TestEvent)
+EventsFindTheirTests = (p : Settings) (journal : List Entry) → HasEachIdOnce p → IsLegal p journal
+    → (before after : List ReporterEvent) (event : TestEvent)
     → told (past_of p journal) ≡ before ++ Test event ∷ after → FindsItsTest before event

@@ -5,9 +5,7 @@ use Rattle.run_display_laws.proofs.ShownLemmas.{no_twins}
 use Rattle.run_display_laws.proofs.laws.displays_show_running_tests.Goals as goal
 
 pub returns-clause-running : goal.returns-clause-running
-returns-clause-running c = λ p journal single once legal.
-    displays_running p (reverse journal) once legal
-    (c.a_run_has_one_sub_run.ensures p journal single legal).same.told
+returns-clause-running c = λ p journal once legal. displays_running p (reverse journal) once legal
 
 pub returns-clause-plan : goal.returns-clause-plan
 returns-clause-plan c = λ p journal legal. displays_plan p (reverse journal) legal
