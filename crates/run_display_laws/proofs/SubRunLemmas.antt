@@ -1,6 +1,7 @@
 -- A whole history shows of a test what its newest sub-run shows: where a further one begins, none is displayed.
-use Rattle.std.proofs.Common.{◌≡◌, ◌⊎◌, inl, inr, ℕ, ◌+◌, ◌<◌, ◌||◌, ◌&&◌, ◌==◌, is_none, List, [], ◌∷◌, ◌++◌, append_assoc, zero, suc}
-use Rattle.std.proofs.Common.{if◌then◌else◌, nat_lt, Bool, true, false, not, Option, Some, None, is_some, refl, ap, sym, subst, ◌∙◌, arith}
+use Rattle.std.proofs.Common.{◌≡◌, ◌⊎◌, inl, inr, ℕ, zero, suc, ◌+◌, ◌<◌, ◌==◌, nat_lt, List, [], ◌∷◌, ◌++◌}
+use Rattle.std.proofs.Common.{Bool, true, false, ◌||◌, ◌&&◌, not, if◌then◌else◌, Option, Some, None, is_some, is_none}
+use Rattle.std.proofs.Common.{append_assoc, refl, ap, sym, subst, ◌∙◌}
 use Rattle.std.specs.Cmp.{first_so, second_so}
 use Rattle.std.specs.List.{All}
 use Rattle.std.proofs.lemmas.List.Elements.{All-head}
@@ -21,11 +22,11 @@ use Rattle.run_model.specs.Accounts.{News, account_of, finished, is_mismatched}
 use Rattle.run_model.specs.Admission.{units_in}
 use Rattle.run_model.specs.Attempts.{statuses_of}
 use Rattle.run_model.specs.Board.{Deed, board, deed_events}
-use Rattle.run_model.specs.Fates.{HasFate, HaveFates, account, but_last, retold}
+use Rattle.run_model.specs.Fates.{HasFate, HaveFates, account, retold}
 use Rattle.run_model.specs.Journal.{IsLegalBackward, history}
 use Rattle.run_model.specs.Story.{deliveries, is_at_retry, lets_go, stopped_at}
 use Rattle.run_model.specs.SubRuns.{is_cancelled, stops_after}
-use Rattle.run_model.specs.Turns.{deed_on, enabled, ends_as, happening, nothing_done, progress_of, takes_turn, turn_of_unit}
+use Rattle.run_model.specs.Turns.{deed_on, enabled, ends_as, happening, progress_of, takes_turn, turn_of_unit}
 use Rattle.run_model.specs.Words.{clock, ended_runs, events_in, is_on, is_over, reason, stats, sub_run, told}
 use Rattle.run_laws.proofs.board.Deeds.{base_of}
 use Rattle.run_laws.proofs.board.Kept.{IsBeforeRuns, IsOfRun, holds, where_joins}
@@ -88,7 +89,7 @@ stopped_none k (x ∷ run) calm =
     by_part true caused none = rw none refl
     by_part false caused none = refl
 
--- a sub-run that ended while the run goes on has no cause
+-- parts of what is false
 first_false : (a b : Bool) → (a || b) ≡ false → (a ≡ false) × (b ≡ false)
 first_false true b h = cc
 first_false false b h = (refl, h)
@@ -97,6 +98,7 @@ both_off : (ends begins on : Bool) → ends ≡ false → (not ends && (begins |
 both_off true begins on is off = cc
 both_off false begins on is off = off
 
+-- a sub-run that ends while the run goes on has no cause
 goes_calm : (last : RunStats) (next : StressProgress) (n : ℕ) → stops_after last next n ≡ false
     → is_some last.cancel_reason ≡ false
 goes_calm last next n none =
@@ -126,12 +128,12 @@ calm_end p past e of ends goes_on =
         (d.sub_runs.ended + 1) (sym (ap (λ (d : Deed). d.over) same) ∙ over) in
         by_reason (reason of.base) (deed_on p (board p past) e.turn).cause (ap (λ (d : Deed). d.cause) same) calm
       where
-        by_reason : (why cause : Option CancelReason) → cause ≡ None → is_some why ≡ false → is_some (greater why cause) ≡ false
+        by_reason : (why cause : Option CancelReason) → cause ≡ None → is_some why ≡ false
+            → is_some (greater why cause) ≡ false
         by_reason None cause none calm = ap is_some none
         by_reason (Some r) cause none calm = cc
 
--- what a history shows of a unit is what its newest sub-run shows; and that is nothing once that has ended, and the run
--- goes on
+-- a history shows a unit where its newest sub-run does, which doesn't once it has ended, while the run goes on
 record IsShown (k : ℕ) (past : List Happening) : Type 0 where
   same : shown_by_told k (told past) ≡ shown_by_told k (told (sub_run past))
   off : is_over past ≡ false → is_on (sub_run past) ≡ false → shown_by_told k (told (sub_run past)) ≡ false
@@ -174,7 +176,7 @@ module _ (p : Settings) (e : Entry) (before : List Entry) (legal : IsLegalBackwa
   abbrev x : Happening
   x = happening p past e
 
-  -- a sub-run that ends shows nothing
+  -- a sub-run that ends doesn't show it, while the run goes on
   hidden : (of : IsOfRun p past e) → x.ends ≡ true → x.over ≡ false → shown_by_told k (told (x ∷ of.base)) ≡ false
   hidden of ends goes_on =
       ap (shown_after_news false) fate.account
@@ -189,7 +191,7 @@ module _ (p : Settings) (e : Entry) (before : List Entry) (legal : IsLegalBackwa
       fate = subst (λ run. HasFate p run k) of.joins
           (All-head (HaveFates p) (sub_run (x ∷ past)) (ended_runs past) ended k below)
 
-  -- one that has ended shows no more
+  -- nor does one that has ended
   stays_hidden : (of : IsOfRun p past e) → is_over (x ∷ past) ≡ false → is_on (x ∷ of.base) ≡ false
       → shown_by_told k (told (x ∷ of.base)) ≡ false
   stays_hidden of goes_on off = by_end x.ends refl
@@ -207,6 +209,7 @@ module _ (p : Settings) (e : Entry) (before : List Entry) (legal : IsLegalBackwa
       by_end true is = hidden of is (first_false x.over (is_over past) goes_on).0
       by_end false is = still is
 
+  -- so each turn keeps that
   shown_next : IsOfRun p past e ⊎ IsBeforeRuns p past e → IsShown k (x ∷ past)
   shown_next (inl of) = record {
     same = shown_more k (told past) (told of.base) (events_in x) (shown_base p past e k of legal.0 was)
@@ -231,7 +234,7 @@ pub shown_newest : (p : Settings) (backward : List Entry) → IsLegalBackward p 
     → shown_by_told k (told (history p backward)) ≡ shown_by_told k (told (sub_run (history p backward)))
 shown_newest p backward legal k below = (shown p backward legal k below).same
 
--- an event is told in a sub-run, where the events of it before this one show what all events before it do
+-- an event is told in a sub-run whose events before it show what all events before it do
 pub record IsInSubRun (p : Settings) (before : List ReporterEvent) (event : ReporterEvent) : Type 0 where
   pub backward : List Entry
   pub legal : IsLegalBackward p backward
@@ -267,7 +270,8 @@ in_sub_run p (e ∷ entries) legal before after event is =
       legal = legal;
       earlier = told of.base ++ more;
       later = after;
-      is = ap told of.joins ∙ ap (λ es. told of.base ++ es) now ∙ sym (append_assoc (told of.base) more (event ∷ after));
+      is = ap told of.joins ∙ ap (λ es. told of.base ++ es) now
+          ∙ sym (append_assoc (told of.base) more (event ∷ after));
       same = λ k below. ap (shown_by_told k) earlier
           ∙ shown_more k (told past) (told of.base) more
           (shown_base p past e k of legal.0 (shown p entries legal.2 k below));

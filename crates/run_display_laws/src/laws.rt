@@ -23,9 +23,9 @@ pub fn events_find_their_tests()
     ensures { EventsFindTheirTests }
 {}
 
-/// After every legal journal by which the run isn't paused, how long a display takes it to have
-/// been paused, by the event that told last that it goes on, is how long it was: the time of the clock that isn't the
-/// run's active time. While the run is paused, and then alone, a pause hides the display.
+/// After every legal journal by which the run isn't paused, how long a display takes it to have been paused, by the
+/// event that told last that it goes on, is how long it was: the time of the clock that isn't the run's active time.
+/// While the run is paused, and then alone, a pause hides the display.
 pub fn displays_count_pauses()
     ensures counts { DisplaysCountPauses }
     ensures hides { PausesHide }

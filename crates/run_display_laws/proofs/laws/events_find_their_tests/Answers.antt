@@ -3,4 +3,5 @@ use Rattle.run_display_laws.proofs.FindLemmas.{finds_test}
 use Rattle.run_display_laws.proofs.laws.events_find_their_tests.Goals as goal
 
 pub returns : goal.returns
-returns c = λ p journal once legal before after event is. finds_test p (reverse journal) once legal before after event is
+returns c = λ p journal once legal before after event is.
+    finds_test p (reverse journal) once legal before after event is
