@@ -2,14 +2,13 @@
 ghost use Rattle.std.specs.Prelude.{◌≡◌, ◌++◌, ◌==◌, [], length, IfOk, OnOk, OnErr};
 
 use crate::{Duplicate, Mem};
-use bytes::BytesMut;
 use std::alloc::Global;
 use std::marker::Model;
 
-/// Bytes that can grow. Freezing them is moving them, and takes no memory.
+/// Bytes that can grow.
 #[derive(Debug, Drop)]
 pub struct Blob {
-    bytes: BytesMut,
+    bytes: Vec<u8>,
 }
 
 impl Model for Blob {
@@ -26,7 +25,7 @@ impl Blob {
         ensures { result ≡ [] }
     {
         Blob {
-            bytes: BytesMut::new(alloc),
+            bytes: Vec::new(alloc),
         }
     }
 

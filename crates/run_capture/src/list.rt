@@ -88,7 +88,8 @@ impl<T> List<T> {
                 vec.push(item)?;
             }
             None => {
-                let mut vec = Vec::new(alloc);
+                // Many a list has one item.
+                let mut vec = Vec::with_capacity(alloc, 1)?;
                 vec.push(item)?;
                 self.vec = Some(vec);
             }
