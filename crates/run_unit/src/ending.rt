@@ -110,7 +110,13 @@ pub fn make_room(alloc: Global, statuses: &mut List<ExecuteStatus>) -> Mem<Vec<E
     ensures err { OnErr result (statuses.new ≡ statuses.old) }
 {
     let mut attempts = mem::replace(statuses, List::new()).into_vec(alloc);
-    if attempts.reserve(1).is_ok() {
+    // Mostly there is one attempt.
+    let made = if attempts.is_empty() {
+        attempts.reserve_exact(1)
+    } else {
+        attempts.reserve(1)
+    };
+    if made.is_ok() {
         return Ok(attempts);
     }
     *statuses = List::from_vec(attempts);

@@ -69,6 +69,9 @@ fn streams_of(alloc: Global, captured: CapturedStreams) -> Mem<List<Stream>>
 fn wrapped(alloc: Global, unit: &UnitView) -> Mem<List<Text>>
     ensures { IfOk result (λ all. all ≡ unit.now.around.wrapper ++ unit.now.command) }
 {
+    if unit.around.wrapper.is_empty() {
+        return unit.command.copy(alloc);
+    }
     let wrapper = unit.around.wrapper.copy(alloc)?;
     with_command(alloc, wrapper, &unit.command)
 }
