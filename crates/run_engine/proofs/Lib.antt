@@ -10,3 +10,4 @@ pub mod OutcomeLemmas
 pub mod CourseLemmas
 pub mod RepeatLemmas
 pub mod FewLemmas
+pub mod NameLemmas

@@ -15,10 +15,10 @@ use Rattle.run_model.specs.declared.entry.Entry.{Entry}
 use Rattle.run_model.specs.Words.{answers, asked, events_in}
 use Rattle.run_model.specs.Turns.{happening}
 use Rattle.run_model.specs.Journal.{past_of}
-use Rattle.run_engine.specs.World.{World, outside, flagged, earlier, first_error, TellsEvents, CountsErrors, TakesTurn}
+use Rattle.run_engine.specs.World.{World, Outside, outside, flagged, earlier, first_error, TellsEvents, CountsErrors, TakesTurn}
 use Rattle.run_engine.specs.World.{IsUntouched}
 use Rattle.run_engine.specs.World.{entry_of}
-use Rattle.run_engine.specs.Standing.{sound}
+use Rattle.run_engine.specs.Standing.{sound, unbroken}
 use Rattle.run_laws.specs.Course.{turns_of, refusals, none_refused}
 use Rattle.run_engine.specs.Execution.{TakesTurns, StopsHere}
 use Rattle.run_engine.specs.Refused.{IsNotTaken}
@@ -118,16 +118,33 @@ takes-more tells asks faults p journal a b c d e f first later turn new so_far s
       counted = counts_both (faults a) (faults b) (faults c) first later so_far.counted step.counted;
     })
 
+-- what a run with claimed starts takes, one with none takes alike
+pub takes-unclaimed : {R E C : Type 0} (tells : R → List (ReporterEvent × Option E) → Type 0)
+    (asks : C → List (ℕ × Ask) → Type 0) (o : Outside R C) (turn : Turn) (p : Settings) (journal : List Entry)
+    (claimed : ℕ) (new : World) (refusal : Option E)
+    → TakesTurn tells asks o turn (unbroken p journal claimed) (record new { claimed = claimed }) refusal
+    → TakesTurn tells asks o turn (sound p journal) (record new { claimed = 0 }) refusal
+takes-unclaimed tells asks o turn p journal claimed new refusal x = record {
+  is_enabled = x.is_enabled;
+  refused = x.refused;
+  answered = x.answered;
+  grown = ap (λ (w : World). record w { claimed = 0 }) x.grown;
+  marked = x.marked;
+  told = x.told;
+  asked = x.asked;
+  counted = x.counted;
+}
+
 -- where the turn at a place isn't taken the turns stop there
 pub stops_here : {R E C : Type 0} (tells : R → List (ReporterEvent × Option E) → Type 0)
     (asks : C → List (ℕ × Ask) → Type 0) (faults : R → ℕ) (p : Settings) (turns : List Turn) (was new : World)
     (a b c : R) (d e f : C) (first : Option E) (place : ℕ) (turn : Turn) (third : Bool)
     → TakesTurns tells asks (outside faults a b d e) p was.journal first → turns_of was.journal ≡ take place turns
-    → was ≡ sound p was.journal → slice_get turns place ≡ Some turn → IsNotTaken was turn third
+    → was ≡ unbroken p was.journal was.claimed → slice_get turns place ≡ Some turn → IsNotTaken was turn third
     → IsUntouched was new (outside faults b c e f)
     → StopsHere tells asks (outside faults a c d f) p turns new.journal place third
 stops_here tells asks faults p turns was new a b c d e f first place turn third so_far all is at refused same =
-    let stays : IsNotTaken (sound p was.journal) turn third =
+    let stays : IsNotTaken (unbroken p was.journal was.claimed) turn third =
     subst (λ (w : World). IsNotTaken w turn third) is refused in
     subst (λ (w : World). StopsHere tells asks (outside faults a c d f) p turns w.journal place third) (sym same.0)
     (subst (λ r. StopsHere tells asks (outside faults a r d f) p turns was.journal place third) (sym same.1)

@@ -7,4 +7,5 @@ pub mod Heard
 pub mod Refused
 pub mod Execution
 pub mod Handlers
+pub mod Names
 pub mod Builder

@@ -1,13 +1,14 @@
 // How a runner is made of a plan.
 ghost use Rattle.std.specs.Prelude.{◌≡◌, ◌+◌, ◌==◌, ◌<◌, ◌^◌, length, position, option_map, option_and_then};
-ghost use Rattle.std.specs.Prelude.{IfOk, IfSome, OnOk, Some};
+ghost use Rattle.std.specs.Prelude.{IfOk, IfSome, List, OnOk, Some};
 ghost use Rattle.std.specs.List.Sorted.{IsStrictlySortedBy};
-ghost use Rattle.run_admission.specs.InUse.{group_of};
+ghost use Rattle.run_events.specs.declared.plan.Group.{Group};
 ghost use Rattle.run_model.specs.Reruns.{AreAscending, id_order};
 ghost use Rattle.run_engine.specs.declared.errors.TestRunnerBuildError.TheVariants.{ZeroLimit};
 ghost use Rattle.run_engine.specs.Builder.{IsBuilt, count_of, threads_of, names_no_group, refusal_at, test_refusal};
 ghost use Rattle.run_engine.specs.Builder.{first_refused, zero_limit, refusal_with, refusal_of, has_too_many};
 ghost use Rattle.run_engine.specs.Builder.{settings_of};
+ghost use Rattle.run_engine.specs.Names.{HasNames};
 
 use crate::errors::TestRunnerBuildError;
 use crate::runner::TestRunner;
@@ -327,19 +328,24 @@ fn zero_limit(threads: u32, groups: &[Group]) -> Option<TestRunnerBuildError>
     }
 }
 
-// The place of the first group of this name.
-fn place_of(groups: &[Group], name: &Text) -> Option<usize>
-    ensures { result ≡ group_of groups.now name.now }
+// The names of groups.
+fn names_of(alloc: Global, groups: &[Group]) -> Mem<BTreeSet<&Text>>
+    ensures { IfOk result (λ names. HasNames groups.now names) }
 {
-    groups.iter().position(|group| group.name == *name)
+    let mut names = BTreeSet::new(alloc);
+    for group in groups {
+        names.insert(&group.name)?;
+    }
+    Ok(names)
 }
 
 // Whether a test names a group that isn't among these.
-fn names_no_group(groups: &[Group], test: &PlanTest) -> bool
-    ensures { result ≡ names_no_group groups.now test.now }
+fn names_no_group<'a>(names: &BTreeSet<&'a Text>, test: &'a PlanTest) -> bool
+    ensures { (groups : List Group) → HasNames groups names.now
+        → result ≡ names_no_group groups test.now }
 {
     match &test.group {
-        Some(name) => place_of(groups, name).is_none(),
+        Some(name) => !names.contains(&name),
         None => false,
     }
 }
@@ -353,18 +359,19 @@ fn has_too_many(retries: Option<RetryPolicy>, test: &PlanTest) -> bool
 }
 
 // Why a test at this place is refused.
-fn refusal_at(
+fn refusal_at<'a>(
     test: u32,
     repeats: bool,
-    groups: &[Group],
+    names: &BTreeSet<&'a Text>,
     retries: Option<RetryPolicy>,
-    planned: &PlanTest,
+    planned: &'a PlanTest,
 ) -> Option<TestRunnerBuildError>
-    ensures { result ≡ refusal_at test repeats groups.now retries planned.now }
+    ensures { (groups : List Group) → HasNames groups names.now
+        → result ≡ refusal_at test repeats groups retries planned.now }
 {
     if repeats {
         Some(TestRunnerBuildError::DuplicateTest { test })
-    } else if names_no_group(groups, planned) {
+    } else if names_no_group(names, planned) {
         Some(TestRunnerBuildError::UnknownGroup { test })
     } else if planned.weight == 0 {
         Some(TestRunnerBuildError::ZeroWeight { test })
@@ -376,20 +383,21 @@ fn refusal_at(
 }
 
 // Why the first test that is refused is refused.
-fn tests_refusal(
+fn tests_refusal<'a>(
     alloc: Global,
-    groups: &[Group],
+    groups: &'a [Group],
     retries: Option<RetryPolicy>,
-    tests: &[PlanTest],
+    tests: &'a [PlanTest],
 ) -> Mem<Option<TestRunnerBuildError>>
     requires { length tests.now < 2 ^ 32 }
     ensures { IfOk result (λ r. r ≡ option_and_then (test_refusal groups.now retries tests.now)
         (first_refused groups.now retries tests.now)) }
 {
+    let names = names_of(alloc, groups)?;
     let mut ids = BTreeSet::new(alloc);
     for (place, test) in tests.iter().enumerate() {
         let fresh = ids.insert(&test.id)?;
-        let refusal = refusal_at(place as u32, !fresh, groups, retries, test);
+        let refusal = refusal_at(place as u32, !fresh, &names, retries, test);
         if refusal.is_some() {
             return Ok(refusal);
         }

@@ -10,7 +10,7 @@ ghost use Rattle.run_model.specs.Turns.{enabled};
 ghost use Rattle.run_engine.specs.World.{TakesTurn, IsUntouched, outside, history_of};
 ghost use Rattle.run_engine.specs.Refused.{IsRefused, IfNotMemory};
 ghost use Rattle.run_engine.specs.Handlers.{handler_status};
-ghost use Rattle.run_engine.specs.Standing.{sound};
+ghost use Rattle.run_engine.specs.Standing.{sound, unbroken};
 ghost use Rattle.run_engine.specs.Execution.{TakesTurns, Carries, Executes, AnswersCourse, UnlessMemory, StopsAt};
 ghost use Rattle.run_engine.specs.Execution.{IsFinal};
 ghost use Rattle.run_engine.specs.Broken.{BreaksOff, RunsOut};
@@ -69,7 +69,7 @@ pub enum Stop {
     OutOfMemory,
 }
 
-// Takes a copy of a turn.
+// Takes a copy of a turn. The start that it asks is let go: nobody claims one of these turns.
 fn take_copy<C: Children, R: Reporter>(
     alloc: Global,
     run: &mut Run,
@@ -78,7 +78,8 @@ fn take_copy<C: Children, R: Reporter>(
     report: &mut R,
 ) -> Result<Option<R::Error>, StepError>
     ensures takes { let o = outside R.faults report.old report.new children.old children.new in
-        IfOk result (TakesTurn R.told C.asked o turn.now run.old run.new) }
+        IfOk result (TakesTurn R.told C.asked o turn.now run.old
+        (record run.new { claimed = run.old.claimed })) }
     ensures room { OnOk result (length run.old.journal < 4294967295) }
     ensures refused { IfErr result (IsRefused run.old turn.now) }
     ensures unchanged { let o = outside R.faults report.old report.new children.old children.new in
@@ -89,7 +90,11 @@ fn take_copy<C: Children, R: Reporter>(
         run.old.journal turn.now }
 {
     match turn.copy(alloc) {
-        Ok(turn) => run.take(alloc, turn, children, report),
+        Ok(turn) => {
+            let refusal = run.take(alloc, turn, children, report)?;
+            drop(run.claim());
+            Ok(refusal)
+        }
         Err(_) => Err(StepError::OutOfMemory),
     }
 }
@@ -108,7 +113,8 @@ fn take_all<C: Children, R: Reporter>(
     ensures ok { let o = outside R.faults report.old report.new children.old children.new in
         IfOk result (TakesTurns R.told C.asked o run.old.settings run.new.journal) }
     ensures all { OnOk result (turns_of run.new.journal ≡ turns.now) }
-    ensures run { OnOk result (run.new ≡ sound run.old.settings run.new.journal) }
+    ensures run { OnOk result (run.new
+        ≡ unbroken run.old.settings run.new.journal run.new.claimed) }
     ensures stopped { let o = outside R.faults report.old report.new children.old children.new in
         IfErr result (StopsAt R.told C.asked o run.old.settings turns.now run.new.journal) }
 {

@@ -23,7 +23,7 @@ returns-then-is_some c =
     sym (c.loop-place.invariant.known (record { ref_ptr = (0, 0); now = test.id }))
     ∙ sym (found _ _ c.in_ok-fresh.ensures.added) in
     let here : test_refusal groups retries tests place ≡ c.refusal_at-refusal.result =
-    refusal_here groups retries tests place test (not c.in_ok-fresh.fresh) at among ∙ sym c.refusal_at-refusal.ensures in
+    refusal_here groups retries tests place test (not c.in_ok-fresh.fresh) at among ∙ sym (c.refusal_at-refusal.ensures groups c.in_ok-names.ensures) in
     let some : is_some (test_refusal groups retries tests place) ≡ true =
     ap is_some here ∙ sym c.is_some.ensures ∙ c.if-is_some.true in
     let first : first_refused groups retries tests ≡ Some place =
@@ -45,7 +45,7 @@ loop-place-preserved c =
     sym (c.loop-place.invariant.known (record { ref_ptr = (0, 0); now = test.id }))
     ∙ sym (found _ _ c.in_ok-fresh.ensures.added) in
     let here : test_refusal groups retries tests place ≡ c.refusal_at-refusal.result =
-    refusal_here groups retries tests place test (not c.in_ok-fresh.fresh) at among ∙ sym c.refusal_at-refusal.ensures in
+    refusal_here groups retries tests place test (not c.in_ok-fresh.fresh) at among ∙ sym (c.refusal_at-refusal.ensures groups c.in_ok-names.ensures) in
     let none : is_some (test_refusal groups retries tests place) ≡ false =
     ap is_some here ∙ sym c.is_some.ensures ∙ c.if-is_some.false in
     record {

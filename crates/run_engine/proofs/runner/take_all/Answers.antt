@@ -1,12 +1,12 @@
 use Rattle.std.proofs.Common.{true, false, Some, Err, ◌+◌, ◌<◌, ◌^◌, length, ap, sym, subst, ◌∙◌, arith}
 use Rattle.std.proofs.lemmas.Option.{slice_get-get_or}
 use Rattle.run_engine.specs.World.{World, TakesTurn, outside}
-use Rattle.run_engine.specs.Standing.{sound}
+use Rattle.run_engine.specs.Standing.{sound, unbroken}
 use Rattle.run_laws.specs.Course.{turns_of}
 use Rattle.run_engine.specs.Execution.{TakesTurns}
 use Rattle.run_engine.specs.Broken.{BreaksOff, RunsOut}
 use Rattle.run_engine.proofs.PartLemmas.{runs_out}
-use Rattle.run_engine.proofs.TakesLemmas.{takes-more, turns-push, stops_here}
+use Rattle.run_engine.proofs.TakesLemmas.{takes-more, takes-unclaimed, turns-push, stops_here}
 use Rattle.run_engine.proofs.runner.take_all.Goals as goal
 
 pub loop-place-preserved : goal.loop-place-preserved
@@ -20,10 +20,13 @@ loop-place-preserved g c =
     let faults = g.R.Reporter.faults in
     let was = c.loop-place in
     let new = c.take_copy.new in
-    let step : TakesTurn told asked (outside faults was.report new.report was.children new.children) turn
-    (sound p journal) new.run c.in-Ok.refusal =
-    subst (λ (w : World). TakesTurn told asked (outside faults was.report new.report was.children new.children) turn w
-    new.run c.in-Ok.refusal) inv.run c.in-Ok.ensures.takes in
+    let o = outside faults was.report new.report was.children new.children in
+    let claimed = was.run.claimed in
+    let plain : World = record new.run { claimed = 0 } in
+    let step : TakesTurn told asked o turn (sound p journal) plain c.in-Ok.refusal =
+    takes-unclaimed told asked o turn p journal claimed new.run c.in-Ok.refusal
+    (subst (λ (w : World). TakesTurn told asked o turn w (record new.run { claimed = claimed }) c.in-Ok.refusal) inv.run
+    c.in-Ok.ensures.takes) in
     let room : length journal < 4294967295 = c.in-Ok.ensures.room in
     let more : length journal + 1 < 2 ^ 32 = omega arith in
     record {
@@ -31,11 +34,12 @@ loop-place-preserved g c =
           (outside faults c.args.report.now new.report c.args.children.now new.children) p new.run.journal refusal)
           (sym c.first_of-first.ensures)
           (takes-more told asked faults p journal c.args.report.now was.report new.report c.args.children.now
-          was.children new.children was.first c.in-Ok.refusal turn new.run inv.takes step more);
+          was.children new.children was.first c.in-Ok.refusal turn plain inv.takes step more);
       all = ap (λ (w : World). turns_of w.journal) step.grown
           ∙ turns-push journal c.args.turns.now was.place turn turn step.refused (omega arith) inv.all
           c.index-turns-place.is;
-      run = step.grown ∙ ap (λ (w : World). sound p w.journal) (sym step.grown);
+      run = ap (λ (w : World). record w { claimed = new.run.claimed }) step.grown
+          ∙ ap (λ (w : World). unbroken p w.journal new.run.claimed) (sym step.grown);
     }
 
 pub returns-in-Err-NotEnabled-clause-stopped : goal.returns-in-Err-NotEnabled-clause-stopped

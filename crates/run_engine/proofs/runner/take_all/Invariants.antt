@@ -1,6 +1,6 @@
 use Rattle.std.proofs.Common.{◌≡◌, take}
 use Rattle.run_engine.specs.World.{outside}
-use Rattle.run_engine.specs.Standing.{sound}
+use Rattle.run_engine.specs.Standing.{unbroken}
 use Rattle.run_laws.specs.Course.{turns_of}
 use Rattle.run_engine.specs.Execution.{TakesTurns}
 use Rattle.run_engine.proofs.runner.take_all.Given as goal
@@ -11,5 +11,5 @@ invariant-loop-place g l = record {
       (outside g.R.Reporter.faults l.initial.report l.report l.initial.children l.children) l.initial.run.settings
       l.run.journal l.first;
   all : turns_of l.run.journal ≡ take l.place l.turns;
-  run : l.run ≡ sound l.initial.run.settings l.run.journal;
+  run : l.run ≡ unbroken l.initial.run.settings l.run.journal l.run.claimed;
 }
