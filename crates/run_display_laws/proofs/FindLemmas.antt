@@ -1,10 +1,11 @@
 -- What is told of a test that goes on finds it displayed, and its start doesn't.
-use Rattle.std.proofs.Common.{◌≡◌, ℕ, ◌==◌, List, ◌∷◌, ◌++◌, true, false, if◌then◌else◌, None, Some, is_some, refl, ap}
-use Rattle.std.proofs.Common.{sym, subst, ◌∙◌, arith}
+use Rattle.std.proofs.Common.{◌≡◌, ℕ, ◌==◌, List, ◌∷◌, ◌++◌, true, false, if◌then◌else◌, Option, None, Some}
+use Rattle.std.proofs.Common.{is_some, refl, ap, sym, subst, ◌∙◌, arith}
 use Rattle.std.specs.Prelude.{IfSome}
 use Rattle.std.specs.List.{All}
 use Rattle.run_events.specs.declared.message.TestUnit.{TestUnit}
 use Rattle.run_events.specs.declared.settings.Settings.{Settings}
+use Rattle.run_events.specs.declared.stress.StressIndex.{StressIndex}
 use Rattle.run_events.specs.declared.events.ReporterEvent.{ReporterEvent}
 use Rattle.run_events.specs.declared.events.ReporterEvent.TheVariants.{Test}
 use Rattle.run_events.specs.declared.events.TestEvent.{TestEvent}
@@ -15,7 +16,7 @@ use Rattle.run_model.specs.Accounts.{News, started, failed, retried, finished, a
 use Rattle.run_model.specs.Journal.{history, IsLegalBackward}
 use Rattle.run_model.specs.Words.{told}
 use Rattle.run_laws.specs.Reports.{SlowReport, report_of_kind}
-use Rattle.run_event_laws.specs.Names.{IsTestNamed, NamesThePlan, NamesThePlanIn}
+use Rattle.run_event_laws.specs.Names.{IsTestNamed, NamesThePlanIn}
 use Rattle.run_event_laws.proofs.Told.{All-before}
 use Rattle.run_display_laws.specs.Displays.{FindsItsTest, HasEachIdOnce, tests_displayed, is_displayed, test_begun}
 use Rattle.run_display_laws.specs.Displays.{test_going_on}
@@ -25,10 +26,11 @@ use Rattle.run_display_laws.proofs.NewsLemmas.{displayed_news}
 use Rattle.run_display_laws.proofs.SameLemmas.{test_planned, unit_named}
 use Rattle.run_display_laws.proofs.SlowTold.{slows_found}
 use Rattle.run_display_laws.proofs.SubRunLemmas.{IsInSubRun, in_sub_run}
-use Rattle.run_display_laws.proofs.WholeLemmas.{account_append, account_split, all_at, course_newest, named_whole}
+use Rattle.run_display_laws.proofs.WholeLemmas.{NamesInSome, account_append, account_split, all_at, course_newest}
+use Rattle.run_display_laws.proofs.WholeLemmas.{named_whole}
 
 module _ (p : Settings) (once : HasEachIdOnce p) (before : List ReporterEvent) (event : TestEvent)
-    (named_before : All (NamesThePlan p) before) (run : IsInSubRun p before (Test event)) where
+    (named_before : All (NamesInSome p) before) (run : IsInSubRun p before (Test event)) where
   course_at : (k : ℕ) → IsCourse (account_of k (run.earlier ++ Test event ∷ run.later))
   course_at k = subst (λ es. IsCourse (account_of k es)) run.is (course_newest p run.backward run.legal k)
 
@@ -43,34 +45,35 @@ module _ (p : Settings) (once : HasEachIdOnce p) (before : List ReporterEvent) (
       (subst IsCourse (account_append k run.earlier (Test event ∷ run.later)) (course_at k))
 
   -- the test of a unit is displayed before them where the unit runs
-  displayed_as : (unit : TestUnit) → IsTestNamed p unit
+  displayed_as : (index : Option StressIndex) (unit : TestUnit) → IsTestNamed p index unit
       → is_displayed unit.id (tests_displayed before) ≡ runs_by (account_of unit.unit run.earlier)
-  displayed_as unit named =
-      let it = unit_named p unit named in
+  displayed_as index unit named =
+      let it = unit_named p index unit named in
       ap (λ id. is_displayed id (tests_displayed before)) it.1.1
       ∙ displayed_news p unit.unit it.0 once it.1.0 before named_before
       ∙ run.same unit.unit (test_planned p unit.unit it.0 it.1.0)
       ∙ course_shown (account_of unit.unit run.earlier) (course_before unit.unit)
 
-  goes_on : (unit : TestUnit) (n : News) → IsTestNamed p unit → news_in unit.unit event.kind ≡ Some n
-      → goes_on_by n ≡ true → is_displayed unit.id (tests_displayed before) ≡ true
-  goes_on unit n named so on =
-      displayed_as unit named
+  goes_on : (index : Option StressIndex) (unit : TestUnit) (n : News) → IsTestNamed p index unit
+      → news_in unit.unit event.kind ≡ Some n → goes_on_by n ≡ true
+      → is_displayed unit.id (tests_displayed before) ≡ true
+  goes_on index unit n named so on =
+      displayed_as index unit named
       ∙ course_goes_on (account_of unit.unit run.earlier) (account_of unit.unit run.later) n on
       (course_with unit.unit n so)
 
-  begins : (unit : TestUnit) → IsTestNamed p unit → news_in unit.unit event.kind ≡ Some started
-      → is_displayed unit.id (tests_displayed before) ≡ false
-  begins unit named so =
-      displayed_as unit named
+  begins : (index : Option StressIndex) (unit : TestUnit) → IsTestNamed p index unit
+      → news_in unit.unit event.kind ≡ Some started → is_displayed unit.id (tests_displayed before) ≡ false
+  begins index unit named so =
+      displayed_as index unit named
       ∙ course_starts (account_of unit.unit run.earlier) (account_of unit.unit run.later)
       (course_with unit.unit started so)
 
-  is_slow : (unit : TestUnit) (report : SlowReport) → IsTestNamed p unit
+  is_slow : (index : Option StressIndex) (unit : TestUnit) (report : SlowReport) → IsTestNamed p index unit
       → report_of_kind unit.unit event.kind ≡ Some report
       → is_displayed unit.id (tests_displayed before) ≡ true
-  is_slow unit report named so =
-      displayed_as unit named
+  is_slow index unit report named so =
+      displayed_as index unit named
       ∙ slows_found p run.backward run.legal unit.unit run.earlier run.later (Test event) run.is (ap is_some so)
 
 -- of a unit the news of its own
@@ -81,20 +84,26 @@ pub finds_test : (p : Settings) (backward : List Entry) → HasEachIdOnce p → 
     → (before after : List ReporterEvent) (event : TestEvent)
     → told (history p backward) ≡ before ++ Test event ∷ after → FindsItsTest before event
 finds_test p backward once legal before after event is =
-    by_kind event.kind refl (all_at (NamesThePlan p) before after (Test event) named_all)
+    by_kind event.kind refl it.1
   where
-    named_all : All (NamesThePlan p) (before ++ Test event ∷ after)
-    named_all = subst (All (NamesThePlan p)) is (named_whole p backward legal)
+    named_all : All (NamesInSome p) (before ++ Test event ∷ after)
+    named_all = subst (All (NamesInSome p)) is (named_whole p backward legal)
 
-    named_before : All (NamesThePlan p) before
-    named_before = All-before (NamesThePlan p) before (Test event ∷ after) named_all
+    it : NamesInSome p (Test event)
+    it = all_at (NamesInSome p) before after (Test event) named_all
+
+    index : Option StressIndex
+    index = it.0
+
+    named_before : All (NamesInSome p) before
+    named_before = All-before (NamesInSome p) before (Test event ∷ after) named_all
 
     run : IsInSubRun p before (Test event)
     run = in_sub_run p backward legal before after (Test event) is
 
-    on : (unit : TestUnit) (n : News) → IsTestNamed p unit → news_in unit.unit event.kind ≡ Some n
+    on : (unit : TestUnit) (n : News) → IsTestNamed p index unit → news_in unit.unit event.kind ≡ Some n
         → goes_on_by n ≡ true → is_displayed unit.id (tests_displayed before) ≡ true
-    on = goes_on p once before event named_before run
+    on = goes_on p once before event named_before run index
 
     Finds : TestEventKind → Type 0
     Finds kind = IfSome (test_begun kind) (λ id. is_displayed id (tests_displayed before) ≡ false)
@@ -104,15 +113,15 @@ finds_test p backward once legal before after event is =
         → news_in k event.kind ≡ Some n
     news k kind n e own = ap (news_in k) e ∙ own
 
-    finds : (kind : TestEventKind) → event.kind ≡ kind → NamesThePlanIn p kind → Finds kind
+    finds : (kind : TestEventKind) → event.kind ≡ kind → NamesThePlanIn p index kind → Finds kind
     finds (kinds.TestStarted t) e named = (
-      begins p once before event named_before run t.start.test named
+      begins p once before event named_before run index t.start.test named
           (news t.start.test.unit _ started e (own_news t.start.test.unit started)),
       tt,
     )
     finds (kinds.TestSlow t) e named = (
       tt,
-      is_slow p once before event named_before run t.test
+      is_slow p once before event named_before run index t.test
           (record { attempt = t.attempt; elapsed = t.elapsed_slow; terminates = t.terminates }) named
           (ap (report_of_kind t.test.unit) e ∙ own_news t.test.unit _),
     )
@@ -136,12 +145,13 @@ finds_test p backward once legal before after event is =
     )
     finds kind e named = (tt, tt)
 
-    by_kind : (kind : TestEventKind) → event.kind ≡ kind → NamesThePlanIn p event.kind → FindsItsTest before event
+    by_kind : (kind : TestEventKind) → event.kind ≡ kind → NamesThePlanIn p index event.kind
+        → FindsItsTest before event
     by_kind kind e named =
-        let it = finds kind e (subst (NamesThePlanIn p) e named) in
+        let found = finds kind e (subst (NamesThePlanIn p index) e named) in
         record {
           begun = subst (λ kind. IfSome (test_begun kind) (λ id. is_displayed id (tests_displayed before) ≡ false))
-              (sym e) it.0;
+              (sym e) found.0;
           going_on = subst (λ kind. IfSome (test_going_on kind) (λ id. is_displayed id (tests_displayed before) ≡ true))
-              (sym e) it.1;
+              (sym e) found.1;
         }

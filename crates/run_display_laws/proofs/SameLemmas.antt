@@ -12,6 +12,7 @@ use Rattle.run_events.specs.declared.message.TestUnit.{TestUnit}
 use Rattle.run_events.specs.declared.plan.PlanTest.{PlanTest}
 use Rattle.run_events.specs.declared.plan.TestInstanceId.{TestInstanceId}
 use Rattle.run_events.specs.declared.settings.Settings.{Settings}
+use Rattle.run_events.specs.declared.stress.StressIndex.{StressIndex}
 use Rattle.run_model.specs.Admission.{is_script, scripts_in, tests_in, units_in}
 use Rattle.run_progress.specs.Deeds.{is_same}
 use Rattle.run_event_laws.specs.Names.{IsTestNamed, test_named, test_of_unit}
@@ -100,27 +101,27 @@ same_unit p j k s t once at_j at_k same =
     by_order first second above_j above_k = grind arith
 
 -- the test that an event names
-pub unit_named : (p : Settings) (unit : TestUnit) → IsTestNamed p unit
+pub unit_named : (p : Settings) (index : Option StressIndex) (unit : TestUnit) → IsTestNamed p index unit
     → (s : PlanTest) × ((test_of_unit p unit.unit ≡ Some s) × (unit.id ≡ s.id))
-unit_named p unit named = by_test (test_of_unit p unit.unit) named
+unit_named p index unit named = by_test (test_of_unit p unit.unit) named
   where
     id_in : Option TestUnit → TestInstanceId → TestInstanceId
     id_in None other = other
     id_in (Some unit) other = unit.id
 
-    by_test : (o : Option PlanTest) → option_map (test_named unit.stress_index unit.unit) o ≡ Some unit
+    by_test : (o : Option PlanTest) → option_map (test_named index unit.unit) o ≡ Some unit
         → (s : PlanTest) × ((o ≡ Some s) × (unit.id ≡ s.id))
     by_test None named = cc
     by_test (Some s) named = (s, (refl, ap (λ o. id_in o s.id) (sym named)))
 
 -- a test has the id of unit k exactly where it is that unit
-pub named_same : (p : Settings) (k : ℕ) (test : PlanTest) (unit : TestUnit) → HasEachIdOnce p
-    → test_of_unit p k ≡ Some test
-    → IsTestNamed p unit → is_same test.id unit.id ≡ (unit.unit == k)
-named_same p k test unit once there named = by_unit (unit.unit == k) refl (is_same test.id unit.id) refl
+pub named_same : (p : Settings) (index : Option StressIndex) (k : ℕ) (test : PlanTest) (unit : TestUnit)
+    → HasEachIdOnce p → test_of_unit p k ≡ Some test → IsTestNamed p index unit
+    → is_same test.id unit.id ≡ (unit.unit == k)
+named_same p index k test unit once there named = by_unit (unit.unit == k) refl (is_same test.id unit.id) refl
   where
     it : (s : PlanTest) × ((test_of_unit p unit.unit ≡ Some s) × (unit.id ≡ s.id))
-    it = unit_named p unit named
+    it = unit_named p index unit named
 
     by_unit : (b : Bool) → (unit.unit == k) ≡ b → (c : Bool) → is_same test.id unit.id ≡ c → c ≡ b
     by_unit true e true f = refl

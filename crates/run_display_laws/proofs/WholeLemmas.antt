@@ -1,8 +1,10 @@
 -- What is told in a run names the plan, and what is told of a unit in one sub-run is a course.
-use Rattle.std.proofs.Common.{◌≡◌, ◌⊎◌, inl, inr, ℕ, List, [], ◌∷◌, ◌++◌, Some, refl, ap, sym, subst, ◌∙◌}
+use Rattle.std.proofs.Common.{◌≡◌, ◌⊎◌, inl, inr, ℕ, List, [], ◌∷◌, ◌++◌, Option, Some, refl, ap, sym, subst, ◌∙◌}
 use Rattle.std.specs.List.{All, cons_option}
-use Rattle.std.proofs.lemmas.List.Elements.{All-append, All-head, All-nil, All-tail, filter_map-append}
+use Rattle.std.proofs.lemmas.List.Elements.{All-append, All-head, All-nil, All-tail, All-weaker}
+use Rattle.std.proofs.lemmas.List.Elements.{filter_map-append}
 use Rattle.run_events.specs.declared.settings.Settings.{Settings}
+use Rattle.run_events.specs.declared.stress.StressIndex.{StressIndex}
 use Rattle.run_events.specs.declared.events.ReporterEvent.{ReporterEvent}
 use Rattle.run_events.specs.declared.events.ReporterEvent.TheVariants.{Test}
 use Rattle.run_events.specs.declared.events.TestEvent.{TestEvent}
@@ -12,6 +14,7 @@ use Rattle.run_model.specs.Accounts.{News, account_of, is_mismatched, news_in, n
 use Rattle.run_model.specs.Board.{deed_events}
 use Rattle.run_model.specs.Journal.{history, IsLegalBackward}
 use Rattle.run_model.specs.Story.{was_left}
+use Rattle.run_model.specs.SubRuns.{stress_index}
 use Rattle.run_model.specs.Turns.{happening}
 use Rattle.run_model.specs.Words.{events_in, is_running, queue, sub_run, told, unit_of}
 use Rattle.run_laws.proofs.board.Kept.{IsBeforeRuns, IsOfRun, holds, where_joins}
@@ -29,12 +32,16 @@ pub all_at : (P : ReporterEvent → Type 0) (before after : List ReporterEvent) 
     → All P (before ++ e ∷ after) → P e
 all_at P before after e all = All-head P e after (all_after P before (e ∷ after) all)
 
--- what is told in any sub-run names the plan
+-- an event names the plan, and some sub-run
+abbrev pub NamesInSome : Settings → ReporterEvent → Type 0
+NamesInSome p e = (index : Option StressIndex) × NamesThePlan p index e
+
+-- that holds of what is told in any sub-run
 pub named_whole : (p : Settings) (backward : List Entry) → IsLegalBackward p backward
-    → All (NamesThePlan p) (told (history p backward))
-named_whole p [] legal = All-nil (NamesThePlan p)
+    → All (NamesInSome p) (told (history p backward))
+named_whole p [] legal = All-nil (NamesInSome p)
 named_whole p (e ∷ before) legal =
-    All-append (NamesThePlan p) (told past) (events_in x) (named_whole p before legal.2)
+    All-append (NamesInSome p) (told past) (events_in x) (named_whole p before legal.2)
     (by_run (where_joins p past e (holds p before legal.2) legal.0))
   where
     past : List Happening
@@ -43,12 +50,16 @@ named_whole p (e ∷ before) legal =
     x : Happening
     x = happening p past e
 
-    by_run : IsOfRun p past e ⊎ IsBeforeRuns p past e → All (NamesThePlan p) (events_in x)
+    index : Option StressIndex
+    index = stress_index p (history p (e ∷ before))
+
+    by_run : IsOfRun p past e ⊎ IsBeforeRuns p past e → All (NamesInSome p) (events_in x)
     by_run (inl of) =
-        all_after (NamesThePlan p) (told of.base) (events_in x)
-        (subst (All (NamesThePlan p)) (ap told of.joins) (events_named p (e ∷ before) legal))
+        All-weaker (NamesThePlan p index) (NamesInSome p) (λ event named. (index, named)) (events_in x)
+        (all_after (NamesThePlan p index) (told of.base) (events_in x)
+        (subst (All (NamesThePlan p index)) (ap told of.joins) (events_named p (e ∷ before) legal)))
     by_run (inr idle) =
-        subst (λ d. All (NamesThePlan p) (deed_events d)) (sym idle.idle) (All-nil (NamesThePlan p))
+        subst (λ d. All (NamesInSome p) (deed_events d)) (sym idle.idle) (All-nil (NamesInSome p))
 
 pub course_newest : (p : Settings) (backward : List Entry) → IsLegalBackward p backward → (k : ℕ)
     → IsCourse (account_of k (told (sub_run (history p backward))))

@@ -1,4 +1,5 @@
 pub mod ByJournal
+mod ByIndex
 pub mod Told
 mod Joined
 mod RowMessages

@@ -47,7 +47,7 @@ pub record IsTestUnit (p : Settings) (t : TestRole) (words : List (List ℕ)) (t
 
 abbrev pub IsUnitAs : Settings → UnitRole → List (List ℕ) → AttemptTerms → Type 0
 IsUnitAs p (roles.Test t) words terms = IsTestUnit p t words terms
-IsUnitAs p (roles.Script s) words terms = IsScriptNamed p s.script
+IsUnitAs p (roles.Script s) words terms = IsScriptNamed p s.script.stress_index s.script
 
 abbrev pub IsPlanUnit : Settings → UnitView → Type 0
 IsPlanUnit p u = IsUnitAs p u.role u.command u.terms

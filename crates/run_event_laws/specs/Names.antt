@@ -26,6 +26,7 @@ use Rattle.run_model.specs.declared.entry.Entry.{Entry}
 use Rattle.run_model.specs.Admission.{is_script, scripts_in}
 use Rattle.run_model.specs.Backoff.{retry_count}
 use Rattle.run_model.specs.Journal.{IsLegal, past_of}
+use Rattle.run_model.specs.SubRuns.{stress_index}
 use Rattle.run_model.specs.Words.{sub_run, told}
 use Rattle.run_events.specs.declared.stress.StressIndex.{StressIndex}
 
@@ -48,44 +49,45 @@ script_named p index k script = record {
   stress_index = index;
 }
 
--- a test, and a script, is named as the plan has the unit of its number
-abbrev pub IsTestNamed : Settings → TestUnit → Type 0
-IsTestNamed p unit = option_map (test_named unit.stress_index unit.unit) (test_of_unit p unit.unit) ≡ Some unit
+-- a test, and a script, is named as the plan has the unit of its number, and as one of this sub-run of a stress run
+abbrev pub IsTestNamed : Settings → Option StressIndex → TestUnit → Type 0
+IsTestNamed p index unit = option_map (test_named index unit.unit) (test_of_unit p unit.unit) ≡ Some unit
 
-abbrev pub IsScriptNamed : Settings → ScriptUnit → Type 0
-IsScriptNamed p unit = option_map (script_named p unit.stress_index unit.unit) (slice_get p.plan.scripts unit.unit) ≡ Some unit
+abbrev pub IsScriptNamed : Settings → Option StressIndex → ScriptUnit → Type 0
+IsScriptNamed p index unit =
+    option_map (script_named p index unit.unit) (slice_get p.plan.scripts unit.unit) ≡ Some unit
 
 -- so is a unit that answers
-abbrev pub IsSubjectNamed : Settings → InfoSubject → Type 0
-IsSubjectNamed p (subjects.Test test attempt attempts) = IsTestNamed p test
-IsSubjectNamed p (subjects.Script script) = IsScriptNamed p script
+abbrev pub IsSubjectNamed : Settings → Option StressIndex → InfoSubject → Type 0
+IsSubjectNamed p index (subjects.Test test attempt attempts) = IsTestNamed p index test
+IsSubjectNamed p index (subjects.Script script) = IsScriptNamed p index script
 
 -- a test is skipped for the reason that the plan gives
 abbrev pub HasReason : Settings → TestSkip → Type 0
 HasReason p skip = option_and_then (λ test. test.skip) (test_of_unit p skip.test.unit) ≡ Some skip.reason
 
--- an event of a unit names the plan's own
-abbrev pub NamesThePlanIn : Settings → TestEventKind → Type 0
-NamesThePlanIn p (SetupScriptStarted start) = IsScriptNamed p start.script
-NamesThePlanIn p (SetupScriptSlow slow) = IsScriptNamed p slow.script
-NamesThePlanIn p (SetupScriptFinished finish) = IsScriptNamed p finish.script
-NamesThePlanIn p (TestStarted event) = IsTestNamed p event.start.test
-NamesThePlanIn p (TestSlow slow) = IsTestNamed p slow.test
-NamesThePlanIn p (TestAttemptFailedWillRetry event) = IsTestNamed p event.failed.test
-NamesThePlanIn p (TestRetryStarted event) = IsTestNamed p event.retry.start.test
-NamesThePlanIn p (TestFinished event) = IsTestNamed p event.finish.test
-NamesThePlanIn p (TestSkipped skip) = IsTestNamed p skip.test × HasReason p skip
-NamesThePlanIn p (InfoAnswer answer) = IsSubjectNamed p answer.response.subject
-NamesThePlanIn p _ = ⊤
+-- an event of a unit names the plan's own, and this sub-run
+abbrev pub NamesThePlanIn : Settings → Option StressIndex → TestEventKind → Type 0
+NamesThePlanIn p index (SetupScriptStarted start) = IsScriptNamed p index start.script
+NamesThePlanIn p index (SetupScriptSlow slow) = IsScriptNamed p index slow.script
+NamesThePlanIn p index (SetupScriptFinished finish) = IsScriptNamed p index finish.script
+NamesThePlanIn p index (TestStarted event) = IsTestNamed p index event.start.test
+NamesThePlanIn p index (TestSlow slow) = IsTestNamed p index slow.test
+NamesThePlanIn p index (TestAttemptFailedWillRetry event) = IsTestNamed p index event.failed.test
+NamesThePlanIn p index (TestRetryStarted event) = IsTestNamed p index event.retry.start.test
+NamesThePlanIn p index (TestFinished event) = IsTestNamed p index event.finish.test
+NamesThePlanIn p index (TestSkipped skip) = IsTestNamed p index skip.test × HasReason p skip
+NamesThePlanIn p index (InfoAnswer answer) = IsSubjectNamed p index answer.response.subject
+NamesThePlanIn p index _ = ⊤
 
-abbrev pub NamesThePlan : Settings → ReporterEvent → Type 0
-NamesThePlan p (Test event) = NamesThePlanIn p event.kind
-NamesThePlan p _ = ⊤
+abbrev pub NamesThePlan : Settings → Option StressIndex → ReporterEvent → Type 0
+NamesThePlan p index (Test event) = NamesThePlanIn p index event.kind
+NamesThePlan p index _ = ⊤
 
--- that holds of each event told in the newest sub-run after every legal journal
+-- that holds of each event told in the newest sub-run after every legal journal: it names that very sub-run
 abbrev pub EventsNameThePlan : Type 0
 EventsNameThePlan = (p : Settings) (journal : List Entry) → IsLegal p journal
-    → All (NamesThePlan p) (told (sub_run (past_of p journal)))
+    → All (NamesThePlan p (stress_index p (past_of p journal))) (told (sub_run (past_of p journal)))
 
 -- how often a test of the plan is tried again: as often as all tests, where that is set, and else as it says itself
 abbrev pub planned_retries : Option RetryPolicy → PlanTest → ℕ

@@ -5,8 +5,9 @@ ghost use Rattle.run_event_laws.specs.Slots.{SlotsAreLeast, StartsInSlots};
 
 /// Each event of a unit that is told in the newest sub-run of a legal journal, and each answer of one to a query, names
 /// the plan's own test of its unit's number by its id, or the plan's own script, by its id, its place, how many scripts
-/// there are and whether it captures both streams; and a test is told skipped for its own reason. A plan that was built
-/// has each id once, so a reader who sees ids alone knows each test by what is printed.
+/// there are and whether it captures both streams; it names that very sub-run of a stress run, by how many had ended
+/// before it and how many there are to be, and none of another run; and a test is told skipped for its own reason. A
+/// plan that was built has each id once, so a reader who sees ids alone knows each test by what is printed.
 pub fn events_name_the_plan()
     ensures { EventsNameThePlan }
 {}
