@@ -1,4 +1,6 @@
-mod Floats
+mod AskLemmas
 mod FieldLemmas
+mod PrintLemmas
+mod RowLemmas
 pub mod ToldLemmas
 pub mod ShownLemmas

@@ -57,7 +57,8 @@ lines-more : {E : Type 0} (w : Screen) (answers : List (ReporterEvent × Option 
     (error : Option E) → shown_lines w (answers ++ (event, error) ∷ [])
     ≡ shown_lines w answers ++ (line_in (screen_after_all w (events_of answers)) event, error) ∷ []
 lines-more w answers event error =
-    ap (λ events. zip (lines_in w events) (answer_errors (answers ++ (event, error) ∷ []))) (events-more answers event error)
+    ap (λ events. zip (lines_in w events) (answer_errors (answers ++ (event, error) ∷ [])))
+    (events-more answers event error)
     ∙ ap (λ errors. zip (lines_in w (events_of answers ++ event ∷ [])) errors) (errors-more answers event error)
     ∙ ap (λ lines. zip lines (answer_errors answers ++ error ∷ [])) (lines_in-more w (events_of answers) event)
     ∙ zip-more (lines_in w (events_of answers)) (answer_errors answers)

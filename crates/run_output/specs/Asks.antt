@@ -1,5 +1,5 @@
 -- The line of an ask, under the turn that asked it.
-use Rattle.std.specs.Prelude.{ℕ, List, [], ◌∷◌, Option, Some, codes}
+use Rattle.std.specs.Prelude.{ℕ, List, [], ◌∷◌, ◌++◌, Option, Some, codes}
 use Rattle.serde_json.specs.Data.{Data, boolean, string}
 use Rattle.run_events.specs.declared.ask.Ask.{Ask}
 use Rattle.run_events.specs.declared.ask.Ask.TheVariants.{Start, Signal, StopSelf}
@@ -7,7 +7,7 @@ use Rattle.run_events.specs.declared.ask.SignalAsk.{SignalAsk}
 use Rattle.run_events.specs.declared.ask.StartAsk.{StartAsk}
 use Rattle.run_events.specs.declared.request.ChildSignal.{ChildSignal}
 use Rattle.run_events.specs.declared.request.ChildSignal.TheVariants.{End, Tstp, Cont}
-use Rattle.run_output.specs.Fields.{count, texts, pair, array_of, object_text}
+use Rattle.run_output.specs.Fields.{count, texts, pair, array_of, object_text, line_bytes}
 use Rattle.run_output.specs.Info.{method_word}
 
 -- a signal for a child by its word
@@ -53,3 +53,8 @@ ask_fields turn StopSelf = stop_self_fields turn
 -- its line
 abbrev pub ask_text : ℕ → Ask → List ℕ
 ask_text turn ask = object_text (ask_fields turn ask)
+
+-- the lines of asks, in order
+abbrev pub ask_lines : List (ℕ × Ask) → List ℕ
+ask_lines [] = []
+ask_lines (ask ∷ asks) = line_bytes (ask_text ask.0 ask.1) ++ ask_lines asks

@@ -1,5 +1,5 @@
 -- What stands at a key of an object, where it holds no object itself.
-use Rattle.std.specs.Prelude.{Option, Some, None, ◌++◌}
+use Rattle.std.specs.Prelude.{Option, Some, None, Bool, true, false, ◌++◌}
 use Rattle.serde_json.specs.Data.{Data, boolean, string}
 use Rattle.uuid.specs.Text.{hyphenated_text, lower}
 use Rattle.run_output.specs.declared.leaf.Leaf.{Leaf}
@@ -28,3 +28,13 @@ leaf_data (Tests list) = Some (array_of test_data list.now)
 leaf_data (Result outcome) = Some (string (result_text outcome))
 leaf_data (Errors child fault) = errors_data (child_errors child.now ++ fault_errors fault)
 leaf_data (Runs runs) = Some (string (runs_text runs))
+
+-- nothing, a number or a truth value
+abbrev pub is_short : Leaf → Bool
+is_short Absent = true
+is_short (Count number) = true
+is_short (Number number) = true
+is_short (Nonzero number) = true
+is_short (Signed number) = true
+is_short (Truth truth) = true
+is_short _ = false

@@ -1,6 +1,6 @@
 pub mod Fields
-pub mod Plain
-pub mod Items
+pub mod Printer
+pub mod Rows
 pub mod Object
 pub mod Texts
 pub mod Errors
@@ -8,6 +8,7 @@ pub mod Leaf
 pub mod Stats
 pub mod Slots
 pub mod Stress
+pub mod StressPart
 pub mod Statuses
 pub mod Info
 pub mod Field
@@ -23,3 +24,4 @@ pub mod Faults
 pub mod Told
 pub mod Shown
 pub mod Turns
+pub mod ReceiptPart

@@ -1,5 +1,5 @@
 -- A turn as the object that its line in an input is, and the lines of receipts that a journal doesn't bear out.
-use Rattle.std.specs.Prelude.{ℕ, List, [], ◌∷◌, Option, Some, None, codes}
+use Rattle.std.specs.Prelude.{ℕ, List, [], ◌∷◌, Option, Some, None, Bool, true, false, codes}
 use Rattle.std.specs.Char.{encode_utf8}
 use Rattle.serde_json.specs.Data.{Data, boolean, string, null}
 use Rattle.run_capture.specs.declared.test_output.Stream.{Stream}
@@ -102,6 +102,20 @@ turn_fields (turns.Key key) =
 turn_fields turns.Tick = bare_fields (codes "tick")
 turn_fields turns.ReportCancel = bare_fields (codes "report-cancel")
 turn_fields turns.End = bare_fields (codes "end")
+
+-- a turn that says no more than what it is
+abbrev pub is_bare : Turn → Bool
+is_bare turns.Begin = true
+is_bare turns.Admit = true
+is_bare turns.Deliver = true
+is_bare turns.GlobalDue = true
+is_bare turns.StopWaitDue = true
+is_bare turns.InfoDue = true
+is_bare turns.Answer = true
+is_bare turns.Tick = true
+is_bare turns.ReportCancel = true
+is_bare turns.End = true
+is_bare _ = false
 
 -- a turn as an object, and its line
 abbrev pub turn_data : Turn → Data

@@ -1,11 +1,13 @@
 // The lines of asks.
 ghost use Rattle.std.specs.Prelude.{◌≡◌, IfOk};
-ghost use Rattle.run_output.specs.Fields.{object_text};
+ghost use Rattle.run_output.specs.Fields.{object_text, line_bytes};
+ghost use Rattle.json.specs.Print.{print};
 ghost use Rattle.run_output.specs.Asks.{signal_word, start_fields, signal_fields, stop_self_fields, ask_text};
 
 use crate::info::method_name;
 use crate::leaf::Leaf;
 use crate::object::Object;
+use crate::printer::Printer;
 use run_capture::{Mem, Text};
 use run_events::{Ask, ChildSignal, SignalAsk, StartAsk};
 use std::alloc::Global;
@@ -22,10 +24,10 @@ fn signal_name(signal: ChildSignal) -> &'static str
 }
 
 #[tactic(auto, unfolding(crate::specs::Asks::start_fields))]
-fn start_line(alloc: Global, turn: u64, start: &StartAsk) -> Mem<Text>
-    ensures { IfOk result (λ t. t ≡ object_text (start_fields turn start.now)) }
+fn print_start(alloc: Global, turn: u64, start: &StartAsk) -> Mem<Printer>
+    ensures { IfOk result (λ p. print p ≡ object_text (start_fields turn start.now)) }
 {
-    Object::line(
+    Object::printed_of(
         alloc,
         &[
             ("ask", Leaf::Word("start")),
@@ -41,10 +43,10 @@ fn start_line(alloc: Global, turn: u64, start: &StartAsk) -> Mem<Text>
 }
 
 #[tactic(auto, unfolding(crate::specs::Asks::signal_fields))]
-fn signal_line(alloc: Global, turn: u64, ask: SignalAsk) -> Mem<Text>
-    ensures { IfOk result (λ t. t ≡ object_text (signal_fields turn ask)) }
+fn print_signal(alloc: Global, turn: u64, ask: SignalAsk) -> Mem<Printer>
+    ensures { IfOk result (λ p. print p ≡ object_text (signal_fields turn ask)) }
 {
-    Object::line(
+    Object::printed_of(
         alloc,
         &[
             ("ask", Leaf::Word("signal")),
@@ -57,10 +59,10 @@ fn signal_line(alloc: Global, turn: u64, ask: SignalAsk) -> Mem<Text>
 }
 
 #[tactic(auto, unfolding(crate::specs::Asks::stop_self_fields))]
-fn stop_self_line(alloc: Global, turn: u64) -> Mem<Text>
-    ensures { IfOk result (λ t. t ≡ object_text (stop_self_fields turn)) }
+fn print_stop_self(alloc: Global, turn: u64) -> Mem<Printer>
+    ensures { IfOk result (λ p. print p ≡ object_text (stop_self_fields turn)) }
 {
-    Object::line(
+    Object::printed_of(
         alloc,
         &[
             ("ask", Leaf::Word("stop-self")),
@@ -69,13 +71,27 @@ fn stop_self_line(alloc: Global, turn: u64) -> Mem<Text>
     )
 }
 
+// A line with an ask.
+fn print_ask(alloc: Global, turn: u64, ask: &Ask) -> Mem<Printer>
+    ensures { IfOk result (λ p. print p ≡ ask_text turn ask.now) }
+{
+    match ask {
+        Ask::Start(start) => print_start(alloc, turn, start),
+        Ask::Signal(ask) => print_signal(alloc, turn, *ask),
+        Ask::StopSelf => print_stop_self(alloc, turn),
+    }
+}
+
 /// The line of an ask under the turn that asked it, counted from 0, without its line feed.
 pub fn ask_line(alloc: Global, turn: u64, ask: &Ask) -> Mem<Text>
     ensures { IfOk result (λ t. t ≡ ask_text turn ask.now) }
 {
-    match ask {
-        Ask::Start(start) => start_line(alloc, turn, start),
-        Ask::Signal(ask) => signal_line(alloc, turn, *ask),
-        Ask::StopSelf => stop_self_line(alloc, turn),
-    }
+    Ok(print_ask(alloc, turn, ask)?.into_text())
+}
+
+/// The bytes of that line, with its line feed.
+pub(crate) fn ask_bytes(alloc: Global, turn: u64, ask: &Ask) -> Mem<Vec<u8>>
+    ensures { IfOk result (λ bytes. bytes.items ≡ line_bytes (ask_text turn ask.now)) }
+{
+    print_ask(alloc, turn, ask)?.into_line()
 }

@@ -1,12 +1,10 @@
 // The errors of an attempt as texts.
-ghost use Rattle.std.specs.Prelude.{◌≡◌, ◌++◌, map, option_map, string_bytes, IfOk};
+ghost use Rattle.std.specs.Prelude.{◌≡◌, ◌==◌, ◌++◌, map, length, is_none, string_bytes, IfOk};
 ghost use Rattle.serde_json.specs.Data.{string};
-ghost use Rattle.run_output.specs.Items.{list_of};
-ghost use Rattle.run_output.specs.Plain.{plain_data};
+ghost use Rattle.run_output.specs.Printer.{Prints, data_tokens, each_tokens, or_null};
 ghost use Rattle.run_output.specs.Errors.{error_text, fault_text, child_errors, fault_errors, errors_data};
 
-use crate::items::Items;
-use crate::plain::Plain;
+use crate::printer::Printer;
 use run_capture::{ChildFdError, Mem, Text};
 use run_commands::SetupScriptOutputError;
 use run_events::ChildExecutionOutput;
@@ -32,23 +30,27 @@ fn error_string(alloc: Global, error: &ChildFdError) -> Mem<String>
     }
 }
 
-fn all_errors(alloc: Global, errors: &[ChildFdError]) -> Mem<Items>
-    ensures { IfOk result (λ i. list_of i ≡ map string (map error_text errors.now)) }
+// Errors one after another.
+fn print_each(alloc: Global, out: &mut Printer, errors: &[ChildFdError]) -> Mem<()>
+    ensures { Prints result out.old out.new
+        (each_tokens (map (λ e. string (error_text e)) errors.now)) }
 {
-    let mut items = Items::new(alloc);
     for error in errors {
-        items = items.with(Plain::string(error_string(alloc, error)?))?;
+        let text = error_string(alloc, error)?;
+        out.text(text.as_str())?;
     }
-    Ok(items)
+    Ok(())
 }
 
 // What came up at a child that was started.
-fn child_items(alloc: Global, child: &ChildExecutionOutput) -> Mem<Items>
-    ensures { IfOk result (λ i. list_of i ≡ map string (child_errors child.now)) }
+#[tactic(auto, using(crate::proofs::PrintLemmas::map_twice))]
+fn print_child(alloc: Global, out: &mut Printer, child: &ChildExecutionOutput) -> Mem<()>
+    ensures { Prints result out.old out.new
+        (each_tokens (map string (child_errors child.now))) }
 {
     match child {
-        ChildExecutionOutput::Output { errors, .. } => all_errors(alloc, errors.as_slice()),
-        ChildExecutionOutput::StartError(_) => Ok(Items::new(alloc)),
+        ChildExecutionOutput::Output { errors, .. } => print_each(alloc, out, errors.as_slice()),
+        ChildExecutionOutput::StartError(_) => Ok(()),
     }
 }
 
@@ -66,26 +68,53 @@ fn fault_word(fault: SetupScriptOutputError) -> &'static str
     }
 }
 
-// The fault of an environment file after the errors.
-fn with_fault(alloc: Global, items: Items, fault: Option<SetupScriptOutputError>) -> Mem<Items>
-    ensures { IfOk result (λ i. list_of i ≡ list_of items ++ map string (fault_errors fault)) }
+// The fault of an environment file, where there is one.
+fn print_fault(out: &mut Printer, fault: Option<SetupScriptOutputError>) -> Mem<()>
+    ensures { Prints result out.old out.new (each_tokens (map string (fault_errors fault))) }
 {
     match fault {
-        Some(fault) => items.with(Plain::text(alloc, fault_word(fault))?),
-        None => Ok(items),
+        Some(fault) => out.text(fault_word(fault)),
+        None => Ok(()),
     }
 }
 
-/// The errors of a child and then that of its environment file, where there is one.
-pub(crate) fn errors_plain(
-    alloc: Global,
+// Whether nothing came up at a child.
+fn is_sound(child: &ChildExecutionOutput) -> bool
+    ensures { result ≡ (length (child_errors child.now) == 0) }
+{
+    match child {
+        ChildExecutionOutput::Output { errors, .. } => errors.is_empty(),
+        ChildExecutionOutput::StartError(_) => true,
+    }
+}
+
+/// Whether a child has no error, and its environment file no fault.
+#[tactic(auto, using(crate::proofs::PrintLemmas::errors_absent))]
+pub(crate) fn has_no_errors(
     child: &ChildExecutionOutput,
     fault: Option<SetupScriptOutputError>,
-) -> Mem<Option<Plain>>
-    ensures { IfOk result
-        (λ p. option_map plain_data p ≡ errors_data (child_errors child.now ++ fault_errors fault)) }
+) -> bool
+    ensures { result
+        ≡ is_none (errors_data (child_errors child.now ++ fault_errors fault)) }
 {
-    let items = child_items(alloc, child)?;
-    let items = with_fault(alloc, items, fault)?;
-    Ok(items.done_unless_empty())
+    is_sound(child) && fault.is_none()
+}
+
+/// Prints the errors of a child and then that of its environment file, or `null` where there is none.
+pub(crate) fn print_errors(
+    alloc: Global,
+    out: &mut Printer,
+    child: &ChildExecutionOutput,
+    fault: Option<SetupScriptOutputError>,
+) -> Mem<()>
+    ensures { Prints result out.old out.new
+        (data_tokens (or_null (errors_data (child_errors child.now ++ fault_errors fault)))) }
+{
+    if has_no_errors(child, fault) {
+        return out.null();
+    }
+    out.begin_array()?;
+    print_child(alloc, out, child)?;
+    print_fault(out, fault)?;
+    out.end_array()
 }

@@ -1,5 +1,8 @@
 // The lines of events.
-ghost use Rattle.std.specs.Prelude.{◌≡◌, IfOk};
+ghost use Rattle.std.specs.Prelude.{◌≡◌, true, false, IfOk};
+ghost use Rattle.json.specs.Print.{print};
+ghost use Rattle.run_events.specs.Parts.{is_of_unit};
+ghost use Rattle.run_output.specs.Field.{field_data};
 ghost use Rattle.run_output.specs.Fields.{put_all, line_bytes};
 ghost use Rattle.run_output.specs.Object.{members_of};
 ghost use Rattle.run_output.specs.Events.{event_word, kind_fields, test_event_text, event_text};
@@ -14,9 +17,10 @@ use crate::events_of_tests::{
     with_attempt_failed, with_retry_started, with_test_finished, with_test_skipped, with_test_slow,
     with_test_started,
 };
+use crate::field::Field;
 use crate::leaf::Leaf;
-use crate::line_feed::with_line_feed;
 use crate::object::Object;
+use crate::printer::Printer;
 use run_capture::{Mem, Text};
 use run_events::{ReporterEvent, TestEvent, TestEventKind};
 use std::alloc::Global;
@@ -50,67 +54,111 @@ fn event_name(kind: &TestEventKind) -> &'static str
     }
 }
 
-// The fields of an event's kind.
-fn with_kind(alloc: Global, object: Object, kind: &TestEventKind) -> Mem<Object>
-    ensures { IfOk result
-        (λ o. members_of o ≡ put_all (kind_fields kind.now) (members_of object)) }
+// Whether an event is of one script or test.
+fn is_of_unit(kind: &TestEventKind) -> bool
+    ensures { result ≡ is_of_unit kind.now }
+{
+    matches!(
+        kind,
+        TestEventKind::SetupScriptStarted(_)
+            | TestEventKind::SetupScriptSlow(_)
+            | TestEventKind::SetupScriptFinished(_)
+            | TestEventKind::TestStarted(_)
+            | TestEventKind::TestSlow(_)
+            | TestEventKind::TestAttemptFailedWillRetry(_)
+            | TestEventKind::TestRetryStarted(_)
+            | TestEventKind::TestFinished(_)
+            | TestEventKind::TestSkipped(_)
+    )
+}
+
+fn with_unit_kind<'a>(object: Object<Field<'a>>, kind: &'a TestEventKind) -> Mem<Object<Field<'a>>>
+    requires { is_of_unit kind.now ≡ true }
+    ensures { IfOk result (λ o. members_of field_data o
+        ≡ put_all (kind_fields kind.now) (members_of field_data object.entry)) }
 {
     match kind {
-        TestEventKind::RunStarted(event) => with_run_started(alloc, object, event),
-        TestEventKind::StressSubRunStarted(progress) => {
-            with_sub_run_started(alloc, object, *progress)
-        }
-        TestEventKind::StressSubRunFinished(event) => with_sub_run_finished(alloc, object, event),
-        TestEventKind::SetupScriptStarted(event) => with_script_started(alloc, object, event),
-        TestEventKind::SetupScriptSlow(event) => with_script_slow(alloc, object, event),
-        TestEventKind::SetupScriptFinished(event) => with_script_finished(alloc, object, event),
-        TestEventKind::TestStarted(event) => with_test_started(alloc, object, event),
-        TestEventKind::TestSlow(event) => with_test_slow(alloc, object, event),
-        TestEventKind::TestAttemptFailedWillRetry(event) => with_attempt_failed(
-            alloc, object, event,
-        ),
-        TestEventKind::TestRetryStarted(event) => with_retry_started(alloc, object, event),
-        TestEventKind::TestFinished(event) => with_test_finished(alloc, object, event),
-        TestEventKind::TestSkipped(event) => with_test_skipped(alloc, object, event),
-        TestEventKind::InfoStarted(event) => with_info_started(alloc, object, event),
-        TestEventKind::InfoResponse(event) => with_info_answered(alloc, object, event),
-        TestEventKind::InfoFinished { missing } => { with_info_finished(alloc, object, *missing) }
-        TestEventKind::InputEnter(event) => with_input_entered(alloc, object, event),
-        TestEventKind::RunBeginCancel(event) => with_run_cancelled(alloc, object, event),
-        TestEventKind::RunBeginKill(event) => with_run_cancelled(alloc, object, event),
-        TestEventKind::RunPaused(event) => with_job_controlled(alloc, object, event),
-        TestEventKind::RunContinued(event) => with_job_controlled(alloc, object, event),
-        TestEventKind::RunFinished(event) => with_run_finished(alloc, object, event),
+        TestEventKind::SetupScriptStarted(event) => with_script_started(object, event),
+        TestEventKind::SetupScriptSlow(event) => with_script_slow(object, event),
+        TestEventKind::SetupScriptFinished(event) => with_script_finished(object, event),
+        TestEventKind::TestStarted(event) => with_test_started(object, event),
+        TestEventKind::TestSlow(event) => with_test_slow(object, event),
+        TestEventKind::TestAttemptFailedWillRetry(event) => with_attempt_failed(object, event),
+        TestEventKind::TestRetryStarted(event) => with_retry_started(object, event),
+        TestEventKind::TestFinished(event) => with_test_finished(object, event),
+        TestEventKind::TestSkipped(event) => with_test_skipped(object, event),
+        _ => unreachable!(),
+    }
+}
+
+fn with_run_kind<'a>(object: Object<Field<'a>>, kind: &'a TestEventKind) -> Mem<Object<Field<'a>>>
+    requires { is_of_unit kind.now ≡ false }
+    ensures { IfOk result (λ o. members_of field_data o
+        ≡ put_all (kind_fields kind.now) (members_of field_data object.entry)) }
+{
+    match kind {
+        TestEventKind::RunStarted(event) => with_run_started(object, event),
+        TestEventKind::StressSubRunStarted(progress) => { with_sub_run_started(object, *progress) }
+        TestEventKind::StressSubRunFinished(event) => with_sub_run_finished(object, event),
+        TestEventKind::InfoStarted(event) => with_info_started(object, event),
+        TestEventKind::InfoResponse(event) => with_info_answered(object, event),
+        TestEventKind::InfoFinished { missing } => { with_info_finished(object, *missing) }
+        TestEventKind::InputEnter(event) => with_input_entered(object, event),
+        TestEventKind::RunBeginCancel(event) => with_run_cancelled(object, event),
+        TestEventKind::RunBeginKill(event) => with_run_cancelled(object, event),
+        TestEventKind::RunPaused(event) => with_job_controlled(object, event),
+        TestEventKind::RunContinued(event) => with_job_controlled(object, event),
+        TestEventKind::RunFinished(event) => with_run_finished(object, event),
+        _ => unreachable!(),
+    }
+}
+
+// The fields of an event's kind.
+fn with_kind<'a>(object: Object<Field<'a>>, kind: &'a TestEventKind) -> Mem<Object<Field<'a>>>
+    ensures { IfOk result (λ o. members_of field_data o
+        ≡ put_all (kind_fields kind.now) (members_of field_data object.entry)) }
+{
+    if is_of_unit(kind) {
+        with_unit_kind(object, kind)
+    } else {
+        with_run_kind(object, kind)
     }
 }
 
 #[tactic(auto, unfolding(crate::specs::Events::event_fields))]
-fn test_event_line(alloc: Global, event: &TestEvent) -> Mem<Text>
-    ensures { IfOk result (λ t. t ≡ test_event_text event.now) }
+fn print_test_event(alloc: Global, event: &TestEvent) -> Mem<Printer>
+    ensures { IfOk result (λ p. print p ≡ test_event_text event.now) }
 {
     let head = [
-        ("clock", Leaf::Number(event.clock)),
-        ("elapsed", Leaf::Number(event.elapsed)),
-        ("event", Leaf::Word(event_name(&event.kind))),
+        ("clock", Field::Leaf(Leaf::Number(event.clock))),
+        ("elapsed", Field::Leaf(Leaf::Number(event.elapsed))),
+        ("event", Field::Leaf(Leaf::Word(event_name(&event.kind)))),
     ];
-    let object = Object::new(alloc).with(alloc, &head)?;
-    let object = with_kind(alloc, object, &event.kind)?;
-    object.text(alloc)
+    let object = Object::of(alloc, &head)?;
+    let object = with_kind(object, &event.kind)?;
+    object.printed(alloc)
+}
+
+// A line with an event.
+fn print_event(alloc: Global, event: &ReporterEvent) -> Mem<Printer>
+    ensures { IfOk result (λ p. print p ≡ event_text event.now) }
+{
+    match event {
+        ReporterEvent::Tick => Object::printed_of(alloc, &[("event", Leaf::Word("tick"))]),
+        ReporterEvent::Test(event) => print_test_event(alloc, event),
+    }
 }
 
 /// The line of an event, without its line feed.
 pub fn event_line(alloc: Global, event: &ReporterEvent) -> Mem<Text>
     ensures { IfOk result (λ t. t ≡ event_text event.now) }
 {
-    match event {
-        ReporterEvent::Tick => Object::line(alloc, &[("event", Leaf::Word("tick"))]),
-        ReporterEvent::Test(event) => test_event_line(alloc, event),
-    }
+    Ok(print_event(alloc, event)?.into_text())
 }
 
-/// The line of an event with its line feed.
-pub(crate) fn whole_line(alloc: Global, event: &ReporterEvent) -> Mem<Text>
-    ensures { IfOk result (λ t. t ≡ line_bytes (event_text event.now)) }
+/// The bytes of the line of an event, with its line feed.
+pub(crate) fn event_bytes(alloc: Global, event: &ReporterEvent) -> Mem<Vec<u8>>
+    ensures { IfOk result (λ bytes. bytes.items ≡ line_bytes (event_text event.now)) }
 {
-    with_line_feed(alloc, event_line(alloc, event)?)
+    print_event(alloc, event)?.into_line()
 }

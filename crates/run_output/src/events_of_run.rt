@@ -23,113 +23,103 @@ use run_events::{
     InputEntered, JobControlled, RunCancelled, RunFinished, RunFinishedStats, RunStarted,
     StressProgress, SubRunFinished,
 };
-use std::alloc::Global;
 
 /// The run started.
 #[tactic(auto, unfolding(crate::specs::EventsOfRun::run_started_fields))]
-pub(crate) fn with_run_started(alloc: Global, object: Object, event: &RunStarted) -> Mem<Object>
-    ensures { IfOk result
-        (λ o. members_of o ≡ put_all (run_started_fields event.now) (members_of object)) }
+pub(crate) fn with_run_started<'a>(
+    object: Object<Field<'a>>,
+    event: &'a RunStarted,
+) -> Mem<Object<Field<'a>>>
+    ensures { IfOk result (λ o. members_of field_data o
+        ≡ put_all (run_started_fields event.now) (members_of field_data object.entry)) }
 {
-    object.with(
-        alloc,
-        &[
-            ("args", Field::Leaf(Leaf::Texts(&event.args))),
-            ("profile", Field::Leaf(Leaf::Text(&event.profile))),
-            ("run_id", Field::Leaf(Leaf::Id(event.run_id))),
-            ("stress", Field::Stress(&event.stress)),
-            ("tests", Field::Leaf(Leaf::Count(event.tests))),
-        ],
-    )
+    object.with(&[
+        ("args", Field::Leaf(Leaf::Texts(&event.args))),
+        ("profile", Field::Leaf(Leaf::Text(&event.profile))),
+        ("run_id", Field::Leaf(Leaf::Id(event.run_id))),
+        ("stress", Field::Stress(&event.stress)),
+        ("tests", Field::Leaf(Leaf::Count(event.tests))),
+    ])
 }
 
 /// A sub-run of a stress run started.
 #[tactic(auto, unfolding(crate::specs::EventsOfRun::sub_run_started_fields))]
-pub(crate) fn with_sub_run_started(
-    alloc: Global,
-    object: Object,
+pub(crate) fn with_sub_run_started<'a>(
+    object: Object<Field<'a>>,
     progress: StressProgress,
-) -> Mem<Object>
-    ensures { IfOk result
-        (λ o. members_of o ≡ put_all (sub_run_started_fields progress) (members_of object)) }
+) -> Mem<Object<Field<'a>>>
+    ensures { IfOk result (λ o. members_of field_data o
+        ≡ put_all (sub_run_started_fields progress) (members_of field_data object.entry)) }
 {
-    object.with(alloc, &[("progress", Field::Progress(progress))])
+    object.with(&[("progress", Field::Progress(progress))])
 }
 
 /// A sub-run of a stress run ended.
 #[tactic(auto, unfolding(crate::specs::EventsOfRun::sub_run_finished_fields))]
-pub(crate) fn with_sub_run_finished(
-    alloc: Global,
-    object: Object,
-    event: &SubRunFinished,
-) -> Mem<Object>
-    ensures { IfOk result
-        (λ o. members_of o ≡ put_all (sub_run_finished_fields event.now) (members_of object)) }
+pub(crate) fn with_sub_run_finished<'a>(
+    object: Object<Field<'a>>,
+    event: &'a SubRunFinished,
+) -> Mem<Object<Field<'a>>>
+    ensures { IfOk result (λ o. members_of field_data o
+        ≡ put_all (sub_run_finished_fields event.now) (members_of field_data object.entry)) }
 {
-    object.with(
-        alloc,
-        &[
-            ("progress", Field::Progress(event.progress)),
-            ("stats", Field::Stats(&event.stats)),
-            ("sub_elapsed", Field::Leaf(Leaf::Number(event.sub_elapsed))),
-        ],
-    )
+    object.with(&[
+        ("progress", Field::Progress(event.progress)),
+        ("stats", Field::Stats(&event.stats)),
+        ("sub_elapsed", Field::Leaf(Leaf::Number(event.sub_elapsed))),
+    ])
 }
 
 /// Counts as they are.
 #[tactic(auto, unfolding(crate::specs::EventsOfRun::input_entered_fields))]
-pub(crate) fn with_input_entered(alloc: Global, object: Object, event: &InputEntered) -> Mem<Object>
-    ensures { IfOk result
-        (λ o. members_of o ≡ put_all (input_entered_fields event.now) (members_of object)) }
+pub(crate) fn with_input_entered<'a>(
+    object: Object<Field<'a>>,
+    event: &'a InputEntered,
+) -> Mem<Object<Field<'a>>>
+    ensures { IfOk result (λ o. members_of field_data o
+        ≡ put_all (input_entered_fields event.now) (members_of field_data object.entry)) }
 {
-    object.with(
-        alloc,
-        &[
-            ("running", Field::Leaf(Leaf::Count(event.running))),
-            ("stats", Field::Stats(&event.stats)),
-        ],
-    )
+    object.with(&[
+        ("running", Field::Leaf(Leaf::Count(event.running))),
+        ("stats", Field::Stats(&event.stats)),
+    ])
 }
 
 /// The run begins to be cancelled, or its units to be killed.
 #[tactic(auto, unfolding(crate::specs::EventsOfRun::run_cancelled_fields))]
-pub(crate) fn with_run_cancelled(alloc: Global, object: Object, event: &RunCancelled) -> Mem<Object>
-    ensures { IfOk result
-        (λ o. members_of o ≡ put_all (run_cancelled_fields event.now) (members_of object)) }
+pub(crate) fn with_run_cancelled<'a>(
+    object: Object<Field<'a>>,
+    event: &'a RunCancelled,
+) -> Mem<Object<Field<'a>>>
+    ensures { IfOk result (λ o. members_of field_data o
+        ≡ put_all (run_cancelled_fields event.now) (members_of field_data object.entry)) }
 {
-    object.with(
-        alloc,
-        &[
-            ("running", Field::Leaf(Leaf::Count(event.running))),
-            (
-                "scripts_running",
-                Field::Leaf(Leaf::Count(event.scripts_running)),
-            ),
-            ("stats", Field::Stats(&event.stats)),
-        ],
-    )
+    object.with(&[
+        ("running", Field::Leaf(Leaf::Count(event.running))),
+        (
+            "scripts_running",
+            Field::Leaf(Leaf::Count(event.scripts_running)),
+        ),
+        ("stats", Field::Stats(&event.stats)),
+    ])
 }
 
 /// The run was stopped, or goes on.
 #[tactic(auto, unfolding(crate::specs::EventsOfRun::job_controlled_fields))]
-pub(crate) fn with_job_controlled(
-    alloc: Global,
-    object: Object,
-    event: &JobControlled,
-) -> Mem<Object>
-    ensures { IfOk result
-        (λ o. members_of o ≡ put_all (job_controlled_fields event.now) (members_of object)) }
+pub(crate) fn with_job_controlled<'a>(
+    object: Object<Field<'a>>,
+    event: &'a JobControlled,
+) -> Mem<Object<Field<'a>>>
+    ensures { IfOk result (λ o. members_of field_data o
+        ≡ put_all (job_controlled_fields event.now) (members_of field_data object.entry)) }
 {
-    object.with(
-        alloc,
-        &[
-            ("running", Field::Leaf(Leaf::Count(event.running))),
-            (
-                "scripts_running",
-                Field::Leaf(Leaf::Count(event.scripts_running)),
-            ),
-        ],
-    )
+    object.with(&[
+        ("running", Field::Leaf(Leaf::Count(event.running))),
+        (
+            "scripts_running",
+            Field::Leaf(Leaf::Count(event.scripts_running)),
+        ),
+    ])
 }
 
 fn single(stats: &RunFinishedStats) -> Field<'_>
@@ -152,16 +142,16 @@ fn sub_runs(stats: &RunFinishedStats) -> Field<'_>
 
 /// The run finished.
 #[tactic(auto, unfolding(crate::specs::EventsOfRun::run_finished_fields))]
-pub(crate) fn with_run_finished(alloc: Global, object: Object, event: &RunFinished) -> Mem<Object>
-    ensures { IfOk result
-        (λ o. members_of o ≡ put_all (run_finished_fields event.now) (members_of object)) }
+pub(crate) fn with_run_finished<'a>(
+    object: Object<Field<'a>>,
+    event: &'a RunFinished,
+) -> Mem<Object<Field<'a>>>
+    ensures { IfOk result (λ o. members_of field_data o
+        ≡ put_all (run_finished_fields event.now) (members_of field_data object.entry)) }
 {
-    object.with(
-        alloc,
-        &[
-            ("not_seen", Field::NotSeen(&event.not_seen)),
-            ("stats", single(&event.stats)),
-            ("stress_stats", sub_runs(&event.stats)),
-        ],
-    )
+    object.with(&[
+        ("not_seen", Field::NotSeen(&event.not_seen)),
+        ("stats", single(&event.stats)),
+        ("stress_stats", sub_runs(&event.stats)),
+    ])
 }

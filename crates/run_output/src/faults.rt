@@ -78,15 +78,15 @@ fn plan_place(plan: PlanFault) -> [(&'static str, Leaf<'static>); 2]
 }
 
 // Where a fault is.
-fn with_place(alloc: Global, object: Object, fault: Fault) -> Mem<Object>
-    ensures { IfOk result
-        (λ o. members_of o ≡ put_all (place_fields fault) (members_of object)) }
+fn with_place(object: Object<Leaf<'static>>, fault: Fault) -> Mem<Object<Leaf<'static>>>
+    ensures { IfOk result (λ o. members_of leaf_data o
+        ≡ put_all (place_fields fault) (members_of leaf_data object.entry)) }
 {
     match fault {
-        Fault::Line { line } => object.with(alloc, &[("line", Leaf::Number(line))]),
-        Fault::Plan(plan) => object.with(alloc, &plan_place(plan)),
+        Fault::Line { line } => object.with(&[("line", Leaf::Number(line))]),
+        Fault::Plan(plan) => object.with(&plan_place(plan)),
         Fault::NotEnabled { turn } | Fault::ThirdSignal { turn } => {
-            object.with(alloc, &[("turn", Leaf::Number(turn))])
+            object.with(&[("turn", Leaf::Number(turn))])
         }
         Fault::Words
         | Fault::Unfinished
@@ -106,7 +106,7 @@ pub fn fault_line(alloc: Global, fault: Fault) -> Mem<Text>
         ("fault", Leaf::Word(fault_name(fault))),
         ("status", Leaf::Count(fault.status() as u32)),
     ];
-    let object = Object::new(alloc).with(alloc, &head)?;
-    let object = with_place(alloc, object, fault)?;
-    object.text(alloc)
+    let object = Object::of(alloc, &head)?;
+    let object = with_place(object, fault)?;
+    Ok(object.printed(alloc)?.into_text())
 }

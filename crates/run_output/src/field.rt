@@ -1,19 +1,19 @@
 // What stands at a key of an event's line.
-ghost use Rattle.std.specs.Prelude.{◌≡◌, option_map, IfOk};
+ghost use Rattle.std.specs.Prelude.{◌≡◌, option_map};
 ghost use Rattle.run_output.specs.Fields.{rows};
 ghost use Rattle.run_output.specs.Leaf.{leaf_data};
-ghost use Rattle.run_output.specs.Plain.{plain_data};
+ghost use Rattle.run_output.specs.Printer.{Prints, data_tokens, or_null};
 ghost use Rattle.run_output.specs.Field.{not_seen_fields, not_seen_data};
 ghost use Rattle.run_output.specs.Stress.{condition_data, index_data};
 
-use crate::info::{shown_plain, state_plain};
+use crate::info::{print_shown, print_state};
 use crate::leaf::Leaf;
 use crate::object::Object;
-use crate::plain::{Plain, Printed};
-use crate::slots::slot_plain;
-use crate::stats::stats_plain;
-use crate::statuses::{script_status_plain, status_plain, statuses_plain};
-use crate::stress::{condition_plain, index_plain, progress_plain, stress_stats_plain};
+use crate::printer::{Printed, Printer};
+use crate::slots::print_slot;
+use crate::stats::print_stats;
+use crate::statuses::{print_script_status, print_status, print_statuses};
+use crate::stress::{print_condition, print_index, print_progress, print_stress_stats};
 use run_capture::{List, Mem};
 use run_commands::StressCondition;
 use run_events::{
@@ -63,30 +63,33 @@ fn not_seen(tests: &TestsNotSeen) -> [(&'static str, Leaf<'_>); 2]
     ]
 }
 
-fn not_seen_plain(alloc: Global, tests: &Option<TestsNotSeen>) -> Mem<Option<Plain>>
-    ensures { IfOk result (λ p. option_map plain_data p ≡ option_map not_seen_data tests.now) }
+fn print_not_seen(alloc: Global, out: &mut Printer, tests: &Option<TestsNotSeen>) -> Mem<()>
+    ensures { Prints result out.old out.new
+        (data_tokens (or_null (option_map not_seen_data tests.now))) }
 {
     match tests {
-        Some(tests) => Object::of(alloc, &not_seen(tests)).map(Some),
-        None => Ok(None),
+        Some(tests) => Object::print_of(alloc, out, &not_seen(tests)),
+        None => out.null(),
     }
 }
 
-fn stress_plain(alloc: Global, stress: &Option<StressCondition>) -> Mem<Option<Plain>>
-    ensures { IfOk result (λ p. option_map plain_data p ≡ option_map condition_data stress.now) }
+fn print_stress(alloc: Global, out: &mut Printer, stress: &Option<StressCondition>) -> Mem<()>
+    ensures { Prints result out.old out.new
+        (data_tokens (or_null (option_map condition_data stress.now))) }
 {
     match stress {
-        Some(condition) => condition_plain(alloc, condition).map(Some),
-        None => Ok(None),
+        Some(condition) => print_condition(alloc, out, condition),
+        None => out.null(),
     }
 }
 
-fn sub_run_plain(alloc: Global, index: Option<StressIndex>) -> Mem<Option<Plain>>
-    ensures { IfOk result (λ p. option_map plain_data p ≡ option_map index_data index) }
+fn print_sub_run(alloc: Global, out: &mut Printer, index: Option<StressIndex>) -> Mem<()>
+    ensures { Prints result out.old out.new
+        (data_tokens (or_null (option_map index_data index))) }
 {
     match index {
-        Some(index) => index_plain(alloc, index).map(Some),
-        None => Ok(None),
+        Some(index) => print_index(alloc, out, index),
+        None => out.null(),
     }
 }
 
@@ -95,21 +98,31 @@ impl Printed for Field<'_> {
 
     ghost printed = { field_data };
 
-    fn plain(&self, alloc: Global) -> Mem<Option<Plain>> {
+    fn is_absent(&self) -> bool {
         match self {
-            Field::Leaf(leaf) => leaf.plain(alloc),
-            Field::Stats(stats) => stats_plain(alloc, stats).map(Some),
-            Field::Slot(slot) => slot_plain(alloc, slot).map(Some),
-            Field::Status(status) => status_plain(alloc, status).map(Some),
-            Field::Statuses(list) => statuses_plain(alloc, list.as_slice()).map(Some),
-            Field::ScriptStatus(status) => script_status_plain(alloc, status).map(Some),
-            Field::Stress(stress) => stress_plain(alloc, stress),
-            Field::Index(index) => sub_run_plain(alloc, *index),
-            Field::Progress(progress) => progress_plain(alloc, *progress).map(Some),
-            Field::StressStats(stats) => stress_stats_plain(alloc, stats).map(Some),
-            Field::NotSeen(tests) => not_seen_plain(alloc, tests),
-            Field::State(response) => state_plain(alloc, &response.state).map(Some),
-            Field::Output(response) => shown_plain(alloc, response).map(Some),
+            Field::Leaf(leaf) => leaf.is_absent(),
+            Field::Stress(stress) => stress.is_none(),
+            Field::Index(index) => index.is_none(),
+            Field::NotSeen(tests) => tests.is_none(),
+            _ => false,
+        }
+    }
+
+    fn print(&self, alloc: Global, out: &mut Printer) -> Mem<()> {
+        match self {
+            Field::Leaf(leaf) => leaf.print(alloc, out),
+            Field::Stats(stats) => print_stats(alloc, out, stats),
+            Field::Slot(slot) => print_slot(alloc, out, slot),
+            Field::Status(status) => print_status(alloc, out, status),
+            Field::Statuses(list) => print_statuses(alloc, out, list.as_slice()),
+            Field::ScriptStatus(status) => print_script_status(alloc, out, status),
+            Field::Stress(stress) => print_stress(alloc, out, stress),
+            Field::Index(index) => print_sub_run(alloc, out, *index),
+            Field::Progress(progress) => print_progress(alloc, out, *progress),
+            Field::StressStats(stats) => print_stress_stats(alloc, out, stats),
+            Field::NotSeen(tests) => print_not_seen(alloc, out, tests),
+            Field::State(response) => print_state(alloc, out, &response.state),
+            Field::Output(response) => print_shown(alloc, out, response),
         }
     }
 }

@@ -1,17 +1,17 @@
 // What a unit answers, as objects.
-ghost use Rattle.std.specs.Prelude.{◌≡◌, option_map, IfOk, Option};
+ghost use Rattle.std.specs.Prelude.{◌≡◌, [], option_map, Option};
 ghost use Rattle.run_commands.specs.declared.errors.SetupScriptOutputError.{SetupScriptOutputError};
 ghost use Rattle.run_events.specs.declared.info.UnitState.TheVariants.{Running, Terminating, Exiting, Exited, Delay};
 ghost use Rattle.serde_json.specs.Data.{string};
-ghost use Rattle.run_output.specs.Fields.{rows};
+ghost use Rattle.run_output.specs.Fields.{rows, object_of};
 ghost use Rattle.run_output.specs.Info.{state_fields, method_word, reason_word, state_data, output_data, shown_data};
 ghost use Rattle.run_output.specs.Leaf.{leaf_data};
-ghost use Rattle.run_output.specs.Plain.{plain_data};
+ghost use Rattle.run_output.specs.Printer.{Prints, data_tokens};
 ghost use Rattle.run_output.specs.Texts.{result_text};
 
 use crate::leaf::Leaf;
 use crate::object::Object;
-use crate::plain::Plain;
+use crate::printer::Printer;
 use crate::statuses::with_streams;
 use run_capture::Mem;
 use run_commands::SetupScriptOutputError;
@@ -145,62 +145,72 @@ fn delay(
 }
 
 /// What a unit is doing.
-pub(crate) fn state_plain(alloc: Global, state: &UnitState) -> Mem<Plain>
-    ensures { IfOk result (λ p. plain_data p ≡ state_data state.now) }
+pub(crate) fn print_state(alloc: Global, out: &mut Printer, state: &UnitState) -> Mem<()>
+    ensures { Prints result out.old out.new (data_tokens (state_data state.now)) }
 {
     match *state {
         UnitState::Running {
             pid,
             time,
             slow_after,
-        } => Object::of(alloc, &running(pid, time, slow_after)),
+        } => Object::print_of(alloc, out, &running(pid, time, slow_after)),
         UnitState::Terminating {
             pid,
             time,
             reason,
             method,
             waiting,
-        } => Object::of(alloc, &terminating(pid, time, reason, method, waiting)),
+        } => Object::print_of(alloc, out, &terminating(pid, time, reason, method, waiting)),
         UnitState::Exiting {
             pid,
             time,
             slow_after,
             result,
             waiting,
-        } => Object::of(alloc, &exiting(pid, time, slow_after, result, waiting)),
+        } => Object::print_of(alloc, out, &exiting(pid, time, slow_after, result, waiting)),
         UnitState::Exited {
             result,
             time,
             slow_after,
             ..
-        } => Object::of(alloc, &exited(result, time, slow_after)),
+        } => Object::print_of(alloc, out, &exited(result, time, slow_after)),
         UnitState::Delay {
             result,
             slow,
             waiting,
-        } => Object::of(alloc, &delay(result, slow, waiting)),
+        } => Object::print_of(alloc, out, &delay(result, slow, waiting)),
     }
 }
 
-fn output_plain(
+fn print_output(
     alloc: Global,
+    out: &mut Printer,
     child: &ChildExecutionOutput,
     fault: Option<SetupScriptOutputError>,
-) -> Mem<Plain>
-    ensures { IfOk result (λ p. plain_data p ≡ output_data child.now fault) }
+) -> Mem<()>
+    ensures { Prints result out.old out.new (data_tokens (output_data child.now fault)) }
 {
-    let object = Object::new(alloc).with(alloc, &[("errors", Leaf::Errors(child, fault))])?;
-    let object = with_streams(alloc, object, child)?;
-    Ok(object.done())
+    let object = Object::of(alloc, &[("errors", Leaf::Errors(child, fault))])?;
+    with_streams(object, child)?.print(alloc, out)
+}
+
+// An object with no members.
+#[tactic(auto, unfolding(crate::specs::Printer::data_tokens))]
+fn print_nothing(out: &mut Printer) -> Mem<()>
+    ensures { Prints result out.old out.new (data_tokens (object_of [])) }
+{
+    out.begin_object()?;
+    out.end_object()
 }
 
 /// What the unit's child wrote so far, which isn't shown in a delay.
-pub(crate) fn shown_plain(alloc: Global, response: &InfoResponse) -> Mem<Plain>
-    ensures { IfOk result (λ p. plain_data p ≡ shown_data response.now.state response.now.output) }
+pub(crate) fn print_shown(alloc: Global, out: &mut Printer, response: &InfoResponse) -> Mem<()>
+    ensures { Prints result out.old out.new
+        (data_tokens (shown_data response.now.state response.now.output)) }
 {
     match response.state {
-        UnitState::Delay { .. } => Ok(Object::new(alloc).done()),
-        UnitState::Exited { fault, .. } => output_plain(alloc, &response.output, fault),
-        _ => output_plain(alloc, &response.output, None),
+        UnitState::Delay { .. } => print_nothing(out),
+        UnitState::Exited { fault, .. } => print_output(alloc, out, &response.output, fault),
+        _ => print_output(alloc, out, &response.output, None),
     }
 }

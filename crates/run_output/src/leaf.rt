@@ -1,12 +1,12 @@
 // What stands at a key of an object, where it holds no object itself.
-ghost use Rattle.std.specs.Prelude.{◌≡◌, option_map};
+ghost use Rattle.std.specs.Prelude.{◌≡◌, true, false, is_none, option_map};
 ghost use Rattle.run_output.specs.Fields.{count, nonzero};
-ghost use Rattle.run_output.specs.Plain.{plain_data};
+ghost use Rattle.run_output.specs.Printer.{Prints, data_tokens, or_null};
 
-use crate::errors::errors_plain;
-use crate::lists::{pairs_plain, test_plain, tests_plain, texts_plain};
-use crate::plain::{Plain, Printed};
-use crate::texts::{count_plain, hex_plain, id_plain, result_plain};
+use crate::errors::{has_no_errors, print_errors};
+use crate::lists::{print_pairs, print_test, print_tests, print_texts};
+use crate::printer::{Printed, Printer};
+use crate::texts::{print_hex, print_id, print_result, print_runs};
 use run_capture::{Blob, List, Mem, Text};
 use run_commands::{SetupScriptOutputError, StressCount};
 use run_events::{ChildExecutionOutput, ExecutionResult, TestInstanceId};
@@ -53,14 +53,22 @@ pub(crate) enum Leaf<'a> {
     Runs(StressCount),
 }
 
+// Whether a number is left out where it is 0.
+#[tactic(auto, using(crate::proofs::PrintLemmas::nonzero_absent))]
+fn is_left_out(number: u64) -> bool
+    ensures { result ≡ is_none (nonzero number) }
+{
+    number == 0
+}
+
 #[tactic(auto, unfolding(crate::specs::Fields::nonzero))]
-fn nonzero_plain(number: u64) -> Option<Plain>
-    ensures { option_map plain_data result ≡ nonzero number }
+fn print_nonzero(out: &mut Printer, number: u64) -> Mem<()>
+    ensures { Prints result out.old out.new (data_tokens (or_null (nonzero number))) }
 {
     if number == 0 {
-        None
+        out.null()
     } else {
-        Some(Plain::number(number))
+        out.number(number)
     }
 }
 
@@ -69,25 +77,74 @@ impl Printed for Leaf<'_> {
 
     ghost printed = { leaf_data };
 
-    fn plain(&self, alloc: Global) -> Mem<Option<Plain>> {
+    fn is_absent(&self) -> bool {
         match *self {
-            Leaf::Absent => Ok(None),
-            Leaf::Count(number) => Ok(Some(Plain::number(number as u64))),
-            Leaf::Number(number) => Ok(Some(Plain::number(number))),
-            Leaf::Nonzero(number) => Ok(nonzero_plain(number)),
-            Leaf::Signed(number) => Ok(Some(Plain::signed(number))),
-            Leaf::Truth(truth) => Ok(Some(Plain::truth(truth))),
-            Leaf::Word(word) => Plain::text(alloc, word).map(Some),
-            Leaf::Text(text) => Plain::text(alloc, text.as_str()).map(Some),
-            Leaf::Texts(list) => texts_plain(alloc, list.as_slice()).map(Some),
-            Leaf::Pairs(list) => pairs_plain(alloc, list).map(Some),
-            Leaf::Hex(bytes) => hex_plain(alloc, bytes).map(Some),
-            Leaf::Id(id) => id_plain(alloc, id).map(Some),
-            Leaf::Test(test) => test_plain(alloc, test).map(Some),
-            Leaf::Tests(list) => tests_plain(alloc, list.as_slice()).map(Some),
-            Leaf::Result(outcome) => result_plain(alloc, outcome).map(Some),
-            Leaf::Errors(child, fault) => errors_plain(alloc, child, fault),
-            Leaf::Runs(runs) => count_plain(alloc, runs).map(Some),
+            Leaf::Absent => true,
+            Leaf::Nonzero(number) => is_left_out(number),
+            Leaf::Errors(child, fault) => has_no_errors(child, fault),
+            _ => false,
+        }
+    }
+
+    fn print(&self, alloc: Global, out: &mut Printer) -> Mem<()> {
+        if self.is_short() {
+            self.print_short(out)
+        } else {
+            self.print_long(alloc, out)
+        }
+    }
+}
+
+impl Leaf<'_> {
+    ghost use Rattle.run_output.specs.Leaf.{leaf_data, is_short};
+
+    // Whether it is nothing, a number or a truth value.
+    fn is_short(&self) -> bool
+        ensures { result ≡ is_short self.now }
+    {
+        matches!(
+            *self,
+            Leaf::Absent
+                | Leaf::Count(_)
+                | Leaf::Number(_)
+                | Leaf::Nonzero(_)
+                | Leaf::Signed(_)
+                | Leaf::Truth(_)
+        )
+    }
+
+    fn print_short(&self, out: &mut Printer) -> Mem<()>
+        requires { is_short self.now ≡ true }
+        ensures { Prints result out.old out.new (data_tokens (or_null (leaf_data self.now))) }
+    {
+        match *self {
+            Leaf::Absent => out.null(),
+            Leaf::Count(number) => out.number(number as u64),
+            Leaf::Number(number) => out.number(number),
+            Leaf::Nonzero(number) => print_nonzero(out, number),
+            Leaf::Signed(number) => out.signed(number),
+            Leaf::Truth(truth) => out.truth(truth),
+            _ => unreachable!(),
+        }
+    }
+
+    fn print_long(&self, alloc: Global, out: &mut Printer) -> Mem<()>
+        requires { is_short self.now ≡ false }
+        ensures { Prints result out.old out.new (data_tokens (or_null (leaf_data self.now))) }
+    {
+        match *self {
+            Leaf::Word(word) => out.text(word),
+            Leaf::Text(text) => out.text(text.as_str()),
+            Leaf::Texts(list) => print_texts(out, list.as_slice()),
+            Leaf::Pairs(list) => print_pairs(out, list),
+            Leaf::Hex(bytes) => print_hex(alloc, out, bytes),
+            Leaf::Id(id) => print_id(alloc, out, id),
+            Leaf::Test(test) => print_test(out, test),
+            Leaf::Tests(list) => print_tests(out, list.as_slice()),
+            Leaf::Result(outcome) => print_result(alloc, out, outcome),
+            Leaf::Errors(child, fault) => print_errors(alloc, out, child, fault),
+            Leaf::Runs(runs) => print_runs(alloc, out, runs),
+            _ => unreachable!(),
         }
     }
 }

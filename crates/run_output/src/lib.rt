@@ -4,6 +4,7 @@
 //! these lines and rests on their texts.
 #![tactic(auto)]
 
+mod ask_lines;
 mod asks;
 mod errors;
 mod events;
@@ -15,16 +16,16 @@ mod fault;
 mod faults;
 mod field;
 mod info;
-mod items;
 mod leaf;
 mod line_feed;
 mod line_reporter;
 mod lists;
 mod object;
 mod outcomes;
-mod plain;
+mod printer;
 mod progress_reporter;
 mod receipts;
+mod rows;
 mod slots;
 mod stats;
 mod statuses;
@@ -34,6 +35,7 @@ mod texts;
 mod turns;
 mod watcher;
 
+pub use ask_lines::AskLines;
 pub use asks::ask_line;
 pub use events::event_line;
 pub use fault::{Fault, PlanFault};

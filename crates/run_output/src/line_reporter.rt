@@ -3,7 +3,7 @@ ghost use Rattle.std.specs.Prelude.{◌≡◌, []};
 ghost use Rattle.run_events.specs.Tell.{answered, Adds};
 ghost use Rattle.run_events.specs.Counts.{CountsRefusal};
 
-use crate::events::whole_line;
+use crate::events::event_bytes;
 use run_capture::{Failed, Sink, write_all};
 use run_events::{ReportFault, Reporter, ReporterEvent};
 use std::alloc::Global;
@@ -64,24 +64,24 @@ impl<K: Sink> Reporter for LineReporter<K> {
 
     ghost use Rattle.run_output.specs.Told.{HasTold, event_lines};
 
-    ghost told = { λ r answers. HasTold (K.taken r.start.value) (K.taken r.sink) (K.faults r.start.value)
-        (K.faults r.sink) r.refusals (event_lines answers) };
+    ghost told = { λ r answers. HasTold (K.taken r.start.value) (K.taken r.sink)
+        (K.faults r.start.value) (K.faults r.sink) r.refusals (event_lines answers) };
 
     ghost faults = { λ r. r.refusals };
 
     fn report(&mut self, alloc: Global, event: &ReporterEvent) -> Result<(), ReportFault<Failed>>
         ensures told { Adds (λ r answers. HasTold (K.taken r.start.value) (K.taken r.sink)
-            (K.faults r.start.value) (K.faults r.sink) r.refusals (event_lines answers)) self.old self.new
-            (answered event.now result) }
+            (K.faults r.start.value) (K.faults r.sink) r.refusals (event_lines answers))
+            self.old self.new (answered event.now result) }
         ensures fault { CountsRefusal self.old.refusals self.new.refusals result }
         ensures start { self.new.start.value ≡ self.old.start.value }
         // It refuses an event only where the sink failed.
         ensures cause { CountsRefusal (K.faults self.old.sink) (K.faults self.new.sink) result }
     {
-        let Ok(line) = whole_line(alloc, event) else {
+        let Ok(line) = event_bytes(alloc, event) else {
             return Err(ReportFault::OutOfMemory);
         };
-        match write_all(&mut self.sink, line.as_bytes()) {
+        match write_all(&mut self.sink, &line) {
             Ok(()) => Ok(()),
             Err(failed) => {
                 self.refusals = self.refusals.saturating_add(1);

@@ -1,60 +1,61 @@
 // Lists as arrays.
-ghost use Rattle.std.specs.Prelude.{◌≡◌, ◌∷◌, [], IfOk};
+ghost use Rattle.std.specs.Prelude.{◌≡◌, ◌∷◌, []};
 ghost use Rattle.run_output.specs.Fields.{array_of, texts, pair};
-ghost use Rattle.run_output.specs.Plain.{plain_data};
+ghost use Rattle.run_output.specs.Printer.{Prints, data_tokens};
 ghost use Rattle.run_output.specs.Texts.{test_data};
 
-use crate::items::Items;
-use crate::plain::Plain;
+use crate::printer::Printer;
 use run_capture::{Mem, Text};
 use run_events::TestInstanceId;
-use std::alloc::Global;
 
 /// Texts.
-pub(crate) fn texts_plain(alloc: Global, list: &[Text]) -> Mem<Plain>
-    ensures { IfOk result (λ p. plain_data p ≡ texts list.now) }
+pub(crate) fn print_texts(out: &mut Printer, list: &[Text]) -> Mem<()>
+    ensures { Prints result out.old out.new (data_tokens (texts list.now)) }
 {
-    let mut items = Items::new(alloc);
+    out.begin_array()?;
     for text in list {
-        items = items.with(Plain::text(alloc, text.as_str())?)?;
+        out.text(text.as_str())?;
     }
-    Ok(items.done())
+    out.end_array()
 }
 
 // Two texts.
-fn pair_plain(alloc: Global, first: &Text, second: &Text) -> Mem<Plain>
-    ensures { IfOk result (λ p. plain_data p ≡ texts (first.now ∷ second.now ∷ [])) }
+#[tactic(auto, using(crate::proofs::PrintLemmas::pair_printed))]
+fn print_pair(out: &mut Printer, first: &Text, second: &Text) -> Mem<()>
+    ensures { Prints result out.old out.new
+        (data_tokens (texts (first.now ∷ second.now ∷ []))) }
 {
-    let items = Items::new(alloc).with(Plain::text(alloc, first.as_str())?)?;
-    let items = items.with(Plain::text(alloc, second.as_str())?)?;
-    Ok(items.done())
+    out.begin_array()?;
+    out.text(first.as_str())?;
+    out.text(second.as_str())?;
+    out.end_array()
 }
 
 /// Pairs of texts.
-pub(crate) fn pairs_plain(alloc: Global, list: &[(Text, Text)]) -> Mem<Plain>
-    ensures { IfOk result (λ p. plain_data p ≡ array_of pair list.now) }
+pub(crate) fn print_pairs(out: &mut Printer, list: &[(Text, Text)]) -> Mem<()>
+    ensures { Prints result out.old out.new (data_tokens (array_of pair list.now)) }
 {
-    let mut items = Items::new(alloc);
+    out.begin_array()?;
     for (first, second) in list {
-        items = items.with(pair_plain(alloc, first, second)?)?;
+        print_pair(out, first, second)?;
     }
-    Ok(items.done())
+    out.end_array()
 }
 
 /// A test by its binary and its name.
-pub(crate) fn test_plain(alloc: Global, test: &TestInstanceId) -> Mem<Plain>
-    ensures { IfOk result (λ p. plain_data p ≡ test_data test.now) }
+pub(crate) fn print_test(out: &mut Printer, test: &TestInstanceId) -> Mem<()>
+    ensures { Prints result out.old out.new (data_tokens (test_data test.now)) }
 {
-    pair_plain(alloc, &test.binary, &test.name)
+    print_pair(out, &test.binary, &test.name)
 }
 
 /// Tests.
-pub(crate) fn tests_plain(alloc: Global, list: &[TestInstanceId]) -> Mem<Plain>
-    ensures { IfOk result (λ p. plain_data p ≡ array_of test_data list.now) }
+pub(crate) fn print_tests(out: &mut Printer, list: &[TestInstanceId]) -> Mem<()>
+    ensures { Prints result out.old out.new (data_tokens (array_of test_data list.now)) }
 {
-    let mut items = Items::new(alloc);
+    out.begin_array()?;
     for test in list {
-        items = items.with(test_plain(alloc, test)?)?;
+        print_test(out, test)?;
     }
-    Ok(items.done())
+    out.end_array()
 }

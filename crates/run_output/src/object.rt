@@ -1,88 +1,135 @@
-// Objects of JSON in the making, and their texts.
-ghost use Rattle.std.specs.Prelude.{◌≡◌, false, IfOk};
-ghost use Rattle.serde_json.specs.View.{members_view};
-ghost use Rattle.serde_json.specs.Written.{members_have_float};
+// Objects of JSON in the making.
+ghost use Rattle.std.specs.Prelude.{◌≡◌, true, IfOk};
+ghost use Rattle.serde_json.specs.Data.{put, no_members, object};
+ghost use Rattle.run_output.specs.Rows.{ascend};
+ghost use Rattle.json.specs.Print.{print};
+ghost use Rattle.serde_json.specs.Written.{compact_text};
+ghost use Rattle.run_output.specs.Printer.{Prints, data_tokens, or_null};
+ghost use Rattle.run_output.specs.Fields.{put_all, rows, object_of, object_text};
 
-use crate::plain::{Plain, Printed};
+use crate::printer::{Printed, Printer};
+use crate::rows::{is_last, place_of};
 use run_capture::{Mem, Text};
-use serde_json::{Map, Value};
 use std::alloc::Global;
 
-/// An object of JSON that holds no float.
+/// The members of an object: each key, in byte order, with what stands there.
 #[derive(Drop)]
-pub(crate) struct Object {
-    members: Map<String, Value>,
-    ghost float_free: { members_have_float (members_view members.entries) ≡ false },
+pub(crate) struct Object<F> {
+    rows: Vec<(&'static str, F)>,
+    ghost in_order: { ascend rows.items ≡ true },
 }
 
-impl Object {
-    ghost use Rattle.serde_json.specs.Data.{no_members, put, object};
-    ghost use Rattle.serde_json.specs.Written.{compact_text};
-    ghost use Rattle.run_output.specs.Fields.{put_all, rows, object_of, object_text};
-    ghost use Rattle.run_output.specs.Plain.{plain_data};
+impl<F: Printed + Copy> Object<F> {
     ghost use Rattle.run_output.specs.Object.{members_of};
 
     /// An object with no members.
-    pub(crate) fn new(alloc: Global) -> Object
-        ensures { members_of result ≡ no_members }
+    pub(crate) fn new(alloc: Global) -> Mem<Object<F>>
+        ensures { IfOk result (λ o. members_of F.printed o ≡ no_members) }
     {
-        Object {
-            members: Map::new(alloc),
-        }
+        Ok(Object {
+            rows: Vec::with_capacity(alloc, 16)?,
+        })
     }
 
-    /// The object with this value at a key.
-    #[tactic(auto, using(crate::proofs::Floats::put_no_float))]
-    pub(crate) fn put(self, alloc: Global, key: &str, plain: Plain) -> Mem<Object>
-        ensures { IfOk result (λ o. members_of o ≡ put key.now (plain_data plain) (members_of self)) }
+    // The object with a value at a key, wherever that stands among its keys.
+    #[tactic(auto, using(crate::proofs::RowLemmas::ascend_inserted, crate::proofs::RowLemmas::members_inserted, crate::proofs::RowLemmas::rank_bound, crate::proofs::RowLemmas::found_bound, crate::proofs::RowLemmas::ascend_there, crate::proofs::RowLemmas::members_there))]
+    fn put_within(self, key: &'static str, field: F) -> Mem<Object<F>>
+        ensures { IfOk result (λ o. members_of F.printed o
+            ≡ put key.now (or_null (F.printed field)) (members_of F.printed self)) }
     {
-        let Object { mut members } = self;
-        serde_json::put(&mut members, alloc, key, plain.into_value())?;
-        Ok(Object { members })
+        let Object { mut rows } = self;
+        let (place, found) = place_of(&rows, key);
+        if found {
+            let (own, _) = rows[place];
+            rows[place] = (own, field);
+            return Ok(Object { rows });
+        }
+        rows.insert(place, (key, field))?;
+        Ok(Object { rows })
+    }
+
+    // The object with a value at a key. Fields mostly come in the order of their keys.
+    fn put(self, key: &'static str, field: F) -> Mem<Object<F>>
+        ensures { IfOk result (λ o. members_of F.printed o
+            ≡ put key.now (or_null (F.printed field)) (members_of F.printed self)) }
+    {
+        if !is_last(&self.rows, key) {
+            return self.put_within(key, field);
+        }
+        let Object { mut rows } = self;
+        rows.push((key, field))?;
+        Ok(Object { rows })
     }
 
     /// The object with these fields.
-    pub(crate) fn with<F: Printed>(self, alloc: Global, fields: &[(&'static str, F)]) -> Mem<Object>
-        ensures { IfOk result
-            (λ o. members_of o ≡ put_all (rows F.printed fields.now) (members_of self)) }
+    pub(crate) fn with(self, fields: &[(&'static str, F)]) -> Mem<Object<F>>
+        ensures { IfOk result (λ o. members_of F.printed o
+            ≡ put_all (rows F.printed fields.now) (members_of F.printed self)) }
     {
         let mut object = self;
         for (key, field) in fields {
-            if let Some(plain) = field.plain(alloc)? {
-                object = object.put(alloc, key, plain)?;
+            if !field.is_absent() {
+                object = object.put(key, *field)?;
             }
         }
         Ok(object)
     }
 
-    /// The object as a value.
-    pub(crate) fn done(self) -> Plain
-        ensures { plain_data result ≡ object (members_of self) }
+    /// Prints it.
+    pub(crate) fn print(&self, alloc: Global, out: &mut Printer) -> Mem<()>
+        ensures { Prints result out.old out.new
+            (data_tokens (object (members_of F.printed self.now))) }
     {
-        let Object { members } = self;
-        Plain::object(members)
+        out.begin_object()?;
+        for (key, field) in &self.rows {
+            out.key(key)?;
+            field.print(alloc, out)?;
+        }
+        out.end_object()
     }
 
-    /// Its text, with no space and with its keys in byte order.
-    pub(crate) fn text(self, alloc: Global) -> Mem<Text>
-        ensures { IfOk result (λ t. t ≡ compact_text (object (members_of self))) }
+    /// An object with these fields.
+    pub(crate) fn of(alloc: Global, fields: &[(&'static str, F)]) -> Mem<Object<F>>
+        ensures { IfOk result
+            (λ o. members_of F.printed o ≡ put_all (rows F.printed fields.now) no_members) }
     {
-        self.done().into_text(alloc)
+        Object::new(alloc)?.with(fields)
     }
 
-    /// The object of these fields.
-    pub(crate) fn of<F: Printed>(alloc: Global, fields: &[(&'static str, F)]) -> Mem<Plain>
-        ensures { IfOk result (λ p. plain_data p ≡ object_of (rows F.printed fields.now)) }
+    /// Prints the object of these fields.
+    pub(crate) fn print_of(
+        alloc: Global,
+        out: &mut Printer,
+        fields: &[(&'static str, F)],
+    ) -> Mem<()>
+        ensures { Prints result out.old out.new
+            (data_tokens (object_of (rows F.printed fields.now))) }
     {
-        let object = Object::new(alloc).with(alloc, fields)?;
-        Ok(object.done())
+        Object::of(alloc, fields)?.print(alloc, out)
+    }
+
+    /// A line with it.
+    #[tactic(auto, using(crate::proofs::PrintLemmas::print_data))]
+    pub(crate) fn printed(&self, alloc: Global) -> Mem<Printer>
+        ensures { IfOk result
+            (λ p. print p ≡ compact_text (object (members_of F.printed self.now))) }
+    {
+        let mut out = Printer::new(alloc)?;
+        self.print(alloc, &mut out)?;
+        Ok(out)
+    }
+
+    /// A line with the object of these fields.
+    pub(crate) fn printed_of(alloc: Global, fields: &[(&'static str, F)]) -> Mem<Printer>
+        ensures { IfOk result (λ p. print p ≡ object_text (rows F.printed fields.now)) }
+    {
+        Object::of(alloc, fields)?.printed(alloc)
     }
 
     /// The text of the object of these fields.
-    pub(crate) fn line<F: Printed>(alloc: Global, fields: &[(&'static str, F)]) -> Mem<Text>
+    pub(crate) fn line(alloc: Global, fields: &[(&'static str, F)]) -> Mem<Text>
         ensures { IfOk result (λ t. t ≡ object_text (rows F.printed fields.now)) }
     {
-        let object = Object::new(alloc).with(alloc, fields)?;
-        object.text(alloc)
+        Ok(Object::printed_of(alloc, fields)?.into_text())
     }
 }

@@ -78,8 +78,9 @@ impl<K: Sink> Reporter for ProgressReporter<K> {
 
     ghost use Rattle.run_output.specs.Shown.{HasShown, screen_of};
 
-    ghost told = { λ r answers. HasShown (screen_of r.first.value) r.watcher (K.taken r.start.value)
-        (K.taken r.sink) (K.faults r.start.value) (K.faults r.sink) r.refusals answers };
+    ghost told = { λ r answers. HasShown (screen_of r.first.value) r.watcher
+        (K.taken r.start.value) (K.taken r.sink) (K.faults r.start.value) (K.faults r.sink)
+        r.refusals answers };
 
     ghost faults = { λ r. r.refusals };
 

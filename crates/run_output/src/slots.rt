@@ -3,12 +3,12 @@ ghost use Rattle.std.specs.Prelude.{◌≡◌, option_map, IfOk};
 ghost use Rattle.serde_json.specs.Data.{string};
 ghost use Rattle.run_output.specs.Fields.{count, rows};
 ghost use Rattle.run_output.specs.Leaf.{leaf_data};
-ghost use Rattle.run_output.specs.Plain.{plain_data};
+ghost use Rattle.run_output.specs.Printer.{Prints, data_tokens};
 ghost use Rattle.run_output.specs.Slots.{slot_fields, slot_data};
 
 use crate::leaf::Leaf;
 use crate::object::Object;
-use crate::plain::Plain;
+use crate::printer::Printer;
 use run_capture::Mem;
 use run_events::{GroupSlot, TestSlotAssignment};
 use std::alloc::Global;
@@ -43,8 +43,8 @@ fn numbers(slot: &TestSlotAssignment) -> [(&'static str, Leaf<'_>); 3]
 }
 
 /// A slot: its number, and in a group the number there and the group's name.
-pub(crate) fn slot_plain(alloc: Global, slot: &TestSlotAssignment) -> Mem<Plain>
-    ensures { IfOk result (λ p. plain_data p ≡ slot_data slot.now) }
+pub(crate) fn print_slot(alloc: Global, out: &mut Printer, slot: &TestSlotAssignment) -> Mem<()>
+    ensures { Prints result out.old out.new (data_tokens (slot_data slot.now)) }
 {
-    Object::of(alloc, &numbers(slot))
+    Object::print_of(alloc, out, &numbers(slot))
 }

@@ -3,12 +3,12 @@ ghost use Rattle.std.specs.Prelude.{◌≡◌, option_map, IfOk};
 ghost use Rattle.serde_json.specs.Data.{string};
 ghost use Rattle.run_output.specs.Fields.{rows};
 ghost use Rattle.run_output.specs.Leaf.{leaf_data};
-ghost use Rattle.run_output.specs.Plain.{plain_data};
+ghost use Rattle.run_output.specs.Printer.{Prints, data_tokens};
 ghost use Rattle.run_output.specs.Stats.{reason_word, script_fields, test_fields, stats_data};
 
 use crate::leaf::Leaf;
 use crate::object::Object;
-use crate::plain::Plain;
+use crate::printer::Printer;
 use run_capture::Mem;
 use run_events::{CancelReason, RunStats};
 use std::alloc::Global;
@@ -96,10 +96,9 @@ fn test_counts(stats: &RunStats) -> [(&'static str, Leaf<'static>); 12]
 
 /// The statistics, each count left out where it is 0.
 #[tactic(auto, using(crate::proofs::FieldLemmas::put_all_more))]
-pub(crate) fn stats_plain(alloc: Global, stats: &RunStats) -> Mem<Plain>
-    ensures { IfOk result (λ p. plain_data p ≡ stats_data stats.now) }
+pub(crate) fn print_stats(alloc: Global, out: &mut Printer, stats: &RunStats) -> Mem<()>
+    ensures { Prints result out.old out.new (data_tokens (stats_data stats.now)) }
 {
-    let object = Object::new(alloc).with(alloc, &script_counts(stats))?;
-    let object = object.with(alloc, &test_counts(stats))?;
-    Ok(object.done())
+    let object = Object::of(alloc, &script_counts(stats))?;
+    object.with(&test_counts(stats))?.print(alloc, out)
 }

@@ -3,7 +3,7 @@ ghost use Rattle.std.specs.Prelude.{◌≡◌, option_map, IfOk};
 ghost use Rattle.run_output.specs.Fields.{array_of, put_all, rows};
 ghost use Rattle.run_output.specs.Leaf.{leaf_data};
 ghost use Rattle.run_output.specs.Object.{members_of};
-ghost use Rattle.run_output.specs.Plain.{plain_data};
+ghost use Rattle.run_output.specs.Printer.{Prints, data_tokens};
 ghost use Rattle.run_output.specs.Texts.{bytes_data};
 ghost use Rattle.run_output.specs.Statuses.{
   stream_fields,
@@ -15,10 +15,9 @@ ghost use Rattle.run_output.specs.Statuses.{
   script_status_data,
 };
 
-use crate::items::Items;
 use crate::leaf::Leaf;
 use crate::object::Object;
-use crate::plain::Plain;
+use crate::printer::Printer;
 use run_capture::{Blob, ChildOutput, Mem};
 use run_commands::SetupScriptOutputError;
 use run_events::{ChildExecutionOutput, ExecuteStatus, ScriptEnv, SetupScriptExecuteStatus};
@@ -35,31 +34,27 @@ fn hex_leaf(bytes: &Option<Blob>) -> Leaf<'_>
 
 /// What a child wrote, by each stream that was captured, or why it couldn't be started.
 #[tactic(auto, unfolding(crate::specs::Statuses::stream_fields))]
-pub(crate) fn with_streams(
-    alloc: Global,
-    object: Object,
-    child: &ChildExecutionOutput,
-) -> Mem<Object>
-    ensures { IfOk result
-        (λ o. members_of o ≡ put_all (stream_fields child.now) (members_of object)) }
+pub(crate) fn with_streams<'a>(
+    object: Object<Leaf<'a>>,
+    child: &'a ChildExecutionOutput,
+) -> Mem<Object<Leaf<'a>>>
+    ensures { IfOk result (λ o. members_of leaf_data o
+        ≡ put_all (stream_fields child.now) (members_of leaf_data object.entry)) }
 {
     match child {
         ChildExecutionOutput::Output {
             output: ChildOutput::Split(split),
             ..
-        } => object.with(
-            alloc,
-            &[
-                ("stderr", hex_leaf(&split.stderr)),
-                ("stdout", hex_leaf(&split.stdout)),
-            ],
-        ),
+        } => object.with(&[
+            ("stderr", hex_leaf(&split.stderr)),
+            ("stdout", hex_leaf(&split.stdout)),
+        ]),
         ChildExecutionOutput::Output {
             output: ChildOutput::Combined { output },
             ..
-        } => object.with(alloc, &[("combined", Leaf::Hex(output))]),
+        } => object.with(&[("combined", Leaf::Hex(output))]),
         ChildExecutionOutput::StartError(error) => {
-            object.with(alloc, &[("start_error", Leaf::Text(error))])
+            object.with(&[("start_error", Leaf::Text(error))])
         }
     }
 }
@@ -82,23 +77,26 @@ fn attempt(status: &ExecuteStatus) -> [(&'static str, Leaf<'_>); 8]
 
 /// An attempt of a test.
 #[tactic(auto, using(crate::proofs::FieldLemmas::put_all_more))]
-pub(crate) fn status_plain(alloc: Global, status: &ExecuteStatus) -> Mem<Plain>
-    ensures { IfOk result (λ p. plain_data p ≡ status_data status.now) }
+pub(crate) fn print_status(alloc: Global, out: &mut Printer, status: &ExecuteStatus) -> Mem<()>
+    ensures { Prints result out.old out.new (data_tokens (status_data status.now)) }
 {
-    let object = Object::new(alloc).with(alloc, &attempt(status))?;
-    let object = with_streams(alloc, object, &status.output)?;
-    Ok(object.done())
+    let object = Object::of(alloc, &attempt(status))?;
+    with_streams(object, &status.output)?.print(alloc, out)
 }
 
 /// The attempts of a test, in order.
-pub(crate) fn statuses_plain(alloc: Global, statuses: &[ExecuteStatus]) -> Mem<Plain>
-    ensures { IfOk result (λ p. plain_data p ≡ array_of status_data statuses.now) }
+pub(crate) fn print_statuses(
+    alloc: Global,
+    out: &mut Printer,
+    statuses: &[ExecuteStatus],
+) -> Mem<()>
+    ensures { Prints result out.old out.new (data_tokens (array_of status_data statuses.now)) }
 {
-    let mut items = Items::new(alloc);
+    out.begin_array()?;
     for status in statuses {
-        items = items.with(status_plain(alloc, status)?)?;
+        print_status(alloc, out, status)?;
     }
-    Ok(items.done())
+    out.end_array()
 }
 
 fn env_leaf(env: &ScriptEnv) -> Leaf<'_>
@@ -138,10 +136,13 @@ fn script_attempt(status: &SetupScriptExecuteStatus) -> [(&'static str, Leaf<'_>
 
 /// The attempt of a setup script.
 #[tactic(auto, using(crate::proofs::FieldLemmas::put_all_more))]
-pub(crate) fn script_status_plain(alloc: Global, status: &SetupScriptExecuteStatus) -> Mem<Plain>
-    ensures { IfOk result (λ p. plain_data p ≡ script_status_data status.now) }
+pub(crate) fn print_script_status(
+    alloc: Global,
+    out: &mut Printer,
+    status: &SetupScriptExecuteStatus,
+) -> Mem<()>
+    ensures { Prints result out.old out.new (data_tokens (script_status_data status.now)) }
 {
-    let object = Object::new(alloc).with(alloc, &script_attempt(status))?;
-    let object = with_streams(alloc, object, &status.output)?;
-    Ok(object.done())
+    let object = Object::of(alloc, &script_attempt(status))?;
+    with_streams(object, &status.output)?.print(alloc, out)
 }

@@ -2,7 +2,8 @@
 ghost use Rattle.std.specs.Prelude.{◌≡◌, option_map, IfOk};
 ghost use Rattle.run_output.specs.Fields.{rows};
 ghost use Rattle.run_output.specs.Leaf.{leaf_data};
-ghost use Rattle.run_output.specs.Plain.{plain_data};
+ghost use Rattle.run_output.specs.Printer.{Prints, data_tokens};
+ghost use Rattle.run_output.specs.StressPart.{part_data};
 ghost use Rattle.run_output.specs.Stress.{
   condition_data,
   index_fields,
@@ -16,7 +17,7 @@ ghost use Rattle.run_output.specs.Stress.{
 
 use crate::leaf::Leaf;
 use crate::object::Object;
-use crate::plain::Plain;
+use crate::printer::{Printed, Printer};
 use run_capture::Mem;
 use run_commands::StressCondition;
 use run_events::{FinalRunStats, StressIndex, StressProgress, StressRunStats};
@@ -24,12 +25,24 @@ use std::alloc::Global;
 
 /// When a stress run ends, as a plan says it.
 #[tactic(auto, unfolding(crate::specs::Stress::condition_fields))]
-pub(crate) fn condition_plain(alloc: Global, condition: &StressCondition) -> Mem<Plain>
-    ensures { IfOk result (λ p. plain_data p ≡ condition_data condition.now) }
+pub(crate) fn print_condition(
+    alloc: Global,
+    out: &mut Printer,
+    condition: &StressCondition,
+) -> Mem<()>
+    ensures { Prints result out.old out.new (data_tokens (condition_data condition.now)) }
 {
     match condition {
-        StressCondition::Count(runs) => Object::of(alloc, &[("count", Leaf::Runs(*runs))]),
-        StressCondition::Duration(time) => Object::of(alloc, &[("duration", Leaf::Number(*time))]),
+        StressCondition::Count(runs) => Object::print_of(
+            alloc,
+            out,
+            &[("count", Leaf::Runs(*runs))],
+        ),
+        StressCondition::Duration(time) => Object::print_of(
+            alloc,
+            out,
+            &[("duration", Leaf::Number(*time))],
+        ),
     }
 }
 
@@ -44,10 +57,10 @@ fn index(index: StressIndex) -> [(&'static str, Leaf<'static>); 2]
 }
 
 /// Which sub-run it is.
-pub(crate) fn index_plain(alloc: Global, index_of: StressIndex) -> Mem<Plain>
-    ensures { IfOk result (λ p. plain_data p ≡ index_data index_of) }
+pub(crate) fn print_index(alloc: Global, out: &mut Printer, index_of: StressIndex) -> Mem<()>
+    ensures { Prints result out.old out.new (data_tokens (index_data index_of)) }
 {
-    Object::of(alloc, &index(index_of))
+    Object::print_of(alloc, out, &index(index_of))
 }
 
 #[tactic(auto, unfolding(crate::specs::Stress::progress_fields))]
@@ -72,10 +85,36 @@ fn progress(progress: StressProgress) -> [(&'static str, Leaf<'static>); 2]
 }
 
 /// How far a stress run is.
-pub(crate) fn progress_plain(alloc: Global, so_far: StressProgress) -> Mem<Plain>
-    ensures { IfOk result (λ p. plain_data p ≡ progress_data so_far) }
+pub(crate) fn print_progress(alloc: Global, out: &mut Printer, so_far: StressProgress) -> Mem<()>
+    ensures { Prints result out.old out.new (data_tokens (progress_data so_far)) }
 {
-    Object::of(alloc, &progress(so_far))
+    Object::print_of(alloc, out, &progress(so_far))
+}
+
+// What stands at a key of a stress run's statistics.
+#[derive(Clone, Copy)]
+enum Part {
+    Count(u32),
+    Word(&'static str),
+    Index(StressIndex),
+}
+
+impl Printed for Part {
+    ghost use Rattle.run_output.specs.StressPart.{part_data};
+
+    ghost printed = { part_data };
+
+    fn is_absent(&self) -> bool {
+        false
+    }
+
+    fn print(&self, alloc: Global, out: &mut Printer) -> Mem<()> {
+        match *self {
+            Part::Count(number) => out.number(number as u64),
+            Part::Word(word) => out.text(word),
+            Part::Index(index) => print_index(alloc, out, index),
+        }
+    }
 }
 
 #[tactic(auto, unfolding(crate::specs::Stress::last_word))]
@@ -91,22 +130,24 @@ fn last_name(last: FinalRunStats) -> &'static str
 }
 
 #[tactic(auto, unfolding(crate::specs::Stress::ended_fields))]
-fn ended(stats: &StressRunStats) -> [(&'static str, Leaf<'static>); 3]
-    ensures { rows leaf_data result ≡ ended_fields stats.now }
+fn ended(stats: &StressRunStats) -> [(&'static str, Part); 3]
+    ensures { rows part_data result ≡ ended_fields stats.now }
 {
     [
-        ("failed_count", Leaf::Count(stats.failed_count)),
-        ("last", Leaf::Word(last_name(stats.last_final_stats))),
-        ("success_count", Leaf::Count(stats.success_count)),
+        ("failed_count", Part::Count(stats.failed_count)),
+        ("last", Part::Word(last_name(stats.last_final_stats))),
+        ("success_count", Part::Count(stats.success_count)),
     ]
 }
 
 /// What came of the sub-runs of a stress run.
-pub(crate) fn stress_stats_plain(alloc: Global, stats: &StressRunStats) -> Mem<Plain>
-    ensures { IfOk result (λ p. plain_data p ≡ stress_stats_data stats.now) }
+pub(crate) fn print_stress_stats(
+    alloc: Global,
+    out: &mut Printer,
+    stats: &StressRunStats,
+) -> Mem<()>
+    ensures { Prints result out.old out.new (data_tokens (stress_stats_data stats.now)) }
 {
-    let completed = index_plain(alloc, stats.completed)?;
-    let object = Object::new(alloc).put(alloc, "completed", completed)?;
-    let object = object.with(alloc, &ended(stats))?;
-    Ok(object.done())
+    let object = Object::of(alloc, &[("completed", Part::Index(stats.completed))])?;
+    object.with(&ended(stats))?.print(alloc, out)
 }

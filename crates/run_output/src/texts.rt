@@ -2,10 +2,11 @@
 ghost use Rattle.std.specs.Prelude.{◌≡◌, string_bytes, IfOk};
 ghost use Rattle.serde_json.specs.Data.{string};
 ghost use Rattle.uuid.specs.Text.{hyphenated_text, lower};
-ghost use Rattle.run_output.specs.Plain.{plain_data};
+ghost use Rattle.run_events.specs.declared.result.ExecutionResult.TheVariants.{Timeout};
+ghost use Rattle.run_output.specs.Printer.{Prints, data_tokens};
 ghost use Rattle.run_output.specs.Texts.{bytes_data, leaked_text, failure_text, result_text, runs_text};
 
-use crate::plain::Plain;
+use crate::printer::Printer;
 use run_capture::{Blob, Mem};
 use run_commands::StressCount;
 use run_events::{ExecutionResult, FailureStatus, LeakTimeoutResult, SlowTimeoutResult};
@@ -13,32 +14,32 @@ use std::alloc::Global;
 use uuid::Uuid;
 
 /// Bytes, in hex with lower case letters.
-pub(crate) fn hex_plain(alloc: Global, bytes: &Blob) -> Mem<Plain>
-    ensures { IfOk result (λ p. plain_data p ≡ bytes_data bytes.now) }
+pub(crate) fn print_hex(alloc: Global, out: &mut Printer, bytes: &Blob) -> Mem<()>
+    ensures { Prints result out.old out.new (data_tokens (bytes_data bytes.now)) }
 {
     let text = hex::encode(alloc, bytes.as_slice())?;
-    Ok(Plain::string(text))
+    out.text(text.as_str())
 }
 
 /// An id, in lower case with hyphens.
-pub(crate) fn id_plain(alloc: Global, id: Uuid) -> Mem<Plain>
-    ensures { IfOk result (λ p. plain_data p ≡ string (hyphenated_text lower id)) }
+pub(crate) fn print_id(alloc: Global, out: &mut Printer, id: Uuid) -> Mem<()>
+    ensures { Prints result out.old out.new (data_tokens (string (hyphenated_text lower id))) }
 {
     let text = format!(in alloc; "{id}")?;
-    Ok(Plain::string(text))
+    out.text(text.as_str())
 }
 
 /// How often a stress run repeats, as a plan says it.
 #[tactic(auto, unfolding(crate::specs::Texts::runs_text))]
-pub(crate) fn count_plain(alloc: Global, runs: StressCount) -> Mem<Plain>
-    ensures { IfOk result (λ p. plain_data p ≡ string (runs_text runs)) }
+pub(crate) fn print_runs(alloc: Global, out: &mut Printer, runs: StressCount) -> Mem<()>
+    ensures { Prints result out.old out.new (data_tokens (string (runs_text runs))) }
 {
     match runs {
-        StressCount::Infinite => Plain::text(alloc, "infinite"),
+        StressCount::Infinite => out.text("infinite"),
         StressCount::Count { count } => {
             let count = count.get();
             let text = format!(in alloc; "{count}")?;
-            Ok(Plain::string(text))
+            out.text(text.as_str())
         }
     }
 }
@@ -59,29 +60,42 @@ fn failure_string(alloc: Global, failure: FailureStatus, leaked: bool) -> Mem<St
     }
 }
 
+fn print_failure(alloc: Global, out: &mut Printer, failure: FailureStatus, leaked: bool) -> Mem<()>
+    ensures { Prints result out.old out.new
+        (data_tokens (string (failure_text failure leaked))) }
+{
+    let text = failure_string(alloc, failure, leaked)?;
+    out.text(text.as_str())
+}
+
+#[tactic(auto, unfolding(crate::specs::Texts::result_text))]
+fn print_timeout(out: &mut Printer, ending: SlowTimeoutResult) -> Mem<()>
+    ensures { Prints result out.old out.new (data_tokens (string (result_text (Timeout ending)))) }
+{
+    match ending {
+        SlowTimeoutResult::Pass => out.text("timeout-pass"),
+        SlowTimeoutResult::Fail => out.text("timeout-fail"),
+    }
+}
+
 /// The result of an attempt, in words.
 #[tactic(auto, unfolding(crate::specs::Texts::result_text))]
-pub(crate) fn result_plain(alloc: Global, outcome: ExecutionResult) -> Mem<Plain>
-    ensures { IfOk result (λ p. plain_data p ≡ string (result_text outcome)) }
+pub(crate) fn print_result(alloc: Global, out: &mut Printer, outcome: ExecutionResult) -> Mem<()>
+    ensures { Prints result out.old out.new (data_tokens (string (result_text outcome))) }
 {
     match outcome {
-        ExecutionResult::Pass => Plain::text(alloc, "pass"),
+        ExecutionResult::Pass => out.text("pass"),
         ExecutionResult::Leak {
             result: LeakTimeoutResult::Pass,
-        } => Plain::text(alloc, "leak-pass"),
+        } => out.text("leak-pass"),
         ExecutionResult::Leak {
             result: LeakTimeoutResult::Fail,
-        } => Plain::text(alloc, "leak-fail"),
+        } => out.text("leak-fail"),
         ExecutionResult::Fail {
             failure_status,
             leaked,
-        } => Ok(Plain::string(failure_string(alloc, failure_status, leaked)?)),
-        ExecutionResult::ExecFail => Plain::text(alloc, "exec-fail"),
-        ExecutionResult::Timeout {
-            result: SlowTimeoutResult::Pass,
-        } => Plain::text(alloc, "timeout-pass"),
-        ExecutionResult::Timeout {
-            result: SlowTimeoutResult::Fail,
-        } => Plain::text(alloc, "timeout-fail"),
+        } => print_failure(alloc, out, failure_status, leaked),
+        ExecutionResult::ExecFail => out.text("exec-fail"),
+        ExecutionResult::Timeout { result } => print_timeout(out, result),
     }
 }

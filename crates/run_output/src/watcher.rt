@@ -86,7 +86,8 @@ impl Watcher {
     // The line of another event, which has none.
     fn hear(&mut self, alloc: Global, event: &TestEvent) -> Mem<Text>
         ensures ok { IfOk result (λ line. (w : _) → IsScreen self.old w
-            → (line ≡ line_in w (Test event.now)) × IsScreen self.new (screen_after w (Test event.now))) }
+            → (line ≡ line_in w (Test event.now))
+            × IsScreen self.new (screen_after w (Test event.now))) }
         ensures err { OnErr result (self.new ≡ self.old) }
     {
         self.state.apply(alloc, event)?;

@@ -5,5 +5,5 @@ use Rattle.run_output.proofs.object.Object.with.Given as goal
 
 abbrev pub invariant-loop-key : goal.invariant-loop-key
 invariant-loop-key g l =
-    put_all (rows g.F.Printed.printed (drop l.key-index l.fields)) (members_of l.object)
-    ≡ put_all (rows g.F.Printed.printed l.fields) (members_of l.initial.object)
+    put_all (rows g.F.Printed.printed (drop l.key-index l.fields)) (members_of g.F.Printed.printed l.object)
+    ≡ put_all (rows g.F.Printed.printed l.fields) (members_of g.F.Printed.printed l.initial.object)

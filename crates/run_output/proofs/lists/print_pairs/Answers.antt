@@ -1,0 +1,13 @@
+use Rattle.std.proofs.Common.{rules, ◌≡◌, [], ◌∷◌, ◌++◌}
+use Rattle.std.proofs.lemmas.Result.{on_ok_weaker}
+use Rattle.json.specs.Token as token
+use Rattle.run_output.specs.Fields.{pair}
+use Rattle.run_output.proofs.PrintLemmas.{array_printed}
+use Rattle.run_output.proofs.lists.print_pairs.Goals as goal
+
+pub returns : goal.returns
+returns c =
+    let l = c.loop-first in
+    let begun : c.begin_array.new.self ≡ c.args.out.now ++ token.begin_array ∷ [] = search rules in
+    on_ok_weaker c.end_array.result (λ e. array_printed pair c.args.list.now l.first-index c.args.out.now
+    c.begin_array.new.self l.out c.end_array.new.self begun l.invariant (search rules) e) c.end_array.ensures
