@@ -22,8 +22,9 @@ use Rattle.run_output.specs.declared.fault.Fault.TheVariants.{Unfinished, Report
 use Rattle.run_output.specs.Fields.{line_bytes}
 use Rattle.run_output.specs.Outcomes.{outcome_text}
 use Rattle.run_cli.specs.Call.{Writing, then_writing, HasTaken, HasWriteFault, Writes}
-use Rattle.run_cli.specs.Text.{Form, joined, ask_lines, fault_only, rest_text}
-use Rattle.run_cli.specs.Executed.{IsExecuted, TookParts, WritesRun, report_ending}
+use Rattle.run_output.specs.Asks.{ask_lines}
+use Rattle.run_cli.specs.Text.{Form, joined, fault_only, rest_text}
+use Rattle.run_cli.specs.Executed.{IsExecuted, HasExecuted, TookParts, WritesRun, report_ending}
 use Rattle.run_cli.specs.Finish.{fault_of_error, EndsAtFault, EndsAtOutcome, IsReplayed, IsReplayEnding}
 
 -- a count that rose before it stayed or rose has risen
@@ -124,7 +125,7 @@ report_of form p turns w v asks answer x o b is parts =
 pub outcome_ends : (form : Form) (p : Settings) (turns : List Turn) (w v : Writing) (asks : List (ℕ × Ask))
     (o : RunOutcome)
     (ending : Result RunOutcome Fault) → v.taken ≡ w.taken_after → v.faults ≡ w.faults_after
-    → IsExecuted form p turns w asks (Ok o) → EndsAtOutcome v asks o ending → v.faults ≤ v.faults_after
+    → IsExecuted form p turns w asks (Ok o) → EndsAtOutcome v (ask_lines asks) o ending → v.faults ≤ v.faults_after
     → IsReplayEnding form p turns (then_writing w v) ending
 unfolding replayed
 outcome_ends form p turns w v asks o (Ok e) on from x h le =
@@ -159,26 +160,26 @@ outcome_ends form p turns w v asks o (Err Read) on from x h le = absurd h
 outcome_ends form p turns w v asks o (Err TooLong) on from x h le = absurd h
 
 -- after a fault: what it says, or want of memory
-fault_ends : (form : Form) (p : Settings) (turns : List Turn) (w v : Writing) (asks : List (ℕ × Ask)) (fault : Fault)
+fault_ends : (form : Form) (p : Settings) (turns : List Turn) (w v : Writing) (lines : List ℕ) (fault : Fault)
     (ending : Result RunOutcome Fault)
-    → (v.faults ≤ v.faults_after → Writes v (ask_lines asks ++ fault_only fault)
+    → (v.faults ≤ v.faults_after → Writes v (lines ++ fault_only fault)
     → IsReplayEnding form p turns (then_writing w v) (Err fault))
-    → EndsAtFault v asks fault ending → IsReplayEnding form p turns (then_writing w v) ending
-fault_ends form p turns w v asks fault (Ok o) says h = absurd h
-fault_ends form p turns w v asks fault (Err e) says (inl m) =
+    → EndsAtFault v lines fault ending → IsReplayEnding form p turns (then_writing w v) ending
+fault_ends form p turns w v lines fault (Ok o) says h = absurd h
+fault_ends form p turns w v lines fault (Err e) says (inl m) =
     subst (λ f. IsReplayEnding form p turns (then_writing w v) (Err f)) (sym m) tt
-fault_ends form p turns w v asks fault (Err e) says (inr h) =
+fault_ends form p turns w v lines fault (Err e) says (inr h) =
     subst (λ f. IsReplayEnding form p turns (then_writing w v) (Err f)) (sym h.0) (says h.1 h.2)
 
 -- after an error of the engine
-pub error_ends : (form : Form) (p : Settings) (turns : List Turn) (w v : Writing) (asks : List (ℕ × Ask))
+pub error_ends : (form : Form) (p : Settings) (turns : List Turn) (w v : Writing) (lines : List ℕ)
     (error : TestRunnerExecuteErrors Failed) (ending : Result RunOutcome Fault) → v.taken ≡ w.taken_after
-    → v.faults ≡ w.faults_after → UnlessMemory (Err error) (IsExecuted form p turns w asks (Err error))
-    → EndsAtFault v asks (fault_of_error error) ending → IsReplayEnding form p turns (then_writing w v) ending
+    → v.faults ≡ w.faults_after → UnlessMemory (Err error) (HasExecuted form p turns w lines (Err error))
+    → EndsAtFault v lines (fault_of_error error) ending → IsReplayEnding form p turns (then_writing w v) ending
 unfolding replayed
-error_ends form p turns w v asks (engine.Report d) ending on from x h =
+error_ends form p turns w v lines (engine.Report d) ending on from (asks, is, x) h =
     let end = has_outcome p x.journal x.runnable.legal x.says.1 in
-    fault_ends form p turns w v asks Report ending
+    fault_ends form p turns w v (ask_lines asks) Report ending
     (λ le writes. (
       replayed form p turns w v asks (Err (engine.Report d)) (omega arith) x,
       x.says.0,
@@ -189,28 +190,28 @@ error_ends form p turns w v asks (engine.Report d) ending on from x h =
             (took_parts form p turns w v asks (Err (engine.Report d)) (fault_only Report) on from x writes),
       ),
       rose_then w.faults w.faults_after v.faults_after (x.risen (some_is x.refusal d x.says.2)) (omega arith),
-    )) h
-error_ends form p turns w v asks (engine.NotEnabled place) ending on from x h =
-    fault_ends form p turns w v asks (NotEnabled place) ending
+    )) (subst (λ lines. EndsAtFault v lines Report ending) is h)
+error_ends form p turns w v lines (engine.NotEnabled place) ending on from (asks, is, x) h =
+    fault_ends form p turns w v (ask_lines asks) (NotEnabled place) ending
     (λ le writes. (
       replayed form p turns w v asks (Err (engine.NotEnabled place)) (omega arith) x,
       x.says,
       fault_writes form p turns w v asks (Err (engine.NotEnabled place)) (NotEnabled place) on from x le writes,
-    )) h
-error_ends form p turns w v asks (engine.ThirdSignal place) ending on from x h =
-    fault_ends form p turns w v asks (ThirdSignal place) ending
+    )) (subst (λ lines. EndsAtFault v lines (NotEnabled place) ending) is h)
+error_ends form p turns w v lines (engine.ThirdSignal place) ending on from (asks, is, x) h =
+    fault_ends form p turns w v (ask_lines asks) (ThirdSignal place) ending
     (λ le writes. (
       replayed form p turns w v asks (Err (engine.ThirdSignal place)) (omega arith) x,
       x.says,
       fault_writes form p turns w v asks (Err (engine.ThirdSignal place)) (ThirdSignal place) on from x le writes,
-    )) h
-error_ends form p turns w v asks engine.Unfinished ending on from x h =
-    fault_ends form p turns w v asks Unfinished ending
+    )) (subst (λ lines. EndsAtFault v lines (ThirdSignal place) ending) is h)
+error_ends form p turns w v lines engine.Unfinished ending on from (asks, is, x) h =
+    fault_ends form p turns w v (ask_lines asks) Unfinished ending
     (λ le writes. (
       replayed form p turns w v asks (Err engine.Unfinished) (omega arith) x,
       x.says.0,
       x.says.1,
       fault_writes form p turns w v asks (Err engine.Unfinished) Unfinished on from x le writes,
-    )) h
-error_ends form p turns w v asks engine.OutOfMemory ending on from x h =
-    fault_ends form p turns w v asks Memory ending (λ le writes. tt) h
+    )) (subst (λ lines. EndsAtFault v lines Unfinished ending) is h)
+error_ends form p turns w v lines engine.OutOfMemory ending on from x h =
+    fault_ends form p turns w v lines Memory ending (λ le writes. tt) h

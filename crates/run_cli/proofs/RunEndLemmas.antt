@@ -17,7 +17,8 @@ use Rattle.run_output.specs.Outcomes.{outcome_text}
 use Rattle.run_drive.specs.declared.spawner.Heard.{Heard}
 use Rattle.run_live.specs.declared.lived.Live.{Live}
 use Rattle.run_cli.specs.Call.{Writing, then_writing, HasTaken, Writes}
-use Rattle.run_cli.specs.Text.{whole_form, ask_lines, fault_only}
+use Rattle.run_output.specs.Asks.{ask_lines}
+use Rattle.run_cli.specs.Text.{whole_form, fault_only}
 use Rattle.run_cli.specs.Executed.{IsExecuted}
 use Rattle.run_cli.specs.Finish.{EndsAtFault, EndsAtOutcome}
 use Rattle.run_cli.specs.Live.{IsClosed, IsRunEnd}
@@ -31,7 +32,7 @@ use Rattle.run_cli.proofs.LivedLemmas.{executed_calm, executed_rough, rough_erro
 pub calm_ends : {W : Type 0} (said : W → List Heard → Type 0) (p : Settings) (w v : Writing) (n : ℕ) (l : Live W)
     (asks : List (ℕ × Ask)) (o : RunOutcome) (ending : Result RunOutcome Fault) → v.taken ≡ w.taken_after
     → v.faults ≡ w.faults_after → IsClosed said p l → IsOver p w n l.journal asks o false
-    → EndsAtOutcome v asks o ending → IsRunEnd said p (then_writing w v) (kept_by ending l) (ending_of ending)
+    → EndsAtOutcome v (ask_lines asks) o ending → IsRunEnd said p (then_writing w v) (kept_by ending l) (ending_of ending)
 unfolding executed_calm executed_whole executed_from
 calm_ends said p w v n l asks o (Ok e) on from closed x h =
     let run : IsExecuted whole_form p (turns_of l.journal) w asks (Ok o) = executed_calm p w n l.journal asks o x in
@@ -61,7 +62,7 @@ pub fault_or_memory : {W : Type 0} (said : W → List Heard → Type 0) (p : Set
     (asks : List (ℕ × Ask)) (fault : Fault) (ending : Result RunOutcome Fault)
     → (v.faults ≤ v.faults_after → Writes v (ask_lines asks ++ fault_only fault)
     → IsRunEnd said p w (kept_by (Err fault) l) (ending_of (Err fault)))
-    → EndsAtFault v asks fault ending → IsRunEnd said p w (kept_by ending l) (ending_of ending)
+    → EndsAtFault v (ask_lines asks) fault ending → IsRunEnd said p w (kept_by ending l) (ending_of ending)
 fault_or_memory said p w v l asks fault (Ok o) says h = absurd h
 fault_or_memory said p w v l asks fault (Err e) says (inl m) =
     subst (λ f. IsRunEnd said p w (kept_by (Err f) l) (ending_of (Err f))) (sym m) refl
@@ -72,7 +73,7 @@ fault_or_memory said p w v l asks fault (Err e) says (inr h) =
 pub rough_ends : {W : Type 0} (said : W → List Heard → Type 0) (p : Settings) (w v : Writing) (n : ℕ) (l : Live W)
     (asks : List (ℕ × Ask)) (o : RunOutcome) (ending : Result RunOutcome Fault) → v.taken ≡ w.taken_after
     → v.faults ≡ w.faults_after → IsClosed said p l → IsOver p w n l.journal asks o true
-    → EndsAtFault v asks Report ending → IsRunEnd said p (then_writing w v) (kept_by ending l) (ending_of ending)
+    → EndsAtFault v (ask_lines asks) Report ending → IsRunEnd said p (then_writing w v) (kept_by ending l) (ending_of ending)
 unfolding executed_rough executed_whole executed_from
 rough_ends said p w v n l asks o ending on from closed x h =
     let first = rough_error p w n l.journal asks o x in
@@ -97,21 +98,21 @@ rough_ends said p w v n l asks o ending on from closed x h =
 pub full_ends : {W : Type 0} (said : W → List Heard → Type 0) (p : Settings) (w v : Writing) (l : Live W)
     (asks : List (ℕ × Ask)) (ending : Result RunOutcome Fault) → IsClosed said p l
     → length l.journal ≡ 4294967295 → outcome p (past_of p l.journal) ≡ None
-    → EndsAtFault v asks Unfinished ending → IsRunEnd said p w (kept_by ending l) (ending_of ending)
+    → EndsAtFault v (ask_lines asks) Unfinished ending → IsRunEnd said p w (kept_by ending l) (ending_of ending)
 full_ends said p w v l asks ending closed full none h =
     fault_or_memory said p w v l asks Unfinished ending
     (λ le writes. (closed, full, not_over p l.journal closed.legal none)) h
 
 pub memory_ends : {W : Type 0} (said : W → List Heard → Type 0) (p : Settings) (w v : Writing) (l : Live W)
     (asks : List (ℕ × Ask)) (ending : Result RunOutcome Fault)
-    → EndsAtFault v asks Memory ending → IsRunEnd said p w (kept_by ending l) (ending_of ending)
+    → EndsAtFault v (ask_lines asks) Memory ending → IsRunEnd said p w (kept_by ending l) (ending_of ending)
 memory_ends said p w v l asks ending h = fault_or_memory said p w v l asks Memory ending (λ le writes. refl) h
 
 -- so a run that is over ends, by whether an event was refused
 pub over_ends : {W : Type 0} (said : W → List Heard → Type 0) (p : Settings) (w v : Writing) (n : ℕ) (l : Live W)
     (asks : List (ℕ × Ask)) (o : RunOutcome) (refused : Bool) (ending : Result RunOutcome Fault)
     → v.taken ≡ w.taken_after → v.faults ≡ w.faults_after → IsClosed said p l
-    → IsOver p w n l.journal asks o refused → EndsOver v asks o refused ending
+    → IsOver p w n l.journal asks o refused → EndsOver v (ask_lines asks) o refused ending
     → IsRunEnd said p (then_writing w v) (kept_by ending l) (ending_of ending)
 over_ends said p w v n l asks o true ending on from closed x h =
     rough_ends said p w v n l asks o ending on from closed x h
@@ -122,8 +123,8 @@ over_ends said p w v n l asks o false ending on from closed x h =
 pub open_ends : {W : Type 0} (said : W → List Heard → Type 0) (p : Settings) (w v : Writing) (l : Live W)
     (asks : List (ℕ × Ask)) (fault : Fault) (ending : Result RunOutcome Fault) → IsClosed said p l
     → outcome p (past_of p l.journal) ≡ None → IsOpenFault (length l.journal) fault
-    → EndsAtFault v asks fault ending → IsRunEnd said p w (kept_by ending l) (ending_of ending)
+    → EndsAtFault v (ask_lines asks) fault ending → IsRunEnd said p w (kept_by ending l) (ending_of ending)
 open_ends said p w v l asks fault ending closed none (inl full) h =
-    full_ends said p w v l asks ending closed full.1 none (subst (λ f. EndsAtFault v asks f ending) full.0 h)
+    full_ends said p w v l asks ending closed full.1 none (subst (λ f. EndsAtFault v (ask_lines asks) f ending) full.0 h)
 open_ends said p w v l asks fault ending closed none (inr memory) h =
-    memory_ends said p w v l asks ending (subst (λ f. EndsAtFault v asks f ending) memory h)
+    memory_ends said p w v l asks ending (subst (λ f. EndsAtFault v (ask_lines asks) f ending) memory h)

@@ -15,6 +15,7 @@ use Rattle.run_engine.specs.World.{flagged}
 use Rattle.run_engine.specs.Standing.{IsRunnable}
 use Rattle.run_engine.specs.Execution.{IsAnswerOf}
 use Rattle.run_engine.specs.declared.errors.TestRunnerExecuteErrors.{TestRunnerExecuteErrors}
+use Rattle.run_output.specs.Asks.{ask_lines}
 use Rattle.run_output.specs.Told.{TookLines, marks, AreCounted}
 use Rattle.run_output.specs.declared.fault.Fault.{Fault}
 use Rattle.run_output.specs.declared.fault.Fault.TheVariants.{Report}
@@ -61,3 +62,9 @@ pub record IsExecuted (form : Form) (p : Settings) (turns : List Turn) (w : Writ
   pub told : refusal ≡ None → HasTaken w (joined (form.lines (past_of p journal)))
   pub quiet : refusal ≡ None → w.faults_after ≡ w.faults
   pub risen : IsSome refusal → HasWriteFault w
+
+-- the same, of some asks whose lines these are
+abbrev pub HasExecuted : Form → Settings → List Turn → Writing → List ℕ
+    → Result RunOutcome (TestRunnerExecuteErrors Failed) → Type 0
+HasExecuted form p turns w lines answer =
+    (asks : List (ℕ × Ask)) × (lines ≡ ask_lines asks) × IsExecuted form p turns w asks answer

@@ -6,7 +6,6 @@ use Rattle.run_events.specs.declared.plan.Plan.{Plan}
 use Rattle.run_capture.specs.declared.source.Failed.{Failed}
 use Rattle.run_events.specs.declared.settings.Settings.{Settings}
 use Rattle.run_events.specs.declared.turn.Turn.{Turn}
-use Rattle.run_events.specs.declared.ask.Ask.{Ask}
 use Rattle.run_events.specs.declared.outcome.RunOutcome.{RunOutcome}
 use Rattle.run_model.specs.declared.entry.Entry.{Entry}
 use Rattle.run_model.specs.Words.{is_over}
@@ -21,25 +20,25 @@ use Rattle.run_output.specs.declared.fault.Fault.TheVariants.{Unfinished, Report
 use Rattle.run_output.specs.Fields.{line_bytes}
 use Rattle.run_output.specs.Outcomes.{outcome_text}
 use Rattle.run_cli.specs.Call.{Writing, then_writing, HasTaken, HasTakenFront, HasWriteFault, Writes}
-use Rattle.run_cli.specs.Executed.{TookParts, WritesRun, IsExecuted, report_ending}
+use Rattle.run_cli.specs.Executed.{TookParts, WritesRun, HasExecuted, report_ending}
 use Rattle.run_cli.specs.Commands.{form_of}
 use Rattle.run_cli.specs.Plans.{settings_for, plan_refusal, IsPlanFault}
 use Rattle.run_cli.specs.declared.command.Command.{Command}
-use Rattle.run_cli.specs.Text.{Form, ask_lines, fault_only, rest_text, history_text}
+use Rattle.run_cli.specs.Text.{Form, fault_only, rest_text, history_text}
 
 -- the lines of asks and of a fault were written, where the sink failed a front part of them, unless memory was wanting
-abbrev pub EndsAtFault : Writing → List (ℕ × Ask) → Fault → Result RunOutcome Fault → Type 0
+abbrev pub EndsAtFault : Writing → List ℕ → Fault → Result RunOutcome Fault → Type 0
 EndsAtFault w asks fault (Ok o) = ⊥
 EndsAtFault w asks fault (Err e) =
-    (e ≡ Memory) ⊎ ((e ≡ fault) × (w.faults ≤ w.faults_after) × Writes w (ask_lines asks ++ fault_only fault))
+    (e ≡ Memory) ⊎ ((e ≡ fault) × (w.faults ≤ w.faults_after) × Writes w (asks ++ fault_only fault))
 
 -- the lines of asks and of an outcome were written, or the sink failed, or memory was wanting
-abbrev pub EndsAtOutcome : Writing → List (ℕ × Ask) → RunOutcome → Result RunOutcome Fault → Type 0
+abbrev pub EndsAtOutcome : Writing → List ℕ → RunOutcome → Result RunOutcome Fault → Type 0
 EndsAtOutcome w asks outcome (Ok o) =
-    (o ≡ outcome) × HasTaken w (ask_lines asks ++ line_bytes (outcome_text outcome)) × (w.faults_after ≡ w.faults)
+    (o ≡ outcome) × HasTaken w (asks ++ line_bytes (outcome_text outcome)) × (w.faults_after ≡ w.faults)
 EndsAtOutcome w asks outcome (Err Report) =
     (w.faults ≤ w.faults_after) × HasWriteFault w
-    × HasTakenFront w (ask_lines asks ++ line_bytes (outcome_text outcome))
+    × HasTakenFront w (asks ++ line_bytes (outcome_text outcome))
 EndsAtOutcome w asks outcome (Err Memory) = ⊤
 EndsAtOutcome w asks outcome (Err _) = ⊥
 
@@ -72,14 +71,14 @@ IsReplayEnding form p turns w (Err Unfinished) =
 IsReplayEnding form p turns w (Err Memory) = ⊤
 IsReplayEnding form p turns w (Err _) = ⊥
 
--- whatever turns of a plan this is the answer to, with these asks and with a sink that is left as this writing found
+-- whatever turns of a plan this is the answer to, with these lines of asks and with a sink that is left as this writing found
 -- it, they end so
-abbrev pub Finishes : Writing → List (ℕ × Ask) → Result RunOutcome (TestRunnerExecuteErrors Failed)
+abbrev pub Finishes : Writing → List ℕ → Result RunOutcome (TestRunnerExecuteErrors Failed)
     → Result RunOutcome Fault → Type 0
 Finishes v asks answer ending =
     (form : Form) (p : Settings) (turns : List Turn) (w : Writing)
     → v.taken ≡ w.taken_after → v.faults ≡ w.faults_after
-    → UnlessMemory answer (IsExecuted form p turns w asks answer)
+    → UnlessMemory answer (HasExecuted form p turns w asks answer)
     → IsReplayEnding form p turns (then_writing w v) ending
 
 -- the fault that an error of the engine is

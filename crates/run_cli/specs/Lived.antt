@@ -68,7 +68,7 @@ IsFaultEnd w fault ending =
     (ending ≡ ends.Fault Memory) ⊎ ((ending ≡ ends.Fault fault) × Writes w (fault_only fault))
 
 -- the last lines of a run that is over were written: its asks and its outcome, or where an event was refused the fault
-abbrev pub EndsOver : Writing → List (ℕ × Ask) → RunOutcome → Bool → Result RunOutcome Fault → Type 0
+abbrev pub EndsOver : Writing → List ℕ → RunOutcome → Bool → Result RunOutcome Fault → Type 0
 EndsOver w asks o true ending = EndsAtFault w asks Report ending
 EndsOver w asks o false ending = EndsAtOutcome w asks o ending
 

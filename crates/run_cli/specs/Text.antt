@@ -9,7 +9,7 @@ use Rattle.run_model.specs.Words.{told, asked}
 use Rattle.run_output.specs.declared.fault.Fault.{Fault}
 use Rattle.run_output.specs.Fields.{line_bytes}
 use Rattle.run_output.specs.Told.{event_line}
-use Rattle.run_output.specs.Asks.{ask_text}
+use Rattle.run_output.specs.Asks.{ask_lines}
 use Rattle.run_output.specs.Outcomes.{outcome_text}
 use Rattle.run_output.specs.Faults.{fault_text, fault_status}
 
@@ -27,11 +27,6 @@ whole_form = record { lines = λ past. map event_line (told past); asks = λ ask
 abbrev pub joined : List (List ℕ) → List ℕ
 joined [] = []
 joined (line ∷ lines) = line ++ joined lines
-
--- the lines of asks, in order
-abbrev pub ask_lines : List (ℕ × Ask) → List ℕ
-ask_lines [] = []
-ask_lines (ask ∷ asks) = line_bytes (ask_text ask.0 ask.1) ++ ask_lines asks
 
 -- the last line: the outcome, or the fault
 abbrev pub last_text : Result RunOutcome Fault → List ℕ

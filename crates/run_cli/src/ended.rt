@@ -1,5 +1,6 @@
 // How the program ends: with an outcome or a fault, and its last lines.
-ghost use Rattle.std.specs.Prelude.{◌≡◌, ◌<◌, ◌≤◌, ◌^◌, length};
+ghost use Rattle.std.specs.Prelude.{◌≡◌, ◌<◌, ◌≤◌, ◌^◌, length, Err};
+ghost use Rattle.run_output.specs.declared.fault.Fault.TheVariants.{Memory};
 ghost use Rattle.run_cli.specs.Call.{writing_of};
 ghost use Rattle.run_cli.specs.Text.{outcome_status};
 ghost use Rattle.run_cli.specs.Commands.{form_of};
@@ -10,7 +11,7 @@ use crate::execution::{Executed, execute};
 use crate::write::{WriteError, write_fault, write_outcome};
 use run_capture::{Failed, Sink, write_all};
 use run_engine::{TestRunner, TestRunnerExecuteErrors};
-use run_events::{Ask, RunOutcome, RunStep, Turn};
+use run_events::{RunOutcome, RunStep, Turn};
 use run_output::Fault;
 use std::alloc::Global;
 
@@ -52,8 +53,20 @@ pub fn end_for_memory<K: Sink>(sink: &mut K)
     let _ = write_all(sink, MEMORY_LINE);
 }
 
-/// Writes asks and a fault. A write that fails leaves the fault as it is.
-pub fn end_at_fault<K: Sink>(alloc: Global, sink: K, asks: &[(u64, Ask)], fault: Fault) -> Ended<K>
+/// Ends for want of memory, and says so where the sink takes that.
+pub fn end_without_memory<K: Sink>(sink: K) -> Ended<K>
+    ensures { result.ending ≡ Err Memory }
+{
+    let mut sink = sink;
+    end_for_memory(&mut sink);
+    Ended {
+        ending: Err(Fault::Memory),
+        sink,
+    }
+}
+
+/// Writes lines of asks and a fault. A write that fails leaves the fault as it is.
+pub fn end_at_fault<K: Sink>(alloc: Global, sink: K, asks: &[u8], fault: Fault) -> Ended<K>
     ensures { EndsAtFault (writing_of K.Sink sink result.sink) asks.now fault
         result.ending }
 {
@@ -69,13 +82,8 @@ pub fn end_at_fault<K: Sink>(alloc: Global, sink: K, asks: &[(u64, Ask)], fault:
     Ended { ending, sink }
 }
 
-/// Writes asks and an outcome. A write that fails makes the outcome a fault.
-pub fn end_at_outcome<K: Sink>(
-    alloc: Global,
-    sink: K,
-    asks: &[(u64, Ask)],
-    outcome: RunOutcome,
-) -> Ended<K>
+/// Writes lines of asks and an outcome. A write that fails makes the outcome a fault.
+pub fn end_at_outcome<K: Sink>(alloc: Global, sink: K, asks: &[u8], outcome: RunOutcome) -> Ended<K>
     ensures ends { EndsAtOutcome (writing_of K.Sink sink result.sink) asks.now outcome
         result.ending }
     ensures later { K.faults sink ≤ K.faults result.sink }
@@ -109,7 +117,7 @@ fn fault_of(error: TestRunnerExecuteErrors<Failed>) -> Fault
 fn finish<K: Sink>(
     alloc: Global,
     sink: K,
-    asks: &[(u64, Ask)],
+    asks: &[u8],
     answer: Result<RunOutcome, TestRunnerExecuteErrors<Failed>>,
 ) -> Ended<K>
     ensures { Finishes (writing_of K.Sink sink result.sink) asks.now answer result.ending }
@@ -136,5 +144,5 @@ pub fn replay<K: Sink>(
         result.ending }
 {
     let Executed { sink, asks, answer } = execute(alloc, command, runner, turns, sink);
-    finish(alloc, sink, asks.asks(), answer)
+    finish(alloc, sink, asks.as_bytes(), answer)
 }

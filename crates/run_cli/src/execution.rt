@@ -6,25 +6,40 @@ ghost use Rattle.run_progress.specs.declared.max_running.MaxProgressRunning.TheV
 ghost use Rattle.run_cli.specs.Call.{writing_of};
 ghost use Rattle.run_cli.specs.Clocks.{turn_clocks};
 ghost use Rattle.run_cli.specs.Commands.{form_of, progress_form};
-ghost use Rattle.run_cli.specs.Executed.{IsExecuted};
+ghost use Rattle.run_cli.specs.Executed.{HasExecuted};
 ghost use Rattle.run_cli.specs.Text.{whole_form};
 
 use crate::clocks::turn_clocks;
 use crate::command::Command;
 use crate::tied::{Origin, TiedReporter};
 use crate::tied_progress::{Beginning, TiedProgress};
-use run_capture::{Failed, List, Sink};
+use run_capture::{Failed, List, Mem, Sink};
 use run_engine::{TestRunner, TestRunnerExecuteErrors};
-use run_events::{AskList, RunOutcome, Turn};
+use run_events::{Ask, Children, RunOutcome, Turn};
+use run_output::AskLines;
 use run_progress::MaxProgressRunning;
 use std::alloc::Global;
 use std::marker::Brand;
 
-/// The answer to the turns of a run, what was asked and is to be written, and the sink that took its events.
+/// The answer to the turns of a run, the lines of asks that are to be written, and the sink that took its events.
 pub struct Executed<K> {
     pub sink: K,
-    pub asks: AskList,
+    pub asks: AskLines,
     pub answer: Result<RunOutcome, TestRunnerExecuteErrors<Failed>>,
+}
+
+// Children that keep nothing: progress writes no asks.
+#[derive(Drop)]
+struct Unwritten;
+
+impl Children for Unwritten {
+    ghost use Rattle.std.specs.Prelude.{⊤};
+
+    ghost asked = { λ _ _. ⊤ };
+
+    fn ask(&mut self, _alloc: Global, _turn: u64, _ask: &Ask) -> Mem<()> {
+        Ok(())
+    }
 }
 
 // Carries out the turns, with the sink's state at the beginning as the type's.
@@ -38,11 +53,11 @@ fn execute_at<K: Sink, O: Origin>(
     requires faults { O.faults_before ≡ K.faults sink }
     requires few { length turns.now < 2 ^ 32 }
     ensures { UnlessMemory result.answer
-        (IsExecuted whole_form runner turns.now (writing_of K.Sink sink result.sink)
+        (HasExecuted whole_form runner turns.now (writing_of K.Sink sink result.sink)
         result.asks result.answer) }
 {
     let mut reporter = TiedReporter::<K, O>::new(sink);
-    let mut asks = AskList::new();
+    let mut asks = AskLines::new(alloc);
     let answer = runner.try_execute(alloc, turns, &mut asks, &mut reporter);
     Executed {
         sink: reporter.into_sink(),
@@ -66,7 +81,7 @@ fn show_at<K: Sink, O: Beginning>(
     requires clocks { clocks ≡ turn_clocks 0 turns.now }
     requires few { length turns.now < 2 ^ 32 }
     ensures { UnlessMemory result.answer
-        (IsExecuted (progress_form runner width) runner turns.now
+        (HasExecuted (progress_form runner width) runner turns.now
         (writing_of K.Sink sink result.sink) result.asks result.answer) }
 {
     let plan = &runner.settings().plan;
@@ -79,12 +94,10 @@ fn show_at<K: Sink, O: Beginning>(
         .count() as u64;
     let max = MaxProgressRunning::DEFAULT_VALUE;
     let mut reporter = TiedProgress::<K, O>::new(sink, mode, count, max, width, clocks);
-    let mut asks = AskList::new();
-    let answer = runner.try_execute(alloc, turns, &mut asks, &mut reporter);
-    drop(asks);
+    let answer = runner.try_execute(alloc, turns, &mut Unwritten, &mut reporter);
     Executed {
         sink: reporter.into_sink(),
-        asks: AskList::new(),
+        asks: AskLines::new(alloc),
         answer,
     }
 }
@@ -99,14 +112,14 @@ fn show<K: Sink>(
 ) -> Executed<K>
     requires { length turns.now < 2 ^ 32 }
     ensures { UnlessMemory result.answer
-        (IsExecuted (progress_form runner width) runner turns.now
+        (HasExecuted (progress_form runner width) runner turns.now
         (writing_of K.Sink sink result.sink) result.asks result.answer) }
 {
     match turn_clocks(alloc, turns) {
         Ok(clocks) => show_at::<K, Brand>(alloc, runner, width, clocks, turns, sink),
         Err(_) => Executed {
             sink,
-            asks: AskList::new(),
+            asks: AskLines::new(alloc),
             answer: Err(TestRunnerExecuteErrors::OutOfMemory),
         },
     }
@@ -122,7 +135,7 @@ pub fn execute<K: Sink>(
 ) -> Executed<K>
     requires { length turns.now < 2 ^ 32 }
     ensures { UnlessMemory result.answer
-        (IsExecuted (form_of command runner) runner turns.now
+        (HasExecuted (form_of command runner) runner turns.now
         (writing_of K.Sink sink result.sink) result.asks result.answer) }
 {
     match command {

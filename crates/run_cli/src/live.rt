@@ -4,10 +4,12 @@ ghost use Rattle.run_events.specs.declared.settings.Settings.{Settings};
 ghost use Rattle.run_model.specs.Journal.{past_of, outcome};
 ghost use Rattle.run_cli.specs.Call.{Writing, writing_of, then_writing};
 ghost use Rattle.run_cli.specs.Live.{IsClosed, IsRunEnd, live_status, workers_in};
+ghost use Rattle.run_cli.specs.Finish.{EndsAtFault, EndsAtOutcome};
+ghost use Rattle.run_output.specs.Asks.{ask_lines};
 ghost use Rattle.run_cli.specs.Lived.{IsOver, IsLeftOver, IsFaultEnd, EndsOver, IsOpenFault, ending_of, kept_by};
 ghost use Rattle.run_cli.specs.declared.live.LiveEnding.TheVariants as ends;
 
-use crate::ended::{Ended, end_at_fault, end_at_outcome, status_of_outcome};
+use crate::ended::{Ended, end_at_fault, end_at_outcome, end_without_memory, status_of_outcome};
 use crate::receipts::write_receipt;
 use crate::tied::{Origin, TiedReporter};
 use run_capture::{List, Sink};
@@ -16,7 +18,7 @@ use run_engine::TestRunner;
 use run_events::{Ask, AskList, Reporter, RunOutcome};
 use run_live::{Live, Lived, live};
 use run_model::Entry;
-use run_output::Fault;
+use run_output::{AskLines, Fault};
 use std::alloc::Global;
 use std::marker::Brand;
 use std::sync::Wait;
@@ -96,6 +98,33 @@ fn with_live<K, W: Drop>(ended: Ended<K>, live: Live<W>) -> LiveEnded<K, W>
     }
 }
 
+// Writes the lines of asks and of a fault.
+fn fault_after<K: Sink>(alloc: Global, sink: K, asks: &[(u64, Ask)], fault: Fault) -> Ended<K>
+    ensures { EndsAtFault (writing_of K.Sink sink result.sink) (ask_lines asks.now) fault
+        result.ending }
+{
+    match AskLines::of(alloc, asks) {
+        Ok(lines) => end_at_fault(alloc, sink, lines.as_bytes(), fault),
+        Err(_) => end_without_memory(sink),
+    }
+}
+
+// Writes the lines of asks and of an outcome.
+fn outcome_after<K: Sink>(
+    alloc: Global,
+    sink: K,
+    asks: &[(u64, Ask)],
+    outcome: RunOutcome,
+) -> Ended<K>
+    ensures { EndsAtOutcome (writing_of K.Sink sink result.sink) (ask_lines asks.now) outcome
+        result.ending }
+{
+    match AskLines::of(alloc, asks) {
+        Ok(lines) => end_at_outcome(alloc, sink, lines.as_bytes(), outcome),
+        Err(_) => end_without_memory(sink),
+    }
+}
+
 // Writes the last lines of a run that is over: its asks, and then its outcome, or that an event was refused.
 fn last_lines<K: Sink>(
     alloc: Global,
@@ -104,13 +133,13 @@ fn last_lines<K: Sink>(
     outcome: RunOutcome,
     refused: bool,
 ) -> Ended<K>
-    ensures { EndsOver (writing_of K.Sink sink result.sink) asks.now outcome refused
+    ensures { EndsOver (writing_of K.Sink sink result.sink) (ask_lines asks.now) outcome refused
         result.ending }
 {
     if refused {
-        end_at_fault(alloc, sink, asks, Fault::Report)
+        fault_after(alloc, sink, asks, Fault::Report)
     } else {
-        end_at_outcome(alloc, sink, asks, outcome)
+        outcome_after(alloc, sink, asks, outcome)
     }
 }
 
@@ -156,7 +185,7 @@ fn end_open<K: Sink, W: Spawner + Drop>(
         → outcome p (past_of p live.journal) ≡ None
         → IsRunEnd W.has_said p w result.live result.ending }
 {
-    let ended = end_at_fault(alloc, sink, asks.asks(), open_fault(&live.journal));
+    let ended = fault_after(alloc, sink, asks.asks(), open_fault(&live.journal));
     drop(asks);
     with_live(ended, live)
 }

@@ -5,12 +5,11 @@ ghost use Rattle.run_output.specs.Fields.{line_bytes};
 ghost use Rattle.run_output.specs.Outcomes.{outcome_text};
 ghost use Rattle.run_output.specs.Faults.{fault_text};
 ghost use Rattle.run_cli.specs.Call.{TakesFront};
-ghost use Rattle.run_cli.specs.Text.{ask_lines};
 ghost use Rattle.run_cli.specs.Write.{CountsWrite};
 
 use run_capture::{Failed, Mem, OutOfMemory, Sink, Text, write_all};
-use run_events::{Ask, RunOutcome};
-use run_output::{Fault, ask_line, fault_line, outcome_line, with_line_feed};
+use run_events::RunOutcome;
+use run_output::{Fault, fault_line, outcome_line, with_line_feed};
 use std::alloc::Global;
 
 /// Why a line wasn't written whole.
@@ -56,65 +55,51 @@ pub fn write_line<K: Sink>(alloc: Global, sink: &mut K, line: Text) -> Result<()
     Ok(())
 }
 
-// Writes the lines of asks.
-fn write_asks<K: Sink>(alloc: Global, sink: &mut K, asks: &[(u64, Ask)]) -> Result<(), WriteError>
-    ensures ok { OnOk result (Takes (K.taken sink.old) (K.taken sink.new) (ask_lines asks.now)) }
-    ensures front { OnErr result (TakesFront (K.taken sink.old) (K.taken sink.new)
-        (ask_lines asks.now)) }
-    ensures counted { CountsWrite (K.faults sink.old) (K.faults sink.new) result }
-{
-    for ask in asks {
-        let line = ask_line(alloc, ask.0, &ask.1)?;
-        write_line(alloc, sink, line)?;
-    }
-    Ok(())
-}
-
-// Writes the lines of asks, and then a last line.
+// Writes these lines of asks, and then a last line.
 fn write_rest<K: Sink>(
     alloc: Global,
     sink: &mut K,
-    asks: &[(u64, Ask)],
+    asks: &[u8],
     last: Text,
 ) -> Result<(), WriteError>
     ensures ok { OnOk result (Takes (K.taken sink.old) (K.taken sink.new)
-        (ask_lines asks.now ++ line_bytes last)) }
+        (asks.now ++ line_bytes last)) }
     ensures front { OnErr result
-        (TakesFront (K.taken sink.old) (K.taken sink.new) (ask_lines asks.now ++ line_bytes last)) }
+        (TakesFront (K.taken sink.old) (K.taken sink.new) (asks.now ++ line_bytes last)) }
     ensures counted { CountsWrite (K.faults sink.old) (K.faults sink.new) result }
 {
-    write_asks(alloc, sink, asks)?;
+    write_all(sink, asks)?;
     write_line(alloc, sink, last)
 }
 
-/// Writes the lines of asks and that of an outcome.
+/// Writes these lines of asks and that of an outcome.
 pub fn write_outcome<K: Sink>(
     alloc: Global,
     sink: &mut K,
-    asks: &[(u64, Ask)],
+    asks: &[u8],
     outcome: RunOutcome,
 ) -> Result<(), WriteError>
     ensures ok { OnOk result (Takes (K.taken sink.old) (K.taken sink.new)
-        (ask_lines asks.now ++ line_bytes (outcome_text outcome))) }
+        (asks.now ++ line_bytes (outcome_text outcome))) }
     ensures front { OnErr result (TakesFront (K.taken sink.old) (K.taken sink.new)
-        (ask_lines asks.now ++ line_bytes (outcome_text outcome))) }
+        (asks.now ++ line_bytes (outcome_text outcome))) }
     ensures counted { CountsWrite (K.faults sink.old) (K.faults sink.new) result }
 {
     let last = outcome_line(alloc, outcome)?;
     write_rest(alloc, sink, asks, last)
 }
 
-/// Writes the lines of asks and that of a fault.
+/// Writes these lines of asks and that of a fault.
 pub fn write_fault<K: Sink>(
     alloc: Global,
     sink: &mut K,
-    asks: &[(u64, Ask)],
+    asks: &[u8],
     fault: Fault,
 ) -> Result<(), WriteError>
     ensures ok { OnOk result (Takes (K.taken sink.old) (K.taken sink.new)
-        (ask_lines asks.now ++ line_bytes (fault_text fault))) }
+        (asks.now ++ line_bytes (fault_text fault))) }
     ensures front { OnErr result (TakesFront (K.taken sink.old) (K.taken sink.new)
-        (ask_lines asks.now ++ line_bytes (fault_text fault))) }
+        (asks.now ++ line_bytes (fault_text fault))) }
     ensures counted { CountsWrite (K.faults sink.old) (K.faults sink.new) result }
 {
     let last = fault_line(alloc, fault)?;

@@ -13,23 +13,24 @@ struct Line {
 }
 
 impl Line {
-    // Takes one byte more: the first of a line begins it.
-    fn take(&mut self, byte: u8) {
-        if self.is_ended {
+    // Takes bytes more, of which the last line is what counts.
+    fn take(&mut self, bytes: &[u8]) {
+        let (text, is_ended) = match bytes.split_last() {
+            Some((b'\n', text)) => (text, true),
+            Some(_) => (bytes, false),
+            None => return,
+        };
+        let begin = text.iter().rposition(|byte| *byte == b'\n');
+        if self.is_ended || begin.is_some() {
             self.bytes.clear();
-            self.is_ended = false;
         }
-        if byte == b'\n' {
-            self.is_ended = true;
-        } else if self.bytes.len() < MOST {
-            let _ = self.bytes.push(byte);
-        }
-    }
-
-    fn take_all(&mut self, bytes: &[u8]) {
-        for byte in bytes {
-            self.take(*byte);
-        }
+        self.is_ended = is_ended;
+        let line = match begin {
+            Some(at) => &text[at + 1..],
+            None => text,
+        };
+        let room = MOST.saturating_sub(self.bytes.len());
+        let _ = self.bytes.extend_from_slice(&line[..line.len().min(room)]);
     }
 }
 
@@ -71,7 +72,7 @@ impl<K: Sink> Sink for LastLine<K> {
 
     fn write(&mut self, piece: &[u8]) -> Result<usize, Failed> {
         let count = self.sink.write(piece)?;
-        self.line.take_all(&piece[..count]);
+        self.line.take(&piece[..count]);
         Ok(count)
     }
 }

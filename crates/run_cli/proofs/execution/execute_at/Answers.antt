@@ -1,5 +1,7 @@
-use Rattle.std.proofs.Common.{[]}
+use Rattle.std.proofs.Common.{[], refl}
 use Rattle.run_engine.proofs.CourseLemmas.{unless_weaker}
+use Rattle.run_model.specs.Journal.{past_of}
+use Rattle.run_model.specs.Words.{asked}
 use Rattle.run_cli.specs.Call.{writing_of}
 use Rattle.run_cli.proofs.ToldLines.{executed_whole}
 use Rattle.run_cli.proofs.execution.execute_at.Goals as goal
@@ -10,9 +12,11 @@ returns g c = unless_weaker c.try_execute-answer.result _ _
     let told = x.call.takes.told [] c.new-reporter.ensures.told in
     let w = writing_of g.K.Sink c.args.sink c.into_sink.result in
     let refusals = c.try_execute-answer.new.report.lines.refusals in
-    executed_whole c.args.runner c.args.turns.now w refusals c.try_execute-answer.new.children
-    c.try_execute-answer.result
-    x.call.journal x.call.refusal told.0 x.call.takes.runnable x.call.says x.call.takes.marked
-    (x.call.takes.asked [] c.new-asks.ensures)
-    (rw c.requires.taken at (rw c.requires.faults at (c.into_sink.ensures.told told.0 told.1))) told.2 told.3)
+    let asks = asked (past_of c.args.runner x.call.journal) in (
+      asks,
+      x.call.takes.asked [] c.new-asks.ensures,
+      executed_whole c.args.runner c.args.turns.now w refusals asks c.try_execute-answer.result
+          x.call.journal x.call.refusal told.0 x.call.takes.runnable x.call.says x.call.takes.marked refl
+          (rw c.requires.taken at (rw c.requires.faults at (c.into_sink.ensures.told told.0 told.1))) told.2 told.3,
+    ))
     c.try_execute-answer.ensures.executes

@@ -1,7 +1,5 @@
-use Rattle.std.proofs.Common.{[], sym, subst}
+use Rattle.std.proofs.Common.{[]}
 use Rattle.run_cli.specs.Call.{writing_of}
-use Rattle.run_cli.specs.Commands.{progress_form}
-use Rattle.run_cli.specs.Executed.{IsExecuted}
 use Rattle.run_cli.proofs.TickLemmas.{unless_with}
 use Rattle.run_cli.proofs.ToldLines.{executed_shown}
 use Rattle.run_cli.proofs.execution.show_at.Goals as goal
@@ -11,12 +9,12 @@ returns g c = unless_with c.try_execute-answer.result _ _
     (λ some x.
     let told = x.call.takes.told [] c.new-reporter.ensures.told in
     let w = writing_of g.K.Sink c.args.sink c.into_sink.result in
-    let refusals = c.try_execute-answer.new.report.progress.refusals in
-    let p = c.args.runner in
-    let answer = c.try_execute-answer.result in
-    subst (λ asks. IsExecuted (progress_form p c.args.width) p c.args.turns.now w asks answer) (sym c.new.ensures)
-    (executed_shown p c.args.width c.args.turns.now w refusals answer
-    x.call.journal x.call.refusal told.0 some x.call.takes.runnable x.call.says x.call.takes.marked
-    (rw c.requires.taken at (rw c.requires.faults at (rw c.requires.clocks at (rw c.requires.display at
-    (c.into_sink.ensures.told told.0 told.1))))) told.2 told.3))
+    let refusals = c.try_execute-answer.new.report.progress.refusals in (
+      [],
+      c.new.ensures,
+      executed_shown c.args.runner c.args.width c.args.turns.now w refusals c.try_execute-answer.result
+          x.call.journal x.call.refusal told.0 some x.call.takes.runnable x.call.says x.call.takes.marked
+          (rw c.requires.taken at (rw c.requires.faults at (rw c.requires.clocks at (rw c.requires.display at
+          (c.into_sink.ensures.told told.0 told.1))))) told.2 told.3,
+    ))
     c.try_execute-answer.ensures.executes
