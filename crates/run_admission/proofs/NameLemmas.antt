@@ -64,7 +64,8 @@ push_new p xs y e here =
 push_none : {X : Type 0} (p : X → Bool) (xs : List X) (y : X) → position p xs ≡ None → p y ≡ false
     → position p (xs ++ y ∷ []) ≡ None
 push_none p xs y e fails =
-    found_none p (xs ++ y ∷ []) y (λ j h. by_place j (omega (arith, h, length-append xs (y ∷ []))) (j == length xs) refl)
+    found_none p (xs ++ y ∷ []) y (λ j h. by_place j
+        (omega (arith, h, length-append xs (y ∷ []))) (j == length xs) refl)
   where
     by_place : (j : ℕ) → j < length xs + 1 → (b : Bool) → (j == length xs) ≡ b
         → p (get_or (xs ++ y ∷ []) j y) ≡ false

@@ -111,7 +111,8 @@ pub queued_release : (us afters : List Use) (claims : List Claim) (seats : List 
     → room ≡ room_of afters line → IsFirst (get_or q.lines line empty) room first
     → IsQueued afters claims (set seats t Gone)
     (record { lines = q.lines; places = q.places; firsts = set q.firsts line first })
-queued_release us afters claims seats q t line room first paired there queued limits within inside was low others left found =
+queued_release us afters claims seats q t line room first paired there queued limits within inside
+    was low others left found =
     queued_after us afters claims seats (set seats t Gone) q q.lines line first queued limits lined low same
     (head_is afters (map (λ u. u.limit) us) claims (set seats t Gone) q.lines q.places line room first limits within
     (λ k g e. omega (arith, there k g e, same_many us afters limits)) lined low left found)
@@ -303,7 +304,8 @@ run_ready waiting whole after_whole us afters q next after order claims seats r 
 
     kept : IsWhole (waiting - 1) after_whole afters claims (set seats t (InUse n m))
     kept =
-        run_kept waiting (waiting - 1) whole after_whole us afters claims seats t n m claim w.kept is read slot within all
+        run_kept waiting (waiting - 1) whole after_whole us afters claims seats t n m claim
+            w.kept is read slot within all
         parts (omega (arith, w.kept.waits, one_fewer seats t (InUse n m) can.inside can.waits refl))
 
 -- a test is released: the line of its group, or the last, is looked at anew

@@ -2,6 +2,7 @@
 use Rattle.std.proofs.Common.{◌≡◌, ◌≢◌, ℕ, ◌+◌, ◌-◌, ◌*◌, ◌/◌, ◌%◌, ◌<◌, ◌≤◌, ◌==◌, List, length, get_or, min, drop}
 use Rattle.std.proofs.Common.{Bool}
 use Rattle.std.proofs.Common.{true, false, refl, ap, sym, ◌∙◌, arith, ◌⊎◌, inl, inr}
+use Rattle.std.proofs.lemmas.Bool.{cases_lt}
 use Rattle.std.proofs.Math.Nat.{min-le_left, min-le_right}
 use Rattle.std.proofs.lemmas.List.{get_or-drop}
 use Rattle.run_admission.specs.Least.{none, Stands, IsFirstWithin, IsLeast, IsLesser, IsTree}
@@ -178,9 +179,9 @@ pub record IsBetween (values : List ℕ) (limit from to : ℕ) : Type 0 where
   pub above : (k : ℕ) → k < from → limit < get_or values k 0
   pub found : to < length values → (k : ℕ) × (k ≤ to) × (get_or values k 0 ≤ limit)
 
--- one is among the first numbers
+-- one is among the numbers of the first half
 pub between_low : (values : List ℕ) (limit from to middle least : ℕ) → IsBetween values limit from to
-    → from ≤ middle → middle < to → limit < none → IsLeast values 0 (middle + 1) least → least ≤ limit
+    → from ≤ middle → middle < to → limit < none → IsLeast values from (middle + 1) least → least ≤ limit
     → IsBetween values limit from middle
 between_low values limit from to middle least b low high few l h = record {
   order = low;
@@ -194,12 +195,15 @@ between_low values limit from to middle least b low high few l h = record {
 
 -- none is
 pub between_high : (values : List ℕ) (limit from to middle least : ℕ) → IsBetween values limit from to
-    → from ≤ middle → middle < to → IsLeast values 0 (middle + 1) least → limit < least
+    → from ≤ middle → middle < to → IsLeast values from (middle + 1) least → limit < least
     → IsBetween values limit (middle + 1) to
 between_high values limit from to middle least b low high l h = record {
   order = omega arith;
   within = b.within;
-  above = λ k i. omega (arith, l.below k (omega arith) i);
+  above = λ k i. elim (cases_lt k from) [
+    | inl less ↦ b.above k less
+    | inr later ↦ omega (arith, l.below k later i)
+  ];
   found = b.found;
 }
 

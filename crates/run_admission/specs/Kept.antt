@@ -129,7 +129,8 @@ IsSeated t = is_in_use t.1 ≡ true → is_some (seat_group_slot t.1) ≡ is_som
 
 -- the limits are those of these tests, of which so many wait, and there are few tests; there are as many slots as
 -- tests, and of a group as many as it has tests
-pub record IsWhole (waiting : ℕ) (whole : Use) (parts : List Use) (claims : List Claim) (seats : List Seat) : Type 0 where
+pub record IsWhole (waiting : ℕ) (whole : Use) (parts : List Use) (claims : List Claim)
+    (seats : List Seat) : Type 0 where
   pub few : length seats < 2 ^ 32
   pub paired : length claims ≡ length seats
   pub waits : waiting ≡ count_by is_waiting seats

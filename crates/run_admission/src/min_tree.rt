@@ -90,7 +90,7 @@ impl MinTree {
         let mut to = self.many;
         while from < to {
             let middle = from + (to - from) / 2;
-            let least = self.least(0, middle + 1);
+            let least = self.least(from, middle + 1);
             if least <= limit as usize {
                 to = middle;
             } else {

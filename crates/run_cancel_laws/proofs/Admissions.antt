@@ -88,7 +88,8 @@ comes_after p index run new e j below within = by_scripts (scripts_over p (units
 
     by_scripts : (b : Bool) → scripts_over p us ≡ b → (if b
         then test_newcomer p index us
-        else option_and_then (λ i. script_newcomer p index i (slice_get p.plan.scripts i)) (open_script (scripts_of p us)))
+        else option_and_then (λ i. script_newcomer p index i (slice_get p.plan.scripts i))
+            (open_script (scripts_of p us)))
         ≡ Some new → is_done (unit_of j run) ≡ true
     by_scripts true over e = board_over p run over j within
     by_scripts false over e = by_open (open_script (scripts_of p us)) refl e
@@ -128,7 +129,8 @@ joins_is p b turn first en is =
     by_turn (λ turn named. takes_turn p b turn named ≡ true → (done_by p b turn named).part ≡ Some (Joins first)
     → Came p b first)
     (record {
-      begin = λ en. begin_cases (λ d. d.part ≡ Some (Joins first) → Came p b first) (λ told after own later is. cc) b.clock b.dispatcher;
+      begin = λ en. begin_cases (λ d. d.part ≡ Some (Joins first) → Came p b first)
+          (λ told after own later is. cc) b.clock b.dispatcher;
       admit = λ en is. admits (newcomer p (index_of b.dispatcher) b.units) refl is;
       deliver = λ en is. absurd (delivery_not b b.queue first is);
       clock = λ ns en is. cc;
@@ -137,7 +139,8 @@ joins_is p b turn first en is =
           (heard_by b.dispatcher.rules.hearing signal) refl (λ d aside. aside.part)) is;
       global_due = λ en is. cc;
       report_cancel = λ en is. cc;
-      end = λ en. end_cases (λ d. d.part ≡ Some (Joins first) → Came p b first) (λ told after over own later is. cc) b.clock b.dispatcher;
+      end = λ en. end_cases (λ d. d.part ≡ Some (Joins first) → Came p b first)
+          (λ told after over own later is. cc) b.clock b.dispatcher;
       named = λ turn k to other en is. absurd (acts_not b k to _ first is);
       key = λ key en is. aside_not _ (key_aside b.clock (live_in b.units) b.dispatcher
           (heard_key b.dispatcher.rules.hearing.input key)).part is;

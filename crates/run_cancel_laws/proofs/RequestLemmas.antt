@@ -239,7 +239,8 @@ deed_asks p past Begin = begin_cases (λ d. AsksBy (tally p (sub_run past)) Begi
     (clock past) (dispatcher_of p past)
 deed_asks p past End = end_cases (λ d. AsksBy (tally p (sub_run past)) End None d) (λ told after over own later. refl)
     (clock past) (dispatcher_of p past)
-deed_asks p past Admit = admission_asks (tally p (sub_run past)) (newcomer p (index_of (dispatcher_of p past)) (units p (sub_run past)))
+deed_asks p past Admit = admission_asks (tally p (sub_run past))
+    (newcomer p (index_of (dispatcher_of p past)) (units p (sub_run past)))
 deed_asks p past Deliver = delivery_asks (board p past) (queue (sub_run past))
 deed_asks p past (Signal signal) =
     heard_asks past (clock past) (live_in (units p (sub_run past))) (dispatcher_of p past)
@@ -253,7 +254,8 @@ deed_asks p past GlobalDue =
 deed_asks p past ReportCancel =
     caused_asks (moment_by (clock past) (run_watch past)) (tally p (sub_run past)) ReportCancel (Some event_refused)
     nothing_done refl refl refl
-deed_asks p past Answer = answer_asks (board p past) (tally p (sub_run past)) (oldest_of (answers_waiting (sub_run past)))
+deed_asks p past Answer = answer_asks (board p past) (tally p (sub_run past))
+    (oldest_of (answers_waiting (sub_run past)))
 deed_asks p past turn = refl
 
 -- the counts after a deed's own event have the reason of those before

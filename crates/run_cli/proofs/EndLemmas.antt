@@ -45,7 +45,8 @@ pub whole_text : (form : Form) (p : Settings) (turns : List Turn) (w v : Writing
     (joined (form.lines (past_of p x.journal)) ++ (ask_lines (form.asks (asked (past_of p x.journal))) ++ last))
 whole_text form p turns w v asks answer last on x none rest =
     let past : List Happening = past_of p x.journal in
-    takes_both w.taken w.taken_after v.taken_after (joined (form.lines past)) (ask_lines (form.asks (asked past)) ++ last)
+    takes_both w.taken w.taken_after v.taken_after (joined (form.lines past))
+        (ask_lines (form.asks (asked past)) ++ last)
     (x.told none)
     (subst (λ told_asks. HasTaken (record v { taken = w.taken_after }) (ask_lines told_asks ++ last)) x.asked
     (subst (λ t. HasTaken (record v { taken = t }) (ask_lines asks ++ last)) on rest))
@@ -54,7 +55,8 @@ whole_text form p turns w v asks answer last on x none rest =
 pub took_parts : (form : Form) (p : Settings) (turns : List Turn) (w v : Writing) (asks : List (ℕ × Ask))
     (answer : Result RunOutcome (TestRunnerExecuteErrors Failed)) (last : List ℕ) → v.taken ≡ w.taken_after
     → v.faults ≡ w.faults_after → (x : IsExecuted form p turns w asks answer) → Writes v (ask_lines asks ++ last)
-    → TookParts form (past_of p x.journal) (ask_lines (form.asks (asked (past_of p x.journal))) ++ last) (then_writing w v)
+    → TookParts form (past_of p x.journal) (ask_lines (form.asks (asked (past_of p x.journal))) ++
+        last) (then_writing w v)
 took_parts form p turns w v asks answer last on from x writes = record {
   between = w.taken_after;
   count = w.faults_after;

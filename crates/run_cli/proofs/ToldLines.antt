@@ -141,7 +141,8 @@ unfoldable pub executed_from : (form : Form) (p : Settings) (turns : List Turn) 
     (zip (form.lines (past_of p journal)) (map (λ y. y.1) ys))
     → map flagged ys ≡ answers (past_of p journal)
     → first_error ys ≡ refusal → IsExecuted form p turns w asks answer
-executed_from form p turns w refusals asks answer journal refusal ys runnable says marked asked_is fits told flags first =
+executed_from form p turns w refusals asks answer journal refusal ys runnable says marked
+    asked_is fits told flags first =
     let lines = form.lines (past_of p journal) in
     let counted = subst (λ bs. AreCounted bs w.faults w.faults_after) (marks_beside lines ys fits) told.counted in
     record {

@@ -71,7 +71,8 @@ IsReplayEnding form p turns w (Err Unfinished) =
 IsReplayEnding form p turns w (Err Memory) = ⊤
 IsReplayEnding form p turns w (Err _) = ⊥
 
--- whatever turns of a plan this is the answer to, with these lines of asks and with a sink that is left as this writing found
+-- whatever turns of a plan this is the answer to, with these lines of asks and with a sink that is left as this writing
+-- found
 -- it, they end so
 abbrev pub Finishes : Writing → List ℕ → Result RunOutcome (TestRunnerExecuteErrors Failed)
     → Result RunOutcome Fault → Type 0

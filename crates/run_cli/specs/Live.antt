@@ -68,7 +68,8 @@ IsRunEnd said p w live (ends.Outcome o) = IsSomeAnd live (λ l. IsClosed said p 
     × HasTaken w (history_text whole_form (past_of p l.journal) (Ok o))) × (w.faults_after ≡ w.faults)
 IsRunEnd said p w live (ends.Fault Report) = IsSomeAnd live (λ l. IsClosed said p l
     × ((o : RunOutcome) × IsFinished p l.journal o
-    × TookParts whole_form (past_of p l.journal) (rest_text whole_form (past_of p l.journal) (report_ending l.journal o)) w))
+    × TookParts whole_form (past_of p l.journal) (rest_text whole_form (past_of p l.journal)
+        (report_ending l.journal o)) w))
     × HasWriteFault w
 IsRunEnd said p w live (ends.Fault Unfinished) = IsSomeAnd live (λ l. IsClosed said p l
     × (length l.journal ≡ 4294967295) × (is_over (past_of p l.journal) ≡ false))
@@ -166,7 +167,8 @@ pub record GetsLive (r : Reading) (status : ℕ) : Type 0 where
 
 -- what `live` says: one of its ends with this status, and what status each cause gives. The source's count of faults
 -- stays but for status 10 and 11
-pub record AnswersLive {W : Type 0} (has_said : W → List Heard → Type 0) (c : Call) (live : Option (Live W)) (status : ℕ)
+pub record AnswersLive {W : Type 0} (has_said : W → List Heard → Type 0) (c : Call)
+    (live : Option (Live W)) (status : ℕ)
     : Type 0 where
   pub ending : LiveEnding
   pub status_is : status ≡ live_status ending

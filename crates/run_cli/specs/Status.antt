@@ -24,7 +24,8 @@ IsOutcomeStatus status = (status ≡ 0) ⊎ ((status ≡ 4) ⊎ ((status ≡ 100
 
 -- every status of the program
 abbrev pub is_status : ℕ → Bool
-is_status status = list_any (λ known. known == status) (0 ∷ 2 ∷ 3 ∷ 4 ∷ 5 ∷ 6 ∷ 7 ∷ 8 ∷ 9 ∷ 10 ∷ 11 ∷ 12 ∷ 100 ∷ 105 ∷ [])
+is_status status = list_any (λ known. known == status) (0 ∷ 2 ∷ 3 ∷ 4 ∷ 5 ∷ 6 ∷ 7 ∷ 8 ∷ 9 ∷ 10 ∷
+    11 ∷ 12 ∷ 100 ∷ 105 ∷ [])
 
 -- every turn of the input was enabled and the run is over after the last, the bytes that the sink took are the text of
 -- the journal as the command writes it, with the line of the outcome, and nothing else, each script and each test has

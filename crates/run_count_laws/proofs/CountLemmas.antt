@@ -183,12 +183,14 @@ counts_told p journal e legal = by_begin x.begins refl
           it.own.counts);
       cause = says_counts p (reason (x ∷ run)) (told (x ∷ run)) x.after
           (subst (λ t. IfSome x.after (SaysTally t)) (sym same)
-          (if_some_map (SaysAt (moment_by (clock past) (run_watch past)) t) (SaysTally t) x.after (λ e says. says.counts)
+          (if_some_map (SaysAt (moment_by (clock past) (run_watch past)) t) (SaysTally t)
+              x.after (λ e says. says.counts)
           it.after));
     }
       where
         here : Does p (frame_of p past) (clock past) run (deed_on p (board p past) e.turn)
-        here = subst (λ b. Does p (frame_of p past) (clock past) (base_of b run) (deed_on p (board p past) e.turn)) is does
+        here = subst (λ b. Does p (frame_of p past) (clock past) (base_of b run)
+            (deed_on p (board p past) e.turn)) is does
 
         t : Tally
         t = with_cause x.cause (having_told (tally p run) x.told)

@@ -10,8 +10,10 @@ use Rattle.run_model.specs.Turns.{nothing_done}
 
 -- a delivery tells, asks and leaves the same whatever its unit does
 with_told : (b : Board) (m : Message) (answer : Deed) (cause : Option Cause)
-    → deed_events (caused (moment_by b.clock b.dispatcher.watch) (tally_with b (event_of b m)) cause (delivered_as b m answer))
-    ≡ deed_events (caused (moment_by b.clock b.dispatcher.watch) (tally_with b (event_of b m)) cause (delivered_as b m nothing_done))
+    → deed_events (caused (moment_by b.clock b.dispatcher.watch) (tally_with b (event_of b m)) cause
+        (delivered_as b m answer))
+    ≡ deed_events (caused (moment_by b.clock b.dispatcher.watch) (tally_with b (event_of b m)) cause
+        (delivered_as b m nothing_done))
 with_told b m answer None = refl
 with_told b m answer (Some cause) = refl
 
@@ -20,8 +22,10 @@ pub delivery-told : (b : Board) (m : Message) (answer : Deed)
 delivery-told b m answer = with_told b m answer (cause_of b.dispatcher.rules (tally_with b (event_of b m)) m)
 
 with_request : (b : Board) (m : Message) (answer : Deed) (cause : Option Cause)
-    → (caused (moment_by b.clock b.dispatcher.watch) (tally_with b (event_of b m)) cause (delivered_as b m answer)).request
-    ≡ (caused (moment_by b.clock b.dispatcher.watch) (tally_with b (event_of b m)) cause (delivered_as b m nothing_done)).request
+    → (caused (moment_by b.clock b.dispatcher.watch) (tally_with b (event_of b m)) cause
+        (delivered_as b m answer)).request
+    ≡ (caused (moment_by b.clock b.dispatcher.watch) (tally_with b (event_of b m)) cause
+        (delivered_as b m nothing_done)).request
 with_request b m answer None = refl
 with_request b m answer (Some cause) = refl
 
@@ -30,7 +34,8 @@ pub delivery-request : (b : Board) (m : Message) (answer : Deed)
 delivery-request b m answer = with_request b m answer (cause_of b.dispatcher.rules (tally_with b (event_of b m)) m)
 
 with_dispatched : (b : Board) (m : Message) (answer : Deed) (cause : Option Cause)
-    → dispatched b.clock b.dispatcher (caused (moment_by b.clock b.dispatcher.watch) (tally_with b (event_of b m)) cause (delivered_as b m answer))
+    → dispatched b.clock b.dispatcher (caused (moment_by b.clock b.dispatcher.watch) (tally_with b (event_of b m)) cause
+        (delivered_as b m answer))
     ≡ dispatched b.clock b.dispatcher
     (caused (moment_by b.clock b.dispatcher.watch) (tally_with b (event_of b m)) cause (delivered_as b m nothing_done))
 with_dispatched b m answer None = refl

@@ -66,7 +66,8 @@ given_some items last at given item is g = record {
 given_past : {X : Type 0} (items : List X) (last : X) (at : ℕ) (given : List X)
     → None ≡ slice_get items at → WereGiven items last at given → WereGiven items last at (given ++ last ∷ [])
 given_past items last at given none g = record {
-  each = λ k below. given_item items last at given last k g (get_or_past items at last (past_of items at last none)) below;
+  each = λ k below. given_item items last at given last k g (get_or_past items at last
+      (past_of items at last none)) below;
   place = omega (arith, g.place, past_of items at last none, length-append given (last ∷ []));
 }
 
@@ -117,7 +118,8 @@ fed_begun begun now at next said said_at found start b is from some same heard f
     fed_asked begun (at + 1) said said_at heard start b
     (given_some begun (Refused silent_text) at (answers_in heard) b (sym is ∙ from) f.answers) f.words in
     subst (λ (bs : List Begun). IsFed bs next said said_at (heard ++ Asked start b ∷ [])) (sym same)
-    (subst (λ (n : ℕ). IsFed begun n said said_at (heard ++ Asked start b ∷ [])) (sym (some (subst IsSome (sym is) refl)))
+    (subst (λ (n : ℕ). IsFed begun n said said_at (heard ++ Asked start b ∷ []))
+        (sym (some (subst IsSome (sym is) refl)))
     more)
 
 pub fed_refused : (begun now : List Begun) (at next : ℕ) (said : List Said) (said_at : ℕ) (found : Option Begun)

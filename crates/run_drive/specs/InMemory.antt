@@ -29,6 +29,7 @@ pub record WereGiven {X : Type 0} (items : List X) (last : X) (at : ℕ) (given 
   pub place : at ≡ min (length given) (length items)
 
 -- a spawner that answers and says these lists, at these places, was asked and has said this
-pub record IsFed (begun : List Begun) (begun_at : ℕ) (said : List Said) (said_at : ℕ) (heard : List Heard) : Type 0 where
+pub record IsFed (begun : List Begun) (begun_at : ℕ) (said : List Said) (said_at : ℕ)
+    (heard : List Heard) : Type 0 where
   pub answers : WereGiven begun (Refused silent_text) begun_at (answers_in heard)
   pub words : WereGiven said (WaitFailed silent_text) said_at (words_in heard)

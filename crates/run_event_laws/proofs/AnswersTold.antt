@@ -129,9 +129,11 @@ bound_oldest b (Some (Test event)) h = by_kind event.kind h
 
 -- so each turn
 pub tells_oldest_answer : (p : Settings) (b : Board) (turn : Turn) → IfSome (deed_on p b turn).told (TellsOldest b)
-tells_oldest_answer p b Begin = begin_cases (λ d. IfSome d.told (TellsOldest b)) (λ told after own later. bound_oldest b told own)
+tells_oldest_answer p b Begin = begin_cases (λ d. IfSome d.told (TellsOldest b))
+    (λ told after own later. bound_oldest b told own)
     b.clock b.dispatcher
-tells_oldest_answer p b End = end_cases (λ d. IfSome d.told (TellsOldest b)) (λ told after over own later. bound_oldest b told own)
+tells_oldest_answer p b End = end_cases (λ d. IfSome d.told (TellsOldest b))
+    (λ told after over own later. bound_oldest b told own)
     b.clock b.dispatcher
 tells_oldest_answer p b Admit = admission_tells b (newcomer p (index_of b.dispatcher) b.units)
 tells_oldest_answer p b Deliver = delivery_tells b b.queue

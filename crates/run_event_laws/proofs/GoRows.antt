@@ -58,7 +58,8 @@ start_as p index k test slot = record {
 }
 
 abbrev pub go_as : Settings → Option StressIndex → ℕ → PlanTest → TestSlotAssignment → ℕ → Message
-go_as p index k test slot n = if n == 1 then Start (start_as p index k test slot) else Retry (retry_as p index k test slot n)
+go_as p index k test slot n = if n == 1 then Start (start_as p index k test slot) else Retry
+    (retry_as p index k test slot n)
 
 abbrev pub gos_as : Settings → Option StressIndex → ℕ → Option PlanTest → Option TestSlotAssignment → ℕ → List Message
 gos_as p index k (Some test) (Some slot) n = map (go_as p index k test slot) (range_with_len 1 n)
@@ -207,7 +208,8 @@ pub retry_more : (p : Settings) (k n : ℕ) (role : UnitRole) (u : UnitView) (be
     → before ++ gos_in k (option_to_list (retry_message role u))
     ≡ gos_as p (index_of_role role) k (test_of_unit p k) (slots_in_role role) (n + 1)
 retry_more p k n (roles.Script s) u before it here some at was =
-    none_of p (index_of_role (roles.Script s)) k (n + 1) before (was ∙ gos-none p (index_of_role (roles.Script s)) k n (test_of_unit p k))
+    none_of p (index_of_role (roles.Script s)) k (n + 1) before
+        (was ∙ gos-none p (index_of_role (roles.Script s)) k n (test_of_unit p k))
 retry_more p k n (roles.Test t) u before it here some at was =
     ap (λ o. before ++ filter_map (go_in k) (option_to_list (Some (Retry o)))) made
     ∙ ap (λ b. before ++ cons_option (if b then Some (Retry retry) else None) []) (itself k)
@@ -226,7 +228,8 @@ retry_more p k n (roles.Test t) u before it here some at was =
     next =
         let later : (1 + n == 1) ≡ false = grind arith in
         let same : 1 + n ≡ n + 1 = omega arith in
-        ap (λ b. if b then Start (start_as p t.test.stress_index k it.test t.slot) else Retry (retry_as p t.test.stress_index k it.test t.slot (1 + n))) later
+        ap (λ b. if b then Start (start_as p t.test.stress_index k it.test t.slot) else Retry
+            (retry_as p t.test.stress_index k it.test t.slot (1 + n))) later
         ∙ ap (λ n. Retry (retry_as p t.test.stress_index k it.test t.slot n)) same
 
     named : t.test ≡ test_named t.test.stress_index k it.test

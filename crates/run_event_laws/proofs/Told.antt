@@ -194,7 +194,8 @@ pub tells_oldest : (p : Settings) (f : Frame) (refused : Bool) (now : ℕ) (run 
 tells_oldest p f refused now run turn en =
     by_turn (λ turn named. takes_turn p b turn named ≡ true → TellsOldest go (queue run) (done_by p b turn named))
     (record {
-      begin = λ en. begin_cases (TellsOldest go (queue run)) (λ told after own later. bounds_tell told after own later) now
+      begin = λ en. begin_cases (TellsOldest go (queue run))
+          (λ told after own later. bounds_tell told after own later) now
           b.dispatcher;
       admit = λ en. admission_tells go (queue run) (newcomer p (index_in p f) (units p run));
       deliver = λ en. delivery_tells p f now run (queue run);
@@ -205,7 +206,8 @@ tells_oldest p f refused now run turn en =
           (aside_tells go (queue run));
       global_due = λ en. cancels time_is_up;
       report_cancel = λ en. cancels event_refused;
-      end = λ en. end_cases (TellsOldest go (queue run)) (λ told after over own later. bounds_tell told after own later) now
+      end = λ en. end_cases (TellsOldest go (queue run)) (λ told after over own later. bounds_tell
+          told after own later) now
           b.dispatcher;
       key = λ key en. aside_tells go (queue run) _ (key_aside now (live_in b.units) b.dispatcher
           (heard_key b.dispatcher.rules.hearing.input key));

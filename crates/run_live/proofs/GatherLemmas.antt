@@ -16,7 +16,8 @@ use Rattle.run_live.specs.Work.{IsGathered, IsWholeWork}
 -- one list of receipts more
 joined_push : (rss : List (List Receipt)) (rs : List Receipt) → concatenated (rss ++ rs ∷ []) ≡ concatenated rss ++ rs
 joined_push [] rs = append-nil rs
-joined_push (first ∷ rest) rs = ap (λ xs. first ++ xs) (joined_push rest rs) ∙ sym (append_assoc first (concatenated rest) rs)
+joined_push (first ∷ rest) rs = ap (λ xs. first ++ xs) (joined_push rest rs)
+    ∙ sym (append_assoc first (concatenated rest) rs)
 
 length-joined_push : (rss : List (List Receipt)) (rs : List Receipt)
     → length (concatenated (rss ++ rs ∷ [])) ≡ length (concatenated rss) + length rs
@@ -44,7 +45,8 @@ own_push has_said ws rss v new k w rs same before here (inl below) =
     let within : k < length rss = omega arith in
     rw (get_or_append_left ws (v ∷ []) w k below, get_or_append_left rss (new ∷ []) rs k within) (before k w rs below)
 own_push has_said ws rss v new k w rs same before here (inr at) =
-    let of_ws : slice_index_or (ws ++ v ∷ []) k w ≡ v = ap (λ i. slice_index_or (ws ++ v ∷ []) i w) at ∙ get_or-append_seam ws v [] w in
+    let of_ws : slice_index_or (ws ++ v ∷ []) k w ≡ v = ap (λ i. slice_index_or (ws ++ v ∷ []) i w) at
+        ∙ get_or-append_seam ws v [] w in
     let of_rss : slice_index_or (rss ++ new ∷ []) k rs ≡ new =
     ap (λ i. slice_index_or (rss ++ new ∷ []) i rs) (at ∙ sym same) ∙ get_or-append_seam rss new [] rs in
     rw (of_ws, of_rss) here
@@ -86,7 +88,8 @@ pub gathered_push : {W S : Type 0} (has_said : W → List Heard → Type 0) (par
     (rss : List (List Receipt)) (ss : List S) (w : W) (rs : List Receipt) (s : S) → parts_of s ≡ 1
     → amount_of s ≡ length rs → IsGathered has_said ws rss (sum_by parts_of ss) (sum_by amount_of ss)
     → IsOwn has_said w rs
-    → IsGathered has_said (ws ++ w ∷ []) (rss ++ rs ∷ []) (sum_by parts_of (ss ++ s ∷ [])) (sum_by amount_of (ss ++ s ∷ []))
+    → IsGathered has_said (ws ++ w ∷ []) (rss ++ rs ∷ []) (sum_by parts_of (ss ++ s ∷ []))
+        (sum_by amount_of (ss ++ s ∷ []))
 gathered_push has_said parts_of amount_of ws rss ss w rs s one rose g own =
     rw (sum_by_push parts_of ss s, sum_by_push amount_of ss s, one, rose)
     (gathered_more has_said ws rss (sum_by parts_of ss) (sum_by amount_of ss) w rs g own)

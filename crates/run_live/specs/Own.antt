@@ -14,7 +14,8 @@ pub record IsOwn {W : Type 0} (has_said : W → List Heard → Type 0) (w : W) (
   pub own : IsSublist (child_turns rs) (turns_from 0 during)
 
 -- each worker has its list of receipts, at its place, and behind them is that of the ticker
-pub record IsLive {W : Type 0} (has_said : W → List Heard → Type 0) (ws : List W) (rss : List (List Receipt)) : Type 0 where
+pub record IsLive {W : Type 0} (has_said : W → List Heard → Type 0) (ws : List W)
+    (rss : List (List Receipt)) : Type 0 where
   pub lists : length rss ≡ length ws + 1
   pub own : (k : ℕ) (w : W) (rs : List Receipt) → k < length ws
       → IsOwn has_said (slice_index_or ws k w) (slice_index_or rss k rs)

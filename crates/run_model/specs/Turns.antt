@@ -1,15 +1,13 @@
 -- The tables of turns: which turn is enabled on a board, and what it does.
 use Rattle.std.specs.Prelude.{ℕ, ◌+◌, ◌-◌, ◌==◌, ◌^◌, nat_lt, List, [], ◌∷◌, count_by, Bool, true, false, ◌&&◌, not}
-use Rattle.std.specs.Prelude.{Option, Some, None}
-use Rattle.std.specs.Prelude.{is_some, option_map, option_and_then, unwrap_or, if◌then◌else◌}
+use Rattle.std.specs.Prelude.{Option, Some, None, is_some, option_map, option_and_then, unwrap_or, if◌then◌else◌}
 use Rattle.std.specs.List.{list_all, list_any}
 use Rattle.run_events.specs.declared.settings.Settings.{Settings}
 use Rattle.run_events.specs.declared.turn.Turn.{Turn}
 use Rattle.run_events.specs.declared.turn.Turn.TheVariants.{Begin, Admit, Deliver, Started, StartFailed, Exit}
 use Rattle.run_events.specs.declared.turn.Turn.TheVariants.{WaitFailed, Piece, StreamEnd, ReadError, Env, Decide, Clock}
 use Rattle.run_events.specs.declared.turn.Turn.TheVariants.{End, UnitDue as TurnDue, Take, GlobalDue, Signal}
-use Rattle.run_events.specs.declared.turn.Turn.TheVariants.{ReportCancel}
-use Rattle.run_events.specs.declared.turn.Turn.TheVariants.{StopWaitDue, InfoDue, Answer, Key as TurnKey}
+use Rattle.run_events.specs.declared.turn.Turn.TheVariants.{ReportCancel, StopWaitDue, InfoDue, Answer, Key as TurnKey}
 use Rattle.run_events.specs.declared.turn.Turn.TheVariants.{Tick as TurnTick}
 use Rattle.run_events.specs.Hearing.{heard_key}
 use Rattle.run_events.specs.declared.ask.Ask.TheVariants.{StopSelf}
@@ -31,8 +29,7 @@ use Rattle.run_events.specs.declared.events.ReporterEvent.TheVariants.{Tick}
 use Rattle.run_events.specs.declared.events.TestEventKind.TheVariants.{RunStarted, RunFinished, RunPaused, RunContinued}
 use Rattle.run_events.specs.declared.events.TestEventKind.TheVariants.{StressSubRunStarted, StressSubRunFinished}
 use Rattle.run_events.specs.declared.events.TestEventKind.TheVariants.{InfoStarted, InfoResponse as InfoAnswer}
-use Rattle.run_events.specs.declared.events.TestEventKind.TheVariants.{InfoFinished}
-use Rattle.run_events.specs.declared.events.TestEventKind.TheVariants.{InputEnter}
+use Rattle.run_events.specs.declared.events.TestEventKind.TheVariants.{InfoFinished, InputEnter}
 use Rattle.run_events.specs.declared.events.RunFinishedStats.{RunFinishedStats}
 use Rattle.run_events.specs.declared.events.RunFinishedStats.TheVariants.{Single, Stress}
 use Rattle.run_events.specs.declared.stress.StressIndex.{StressIndex}
@@ -53,8 +50,7 @@ use Rattle.run_model.specs.declared.unit_turn.UnitTurn.TheVariants.{StartFailed 
 use Rattle.run_model.specs.declared.unit_turn.UnitTurn.TheVariants.{WaitFailed as UnitWaitFailed, Piece as UnitPiece}
 use Rattle.run_model.specs.declared.unit_turn.UnitTurn.TheVariants.{StreamEnd as UnitStreamEnd}
 use Rattle.run_model.specs.declared.unit_turn.UnitTurn.TheVariants.{ReadError as UnitReadError, Decide as UnitDecide}
-use Rattle.run_model.specs.declared.unit_turn.UnitTurn.TheVariants.{Due as UnitDue}
-use Rattle.run_model.specs.declared.unit_turn.UnitTurn.TheVariants.{Take as UnitTake, Env as UnitEnv}
+use Rattle.run_model.specs.declared.unit_turn.UnitTurn.TheVariants.{Due as UnitDue, Take as UnitTake, Env as UnitEnv}
 use Rattle.run_model.specs.declared.unit_view.UnitView.{UnitView}
 use Rattle.run_model.specs.Unit.{row, takes}
 use Rattle.run_model.specs.Admission.{is_done, Newcomer, newcomer}
@@ -282,8 +278,7 @@ abbrev pub job_event : Tally → JobControlled
 job_event t = record { running = t.running; scripts_running = t.scripts_running }
 
 abbrev pub stops_at : ℕ → DispatcherView → Deed
-stops_at now d =
-    if is_halted d then nothing_done
+stops_at now d = if is_halted d then nothing_done
     else record (tells now d (RunPaused (job_event d.tally))) { request = Some (Stop d.rounds.count) }
 
 abbrev pub continues_at : ℕ → DispatcherView → Deed

@@ -28,7 +28,8 @@ within_one : (b is : Bool) (m d : ℕ) → (if b then 1 else with_one m) ≢ 0 �
     → (if b then 0 else after_decide is d) < (if b then 1 else with_one m)
 within_one true is m d some rest = omega arith
 within_one false is zero d some rest = absurd (some refl)
-within_one false true (suc m) zero some rest = let less = rest (λ e. absurd (omega arith)) in omega (arith, with_one-suc m)
+within_one false true (suc m) zero some rest = let less = rest (λ e. absurd (omega arith)) in
+    omega (arith, with_one-suc m)
 within_one false false (suc m) zero some rest = omega (arith, with_one-suc m)
 within_one false is (suc m) (suc d) some rest =
     let less = rest (λ e. absurd (omega arith)) in omega (arith, with_one-suc m, after-suc is d)
@@ -36,7 +37,8 @@ within_one false is (suc m) (suc d) some rest =
 pub decided_within : (story : List OwnTurn) → newest story ≢ 0 → decided_count story < newest story
 decided_within [] some = absurd (some refl)
 decided_within (t ∷ before) some =
-    within_one (begins_attempt t.turn) (decides t.turn) (newest before) (decided_count before) some (decided_within before)
+    within_one (begins_attempt t.turn) (decides t.turn) (newest before) (decided_count before)
+        some (decided_within before)
 
 -- the attempts of a story, whose newest one has so many turns, so many of them from its decide on
 abbrev cut_at : ℕ → ℕ → List OwnTurn → List Attempt

@@ -11,4 +11,5 @@ item_same (z ∷ xs) (suc i) x y below e f = item_same xs i x y (omega (arith, b
 -- lists that differ at a place differ
 pub differs : {X : Type 0} → (xs ys : List X) (i : ℕ) (x y : X) → i < length xs → x ≡ get_or xs i x → y ≡ get_or ys i y
     → (x ≡ y → ⊥) → xs ≡ ys → ⊥
-differs xs ys i x y below e f apart same = apart (item_same xs i x y below e (subst (λ zs. y ≡ get_or zs i y) (sym same) f))
+differs xs ys i x y below e f apart same = apart (item_same xs i x y below e
+    (subst (λ zs. y ≡ get_or zs i y) (sym same) f))

@@ -37,7 +37,8 @@ of_units p turn each rest later =
 
 due_settled : (p : Settings) → All Settled (of_each p turns.UnitDue ++ last_turns)
 due_settled p =
-    of_units p turns.UnitDue (λ unit. refl) last_turns (three_settled turns.GlobalDue turns.Admit turns.End refl refl refl)
+    of_units p turns.UnitDue (λ unit. refl) last_turns (three_settled turns.GlobalDue turns.Admit
+        turns.End refl refl refl)
 
 settling_settled : (p : Settings) (word : ℕ) → All Settled (settling p word)
 settling_settled p word =

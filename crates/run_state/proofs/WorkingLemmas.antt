@@ -50,6 +50,19 @@ found i (true ∷ bs) (suc k) x is on =
     let below : later.0 < length (places (i + 1) bs) = later.1 in
     (suc later.0, omega arith, later.2)
 
+-- what stands among them is true
+pub flagged : (i : ℕ) (bs : List Bool) (k x : ℕ) → k < length (places i bs) → get_or (places i bs) k 0 ≡ i + x
+    → get_or bs x false ≡ true
+flagged i [] k x below is = absurd (omega arith)
+flagged i (false ∷ bs) k zero below is =
+    let more : i + 1 ≤ get_or (places (i + 1) bs) k 0 = above (i + 1) bs k below in absurd (omega arith)
+flagged i (false ∷ bs) k (suc x) below is = flagged (i + 1) bs k x below (omega arith)
+flagged i (true ∷ bs) zero zero below is = refl
+flagged i (true ∷ bs) zero (suc x) below is = absurd (omega arith)
+flagged i (true ∷ bs) (suc k) zero below is =
+    let more : i + 1 ≤ get_or (places (i + 1) bs) k 0 = above (i + 1) bs k (omega arith) in absurd (omega arith)
+flagged i (true ∷ bs) (suc k) (suc x) below is = flagged (i + 1) bs k x (omega arith) (omega arith)
+
 -- one becomes true: its number comes after those that are no greater
 pub places-put : (i : ℕ) (bs : List Bool) (k at x : ℕ) → x ≡ i + k → k < length bs → get_or bs k false ≡ false
     → at ≤ length (places i bs) → ((j : ℕ) → j < at → get_or (places i bs) j 0 ≤ x)

@@ -1,40 +1,10 @@
 // The numbers of the units that were admitted and aren't over, in ascending order. Contracts speak of a flag for each
 // unit, of which the numbers are the places.
-ghost use Rattle.std.specs.Prelude.{◌≡◌, ◌≢◌, ◌<◌, ◌≤◌, ℕ, List, Bool, length, slice_index_or, slice_set, IfSome};
-ghost use Rattle.std.specs.Prelude.{IsNone};
+ghost use Rattle.std.specs.Prelude.{◌≡◌, ◌<◌, List, Bool, length, slice_index_or, slice_set};
 ghost use Rattle.std.specs.Prelude.{OnOk, OnErr, true, false, not};
 ghost use Rattle.run_state.specs.Counted.{places};
 
 use run_capture::{Mem, OutOfMemory};
-
-// Where a number comes in numbers of ascending order.
-fn place_for(numbers: &[u32], number: u32) -> usize
-    ensures within { result ≤ length numbers.now }
-    ensures before { (k : ℕ) → k < result → slice_index_or numbers.now k 0 ≤ number }
-    ensures after { result < length numbers.now → number < slice_index_or numbers.now result 0 }
-{
-    for (place, other) in numbers.iter().enumerate() {
-        if number < *other {
-            return place;
-        }
-    }
-    numbers.len()
-}
-
-// Where a number stands.
-fn place_of(numbers: &[u32], number: u32) -> Option<usize>
-    ensures some { IfSome result (λ place. slice_index_or numbers.now place 0 ≡ number) }
-    ensures within { IfSome result (λ place. place < length numbers.now) }
-    ensures none { IsNone result → (k : ℕ) → k < length numbers.now → slice_index_or numbers.now k 0
-        ≢ number }
-{
-    for (place, other) in numbers.iter().enumerate() {
-        if *other == number {
-            return Some(place);
-        }
-    }
-    None
-}
 
 // Puts a number at its place.
 fn put_in(numbers: &mut Vec<u32>, number: u32) -> Mem<()>
@@ -44,7 +14,7 @@ fn put_in(numbers: &mut Vec<u32>, number: u32) -> Mem<()>
         ≡ places 0 (slice_set flags number true)) }
     ensures err { OnErr result (numbers.new.items ≡ numbers.old.items) }
 {
-    let place = place_for(numbers.as_slice(), number);
+    let (Ok(place) | Err(place)) = numbers.as_slice().binary_search(&number);
     match numbers.insert(place, number) {
         Ok(()) => Ok(()),
         Err(_) => Err(OutOfMemory),
@@ -57,7 +27,7 @@ fn take_out(numbers: &mut Vec<u32>, number: u32)
         → slice_index_or flags number false ≡ true
         → numbers.new.items ≡ places 0 (slice_set flags number false) }
 {
-    if let Some(place) = place_of(numbers.as_slice(), number) {
+    if let Ok(place) = numbers.as_slice().binary_search(&number) {
         numbers.remove(place);
     }
 }

@@ -92,7 +92,8 @@ length-reach_all (Some request) us = length-map us (option_map (reached request)
 units-cons : (p : Settings) (x : Happening) (run : List Happening)
     → reach_all x.request (units_after x.moment x.part (units p run)) ≡ units p (x ∷ run)
 units-cons p x run =
-    fill_by_all (λ k. unit_of k (x ∷ run)) (reach_all x.request (units_after x.moment x.part (units p run))) (units_in p)
+    fill_by_all (λ k. unit_of k (x ∷ run)) (reach_all x.request
+        (units_after x.moment x.part (units p run))) (units_in p)
     None
     (length-reach_all x.request (units_after x.moment x.part (units p run)) ∙ moved)
     (λ k h. at_reach x.request (units_after x.moment x.part (units p run)) k (omega (arith, moved))
@@ -158,14 +159,16 @@ frame-cons p past base e d joins does =
     x = said (clock past) e d
 
     by_end : (b : Bool) → d.ends ≡ b
-        → sub_runs_of p (x ∷ past) ≡ (if b then with_sub_run (tally p base).stats (sub_runs_of p past) else sub_runs_of p past)
+        → sub_runs_of p (x ∷ past) ≡ (if b then with_sub_run (tally p base).stats (sub_runs_of p past)
+            else sub_runs_of p past)
     by_end true ends =
         ap (sub_runs_in p) (ap (λ b. if b then sub_run (x ∷ past) ∷ ended_runs past else ended_runs past) ends)
         ∙ ap (λ run. sub_runs_in p (run ∷ ended_runs past)) joins
         ∙ one_more p (x ∷ base) (ended_runs past)
         ∙ ap (λ (t : Tally). with_sub_run t.stats (sub_runs_of p past))
         (ended_tally p (frame_of p past) (clock past) base e d does ends)
-    by_end false ends = ap (sub_runs_in p) (ap (λ b. if b then sub_run (x ∷ past) ∷ ended_runs past else ended_runs past) ends)
+    by_end false ends = ap (sub_runs_in p)
+        (ap (λ b. if b then sub_run (x ∷ past) ∷ ended_runs past else ended_runs past) ends)
 
 -- the board as a sub-run begins is that of one in which nothing has happened
 anew-is : (p : Settings) (f : Frame) (refused : Bool) (now : ℕ) (run : List Happening)

@@ -108,7 +108,8 @@ bound_answers (Some (Test e)) h tells = by_kind e.kind h tells
 -- the begin of a sub-run, of which nothing has happened
 begun : (p : Settings) (f : Frame) (now : ℕ) (told after : Option ReporterEvent) → IsBound told → IsBoundAfter after
     → Does p f now [] (bound_deed told after true false false)
-begun p f now told after own later = bound_does p f now [] told after true false false (holds-none p now) own later (record {
+begun p f now told after own later = bound_does p f now [] told after true false false
+    (holds-none p now) own later (record {
   cancel = λ h. cc;
   bounds = λ _. (own, later, refl);
   begins = λ _. (
@@ -171,4 +172,5 @@ end_does p f now run h on complete = by_stress p.stress refl
     by_stress None is = subst (Does p f now run) (ap (ends_as now d) (sym is))
         (ended _ None true tt tt (ap (ends_as now d) (sym is)))
     by_stress (Some condition) is = subst (Does p f now run) (ap (ends_as now d) (sym is))
-        (ended _ _ (stops_with now d condition) tt (last condition (stops_with now d condition)) (ap (ends_as now d) (sym is)))
+        (ended _ _ (stops_with now d condition) tt (last condition (stops_with now d condition))
+            (ap (ends_as now d) (sym is)))

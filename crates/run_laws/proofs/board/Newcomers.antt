@@ -1,9 +1,8 @@
 -- Who is admitted, and as what.
-use Rattle.std.proofs.Common.{◌≡◌, ◌⊎◌, inl, inr, ℕ, suc, ◌+◌, ◌-◌, ◌<◌, List, [], ◌∷◌, drop, length, get_or, map}
-use Rattle.std.proofs.Common.{Bool, true, false}
+use Rattle.std.proofs.Common.{◌≡◌, ◌⊎◌, inl, inr, ℕ, suc, ◌+◌, ◌-◌, ◌<◌, List, [], ◌∷◌, drop, length, get_or, map, Bool}
+use Rattle.std.proofs.Common.{true, false, if◌then◌else◌, Option, Some, None, option_and_then, option_map, is_none}
+use Rattle.std.proofs.Common.{is_some, slice_get, refl, ap, sym, subst, ◌∙◌, arith}
 use Rattle.std.proofs.lemmas.Bool.Decides.{nat_tests}
-use Rattle.std.proofs.Common.{if◌then◌else◌, Option, Some, None, option_and_then, option_map, is_none, is_some}
-use Rattle.std.proofs.Common.{slice_get, refl, ap, sym, subst, ◌∙◌, arith}
 use Rattle.std.proofs.lemmas.List.{get_or-drop, get_or-take, get_or-map, length-drop, length-map}
 use Rattle.std.proofs.lemmas.Option.{slice_get_within, slice_get-map, same_Some}
 use Rattle.run_events.specs.declared.settings.Settings.{Settings}
@@ -27,9 +26,8 @@ use Rattle.run_model.specs.Admission.{is_last, is_script, scripts_in, units_in, 
 use Rattle.run_model.specs.Admission.{seat_of, limits_of, slots_of, first_view, script_view, handed_to, Newcomer}
 use Rattle.run_model.specs.Admission.{skipped_newcomer, started_newcomer, terms_of, terms_if, script_terms_if}
 use Rattle.run_model.specs.Admission.{unit_terms, newcomer_skipped, newcomer_as, test_of, test_newcomer, scripts_of}
-use Rattle.run_model.specs.Admission.{open_script, script_newcomer, newcomer}
+use Rattle.run_model.specs.Admission.{open_script, script_newcomer, newcomer, index_of_role}
 use Rattle.run_model.specs.Accounts.{is_skip, is_mismatched}
-use Rattle.run_model.specs.Admission.{index_of_role}
 use Rattle.run_events.specs.declared.stress.StressIndex.{StressIndex}
 use Rattle.run_laws.proofs.board.Holds.{is_script_role}
 use Rattle.run_laws.proofs.units.AccountLemmas.{IsFirst}
@@ -47,7 +45,8 @@ Becomes p index us place test new =
     (first_view p index (unit_of_test p place) (slots_of test global slot) (handed_to p us test) test)))))
 
 -- who is admitted: a test of the plan that wasn't yet
-pub record Newcomes (p : Settings) (index : Option StressIndex) (us : List (Option UnitView)) (new : Newcomer) : Type 0 where
+pub record Newcomes (p : Settings) (index : Option StressIndex) (us : List (Option UnitView))
+    (new : Newcomer) : Type 0 where
   pub place : ℕ
   pub test : PlanTest
   pub absent : get_or (drop (scripts_in p) us) place None ≡ None
@@ -56,7 +55,8 @@ pub record Newcomes (p : Settings) (index : Option StressIndex) (us : List (Opti
   pub is : Becomes p index us place test new
 
 -- or the next script, which wasn't yet either
-pub record ScriptComes (p : Settings) (index : Option StressIndex) (us : List (Option UnitView)) (new : Newcomer) : Type 0 where
+pub record ScriptComes (p : Settings) (index : Option StressIndex) (us : List (Option UnitView))
+    (new : Newcomer) : Type 0 where
   pub place : ℕ
   pub script : PlanScript
   pub absent : get_or us place None ≡ None
@@ -76,7 +76,8 @@ absent_where (Some u) e = by_end (is_last u.phase) u.role e
 -- the place of an open script is that of no unit yet
 open_absent : (us : List (Option UnitView)) (i : ℕ) → open_script us ≡ Some i → get_or us i None ≡ None
 open_absent [] i e = cc
-open_absent (None ∷ us) i e = let first : 0 ≡ i = same_Some _ _ e in subst (λ i. get_or (None ∷ us) i None ≡ None) first refl
+open_absent (None ∷ us) i e = let first : 0 ≡ i = same_Some _ _ e in
+    subst (λ i. get_or (None ∷ us) i None ≡ None) first refl
 open_absent (Some u ∷ us) i e = by_last (is_last u.phase) (λ j. open_absent us j) e
   where
     Rest : Type 0
@@ -224,7 +225,8 @@ newcomer_is p index us new e = by_scripts (scripts_over p us) refl e
 
     by_scripts : (b : Bool) → scripts_over p us ≡ b → (if b
         then test_newcomer p index us
-        else option_and_then (λ i. script_newcomer p index i (slice_get p.plan.scripts i)) (open_script (scripts_of p us)))
+        else option_and_then (λ i. script_newcomer p index i (slice_get p.plan.scripts i))
+            (open_script (scripts_of p us)))
         ≡ Some new → Newcomes p index us new ⊎ ScriptComes p index us new
     by_scripts true over e = inl (by_admitted (admitted (limits_of p us)) over refl e)
     by_scripts false over e = inr (by_open (open_script (scripts_of p us)) refl e)

@@ -1,7 +1,7 @@
 -- What a unit's own turn does, and the delivery of its start and of its retry, fits the sub-run before it.
 use Rattle.std.proofs.Common.{◌≡◌, ℕ, zero, suc, ◌<◌, ◌||◌, ◌==◌, List, [], ◌∷◌, ◌++◌, drop, Bool, true, false, not}
-use Rattle.std.proofs.Common.{if◌then◌else◌, Option, Some, None, option_and_then, option_map, option_to_list}
-use Rattle.std.proofs.Common.{is_none, is_some, IfSome, refl, ap, sym, subst, ◌∙◌, arith}
+use Rattle.std.proofs.Common.{if◌then◌else◌, Option, Some, None, option_and_then, option_map, option_to_list, is_none}
+use Rattle.std.proofs.Common.{is_some, IfSome, refl, ap, sym, subst, ◌∙◌, arith}
 use Rattle.std.specs.Option.{option_or}
 use Rattle.std.proofs.lemmas.List.{append-nil}
 use Rattle.run_events.specs.declared.settings.Settings.{Settings}
@@ -152,8 +152,7 @@ unit_does p f now run j turn (Some u) h e en other = record {
     unit = u;
     is = e;
     takes = en;
-    answers = λ go is. let same : is_answer turn ≡ true = ap is_answer is in
-        cc;
+    answers = λ go is. let same : is_answer turn ≡ true = ap is_answer is in cc;
   };
   index = tt;
   room = omega (arith, h.fits);
@@ -238,7 +237,8 @@ start_does p f now run i m kind rest go (Some u) h on goes eq pends news silent 
       reported = λ k. acts_reported p f now run i (Answered go) u k _ h ew waiting refl refl refl
           (rw eq (start_reports k go));
       source = sent_for run i (Answered go) u (row now (Answered go) u).sent ew
-          (row_sends_role now u.phase (Answered go) (at_moment now u) refl (takes_moment now u.phase u (Answered go) waiting));
+          (row_sends_role now u.phase (Answered go) (at_moment now u) refl
+              (takes_moment now u.phase u (Answered go) waiting));
       asks = sym (ap (option_and_then (λ v. (row now (Answered go) v).asked)) ew);
       sent_as = sym (ap (option_and_then (λ v. (row now (Answered go) v).sent)) ew);
       order = in_order go (order (ap is_some ew));
@@ -263,8 +263,7 @@ start_does p f now run i m kind rest go (Some u) h on goes eq pends news silent 
         by_reason None = refl
         by_reason (Some why) = refl
 
-        by_unit : (b : Bool) → (i == k) ≡ b
-            → left_with k run (Some (Acts i (Answered go))) ≡ was_left k run
+        by_unit : (b : Bool) → (i == k) ≡ b → left_with k run (Some (Acts i (Answered go))) ≡ was_left k run
         by_unit true e =
             let waits : IsWaiting (way_of k run) =
             undelivered (is_mismatched p k) u (way_of k run) at (on_way k u ew e) in
@@ -281,8 +280,7 @@ start_does p f now run i m kind rest go (Some u) h on goes eq pends news silent 
     in_order true order = order
     in_order false order = tt
 
-    told_events : (go : Bool)
-        → option_to_list (option_map (event_in now f) (if go then Some kind else None)) ++ []
+    told_events : (go : Bool) → option_to_list (option_map (event_in now f) (if go then Some kind else None)) ++ []
         ≡ option_to_list (if go then Some (event_in now f kind) else None)
     told_events true = refl
     told_events false = refl
@@ -335,7 +333,8 @@ retry_does p f now run retry rest go (Some u) h on goes eq ew =
       reported = λ k. acts_reported p f now run retry.start.test.unit (Answered go) u k _ h ew waiting refl refl refl
           (rw eq (retry_reports k go));
       source = sent_for run retry.start.test.unit (Answered go) u (row now (Answered go) u).sent ew
-          (row_sends_role now u.phase (Answered go) (at_moment now u) refl (takes_moment now u.phase u (Answered go) waiting));
+          (row_sends_role now u.phase (Answered go) (at_moment now u) refl
+              (takes_moment now u.phase u (Answered go) waiting));
       asks = sym (ap (option_and_then (λ v. (row now (Answered go) v).asked)) ew);
       sent_as = sym (ap (option_and_then (λ v. (row now (Answered go) v).sent)) ew);
       order = in_order go;

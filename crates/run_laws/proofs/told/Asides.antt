@@ -193,7 +193,8 @@ stops_alone p b turn =
       global_due = λ s. refl;
       report_cancel = λ s. refl;
       end = end_cases (λ d. d.stops ≡ true → d.part ≡ None) (λ told after over own later s. refl) b.clock b.dispatcher;
-      key = λ key s. (key_aside b.clock (live_in b.units) b.dispatcher (heard_key b.dispatcher.rules.hearing.input key)).part;
+      key = λ key s. (key_aside b.clock (live_in b.units) b.dispatcher
+          (heard_key b.dispatcher.rules.hearing.input key)).part;
       tick = λ s. refl;
       stop_wait_due = λ s. refl;
       answer = λ s. (answer_aside b (oldest_of b.answers)).part;
@@ -214,6 +215,7 @@ stops_alone p b turn =
     delivers [] s = refl
     delivers (m ∷ rest) s =
         let t : Tally = tally_by b.clock b.dispatcher m in
-        let never : false ≡ true = sym (by_cause (moment_by b.clock b.dispatcher.watch) t (cause_of b.dispatcher.rules t m)
+        let never : false ≡ true = sym (by_cause (moment_by b.clock b.dispatcher.watch) t
+            (cause_of b.dispatcher.rules t m)
         (hears b.clock b.dispatcher m (answer_to b (starting m) (go_of b.dispatcher.tally m))) refl) ∙ s in
         cc

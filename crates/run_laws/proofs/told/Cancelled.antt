@@ -155,7 +155,8 @@ own : (p : Settings) (past : List Happening) (turn : Turn)
     → TellsOwn (sub_run past) (deed_on p (board p past) turn).told
 own p past turn = by_turn (λ turn named. TellsOwn run (done_by p b turn named).told)
     (record {
-      begin = begin_cases (λ d. TellsOwn run d.told) (λ told after own later. bound_own told own) (clock past) b.dispatcher;
+      begin = begin_cases (λ d. TellsOwn run d.told) (λ told after own later. bound_own told own)
+          (clock past) b.dispatcher;
       admit = admits_own run (newcomer p (index_of b.dispatcher) (units p run));
       deliver = delivers_own p past (queue run);
       named = λ turn k to other. (tt, tt);
@@ -164,7 +165,8 @@ own p past turn = by_turn (λ turn named. TellsOwn run (done_by p b turn named).
           (heard_by p.plan.hearing signal) (tt, tt) (aside_own run);
       global_due = (tt, tt);
       report_cancel = (tt, tt);
-      end = end_cases (λ d. TellsOwn run d.told) (λ told after over own later. bound_own told own) (clock past) b.dispatcher;
+      end = end_cases (λ d. TellsOwn run d.told) (λ told after over own later. bound_own told own)
+          (clock past) b.dispatcher;
       key = λ key. aside_own run _ (key_aside (clock past) (live_in (units p run)) b.dispatcher
           (heard_key p.plan.hearing.input key));
       tick = aside_own run _ tick_aside;

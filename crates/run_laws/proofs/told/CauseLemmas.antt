@@ -161,8 +161,10 @@ pub cause_is : (p : Settings) (past : List Happening) (turn : Turn)
     → (deed_on p (board p past) turn).cause ≡ cause_by p (sub_run past) turn (deed_on p (board p past) turn).told
 cause_is p past Admit = admits_none (newcomer p (index_of (dispatcher_of p past)) (units p (sub_run past)))
 cause_is p past Deliver = delivery_is p (board p past) (queue (sub_run past)) refl
-cause_is p past Begin = begin_cases (λ d. d.cause ≡ None) (λ told after own later. refl) (clock past) (dispatcher_of p past)
-cause_is p past End = end_cases (λ d. d.cause ≡ None) (λ told after over own later. refl) (clock past) (dispatcher_of p past)
+cause_is p past Begin = begin_cases (λ d. d.cause ≡ None) (λ told after own later. refl)
+    (clock past) (dispatcher_of p past)
+cause_is p past End = end_cases (λ d. d.cause ≡ None) (λ told after over own later. refl)
+    (clock past) (dispatcher_of p past)
 cause_is p past (Signal signal) = by_heard p past signal (heard_by p.plan.hearing signal)
 cause_is p past (Key key) =
     (key_aside (clock past) (live_in (units p (sub_run past))) (dispatcher_of p past)

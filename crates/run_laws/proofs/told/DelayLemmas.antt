@@ -109,8 +109,10 @@ part_adds : (p : Settings) (f : Frame) (now : ℕ) (run : List Happening) (k : �
     (sent : Option Message) → Holds p now run → PartFits p now run part → IsSentAs now run part sent
     → delays_by (unit_terms p k) (pieces (option_to_list (own_turn k now part (line_of k run)) ++ story_of k run))
     ≡ delays_by (unit_terms p k) (pieces_of k run) ++ delays_sent k sent
-part_adds p f now run k None sent h fits from = rw from (sym (append-nil (delays_by (unit_terms p k) (pieces_of k run))))
-part_adds p f now run k (Some (Joins u)) None h fits from = sym (append-nil (delays_by (unit_terms p k) (pieces_of k run)))
+part_adds p f now run k None sent h fits from = rw from
+    (sym (append-nil (delays_by (unit_terms p k) (pieces_of k run))))
+part_adds p f now run k (Some (Joins u)) None h fits from = sym
+    (append-nil (delays_by (unit_terms p k) (pieces_of k run)))
 part_adds p f now run k (Some (Joins u)) (Some m) h fits (skipped, from) =
     sym (append-nil (delays_by (unit_terms p k) (pieces_of k run)))
     ∙ sym (ap (λ ds. delays_by (unit_terms p k) (pieces_of k run) ++ ds) (first_none k skipped u m from))
@@ -145,7 +147,8 @@ part_adds p f now run k (Some (Acts j turn)) sent h taken from = by_unit (j == k
         (once_later now u (tried_once p now run k u h is))
         (later_pieces u.terms now u.phase u (pieces_of k run) (h.named k u is).2
         (subst (λ terms. HasPieces terms u.phase u (pieces_of k run)) (sym made.terms) made.has)) made.attempt in
-        subst (λ terms. delays_by terms (pieces (own ∷ story_of k run)) ≡ delays_by terms (pieces_of k run) ++ delays_sent k sent)
+        subst (λ terms. delays_by terms (pieces (own ∷ story_of k run)) ≡ delays_by terms
+            (pieces_of k run) ++ delays_sent k sent)
         made.terms (own_row ∙ ap (λ n. delays_by u.terms (pieces_of k run) ++ delays_sent n (row now turn u).sent) named
         ∙ ap (λ m. delays_by u.terms (pieces_of k run) ++ delays_sent k m) (sym row_sent))
     by_unit false e =
@@ -206,7 +209,8 @@ delivery_keeps k b [] = refl
 delivery_keeps k b (ScriptStart start ∷ rest) =
     told_if k _ (ScriptStarted start) (ScriptStart start) rest (may_go b.dispatcher.tally) refl refl
 delivery_keeps k b (Start start ∷ rest) =
-    told_if k _ (started_event start (with_start b.dispatcher.tally)) (Start start) rest (may_go b.dispatcher.tally) refl
+    told_if k _ (started_event start (with_start b.dispatcher.tally)) (Start start) rest
+        (may_go b.dispatcher.tally) refl
     refl
 delivery_keeps k b (Retry retry ∷ rest) =
     told_if k _ (retried_event retry b.dispatcher.tally) (Retry retry) rest (may_go b.dispatcher.tally) refl refl
@@ -214,11 +218,13 @@ delivery_keeps k b (ScriptSlow slow ∷ rest) = refl
 delivery_keeps k b (Slow slow ∷ rest) = refl
 delivery_keeps k b (Skip skip ∷ rest) = refl
 delivery_keeps k b (AttemptFailed failure ∷ rest) =
-    told_so k (moment_by b.clock b.dispatcher.watch) (failed_event failure b.dispatcher.tally) (AttemptFailed failure) rest refl
+    told_so k (moment_by b.clock b.dispatcher.watch) (failed_event failure b.dispatcher.tally)
+        (AttemptFailed failure) rest refl
 delivery_keeps k b (Finish finish ∷ rest) =
     let tells : Option ReporterEvent = event_of b (Finish finish) in
     caused_keeps k (moment_by b.clock b.dispatcher.watch) (Finish finish ∷ rest) (tally_with b tells)
-    (cause_of b.dispatcher.rules (tally_with b tells) (Finish finish)) (delivered_as b (Finish finish) nothing_done) refl refl
+    (cause_of b.dispatcher.rules (tally_with b tells) (Finish finish))
+        (delivered_as b (Finish finish) nothing_done) refl refl
 delivery_keeps k b (ScriptFinish finish ∷ rest) =
     let tells : Option ReporterEvent = event_of b (ScriptFinish finish) in
     caused_keeps k (moment_by b.clock b.dispatcher.watch) (ScriptFinish finish ∷ rest) (tally_with b tells)
@@ -272,7 +278,8 @@ keeps : (p : Settings) (b : Board) (k : ℕ) (turn : Turn) → KeepsDelays k b.q
 keeps p b k turn =
     by_turn (λ turn named. KeepsDelays k b.queue (done_by p b turn named))
     (record {
-      begin = begin_cases (KeepsDelays k b.queue) (λ told after own later. bound_keeps k b.queue told after true false false own later)
+      begin = begin_cases (KeepsDelays k b.queue) (λ told after own later. bound_keeps k b.queue told after
+          true false false own later)
           b.clock b.dispatcher;
       admit = admission_keeps k b.queue (newcomer p (index_of b.dispatcher) b.units);
       deliver = delivery_keeps k b b.queue;
@@ -283,7 +290,8 @@ keeps p b k turn =
           (aside_keeps k b.queue);
       global_due = cancels time_is_up;
       report_cancel = cancels event_refused;
-      end = end_cases (KeepsDelays k b.queue) (λ told after over own later. bound_keeps k b.queue told after false true over own later)
+      end = end_cases (KeepsDelays k b.queue) (λ told after over own later. bound_keeps k b.queue told after
+          false true over own later)
           b.clock b.dispatcher;
       key = λ key. aside_keeps k b.queue _ (key_aside b.clock (live_in b.units) b.dispatcher
           (heard_key b.dispatcher.rules.hearing.input key));
@@ -346,6 +354,7 @@ own_delays p (e ∷ before) legal k = one_more (own_delays p before legal.2 k) (
             keeps_base true is =
                 let bounds = of.does.marks.bounds (ap (λ b. b || d.ends) is) in
                 subst (λ q. KeepsDelays k q d) (sym (here true is))
-                (rw (of.does.marks.begins is).1.taken (ap (λ ds. ds ++ []) (bounds_none k d.told d.after bounds.0 bounds.1)))
+                (rw (of.does.marks.begins is).1.taken (ap (λ ds. ds ++ [])
+                    (bounds_none k d.told d.after bounds.0 bounds.1)))
             keeps_base false is = subst (λ q. KeepsDelays k q d) (sym (here false is)) (keeps p (board p past) k e.turn)
         by_run (inr none) = subst (λ run. AreDelaysOwn p run k) (sym none.still) refl

@@ -261,7 +261,8 @@ finishes-cons p f now run e d h does was = record {
     by_sent : (o : Option Message) → IfSome (finish_if o) Later
         → All (λ m. IfSome (finish_said m) Later) (option_to_list o)
     by_sent None it = All-nil (λ m. IfSome (finish_said m) Later)
-    by_sent (Some m) it = All-cons (λ m. IfSome (finish_said m) Later) m [] it (All-nil (λ m. IfSome (finish_said m) Later))
+    by_sent (Some m) it = All-cons (λ m. IfSome (finish_said m) Later) m [] it
+        (All-nil (λ m. IfSome (finish_said m) Later))
 
     one : (x : ReporterEvent) (o : Option ScriptFinish) → script_told x ≡ o → IsInOrder p run x → IfSome o Later
     one x None is order = tt

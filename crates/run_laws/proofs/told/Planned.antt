@@ -68,7 +68,8 @@ face_after p run now k (Some (Joins first)) v (first_sent, new) is = by_unit (nu
 face_after p run now k (Some (Acts j turn)) v taken is = by_unit (j == k)
   where
     by_unit : (b : Bool)
-        → option_map face (if b then option_map (λ w. (row now turn w).next) (unit_of k run) else unit_of k run) ≡ Some v
+        → option_map face (if b then option_map (λ w. (row now turn w).next) (unit_of k run)
+            else unit_of k run) ≡ Some v
     by_unit true = face_row now turn (unit_of k run) ∙ is
     by_unit false = is
 
@@ -118,7 +119,8 @@ planned_kept p now run e d k u all fits (inr test) = inr (record {
   slot = test.slot;
   kind = test.kind;
   planned = test.planned;
-  is = test.is ∙ ap (λ vs. first_view p (index_of_role u.role) k test.slot vs test.test) (handed_kept p now run e d test.test (all test.kind) fits);
+  is = test.is ∙ ap (λ vs. first_view p (index_of_role u.role) k test.slot vs test.test)
+      (handed_kept p now run e d test.test (all test.kind) fits);
 })
 
 planned_face : (p : Settings) (us : List (Option UnitView)) (k : ℕ) (u : UnitView) → IsPlanned p us k u

@@ -98,7 +98,8 @@ pub record ActsReport (terms : AttemptTerms) (k now : ℕ) (part : Option UnitPa
       ≡ reports_by terms.slow (pieces story) ++ reports_waiting k (option_to_list sent)
 
 pub acts_report : (terms : AttemptTerms) (k now j : ℕ) (turn : UnitTurn) (u : UnitView) (v : Option UnitView)
-    (line : List Request) (story : List OwnTurn) → takes now u turn ≡ true → u.latest ≤ now → IsTriedOnce u → (number u) ≡ j
+    (line : List Request) (story : List OwnTurn) → takes now u turn ≡ true → u.latest ≤ now
+        → IsTriedOnce u → (number u) ≡ j
     → ((j == k) ≡ true → request_of turn line ≡ request_of turn u.line)
     → ((j == k) ≡ true → v ≡ Some u) → IsMadeIf terms v story
     → ActsReport terms k now (Some (Acts j turn)) line story (row now turn u).asked (row now turn u).sent
@@ -115,7 +116,8 @@ acts_report terms k now j turn u v line story en le once named oldest same made 
         let said = own_said terms now turn u story en le once is_made in
         record {
           asks = rw (e, oldest e) (said.asks
-              ∙ ap (λ i. signals_by terms.stops terms.slow (pieces story) ++ signals_for i (row now turn u).asked) here);
+              ∙ ap (λ i. signals_by terms.stops terms.slow (pieces story)
+                  ++ signals_for i (row now turn u).asked) here);
           sends = rw (e, oldest e) (said.sends
               ∙ ap (λ i. reports_by terms.slow (pieces story)
               ++ reports_waiting i (option_to_list (row now turn u).sent)) here);

@@ -174,7 +174,8 @@ slots_all : (p : Settings) (f : Frame) (now : ℕ) (run : List Happening) (k : �
     → slots_told k es ≡ Some slot
 slots_all p f now run k index slot vs test [] h is of some = cc
 slots_all p f now run k index slot vs test (e ∷ es) h is of some =
-    by_start (slots_all p f now run k index slot vs test es h is (All-tail (IsToldOfUnit p run) e es of)) (starts k e) refl
+    by_start (slots_all p f now run k index slot vs test es h is
+        (All-tail (IsToldOfUnit p run) e es of)) (starts k e) refl
     some
   where
     by_start : (list_any (starts k) es ≡ true → slots_told k es ≡ Some slot) → (b : Bool) → starts k e ≡ b
@@ -200,7 +201,8 @@ planned_is p f now run k v h has matched is some =
     by_planned : IsPlanned p (units p run) k v → planned_unit p (index_of_role v.role) run k ≡ Some v
     by_planned (inl script) = rw (script.kind, script.planned) (ap Some (sym script.is))
     by_planned (inr test) =
-        let slots = slots_all p f now run k (index_of_role v.role) test.slot (handed_to p (units p run) test.test) test.test (told run) h
+        let slots = slots_all p f now run k (index_of_role v.role) test.slot
+            (handed_to p (units p run) test.test) test.test (told run) h
         (is ∙ ap Some test.is) has.told some in
         let given = given_handed p f now run test.test h has (h.admitted k test.kind admitted) in
         rw (test.kind, test.planned, slots, given) (ap Some (sym test.is))
@@ -283,7 +285,8 @@ asked_so p f now index run k h has indexed = has.asked k ∙ by_pieces (length (
         (pending_of k (queue run)) made some account in
         sym (planned_is p f now run k (face u) h has
         (matched (is_mismatched p k) refl u made some account) (ap (option_map face) is) started)
-        ∙ ap (λ index. planned_unit p index run k) (index_of_face index run k (face u) indexed (ap (option_map face) is))
+        ∙ ap (λ index. planned_unit p index run k) (index_of_face index run k (face u) indexed
+            (ap (option_map face) is))
       where
         matched : (b : Bool) → is_mismatched p k ≡ b → (u : UnitView) → IsMade (unit_terms p k) u (pieces_of k run)
             → 0 < length (pieces_of k run)
@@ -305,7 +308,8 @@ start_begins Tick m is = cc
 start_begins (Test event) m is = by_kind event.kind is
   where
     by_kind : (kind : TestEventKind) → start_told_in kind ≡ Some m → starts_in (number_said m) kind ≡ true
-    by_kind (SetupScriptStarted s) is = ap (λ m. s.script.unit == number_said m) (sym (same_Some _ _ is)) ∙ itself s.script.unit
+    by_kind (SetupScriptStarted s) is = ap (λ m. s.script.unit == number_said m)
+        (sym (same_Some _ _ is)) ∙ itself s.script.unit
     by_kind (TestStarted s) is =
         ap (λ m. s.start.test.unit == number_said m) (sym (same_Some _ _ is)) ∙ itself s.start.test.unit
     by_kind kind is = cc
@@ -334,7 +338,8 @@ told_so p f now index run (e ∷ es) h has indexed among of =
         let some : starts it.unit e ≡ true =
         ap (λ k. starts k e) (start_number p f now run m h it) ∙ start_begins e m is in (
           it.unit,
-          ap (option_map message_of) (ap (λ index. planned_unit p index run it.unit) (sym (index_of_face index run it.unit it.view indexed it.is))
+          ap (option_map message_of) (ap (λ index. planned_unit p index run it.unit)
+              (sym (index_of_face index run it.unit it.view indexed it.is))
               ∙ planned_is p f now run it.unit it.view h has it.matched it.is
               (among it.unit (first (starts it.unit e) (list_any (starts it.unit) es) some))) ∙ ap Some it.sent,
         )

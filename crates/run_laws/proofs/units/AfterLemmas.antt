@@ -66,7 +66,8 @@ decide_made now word u piece earlier le a start past = by_retry (has_retry u) (s
         made_at (delayed now (next_delay word u) u).next Delay (cut piece (d ∷ [])) earlier refl a start (
           (past, e, delay),
           refl,
-          subst (λ n. KeepsSome (Some (record { set = now; duration = n; past = [] })) (Some (set_at now (next_delay word u))))
+          subst (λ n. KeepsSome (Some (record { set = now; duration = n; past = [] }))
+              (Some (set_at now (next_delay word u))))
               delay (set_at now (next_delay word u), (refl, keeps_set now (next_delay word u))),
           le,
         )
@@ -105,7 +106,8 @@ delay_marked : (retries : RetryPolicy) (t : OwnTurn) (piece : List OwnTurn) (d :
     (earlier : List Attempt) (marks : List Mark) → word_in t.turn ≡ None → decides t.turn ≡ false
     → pause_at t.moment t.request ≡ marks
     → delay_timer retries (t ∷ d ∷ after) (cut piece (t ∷ d ∷ after) ∷ earlier)
-    ≡ record (delay_timer retries (d ∷ after) (cut piece (d ∷ after) ∷ earlier)) { past = marks ++ pauses_in (d ∷ after) }
+    ≡ record (delay_timer retries (d ∷ after) (cut piece (d ∷ after) ∷ earlier))
+        { past = marks ++ pauses_in (d ∷ after) }
 delay_marked retries t piece d after earlier marks none quiet is =
     ap (λ m. record {
       set = m;
@@ -136,7 +138,8 @@ delay_made : (t : OwnTurn) (u : UnitView) (timers : Timers) (piece : List OwnTur
       past = marks ++ pauses_in (d ∷ after);
     }))
     → IsMade u.terms (record u { timers = timers }) (cut piece (t ∷ d ∷ after) ∷ earlier)
-delay_made t u timers piece d after earlier marks is a start ((past, again, delay), not_over, wait, set) none quiet goes marked
+delay_made t u timers piece d after earlier marks is a start
+    ((past, again, delay), not_over, wait, set) none quiet goes marked
     keeps by =
     made_at (record u { timers = timers }) Delay (cut piece (t ∷ d ∷ after)) earlier is a start (
       (past, again, delay ∙ sym (delay_kept u.terms.retries t piece (d ∷ after) earlier none)),
@@ -154,7 +157,8 @@ pub waiting_made : (t : OwnTurn) (u : UnitView) (piece : List OwnTurn) (d : OwnT
     → IsDelayed u.terms u piece (d ∷ after) earlier → word_in t.turn ≡ None → decides t.turn ≡ false
     → ends_delay t ≡ false → pause_at t.moment t.request ≡ [] → IsMade u.terms u (cut piece (t ∷ d ∷ after) ∷ earlier)
 waiting_made t u piece d after earlier is a start (again, not_over, wait, set) none quiet goes goes_on =
-    delay_made t u u.timers piece d after earlier [] is a start (again, not_over, wait, set) none quiet goes goes_on wait set
+    delay_made t u u.timers piece d after earlier [] is a start (again, not_over, wait, set) none
+        quiet goes goes_on wait set
 
 -- or is paused, or resumed
 pub delay_stopped : (now round : ℕ) (u : UnitView) (piece : List OwnTurn) (d : OwnTurn) (after : List OwnTurn)
@@ -166,10 +170,12 @@ pub delay_stopped : (now round : ℕ) (u : UnitView) (piece : List OwnTurn) (d :
 delay_stopped now round u piece d after earlier is latest a start (again, not_over, wait, set) =
     let timer : Timer = delay_timer u.terms.retries (d ∷ after) (cut piece (d ∷ after) ∷ earlier) in
     let by : IsSetBy now (Some timer) = subst (λ later. IsSetBy later (Some timer)) latest set in
-    delay_made (taken now Take (Some (Stop round))) u (all_paused now u.timers) piece d after earlier (mark_of pause now ∷ [])
+    delay_made (taken now Take (Some (Stop round))) u (all_paused now u.timers) piece d after earlier
+        (mark_of pause now ∷ [])
     is a start (again, not_over, wait, set) refl refl refl refl
     (keeps_stop now (Some timer) u.timers.wait by wait)
-    (subst (λ later. IsSetBy later (Some (marked pause now timer))) (sym latest) (set_by_marked now pause (Some timer) by))
+    (subst (λ later. IsSetBy later (Some (marked pause now timer))) (sym latest)
+        (set_by_marked now pause (Some timer) by))
 
 pub delay_continued : (now : ℕ) (u : UnitView) (piece : List OwnTurn) (d : OwnTurn) (after : List OwnTurn)
     (earlier : List Attempt)
@@ -180,10 +186,12 @@ pub delay_continued : (now : ℕ) (u : UnitView) (piece : List OwnTurn) (d : Own
 delay_continued now u piece d after earlier is latest a start (again, not_over, wait, set) =
     let timer : Timer = delay_timer u.terms.retries (d ∷ after) (cut piece (d ∷ after) ∷ earlier) in
     let by : IsSetBy now (Some timer) = subst (λ later. IsSetBy later (Some timer)) latest set in
-    delay_made (taken now Take (Some Continue)) u (all_resumed now u.timers) piece d after earlier (mark_of resume now ∷ [])
+    delay_made (taken now Take (Some Continue)) u (all_resumed now u.timers) piece d after earlier
+        (mark_of resume now ∷ [])
     is a (resumed_start u.timers.stopwatch now ∙ start) (again, not_over, wait, set) refl refl refl refl
     (keeps_continue now (Some timer) u.timers.wait by wait)
-    (subst (λ later. IsSetBy later (Some (marked resume now timer))) (sym latest) (set_by_marked now resume (Some timer) by))
+    (subst (λ later. IsSetBy later (Some (marked resume now timer))) (sym latest)
+        (set_by_marked now resume (Some timer) by))
 
 -- it is left, and not let go for its next attempt
 pub left_made : (now : ℕ) (u : UnitView) (piece : List OwnTurn) (d : OwnTurn) (after : List OwnTurn)

@@ -24,7 +24,8 @@ use Rattle.run_laws.proofs.units.RowLemmas.{read_made}
 use Rattle.run_laws.proofs.units.AfterLemmas.{decide_made, retried_made, left_made}
 use Rattle.run_laws.proofs.units.DueLemmas.{leaked_made, killed_due, slow_made}
 use Rattle.run_laws.proofs.units.RequestLemmas.{take_running, take_grace, take_leak, take_delay}
-pub use Rattle.run_laws.proofs.units.MadeLemmas.{HasPieces, IsMade, made_first, made_statuses, made_ended, made_last, made_due}
+pub use Rattle.run_laws.proofs.units.MadeLemmas.{HasPieces, IsMade, made_first, made_statuses,
+    made_ended, made_last, made_due}
 
 -- the pieces after one more turn
 abbrev pub more : OwnTurn → List Attempt → List Attempt
@@ -45,8 +46,10 @@ row_made now StartSent (Answered false) before u [] same en is latest a st h = r
 row_made now Starting (Started pid) before u (cut piece [] ∷ earlier) same en is latest a st (on, ss) =
     started_made now pid u piece earlier (rw latest (omega arith)) a (on, ss)
 row_made now Starting (StartFailed error) before u (cut piece [] ∷ earlier) same en is latest a st (on, ss) =
-    made_more (row_at now Starting (StartFailed error) u).next Deciding (taken now (StartFailed error) None) piece earlier refl
-    a (resumed_start u.timers.stopwatch now ∙ simp quiet_said st) (past_refused now error None u piece earlier latest on a ss)
+    made_more (row_at now Starting (StartFailed error) u).next Deciding
+        (taken now (StartFailed error) None) piece earlier refl
+    a (resumed_start u.timers.stopwatch now ∙ simp quiet_said st)
+        (past_refused now error None u piece earlier latest on a ss)
 row_made now Running Due before u (cut piece [] ∷ earlier) same en is latest a st h =
     slow_made now u piece earlier is (rw latest (omega arith)) (rw same at en) a h
 row_made now Running Take before u (cut piece [] ∷ earlier) same en is latest a st h =
@@ -54,20 +57,24 @@ row_made now Running Take before u (cut piece [] ∷ earlier) same en is latest 
 row_made now Running (Exit exit) before u (cut piece [] ∷ earlier) same en is latest a st h =
     exit_made Running now (Some exit) u.capture (Exit exit) u piece earlier latest a h refl refl refl refl refl refl
 row_made now Running (WaitFailed error) before u (cut piece [] ∷ earlier) same en is latest a st h =
-    exit_made Running now None (with_wait_error u.capture error) (WaitFailed error) u piece earlier latest a h refl refl refl
+    exit_made Running now None (with_wait_error u.capture error) (WaitFailed error) u piece earlier
+        latest a h refl refl refl
     refl refl refl
 row_made now Running (Piece stream bytes) before u (cut piece [] ∷ earlier) same en is latest a st h =
     heard_running Running now (Piece stream bytes) u piece earlier (λ h. h) is a h refl refl refl refl refl refl refl
 row_made now Running (StreamEnd stream) before u (cut piece [] ∷ earlier) same en is latest a st h =
     heard_running Running now (StreamEnd stream) u piece earlier (λ h. h) is a h refl refl refl refl refl refl refl
 row_made now Running (ReadError stream error) before u (cut piece [] ∷ earlier) same en is latest a st h =
-    heard_running Running now (ReadError stream error) u piece earlier (λ h. h) is a h refl refl refl refl refl refl refl
+    heard_running Running now (ReadError stream error) u piece earlier (λ h. h) is a h refl refl
+        refl refl refl refl refl
 row_made now Grace Due before u (cut piece [] ∷ earlier) same en is latest a st h = killed_due now u piece earlier a h
-row_made now Grace Take before u (cut piece [] ∷ earlier) same en is latest a st h = take_grace now u.line u piece earlier is latest a h
+row_made now Grace Take before u (cut piece [] ∷ earlier) same en is latest a st h =
+    take_grace now u.line u piece earlier is latest a h
 row_made now Grace (Exit exit) before u (cut piece [] ∷ earlier) same en is latest a st h =
     exit_made Grace now (Some exit) u.capture (Exit exit) u piece earlier latest a h refl refl refl refl refl refl
 row_made now Grace (WaitFailed error) before u (cut piece [] ∷ earlier) same en is latest a st h =
-    exit_made Grace now None (with_wait_error u.capture error) (WaitFailed error) u piece earlier latest a h refl refl refl
+    exit_made Grace now None (with_wait_error u.capture error) (WaitFailed error) u piece earlier
+        latest a h refl refl refl
     refl refl refl
 row_made now Grace (Piece stream bytes) before u (cut piece [] ∷ earlier) same en is latest a st h =
     heard_running Grace now (Piece stream bytes) u piece earlier (λ h. h) is a h refl refl refl refl refl refl refl
@@ -78,7 +85,8 @@ row_made now Grace (ReadError stream error) before u (cut piece [] ∷ earlier) 
 row_made now KillWait (Exit exit) before u (cut piece [] ∷ earlier) same en is latest a st h =
     exit_made KillWait now (Some exit) u.capture (Exit exit) u piece earlier latest a h refl refl refl refl refl refl
 row_made now KillWait (WaitFailed error) before u (cut piece [] ∷ earlier) same en is latest a st h =
-    exit_made KillWait now None (with_wait_error u.capture error) (WaitFailed error) u piece earlier latest a h refl refl refl
+    exit_made KillWait now None (with_wait_error u.capture error) (WaitFailed error) u piece earlier
+        latest a h refl refl refl
     refl refl refl
 row_made now Leak (Piece stream bytes) before u (cut piece [] ∷ earlier) same en is latest a st h =
     heard_made now (Piece stream bytes) u piece earlier is latest a h refl refl refl refl refl refl refl
@@ -86,8 +94,10 @@ row_made now Leak (StreamEnd stream) before u (cut piece [] ∷ earlier) same en
     heard_made now (StreamEnd stream) u piece earlier is latest a h refl refl refl refl refl refl refl
 row_made now Leak (ReadError stream error) before u (cut piece [] ∷ earlier) same en is latest a st h =
     heard_made now (ReadError stream error) u piece earlier is latest a h refl refl refl refl refl refl refl
-row_made now Leak Take before u (cut piece [] ∷ earlier) same en is latest a st h = take_leak now u.line u piece earlier is latest a h
-row_made now Leak Due before u (cut piece [] ∷ earlier) same en is latest a st h = leaked_made now u piece earlier latest a h
+row_made now Leak Take before u (cut piece [] ∷ earlier) same en is latest a st h =
+    take_leak now u.line u piece earlier is latest a h
+row_made now Leak Due before u (cut piece [] ∷ earlier) same en is latest a st h =
+    leaked_made now u piece earlier latest a h
 row_made now EnvWait (Env input) before u (cut piece [] ∷ earlier) same en is latest a st (on, ss) =
     read_made now input u piece earlier latest a st on ss
 row_made now Deciding (Decide word) before u (cut piece [] ∷ earlier) same en is latest a st h =

@@ -41,7 +41,8 @@ leaked_made now u piece earlier latest a (on, ss) =
     count : slow_count u.terms.slow (taken now Due None ∷ piece) ≡ u.timers.slow_count
     count = count_kept u.terms.slow (taken now Due None) piece on.is_at.wait_over ∙ on.is_at.counted
 
-    it : IsAt u.terms u.timers.stopwatch.start true u.exit true u.timers.slow_count u.capture (taken now Due None ∷ piece)
+    it : IsAt u.terms u.timers.stopwatch.start true u.exit true u.timers.slow_count u.capture
+        (taken now Due None ∷ piece)
     it =
         at_due u.terms u.timers.stopwatch.start true u.exit u.timers.slow_count u.timers.slow_count u.capture now piece
         on.is_at count
@@ -58,7 +59,8 @@ killed_made t u piece earlier a (on, ss) ends quiet starts goes_on over it =
     (began u.terms u.timers.stopwatch.start false None false u.timers.slow_count u.capture (t ∷ piece) it) (
       going_more u.terms Running false None (killed u).next t piece it on.not_ended quiet refl
           (λ still. timed_still u.terms u.timers.stopwatch u.latest t piece still goes_on on.watch) on.pauses
-          (timer_killed u.terms u.timers (killed u).next.timers u.latest t piece refl on.is_at.wait_over on.timer.stage ends
+          (timer_killed u.terms u.timers (killed u).next.timers u.latest t piece refl
+              on.is_at.wait_over on.timer.stage ends
           starts goes_on over),
       ss,
     )
@@ -69,14 +71,16 @@ pub killed_due : (now : ℕ) (u : UnitView) (piece : List OwnTurn) (earlier : Li
     → IsMade u.terms (killed u).next (cut (taken now Due None ∷ piece) [] ∷ earlier)
 killed_due now u piece earlier a (on, ss) =
     killed_made (taken now Due None) u piece earlier a (on, ss) refl refl refl refl refl
-    (at_due u.terms u.timers.stopwatch.start false None u.timers.slow_count u.timers.slow_count u.capture now piece on.is_at
+    (at_due u.terms u.timers.stopwatch.start false None u.timers.slow_count u.timers.slow_count
+        u.capture now piece on.is_at
     (count_killed u.terms.slow (taken now Due None) piece on.timer.stage.1 ∙ on.is_at.counted))
 
 -- it is slow
 pub slow_made : (now : ℕ) (u : UnitView) (piece : List OwnTurn) (earlier : List Attempt)
     → u.phase ≡ Running → now ≤ u.latest → fires_now now u.timers.slow ≡ true → u.attempt ≡ length earlier + 1
     → GoesOn u.terms Running false None u piece earlier
-    → IsMade u.terms (slow_row now (one_more u.timers.slow_count) u).next (cut (taken now Due None ∷ piece) [] ∷ earlier)
+    → IsMade u.terms (slow_row now (one_more u.timers.slow_count) u).next
+        (cut (taken now Due None ∷ piece) [] ∷ earlier)
 slow_made now u piece earlier ph le due a (on, ss) =
     by_out (is_out_of_time u.terms.slow n) (u.terms.slow.grace == 0) refl refl
   where
@@ -114,7 +118,8 @@ slow_made now u piece earlier ph le due a (on, ss) =
         → IsGoing u.terms ph false None v (t ∷ piece)
     goes ph v watch count capture latest timer =
         going_more u.terms ph false None v t piece (rw (watch, count, capture) it) on.not_ended refl refl
-        (λ still. rw (watch, latest) (timed_still u.terms u.timers.stopwatch u.latest t piece still refl on.watch)) on.pauses
+        (λ still. rw (watch, latest) (timed_still u.terms u.timers.stopwatch u.latest t piece still
+            refl on.watch)) on.pauses
         timer
 
     by_out : (o g : Bool) → is_out_of_time u.terms.slow n ≡ o → (u.terms.slow.grace == 0) ≡ g

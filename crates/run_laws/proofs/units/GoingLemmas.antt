@@ -199,15 +199,18 @@ pub past_exited : (now : ℕ) (exit : Option ChildExit) (leaked : Bool) (c : Cap
 past_exited now exit leaked c turn u piece earlier it none quiet done awaits watch a (ss, delay) = (
   ends,
   past_with u.terms u.statuses
-      (status_at now (result_of exit c.errors leaked u) (Output c.output c.errors) u) (taken now turn None ∷ piece) earlier ends
+      (status_at now (result_of exit c.errors leaked u) (Output c.output c.errors) u)
+          (taken now turn None ∷ piece) earlier ends
       (status_as Unread true exit leaked c now (delay_after u.terms.retries earlier) (length earlier + 1)
-      (taken now turn None ∷ piece) u it (time_settled u.terms u.timers.stopwatch (taken now turn None) piece still watch)
+      (taken now turn None ∷ piece) u it (time_settled u.terms u.timers.stopwatch
+          (taken now turn None) piece still watch)
       (rw unread refl) end a delay) ss,
 )
   where
     still : is_settled u.terms (taken now turn None ∷ piece) ≡ true
     still =
-        settled_as u.terms u.timers.stopwatch.start true exit leaked u.timers.slow_count c (taken now turn None ∷ piece) it
+        settled_as u.terms u.timers.stopwatch.start true exit leaked u.timers.slow_count c
+            (taken now turn None ∷ piece) it
         ∙ done
 
     unread : env_read (taken now turn None ∷ piece) ≡ None
@@ -253,13 +256,15 @@ awaiting_exited now exit leaked c turn u piece it none quiet done awaits latest 
   );
   settled = still;
   watch =
-      subst (λ latest. IsTimed u.terms (watch_resumed now u.timers.stopwatch) latest (taken now turn None ∷ piece)) (sym latest)
+      subst (λ latest. IsTimed u.terms (watch_resumed now u.timers.stopwatch) latest
+          (taken now turn None ∷ piece)) (sym latest)
       (timed_settled u.terms u.timers.stopwatch (taken now turn None) piece still watch);
 }
   where
     still : is_settled u.terms (taken now turn None ∷ piece) ≡ true
     still =
-        settled_as u.terms u.timers.stopwatch.start true exit leaked u.timers.slow_count c (taken now turn None ∷ piece) it
+        settled_as u.terms u.timers.stopwatch.start true exit leaked u.timers.slow_count c
+            (taken now turn None ∷ piece) it
         ∙ done
 
     unread : env_read (taken now turn None ∷ piece) ≡ None
@@ -292,13 +297,15 @@ reads_no_more false success = refl
 
 pub past_read : (now : ℕ) (input : EnvInput) (u : UnitView) (piece : List OwnTurn) (earlier : List Attempt)
     → u.latest ≡ now → IsAwaiting u.terms u piece → u.attempt ≡ length earlier + 1 → Follows u.terms u earlier
-    → IsPast u.terms (ended_with now (env_of input) u.exit u.leaked u.capture u) (taken now (Env input) None ∷ piece) earlier
+    → IsPast u.terms (ended_with now (env_of input) u.exit u.leaked u.capture u)
+        (taken now (Env input) None ∷ piece) earlier
 past_read now input u piece earlier latest on a (ss, delay) = (
   ends,
   past_with u.terms u.statuses
       (status_at now (result_with (env_of input) (result_of u.exit u.capture.errors u.leaked u))
       (Output u.capture.output u.capture.errors) u) (taken now (Env input) None ∷ piece) earlier ends
-      (status_as (env_of input) true u.exit u.leaked u.capture now (delay_after u.terms.retries earlier) (length earlier + 1)
+      (status_as (env_of input) true u.exit u.leaked u.capture now
+          (delay_after u.terms.retries earlier) (length earlier + 1)
       (taken now (Env input) None ∷ piece) u it
       (time_settled u.terms u.timers.stopwatch (taken now (Env input) None) piece still
       (subst (λ latest. IsTimed u.terms u.timers.stopwatch latest piece) latest on.watch))
@@ -308,14 +315,16 @@ past_read now input u piece earlier latest on a (ss, delay) = (
     it : IsAt u.terms u.timers.stopwatch.start true u.exit u.leaked u.timers.slow_count u.capture
         (taken now (Env input) None ∷ piece)
     it = rw (quiet_said u.exit) at
-        (at_more u.terms u.timers.stopwatch.start true u.exit u.leaked u.timers.slow_count u.capture now (Env input) None piece
+        (at_more u.terms u.timers.stopwatch.start true u.exit u.leaked u.timers.slow_count u.capture
+            now (Env input) None piece
         on.is_at refl refl)
 
     still : is_settled u.terms (taken now (Env input) None ∷ piece) ≡ true
     still =
         settled_as u.terms u.timers.stopwatch.start true u.exit u.leaked u.timers.slow_count u.capture
         (taken now (Env input) None ∷ piece) it
-        ∙ sym (settled_as u.terms u.timers.stopwatch.start true u.exit u.leaked u.timers.slow_count u.capture piece on.is_at)
+        ∙ sym (settled_as u.terms u.timers.stopwatch.start true u.exit u.leaked u.timers.slow_count
+            u.capture piece on.is_at)
         ∙ on.settled
 
     ends : has_ended u.terms (taken now (Env input) None ∷ piece) ≡ true

@@ -84,7 +84,8 @@ taken_line now ph u = by_line u.line refl
     by_request ph (Stop round) v = refl
     by_request ph Continue v = refl
     by_request ph (GetInfo round) v = refl
-    by_request Running (Shutdown request) v = by_signal (Signalled request) (terminate_method (Signalled request) v.terms.slow.grace) v
+    by_request Running (Shutdown request) v = by_signal (Signalled request)
+        (terminate_method (Signalled request) v.terms.slow.grace) v
     by_request Grace (Shutdown request) v = refl
     by_request Delay (Shutdown request) v = refl
     by_request Delay OtherCancel v = refl
@@ -195,7 +196,8 @@ own_line now turn u is en h = by_take (row_takes now u.phase turn u en)
         → HasLineIn (row now turn u).next.phase (row now turn u).next.line (drop (if is_take turn then 1 else 0) is)
     by_take (answers go at to) = moves StartSent at to (by_go go (subst (λ ph. HasLineIn ph u.line is) at h))
     by_take (opens on) =
-        moved_line (at_moment now u) (row_at now u.phase turn (at_moment now u)) (drop (if is_take turn then 1 else 0) is)
+        moved_line (at_moment now u) (row_at now u.phase turn (at_moment now u))
+            (drop (if is_take turn then 1 else 0) is)
         (row_moves now u.phase turn (at_moment now u) refl on)
         (row_line now u.phase turn (at_moment now u) on (takes_moment now u.phase u turn en)
         ∙ left_of-is turn u.line ∙ ap (drop (if is_take turn then 1 else 0)) (open_line u.phase u.line is on h))

@@ -151,7 +151,8 @@ made_due terms u ps made now le = by_phase u.phase ps made.has
   where
     on_timer : (ph : Phase) (waited : Bool) (exit : Option ChildExit) (piece : List OwnTurn)
         → IsGoing terms ph waited exit u piece
-        → fires_now now (waits ph u.timers) ≡ (not (is_settled terms piece) && is_timer_due_at now (timer_of terms piece))
+        → fires_now now (waits ph u.timers) ≡ (not (is_settled terms piece) && is_timer_due_at
+            now (timer_of terms piece))
     on_timer ph waited exit piece on =
         rw on.unsettled
         (due_as now (timer_of terms piece) (waits ph u.timers)
@@ -179,7 +180,8 @@ made_due terms u ps made now le = by_phase u.phase ps made.has
     by_phase Delay (cut piece (d ∷ after) ∷ earlier) (again, not_over, wait, set) =
         rw (again.1, not_over)
         (due_as now (Some (delay_timer terms.retries (d ∷ after) (cut piece (d ∷ after) ∷ earlier))) u.timers.wait
-        (set_by_later u.latest now le (Some (delay_timer terms.retries (d ∷ after) (cut piece (d ∷ after) ∷ earlier))) set)
+        (set_by_later u.latest now le (Some (delay_timer terms.retries (d ∷ after)
+            (cut piece (d ∷ after) ∷ earlier))) set)
         wait)
     by_phase RetrySent (cut piece (d ∷ after) ∷ earlier) (again, is_over) = rw (again.1, is_over) refl
     by_phase Over [] h = refl

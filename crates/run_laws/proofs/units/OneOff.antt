@@ -82,7 +82,8 @@ once terms u ps w none made way = record {
   never_retried = λ at. no_retry u.attempt u.statuses w (in_phase RetrySent at);
   done = λ at. not_again (has_passed (last_status u.statuses)) u.attempt (retry_count u.terms.retries)
       (decides_first u.attempt u.statuses w (in_phase Deciding at)) zero_left;
-  status = λ at. status_single terms u ps u.env none (decides_first u.attempt u.statuses w (in_phase Deciding at)) at made;
+  status = λ at. status_single terms u ps u.env none (decides_first u.attempt u.statuses w
+      (in_phase Deciding at)) at made;
 }
   where
     zero_left : retry_count u.terms.retries ≡ 0

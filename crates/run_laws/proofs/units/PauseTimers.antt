@@ -45,7 +45,8 @@ stage_stopped : (terms : AttemptTerms) (ph : Phase) (timers : Timers) (t : OwnTu
     → signal_of terms.slow t.request ≡ None → IsAtStage terms ph timers t.moment piece
     → IsAtStage terms ph (all_paused t.moment timers) t.moment (t ∷ piece)
 stage_stopped terms Starting timers t piece due starts marks none (count, grace) =
-    (count_still terms.slow t piece due ∙ count, grace_still terms.slow t piece due (unheeded terms.slow t piece none) ∙ grace)
+    (count_still terms.slow t piece due ∙ count, grace_still terms.slow t piece due
+        (unheeded terms.slow t piece none) ∙ grace)
 stage_stopped terms Running timers t piece due starts marks none (child, grace) =
     (rw starts child, grace_still terms.slow t piece due (unheeded terms.slow t piece none) ∙ grace)
 stage_stopped terms Grace timers t piece due starts marks none (child, grace, slow, set) = (
@@ -65,7 +66,8 @@ stage_continued : (terms : AttemptTerms) (ph : Phase) (timers : Timers) (t : Own
     → signal_of terms.slow t.request ≡ None → IsAtStage terms ph timers t.moment piece
     → IsAtStage terms ph (all_resumed t.moment timers) t.moment (t ∷ piece)
 stage_continued terms Starting timers t piece due starts marks none (count, grace) =
-    (count_still terms.slow t piece due ∙ count, grace_still terms.slow t piece due (unheeded terms.slow t piece none) ∙ grace)
+    (count_still terms.slow t piece due ∙ count, grace_still terms.slow t piece due
+        (unheeded terms.slow t piece none) ∙ grace)
 stage_continued terms Running timers t piece due starts marks none (child, grace) =
     (rw starts child, grace_still terms.slow t piece due (unheeded terms.slow t piece none) ∙ grace)
 stage_continued terms Grace timers t piece due starts marks none (child, grace, slow, set) = (

@@ -148,7 +148,8 @@ leaves_taken now ph u off = by_line u.line
     by_request ph (Stop round) line = record { env = refl; ready = unready u.phase _ off }
     by_request ph Continue line = record { env = refl; ready = unready u.phase _ off }
     by_request ph (GetInfo round) line = record { env = refl; ready = unready u.phase _ off }
-    by_request Running (Shutdown request) line = ends (Signalled request) (terminate_method (Signalled request) u.terms.slow.grace) line
+    by_request Running (Shutdown request) line = ends (Signalled request)
+        (terminate_method (Signalled request) u.terms.slow.grace) line
     by_request Grace (Shutdown request) line = record { env = refl; ready = tt }
     by_request Delay (Shutdown request) line = record { env = refl; ready = tt }
     by_request Delay OtherCancel line = record { env = refl; ready = tt }
@@ -192,7 +193,8 @@ row_reads now Starting (StartFailed error) u is en none = left_so _ u _ refl non
 row_reads now Running Due u is en none =
     left_so _ u _ refl none (leaves_slow now (one_more u.timers.slow_count) u (ap awaits is))
 row_reads now Running Take u is en none = left_so _ u _ refl none (leaves_taken now Running u (ap awaits is))
-row_reads now Running (Exit exit) u is en none = left_so _ u _ refl none (leaves_running now (Exit exit) u (ap awaits is))
+row_reads now Running (Exit exit) u is en none = left_so _ u _ refl none
+    (leaves_running now (Exit exit) u (ap awaits is))
 row_reads now Running (WaitFailed error) u is en none =
     left_so _ u _ refl none (leaves_running now (WaitFailed error) u (ap awaits is))
 row_reads now Running (Piece stream bytes) u is en none =
@@ -233,7 +235,8 @@ row_reads now Deciding (Decide word) u is en passed =
     by_given : (b : Bool) → is_given u.env ≡ b → has_retry u ≡ true → b ≡ false
     by_given false e again = refl
     by_given true e again =
-        let never : false ≡ true = sym (ap not (passed e)) ∙ first_so (not (has_passed (last_status u.statuses))) _ again in
+        let never : false ≡ true = sym (ap not (passed e)) ∙ first_so
+            (not (has_passed (last_status u.statuses))) _ again in
         cc
 row_reads now Delay Due u is en none = left_so _ u _ refl none (record { env = refl; ready = tt })
 row_reads now Delay Take u is en none = left_so _ u _ refl none (leaves_taken now Delay u (ap awaits is))

@@ -41,11 +41,13 @@ IsFirstTry u = (r : ScriptRole) → u.role ≡ roles.Script r → u.attempt ≡ 
 
 slow_waits : (n : ℕ) (u : UnitView) → IsFirstTry u
     → reports_waiting (number u) (slow_report n u.role u ∷ [])
-    ≡ record { attempt = u.attempt; elapsed = slow_time u.terms.slow n; terminates = is_out_of_time u.terms.slow n } ∷ []
+    ≡ record { attempt = u.attempt; elapsed = slow_time u.terms.slow n; terminates =
+        is_out_of_time u.terms.slow n } ∷ []
 slow_waits n u first = by_role u.role refl
   where
     by_role : (role : UnitRole) → u.role ≡ role → reports_waiting (number_of role) (slow_report n role u ∷ [])
-        ≡ record { attempt = u.attempt; elapsed = slow_time u.terms.slow n; terminates = is_out_of_time u.terms.slow n } ∷ []
+        ≡ record { attempt = u.attempt; elapsed = slow_time u.terms.slow n; terminates =
+            is_out_of_time u.terms.slow n } ∷ []
     by_role (roles.Test t) is = rw (itself t.test.unit) refl
     by_role (roles.Script r) is = rw (itself r.script.unit, first r is) refl
 
@@ -144,7 +146,8 @@ row_said now Grace Due u (cut piece [] ∷ earlier) en first a (on, ss) =
     said_killed (taken now Due None) u piece earlier on.is_at.wait_over on.timer.stage.1 refl refl refl
 row_said now Grace Take u (cut piece [] ∷ earlier) en first a (on, ss) =
     take_said_grace now u.line u piece earlier on.is_at.wait_over on.timer.stage.1
-row_said now Grace (Exit exit) u (cut piece [] ∷ earlier) en first a h = said_still _ _ _ piece earlier _ refl refl refl refl refl refl refl
+row_said now Grace (Exit exit) u (cut piece [] ∷ earlier) en first a h =
+    said_still _ _ _ piece earlier _ refl refl refl refl refl refl refl
 row_said now Grace (WaitFailed error) u (cut piece [] ∷ earlier) en first a h =
     said_still _ _ _ piece earlier _ refl refl refl refl refl refl refl
 row_said now Grace (Piece stream bytes) u (cut piece [] ∷ earlier) en first a h =
@@ -159,7 +162,8 @@ row_said now KillWait (WaitFailed error) u (cut piece [] ∷ earlier) en first a
     said_still _ _ _ piece earlier _ refl refl refl refl refl refl refl
 row_said now Leak Due u (cut piece [] ∷ earlier) en first a (on, ss) =
     said_after _ _ _ piece earlier _ on.is_at.wait_over refl refl refl refl
-row_said now Leak Take u (cut piece [] ∷ earlier) en first a (on, ss) = take_said_leak now u.line u piece earlier on.is_at.wait_over
+row_said now Leak Take u (cut piece [] ∷ earlier) en first a (on, ss) =
+    take_said_leak now u.line u piece earlier on.is_at.wait_over
 row_said now Leak (Piece stream bytes) u (cut piece [] ∷ earlier) en first a h =
     said_still _ _ _ piece earlier _ refl refl refl refl refl refl refl
 row_said now Leak (StreamEnd stream) u (cut piece [] ∷ earlier) en first a h =
@@ -171,7 +175,8 @@ row_said now EnvWait (Env input) u (cut piece [] ∷ earlier) en first a (on, ss
 row_said now Deciding (Decide word) u (cut piece [] ∷ earlier) en first a h = decide_said now word u piece earlier
 row_said now Delay Due u (cut piece (d ∷ after) ∷ earlier) en first a h =
     said_apart _ _ _ _ (retried u) refl refl refl (retry_silent (number u) u.role u)
-row_said now Delay Take u (cut piece (d ∷ after) ∷ earlier) en first a h = take_said_delay now u.line u piece d after earlier
+row_said now Delay Take u (cut piece (d ∷ after) ∷ earlier) en first a h =
+    take_said_delay now u.line u piece d after earlier
 row_said now RetrySent (Answered true) u (cut piece (d ∷ after) ∷ earlier) en first a h =
     start_said now (at_next u) (cut piece (d ∷ after) ∷ earlier)
 row_said now RetrySent (Answered false) u (cut piece (d ∷ after) ∷ earlier) en first a h =

@@ -85,8 +85,10 @@ exited_made now exit leaked c turn u piece earlier it none quiet done latest wat
         made_more (awaiting_env now exit leaked c u) EnvWait (taken now turn None) piece earlier refl a resumed
         (awaiting_exited now exit leaked c turn u piece it none quiet done e latest watch, ss)
     by_env false e =
-        made_more (ended now (result_of exit c.errors leaked u) (Output c.output c.errors) u) Deciding (taken now turn None)
-        piece earlier refl a resumed (past_exited now exit leaked c turn u piece earlier it none quiet done e watch a ss)
+        made_more (ended now (result_of exit c.errors leaked u) (Output c.output c.errors) u)
+            Deciding (taken now turn None)
+        piece earlier refl a resumed (past_exited now exit leaked c turn u piece earlier it none
+            quiet done e watch a ss)
 
 -- its environment file was read, or could not be
 pub read_made : (now : ℕ) (input : EnvInput) (u : UnitView) (piece : List OwnTurn) (earlier : List Attempt)
@@ -95,8 +97,10 @@ pub read_made : (now : ℕ) (input : EnvInput) (u : UnitView) (piece : List OwnT
     → IsMade u.terms (ended_with now (env_of input) u.exit u.leaked u.capture u)
     (cut (taken now (Env input) None ∷ piece) [] ∷ earlier)
 read_made now input u piece earlier latest a start on ss =
-    made_more (ended_with now (env_of input) u.exit u.leaked u.capture u) Deciding (taken now (Env input) None) piece earlier
-    refl a (resumed_start u.timers.stopwatch now ∙ simp quiet_said start) (past_read now input u piece earlier latest on a ss)
+    made_more (ended_with now (env_of input) u.exit u.leaked u.capture u) Deciding
+        (taken now (Env input) None) piece earlier
+    refl a (resumed_start u.timers.stopwatch now ∙ simp quiet_said start)
+        (past_read now input u piece earlier latest on a ss)
 
 -- an attempt whose child is waited for no more ends, or waits for its streams
 settled_made : (now : ℕ) (exit : Option ChildExit) (c : Captured) (turn : UnitTurn) (u : UnitView)
@@ -132,16 +136,19 @@ settled_made now exit c turn u piece earlier latest ends quiet it none watch pau
     stopped = timed_open u.terms u.timers.stopwatch now piece watch pauses
 
     held_timed : (still : is_settled u.terms (t ∷ piece) ≡ false)
-        → IsTimed u.terms (if is_paused u.timers then watch_paused now u.timers.stopwatch else u.timers.stopwatch) now (t ∷ piece)
+        → IsTimed u.terms (if is_paused u.timers then watch_paused now u.timers.stopwatch else
+            u.timers.stopwatch) now (t ∷ piece)
     held_timed still =
-        timed_still u.terms (if is_paused u.timers then watch_paused now u.timers.stopwatch else u.timers.stopwatch) now t piece
+        timed_still u.terms (if is_paused u.timers then watch_paused now u.timers.stopwatch else
+            u.timers.stopwatch) now t piece
         still refl (timed_held u.terms u.timers.stopwatch now piece (is_paused u.timers) refl watch)
 
     left_timed : is_settled u.terms (t ∷ piece) ≡ false
         → IsTimed u.terms (leaking now exit c u).timers.stopwatch u.latest (t ∷ piece)
     left_timed still =
         subst (λ later. IsTimed u.terms (leaking now exit c u).timers.stopwatch later (t ∷ piece)) (sym latest)
-        (subst (λ w. IsTimed u.terms w now (t ∷ piece)) (sym (held_watch now (is_paused u.timers) waiting)) (held_timed still))
+        (subst (λ w. IsTimed u.terms w now (t ∷ piece))
+            (sym (held_watch now (is_paused u.timers) waiting)) (held_timed still))
 
     by_done : (b : Bool) → (u.terms.skips_leak_detection || is_done c) ≡ b
         → IsMade u.terms (if b then exited now exit false c u else leaking now exit c u)
@@ -193,7 +200,8 @@ heard_running ph now turn u piece earlier into phase a (on, ss) unrefused due en
     (began u.terms u.timers.stopwatch.start false None false u.timers.slow_count c (taken now turn None ∷ piece) it)
     (into (
       going_more u.terms ph false None (having_captured turn u) (taken now turn None) piece it on.not_ended quiet refl
-          (λ still. timed_still u.terms u.timers.stopwatch u.latest (taken now turn None) piece still refl on.watch) on.pauses
+          (λ still. timed_still u.terms u.timers.stopwatch u.latest (taken now turn None) piece still
+              refl on.watch) on.pauses
           (timer_still u.terms ph u.timers u.latest (taken now turn None) piece due ends starts refl
           (unheeded u.terms.slow (taken now turn None) piece refl) on.timer),
       ss,
@@ -205,7 +213,8 @@ heard_running ph now turn u piece earlier into phase a (on, ss) unrefused due en
     more_at : IsAt u.terms u.timers.stopwatch.start (ends_wait turn || false) (exit_in turn) false u.timers.slow_count
         (heard_by u.capture turn) (taken now turn None ∷ piece)
     more_at =
-        at_more u.terms u.timers.stopwatch.start false None false u.timers.slow_count u.capture now turn None piece on.is_at
+        at_more u.terms u.timers.stopwatch.start false None false u.timers.slow_count u.capture now
+            turn None piece on.is_at
         unrefused due
 
     it : IsAt u.terms u.timers.stopwatch.start false None false u.timers.slow_count c (taken now turn None ∷ piece)
@@ -217,7 +226,8 @@ pub heard_made : (now : ℕ) (turn : UnitTurn) (u : UnitView) (piece : List OwnT
     → start_error_in turn ≡ None → is_due_turn turn ≡ false → ends_wait turn ≡ false → exit_in turn ≡ None
     → env_in turn ≡ None → starts_child turn ≡ false → heard_by u.capture turn ≡ having_heard u.capture turn
     → IsMade u.terms (heard_with now (having_heard u.capture turn) u) (cut (taken now turn None ∷ piece) [] ∷ earlier)
-heard_made now turn u piece earlier ph latest a (on, ss) unrefused due ends is quiet starts heard = by_done (is_done c) refl
+heard_made now turn u piece earlier ph latest a (on, ss) unrefused due ends is quiet starts heard =
+    by_done (is_done c) refl
   where
     c : Captured
     c = having_heard u.capture turn
@@ -225,7 +235,8 @@ heard_made now turn u piece earlier ph latest a (on, ss) unrefused due ends is q
     more_at : IsAt u.terms u.timers.stopwatch.start (ends_wait turn || true) (option_or u.exit (exit_in turn)) false
         u.timers.slow_count (heard_by u.capture turn) (taken now turn None ∷ piece)
     more_at =
-        at_more u.terms u.timers.stopwatch.start true u.exit false u.timers.slow_count u.capture now turn None piece on.is_at
+        at_more u.terms u.timers.stopwatch.start true u.exit false u.timers.slow_count u.capture now
+            turn None piece on.is_at
         unrefused due
 
     it : IsAt u.terms u.timers.stopwatch.start true u.exit false u.timers.slow_count c (taken now turn None ∷ piece)
@@ -244,9 +255,11 @@ heard_made now turn u piece earlier ph latest a (on, ss) unrefused due ends is q
         (subst (λ later. IsTimed u.terms u.timers.stopwatch later piece) latest on.watch) a ss
     by_done false e =
         made_more (record u { capture = c }) Leak (taken now turn None) piece earlier ph a start (
-          going_more u.terms Leak true u.exit (record u { capture = c }) (taken now turn None) piece it on.not_ended quiet
+          going_more u.terms Leak true u.exit (record u { capture = c }) (taken now turn None)
+              piece it on.not_ended quiet
               (waits_further u.exit c u piece on e)
-              (λ still. timed_still u.terms u.timers.stopwatch u.latest (taken now turn None) piece still refl on.watch) on.pauses
+              (λ still. timed_still u.terms u.timers.stopwatch u.latest (taken now turn None) piece still
+                  refl on.watch) on.pauses
               (timer_still u.terms Leak u.timers u.latest (taken now turn None) piece due ends starts refl
               (unheeded u.terms.slow (taken now turn None) piece refl) on.timer),
           ss,
@@ -260,10 +273,13 @@ started_made now pid u piece earlier le a (on, ss) =
     made_more (started now pid u) Running (taken now (Started pid) None) piece earlier refl a
     (began u.terms u.timers.stopwatch.start false None false u.timers.slow_count u.capture
     (taken now (Started pid) None ∷ piece) it) (
-      going_more u.terms Running false None (started now pid u) (taken now (Started pid) None) piece it on.not_ended refl refl
-          (λ still. timed_still u.terms u.timers.stopwatch u.latest (taken now (Started pid) None) piece still refl on.watch)
+      going_more u.terms Running false None (started now pid u) (taken now (Started pid) None) piece
+          it on.not_ended refl refl
+          (λ still. timed_still u.terms u.timers.stopwatch u.latest (taken now (Started pid) None)
+              piece still refl on.watch)
           on.pauses
-          (timer_started u.terms (started now pid u).timers now u.latest pid piece le refl on.is_at.wait_over on.timer.stage.0
+          (timer_started u.terms (started now pid u).timers now u.latest pid piece le refl
+              on.is_at.wait_over on.timer.stage.0
           on.timer.stage.1),
       ss,
     )

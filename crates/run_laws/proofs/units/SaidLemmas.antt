@@ -20,7 +20,8 @@ use Rattle.run_laws.proofs.units.AttemptLemmas.{more}
 
 -- what a row asks and sends is what its turn says, after these pieces
 pub record IsSaid (terms : AttemptTerms) (k : ℕ) (t : OwnTurn) (ps : List Attempt) (r : Row) : Type 0 where
-  pub asks : signals_by terms.stops terms.slow (more t ps) ≡ signals_by terms.stops terms.slow ps ++ signals_for k r.asked
+  pub asks : signals_by terms.stops terms.slow (more t ps) ≡ signals_by terms.stops terms.slow ps
+      ++ signals_for k r.asked
   pub sends : reports_by terms.slow (more t ps) ≡ reports_by terms.slow ps ++ reports_waiting k (option_to_list r.sent)
 
 -- the same of the newest piece alone
@@ -65,7 +66,8 @@ pub said_still : (terms : AttemptTerms) (k : ℕ) (t : OwnTurn) (piece : List Ow
     → signal_of terms.slow t.request ≡ None → job_signal terms.stops terms.slow t.request piece ≡ None → r.asked ≡ None
     → reports_waiting k (option_to_list r.sent) ≡ [] → IsSaid terms k t (cut piece [] ∷ earlier) r
 said_still terms k t piece earlier r goes undecided due none job asks sends =
-    said_more terms k t piece earlier r goes undecided (rw (signal_still terms.stops terms.slow t piece due none job, asks) refl)
+    said_more terms k t piece earlier r goes undecided
+        (rw (signal_still terms.stops terms.slow t piece due none job, asks) refl)
     (rw (report_still terms.slow (length earlier + 1) t piece due) (sym sends))
 
 -- neither does any turn once its child has ended

@@ -71,7 +71,8 @@ said_asked : (now : ℕ) (reason : ShutdownRequest) (u : UnitView) (piece : List
 said_asked now reason u piece earlier waited grace =
     said_more u.terms (number u) (taken now Take (Some (Shutdown reason))) piece earlier
     (requested now Running (Shutdown reason) u) refl refl
-    (rw (waited, grace) (sym (ap (signals_for (number u)) (asked_signal now (Signal reason) signal u) ∙ rw (itself (number u)) refl)))
+    (rw (waited, grace) (sym (ap (signals_for (number u)) (asked_signal now (Signal reason) signal u)
+        ∙ rw (itself (number u)) refl)))
     (rw waited (sym (ap sends (sent_none now (Signal reason) signal u))))
   where
     signal : TermSignal
@@ -121,13 +122,15 @@ take_said_running now (OtherCancel ∷ line) u piece earlier waited grace paused
     said_still _ _ _ piece earlier _ refl refl refl refl refl refl refl
 take_said_running now (GetInfo round ∷ line) u piece earlier waited grace paused =
     said_still _ _ _ piece earlier _ refl refl refl refl refl refl refl
-take_said_running now [] u piece earlier waited grace paused = said_still _ _ _ piece earlier _ refl refl refl refl refl refl refl
+take_said_running now [] u piece earlier waited grace paused =
+    said_still _ _ _ piece earlier _ refl refl refl refl refl refl refl
 
 pub take_said_grace : (now : ℕ) (line : List Request) (u : UnitView) (piece : List OwnTurn) (earlier : List Attempt)
     → any_is ends_wait piece ≡ false → is_in_grace u.terms.slow piece ≡ true
     → IsSaid u.terms (number u) (taken now Take (oldest line)) (cut piece [] ∷ earlier) (take_row now Grace line u)
 take_said_grace now (Shutdown reason ∷ line) u piece earlier waited grace =
-    said_killed (taken now Take (Some (Shutdown reason))) (record u { line = line }) piece earlier waited grace refl refl refl
+    said_killed (taken now Take (Some (Shutdown reason))) (record u { line = line }) piece earlier
+        waited grace refl refl refl
 take_said_grace now (Stop round ∷ line) u piece earlier waited grace =
     said_more u.terms (number u) (taken now Take (Some (Stop round))) piece earlier
     (take_row now Grace (Stop round ∷ line) u) refl refl (rw (waited, grace, itself (number u)) refl) (rw waited refl)
@@ -138,16 +141,20 @@ take_said_grace now (OtherCancel ∷ line) u piece earlier waited grace =
     said_still _ _ _ piece earlier _ refl refl refl refl refl refl refl
 take_said_grace now (GetInfo round ∷ line) u piece earlier waited grace =
     said_still _ _ _ piece earlier _ refl refl refl refl refl refl refl
-take_said_grace now [] u piece earlier waited grace = said_still _ _ _ piece earlier _ refl refl refl refl refl refl refl
+take_said_grace now [] u piece earlier waited grace = said_still _ _ _ piece earlier _ refl refl
+    refl refl refl refl refl
 
 pub take_said_leak : (now : ℕ) (line : List Request) (u : UnitView) (piece : List OwnTurn) (earlier : List Attempt)
     → any_is ends_wait piece ≡ true
     → IsSaid u.terms (number u) (taken now Take (oldest line)) (cut piece [] ∷ earlier) (take_row now Leak line u)
 take_said_leak now [] u piece earlier waited = said_after _ _ _ piece earlier _ waited refl refl refl refl
-take_said_leak now (Stop round ∷ line) u piece earlier waited = said_after _ _ _ piece earlier _ waited refl refl refl refl
-take_said_leak now (Continue ∷ line) u piece earlier waited = said_after _ _ _ piece earlier _ waited refl refl refl refl
+take_said_leak now (Stop round ∷ line) u piece earlier waited =
+    said_after _ _ _ piece earlier _ waited refl refl refl refl
+take_said_leak now (Continue ∷ line) u piece earlier waited =
+    said_after _ _ _ piece earlier _ waited refl refl refl refl
 take_said_leak now (Shutdown reason ∷ line) u piece earlier waited =
     said_after _ _ _ piece earlier _ waited refl refl refl refl
-take_said_leak now (OtherCancel ∷ line) u piece earlier waited = said_after _ _ _ piece earlier _ waited refl refl refl refl
+take_said_leak now (OtherCancel ∷ line) u piece earlier waited =
+    said_after _ _ _ piece earlier _ waited refl refl refl refl
 take_said_leak now (GetInfo round ∷ line) u piece earlier waited =
     said_after _ _ _ piece earlier _ waited refl refl refl refl

@@ -56,7 +56,8 @@ pub keeps_stop : (now : ℕ) (t : Option Timer) (sleep : Option Sleep) → IsSet
     → KeepsSome (option_map (marked pause now) t) (option_map (sleep_paused now) sleep)
 keeps_stop now None sleep order none = rw none refl
 keeps_stop now (Some t) sleep order keeps =
-    (sleep_paused now keeps.0, (ap (option_map (sleep_paused now)) keeps.1.0, keeps_paused t keeps.0 now keeps.1.1 order))
+    (sleep_paused now keeps.0, (ap (option_map (sleep_paused now)) keeps.1.0, keeps_paused t
+        keeps.0 now keeps.1.1 order))
 
 pub keeps_continue : (now : ℕ) (t : Option Timer) (sleep : Option Sleep) → IsSetBy now t → KeepsSome t sleep
     → KeepsSome (option_map (marked resume now) t) (option_map (sleep_resumed now) sleep)
@@ -207,7 +208,8 @@ pub timer_left : (terms : AttemptTerms) (t : Timers) (now latest : ℕ) (turn : 
     → HasTimer terms Leak (leaks_from now terms.leak.period t) latest (taken now turn None ∷ piece)
 timer_left terms t now latest turn piece le stopped ends = record {
   set_by = rw ends (left_set now latest (is_open (pauses_in piece)) le);
-  waits_for = rw (ends, stopped) (left_keeps now terms.leak.period (is_open (pauses_in piece)) (record t { slow = None }));
+  waits_for = rw (ends, stopped) (left_keeps now terms.leak.period (is_open (pauses_in piece))
+      (record t { slow = None }));
   stage = tt;
 }
 
@@ -262,7 +264,8 @@ pub timer_still : (terms : AttemptTerms) (ph : Phase) (timers : Timers) (latest 
 timer_still terms ph timers latest t piece due ends starts goes_on heeds h = record {
   set_by = subst (IsSetBy latest) (sym (timer_of-still terms t piece due ends starts goes_on heeds)) h.set_by;
   waits_for =
-      subst (λ timer. KeepsSome timer (waits ph timers)) (sym (timer_of-still terms t piece due ends starts goes_on heeds))
+      subst (λ timer. KeepsSome timer (waits ph timers)) (sym
+          (timer_of-still terms t piece due ends starts goes_on heeds))
       h.waits_for;
   stage = stage_still terms ph timers latest t piece due starts goes_on heeds h.stage;
 }
@@ -289,7 +292,8 @@ pub timer_killed : (terms : AttemptTerms) (before after : Timers) (latest : ℕ)
     → HasTimer terms Running after latest (t ∷ piece)
 timer_killed terms before after latest t piece same waited (child, grace, slow, set) ends starts goes_on over =
     timer_known terms Running after latest (t ∷ piece) (slow_timer terms piece)
-    (timer_of-runs terms (t ∷ piece) (rw ends waited) left ∙ slow_timer-killed terms t piece grace waited starts goes_on) set
+    (timer_of-runs terms (t ∷ piece) (rw ends waited) left ∙ slow_timer-killed terms t piece grace
+        waited starts goes_on) set
     (subst (KeepsSome (slow_timer terms piece)) (sym same) slow) (rw starts child, left)
   where
     left : is_in_grace terms.slow (t ∷ piece) ≡ false

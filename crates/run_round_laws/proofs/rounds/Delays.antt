@@ -26,7 +26,8 @@ pub delay_marked : (retries : RetryPolicy) (t : OwnTurn) (piece : List OwnTurn) 
     (earlier : List Attempt) (marks : List Mark) → word_in t.turn ≡ None → decides t.turn ≡ false
     → pause_at t.moment t.request ≡ marks
     → delay_timer retries (t ∷ d ∷ after) (cut piece (t ∷ d ∷ after) ∷ earlier)
-    ≡ record (delay_timer retries (d ∷ after) (cut piece (d ∷ after) ∷ earlier)) { past = marks ++ pauses_in (d ∷ after) }
+    ≡ record (delay_timer retries (d ∷ after) (cut piece (d ∷ after) ∷ earlier))
+        { past = marks ++ pauses_in (d ∷ after) }
 delay_marked retries t piece d after earlier marks none quiet is =
     ap (λ m. record {
       set = m;

@@ -44,13 +44,12 @@ use Rattle.run_events.specs.declared.result.ExecutionResult.{ExecutionResult}
 use Rattle.run_model.specs.Dispatch.{retried_event, started_event, with_start, Moment, event, go_of, heard_by}
 use Rattle.run_model.specs.Dispatch.{is_halted, may_go, moment_by, query_waits}
 use Rattle.run_model.specs.Turns.{enabled_on, admission, answer_to, answered_by, asks_at, begins_at, cancels_for}
-use Rattle.run_model.specs.Turns.{deed_on, delivery, done_by, ends_at, hears, index_of, job_deed, job_event}
-use Rattle.run_model.specs.Turns.{key_deed, live_in, nothing_done}
-use Rattle.run_model.specs.Turns.{oldest_of, signal_deed, starting, takes_turn, tally_by, tells, told_by, turn_of_unit}
+use Rattle.run_model.specs.Turns.{deed_on, delivery, done_by, ends_at, hears, index_of, job_deed, job_event, key_deed}
+use Rattle.run_model.specs.Turns.{live_in, nothing_done, oldest_of, signal_deed, starting, takes_turn, tally_by, tells}
+use Rattle.run_model.specs.Turns.{told_by, turn_of_unit}
 use Rattle.run_model.specs.Rounds.{of_told, opens_round}
 use Rattle.run_round_laws.specs.Queries.{answer_told_in, asked_in, asks_information, is_answer_turn, is_info_due}
-use Rattle.run_round_laws.specs.Queries.{is_info_key}
-use Rattle.run_round_laws.specs.Queries.{is_info_signal, missing_in}
+use Rattle.run_round_laws.specs.Queries.{is_info_key, is_info_signal, missing_in}
 use Rattle.run_events.specs.declared.plan.Hearing.{Hearing}
 use Rattle.run_events.specs.declared.input.Key.{Key as KeyName}
 use Rattle.run_laws.proofs.board.ByTurn.{by_turn}
@@ -343,7 +342,8 @@ signal_exactly b signal (Some JobControl) is =
     let it = job_told signal in record { asks = it.0 ∙ sym (ap is_info_signal is); answers = it.1; ends = it.2 }
   where
     None_told : Deed → Type 0
-    None_told d = (is_some (of_told asked_in None d.told) ≡ false) × (is_some (of_told answer_told_in None d.told) ≡ false)
+    None_told d = (is_some (of_told asked_in None d.told) ≡ false)
+        × (is_some (of_told answer_told_in None d.told) ≡ false)
         × (is_some (of_told missing_in None d.told) ≡ false)
 
     stop_told : (h : Bool) → None_told (if h then nothing_done

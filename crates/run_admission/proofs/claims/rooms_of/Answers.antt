@@ -25,4 +25,6 @@ loop-place-preserved c =
     ∙ sym more
 
 pub returns : goal.returns
-returns c = c.loop-place.invariant ∙ ap (map (λ r. unused r.0 r.1.limit)) (take_all c.loop-place.place (zip c.args.slots.now c.args.groups.now) (omega (arith, length_zip c.args.slots.now c.args.groups.now c.requires.all, c.loop-place-test.false)))
+returns c = c.loop-place.invariant ∙ ap (map (λ r. unused r.0 r.1.limit))
+    (take_all c.loop-place.place (zip c.args.slots.now c.args.groups.now)
+    (omega (arith, length_zip c.args.slots.now c.args.groups.now c.requires.all, c.loop-place-test.false)))

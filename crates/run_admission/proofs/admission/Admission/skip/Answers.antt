@@ -27,7 +27,8 @@ leave-requires-clause-line c =
     (ap candidate c.self.view_is ∙ c.requires) in
     let read = get_or_read v.claims.items c.args.test c.index.result.now (omega (arith, can.0, w.kept.paired))
     c.index.ensures nobody.0 in
-    let of : c.line_of-line.result ≡ line_of (map (λ (u : Use). u.limit) v.groups.items) (get_or v.claims.items c.args.test nobody.0) =
+    let of : c.line_of-line.result ≡ line_of (map (λ (u : Use). u.limit) v.groups.items)
+        (get_or v.claims.items c.args.test nobody.0) =
     c.line_of-line.ensures ∙ ap (λ l. line_of (map (λ (u : Use). u.limit) l) c.index.result.now) c.deref.ensures.value
     ∙ ap (line_of (map (λ (u : Use). u.limit) v.groups.items)) read in
     let at = in_line v.waiting v.whole v.groups.items v.lines v.order.items v.claims.items v.seats.items
@@ -44,7 +45,8 @@ leave-requires-clause-test c =
     (ap candidate c.self.view_is ∙ c.requires) in
     let read = get_or_read v.claims.items c.args.test c.index.result.now (omega (arith, can.0, w.kept.paired))
     c.index.ensures nobody.0 in
-    let of : c.line_of-line.result ≡ line_of (map (λ (u : Use). u.limit) v.groups.items) (get_or v.claims.items c.args.test nobody.0) =
+    let of : c.line_of-line.result ≡ line_of (map (λ (u : Use). u.limit) v.groups.items)
+        (get_or v.claims.items c.args.test nobody.0) =
     c.line_of-line.ensures ∙ ap (λ l. line_of (map (λ (u : Use). u.limit) l) c.index.result.now) c.deref.ensures.value
     ∙ ap (line_of (map (λ (u : Use). u.limit) v.groups.items)) read in
     let at = in_line v.waiting v.whole v.groups.items v.lines v.order.items v.claims.items v.seats.items
@@ -61,7 +63,8 @@ leave-requires-clause-place c =
     (ap candidate c.self.view_is ∙ c.requires) in
     let read = get_or_read v.claims.items c.args.test c.index.result.now (omega (arith, can.0, w.kept.paired))
     c.index.ensures nobody.0 in
-    let of : c.line_of-line.result ≡ line_of (map (λ (u : Use). u.limit) v.groups.items) (get_or v.claims.items c.args.test nobody.0) =
+    let of : c.line_of-line.result ≡ line_of (map (λ (u : Use). u.limit) v.groups.items)
+        (get_or v.claims.items c.args.test nobody.0) =
     c.line_of-line.ensures ∙ ap (λ l. line_of (map (λ (u : Use). u.limit) l) c.index.result.now) c.deref.ensures.value
     ∙ ap (line_of (map (λ (u : Use). u.limit) v.groups.items)) read in
     let at = in_line v.waiting v.whole v.groups.items v.lines v.order.items v.claims.items v.seats.items
@@ -78,7 +81,8 @@ refresh-requires c =
     (ap candidate c.self.view_is ∙ c.requires) in
     let read = get_or_read v.claims.items c.args.test c.index.result.now (omega (arith, can.0, w.kept.paired))
     c.index.ensures nobody.0 in
-    let of : c.line_of-line.result ≡ line_of (map (λ (u : Use). u.limit) v.groups.items) (get_or v.claims.items c.args.test nobody.0) =
+    let of : c.line_of-line.result ≡ line_of (map (λ (u : Use). u.limit) v.groups.items)
+        (get_or v.claims.items c.args.test nobody.0) =
     c.line_of-line.ensures ∙ ap (λ l. line_of (map (λ (u : Use). u.limit) l) c.index.result.now) c.deref.ensures.value
     ∙ ap (line_of (map (λ (u : Use). u.limit) v.groups.items)) read in
     let at = in_line v.waiting v.whole v.groups.items v.lines v.order.items v.claims.items v.seats.items
@@ -117,7 +121,8 @@ invariant_of-self c =
     (ap candidate c.self.view_is ∙ c.requires) in
     let read = get_or_read v.claims.items c.args.test c.index.result.now (omega (arith, can.0, w.kept.paired))
     c.index.ensures nobody.0 in
-    let of : c.line_of-line.result ≡ line_of (map (λ (u : Use). u.limit) v.groups.items) (get_or v.claims.items c.args.test nobody.0) =
+    let of : c.line_of-line.result ≡ line_of (map (λ (u : Use). u.limit) v.groups.items)
+        (get_or v.claims.items c.args.test nobody.0) =
     c.line_of-line.ensures ∙ ap (λ l. line_of (map (λ (u : Use). u.limit) l) c.index.result.now) c.deref.ensures.value
     ∙ ap (line_of (map (λ (u : Use). u.limit) v.groups.items)) read in
     skip_ready v.waiting v.whole v.groups.items v.lines c.leave.new.self c.refresh.new.self v.order.items v.claims.items

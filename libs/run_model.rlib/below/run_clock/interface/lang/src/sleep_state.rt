@@ -1,0 +1,1 @@
+# [ derive ( Clone , Copy , Debug ) ] pub ( crate ) enum SleepState { Running { deadline : u128 } , Paused { remaining : u64 } , }

@@ -1,0 +1,3 @@
+mod BackoffLemmas
+pub mod PauseLemmas
+pub mod RerunLemmas

@@ -1,0 +1,17 @@
+mod backoff ;
+mod dispatcher_view ;
+mod entry ;
+mod happening ;
+mod phase ;
+mod rerun ;
+mod unit_turn ;
+mod unit_view ;
+mod values ;
+pub use backoff :: { BackoffIter , delay_by , retry_count } ;
+pub use dispatcher_view :: { CancelRules , Causes , DispatcherView , Facts , Rounds , SubRuns , Tally } ;
+pub use entry :: Entry ;
+pub use happening :: { Happening , UnitPart } ;
+pub use phase :: Phase ;
+pub use rerun :: RerunContext ;
+pub use unit_turn :: UnitTurn ;
+pub use unit_view :: { AttemptTerms , CapturedStreams , ScriptRole , Surroundings , TestRole , Timers , UnitRole , UnitView , } ;
