@@ -3,9 +3,13 @@ use Rattle.std.proofs.Common.{◌≡◌, ◌⊎◌, inl, inr, ℕ, zero, suc, �
 use Rattle.std.proofs.Common.{length}
 use Rattle.std.proofs.Common.{get_or, set, Bool, true, false, not, if◌then◌else◌, Option, Some, None, option_map}
 use Rattle.std.proofs.Common.{refl, ap, ap₂, sym, subst, ◌∙◌, arith}
+use Rattle.std.proofs.Common.{Result, Ok, Err}
 use Rattle.std.specs.List.{insert, remove}
+use Rattle.std.specs.List.Sorted.{IsBinarySearchResult}
+use Rattle.std.specs.Ordering.{nat_cmp}
 use Rattle.std.proofs.lemmas.Bool.{cases_lt}
 use Rattle.std.proofs.lemmas.List.{map-append, map-set, set-get_or, take-append-drop}
+use Rattle.std.proofs.lemmas.List.Sorted.{searched}
 use Rattle.std.proofs.Math.ListN.{get_or-map}
 use Rattle.run_events.specs.declared.request.Request.{Request}
 use Rattle.run_model.specs.declared.unit_turn.UnitTurn.{UnitTurn}
@@ -51,7 +55,7 @@ found i (true ∷ bs) (suc k) x is on =
     (suc later.0, omega arith, later.2)
 
 -- what stands among them is true
-pub flagged : (i : ℕ) (bs : List Bool) (k x : ℕ) → k < length (places i bs) → get_or (places i bs) k 0 ≡ i + x
+flagged : (i : ℕ) (bs : List Bool) (k x : ℕ) → k < length (places i bs) → get_or (places i bs) k 0 ≡ i + x
     → get_or bs x false ≡ true
 flagged i [] k x below is = absurd (omega arith)
 flagged i (false ∷ bs) k zero below is =
@@ -240,6 +244,45 @@ taken-of ns flags at x is on within here =
     ap (λ ms. remove ms at) is
     ∙ sym (places-taken 0 flags x at x (omega arith) on (subst (λ ms. at < length ms) is within)
     (subst (λ ms. get_or ms at 0 ≡ x) is here))
+
+rises : (ns : List ℕ) (flags : List Bool) → ns ≡ places 0 flags → (i j : ℕ) → i ≤ j → j < length ns
+    → get_or ns i 0 ≤ get_or ns j 0
+rises ns flags is i j le below =
+    subst (λ ms. get_or ms i 0 ≤ get_or ms j 0) (sym is) (ascend 0 flags i j le (subst (λ ms. j < length ms) is below))
+
+-- a search for a number whose flag isn't set ends where it comes
+pub put-near : (ns : List ℕ) (flags : List Bool) (x : ℕ) (r : Result ℕ ℕ) (at : ℕ) → ns ≡ places 0 flags
+    → x < length flags → get_or flags x false ≡ false → IsBinarySearchResult (λ y. nat_cmp y x) ns r
+    → (r ≡ Ok at) ⊎ (r ≡ Err at) → insert ns at x ≡ places 0 (set flags x true)
+put-near ns flags x (Ok i) at is inside off sought e =
+    let it = searched ns x (Ok i) sought (rises ns flags is) in
+    let here : get_or (places 0 flags) i 0 ≡ x = ap (λ ms. get_or ms i 0) (sym is) ∙ it.1 in
+    let on : get_or flags x false ≡ true =
+    flagged 0 flags i x (subst (λ ms. i < length ms) is it.0) (omega arith) in
+    cc
+put-near ns flags x (Err i) at is inside off sought (inl e) = cc
+put-near ns flags x (Err i) at is inside off sought (inr e) =
+    let it = searched ns x (Err i) sought (rises ns flags is) in
+    let same : i ≡ at = cc in
+    subst (λ k. insert ns k x ≡ places 0 (set flags x true)) same
+    (put-of ns flags i x is inside off it.0 (λ j less. omega (arith, it.1 j less)) (λ less. it.2 i (omega arith) less))
+
+-- a search for one whose flag is set finds it
+pub take-near : (ns : List ℕ) (flags : List Bool) (x : ℕ) (i : ℕ) → ns ≡ places 0 flags → get_or flags x false ≡ true
+    → IsBinarySearchResult (λ y. nat_cmp y x) ns (Ok i) → remove ns i ≡ places 0 (set flags x false)
+take-near ns flags x i is on sought =
+    let it = searched ns x (Ok i) sought (rises ns flags is) in taken-of ns flags i x is on it.0 it.1
+
+pub none-near : (ns : List ℕ) (flags : List Bool) (x i : ℕ) → ns ≡ places 0 flags → get_or flags x false ≡ true
+    → IsBinarySearchResult (λ y. nat_cmp y x) ns (Err i) → ⊥
+none-near ns flags x i is on sought =
+    let it = searched ns x (Err i) sought (rises ns flags is) in
+    places-some flags x ns is
+    (λ k below same. elim (cases_lt k i) [
+      | inl less ↦ let lower : get_or ns k 0 < x = it.1 k less in omega arith
+      | inr later ↦ let higher : x < get_or ns k 0 = it.2 k later below in omega arith
+    ])
+    on
 
 -- what is so of the first numbers and of the next one
 pub next_too : (P : ℕ → Type 0) (n : ℕ) → ((j : ℕ) → j < n → P j) → P n → (j : ℕ) → j < n + 1 → P j

@@ -14,7 +14,9 @@ fn put_in(numbers: &mut Vec<u32>, number: u32) -> Mem<()>
         ≡ places 0 (slice_set flags number true)) }
     ensures err { OnErr result (numbers.new.items ≡ numbers.old.items) }
 {
-    let (Ok(place) | Err(place)) = numbers.as_slice().binary_search(&number);
+    let place = match numbers.as_slice().binary_search(&number) {
+        Ok(place) | Err(place) => place,
+    };
     match numbers.insert(place, number) {
         Ok(()) => Ok(()),
         Err(_) => Err(OutOfMemory),

@@ -1,12 +1,22 @@
-use Rattle.std.proofs.Common.{ap, sym, ◌∙◌}
+use Rattle.std.proofs.Common.{◌≡◌, ◌⊎◌, ℕ, Ok, Err, ap, sym, subst, ◌∙◌}
 use Rattle.std.specs.List.{insert}
-use Rattle.run_state.proofs.WorkingLemmas.{put-of}
+use Rattle.run_state.proofs.WorkingLemmas.{put-near}
 use Rattle.run_state.proofs.working.put_in.Goals as goal
+use Rattle.run_state.proofs.working.put_in.Goals.{in-Ok, in-Ok-2}
 
-pub returns-in-Ok-clause-ok : goal.returns-in-Ok-clause-ok
-returns-in-Ok-clause-ok c flags is inside off =
-    let place = c.place_for-place.result in
-    (rw c.in-Ok.is at c.insert.ensures.items)
+pub returns-in-Ok-insert-clause-ok : goal.returns-in-Ok-insert-clause-ok
+returns-in-Ok-insert-clause-ok c flags is inside off =
+    let place = c.match-binary_search.place in
+    c.in-Ok-insert.ensures.items
     ∙ ap (λ ns. insert ns place c.args.number) (sym c.as_slice.ensures.value)
-    ∙ put-of c.as_slice.result.now flags place c.args.number (c.as_slice.ensures.value ∙ is) inside off
-    c.place_for-place.ensures.within c.place_for-place.ensures.before c.place_for-place.ensures.after
+    ∙ put-near c.as_slice.result.now flags c.args.number c.binary_search.result place
+    (c.as_slice.ensures.value ∙ is) inside off c.binary_search.ensures.position at
+  where
+    ends : ℕ → Type 0
+    ends place = (c.binary_search.result ≡ Ok place) ⊎ (c.binary_search.result ≡ Err place)
+
+    at : ends c.match-binary_search.place
+    at = elim c.match-binary_search.branch [
+      | in-Ok w ↦ subst ends (sym w.place-is) w.in-Ok.is
+      | in-Ok-2 w ↦ subst ends (sym w.place-is) w.in-Ok.is
+    ]

@@ -1,1 +1,0 @@
-# [ derive ( Clone , Copy , Debug ) ] pub ( crate ) enum SleepState { Running { deadline : u128 } , Paused { remaining : u64 } , }

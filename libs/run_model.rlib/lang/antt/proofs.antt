@@ -1,3 +1,0 @@
-mod BackoffLemmas
-pub mod PauseLemmas
-pub mod RerunLemmas
