@@ -1,5 +1,5 @@
 // A unit as it begins.
-ghost use Rattle.std.specs.Prelude.{◌≡◌, ◌∷◌, IfOk};
+ghost use Rattle.std.specs.Prelude.{◌≡◌, ◌++◌, ◌∷◌, [], IfOk};
 ghost use Rattle.run_commands.specs.TargetRunner.{binary_of, args_of};
 ghost use Rattle.run_model.specs.Admission.{begun_view, flaky_of, retries_of, terms_of, surroundings_of, command_of};
 ghost use Rattle.run_model.specs.Admission.{streams_by, test_role, first_view};
@@ -103,14 +103,22 @@ fn terms_of(settings: &Settings, test: &PlanTest) -> AttemptTerms
     }
 }
 
+// Some words, and then this one.
+fn with_word(alloc: Global, words: List<Text>, word: &str) -> Mem<List<Text>>
+    ensures { IfOk result (λ all. all ≡ words ++ word.now ∷ []) }
+{
+    let mut words = words;
+    words.push(alloc, Text::from_str(alloc, word)?)?;
+    Ok(words)
+}
+
 // The words of a runner.
 fn runner_words(alloc: Global, runner: &PlatformRunner) -> Mem<List<Text>>
     ensures { IfOk result (λ words. words ≡ binary_of runner.now ∷ args_of runner.now) }
 {
-    let mut words = List::new();
-    words.push(alloc, Text::from_str(alloc, runner.binary())?)?;
+    let mut words = with_word(alloc, List::new(), runner.binary())?;
     for word in runner.args() {
-        words.push(alloc, Text::from_str(alloc, word)?)?;
+        words = with_word(alloc, words, word)?;
     }
     Ok(words)
 }
