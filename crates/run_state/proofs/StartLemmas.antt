@@ -17,7 +17,9 @@ use Rattle.run_model.specs.Admission.{limits_of, scripts_in, seat_of, tests_in, 
 use Rattle.run_model.specs.Board.{board, dispatcher_of}
 use Rattle.run_model.specs.Dispatch.{unbegun}
 use Rattle.run_laws.proofs.board.Nothing.{tally-nil, units-nil}
-use Rattle.run_state.specs.Held.{Held, held}
+use Rattle.run_unit.specs.Alike.{alike_of}
+use Rattle.run_state.specs.declared.kept.Kept.{Kept}
+use Rattle.run_state.specs.Held.{Held, held, kept_of}
 use Rattle.run_state.specs.Placed.{FitsUnits, HasSeats}
 use Rattle.run_state.proofs.HoldersLemmas.{absent_held}
 
@@ -69,22 +71,23 @@ dispatcher-nil p =
 
 -- and so is its state
 pub state-nil : (p : Settings) (us : List (Option UnitView)) (queue : List Message) (answers : List InfoResponse)
-    (d : DispatcherView) (a : Admissions)
+    (d : DispatcherView) (kept : Kept)
     → length us ≡ units_in p → ((k : ℕ) → get_or us k None ≡ None) → queue ≡ [] → answers ≡ [] → d ≡ unbegun p
-    → a ≡ begun p.threads p.plan.groups p.plan.tests
+    → kept.limits ≡ begun p.threads p.plan.groups p.plan.tests → kept.alike ≡ alike_of p
     → record (held p (board p [])) {
       board = record (board p []) { units = us; queue = queue; answers = answers; dispatcher = d };
-      limits = a;
+      kept = kept;
     } ≡ held p (board p [])
-state-nil p us queue answers d a whole none waits gives unbegins limits =
+state-nil p us queue answers d kept whole none waits gives unbegins limits alike =
     ap₂ (λ queue answers. record h {
       board = record h.board { units = us; queue = queue; answers = answers; dispatcher = d };
-      limits = a;
+      kept = kept;
     }) waits gives
-    ∙ ap₂ (λ d a. record h { board = record h.board { units = us; dispatcher = d }; limits = a })
+    ∙ ap₂ (λ d kept. record h { board = record h.board { units = us; dispatcher = d }; kept = kept })
     (unbegins ∙ dispatcher-nil p)
-    (limits ∙ limits-anew p us none (omega (arith, length-drop (scripts_in p) us, whole)))
-    ∙ ap (λ us. record h { board = record h.board { units = us }; limits = limits_of p us }) (units-nil p us whole none)
+    (ap₂ (λ limits alike. record { limits = limits; alike = alike })
+    (limits ∙ limits-anew p us none (omega (arith, length-drop (scripts_in p) us, whole))) alike)
+    ∙ ap (λ us. record h { board = record h.board { units = us }; kept = kept_of p us }) (units-nil p us whole none)
   where
     h : Held
     h = held p (board p [])
