@@ -6,8 +6,6 @@ use Rattle.std.proofs.lemmas.List.{ext_get_or, get_or-replicate, length-replicat
 use Rattle.std.proofs.lemmas.List.{get_or-drop, length-drop}
 use Rattle.run_admission.specs.declared.seat.Seat.TheVariants.{Waiting}
 use Rattle.run_admission.specs.InUse.{Admissions, begun, claim_of}
-use Rattle.run_events.specs.declared.info.InfoResponse.{InfoResponse}
-use Rattle.run_events.specs.declared.message.Message.{Message}
 use Rattle.run_events.specs.declared.request.Request.{Request}
 use Rattle.run_events.specs.declared.settings.Settings.{Settings}
 use Rattle.run_model.proofs.RerunLemmas.{unseen-none}
@@ -18,7 +16,6 @@ use Rattle.run_model.specs.Board.{board, dispatcher_of}
 use Rattle.run_model.specs.Dispatch.{unbegun}
 use Rattle.run_laws.proofs.board.Nothing.{tally-nil, units-nil}
 use Rattle.run_unit.specs.Alike.{alike_of}
-use Rattle.run_state.specs.declared.kept.Kept.{Kept}
 use Rattle.run_state.specs.Held.{Held, held, kept_of}
 use Rattle.run_state.specs.Placed.{FitsUnits, HasSeats}
 use Rattle.run_state.proofs.HoldersLemmas.{absent_held}
@@ -70,19 +67,12 @@ dispatcher-nil p =
     (sym (unseen-none [] (λ id. refl) p.expected))
 
 -- and so is its state
-pub state-nil : (p : Settings) (us : List (Option UnitView)) (queue : List Message) (answers : List InfoResponse)
-    (d : DispatcherView) (kept : Kept)
-    → length us ≡ units_in p → ((k : ℕ) → get_or us k None ≡ None) → queue ≡ [] → answers ≡ [] → d ≡ unbegun p
-    → kept.limits ≡ begun p.threads p.plan.groups p.plan.tests → kept.alike ≡ alike_of p
-    → record (held p (board p [])) {
-      board = record (board p []) { units = us; queue = queue; answers = answers; dispatcher = d };
-      kept = kept;
-    } ≡ held p (board p [])
-state-nil p us queue answers d kept whole none waits gives unbegins limits alike =
-    ap₂ (λ queue answers. record h {
-      board = record h.board { units = us; queue = queue; answers = answers; dispatcher = d };
-      kept = kept;
-    }) waits gives
+pub state-nil : (p : Settings) (us : List (Option UnitView)) (d : DispatcherView) (s : Held)
+    → s.board ≡ record (board p []) { units = us; dispatcher = d }
+    → length us ≡ units_in p → ((k : ℕ) → get_or us k None ≡ None) → d ≡ unbegun p
+    → s.kept.limits ≡ begun p.threads p.plan.groups p.plan.tests → s.kept.alike ≡ alike_of p → s ≡ held p (board p [])
+state-nil p us d s rests whole none unbegins limits alike =
+    ap (λ board. record s { board = board }) rests
     ∙ ap₂ (λ d kept. record h { board = record h.board { units = us; dispatcher = d }; kept = kept })
     (unbegins ∙ dispatcher-nil p)
     (ap₂ (λ limits alike. record { limits = limits; alike = alike })

@@ -21,7 +21,7 @@ pub record Held : Type 0 where
 abbrev pub kept_of : Settings → List (Option UnitView) → Kept
 kept_of p us = record { limits = limits_of p us; alike = alike_of p }
 
--- what is kept is that
+-- what is kept beside the board is that of its units
 abbrev pub KeepsSeats : Settings → Held → Type 0
 KeepsSeats p h = h.kept ≡ kept_of p h.board.units
 

@@ -12,12 +12,21 @@ use run_unit::Alike;
 use std::alloc::Global;
 
 /// What a run keeps of its plan beside its units.
-#[derive(Drop)]
 pub struct Kept {
     /// What the tests hold of the limits.
     pub limits: Admission,
     /// What the children of its units have alike.
     pub alike: Alike,
+}
+
+// A call of its own, which keeps the proofs of all that hold one small.
+impl Drop for Kept {
+    fn drop(self) {
+        let Kept {
+            limits: _,
+            alike: _,
+        } = self;
+    }
 }
 
 /// So many units, none of which was admitted, and the limits, of which no test holds anything.

@@ -1,5 +1,5 @@
 // What a run keeps of its history.
-ghost use Rattle.std.specs.Prelude.{◌≡◌, ◌<◌, ◌+◌, ◌^◌, [], IfOk, length, option_map};
+ghost use Rattle.std.specs.Prelude.{◌≡◌, ◌<◌, ◌+◌, ◌^◌, [], IfOk, false, length, option_map};
 ghost use Rattle.run_clock.specs.Sleep.{IsDueFrom};
 ghost use Rattle.run_events.specs.declared.settings.Settings.{Settings};
 ghost use Rattle.run_model.specs.Admission.{units_in};
@@ -10,6 +10,7 @@ ghost use Rattle.run_model.specs.Dispatch.{is_halted};
 ghost use Rattle.run_model.specs.Turns.{facts, is_held, is_third_signal};
 ghost use Rattle.run_state.specs.Due.{is_any_due};
 ghost use Rattle.run_state.specs.Held.{held};
+ghost use Rattle.run_state.specs.Placed.{FitsUnits};
 
 use crate::kept::{Kept, first_parts};
 use crate::units::Units;
@@ -71,6 +72,31 @@ fn is_one_refused(refused: &[bool]) -> bool
     refused.iter().any(|refused| *refused)
 }
 
+// A state of these parts, at the clock's 0, in which nothing waits.
+fn at_rest(alloc: Global, units: Units, dispatcher: Dispatcher, kept: Kept) -> State
+    requires { FitsUnits dispatcher.rounds.asks units 0 kept.limits }
+    ensures board { result.board ≡ record {
+      units = units;
+      queue = [];
+      answers = [];
+      dispatcher = dispatcher;
+      clock = 0;
+      refused = false;
+    } }
+    ensures kept { result.kept ≡ kept }
+{
+    State {
+        units,
+        queue: VecDeque::new(alloc),
+        answers: VecDeque::new(alloc),
+        dispatcher,
+        holders: 0,
+        clock: 0,
+        refused: false,
+        kept,
+    }
+}
+
 impl State {
     /// The state of a run that has taken no turn.
     pub fn new(alloc: Global, settings: &Settings) -> Mem<State>
@@ -80,16 +106,7 @@ impl State {
     {
         let (units, kept) = first_parts(alloc, settings)?;
         let dispatcher = Dispatcher::new(alloc, settings)?;
-        Ok(State {
-            units,
-            queue: VecDeque::new(alloc),
-            answers: VecDeque::new(alloc),
-            dispatcher,
-            holders: 0,
-            clock: 0,
-            refused: false,
-            kept,
-        })
+        Ok(at_rest(alloc, units, dispatcher, kept))
     }
 
     /// The clock moves by so many nanoseconds.

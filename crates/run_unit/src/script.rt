@@ -9,7 +9,7 @@ ghost use Rattle.run_model.specs.Unit.{script_slow};
 
 use crate::first::begun_view;
 use crate::slow::{is_out_of_time, slow_time};
-use run_capture::{CaptureStrategy, Duplicate, List, Mem, Text};
+use run_capture::{CaptureStrategy, Duplicate, Mem};
 use run_events::{
     ExecuteStatus, PlanScript, RetryPolicy, ScriptEnv, ScriptFinish, ScriptSlow, ScriptStart,
     ScriptUnit, Settings, SetupScriptExecuteStatus, SlowTimeout, SlowTimeoutResult, StressIndex,
