@@ -22,7 +22,7 @@ use Rattle.run_engine.proofs.JournalLemmas.{past_of-push, legal-push}
 
 -- a state that is seated is that of its board
 pub held-is : (p : Settings) (h : Held) (b : Board) → KeepsSeats p h → h.board ≡ b → h ≡ held p b
-held-is p h b seated e = ap (λ l. record { board = h.board; limits = l }) seated ∙ ap (held p) e
+held-is p h b seated e = ap (λ kept. record { board = h.board; kept = kept }) seated ∙ ap (held p) e
 
 -- an enabled turn can be taken
 pub can_advance : (p : Settings) (journal : List Entry) (b : Board) (turn : Turn) → IsRunnable p journal

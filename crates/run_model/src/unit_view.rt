@@ -1,5 +1,5 @@
 // A unit as the tables see it.
-use crate::Phase;
+use crate::{Phase, Shared};
 use run_capture::{ChildAccumulator, List, Text};
 use run_clock::{PausableSleep, StopwatchStart};
 use run_events::{
@@ -127,7 +127,7 @@ pub struct UnitView {
     pub role: UnitRole,
     /// Of a test the runner of its platform, where there is one, and then its own words.
     pub command: List<Text>,
-    pub around: Surroundings,
+    pub around: Shared<Surroundings>,
     pub terms: AttemptTerms,
     pub phase: Phase,
     /// Its current attempt, from 1; between two attempts it is the failed one.

@@ -1,8 +1,9 @@
--- What a delivery does in its parts, and what a turn of the run's own leaves of the limits.
+-- What a delivery does in its parts, and what a turn of the run's own leaves of what is kept.
 use Rattle.std.proofs.Common.{◌≡◌, ◌+◌, ℕ, zero, suc, List, [], ◌∷◌, ◌++◌, map, drop, filter_map, Option, Some, None}
 use Rattle.std.proofs.Common.{option_map}
 use Rattle.std.proofs.Common.{Bool, true, false, if◌then◌else◌, refl, ap, ap₂, sym, ◌∙◌, arith}
 use Rattle.std.proofs.Common.{Result, Ok, Err, IfOk, OnOk, add-zero, append-nil, option_to_list}
+use Rattle.run_admission.specs.InUse.{Admissions}
 use Rattle.run_events.specs.declared.ask.Ask.{Ask}
 use Rattle.run_events.specs.declared.info.InfoResponse.{InfoResponse}
 use Rattle.run_events.specs.declared.message.Message.{Message}
@@ -33,7 +34,8 @@ use Rattle.run_dispatch.proofs.BoardLemmas.{delivery-told}
 use Rattle.run_state.proofs.RoundLemmas.{LeavesRound, answers_kept, asks_kept, delivery_leaves}
 use Rattle.run_state.specs.declared.effects.Effects.{Effects}
 use Rattle.run_state.specs.Done.{Done}
-use Rattle.run_state.specs.Held.{Held, KeepsSeats, units_with}
+use Rattle.run_state.specs.declared.kept.Kept.{Kept}
+use Rattle.run_state.specs.Held.{Held, KeepsSeats, kept_of, units_with}
 
 -- the board once the oldest message was taken, and the dispatcher has heard it
 abbrev pub heard : Board → Message → List Message → Board
@@ -230,21 +232,31 @@ limits-reached p None us = refl
 limits-reached p (Some request) us =
     ap (λ seats. record (limits_of p us) { seats = seats }) (seats-reached request (scripts_in p) us)
 
--- so does a turn of the run's own that begins no sub-run
+-- so it leaves what is kept beside the units
+pub kept-reached : (p : Settings) (request : Option Request) (us : List (Option UnitView))
+    → kept_of p (reach_all request us) ≡ kept_of p us
+kept-reached p request us = ap (λ limits. record (kept_of p us) { limits = limits }) (limits-reached p request us)
+
+-- what is kept beside the units is that of others, with the limits of these
+pub kept_with : (p : Settings) (us vs : List (Option UnitView)) (kept : Kept) (limits : Admissions)
+    → kept ≡ kept_of p us → limits ≡ limits_of p vs → record kept { limits = limits } ≡ kept_of p vs
+kept_with p us vs kept limits old is = ap₂ (λ (k : Kept) limits. record k { limits = limits }) old is
+
+-- a turn of the run's own that begins no sub-run leaves it
 pub done_seated : (p : Settings) (old new : Held) (deed : Deed) → KeepsSeats p old → deed.part ≡ None
-    → deed.begins ≡ false → new.board ≡ moved old.board deed → new.limits ≡ old.limits → KeepsSeats p new
-done_seated p old new deed seated none on after limits =
-    limits ∙ seated ∙ sym (limits-reached p deed.request old.board.units)
-    ∙ sym (ap (λ part. limits_of p (reach_all deed.request (units_after old.board.clock part old.board.units))) none)
-    ∙ sym (ap (λ begins. limits_of p (moved_in (if begins then anew old.board else old.board) deed).units) on)
-    ∙ sym (ap (λ (b : Board). limits_of p b.units) after)
+    → deed.begins ≡ false → new.board ≡ moved old.board deed → new.kept ≡ old.kept → KeepsSeats p new
+done_seated p old new deed seated none on after kept =
+    kept ∙ seated ∙ sym (kept-reached p deed.request old.board.units)
+    ∙ sym (ap (λ part. kept_of p (reach_all deed.request (units_after old.board.clock part old.board.units))) none)
+    ∙ sym (ap (λ begins. kept_of p (moved_in (if begins then anew old.board else old.board) deed).units) on)
+    ∙ sym (ap (λ (b : Board). kept_of p b.units) after)
 
 -- so does a call that answers what it gives
 pub answer_seated : {E : Type 0} (p : Settings) (old new : Held) (deed : Deed) (answer : Result Effects E)
     → KeepsSeats p old → deed.part ≡ None → deed.begins ≡ false → IfOk answer (Done old deed new)
     → OnOk answer (KeepsSeats p new)
 answer_seated p old new deed (Ok effects) seated none on does =
-    done_seated p old new deed seated none on does.after does.limits
+    done_seated p old new deed seated none on does.after does.kept
 answer_seated p old new deed (Err lack) seated none on does = tt
 
 -- a turn that names a unit leaves the clock

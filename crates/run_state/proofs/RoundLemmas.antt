@@ -246,7 +246,7 @@ done_own old deed us answers e fx go out own reach waits does tells = record {
         dispatcher = e;
       }) (waits ∙ ap (λ request. if opens_round request then [] else old.board.answers) does.request) does.after
       ∙ own_moved old.board deed own;
-  limits = refl;
+  kept = refl;
   told = ap (λ (x : Effects). x.events) tells ∙ does.told;
   asked = ap (λ (x : Effects). x.asked) tells ∙ does.asked;
 }

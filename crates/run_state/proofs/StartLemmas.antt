@@ -6,8 +6,6 @@ use Rattle.std.proofs.lemmas.List.{ext_get_or, get_or-replicate, length-replicat
 use Rattle.std.proofs.lemmas.List.{get_or-drop, length-drop}
 use Rattle.run_admission.specs.declared.seat.Seat.TheVariants.{Waiting}
 use Rattle.run_admission.specs.InUse.{Admissions, begun, claim_of}
-use Rattle.run_events.specs.declared.info.InfoResponse.{InfoResponse}
-use Rattle.run_events.specs.declared.message.Message.{Message}
 use Rattle.run_events.specs.declared.request.Request.{Request}
 use Rattle.run_events.specs.declared.settings.Settings.{Settings}
 use Rattle.run_model.proofs.RerunLemmas.{unseen-none}
@@ -17,7 +15,8 @@ use Rattle.run_model.specs.Admission.{limits_of, scripts_in, seat_of, tests_in, 
 use Rattle.run_model.specs.Board.{board, dispatcher_of}
 use Rattle.run_model.specs.Dispatch.{unbegun}
 use Rattle.run_laws.proofs.board.Nothing.{tally-nil, units-nil}
-use Rattle.run_state.specs.Held.{Held, held}
+use Rattle.run_unit.specs.Alike.{alike_of}
+use Rattle.run_state.specs.Held.{Held, held, kept_of}
 use Rattle.run_state.specs.Placed.{FitsUnits, HasSeats}
 use Rattle.run_state.proofs.HoldersLemmas.{absent_held}
 
@@ -68,23 +67,17 @@ dispatcher-nil p =
     (sym (unseen-none [] (λ id. refl) p.expected))
 
 -- and so is its state
-pub state-nil : (p : Settings) (us : List (Option UnitView)) (queue : List Message) (answers : List InfoResponse)
-    (d : DispatcherView) (a : Admissions)
-    → length us ≡ units_in p → ((k : ℕ) → get_or us k None ≡ None) → queue ≡ [] → answers ≡ [] → d ≡ unbegun p
-    → a ≡ begun p.threads p.plan.groups p.plan.tests
-    → record (held p (board p [])) {
-      board = record (board p []) { units = us; queue = queue; answers = answers; dispatcher = d };
-      limits = a;
-    } ≡ held p (board p [])
-state-nil p us queue answers d a whole none waits gives unbegins limits =
-    ap₂ (λ queue answers. record h {
-      board = record h.board { units = us; queue = queue; answers = answers; dispatcher = d };
-      limits = a;
-    }) waits gives
-    ∙ ap₂ (λ d a. record h { board = record h.board { units = us; dispatcher = d }; limits = a })
+pub state-nil : (p : Settings) (us : List (Option UnitView)) (d : DispatcherView) (s : Held)
+    → s.board ≡ record (board p []) { units = us; dispatcher = d }
+    → length us ≡ units_in p → ((k : ℕ) → get_or us k None ≡ None) → d ≡ unbegun p
+    → s.kept.limits ≡ begun p.threads p.plan.groups p.plan.tests → s.kept.alike ≡ alike_of p → s ≡ held p (board p [])
+state-nil p us d s rests whole none unbegins limits alike =
+    ap (λ board. record s { board = board }) rests
+    ∙ ap₂ (λ d kept. record h { board = record h.board { units = us; dispatcher = d }; kept = kept })
     (unbegins ∙ dispatcher-nil p)
-    (limits ∙ limits-anew p us none (omega (arith, length-drop (scripts_in p) us, whole)))
-    ∙ ap (λ us. record h { board = record h.board { units = us }; limits = limits_of p us }) (units-nil p us whole none)
+    (ap₂ (λ limits alike. record { limits = limits; alike = alike })
+    (limits ∙ limits-anew p us none (omega (arith, length-drop (scripts_in p) us, whole))) alike)
+    ∙ ap (λ us. record h { board = record h.board { units = us }; kept = kept_of p us }) (units-nil p us whole none)
   where
     h : Held
     h = held p (board p [])

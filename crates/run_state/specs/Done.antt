@@ -4,9 +4,9 @@ use Rattle.run_model.specs.Board.{Deed, deed_events, moved}
 use Rattle.run_state.specs.declared.effects.Effects.{Effects}
 use Rattle.run_state.specs.Held.{Held}
 
--- its deed is done, and what the tests hold of the limits is left
+-- its deed is done, and what is kept beside the board is left
 pub record Done (old : Held) (deed : Deed) (new : Held) (effects : Effects) : Type 0 where
   pub after : new.board ≡ moved old.board deed
-  pub limits : new.limits ≡ old.limits
+  pub kept : new.kept ≡ old.kept
   pub told : effects.events ≡ deed_events deed
   pub asked : effects.asked ≡ deed.asked

@@ -7,21 +7,27 @@ use Rattle.run_model.specs.declared.unit_view.UnitView.{UnitView}
 use Rattle.run_model.specs.Admission.{scripts_in, limits_of, open_script, scripts_of, scripts_over, Newcomer}
 use Rattle.run_model.specs.Environment.{number}
 use Rattle.run_model.specs.Board.{Board}
+use Rattle.run_unit.specs.Alike.{alike_of}
+use Rattle.run_state.specs.declared.kept.Kept.{Kept}
 use Rattle.run_state.specs.declared.admission.Next.{Next}
 use Rattle.run_state.specs.declared.admission.Next.TheVariants.{Script, Test}
 
--- the board that turns read, and what is kept of what the tests hold of the limits
+-- the board that turns read, and what is kept beside it
 pub record Held : Type 0 where
   pub board : Board
-  pub limits : Admissions
+  pub kept : Kept
 
--- what is kept of the limits is what the units hold of them
+-- what the units hold of the limits, and what their children have alike
+abbrev pub kept_of : Settings → List (Option UnitView) → Kept
+kept_of p us = record { limits = limits_of p us; alike = alike_of p }
+
+-- what is kept beside the board is that of its units
 abbrev pub KeepsSeats : Settings → Held → Type 0
-KeepsSeats p h = h.limits ≡ limits_of p h.board.units
+KeepsSeats p h = h.kept ≡ kept_of p h.board.units
 
 -- the state with this board
 abbrev pub held : Settings → Board → Held
-held p b = record { board = b; limits = limits_of p b.units }
+held p b = record { board = b; kept = kept_of p b.units }
 
 -- a test comes next: all scripts are over, and the rule admits it
 pub record Comes (p : Settings) (us : List (Option UnitView)) (next : Admitted) : Type 0 where

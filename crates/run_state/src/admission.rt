@@ -8,13 +8,14 @@ ghost use Rattle.run_model.specs.Admission.{open_script, scripts_of, scripts_ove
 ghost use Rattle.run_model.specs.Admission.{skipped_view, slots_of, start_message, test_of, unit_of_test};
 ghost use Rattle.run_model.specs.Admission.{units_in, AreFew};
 ghost use Rattle.run_model.specs.Environment.{number};
+ghost use Rattle.run_unit.specs.Alike.{alike_of};
 ghost use Rattle.run_state.specs.Held.{IsNext};
 
 use crate::units::Units;
 use run_admission::{Admission, Admitted, Candidate};
 use run_capture::{Duplicate, List, Mem, Text};
 use run_events::{GroupSlot, Message, PlanTest, Settings, StressIndex, TestSlotAssignment};
-use run_unit::{Unit, skip_message};
+use run_unit::{Alike, Unit, skip_message};
 use std::alloc::Global;
 
 /// Whether all setup scripts are over.
@@ -70,9 +71,11 @@ pub struct Newcomer {
 pub fn script_of(
     alloc: Global,
     settings: &Settings,
+    alike: &Alike,
     index: Option<StressIndex>,
     place: u32,
 ) -> Mem<Newcomer>
+    requires alike { alike.now ≡ alike_of settings.now }
     requires planned { place < length settings.now.plan.scripts }
     requires few { AreFew settings.now }
     ensures made { IfOk result (λ a. script_newcomer settings.now index place
@@ -80,7 +83,7 @@ pub fn script_of(
         ≡ Some (record { unit = a.unit; sent = a.sent })) }
     ensures place { IfOk result (λ a. number a.unit ≡ place) }
 {
-    let unit = Unit::script(alloc, settings, index, place)?;
+    let unit = Unit::script(alloc, settings, alike, index, place)?;
     let sent = unit.start_message(alloc)?;
     Ok(Newcomer { unit, sent })
 }
@@ -89,11 +92,13 @@ pub fn script_of(
 fn skip_test(
     alloc: Global,
     settings: &Settings,
+    alike: &Alike,
     index: Option<StressIndex>,
     test: u32,
     planned: &PlanTest,
     reason: &Text,
 ) -> Mem<Newcomer>
+    requires alike { alike.now ≡ alike_of settings.now }
     requires planned { slice_get settings.now.plan.tests test ≡ Some planned.now }
     requires few { AreFew settings.now }
     ensures unit { IfOk result (λ a. a.unit
@@ -101,7 +106,7 @@ fn skip_test(
     ensures sent { IfOk result (λ a. a.sent
         ≡ skip_message index (unit_of_test settings.now test) planned.now reason.now) }
 {
-    let unit = Unit::skipped(alloc, settings, index, test)?;
+    let unit = Unit::skipped(alloc, settings, alike, index, test)?;
     let number = settings.plan.scripts.len() as u32 + test;
     let sent = skip_message(alloc, index, number, planned, reason)?;
     Ok(Newcomer { unit, sent })
@@ -124,11 +129,13 @@ fn group_slot(alloc: Global, slot: Option<u32>, group: &Option<Text>) -> Mem<Opt
 fn start_test(
     alloc: Global,
     settings: &Settings,
+    alike: &Alike,
     index: Option<StressIndex>,
     test: u32,
     slots: TestSlotAssignment,
     handed: List<(Text, Text)>,
 ) -> Mem<Newcomer>
+    requires alike { alike.now ≡ alike_of settings.now }
     requires planned { test < length settings.now.plan.tests }
     requires few { AreFew settings.now }
     ensures unit { IfOk result (λ a. option_map
@@ -136,7 +143,7 @@ fn start_test(
         (slice_get settings.now.plan.tests test) ≡ Some a.unit) }
     ensures sent { IfOk result (λ a. a.sent ≡ start_message a.unit.role a.unit) }
 {
-    let unit = Unit::test(alloc, settings, index, test, slots, handed)?;
+    let unit = Unit::test(alloc, settings, alike, index, test, slots, handed)?;
     let sent = unit.start_message(alloc)?;
     Ok(Newcomer { unit, sent })
 }
@@ -182,10 +189,12 @@ pub fn place_of(admitted: &Admitted) -> u32
 pub fn newcomer_of(
     alloc: Global,
     settings: &Settings,
+    alike: &Alike,
     index: Option<StressIndex>,
     units: &Units,
     admitted: Admitted,
 ) -> Mem<Newcomer>
+    requires alike { alike.now ≡ alike_of settings.now }
     requires whole { length units.now ≡ units_in settings.now }
     requires planned { test_of admitted < length settings.now.plan.tests }
     requires made { is_some (newcomer_as settings.now index units.now admitted
@@ -200,7 +209,7 @@ pub fn newcomer_of(
     let planned = &settings.plan.tests.as_slice()[place_of(&admitted) as usize];
     match (admitted, &planned.skip) {
         (Admitted::Skip { test }, Some(reason)) => {
-            skip_test(alloc, settings, index, test, planned, reason)
+            skip_test(alloc, settings, alike, index, test, planned, reason)
         }
         (Admitted::Skip { .. }, None) => unreachable!(),
         (
@@ -213,7 +222,7 @@ pub fn newcomer_of(
         ) => {
             let slots = slots_of(alloc, planned, global_slot, group_slot)?;
             let handed = handed_to(alloc, settings, units, planned)?;
-            start_test(alloc, settings, index, test, slots, handed)
+            start_test(alloc, settings, alike, index, test, slots, handed)
         }
     }
 }
@@ -231,10 +240,12 @@ pub enum Next {
 pub fn next_newcomer(
     alloc: Global,
     settings: &Settings,
+    alike: &Alike,
     index: Option<StressIndex>,
     units: &Units,
     next: Next,
 ) -> Mem<(u32, Newcomer)>
+    requires alike { alike.now ≡ alike_of settings.now }
     requires next { IsNext settings.now units.now next }
     requires whole { length units.now ≡ units_in settings.now }
     requires few { AreFew settings.now }
@@ -247,12 +258,12 @@ pub fn next_newcomer(
     match next {
         Next::Script(place) => {
             let place = place as u32;
-            let new = script_of(alloc, settings, index, place)?;
+            let new = script_of(alloc, settings, alike, index, place)?;
             Ok((place, new))
         }
         Next::Test(admitted) => {
             let place = settings.plan.scripts.len() as u32 + place_of(&admitted);
-            let new = newcomer_of(alloc, settings, index, units, admitted)?;
+            let new = newcomer_of(alloc, settings, alike, index, units, admitted)?;
             Ok((place, new))
         }
     }

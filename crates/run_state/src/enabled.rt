@@ -105,7 +105,7 @@ fn is_run_enabled(settings: &Settings, state: &State, turn: &Turn) -> bool
     ensures { result ≡ run_takes settings.now state.now.board turn.now }
 {
     match turn {
-        Turn::Admit => is_on(state) && can_admit(settings, &state.units, &state.admission),
+        Turn::Admit => is_on(state) && can_admit(settings, &state.units, &state.kept.limits),
         Turn::Clock { ns } => state.clock.checked_add(*ns).is_some(),
         _ => state.dispatcher.enabled(turn, state.facts(), state.clock),
     }

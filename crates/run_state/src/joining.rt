@@ -6,6 +6,7 @@ ghost use Rattle.run_model.specs.Admission.{newcomer, scripts_over, units_in, Ar
 ghost use Rattle.run_model.specs.Board.{moved};
 ghost use Rattle.run_model.specs.Turns.{admission, index_of};
 ghost use Rattle.run_laws.specs.Ready.{CanAdmit};
+ghost use Rattle.run_unit.specs.Alike.{alike_of};
 ghost use Rattle.run_state.specs.Held.{KeepsSeats, IsNext, units_with};
 
 use crate::admission::{Newcomer, Next, are_scripts_over, next_newcomer, next_script};
@@ -13,6 +14,7 @@ use crate::state::State;
 use crate::units::Units;
 use run_capture::{Mem, OutOfMemory};
 use run_events::{Message, Settings, StressIndex};
+use run_unit::Alike;
 use std::alloc::Global;
 use std::collections::VecDeque;
 
@@ -44,13 +46,14 @@ fn admit_test(alloc: Global, settings: &Settings, state: &mut State) -> Mem<()>
         ≡ moved b (admission (newcomer settings.now (index_of b.dispatcher) b.units))) }
     ensures seated { OnOk result (KeepsSeats settings.now state.new) }
 {
-    match state.admission.admit() {
+    match state.kept.limits.admit() {
         Some(admitted) => {
             let next = Next::Test(admitted);
             let index = state.dispatcher.stress_index();
             seat(
                 alloc,
                 settings,
+                &state.kept.alike,
                 index,
                 &mut state.units,
                 &mut state.queue,
@@ -80,6 +83,7 @@ fn admit_script(alloc: Global, settings: &Settings, state: &mut State) -> Mem<()
             seat(
                 alloc,
                 settings,
+                &state.kept.alike,
                 index,
                 &mut state.units,
                 &mut state.queue,
@@ -95,11 +99,13 @@ fn admit_script(alloc: Global, settings: &Settings, state: &mut State) -> Mem<()
 fn seat(
     alloc: Global,
     settings: &Settings,
+    alike: &Alike,
     index: Option<StressIndex>,
     units: &mut Units,
     queue: &mut VecDeque<Message>,
     next: Next,
 ) -> Mem<()>
+    requires alike { alike.now ≡ alike_of settings.now }
     requires next { IsNext settings.now units.old next }
     requires whole { length units.old ≡ units_in settings.now }
     requires few { AreFew settings.now }
@@ -110,7 +116,7 @@ fn seat(
     ensures err { OnErr result (units.new ≡ units.old) }
 {
     queue.reserve(1)?;
-    let (place, new) = next_newcomer(alloc, settings, index, units, next)?;
+    let (place, new) = next_newcomer(alloc, settings, alike, index, units, next)?;
     join(units, queue, place, new)
 }
 

@@ -9,6 +9,7 @@ mod delivery;
 mod effects;
 mod enabled;
 mod joining;
+mod kept;
 mod rounds;
 mod run_turns;
 mod scripts;

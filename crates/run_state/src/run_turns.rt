@@ -11,7 +11,8 @@ ghost use Rattle.run_state.specs.Held.{KeepsSeats};
 
 use crate::broadcast::broadcast;
 use crate::effects::{Effects, telling};
-use crate::state::{State, new_parts};
+use crate::kept::new_parts;
+use crate::state::State;
 use crate::units::Units;
 use run_admission::Admission;
 use run_capture::Mem;
@@ -50,7 +51,7 @@ pub fn begin(alloc: Global, settings: &Settings, state: &mut State) -> Mem<Effec
     ensures told { IfOk result (λ effects. effects.events ≡ deed_events (begun state.old.board)) }
     ensures asked { IfOk result (λ effects. effects.asked ≡ (begun state.old.board).asked) }
 {
-    renew(alloc, settings, &mut state.units, &mut state.admission)?;
+    renew(alloc, settings, &mut state.units, &mut state.kept.limits)?;
     state.holders = 0;
     let now = state.clock;
     let effects = state.dispatcher.begin(alloc, now)?;

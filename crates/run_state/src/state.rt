@@ -1,8 +1,7 @@
 // What a run keeps of its history.
-ghost use Rattle.std.specs.Prelude.{ℕ, ◌≡◌, ◌<◌, ◌^◌, [], IfOk, None, length, option_map, slice_index_or};
+ghost use Rattle.std.specs.Prelude.{◌≡◌, ◌<◌, ◌+◌, ◌^◌, [], IfOk, false, length, option_map};
 ghost use Rattle.run_clock.specs.Sleep.{IsDueFrom};
 ghost use Rattle.run_events.specs.declared.settings.Settings.{Settings};
-ghost use Rattle.run_admission.specs.InUse.{begun};
 ghost use Rattle.run_model.specs.Admission.{units_in};
 ghost use Rattle.run_model.specs.Reruns.{AreAscending};
 ghost use Rattle.std.specs.List.{list_any};
@@ -11,9 +10,10 @@ ghost use Rattle.run_model.specs.Dispatch.{is_halted};
 ghost use Rattle.run_model.specs.Turns.{facts, is_held, is_third_signal};
 ghost use Rattle.run_state.specs.Due.{is_any_due};
 ghost use Rattle.run_state.specs.Held.{held};
+ghost use Rattle.run_state.specs.Placed.{FitsUnits};
 
-use crate::units::{Units, unadmitted};
-use run_admission::Admission;
+use crate::kept::{Kept, first_parts};
+use crate::units::Units;
 use run_capture::Mem;
 use run_clock::sooner;
 use run_dispatch::Dispatcher;
@@ -23,8 +23,8 @@ use std::alloc::Global;
 use std::collections::VecDeque;
 use std::marker::Model;
 
-/// What a run keeps of its history. Contracts see it as the board that turns read, and what its tests hold of the
-/// limits. Its last units are tests, one for each seat.
+/// What a run keeps of its history. Contracts see it as the board that turns read, and what is kept beside that. Its
+/// last units are tests, one for each seat.
 #[derive(Drop)]
 pub struct State {
     /// Each script and test of the plan, once it was admitted.
@@ -40,8 +40,8 @@ pub struct State {
     pub(crate) clock: u64,
     /// Whether the reporter refused an event.
     pub(crate) refused: bool,
-    /// What the tests hold of the limits.
-    pub(crate) admission: Admission,
+    /// What is kept of the plan beside the units.
+    pub(crate) kept: Kept,
 }
 
 impl Model for State {
@@ -59,10 +59,10 @@ impl Model for State {
         clock = s.clock;
         refused = s.refused;
       };
-      limits = s.admission;
+      kept = s.kept;
     } };
 
-    ghost invariant = { λ s. FitsUnits s.dispatcher.rounds.asks s.units s.holders s.admission };
+    ghost invariant = { λ s. FitsUnits s.dispatcher.rounds.asks s.units s.holders s.kept.limits };
 }
 
 // Whether one of these was refused.
@@ -72,20 +72,29 @@ fn is_one_refused(refused: &[bool]) -> bool
     refused.iter().any(|refused| *refused)
 }
 
-/// So many units, none of which was admitted, and the limits, of which no test holds anything.
-pub fn new_parts(alloc: Global, settings: &Settings, count: usize) -> Mem<(Units, Admission)>
-    requires few { count < 2 ^ 32 }
-    requires tests { length settings.now.plan.tests < 2 ^ 32 }
-    ensures count { IfOk result (λ parts. length parts.0 ≡ count) }
-    ensures none { IfOk result (λ parts. (k : ℕ) → slice_index_or parts.0 k None ≡ None) }
-    ensures limits { let plan = settings.now.plan in
-        IfOk result (λ parts. parts.1 ≡ begun settings.now.threads plan.groups plan.tests) }
+// A state of these parts, at the clock's 0, in which nothing waits.
+fn at_rest(alloc: Global, units: Units, dispatcher: Dispatcher, kept: Kept) -> State
+    requires { FitsUnits dispatcher.rounds.asks units 0 kept.limits }
+    ensures board { result.board ≡ record {
+      units = units;
+      queue = [];
+      answers = [];
+      dispatcher = dispatcher;
+      clock = 0;
+      refused = false;
+    } }
+    ensures kept { result.kept ≡ kept }
 {
-    let units = unadmitted(alloc, count)?;
-    let groups = settings.plan.groups.as_slice();
-    let tests = settings.plan.tests.as_slice();
-    let admission = Admission::new(alloc, settings.threads, groups, tests)?;
-    Ok((Units::new(alloc, units), admission))
+    State {
+        units,
+        queue: VecDeque::new(alloc),
+        answers: VecDeque::new(alloc),
+        dispatcher,
+        holders: 0,
+        clock: 0,
+        refused: false,
+        kept,
+    }
 }
 
 impl State {
@@ -95,19 +104,18 @@ impl State {
         requires ascending { AreAscending settings.now.expected }
         ensures { IfOk result (λ s. s ≡ held settings.now (board settings.now [])) }
     {
-        let count = settings.plan.scripts.len() + settings.plan.tests.len();
-        let (units, admission) = new_parts(alloc, settings, count)?;
+        let (units, kept) = first_parts(alloc, settings)?;
         let dispatcher = Dispatcher::new(alloc, settings)?;
-        Ok(State {
-            units,
-            queue: VecDeque::new(alloc),
-            answers: VecDeque::new(alloc),
-            dispatcher,
-            holders: 0,
-            clock: 0,
-            refused: false,
-            admission,
-        })
+        Ok(at_rest(alloc, units, dispatcher, kept))
+    }
+
+    /// The clock moves by so many nanoseconds.
+    pub(crate) fn pass(&mut self, ns: u64)
+        requires { self.old.board.clock + ns < 2 ^ 64 }
+        ensures { self.new
+            ≡ record self.old { board = record self.old.board { clock = self.old.board.clock + ns } } }
+    {
+        self.clock += ns;
     }
 
     /// The reporter answered to the events of a turn: of each, whether it refused it.

@@ -69,7 +69,7 @@ fn advance_run(alloc: Global, settings: &Settings, state: &mut State, turn: &Tur
         }
         Turn::Deliver => deliver(alloc, settings, state),
         Turn::Clock { ns } => {
-            state.clock += *ns;
+            state.pass(*ns);
             Ok(asking(None))
         }
         Turn::Signal { signal } => hear_signal(alloc, state, *signal),

@@ -179,7 +179,7 @@ pub fn take_turn(
         settings,
         &mut state.units,
         &mut state.holders,
-        &mut state.admission,
+        &mut state.kept.limits,
         asks,
         unit,
         turn,

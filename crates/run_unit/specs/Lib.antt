@@ -1,3 +1,4 @@
+pub mod Alike
 pub mod Effects
 pub mod Heard
 pub mod Taken

@@ -21,11 +21,19 @@ pub struct UnitEffects {
     pub over: bool,
 }
 
+// Copies of what a step sends and asks.
+fn copy_sent(alloc: Global, effects: &UnitEffects) -> Mem<(Option<Message>, Option<Ask>)>
+    ensures { IfOk result (λ copies. copies ≡ (effects.now.sent, effects.now.asked)) }
+{
+    let asked = effects.asked.copy(alloc)?;
+    let sent = effects.sent.copy(alloc)?;
+    Ok((sent, asked))
+}
+
 impl Duplicate for UnitEffects {
     fn copy(&self, alloc: Global) -> Mem<UnitEffects> {
-        let asked = self.asked.copy(alloc)?;
-        let sent = self.sent.copy(alloc)?;
         let info = self.info.copy(alloc)?;
+        let (sent, asked) = copy_sent(alloc, self)?;
         Ok(UnitEffects {
             sent,
             asked,

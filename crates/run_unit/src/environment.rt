@@ -198,9 +198,9 @@ fn test_variables(alloc: Global, role: &TestRole, view: &UnitView) -> Mem<Variab
     requires { attempts view.now < 2 ^ 32 }
     ensures { IfOk result (λ v. v.items ≡ test_variables role.now view.now) }
 {
-    let place = place_then(alloc, role, &view.around)?;
+    let place = place_then(alloc, role, view.around.get())?;
     let identity = followed_by(identity_variables(alloc, role, view)?, place)?;
-    followed_by(run_variables(alloc, &view.around)?, identity)
+    followed_by(run_variables(alloc, view.around.get())?, identity)
 }
 
 // Those of a script's child.
@@ -210,8 +210,8 @@ fn script_variables(alloc: Global, role: &ScriptRole, view: &UnitView) -> Mem<Va
 {
     let path = role.env_path.as_str();
     let list = with_text(alloc, Vec::new(alloc), "NEXTEST_ENV", path)?;
-    let list = followed_by(list, run_variables(alloc, &view.around)?)?;
-    let shared = shared_then(alloc, &view.around, Vec::new(alloc))?;
+    let list = followed_by(list, run_variables(alloc, view.around.get())?)?;
+    let shared = shared_then(alloc, view.around.get(), Vec::new(alloc))?;
     followed_by(list, shared)
 }
 

@@ -1,5 +1,5 @@
 // A unit as it begins.
-ghost use Rattle.std.specs.Prelude.{◌≡◌, ◌∷◌, IfOk};
+ghost use Rattle.std.specs.Prelude.{◌≡◌, ◌++◌, ◌∷◌, [], IfOk};
 ghost use Rattle.run_commands.specs.TargetRunner.{binary_of, args_of};
 ghost use Rattle.run_model.specs.Admission.{begun_view, flaky_of, retries_of, terms_of, surroundings_of, command_of};
 ghost use Rattle.run_model.specs.Admission.{streams_by, test_role, first_view};
@@ -13,14 +13,16 @@ use run_events::{
     FlakyResult, PlanTest, RetryPolicy, ScriptEnv, Settings, StressIndex, TerminateReason,
     TestSlotAssignment,
 };
-use run_model::{AttemptTerms, CapturedStreams, Phase, Surroundings, TestRole, UnitRole, UnitView};
+use run_model::{
+    AttemptTerms, CapturedStreams, Phase, Shared, Surroundings, TestRole, UnitRole, UnitView,
+};
 use std::alloc::Global;
 
 /// A unit as it begins, in this role, with this command, in these surroundings and on these terms.
 pub fn begun_view(
     role: UnitRole,
     command: List<Text>,
-    around: Surroundings,
+    around: Shared<Surroundings>,
     terms: AttemptTerms,
 ) -> UnitView
     ensures { result ≡ begun_view role command around terms }
@@ -101,35 +103,22 @@ fn terms_of(settings: &Settings, test: &PlanTest) -> AttemptTerms
     }
 }
 
-/// What the children of tests have alike.
-pub fn surroundings_of(alloc: Global, settings: &Settings) -> Mem<Surroundings>
-    ensures { IfOk result (λ around. around ≡ surroundings_of settings.now) }
+// Some words, and then this one.
+fn with_word(alloc: Global, words: List<Text>, word: &str) -> Mem<List<Text>>
+    ensures { IfOk result (λ all. all ≡ words ++ word.now ∷ []) }
 {
-    let head = &settings.plan.head;
-    let workspace_root = head.workspace_root.copy(alloc)?;
-    let versions = head.versions.pairs(alloc)?;
-    let interceptor = &settings.interceptor;
-    let wrapper = interceptor.words(alloc)?;
-    Ok(Surroundings {
-        run_id: head.run_id,
-        mode: head.mode,
-        threads: settings.threads,
-        workspace_root,
-        versions,
-        wrapper,
-        group: interceptor.should_create_process_group(),
-        stdin: interceptor.should_passthrough_stdin(),
-    })
+    let mut words = words;
+    words.push(alloc, Text::from_str(alloc, word)?)?;
+    Ok(words)
 }
 
 // The words of a runner.
 fn runner_words(alloc: Global, runner: &PlatformRunner) -> Mem<List<Text>>
     ensures { IfOk result (λ words. words ≡ binary_of runner.now ∷ args_of runner.now) }
 {
-    let mut words = List::new();
-    words.push(alloc, Text::from_str(alloc, runner.binary())?)?;
+    let mut words = with_word(alloc, List::new(), runner.binary())?;
     for word in runner.args() {
-        words.push(alloc, Text::from_str(alloc, word)?)?;
+        words = with_word(alloc, words, word)?;
     }
     Ok(words)
 }
@@ -145,19 +134,6 @@ fn command_of(alloc: Global, settings: &Settings, test: &PlanTest) -> Mem<List<T
         }
         None => test.command.copy(alloc),
     }
-}
-
-// The command of a test, and what its child has as the others have it.
-fn start_parts(
-    alloc: Global,
-    settings: &Settings,
-    planned: &PlanTest,
-) -> Mem<(List<Text>, Surroundings)>
-    ensures { IfOk result (λ parts. parts ≡ (command_of settings.now planned.now, surroundings_of settings.now)) }
-{
-    let command = command_of(alloc, settings, planned)?;
-    let around = surroundings_of(alloc, settings)?;
-    Ok((command, around))
 }
 
 // A planned test as the unit of this number, in this slot, where its scripts handed these variables on.
@@ -181,20 +157,24 @@ fn test_role(
     }))
 }
 
-/// A planned test as it begins: as the unit of this number, in this slot, where its scripts handed these variables on.
+/// A planned test as it begins: in the surroundings of all tests, as the unit of this number, in this slot, where its
+/// scripts handed these variables on.
 pub fn first_view(
     alloc: Global,
     settings: &Settings,
+    around: &Shared<Surroundings>,
     index: Option<StressIndex>,
     unit: u32,
     slot: TestSlotAssignment,
     handed: List<(Text, Text)>,
     planned: &PlanTest,
 ) -> Mem<UnitView>
+    requires alike { around.now ≡ surroundings_of settings.now }
     ensures { IfOk result (λ u. u ≡ first_view settings.now index unit slot handed planned.now) }
 {
     let role = test_role(alloc, settings, index, unit, slot, handed, planned)?;
-    let (command, around) = start_parts(alloc, settings, planned)?;
+    let command = command_of(alloc, settings, planned)?;
+    let around = around.share()?;
     let terms = terms_of(settings, planned);
     Ok(begun_view(role, command, around, terms))
 }

@@ -4,6 +4,7 @@
 #![tactic(auto)]
 
 mod acting;
+mod alike;
 mod effects;
 mod ending;
 mod env;
@@ -24,6 +25,7 @@ mod terminate;
 mod timing;
 mod unit;
 
+pub use alike::Alike;
 pub use effects::UnitEffects;
 pub use messages::skip_message;
 // `start_of` has the environment in its contract, and the next four are the given surface of a unit.

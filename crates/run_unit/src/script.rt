@@ -7,14 +7,16 @@ ghost use Rattle.run_model.specs.Environment.{script_start};
 ghost use Rattle.run_model.specs.Retries.{script_status, script_finish};
 ghost use Rattle.run_model.specs.Unit.{script_slow};
 
-use crate::first::{begun_view, surroundings_of};
+use crate::first::begun_view;
 use crate::slow::{is_out_of_time, slow_time};
-use run_capture::{CaptureStrategy, Duplicate, List, Mem, Text};
+use run_capture::{CaptureStrategy, Duplicate, Mem};
 use run_events::{
     ExecuteStatus, PlanScript, RetryPolicy, ScriptEnv, ScriptFinish, ScriptSlow, ScriptStart,
     ScriptUnit, Settings, SetupScriptExecuteStatus, SlowTimeout, SlowTimeoutResult, StressIndex,
 };
-use run_model::{AttemptTerms, CapturedStreams, ScriptRole, Surroundings, UnitRole, UnitView};
+use run_model::{
+    AttemptTerms, CapturedStreams, ScriptRole, Shared, Surroundings, UnitRole, UnitView,
+};
 use std::alloc::Global;
 
 // The streams of its child that are captured: none where nothing is.
@@ -54,17 +56,6 @@ fn script_terms(settings: &Settings, script: &PlanScript) -> AttemptTerms
     }
 }
 
-// What the children of scripts have alike: they run under no interceptor.
-fn script_surroundings(alloc: Global, settings: &Settings) -> Mem<Surroundings>
-    ensures { IfOk result (λ around. around ≡ script_surroundings settings.now) }
-{
-    let mut around = surroundings_of(alloc, settings)?;
-    around.wrapper = List::new();
-    around.group = true;
-    around.stdin = false;
-    Ok(around)
-}
-
 // The script at this place of the plan: as a unit its number is its place.
 fn script_role(
     alloc: Global,
@@ -89,32 +80,22 @@ fn script_role(
     Ok(UnitRole::Script(ScriptRole { script, env_path }))
 }
 
-// Its command, and what its child has as the others have it.
-fn start_parts(
-    alloc: Global,
-    settings: &Settings,
-    script: &PlanScript,
-) -> Mem<(List<Text>, Surroundings)>
-    ensures { IfOk result (λ parts. parts ≡ (script.now.command, script_surroundings settings.now)) }
-{
-    let command = script.command.copy(alloc)?;
-    let around = script_surroundings(alloc, settings)?;
-    Ok((command, around))
-}
-
-/// The script at this place of the plan, as it begins.
+/// The script at this place of the plan, as it begins, in the surroundings of all scripts.
 pub fn script_view(
     alloc: Global,
     settings: &Settings,
+    around: &Shared<Surroundings>,
     index: Option<StressIndex>,
     place: u32,
     script: &PlanScript,
 ) -> Mem<UnitView>
-    requires { scripts_in settings.now < 2 ^ 32 }
+    requires few { scripts_in settings.now < 2 ^ 32 }
+    requires alike { around.now ≡ script_surroundings settings.now }
     ensures { IfOk result (λ u. u ≡ script_view settings.now index place script.now) }
 {
     let role = script_role(alloc, settings, index, place, script)?;
-    let (command, around) = start_parts(alloc, settings, script)?;
+    let command = script.command.copy(alloc)?;
+    let around = around.share()?;
     let terms = script_terms(settings, script);
     Ok(begun_view(role, command, around, terms))
 }

@@ -76,7 +76,7 @@ pub fn child_ask(view: &UnitView, signal: ChildSignal) -> Ask
     Ask::Signal(SignalAsk {
         unit: number_of(&view.role),
         signal,
-        group: view.around.group,
+        group: view.around.get().group,
     })
 }
 

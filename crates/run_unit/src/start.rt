@@ -69,11 +69,11 @@ fn streams_of(alloc: Global, captured: CapturedStreams) -> Mem<List<Stream>>
 fn wrapped(alloc: Global, unit: &UnitView) -> Mem<List<Text>>
     ensures { IfOk result (λ all. all ≡ unit.now.around.wrapper ++ unit.now.command) }
 {
-    if unit.around.wrapper.is_empty() {
+    let wrapper = &unit.around.get().wrapper;
+    if wrapper.is_empty() {
         return unit.command.copy(alloc);
     }
-    let wrapper = unit.around.wrapper.copy(alloc)?;
-    with_command(alloc, wrapper, &unit.command)
+    with_command(alloc, wrapper.copy(alloc)?, &unit.command)
 }
 
 // That command, and the child's variables.
@@ -101,8 +101,8 @@ pub fn start_of(alloc: Global, unit: &UnitView) -> Mem<Ask>
         attempt: unit.attempt,
         command,
         env,
-        group: unit.around.group,
-        stdin: unit.around.stdin,
+        group: unit.around.get().group,
+        stdin: unit.around.get().stdin,
         streams,
         env_path,
     }))

@@ -9,10 +9,12 @@ ghost use Rattle.run_model.specs.Admission.{scripts_in, terms_at, unit_of_test};
 ghost use Rattle.run_model.specs.Backoff.{retry_count};
 ghost use Rattle.run_model.specs.declared.phase.Phase.TheVariants as phases;
 ghost use Rattle.run_model.specs.declared.unit_turn.UnitTurn.TheVariants.{Due};
+ghost use Rattle.run_unit.specs.Alike.{alike_of};
 ghost use Rattle.run_unit.specs.Effects.{IsRow};
 ghost use Rattle.run_model.specs.Same.{is_request};
 
 use crate::acting::{act, is_enabled};
+use crate::alike::Alike;
 use crate::effects::UnitEffects;
 use crate::first::first_view;
 use crate::messages::start_message;
@@ -48,11 +50,13 @@ impl Unit {
     pub fn test(
         alloc: Global,
         settings: &Settings,
+        alike: &Alike,
         index: Option<StressIndex>,
         test: u32,
         slot: TestSlotAssignment,
         handed: List<(Text, Text)>,
     ) -> Mem<Unit>
+        requires alike { alike.now ≡ alike_of settings.now }
         requires planned { test < length settings.now.plan.tests }
         requires numbered { unit_of_test settings.now test < 2 ^ 32 }
         requires attempts { retry_count (terms_at settings.now test).retries + 1 < 2 ^ 32 }
@@ -63,7 +67,16 @@ impl Unit {
     {
         let planned = &settings.plan.tests.as_slice()[test as usize];
         let unit = settings.plan.scripts.len() as u32 + test;
-        let view = first_view(alloc, settings, index, unit, slot, handed, planned)?;
+        let view = first_view(
+            alloc,
+            settings,
+            &alike.tests,
+            index,
+            unit,
+            slot,
+            handed,
+            planned,
+        )?;
         Ok(Unit { view })
     }
 
@@ -71,9 +84,11 @@ impl Unit {
     pub fn skipped(
         alloc: Global,
         settings: &Settings,
+        alike: &Alike,
         index: Option<StressIndex>,
         test: u32,
     ) -> Mem<Unit>
+        requires alike { alike.now ≡ alike_of settings.now }
         requires planned { test < length settings.now.plan.tests }
         requires numbered { unit_of_test settings.now test < 2 ^ 32 }
         requires attempts { retry_count (terms_at settings.now test).retries + 1 < 2 ^ 32 }
@@ -85,7 +100,7 @@ impl Unit {
             global: 0,
             group: None,
         };
-        let mut unit = Unit::test(alloc, settings, index, test, slot, List::new())?;
+        let mut unit = Unit::test(alloc, settings, alike, index, test, slot, List::new())?;
         unit.view.phase = Phase::Over;
         Ok(unit)
     }
@@ -94,9 +109,11 @@ impl Unit {
     pub fn script(
         alloc: Global,
         settings: &Settings,
+        alike: &Alike,
         index: Option<StressIndex>,
         script: u32,
     ) -> Mem<Unit>
+        requires alike { alike.now ≡ alike_of settings.now }
         requires planned { script < length settings.now.plan.scripts }
         requires numbered { scripts_in settings.now < 2 ^ 32 }
         ensures view { IfOk result (λ u. option_map (script_view settings.now index script)
@@ -104,7 +121,7 @@ impl Unit {
         ensures phase { IfOk result (λ u. u.phase ≡ phases.StartSent) }
     {
         let planned = &settings.plan.scripts.as_slice()[script as usize];
-        let view = script_view(alloc, settings, index, script, planned)?;
+        let view = script_view(alloc, settings, &alike.scripts, index, script, planned)?;
         Ok(Unit { view })
     }
 

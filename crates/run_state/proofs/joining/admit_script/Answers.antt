@@ -3,10 +3,11 @@ use Rattle.std.proofs.Common.{arith}
 use Rattle.run_model.specs.Admission.{limits_of, newcomer, open_script, scripts_in, scripts_of, units_in}
 use Rattle.run_model.specs.Board.{Board, moved}
 use Rattle.run_model.specs.Turns.{admission, index_of}
-use Rattle.run_state.specs.Held.{Held, units_with}
+use Rattle.run_state.specs.declared.kept.Kept.{Kept}
+use Rattle.run_state.specs.Held.{Held, kept_of, units_with}
 use Rattle.run_state.specs.Counted.{holders_in}
 use Rattle.run_state.specs.Placed.{AreTests}
-use Rattle.run_state.proofs.DeedLemmas.{admission_moved}
+use Rattle.run_state.proofs.DeedLemmas.{admission_moved, kept_with}
 use Rattle.run_state.proofs.HoldersLemmas.{holders_joined}
 use Rattle.run_state.proofs.PlaceLemmas.{tests-after}
 use Rattle.run_state.proofs.SeatLemmas.{limits-script}
@@ -18,11 +19,13 @@ returns-clause-seated c =
     let us = c.state.inside.units in
     let index = index_of c.state.inside.dispatcher in
     let i = c.in-Some.place in
-    let seated : c.state.inside.admission ≡ limits_of p us = rw (sym c.state.view_is) at c.requires.seated in
+    let kept : c.state.inside.kept ≡ kept_of p us = rw (sym c.state.view_is) at c.requires.seated in
+    let seated : c.state.inside.kept.limits ≡ limits_of p us = ap (λ (k : Kept). k.limits) kept in
     let next : open_script (scripts_of p us) ≡ Some i = sym c.next_script.ensures ∙ c.in-Some.is in
-    seated ∙ limits-script p index us i (rw (sym c.state.view_is) at c.requires.before) next
+    kept_with p us c.seat.new.units c.state.inside.kept c.state.inside.kept.limits kept
+    (seated ∙ limits-script p index us i (rw (sym c.state.view_is) at c.requires.before) next
     ∙ sym (ap (limits_of p) (c.in_ok-seat-in-Some.ensures.units
-    ∙ ap (λ index. units_with p us (newcomer p index us)) c.stress_index-index.ensures))
+    ∙ ap (λ index. units_with p us (newcomer p index us)) c.stress_index-index.ensures)))
 
 pub returns-clause-after : goal.returns-clause-after
 returns-clause-after c =
@@ -49,9 +52,10 @@ pub invariant_of-state-in-Some : goal.invariant_of-state-in-Some
 invariant_of-state-in-Some c =
     let p = c.args.settings.now in
     let us = c.state.inside.units in
-    let a = c.state.inside.admission in
+    let a = c.state.inside.kept.limits in
     let index = index_of c.state.inside.dispatcher in
-    let seated : a ≡ limits_of p us = rw (sym c.state.view_is) at c.requires.seated in
+    let kept : c.state.inside.kept ≡ kept_of p us = rw (sym c.state.view_is) at c.requires.seated in
+    let seated : a ≡ limits_of p us = ap (λ (k : Kept). k.limits) kept in
     let whole : length us ≡ units_in p = rw (sym c.state.view_is) at c.requires.can.whole in
     let many : scripts_in p ≤ length us = omega (arith, whole) in
     let asks = c.state.inside.dispatcher.rounds.asks in

@@ -26,7 +26,7 @@ broadcast-requires c =
 
 pub invariant_of-state-in_err-broadcast : goal.invariant_of-state-in_err-broadcast
 invariant_of-state-in_err-broadcast c =
-    let a = c.state.inside.admission in (
+    let a = c.state.inside.kept.limits in (
       tests-kept c.state.inside.units c.broadcast.new.units a a c.state.invariant.0 c.broadcast.ensures.scripts refl,
       c.broadcast.ensures.counted
           ∙ ap (λ asks. holders_in asks c.broadcast.new.units) c.round_request-asks.ensures,
@@ -35,7 +35,7 @@ invariant_of-state-in_err-broadcast c =
 
 pub invariant_of-state-2 : goal.invariant_of-state-2
 invariant_of-state-2 c =
-    let a = c.state.inside.admission in (
+    let a = c.state.inside.kept.limits in (
       tests-kept c.state.inside.units c.broadcast.new.units a a c.state.invariant.0 c.broadcast.ensures.scripts refl,
       c.broadcast.ensures.counted
           ∙ ap (λ asks. holders_in asks c.broadcast.new.units) c.round_request-asks.ensures,
@@ -56,7 +56,7 @@ returns c =
         clock = now;
         refused = c.state.inside.refused;
       };
-      limits = c.state.inside.admission;
+      kept = c.state.inside.kept;
     } in
     let live : c.facts-facts.result.live ≡ live_in us =
     ap (λ (f : Facts). f.live) c.facts-facts.ensures ∙ sym (ap (λ (h : Held). live_in h.board.units) c.state.view_is) in

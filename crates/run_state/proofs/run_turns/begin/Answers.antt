@@ -3,7 +3,9 @@ use Rattle.run_model.specs.Admission.{limits_of}
 use Rattle.run_model.specs.Board.{Board, deed_events, moved}
 use Rattle.run_model.specs.Turns.{begun}
 use Rattle.run_state.specs.declared.effects.Effects.{Effects}
-use Rattle.run_state.specs.Held.{Held}
+use Rattle.run_state.specs.declared.kept.Kept.{Kept}
+use Rattle.run_state.specs.Held.{Held, kept_of}
+use Rattle.run_state.proofs.DeedLemmas.{kept_with}
 use Rattle.run_state.proofs.RoundLemmas.{begun_moved}
 use Rattle.run_state.proofs.StartLemmas.{fits-anew, limits-anew, tests-many}
 use Rattle.run_state.proofs.run_turns.begin.Goals as goal
@@ -40,10 +42,12 @@ returns-clause-seated c =
     let p = c.args.settings.now in
     let us = c.state.inside.units in
     let vs = c.renew.new.units in
-    let seated : c.state.inside.admission ≡ limits_of p us = rw (sym c.state.view_is) at c.requires.seated in
-    c.in_ok-renew.ensures.limits
+    let kept : c.state.inside.kept ≡ kept_of p us = rw (sym c.state.view_is) at c.requires.seated in
+    let seated : c.state.inside.kept.limits ≡ limits_of p us = ap (λ (k : Kept). k.limits) kept in
+    kept_with p us vs c.state.inside.kept c.renew.new.admission kept
+    (c.in_ok-renew.ensures.limits
     ∙ limits-anew p vs c.in_ok-renew.ensures.none
-    (tests-many p us vs c.state.inside.admission seated c.state.invariant.2 c.in_ok-renew.ensures.count)
+    (tests-many p us vs c.state.inside.kept.limits seated c.state.invariant.2 c.in_ok-renew.ensures.count))
 
 pub returns-clause-told : goal.returns-clause-told
 returns-clause-told c =

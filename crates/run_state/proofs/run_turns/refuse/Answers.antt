@@ -11,7 +11,7 @@ use Rattle.run_state.proofs.run_turns.refuse.Goals as goal
 
 pub invariant_of-state-in_err-broadcast : goal.invariant_of-state-in_err-broadcast
 invariant_of-state-in_err-broadcast c =
-    let a = c.state.inside.admission in (
+    let a = c.state.inside.kept.limits in (
       tests-kept c.state.inside.units c.broadcast.new.units a a c.state.invariant.0 c.broadcast.ensures.scripts refl,
       c.broadcast.ensures.counted
           ∙ ap (λ asks. holders_in asks c.broadcast.new.units) c.round_request-asks.ensures,
@@ -20,7 +20,7 @@ invariant_of-state-in_err-broadcast c =
 
 pub invariant_of-state-2 : goal.invariant_of-state-2
 invariant_of-state-2 c =
-    let a = c.state.inside.admission in (
+    let a = c.state.inside.kept.limits in (
       tests-kept c.state.inside.units c.broadcast.new.units a a c.state.invariant.0 c.broadcast.ensures.scripts refl,
       c.broadcast.ensures.counted
           ∙ ap (λ asks. holders_in asks c.broadcast.new.units) c.round_request-asks.ensures,
@@ -38,7 +38,7 @@ returns c =
         clock = c.state.inside.clock;
         refused = c.state.inside.refused;
       };
-      limits = c.state.inside.admission;
+      kept = c.state.inside.kept;
     } in
     let deed = cancels_for old.board.clock old.board.dispatcher event_refused in
     subst (λ (h : Held). Done h (cancels_for h.board.clock h.board.dispatcher event_refused)

@@ -27,7 +27,7 @@ returns c =
         clock = c.state.inside.clock;
         refused = c.state.inside.refused;
       };
-      limits = c.state.inside.admission;
+      kept = c.state.inside.kept;
     } in
     subst (λ (h : Held). Done h ticks (record old { board = record old.board { dispatcher = c.tick.new.self } })
     c.telling.result)

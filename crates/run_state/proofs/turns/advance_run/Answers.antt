@@ -1,12 +1,11 @@
-use Rattle.std.proofs.Common.{◌+◌, refl, ap, sym, ◌∙◌}
+use Rattle.std.proofs.Common.{◌+◌, refl, ap, sym, subst, ◌∙◌}
 use Rattle.run_events.specs.Hearing.{heard_key}
-use Rattle.run_events.specs.declared.turn.Turn.TheVariants.{Clock}
 use Rattle.run_model.specs.Board.{Board, step}
 use Rattle.run_model.specs.Cancel.{event_refused, time_is_up}
 use Rattle.run_model.specs.Dispatch.{heard_by}
 use Rattle.run_model.specs.Turns.{answered_by, cancelled, ended, informs_at, keys_at, live_in, oldest_of, signals_at}
-use Rattle.run_model.specs.Turns.{nothing_done, run_turn, stops_itself, ticks}
-use Rattle.run_state.specs.Held.{Held}
+use Rattle.run_model.specs.Turns.{run_turn, stops_itself, ticks}
+use Rattle.run_state.specs.Held.{Held, KeepsSeats}
 use Rattle.run_state.proofs.DeedLemmas.{answer_seated, done_seated, nothing_moved}
 use Rattle.run_state.proofs.RoundLemmas.{answered_on, answered_part, end_own, key_own, signal_own}
 use Rattle.run_state.proofs.turns.advance_run.Goals as goal
@@ -39,7 +38,7 @@ returns-in-Tick-clause-seated c =
 pub returns-in-StopWaitDue-clause-seated : goal.returns-in-StopWaitDue-clause-seated
 returns-in-StopWaitDue-clause-seated c =
     done_seated c.args.settings.now c.args.state.now c.stop_itself.new.state stops_itself c.requires.seated refl refl
-    c.stop_itself.ensures.after c.stop_itself.ensures.limits
+    c.stop_itself.ensures.after c.stop_itself.ensures.kept
 
 pub returns-in-Answer-clause-seated : goal.returns-in-Answer-clause-seated
 returns-in-Answer-clause-seated c =
@@ -75,18 +74,14 @@ returns-in-End-clause-seated c =
     answer_seated c.args.settings.now c.args.state.now c.end.new.state (ended b) c.end.result
     c.requires.seated own.part own.begins c.end.ensures
 
+pub returns-in-Clock-clause-seated : goal.returns-in-Clock-clause-seated
+returns-in-Clock-clause-seated c = subst (KeepsSeats c.args.settings.now) (sym c.pass.ensures) c.requires.seated
+
 pub returns-in-Clock-clause-after : goal.returns-in-Clock-clause-after
 returns-in-Clock-clause-after c =
     let p = c.args.settings.now in
     let ns = c.in-Clock.ns in
-    let b : Board = record {
-      units = c.state.inside.units;
-      queue = c.state.inside.queue.items;
-      answers = c.state.inside.answers.items;
-      dispatcher = c.state.inside.dispatcher;
-      clock = c.state.inside.clock;
-      refused = c.state.inside.refused;
-    } in
-    ap (λ (x : Board). record x { clock = b.clock + ns }) (nothing_moved b)
-    ∙ ap (λ (h : Held). step h.board (Clock ns) nothing_done) c.state.view_is
-    ∙ ap (λ turn. step c.args.state.now.board turn (run_turn p c.args.state.now.board turn)) (sym c.in-Clock.is)
+    let b = c.args.state.now.board in
+    ap (λ (h : Held). h.board) c.pass.ensures
+    ∙ ap (λ (x : Board). record x { clock = b.clock + ns }) (nothing_moved b)
+    ∙ ap (λ turn. step b turn (run_turn p b turn)) (sym c.in-Clock.is)

@@ -1,19 +1,16 @@
-use Rattle.std.proofs.Common.{◌≡◌, length, arith}
-use Rattle.run_model.specs.Admission.{units_in}
+use Rattle.std.proofs.Common.{ap, ◌∙◌}
+use Rattle.run_state.specs.declared.kept.Kept.{Kept}
 use Rattle.run_state.proofs.StartLemmas.{fits-anew, state-nil}
 use Rattle.run_state.proofs.state.State.new.Goals as goal
 
+pub at_rest-requires : goal.at_rest-requires
+at_rest-requires c =
+    fits-anew c.args.settings.now c.in_ok-dispatcher.dispatcher.rounds.asks c.in_ok-units.units
+    c.in_ok-units.kept.limits c.in_ok-units.ensures.none c.in_ok-units.ensures.limits
+
 pub returns : goal.returns
 returns c =
-    let p = c.args.settings.now in
-    let us = c.in_ok-units.units in
-    let whole : length us ≡ units_in p = grind (arith, c.in_ok-units.ensures.count) in
-    state-nil p us c.new-2.result.items c.new-3.result.items c.in_ok-dispatcher.dispatcher c.in_ok-units.admission whole
-    c.in_ok-units.ensures.none c.new-2.ensures.items c.new-3.ensures.items c.in_ok-dispatcher.ensures
-    c.in_ok-units.ensures.limits
-
-pub invariant_of-result : goal.invariant_of-result
-invariant_of-result c =
-    let d = c.in_ok-dispatcher.dispatcher in
-    fits-anew c.args.settings.now d.rounds.asks c.in_ok-units.units c.in_ok-units.admission c.in_ok-units.ensures.none
-    c.in_ok-units.ensures.limits
+    state-nil c.args.settings.now c.in_ok-units.units c.in_ok-dispatcher.dispatcher c.at_rest.result
+    c.at_rest.ensures.board c.in_ok-units.ensures.whole c.in_ok-units.ensures.none c.in_ok-dispatcher.ensures
+    (ap (λ (k : Kept). k.limits) c.at_rest.ensures.kept ∙ c.in_ok-units.ensures.limits)
+    (ap (λ (k : Kept). k.alike) c.at_rest.ensures.kept ∙ c.in_ok-units.ensures.alike)
