@@ -4,6 +4,7 @@ mod RoundTurns
 mod TimerLemmas
 mod RequestLemmas
 mod PauseLemmas
+mod KeyLemmas
 mod AlternateLemmas
 mod EnabledLemmas
 mod ReachLemmas

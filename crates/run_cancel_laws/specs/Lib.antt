@@ -5,3 +5,4 @@ pub mod Rounds
 pub mod Reach
 pub mod Groups
 pub mod Scripts
+pub mod Keys

@@ -1,5 +1,6 @@
 // Theorems on causes, pauses and rounds over every legal journal.
 ghost use Rattle.run_cancel_laws.specs.Groups.{SignalsGoToGroups};
+ghost use Rattle.run_cancel_laws.specs.Keys.{KeysDoTheirs, KnownKeysCome};
 ghost use Rattle.run_cancel_laws.specs.Pauses.{PausedRunsGoOn, PausesAlternate, PausesAreOfSignals};
 ghost use Rattle.run_cancel_laws.specs.Pauses.{RunnerIsAskedToStop};
 ghost use Rattle.run_cancel_laws.specs.Reach.{RequestsReachTheLive};
@@ -78,6 +79,16 @@ pub fn rounds_are_waited_for()
 pub fn keys_and_ticks_come_freely()
     ensures keys { KeysAreHeard }
     ensures ticks { TicksAreFree }
+{}
+
+/// After every legal journal a key can come exactly where the newest sub-run goes on, no round of stops or of queries
+/// is open, the plan's handlers hear keys, and it is `t`, pressed with no modifier, or enter, pressed: also in a pause.
+/// Each turn of a legal journal that is such a `t` opens a round in which the live units are asked what they are
+/// doing, and tells that; each that is enter tells that it was pressed, and asks nothing. A key does nothing else, and
+/// no other turn tells that enter was pressed.
+pub fn keys_are_t_and_enter()
+    ensures come { KnownKeysCome }
+    ensures turns { KeysDoTheirs }
 {}
 
 /// After every legal journal each script and test of the newest sub-run is live exactly where its own turns say so:
