@@ -9,6 +9,8 @@ mod AlternateLemmas
 mod EnabledLemmas
 mod ReachLemmas
 mod GroupLemmas
+mod StopLemmas
+mod StopRuns
 mod Admissions
 mod Behind
 mod ScriptEnds

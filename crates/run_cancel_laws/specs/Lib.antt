@@ -6,3 +6,4 @@ pub mod Reach
 pub mod Groups
 pub mod Scripts
 pub mod Keys
+pub mod Stops

@@ -8,6 +8,7 @@ ghost use Rattle.run_cancel_laws.specs.Requests.{RequestsAreOfCauses};
 ghost use Rattle.run_cancel_laws.specs.Rounds.{AnswersAreTold, QueriesAreWaitedFor, StopsAreWaitedFor};
 ghost use Rattle.run_cancel_laws.specs.Rounds.{KeysAreHeard, TicksAreFree};
 ghost use Rattle.run_cancel_laws.specs.Scripts.{ScriptsAreAdmittedInTurn, ScriptsComeOneByOne};
+ghost use Rattle.run_cancel_laws.specs.Stops.{StopsAreAsked};
 ghost use Rattle.run_cancel_laws.specs.Enabled.{GlobalTimerIsCounted, RefusalsAreReportedOnce};
 ghost use Rattle.run_cancel_laws.specs.Enabled.{SignalsAreHeardTwice};
 
@@ -104,6 +105,15 @@ pub fn requests_reach_the_live()
 /// script's, or no debugger stands before the tests.
 pub fn signals_go_to_groups()
     ensures { SignalsGoToGroups }
+{}
+
+/// Each turn of a legal journal asks a child to stop exactly where its unit takes a stop with it, after it was let go
+/// and before its child ended, and either no debugger stands before the tests, or its child was asked to end and not
+/// killed since. It asks a child to go on exactly where its unit takes a continue so, and either the latest stop or
+/// continue that it took in its attempt is a stop, whether its child was asked to stop or not, or its child was asked
+/// to end and not killed since.
+pub fn stops_are_asked()
+    ensures { StopsAreAsked }
 {}
 
 /// In the newest sub-run of every legal journal setup scripts are told started one by one, in the order of the plan:
