@@ -4,10 +4,13 @@ mod RoundTurns
 mod TimerLemmas
 mod RequestLemmas
 mod PauseLemmas
+mod KeyLemmas
 mod AlternateLemmas
 mod EnabledLemmas
 mod ReachLemmas
 mod GroupLemmas
+mod StopLemmas
+mod StopRuns
 mod Admissions
 mod Behind
 mod ScriptEnds

@@ -5,3 +5,5 @@ pub mod Rounds
 pub mod Reach
 pub mod Groups
 pub mod Scripts
+pub mod Keys
+pub mod Stops

@@ -1,5 +1,6 @@
 // Theorems on causes, pauses and rounds over every legal journal.
 ghost use Rattle.run_cancel_laws.specs.Groups.{SignalsGoToGroups};
+ghost use Rattle.run_cancel_laws.specs.Keys.{KeysDoTheirs, KnownKeysCome};
 ghost use Rattle.run_cancel_laws.specs.Pauses.{PausedRunsGoOn, PausesAlternate, PausesAreOfSignals};
 ghost use Rattle.run_cancel_laws.specs.Pauses.{RunnerIsAskedToStop};
 ghost use Rattle.run_cancel_laws.specs.Reach.{RequestsReachTheLive};
@@ -7,6 +8,7 @@ ghost use Rattle.run_cancel_laws.specs.Requests.{RequestsAreOfCauses};
 ghost use Rattle.run_cancel_laws.specs.Rounds.{AnswersAreTold, QueriesAreWaitedFor, StopsAreWaitedFor};
 ghost use Rattle.run_cancel_laws.specs.Rounds.{KeysAreHeard, TicksAreFree};
 ghost use Rattle.run_cancel_laws.specs.Scripts.{ScriptsAreAdmittedInTurn, ScriptsComeOneByOne};
+ghost use Rattle.run_cancel_laws.specs.Stops.{StopsAreAsked};
 ghost use Rattle.run_cancel_laws.specs.Enabled.{GlobalTimerIsCounted, RefusalsAreReportedOnce};
 ghost use Rattle.run_cancel_laws.specs.Enabled.{SignalsAreHeardTwice};
 
@@ -80,6 +82,16 @@ pub fn keys_and_ticks_come_freely()
     ensures ticks { TicksAreFree }
 {}
 
+/// After every legal journal a key can come exactly where the newest sub-run goes on, no round of stops or of queries
+/// is open, the plan's handlers hear keys, and it is `t`, pressed with no modifier, or enter, pressed: also in a pause.
+/// Each turn of a legal journal that is such a `t` opens a round in which the live units are asked what they are
+/// doing, and tells that; each that is enter tells that it was pressed, and asks nothing. A key does nothing else, and
+/// no other turn tells that enter was pressed.
+pub fn keys_are_t_and_enter()
+    ensures come { KnownKeysCome }
+    ensures turns { KeysDoTheirs }
+{}
+
 /// After every legal journal each script and test of the newest sub-run is live exactly where its own turns say so:
 /// it was let go, and it was neither decided that it isn't tried again nor was it left; what was broadcast to it is
 /// what was broadcast while it was so, where a turn of its own comes before the request of that turn; and while it is
@@ -93,6 +105,15 @@ pub fn requests_reach_the_live()
 /// script's, or no debugger stands before the tests.
 pub fn signals_go_to_groups()
     ensures { SignalsGoToGroups }
+{}
+
+/// Each turn of a legal journal asks a child to stop exactly where its unit takes a stop with it, after it was let go
+/// and before its child ended, and either no debugger stands before the tests, or its child was asked to end and not
+/// killed since. It asks a child to go on exactly where its unit takes a continue so, and either the latest stop or
+/// continue that it took in its attempt is a stop, whether its child was asked to stop or not, or its child was asked
+/// to end and not killed since.
+pub fn stops_are_asked()
+    ensures { StopsAreAsked }
 {}
 
 /// In the newest sub-run of every legal journal setup scripts are told started one by one, in the order of the plan:
