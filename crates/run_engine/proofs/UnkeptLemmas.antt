@@ -1,6 +1,7 @@
 -- Turns that are taken with no journal kept.
 use Rattle.std.proofs.Common.{◌≡◌, ℕ, ◌+◌, ◌<◌, ◌^◌, List, [], ◌∷◌, ◌++◌, length, map, zip, take, get_or, slice_get}
-use Rattle.std.proofs.Common.{Bool, true, false, not, Option, Some, None, is_none, option_to_list, Result, Ok, Err, refl, ap, sym, subst}
+use Rattle.std.proofs.Common.{Bool, true, false, not, Option, Some, None, is_none, option_to_list, Result, Ok, Err}
+use Rattle.std.proofs.Common.{refl, ap, sym, subst}
 use Rattle.std.proofs.Common.{◌∙◌, arith}
 use Rattle.std.specs.List.{list_all}
 use Rattle.std.proofs.lemmas.List.{length-map, length-take}
@@ -77,7 +78,8 @@ pub takes_next : {R E C : Type 0} (tells : R → List (ReporterEvent × Option E
     → Adds asks o.children o.children_after
     (map (λ ask. (place, ask)) (option_to_list (deed_on p state.board turn).asked))
     → CountsErrors o.faults o.faults_after refusal → TakesNext tells asks o p new journal turn refusal
-takes_next tells asks o p state new place journal turn refused refusal s on seats after answered marked tell ask counted =
+takes_next tells asks o p state new place journal turn refused refusal s on seats after answered marked tell ask
+    counted =
     let st : state.board ≡ board p (past_of p journal) = ap (λ (h : Held). h.board) s.stands in
     let en = enabled_after p state place journal turn s on in (
       journal ++ entry_of turn refused ∷ [],

@@ -2,7 +2,7 @@
 ghost use Rattle.std.specs.Prelude.{◌≤◌, ◌≡◌, ◌<◌, ◌+◌, ◌^◌, ◌∷◌, ◌++◌, [], length, map, zip, not, is_none};
 ghost use Rattle.std.specs.Prelude.{option_to_list};
 ghost use Rattle.std.specs.Prelude.{vec_len, vec_capacity, IfOk, IfErr, OnOk, OnErr, IsErrOf, IsTrue, Option, Some};
-ghost use Rattle.std.specs.Prelude.{option_map};
+ghost use Rattle.std.specs.Prelude.{option_map, List};
 ghost use Rattle.std.specs.Prelude.{ℕ, ◌||◌, nat_le, is_some, None, true, false, IsSome, IsNone, slice_get};
 ghost use Rattle.std.specs.Prelude.{if◌then◌else◌};
 ghost use Rattle.std.specs.VecDeque.{deque_len, deque_capacity};
@@ -11,7 +11,6 @@ ghost use Rattle.run_events.specs.Tell.{Adds};
 ghost use Rattle.run_laws.specs.Ready.{CanAdvance, IsTimelyBoard};
 ghost use Rattle.run_model.specs.Journal.{past_of, IsLegal, outcome};
 ghost use Rattle.run_model.specs.declared.entry.Entry.{Entry};
-ghost use Rattle.std.specs.Prelude.{List};
 ghost use Rattle.run_model.specs.Admission.{AreFew, units_in};
 ghost use Rattle.run_model.specs.Turns.{enabled, enabled_on, turn_of_unit, deed_on};
 ghost use Rattle.run_model.specs.Words.{is_over};
@@ -63,14 +62,17 @@ fn say<C: Children, R: Reporter>(
     Ok(told)
 }
 
-// Keeps the start that a turn asked, for who claims it.
-fn keep(starts: &mut VecDeque<StartAsk>, effects: Effects)
-    requires { deque_len starts.old < deque_capacity starts.old }
-    ensures { starts.new.items ≡ starts.old.items ++ start_among effects.asked }
+// Keeps a turn that was taken, and the start that it asked, for who claims it.
+fn keep(journal: &mut Vec<Entry>, starts: &mut VecDeque<StartAsk>, entry: Entry, effects: Effects)
+    requires room { vec_len journal.old < vec_capacity journal.old }
+    requires start_room { deque_len starts.old < deque_capacity starts.old }
+    ensures grown { journal.new.items ≡ journal.old.items ++ entry ∷ [] }
+    ensures waits { starts.new.items ≡ starts.old.items ++ start_among effects.asked }
 {
     let Effects { events, asked } = effects;
     drop(events);
     keep_start(starts, asked);
+    journal.push_reserved(entry);
 }
 
 // Makes room for one more turn and one more start, and answers the turn's place.
@@ -89,7 +91,7 @@ fn make_room(journal: &mut Vec<Entry>, starts: &mut VecDeque<StartAsk>) -> Mem<u
 }
 
 // Does what an enabled turn at this place does to the state, the children and the reporter, whose answers the state
-// hears. The answer has these, and what was told and asked.
+// hears. The answer has these, and what the turn tells and asks.
 fn act<C: Children, R: Reporter>(
     alloc: Global,
     settings: &Settings,
@@ -180,9 +182,8 @@ pub(crate) fn carry_out<C: Children, R: Reporter>(
         alloc, settings, state, place, &turn, named, children, report,
     ) {
         Ok((told, effects)) => {
-            keep(starts, effects);
             let Told { refused, refusal } = told;
-            journal.push_reserved(Entry { turn, refused });
+            keep(journal, starts, Entry { turn, refused }, effects);
             Ok(refusal)
         }
         Err(error) => {
@@ -192,8 +193,8 @@ pub(crate) fn carry_out<C: Children, R: Reporter>(
     }
 }
 
-/// Takes an enabled turn as `carry_out` does, and keeps neither it nor what it asks: the state alone moves. It is that
-/// after any journal that the state stands for, with the turn.
+/// Takes an enabled turn as `carry_out` does, and keeps neither it nor what it asks. It is taken so after each journal
+/// that the state stands for.
 pub(crate) fn carry_unkept<C: Children, R: Reporter>(
     alloc: Global,
     settings: &Settings,

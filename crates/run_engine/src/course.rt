@@ -1,6 +1,5 @@
 // Takes the turns of a list, one after another. It keeps no journal of them: the state stands for it.
-ghost use Rattle.std.specs.Prelude.{◌≡◌, ◌+◌, ◌<◌, ◌^◌, [], length, Option, List, IfOk, IfErr};
-ghost use Rattle.run_events.specs.Tell.{Adds};
+ghost use Rattle.std.specs.Prelude.{◌≡◌, ◌+◌, ◌<◌, ◌^◌, [], length, List, IfOk, IfErr};
 ghost use Rattle.run_model.specs.declared.entry.Entry.{Entry};
 ghost use Rattle.run_model.specs.Admission.{AreFew};
 ghost use Rattle.run_model.specs.Board.{board};

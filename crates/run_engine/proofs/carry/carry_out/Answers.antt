@@ -22,10 +22,10 @@ returns-in-Ok-act-clause-takes g c claimed =
     let refused = c.in-Ok-act.told.refused in
     let told = c.in-Ok-act.ensures in
     takes_from g.R.Reporter.told g.C.Children.asked _ c.args.settings.now c.args.journal.now.items
-    c.push_reserved.new.self.items c.args.state.now.board c.args.turn refused c.in-Ok-act.told.refusal claimed
+    c.keep.new.journal.items c.args.state.now.board c.args.turn refused c.in-Ok-act.told.refusal claimed
     c.in-Ok.place c.in-Ok.ensures.place (ap (λ (h : Held). h.board) c.requires.stands) c.requires.enabled told.answered
     told.marked told.told told.asked told.faults
-    (c.push_reserved.ensures.items ∙ ap (λ j. j ++ entry_of c.args.turn refused ∷ []) c.make_room.ensures.same)
+    (c.keep.ensures.grown ∙ ap (λ j. j ++ entry_of c.args.turn refused ∷ []) c.make_room.ensures.same)
 
 pub returns-in-Ok-act-clause-runnable : goal.returns-in-Ok-act-clause-runnable
 returns-in-Ok-act-clause-runnable g c =
@@ -33,7 +33,7 @@ returns-in-Ok-act-clause-runnable g c =
     let journal = c.args.journal.now.items in
     let refused = c.in-Ok-act.told.refused in
     subst (IsRunnable p)
-    (sym (c.push_reserved.ensures.items ∙ ap (λ j. j ++ entry_of c.args.turn refused ∷ []) c.make_room.ensures.same))
+    (sym (c.keep.ensures.grown ∙ ap (λ j. j ++ entry_of c.args.turn refused ∷ []) c.make_room.ensures.same))
     (runnable_next p journal c.args.turn refused c.requires.runnable c.requires.room c.requires.enabled
     (c.in-Ok-act.ensures.answered
     ∙ ap (λ (h : Held). length (deed_events (deed_on p h.board c.args.turn))) c.requires.stands))
@@ -44,7 +44,7 @@ returns-in-Ok-act-clause-stands g c =
     let journal = c.args.journal.now.items in
     let refused = c.in-Ok-act.told.refused in
     subst (λ journal. c.act.new.state ≡ held p (board p (past_of p journal)))
-    (sym (c.push_reserved.ensures.items ∙ ap (λ j. j ++ entry_of c.args.turn refused ∷ []) c.make_room.ensures.same))
+    (sym (c.keep.ensures.grown ∙ ap (λ j. j ++ entry_of c.args.turn refused ∷ []) c.make_room.ensures.same))
     (held-is p c.act.new.state _ c.in-Ok-act.ensures.seated
     (stands_next p journal c.args.state.now.board c.act.new.state.board c.args.turn refused c.requires.runnable
     (ap (λ (h : Held). h.board) c.requires.stands) c.requires.enabled c.in-Ok-act.ensures.after))

@@ -14,8 +14,8 @@ pub take_at-requires-clause-stands : goal.take_at-requires-clause-stands
 take_at-requires-clause-stands g c =
     let was = c.loop-place in (
       was.invariant.journal,
-      stands_for g.R.Reporter.told g.C.Children.asked _ c.args.settings.now c.args.turns.now was.place was.state was.first
-          was.invariant (omega arith),
+      stands_for g.R.Reporter.told g.C.Children.asked _ c.args.settings.now c.args.turns.now was.place was.state
+          was.first was.invariant (omega arith),
     )
 
 pub loop-place-preserved : goal.loop-place-preserved
@@ -56,6 +56,6 @@ pub returns-clause-ok : goal.returns-clause-ok
 returns-clause-ok g c =
     let was = c.loop-place in
     subst (λ taken. HasTaken g.R.Reporter.told g.C.Children.asked
-    (outside g.R.Reporter.faults c.args.report.now was.report c.args.children.now was.children) c.args.settings.now taken
-    was.state was.first)
+    (outside g.R.Reporter.faults c.args.report.now was.report c.args.children.now was.children) c.args.settings.now
+    taken was.state was.first)
     (take_all was.place c.args.turns.now (omega arith)) was.invariant
