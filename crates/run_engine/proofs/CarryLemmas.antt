@@ -1,6 +1,6 @@
 -- What one turn of a run does to its board and its journal.
 use Rattle.std.proofs.Common.{◌≡◌, ℕ, ◌+◌, ◌<◌, ◌^◌, List, [], ◌∷◌, ◌++◌, length, reverse, Bool, true, not, Option}
-use Rattle.std.proofs.Common.{is_none, option_to_list, map, zip, ap, sym, subst, ◌∙◌, arith, length-append}
+use Rattle.std.proofs.Common.{is_none, option_to_list, map, zip, refl, ap, sym, subst, ◌∙◌, arith, length-append}
 use Rattle.std.specs.List.{list_all}
 use Rattle.run_events.specs.declared.settings.Settings.{Settings}
 use Rattle.run_events.specs.Tell.{Adds}
@@ -20,7 +20,10 @@ use Rattle.run_engine.specs.Standing.{IsRunnable, unbroken}
 use Rattle.run_engine.specs.World.{Outside, entry_of, TellsEvents, CountsErrors, TakesTurn}
 use Rattle.run_engine.proofs.JournalLemmas.{past_of-push, legal-push}
 
--- a state that is seated is that of its board
+-- the state of a board is seated, and one that is seated is that of its board
+pub seated : (p : Settings) (h : Held) (b : Board) → h ≡ held p b → KeepsSeats p h
+seated p h b is = subst (KeepsSeats p) (sym is) refl
+
 pub held-is : (p : Settings) (h : Held) (b : Board) → KeepsSeats p h → h.board ≡ b → h ≡ held p b
 held-is p h b seated e = ap (λ kept. record { board = h.board; kept = kept }) seated ∙ ap (held p) e
 

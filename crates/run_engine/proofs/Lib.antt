@@ -8,6 +8,7 @@ pub mod HeardLemmas
 pub mod SettlingLemmas
 pub mod OutcomeLemmas
 pub mod CourseLemmas
+pub mod UnkeptLemmas
 pub mod RepeatLemmas
 pub mod FewLemmas
 pub mod NameLemmas

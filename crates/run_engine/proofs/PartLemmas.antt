@@ -29,11 +29,11 @@ on_err (Ok x) P h = tt
 on_err (Err e) P h = h
 
 -- nothing more was told or asked
-tells-nothing : {R E : Type 0} (tells : R → List (ReporterEvent × Option E) → Type 0) (r : R)
+pub tells-nothing : {R E : Type 0} (tells : R → List (ReporterEvent × Option E) → Type 0) (r : R)
     → TellsEvents tells r r [] None
 tells-nothing tells r xs t = ([], subst (tells r) (sym (append-nil xs)) t, refl, refl)
 
-adds-nothing : {C : Type 0} (asks : C → List (ℕ × Ask) → Type 0) (c : C) → Adds asks c c []
+pub adds-nothing : {C : Type 0} (asks : C → List (ℕ × Ask) → Type 0) (c : C) → Adds asks c c []
 adds-nothing asks c xs t = subst (asks c) (sym (append-nil xs)) t
 
 -- a call that adds nothing tells nothing

@@ -15,7 +15,7 @@ use Rattle.run_model.specs.declared.entry.Entry.{Entry}
 use Rattle.run_model.specs.Words.{answers, asked, events_in}
 use Rattle.run_model.specs.Turns.{happening}
 use Rattle.run_model.specs.Journal.{past_of}
-use Rattle.run_engine.specs.World.{World, Outside, outside, flagged, earlier, first_error, TellsEvents, CountsErrors, TakesTurn}
+use Rattle.run_engine.specs.World.{World, outside, flagged, earlier, first_error, TellsEvents, CountsErrors, TakesTurn}
 use Rattle.run_engine.specs.World.{IsUntouched}
 use Rattle.run_engine.specs.World.{entry_of}
 use Rattle.run_engine.specs.Standing.{sound, unbroken}
@@ -117,23 +117,6 @@ takes-more tells asks faults p journal a b c d e f first later turn new so_far s
           (adds_both asks d e f (asked (past_of p journal)) _ so_far.asked step.asked);
       counted = counts_both (faults a) (faults b) (faults c) first later so_far.counted step.counted;
     })
-
--- what a run with claimed starts takes, one with none takes alike
-pub takes-unclaimed : {R E C : Type 0} (tells : R → List (ReporterEvent × Option E) → Type 0)
-    (asks : C → List (ℕ × Ask) → Type 0) (o : Outside R C) (turn : Turn) (p : Settings) (journal : List Entry)
-    (claimed : ℕ) (new : World) (refusal : Option E)
-    → TakesTurn tells asks o turn (unbroken p journal claimed) (record new { claimed = claimed }) refusal
-    → TakesTurn tells asks o turn (sound p journal) (record new { claimed = 0 }) refusal
-takes-unclaimed tells asks o turn p journal claimed new refusal x = record {
-  is_enabled = x.is_enabled;
-  refused = x.refused;
-  answered = x.answered;
-  grown = ap (λ (w : World). record w { claimed = 0 }) x.grown;
-  marked = x.marked;
-  told = x.told;
-  asked = x.asked;
-  counted = x.counted;
-}
 
 -- where the turn at a place isn't taken the turns stop there
 pub stops_here : {R E C : Type 0} (tells : R → List (ReporterEvent × Option E) → Type 0)

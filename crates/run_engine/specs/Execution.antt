@@ -18,8 +18,8 @@ use Rattle.run_laws.specs.Course.{turns_of, is_third_after, none_refused, AreAns
 use Rattle.run_engine.specs.World.{Outside, TellsEvents, CountsErrors}
 use Rattle.run_engine.specs.Standing.{IsRunnable}
 use Rattle.run_engine.specs.Broken.{RunsOut}
-use Rattle.run_engine.specs.declared.runner.Stop.{Stop}
-use Rattle.run_engine.specs.declared.runner.Stop.TheVariants as stops
+use Rattle.run_engine.specs.declared.course.Stop.{Stop}
+use Rattle.run_engine.specs.declared.course.Stop.TheVariants as stops
 use Rattle.run_engine.specs.declared.errors.TestRunnerExecuteErrors.{TestRunnerExecuteErrors}
 use Rattle.run_engine.specs.declared.errors.TestRunnerExecuteErrors.TheVariants.{Report, NotEnabled, ThirdSignal}
 use Rattle.run_engine.specs.declared.errors.TestRunnerExecuteErrors.TheVariants.{Unfinished, OutOfMemory}

@@ -6,6 +6,7 @@ pub mod Settling
 pub mod Heard
 pub mod Refused
 pub mod Execution
+pub mod Unkept
 pub mod Handlers
 pub mod Names
 pub mod Builder

@@ -5,12 +5,13 @@ ghost use Rattle.std.specs.List.Sorted.{IsStrictlySortedBy};
 ghost use Rattle.run_events.specs.declared.plan.Group.{Group};
 ghost use Rattle.run_model.specs.Reruns.{AreAscending, id_order};
 ghost use Rattle.run_engine.specs.declared.errors.TestRunnerBuildError.TheVariants.{ZeroLimit};
-ghost use Rattle.run_engine.specs.Builder.{IsBuilt, count_of, threads_of, names_no_group, refusal_at, test_refusal};
+ghost use Rattle.run_engine.specs.Builder.{IsBuilt, count_of, threads_of, refusal_at, test_refusal};
 ghost use Rattle.run_engine.specs.Builder.{first_refused, zero_limit, refusal_with, refusal_of, has_too_many};
 ghost use Rattle.run_engine.specs.Builder.{settings_of};
 ghost use Rattle.run_engine.specs.Names.{HasNames};
 
 use crate::errors::TestRunnerBuildError;
+use crate::names::{names_no_group, names_of};
 use crate::runner::TestRunner;
 use run_capture::{CaptureStrategy, List, Mem, OutOfMemory, Text};
 use run_commands::{Interceptor, StressCondition};
@@ -325,28 +326,6 @@ fn zero_limit(threads: u32, groups: &[Group]) -> Option<TestRunnerBuildError>
             group: Some(place as u32),
         }),
         None => None,
-    }
-}
-
-// The names of groups.
-fn names_of(alloc: Global, groups: &[Group]) -> Mem<BTreeSet<&Text>>
-    ensures { IfOk result (λ names. HasNames groups.now names) }
-{
-    let mut names = BTreeSet::new(alloc);
-    for group in groups {
-        names.insert(&group.name)?;
-    }
-    Ok(names)
-}
-
-// Whether a test names a group that isn't among these.
-fn names_no_group<'a>(names: &BTreeSet<&'a Text>, test: &'a PlanTest) -> bool
-    ensures { (groups : List Group) → HasNames groups names.now
-        → result ≡ names_no_group groups test.now }
-{
-    match &test.group {
-        Some(name) => !names.contains(&name),
-        None => false,
     }
 }
 

@@ -2,7 +2,7 @@
 ghost use Rattle.std.specs.Prelude.{◌≤◌, ◌≡◌, ◌<◌, ◌+◌, ◌^◌, ◌∷◌, ◌++◌, [], length, map, zip, not, is_none};
 ghost use Rattle.std.specs.Prelude.{option_to_list};
 ghost use Rattle.std.specs.Prelude.{vec_len, vec_capacity, IfOk, IfErr, OnOk, OnErr, IsErrOf, IsTrue, Option, Some};
-ghost use Rattle.std.specs.Prelude.{option_map};
+ghost use Rattle.std.specs.Prelude.{option_map, List};
 ghost use Rattle.std.specs.Prelude.{ℕ, ◌||◌, nat_le, is_some, None, true, false, IsSome, IsNone, slice_get};
 ghost use Rattle.std.specs.Prelude.{if◌then◌else◌};
 ghost use Rattle.std.specs.VecDeque.{deque_len, deque_capacity};
@@ -10,6 +10,7 @@ ghost use Rattle.std.specs.List.{list_all};
 ghost use Rattle.run_events.specs.Tell.{Adds};
 ghost use Rattle.run_laws.specs.Ready.{CanAdvance, IsTimelyBoard};
 ghost use Rattle.run_model.specs.Journal.{past_of, IsLegal, outcome};
+ghost use Rattle.run_model.specs.declared.entry.Entry.{Entry};
 ghost use Rattle.run_model.specs.Admission.{AreFew, units_in};
 ghost use Rattle.run_model.specs.Turns.{enabled, enabled_on, turn_of_unit, deed_on};
 ghost use Rattle.run_model.specs.Words.{is_over};
@@ -25,6 +26,7 @@ ghost use Rattle.run_engine.specs.World.{history_of};
 ghost use Rattle.run_state.specs.Held.{KeepsSeats, held};
 ghost use Rattle.run_engine.specs.Standing.{IsRunnable, unbroken, sound};
 ghost use Rattle.run_engine.specs.Refused.{IsRefused, IsNotNamed, IfNotMemory};
+ghost use Rattle.run_engine.specs.Unkept.{StandsFor, TakesNext};
 
 use crate::errors::StepError;
 use crate::tell::{Told, ask, keep_start, tell};
@@ -60,50 +62,17 @@ fn say<C: Children, R: Reporter>(
     Ok(told)
 }
 
-// Keeps the start that a turn asked, for who claims it.
-fn keep(starts: &mut VecDeque<StartAsk>, effects: Effects)
-    requires { deque_len starts.old < deque_capacity starts.old }
-    ensures { starts.new.items ≡ starts.old.items ++ start_among effects.asked }
+// Keeps a turn that was taken, and the start that it asked, for who claims it.
+fn keep(journal: &mut Vec<Entry>, starts: &mut VecDeque<StartAsk>, entry: Entry, effects: Effects)
+    requires room { vec_len journal.old < vec_capacity journal.old }
+    requires start_room { deque_len starts.old < deque_capacity starts.old }
+    ensures grown { journal.new.items ≡ journal.old.items ++ entry ∷ [] }
+    ensures waits { starts.new.items ≡ starts.old.items ++ start_among effects.asked }
 {
     let Effects { events, asked } = effects;
     drop(events);
     keep_start(starts, asked);
-}
-
-// Asks what a turn asks, tells its events, and keeps the start that it asked for who claims it.
-fn send<C: Children, R: Reporter>(
-    alloc: Global,
-    place: u64,
-    effects: Effects,
-    starts: &mut VecDeque<StartAsk>,
-    children: &mut C,
-    report: &mut R,
-) -> Mem<Told<R::Error>>
-    requires room { deque_len starts.old < deque_capacity starts.old }
-    ensures waits { OnOk result (starts.new.items ≡ starts.old.items ++ start_among effects.asked) }
-    ensures kept { OnErr result (starts.new.items ≡ starts.old.items) }
-    ensures part { let o = outside R.faults report.old report.new children.old children.new in
-        OnErr result (TellsPart R.told C.asked o place effects.events effects.asked) }
-    ensures asked { OnOk result (Adds C.asked children.old children.new
-        (map (λ ask. (place, ask)) (option_to_list effects.asked))) }
-    ensures answered { IfOk result (λ t. length t.refused ≡ length effects.events) }
-    ensures marked { IfOk result (λ t. is_none t.refusal ≡ list_all not t.refused) }
-    ensures told { IfOk result (λ t. TellsEvents R.told report.old report.new
-        (zip effects.events t.refused)
-        t.refusal) }
-    ensures faults { IfOk result (λ t. CountsErrors (R.faults report.old) (R.faults report.new)
-        t.refusal) }
-{
-    match say(alloc, place, &effects, children, report) {
-        Ok(told) => {
-            keep(starts, effects);
-            Ok(told)
-        }
-        Err(error) => {
-            drop(effects);
-            Err(error)
-        }
-    }
+    journal.push_reserved(entry);
 }
 
 // Makes room for one more turn and one more start, and answers the turn's place.
@@ -122,49 +91,54 @@ fn make_room(journal: &mut Vec<Entry>, starts: &mut VecDeque<StartAsk>) -> Mem<u
 }
 
 // Does what an enabled turn at this place does to the state, the children and the reporter, whose answers the state
-// hears.
+// hears. The answer has these, and what the turn tells and asks.
 fn act<C: Children, R: Reporter>(
     alloc: Global,
     settings: &Settings,
     state: &mut State,
     place: u64,
-    starts: &mut VecDeque<StartAsk>,
     turn: &Turn,
     named: Option<(u32, UnitTurn)>,
     children: &mut C,
     report: &mut R,
-) -> Mem<Told<R::Error>>
+) -> Mem<(Told<R::Error>, Effects)>
     requires named { named ≡ turn_of_unit turn.now }
     requires can { CanAdvance settings.now state.old.board turn.now (turn_of_unit turn.now) }
     requires seated { KeepsSeats settings.now state.old }
     requires few { AreFew settings.now }
-    requires room { deque_len starts.old < deque_capacity starts.old }
     ensures after { IfOk result (λ t. state.new.board
         ≡ answered (step state.old.board turn.now (deed_on settings.now state.old.board turn.now))
-        t.refused) }
+        t.0.refused) }
     ensures seated { OnOk result (KeepsSeats settings.now state.new) }
     ensures asked { OnOk result (Adds C.asked children.old children.new
         (map (λ ask. (place, ask))
         (option_to_list (deed_on settings.now state.old.board turn.now).asked))) }
-    ensures answered { IfOk result (λ t. length t.refused
+    ensures answered { IfOk result (λ t. length t.0.refused
         ≡ length (deed_events (deed_on settings.now state.old.board turn.now))) }
-    ensures marked { IfOk result (λ t. is_none t.refusal ≡ list_all not t.refused) }
+    ensures marked { IfOk result (λ t. is_none t.0.refusal ≡ list_all not t.0.refused) }
     ensures told { IfOk result (λ t. TellsEvents R.told report.old report.new
-        (zip (deed_events (deed_on settings.now state.old.board turn.now)) t.refused) t.refusal) }
+        (zip (deed_events (deed_on settings.now state.old.board turn.now)) t.0.refused)
+        t.0.refusal) }
     ensures faults { IfOk result (λ t. CountsErrors (R.faults report.old) (R.faults report.new)
-        t.refusal) }
-    ensures waits { OnOk result (starts.new.items
-        ≡ starts.old.items ++ start_among (deed_on settings.now state.old.board turn.now).asked) }
-    ensures kept { OnErr result (starts.new.items ≡ starts.old.items) }
+        t.0.refusal) }
+    ensures ask { IfOk result (λ t. t.1.asked
+        ≡ (deed_on settings.now state.old.board turn.now).asked) }
     ensures part { let o = outside R.faults report.old report.new children.old children.new in
         OnErr result (TellsPart R.told C.asked o place (deed_events
         (deed_on settings.now state.old.board turn.now))
         (deed_on settings.now state.old.board turn.now).asked) }
 {
     let effects = advance(alloc, settings, state, turn, named)?;
-    let told = send(alloc, place, effects, starts, children, report)?;
-    state.hear_answers(told.refused.as_slice());
-    Ok(told)
+    match say(alloc, place, &effects, children, report) {
+        Ok(told) => {
+            state.hear_answers(told.refused.as_slice());
+            Ok((told, effects))
+        }
+        Err(error) => {
+            drop(effects);
+            Err(error)
+        }
+    }
 }
 
 /// Takes an enabled turn: the state moves, what it asks and tells goes out, and the journal grows. The answer is the
@@ -205,10 +179,11 @@ pub(crate) fn carry_out<C: Children, R: Reporter>(
         return Err(OutOfMemory);
     };
     match act(
-        alloc, settings, state, place, starts, &turn, named, children, report,
+        alloc, settings, state, place, &turn, named, children, report,
     ) {
-        Ok(Told { refused, refusal }) => {
-            journal.push_reserved(Entry { turn, refused });
+        Ok((told, effects)) => {
+            let Told { refused, refusal } = told;
+            keep(journal, starts, Entry { turn, refused }, effects);
             Ok(refusal)
         }
         Err(error) => {
@@ -216,6 +191,37 @@ pub(crate) fn carry_out<C: Children, R: Reporter>(
             Err(error)
         }
     }
+}
+
+/// Takes an enabled turn as `carry_out` does, and keeps neither it nor what it asks. It is taken so after each journal
+/// that the state stands for.
+pub(crate) fn carry_unkept<C: Children, R: Reporter>(
+    alloc: Global,
+    settings: &Settings,
+    state: &mut State,
+    place: u64,
+    turn: &Turn,
+    named: Option<(u32, UnitTurn)>,
+    children: &mut C,
+    report: &mut R,
+) -> Mem<Option<R::Error>>
+    requires named { named ≡ turn_of_unit turn.now }
+    requires stands { (journal : List Entry) × StandsFor settings.now state.old place journal }
+    requires enabled { enabled_on settings.now state.old.board turn.now ≡ true }
+    requires room { place + 1 < 2 ^ 32 }
+    ensures takes { let o = outside R.faults report.old report.new children.old children.new in
+        IfOk result (λ refusal. (journal : List Entry)
+        → StandsFor settings.now state.old place journal
+        → TakesNext R.told C.asked o settings.now state.new journal turn.now refusal) }
+    ensures part { let o = outside R.faults report.old report.new children.old children.new in
+        OnErr result ((journal : List Entry) → StandsFor settings.now state.old place journal
+        → BreaksOff R.told C.asked o settings.now journal turn.now) }
+{
+    let (told, effects) = act(alloc, settings, state, place, turn, named, children, report)?;
+    drop(effects);
+    let Told { refused, refusal } = told;
+    drop(refused);
+    Ok(refusal)
 }
 
 /// The unit that a turn names, with what the turn is to it, where the turn is enabled.

@@ -4,7 +4,9 @@
 
 mod builder;
 mod carry;
+mod course;
 mod errors;
+mod names;
 mod run;
 mod runner;
 mod tell;

@@ -1,29 +1,25 @@
 // A runner carries out the turns of a run.
-ghost use Rattle.std.specs.Prelude.{◌≡◌, ◌<◌, ◌^◌, ◌∷◌, [], length, map, take, slice_get, IfOk, IfErr, OnOk, IsErrOf};
-ghost use Rattle.std.specs.Prelude.{Option};
-ghost use Rattle.std.specs.Prelude.{Some, None, List, true, false, pos, IfSome};
+ghost use Rattle.std.specs.Prelude.{◌≡◌, ◌<◌, ◌^◌, [], length, IfOk, IsErrOf, Option, None, List, pos, IfSome};
 ghost use Rattle.run_events.specs.Tell.{Adds};
 ghost use Rattle.run_model.specs.declared.entry.Entry.{Entry};
 ghost use Rattle.run_model.specs.Admission.{AreFew};
 ghost use Rattle.run_model.specs.Reruns.{AreAscending};
-ghost use Rattle.run_model.specs.Turns.{enabled};
-ghost use Rattle.run_engine.specs.World.{TakesTurn, IsUntouched, outside, history_of};
-ghost use Rattle.run_engine.specs.Refused.{IsRefused, IfNotMemory};
+ghost use Rattle.run_model.specs.Board.{board};
+ghost use Rattle.run_state.specs.Held.{held};
+ghost use Rattle.run_engine.specs.World.{outside};
 ghost use Rattle.run_engine.specs.Handlers.{handler_status};
-ghost use Rattle.run_engine.specs.Standing.{sound, unbroken};
-ghost use Rattle.run_engine.specs.Execution.{TakesTurns, Carries, Executes, AnswersCourse, UnlessMemory, StopsAt};
-ghost use Rattle.run_engine.specs.Execution.{IsFinal};
-ghost use Rattle.run_engine.specs.Broken.{BreaksOff, RunsOut};
+ghost use Rattle.run_engine.specs.Standing.{sound};
+ghost use Rattle.run_engine.specs.Execution.{Carries, Executes, AnswersCourse, UnlessMemory, IsFinal};
+ghost use Rattle.run_engine.specs.Broken.{RunsOut};
+ghost use Rattle.run_engine.specs.Unkept.{outcome_on};
 ghost use Rattle.run_capture.specs.Faults.{Rose};
-ghost use Rattle.run_laws.specs.Course.{turns_of, refuses_none};
-ghost use Rattle.run_model.specs.Journal.{outcome};
-ghost use Rattle.run_model.specs.Words.{is_over};
+ghost use Rattle.run_laws.specs.Course.{refuses_none};
 
-use crate::errors::{StepError, TestRunnerExecuteErrors};
+use crate::course::{Stop, take_all};
+use crate::errors::TestRunnerExecuteErrors;
 use crate::run::Run;
-use crate::tell::first_of;
 use jiff::Timestamp;
-use run_capture::{Duplicate, Mem, Whole};
+use run_capture::{Mem, Whole};
 use run_events::{
     Children, EventLog, InputHandlerKind, InputHandlerStatus, Reporter, RunOutcome, Settings, Turn,
 };
@@ -59,110 +55,45 @@ impl Debug for TestRunner {
     }
 }
 
-/// Why a list of turns stops before its end.
-#[derive(Drop)]
-pub enum Stop {
-    /// The turn at this place isn't enabled.
-    NotEnabled { turn: u64 },
-    /// The turn at this place is a third shutdown signal.
-    ThirdSignal { turn: u64 },
-    OutOfMemory,
-}
-
-// Takes a copy of a turn. The start that it asks is let go: nobody claims one of these turns.
-fn take_copy<C: Children, R: Reporter>(
-    alloc: Global,
-    run: &mut Run,
-    turn: &Turn,
-    children: &mut C,
-    report: &mut R,
-) -> Result<Option<R::Error>, StepError>
-    ensures takes { let o = outside R.faults report.old report.new children.old children.new in
-        IfOk result (TakesTurn R.told C.asked o turn.now run.old
-        (record run.new { claimed = run.old.claimed })) }
-    ensures room { OnOk result (length run.old.journal < 4294967295) }
-    ensures refused { IfErr result (IsRefused run.old turn.now) }
-    ensures unchanged { let o = outside R.faults report.old report.new children.old children.new in
-        IfErr result (λ e. IfNotMemory e (IsUntouched run.old run.new o)) }
-    ensures same { IsErrOf result StepError.OutOfMemory → run.new.journal ≡ run.old.journal }
-    ensures part { let o = outside R.faults report.old report.new children.old children.new in
-        IsErrOf result StepError.OutOfMemory → BreaksOff R.told C.asked o run.old.settings
-        run.old.journal turn.now }
-{
-    match turn.copy(alloc) {
-        Ok(turn) => {
-            let refusal = run.take(alloc, turn, children, report)?;
-            drop(run.claim());
-            Ok(refusal)
-        }
-        Err(_) => Err(StepError::OutOfMemory),
-    }
-}
-
-// Takes all turns, and answers the reporter's first error.
-fn take_all<C: Children, R: Reporter>(
-    alloc: Global,
-    run: &mut Run,
-    turns: &[Turn],
-    children: &mut C,
-    report: &mut R,
-) -> Result<Option<R::Error>, Stop>
-    requires fresh { run.old ≡ sound run.old.settings [] }
-    requires units { AreFew run.old.settings }
-    requires few { length turns.now < 2 ^ 32 }
-    ensures ok { let o = outside R.faults report.old report.new children.old children.new in
-        IfOk result (TakesTurns R.told C.asked o run.old.settings run.new.journal) }
-    ensures all { OnOk result (turns_of run.new.journal ≡ turns.now) }
-    ensures run { OnOk result (run.new
-        ≡ unbroken run.old.settings run.new.journal run.new.claimed) }
-    ensures stopped { let o = outside R.faults report.old report.new children.old children.new in
-        IfErr result (StopsAt R.told C.asked o run.old.settings turns.now run.new.journal) }
-{
-    let mut first = None;
-    for (place, turn) in turns.iter().enumerate() {
-        match take_copy(alloc, run, turn, children, report) {
-            Ok(refusal) => first = first_of(first, refusal),
-            Err(StepError::NotEnabled) => return Err(Stop::NotEnabled { turn: place as u64 }),
-            Err(StepError::ThirdSignal) => return Err(Stop::ThirdSignal { turn: place as u64 }),
-            Err(StepError::Full) => unreachable!(),
-            Err(StepError::OutOfMemory) => return Err(Stop::OutOfMemory),
-        }
-    }
-    Ok(first)
-}
-
 // What a run that has taken all turns answers.
-fn answer<E: Drop>(run: &Run, refusal: Option<E>) -> Result<RunOutcome, TestRunnerExecuteErrors<E>>
-    ensures ended { IsFinal (outcome run.now.settings (history_of run.now)) refusal result }
-    ensures unfinished { outcome run.now.settings (history_of run.now) ≡ None
-        → is_over (history_of run.now) ≡ false }
+fn answer<E: Drop>(
+    state: &State,
+    refusal: Option<E>,
+) -> Result<RunOutcome, TestRunnerExecuteErrors<E>>
+    ensures { IsFinal (outcome_on state.now.board) refusal result }
 {
-    match (run.outcome(), refusal) {
+    let outcome = if state.is_over() {
+        state.outcome()
+    } else {
+        None
+    };
+    match (outcome, refusal) {
         (None, _) => Err(TestRunnerExecuteErrors::Unfinished),
         (Some(outcome), None) => Ok(outcome),
         (Some(_), Some(error)) => Err(TestRunnerExecuteErrors::Report(error)),
     }
 }
 
-// Takes all turns with a run that has taken none, and answers what its journal says.
+// Takes all turns with the state of a run that has taken none, and answers what a journal of them says.
 fn run_all<C: Children, R: Reporter>(
     alloc: Global,
-    run: &mut Run,
+    settings: &Settings,
+    state: &mut State,
     turns: &[Turn],
     children: &mut C,
     report: &mut R,
 ) -> Result<RunOutcome, TestRunnerExecuteErrors<R::Error>>
-    requires fresh { run.old ≡ sound run.old.settings [] }
-    requires units { AreFew run.old.settings }
+    requires fresh { state.old ≡ held settings.now (board settings.now []) }
+    requires units { AreFew settings.now }
     requires few { length turns.now < 2 ^ 32 }
     ensures carries { let o = outside R.faults report.old report.new children.old children.new in
-        UnlessMemory result (Carries R.told C.asked o run.old.settings turns.now result) }
+        UnlessMemory result (Carries R.told C.asked o settings.now turns.now result) }
     ensures memory { let o = outside R.faults report.old report.new children.old children.new in
         IsErrOf result TestRunnerExecuteErrors.OutOfMemory
-        → (journal : List Entry) × RunsOut R.told C.asked o run.old.settings turns.now journal }
+        → (journal : List Entry) × RunsOut R.told C.asked o settings.now turns.now journal }
 {
-    match take_all(alloc, run, turns, children, report) {
-        Ok(refusal) => answer(run, refusal),
+    match take_all(alloc, settings, state, turns, children, report) {
+        Ok(refusal) => answer(state, refusal),
         Err(Stop::NotEnabled { turn }) => Err(TestRunnerExecuteErrors::NotEnabled { turn }),
         Err(Stop::ThirdSignal { turn }) => Err(TestRunnerExecuteErrors::ThirdSignal { turn }),
         Err(Stop::OutOfMemory) => Err(TestRunnerExecuteErrors::OutOfMemory),
@@ -280,11 +211,11 @@ impl TestRunner {
             IsErrOf result TestRunnerExecuteErrors.OutOfMemory
             → (journal : List Entry) × RunsOut R.told C.asked o self turns.now journal }
     {
-        let _settings = &self.settings;
-        match self.into_run(alloc) {
-            Ok(mut run) => {
-                let answer = run_all(alloc, &mut run, turns, children, report);
-                drop(run);
+        let settings = self.settings.get();
+        match State::new(alloc, settings) {
+            Ok(mut state) => {
+                let answer = run_all(alloc, settings, &mut state, turns, children, report);
+                drop(state);
                 answer
             }
             Err(_) => Err(TestRunnerExecuteErrors::OutOfMemory),

@@ -1,4 +1,4 @@
-use Rattle.std.proofs.Common.{length, refl, ap, sym, subst, ◌∙◌}
+use Rattle.std.proofs.Common.{length, ap, sym, subst, ◌∙◌}
 use Rattle.run_laws.specs.Ready.{IsTimelyBoard}
 use Rattle.run_state.specs.Held.{Held, KeepsSeats}
 use Rattle.run_model.specs.Admission.{units_in}
@@ -6,6 +6,7 @@ use Rattle.run_model.specs.Journal.{past_of}
 use Rattle.run_model.specs.Words.{sub_run}
 use Rattle.run_laws.proofs.board.OnBoard.{units-length}
 use Rattle.run_laws.proofs.board.Ready.{timely}
+use Rattle.run_engine.proofs.CarryLemmas.{seated}
 use Rattle.run_engine.proofs.run.Run.admit.Goals as goal
 
 pub named_if_enabled-requires-clause-whole : goal.named_if_enabled-requires-clause-whole
@@ -22,4 +23,4 @@ named_if_enabled-requires-clause-timely c =
 pub named_if_enabled-requires-clause-seated : goal.named_if_enabled-requires-clause-seated
 named_if_enabled-requires-clause-seated c =
     subst (λ p. KeepsSeats p c.self.inside.state) (sym c.get.ensures)
-    (subst (KeepsSeats c.self.inside.settings) (sym (c.self.invariant.stands c.if-self.false)) refl)
+    (seated c.self.inside.settings c.self.inside.state _ (c.self.invariant.stands c.if-self.false))

@@ -1,4 +1,4 @@
-use Rattle.std.proofs.Common.{◌≡◌, false, length, refl, ap, sym, subst, ◌∙◌}
+use Rattle.std.proofs.Common.{◌≡◌, false, length, ap, sym, subst, ◌∙◌}
 use Rattle.run_laws.specs.Ready.{IsTimelyBoard}
 use Rattle.run_state.specs.Held.{Held, KeepsSeats}
 use Rattle.run_model.specs.Admission.{units_in}
@@ -11,6 +11,7 @@ use Rattle.run_model.specs.Board.{board}
 use Rattle.run_state.specs.Settle.{settled_turn}
 use Rattle.run_engine.specs.World.{World}
 use Rattle.run_engine.specs.Settling.{first_settled}
+use Rattle.run_engine.proofs.CarryLemmas.{seated}
 use Rattle.run_engine.proofs.SettlingLemmas.{settled_on}
 use Rattle.run_engine.proofs.run.Run.next.Goals as goal
 
@@ -31,7 +32,7 @@ pub next_settled-requires-clause-seated : goal.next_settled-requires-clause-seat
 next_settled-requires-clause-seated c =
     let sound : c.self.inside.broken ≡ false = rw (sym c.self.view_is) at c.requires in
     subst (λ p. KeepsSeats p c.self.inside.state) (sym c.get.ensures)
-    (subst (KeepsSeats c.self.inside.settings) (sym (c.self.invariant.stands sound)) refl)
+    (seated c.self.inside.settings c.self.inside.state _ (c.self.invariant.stands sound))
 
 pub returns : goal.returns
 returns c =

@@ -1,6 +1,6 @@
 use Rattle.std.proofs.Common.{not, ap, ◌∙◌}
 use Rattle.run_engine.proofs.NameLemmas.{names_none}
-use Rattle.run_engine.proofs.builder.names_no_group.Goals as goal
+use Rattle.run_engine.proofs.names.names_no_group.Goals as goal
 
 pub returns-in-Some : goal.returns-in-Some
 returns-in-Some c = λ groups has.

@@ -5,7 +5,7 @@ use Rattle.std.proofs.lemmas.List.Folds.{list_any_more}
 use lib.Pointwise.{pointwise}
 use Rattle.run_events.specs.declared.plan.Group.{Group}
 use Rattle.run_engine.proofs.RepeatLemmas.{one_more}
-use Rattle.run_engine.proofs.builder.names_of.Goals as goal
+use Rattle.run_engine.proofs.names.names_of.Goals as goal
 
 pub loop-group-preserved : goal.loop-group-preserved
 loop-group-preserved c = λ q.

@@ -1,0 +1,206 @@
+-- Turns that are taken with no journal kept.
+use Rattle.std.proofs.Common.{◌≡◌, ℕ, ◌+◌, ◌<◌, ◌^◌, List, [], ◌∷◌, ◌++◌, length, map, zip, take, get_or, slice_get}
+use Rattle.std.proofs.Common.{Bool, true, false, not, Option, Some, None, is_none, option_to_list, Result, Ok, Err}
+use Rattle.std.proofs.Common.{refl, ap, sym, subst}
+use Rattle.std.proofs.Common.{◌∙◌, arith}
+use Rattle.std.specs.List.{list_all}
+use Rattle.std.proofs.lemmas.List.{length-map, length-take}
+use Rattle.std.proofs.lemmas.Option.{slice_get-get_or}
+use Rattle.run_events.specs.Tell.{Adds}
+use Rattle.run_events.specs.declared.settings.Settings.{Settings}
+use Rattle.run_events.specs.declared.turn.Turn.{Turn}
+use Rattle.run_events.specs.declared.ask.Ask.{Ask}
+use Rattle.run_events.specs.declared.events.ReporterEvent.{ReporterEvent}
+use Rattle.run_events.specs.declared.outcome.RunOutcome.{RunOutcome}
+use Rattle.run_model.specs.declared.entry.Entry.{Entry}
+use Rattle.run_model.specs.Admission.{AreFew, units_in}
+use Rattle.run_model.specs.Board.{board, step, answered, deed_events}
+use Rattle.run_model.specs.Turns.{enabled, enabled_on, turn_of_unit, deed_on}
+use Rattle.run_model.specs.Journal.{past_of, outcome}
+use Rattle.run_model.specs.Words.{sub_run}
+use Rattle.run_laws.specs.Course.{turns_of}
+use Rattle.run_laws.specs.Ready.{CanAdvance, IsTimelyBoard}
+use Rattle.run_laws.proofs.board.OnBoard.{units-length}
+use Rattle.run_laws.proofs.board.Ready.{timely}
+use Rattle.run_laws.proofs.told.Outcomes.{over_is}
+use Rattle.run_state.specs.Held.{Held, KeepsSeats, held}
+use Rattle.run_engine.specs.World.{World, Outside, outside, entry_of, earlier, TellsEvents, CountsErrors}
+use Rattle.run_engine.specs.Standing.{sound}
+use Rattle.run_engine.specs.Broken.{TellsPart, BreaksOff}
+use Rattle.run_engine.specs.Execution.{Carries, UnlessMemory, IsFinal, StopsHere, StopsAt}
+use Rattle.run_engine.specs.Unkept.{StandsFor, TakesNext, StopsNext, HasTaken, outcome_on}
+use Rattle.run_engine.specs.declared.course.Stop.{Stop}
+use Rattle.run_engine.specs.declared.course.Stop.TheVariants as stops
+use Rattle.run_engine.specs.declared.errors.TestRunnerExecuteErrors.{TestRunnerExecuteErrors}
+use Rattle.run_engine.specs.declared.errors.TestRunnerExecuteErrors.TheVariants.{Report, NotEnabled, ThirdSignal}
+use Rattle.run_engine.specs.declared.errors.TestRunnerExecuteErrors.TheVariants.{Unfinished, OutOfMemory}
+use Rattle.run_engine.proofs.CarryLemmas.{seated, held-is, can_advance, stands_next, takes_from}
+use Rattle.run_engine.proofs.OutcomeLemmas.{not_over}
+use Rattle.run_engine.proofs.PartLemmas.{tells-nothing, adds-nothing, breaks_off, runs_out}
+use Rattle.run_engine.proofs.TakesLemmas.{takes-more, turns-push, stops_here}
+
+-- what a state that stands for a journal has, and keeps
+pub all_units : (p : Settings) (state : Held) (place : ℕ) (journal : List Entry) → StandsFor p state place journal
+    → length state.board.units ≡ units_in p
+all_units p state place journal s =
+    ap (λ (h : Held). length h.board.units) s.stands ∙ units-length p (sub_run (past_of p journal))
+
+pub is_timely : (p : Settings) (state : Held) (place : ℕ) (journal : List Entry) → StandsFor p state place journal
+    → IsTimelyBoard state.board
+is_timely p state place journal s =
+    subst (λ (h : Held). IsTimelyBoard h.board) (sym s.stands) (timely p journal s.runnable.legal)
+
+pub keeps_seats : (p : Settings) (state : Held) (place : ℕ) (journal : List Entry) → StandsFor p state place journal
+    → KeepsSeats p state
+keeps_seats p state place journal s = seated p state (board p (past_of p journal)) s.stands
+
+-- a turn that is enabled on its board is so after the journal, and can be taken
+enabled_after : (p : Settings) (state : Held) (place : ℕ) (journal : List Entry) (turn : Turn)
+    → StandsFor p state place journal → enabled_on p state.board turn ≡ true
+    → enabled p (past_of p journal) turn ≡ true
+enabled_after p state place journal turn s en = sym (ap (λ (h : Held). enabled_on p h.board turn) s.stands) ∙ en
+
+pub can_take : (p : Settings) (state : Held) (place : ℕ) (journal : List Entry) (turn : Turn)
+    → StandsFor p state place journal → enabled_on p state.board turn ≡ true
+    → CanAdvance p state.board turn (turn_of_unit turn)
+can_take p state place journal turn s en =
+    can_advance p journal state.board turn s.runnable (ap (λ (h : Held). h.board) s.stands)
+    (enabled_after p state place journal turn s en)
+
+-- a turn is taken after the journal, from what its parts did
+pub takes_next : {R E C : Type 0} (tells : R → List (ReporterEvent × Option E) → Type 0)
+    (asks : C → List (ℕ × Ask) → Type 0) (o : Outside R C) (p : Settings) (state new : Held) (place : ℕ)
+    (journal : List Entry) (turn : Turn) (refused : List Bool) (refusal : Option E)
+    → StandsFor p state place journal → enabled_on p state.board turn ≡ true → KeepsSeats p new
+    → new.board ≡ answered (step state.board turn (deed_on p state.board turn)) refused
+    → length refused ≡ length (deed_events (deed_on p state.board turn)) → is_none refusal ≡ list_all not refused
+    → TellsEvents tells o.report o.report_after (zip (deed_events (deed_on p state.board turn)) refused) refusal
+    → Adds asks o.children o.children_after
+    (map (λ ask. (place, ask)) (option_to_list (deed_on p state.board turn).asked))
+    → CountsErrors o.faults o.faults_after refusal → TakesNext tells asks o p new journal turn refusal
+takes_next tells asks o p state new place journal turn refused refusal s on seats after answered marked tell ask
+    counted =
+    let st : state.board ≡ board p (past_of p journal) = ap (λ (h : Held). h.board) s.stands in
+    let en = enabled_after p state place journal turn s on in (
+      journal ++ entry_of turn refused ∷ [],
+      takes_from tells asks o p journal (journal ++ entry_of turn refused ∷ []) state.board turn refused refusal 0 place
+          s.many st en answered marked tell ask counted refl,
+      held-is p new _ seats (stands_next p journal state.board new.board turn refused s.runnable st en after),
+    )
+
+-- or it was broken off
+pub breaks_next : {R E C : Type 0} (tells : R → List (ReporterEvent × Option E) → Type 0)
+    (asks : C → List (ℕ × Ask) → Type 0) (o : Outside R C) (p : Settings) (state : Held) (place : ℕ)
+    (journal : List Entry) (turn : Turn) → StandsFor p state place journal → enabled_on p state.board turn ≡ true
+    → TellsPart tells asks o place (deed_events (deed_on p state.board turn)) (deed_on p state.board turn).asked
+    → BreaksOff tells asks o p journal turn
+breaks_next tells asks o p state place journal turn s on x =
+    breaks_off tells asks o p journal state.board turn place s.many (ap (λ (h : Held). h.board) s.stands)
+    (enabled_after p state place journal turn s on) x
+
+-- no turn was taken
+pub has_taken_none : {R E C : Type 0} (tells : R → List (ReporterEvent × Option E) → Type 0)
+    (asks : C → List (ℕ × Ask) → Type 0) (faults : R → ℕ) (p : Settings) (state : Held) (r : R) (c : C) → AreFew p
+    → state ≡ held p (board p []) → HasTaken tells asks (outside faults r r c c) p [] state None
+has_taken_none tells asks faults p state r c few fresh = record {
+  journal = [];
+  takes = record {
+    runnable = record { few = few; short = omega arith; legal = tt };
+    marked = refl;
+    told = tells-nothing tells r;
+    asked = adds-nothing asks c;
+    counted = refl;
+  };
+  all = refl;
+  stands = fresh;
+}
+
+-- after the turns before a place the state stands for their journal
+pub stands_for : {R E C : Type 0} (tells : R → List (ReporterEvent × Option E) → Type 0)
+    (asks : C → List (ℕ × Ask) → Type 0) (o : Outside R C) (p : Settings) (turns : List Turn) (place : ℕ) (state : Held)
+    (first : Option E) (so_far : HasTaken tells asks o p (take place turns) state first) → place < length turns
+    → StandsFor p state place so_far.journal
+stands_for tells asks o p turns place state first so_far inside = record {
+  runnable = so_far.takes.runnable;
+  stands = so_far.stands;
+  many = omega (
+    arith,
+    inside,
+    ap length so_far.all,
+    length-map so_far.journal (λ (e : Entry). e.turn),
+    length-take place turns,
+  );
+}
+
+-- one more turn was taken
+pub has_taken_more : {R E C : Type 0} (tells : R → List (ReporterEvent × Option E) → Type 0)
+    (asks : C → List (ℕ × Ask) → Type 0) (faults : R → ℕ) (p : Settings) (turns : List Turn) (place : ℕ)
+    (state new : Held) (a b c : R) (d e f : C) (first later : Option E) (turn : Turn)
+    (so_far : HasTaken tells asks (outside faults a b d e) p (take place turns) state first)
+    → place < length turns → length turns < 2 ^ 32 → turn ≡ get_or turns place turn
+    → TakesNext tells asks (outside faults b c e f) p new so_far.journal turn later
+    → HasTaken tells asks (outside faults a c d f) p (take (place + 1) turns) new (earlier first later)
+has_taken_more tells asks faults p turns place state new a b c d e f first later turn so_far inside few is next =
+    let stands = stands_for tells asks (outside faults a b d e) p turns place state first so_far inside in
+    record {
+      journal = next.0;
+      takes = takes-more tells asks faults p so_far.journal a b c d e f first later turn (sound p next.0) so_far.takes
+          next.1 (omega (arith, stands.many));
+      all = ap (λ (w : World). turns_of w.journal) next.1.grown
+          ∙ turns-push so_far.journal turns place turn turn next.1.refused inside so_far.all is;
+      stands = next.2;
+    }
+
+slice_get_at : (turns : List Turn) (place : ℕ) (turn : Turn) → place < length turns → turn ≡ get_or turns place turn
+    → slice_get turns place ≡ Some turn
+slice_get_at turns place turn inside is = slice_get-get_or turns place turn inside ∙ ap Some (sym is)
+
+-- the turns stop at the next one
+pub stops_at : {R E C : Type 0} (tells : R → List (ReporterEvent × Option E) → Type 0)
+    (asks : C → List (ℕ × Ask) → Type 0) (faults : R → ℕ) (p : Settings) (turns : List Turn) (place : ℕ) (state : Held)
+    (a b c : R) (d e f : C) (first : Option E) (turn : Turn) (stop : Stop)
+    (so_far : HasTaken tells asks (outside faults a b d e) p (take place turns) state first)
+    → place < length turns → turn ≡ get_or turns place turn
+    → StopsNext tells asks (outside faults b c e f) (sound p so_far.journal) place turn stop
+    → StopsAt tells asks (outside faults a c d f) p turns so_far.journal stop
+stops_at tells asks faults p turns place state a b c d e f first turn (stops.NotEnabled i) so_far inside is why =
+    subst (λ i. StopsHere tells asks (outside faults a c d f) p turns so_far.journal i false) (sym why.0)
+    (stops_here tells asks faults p turns (sound p so_far.journal) (sound p so_far.journal) a b c d e f first place turn
+    false so_far.takes so_far.all refl (slice_get_at turns place turn inside is) why.1 why.2)
+stops_at tells asks faults p turns place state a b c d e f first turn (stops.ThirdSignal i) so_far inside is why =
+    subst (λ i. StopsHere tells asks (outside faults a c d f) p turns so_far.journal i true) (sym why.0)
+    (stops_here tells asks faults p turns (sound p so_far.journal) (sound p so_far.journal) a b c d e f first place turn
+    true so_far.takes so_far.all refl (slice_get_at turns place turn inside is) why.1 why.2)
+stops_at tells asks faults p turns place state a b c d e f first turn stops.OutOfMemory so_far inside is why =
+    runs_out tells asks faults p turns so_far.journal a b c d e f first place turn so_far.takes so_far.all
+    (slice_get_at turns place turn inside is) why
+
+-- what is answered at the end of all turns says what their journal does
+pub carries_final : {R E C : Type 0} (tells : R → List (ReporterEvent × Option E) → Type 0)
+    (asks : C → List (ℕ × Ask) → Type 0) (o : Outside R C) (p : Settings) (turns : List Turn) (state : Held)
+    (refusal : Option E) (answer : Result RunOutcome (TestRunnerExecuteErrors E))
+    → HasTaken tells asks o p turns state refusal → IsFinal (outcome_on state.board) refusal answer
+    → UnlessMemory answer (Carries tells asks o p turns answer)
+carries_final {E = E} tells asks o p turns state refusal answer x final =
+    by_answer answer (subst (λ (h : Held). IsFinal (outcome_on h.board) refusal answer) x.stands final)
+  where
+    by_answer : (answer : Result RunOutcome (TestRunnerExecuteErrors E))
+        → IsFinal (outcome p (past_of p x.journal)) refusal answer
+        → UnlessMemory answer (Carries tells asks o p turns answer)
+    by_answer (Ok end) says =
+        record { journal = x.journal; refusal = refusal; takes = x.takes; says = (x.all, says.0, says.1) }
+    by_answer (Err (Report e)) says = record {
+      journal = x.journal;
+      refusal = refusal;
+      takes = x.takes;
+      says = (x.all, over_is p (past_of p x.journal) says.0.0 says.0.1, says.1);
+    }
+    by_answer (Err (NotEnabled i)) says = absurd says
+    by_answer (Err (ThirdSignal i)) says = absurd says
+    by_answer (Err Unfinished) says = record {
+      journal = x.journal;
+      refusal = refusal;
+      takes = x.takes;
+      says = (x.all, not_over p x.journal x.takes.runnable.legal says);
+    }
+    by_answer (Err OutOfMemory) says = tt
