@@ -28,7 +28,7 @@ use Rattle.run_engine.specs.World.{World, Outside, outside, entry_of, earlier, T
 use Rattle.run_engine.specs.Standing.{sound}
 use Rattle.run_engine.specs.Broken.{TellsPart, BreaksOff}
 use Rattle.run_engine.specs.Execution.{Carries, UnlessMemory, IsFinal, StopsHere, StopsAt}
-use Rattle.run_engine.specs.Unkept.{StandsFor, TakesNext, StopsNext, HasTaken, outcome_on}
+use Rattle.run_engine.specs.Unkept.{StandsAfter, TakesUnkept, StopsUnkept, TookAll, outcome_on}
 use Rattle.run_engine.specs.declared.course.Stop.{Stop}
 use Rattle.run_engine.specs.declared.course.Stop.TheVariants as stops
 use Rattle.run_engine.specs.declared.errors.TestRunnerExecuteErrors.{TestRunnerExecuteErrors}
@@ -40,28 +40,28 @@ use Rattle.run_engine.proofs.PartLemmas.{tells-nothing, adds-nothing, breaks_off
 use Rattle.run_engine.proofs.TakesLemmas.{takes-more, turns-push, stops_here}
 
 -- what a state that stands for a journal has, and keeps
-pub all_units : (p : Settings) (state : Held) (place : ℕ) (journal : List Entry) → StandsFor p state place journal
+pub all_units : (p : Settings) (state : Held) (place : ℕ) (journal : List Entry) → StandsAfter p state place journal
     → length state.board.units ≡ units_in p
 all_units p state place journal s =
     ap (λ (h : Held). length h.board.units) s.stands ∙ units-length p (sub_run (past_of p journal))
 
-pub is_timely : (p : Settings) (state : Held) (place : ℕ) (journal : List Entry) → StandsFor p state place journal
+pub is_timely : (p : Settings) (state : Held) (place : ℕ) (journal : List Entry) → StandsAfter p state place journal
     → IsTimelyBoard state.board
 is_timely p state place journal s =
     subst (λ (h : Held). IsTimelyBoard h.board) (sym s.stands) (timely p journal s.runnable.legal)
 
-pub keeps_seats : (p : Settings) (state : Held) (place : ℕ) (journal : List Entry) → StandsFor p state place journal
+pub keeps_seats : (p : Settings) (state : Held) (place : ℕ) (journal : List Entry) → StandsAfter p state place journal
     → KeepsSeats p state
 keeps_seats p state place journal s = seated p state (board p (past_of p journal)) s.stands
 
 -- a turn that is enabled on its board is so after the journal, and can be taken
 enabled_after : (p : Settings) (state : Held) (place : ℕ) (journal : List Entry) (turn : Turn)
-    → StandsFor p state place journal → enabled_on p state.board turn ≡ true
+    → StandsAfter p state place journal → enabled_on p state.board turn ≡ true
     → enabled p (past_of p journal) turn ≡ true
 enabled_after p state place journal turn s en = sym (ap (λ (h : Held). enabled_on p h.board turn) s.stands) ∙ en
 
 pub can_take : (p : Settings) (state : Held) (place : ℕ) (journal : List Entry) (turn : Turn)
-    → StandsFor p state place journal → enabled_on p state.board turn ≡ true
+    → StandsAfter p state place journal → enabled_on p state.board turn ≡ true
     → CanAdvance p state.board turn (turn_of_unit turn)
 can_take p state place journal turn s en =
     can_advance p journal state.board turn s.runnable (ap (λ (h : Held). h.board) s.stands)
@@ -71,13 +71,13 @@ can_take p state place journal turn s en =
 pub takes_next : {R E C : Type 0} (tells : R → List (ReporterEvent × Option E) → Type 0)
     (asks : C → List (ℕ × Ask) → Type 0) (o : Outside R C) (p : Settings) (state new : Held) (place : ℕ)
     (journal : List Entry) (turn : Turn) (refused : List Bool) (refusal : Option E)
-    → StandsFor p state place journal → enabled_on p state.board turn ≡ true → KeepsSeats p new
+    → StandsAfter p state place journal → enabled_on p state.board turn ≡ true → KeepsSeats p new
     → new.board ≡ answered (step state.board turn (deed_on p state.board turn)) refused
     → length refused ≡ length (deed_events (deed_on p state.board turn)) → is_none refusal ≡ list_all not refused
     → TellsEvents tells o.report o.report_after (zip (deed_events (deed_on p state.board turn)) refused) refusal
     → Adds asks o.children o.children_after
     (map (λ ask. (place, ask)) (option_to_list (deed_on p state.board turn).asked))
-    → CountsErrors o.faults o.faults_after refusal → TakesNext tells asks o p new journal turn refusal
+    → CountsErrors o.faults o.faults_after refusal → TakesUnkept tells asks o p new journal turn refusal
 takes_next tells asks o p state new place journal turn refused refusal s on seats after answered marked tell ask
     counted =
     let st : state.board ≡ board p (past_of p journal) = ap (λ (h : Held). h.board) s.stands in
@@ -91,7 +91,7 @@ takes_next tells asks o p state new place journal turn refused refusal s on seat
 -- or it was broken off
 pub breaks_next : {R E C : Type 0} (tells : R → List (ReporterEvent × Option E) → Type 0)
     (asks : C → List (ℕ × Ask) → Type 0) (o : Outside R C) (p : Settings) (state : Held) (place : ℕ)
-    (journal : List Entry) (turn : Turn) → StandsFor p state place journal → enabled_on p state.board turn ≡ true
+    (journal : List Entry) (turn : Turn) → StandsAfter p state place journal → enabled_on p state.board turn ≡ true
     → TellsPart tells asks o place (deed_events (deed_on p state.board turn)) (deed_on p state.board turn).asked
     → BreaksOff tells asks o p journal turn
 breaks_next tells asks o p state place journal turn s on x =
@@ -101,7 +101,7 @@ breaks_next tells asks o p state place journal turn s on x =
 -- no turn was taken
 pub has_taken_none : {R E C : Type 0} (tells : R → List (ReporterEvent × Option E) → Type 0)
     (asks : C → List (ℕ × Ask) → Type 0) (faults : R → ℕ) (p : Settings) (state : Held) (r : R) (c : C) → AreFew p
-    → state ≡ held p (board p []) → HasTaken tells asks (outside faults r r c c) p [] state None
+    → state ≡ held p (board p []) → TookAll tells asks (outside faults r r c c) p [] state None
 has_taken_none tells asks faults p state r c few fresh = record {
   journal = [];
   takes = record {
@@ -118,8 +118,8 @@ has_taken_none tells asks faults p state r c few fresh = record {
 -- after the turns before a place the state stands for their journal
 pub stands_for : {R E C : Type 0} (tells : R → List (ReporterEvent × Option E) → Type 0)
     (asks : C → List (ℕ × Ask) → Type 0) (o : Outside R C) (p : Settings) (turns : List Turn) (place : ℕ) (state : Held)
-    (first : Option E) (so_far : HasTaken tells asks o p (take place turns) state first) → place < length turns
-    → StandsFor p state place so_far.journal
+    (first : Option E) (so_far : TookAll tells asks o p (take place turns) state first) → place < length turns
+    → StandsAfter p state place so_far.journal
 stands_for tells asks o p turns place state first so_far inside = record {
   runnable = so_far.takes.runnable;
   stands = so_far.stands;
@@ -136,10 +136,10 @@ stands_for tells asks o p turns place state first so_far inside = record {
 pub has_taken_more : {R E C : Type 0} (tells : R → List (ReporterEvent × Option E) → Type 0)
     (asks : C → List (ℕ × Ask) → Type 0) (faults : R → ℕ) (p : Settings) (turns : List Turn) (place : ℕ)
     (state new : Held) (a b c : R) (d e f : C) (first later : Option E) (turn : Turn)
-    (so_far : HasTaken tells asks (outside faults a b d e) p (take place turns) state first)
+    (so_far : TookAll tells asks (outside faults a b d e) p (take place turns) state first)
     → place < length turns → length turns < 2 ^ 32 → turn ≡ get_or turns place turn
-    → TakesNext tells asks (outside faults b c e f) p new so_far.journal turn later
-    → HasTaken tells asks (outside faults a c d f) p (take (place + 1) turns) new (earlier first later)
+    → TakesUnkept tells asks (outside faults b c e f) p new so_far.journal turn later
+    → TookAll tells asks (outside faults a c d f) p (take (place + 1) turns) new (earlier first later)
 has_taken_more tells asks faults p turns place state new a b c d e f first later turn so_far inside few is next =
     let stands = stands_for tells asks (outside faults a b d e) p turns place state first so_far inside in
     record {
@@ -159,9 +159,9 @@ slice_get_at turns place turn inside is = slice_get-get_or turns place turn insi
 pub stops_at : {R E C : Type 0} (tells : R → List (ReporterEvent × Option E) → Type 0)
     (asks : C → List (ℕ × Ask) → Type 0) (faults : R → ℕ) (p : Settings) (turns : List Turn) (place : ℕ) (state : Held)
     (a b c : R) (d e f : C) (first : Option E) (turn : Turn) (stop : Stop)
-    (so_far : HasTaken tells asks (outside faults a b d e) p (take place turns) state first)
+    (so_far : TookAll tells asks (outside faults a b d e) p (take place turns) state first)
     → place < length turns → turn ≡ get_or turns place turn
-    → StopsNext tells asks (outside faults b c e f) (sound p so_far.journal) place turn stop
+    → StopsUnkept tells asks (outside faults b c e f) (sound p so_far.journal) place turn stop
     → StopsAt tells asks (outside faults a c d f) p turns so_far.journal stop
 stops_at tells asks faults p turns place state a b c d e f first turn (stops.NotEnabled i) so_far inside is why =
     subst (λ i. StopsHere tells asks (outside faults a c d f) p turns so_far.journal i false) (sym why.0)
@@ -179,7 +179,7 @@ stops_at tells asks faults p turns place state a b c d e f first turn stops.OutO
 pub carries_final : {R E C : Type 0} (tells : R → List (ReporterEvent × Option E) → Type 0)
     (asks : C → List (ℕ × Ask) → Type 0) (o : Outside R C) (p : Settings) (turns : List Turn) (state : Held)
     (refusal : Option E) (answer : Result RunOutcome (TestRunnerExecuteErrors E))
-    → HasTaken tells asks o p turns state refusal → IsFinal (outcome_on state.board) refusal answer
+    → TookAll tells asks o p turns state refusal → IsFinal (outcome_on state.board) refusal answer
     → UnlessMemory answer (Carries tells asks o p turns answer)
 carries_final {E = E} tells asks o p turns state refusal answer x final =
     by_answer answer (subst (λ (h : Held). IsFinal (outcome_on h.board) refusal answer) x.stands final)

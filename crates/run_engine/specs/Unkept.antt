@@ -19,28 +19,28 @@ use Rattle.run_engine.specs.declared.course.Stop.{Stop}
 use Rattle.run_engine.specs.declared.course.Stop.TheVariants.{NotEnabled, ThirdSignal, OutOfMemory}
 
 -- a state is the one after a journal of so many turns
-pub record StandsFor (p : Settings) (state : Held) (place : ℕ) (journal : List Entry) : Type 0 where
+pub record StandsAfter (p : Settings) (state : Held) (place : ℕ) (journal : List Entry) : Type 0 where
   pub runnable : IsRunnable p journal
   pub stands : state ≡ held p (board p (past_of p journal))
   pub many : place ≡ length journal
 
 -- a run takes a turn after a journal, and the state stands for the longer journal
-abbrev pub TakesNext : {R E C : Type 0} → (R → List (ReporterEvent × Option E) → Type 0)
+abbrev pub TakesUnkept : {R E C : Type 0} → (R → List (ReporterEvent × Option E) → Type 0)
     → (C → List (ℕ × Ask) → Type 0) → Outside R C → Settings → Held → List Entry → Turn → Option E → Type 0
-TakesNext tells asks o p state journal turn refusal =
+TakesUnkept tells asks o p state journal turn refusal =
     (after : List Entry) × TakesTurn tells asks o turn (sound p journal) (sound p after) refusal
     × (state ≡ held p (board p (past_of p after)))
 
 -- the turn at this place stops a list: it isn't enabled in the run, which stays as it is with the outside, or it was
 -- broken off
-abbrev pub StopsNext : {R E C : Type 0} → (R → List (ReporterEvent × Option E) → Type 0)
+abbrev pub StopsUnkept : {R E C : Type 0} → (R → List (ReporterEvent × Option E) → Type 0)
     → (C → List (ℕ × Ask) → Type 0) → Outside R C → World → ℕ → Turn → Stop → Type 0
-StopsNext tells asks o w place turn (NotEnabled i) = (i ≡ place) × IsNotTaken w turn false × IsUntouched w w o
-StopsNext tells asks o w place turn (ThirdSignal i) = (i ≡ place) × IsNotTaken w turn true × IsUntouched w w o
-StopsNext tells asks o w place turn OutOfMemory = BreaksOff tells asks o w.settings w.journal turn
+StopsUnkept tells asks o w place turn (NotEnabled i) = (i ≡ place) × IsNotTaken w turn false × IsUntouched w w o
+StopsUnkept tells asks o w place turn (ThirdSignal i) = (i ≡ place) × IsNotTaken w turn true × IsUntouched w w o
+StopsUnkept tells asks o w place turn OutOfMemory = BreaksOff tells asks o w.settings w.journal turn
 
 -- these turns were taken one after another, and the state is the one after the journal of them
-pub record HasTaken {R E C : Type 0} (tells : R → List (ReporterEvent × Option E) → Type 0)
+pub record TookAll {R E C : Type 0} (tells : R → List (ReporterEvent × Option E) → Type 0)
     (asks : C → List (ℕ × Ask) → Type 0) (o : Outside R C) (p : Settings) (taken : List Turn) (state : Held)
     (refusal : Option E) : Type 0 where
   pub journal : List Entry

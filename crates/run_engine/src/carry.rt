@@ -26,7 +26,7 @@ ghost use Rattle.run_engine.specs.World.{history_of};
 ghost use Rattle.run_state.specs.Held.{KeepsSeats, held};
 ghost use Rattle.run_engine.specs.Standing.{IsRunnable, unbroken, sound};
 ghost use Rattle.run_engine.specs.Refused.{IsRefused, IsNotNamed, IfNotMemory};
-ghost use Rattle.run_engine.specs.Unkept.{StandsFor, TakesNext};
+ghost use Rattle.run_engine.specs.Unkept.{StandsAfter, TakesUnkept};
 
 use crate::errors::StepError;
 use crate::tell::{Told, ask, keep_start, tell};
@@ -206,15 +206,15 @@ pub(crate) fn carry_unkept<C: Children, R: Reporter>(
     report: &mut R,
 ) -> Mem<Option<R::Error>>
     requires named { named ≡ turn_of_unit turn.now }
-    requires stands { (journal : List Entry) × StandsFor settings.now state.old place journal }
+    requires stands { (journal : List Entry) × StandsAfter settings.now state.old place journal }
     requires enabled { enabled_on settings.now state.old.board turn.now ≡ true }
     requires room { place + 1 < 2 ^ 32 }
     ensures takes { let o = outside R.faults report.old report.new children.old children.new in
         IfOk result (λ refusal. (journal : List Entry)
-        → StandsFor settings.now state.old place journal
-        → TakesNext R.told C.asked o settings.now state.new journal turn.now refusal) }
+        → StandsAfter settings.now state.old place journal
+        → TakesUnkept R.told C.asked o settings.now state.new journal turn.now refusal) }
     ensures part { let o = outside R.faults report.old report.new children.old children.new in
-        OnErr result ((journal : List Entry) → StandsFor settings.now state.old place journal
+        OnErr result ((journal : List Entry) → StandsAfter settings.now state.old place journal
         → BreaksOff R.told C.asked o settings.now journal turn.now) }
 {
     let (told, effects) = act(alloc, settings, state, place, turn, named, children, report)?;

@@ -7,7 +7,7 @@ ghost use Rattle.run_state.specs.Held.{held};
 ghost use Rattle.run_engine.specs.World.{outside};
 ghost use Rattle.run_engine.specs.Standing.{sound};
 ghost use Rattle.run_engine.specs.Execution.{StopsAt};
-ghost use Rattle.run_engine.specs.Unkept.{StandsFor, TakesNext, StopsNext, HasTaken};
+ghost use Rattle.run_engine.specs.Unkept.{StandsAfter, TakesUnkept, StopsUnkept, TookAll};
 
 use crate::carry::{carry_unkept, named_if_enabled};
 use crate::errors::StepError;
@@ -37,16 +37,16 @@ fn take_at<C: Children, R: Reporter>(
     children: &mut C,
     report: &mut R,
 ) -> Result<Option<R::Error>, Stop>
-    requires stands { (journal : List Entry) × StandsFor settings.now state.old place journal }
+    requires stands { (journal : List Entry) × StandsAfter settings.now state.old place journal }
     requires room { place + 1 < 2 ^ 32 }
     ensures takes { let o = outside R.faults report.old report.new children.old children.new in
         IfOk result (λ refusal. (journal : List Entry)
-        → StandsFor settings.now state.old place journal
-        → TakesNext R.told C.asked o settings.now state.new journal turn.now refusal) }
+        → StandsAfter settings.now state.old place journal
+        → TakesUnkept R.told C.asked o settings.now state.new journal turn.now refusal) }
     ensures stops { let o = outside R.faults report.old report.new children.old children.new in
         IfErr result (λ stop. (journal : List Entry)
-        → StandsFor settings.now state.old place journal
-        → StopsNext R.told C.asked o (sound settings.now journal) place turn.now stop) }
+        → StandsAfter settings.now state.old place journal
+        → StopsUnkept R.told C.asked o (sound settings.now journal) place turn.now stop) }
 {
     match named_if_enabled(alloc, settings, state, turn) {
         Ok(named) => {
@@ -75,7 +75,7 @@ pub(crate) fn take_all<C: Children, R: Reporter>(
     requires units { AreFew settings.now }
     requires few { length turns.now < 2 ^ 32 }
     ensures ok { let o = outside R.faults report.old report.new children.old children.new in
-        IfOk result (HasTaken R.told C.asked o settings.now turns.now state.new) }
+        IfOk result (TookAll R.told C.asked o settings.now turns.now state.new) }
     ensures stopped { let o = outside R.faults report.old report.new children.old children.new in
         IfErr result (λ stop. (journal : List Entry)
         × StopsAt R.told C.asked o settings.now turns.now journal stop) }

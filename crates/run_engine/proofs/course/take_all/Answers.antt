@@ -1,7 +1,7 @@
 use Rattle.std.proofs.Common.{◌+◌, ◌<◌, length, take, sym, subst, arith}
 use Rattle.std.proofs.lemmas.List.{take_all}
 use Rattle.run_engine.specs.World.{outside}
-use Rattle.run_engine.specs.Unkept.{HasTaken}
+use Rattle.run_engine.specs.Unkept.{TookAll}
 use Rattle.run_engine.proofs.UnkeptLemmas.{has_taken_none, has_taken_more, stands_for, stops_at}
 use Rattle.run_engine.proofs.course.take_all.Goals as goal
 
@@ -29,7 +29,7 @@ loop-place-preserved g c =
     let new = c.take_at.new in
     let inside : was.place < length turns = omega arith in
     let stands = stands_for told asked _ p turns was.place was.state was.first was.invariant inside in
-    subst (HasTaken told asked (outside faults c.args.report.now new.report c.args.children.now new.children) p
+    subst (TookAll told asked (outside faults c.args.report.now new.report c.args.children.now new.children) p
     (take (was.place + 1) turns) new.state)
     (sym c.first_of-first.ensures)
     (has_taken_more told asked faults p turns was.place was.state new.state c.args.report.now was.report new.report
@@ -55,7 +55,7 @@ returns-in-Err-clause-stopped g c =
 pub returns-clause-ok : goal.returns-clause-ok
 returns-clause-ok g c =
     let was = c.loop-place in
-    subst (λ taken. HasTaken g.R.Reporter.told g.C.Children.asked
+    subst (λ taken. TookAll g.R.Reporter.told g.C.Children.asked
     (outside g.R.Reporter.faults c.args.report.now was.report c.args.children.now was.children) c.args.settings.now
     taken was.state was.first)
     (take_all was.place c.args.turns.now (omega arith)) was.invariant
