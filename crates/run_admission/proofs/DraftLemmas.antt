@@ -183,8 +183,12 @@ drafted_next limits claims k l lines places d known own low = record {
         let apart : t ≢ k = grind arith in
         let before : t < k = omega arith in
         let i = line_of limits (get_or claims t nobody.0) in
-        omega (arith, place t before, (stays i (get_or places t 0) (low_of t before)
-            (d.inside t before) (i == l) refl).0)
+        omega (
+          arith,
+          place t before,
+          (stays i (get_or places t 0) (low_of t before)
+              (d.inside t before) (i == l) refl).0,
+        )
 
     placeds : (t : ℕ) → t < k + 1 → (b : Bool) → (t == k) ≡ b
         → get_or (get_or (set lines l (joined (get_or lines l empty) k (weight_of limits

@@ -128,7 +128,7 @@ head_is us limits claims seats lines places line room first is within there q kn
     at : (k : ℕ) → comes us (get_or claims k nobody.0, get_or seats k Gone)
         ≡ (is_waiting (get_or seats k Gone)
         && nat_le (weight_of limits (get_or claims k nobody.0))
-            (room_of us (line_of limits (get_or claims k nobody.0))))
+        (room_of us (line_of limits (get_or claims k nobody.0))))
     at k = comes_is us limits (get_or claims k nobody.0) (get_or seats k Gone) is within (there k)
 
     not_after : (k : ℕ) → k < length claims → line_of limits (get_or claims k nobody.0) ≡ line
@@ -229,7 +229,7 @@ member_after limits claims seats lines places t s q paired known inside gone j p
         (get_or (set seats t s) (get_or (get_or lines j empty).tests p 0) Gone)
     other apart =
         m.weighs ∙ ap (weight_at limits (get_or claims test nobody.0))
-            (sym (get_or-set_other seats t test s Gone apart))
+        (sym (get_or-set_other seats t test s Gone apart))
 
     left : j ≡ l
         → get_or (get_or (set lines l (without (get_or lines l empty) (get_or places t 0))) j empty).weights p 0

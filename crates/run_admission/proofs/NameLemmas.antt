@@ -65,7 +65,7 @@ push_none : {X : Type 0} (p : X → Bool) (xs : List X) (y : X) → position p x
     → position p (xs ++ y ∷ []) ≡ None
 push_none p xs y e fails =
     found_none p (xs ++ y ∷ []) y (λ j h. by_place j
-        (omega (arith, h, length-append xs (y ∷ []))) (j == length xs) refl)
+    (omega (arith, h, length-append xs (y ∷ []))) (j == length xs) refl)
   where
     by_place : (j : ℕ) → j < length xs + 1 → (b : Bool) → (j == length xs) ≡ b
         → p (get_or (xs ++ y ∷ []) j y) ≡ false

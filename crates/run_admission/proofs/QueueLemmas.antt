@@ -31,7 +31,7 @@ not_before us claims seats q r k queued paired there least inside e =
     let line = line_of limits (get_or claims k nobody.0) in
     let known : line < length limits + 1 =
     line_inside limits (get_or claims k nobody.0) (λ g of. omega
-        (arith, there k g of, length-map us (λ (u : Use). u.limit))) in
+    (arith, there k g of, length-map us (λ (u : Use). u.limit))) in
     let low : line < length q.lines = omega (arith, known, queued.lined.count) in
     let may : comes us (get_or claims k nobody.0, get_or seats k Gone) ≡ true =
     sym (ap (comes us) (get_or_zip claims seats k nobody.0 Gone nobody (omega (arith, paired)) inside)) ∙ e in

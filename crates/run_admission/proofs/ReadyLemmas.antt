@@ -305,7 +305,7 @@ run_ready waiting whole after_whole us afters q next after order claims seats r 
     kept : IsWhole (waiting - 1) after_whole afters claims (set seats t (InUse n m))
     kept =
         run_kept waiting (waiting - 1) whole after_whole us afters claims seats t n m claim
-            w.kept is read slot within all
+        w.kept is read slot within all
         parts (omega (arith, w.kept.waits, one_fewer seats t (InUse n m) can.inside can.waits refl))
 
 -- a test is released: the line of its group, or the last, is looked at anew

@@ -35,7 +35,7 @@ least_marked hs ms to r m inside whole least =
       | inl e ↦ absurd (omega (arith, low, m.few))
       | inr s ↦
           let so = marked_free s.0 r (get_or hs s.0 None) (sym s.3 ∙ m.each s.0 (omega (arith, s.2)))
-              (omega (arith, low, m.few)) in
+          (omega (arith, low, m.few)) in
           first s.0 so.0 so.1
     ]
   where

@@ -337,7 +337,7 @@ pub release_kept : (waiting : ℕ) (whole after : Use) (us afters : List Use) (c
     → afters ≡ give_in us claim.group m claim.weight → IsWhole waiting after afters claims (set seats k Gone)
 release_kept waiting whole after us afters claims seats k n m claim w can of all parts =
     subst (λ u. IsWhole waiting u afters claims (set seats k Gone))
-        (sym (all ∙ ap (λ c. give_back whole n c.weight) of))
+    (sym (all ∙ ap (λ c. give_back whole n c.weight) of))
     (subst (λ us. IsWhole waiting (give_back whole n (get_or claims k nobody.0).weight) us claims (set seats k Gone))
     (sym (parts ∙ ap (λ c. give_in us c.group m c.weight) of))
     (release_whole waiting whole us claims seats k n m w can))

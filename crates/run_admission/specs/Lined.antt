@@ -74,7 +74,7 @@ pub record IsLined (limits : List ℕ) (claims : List Claim) (seats : List Seat)
       → length (slice_index_or lines l empty).weights ≡ length (slice_index_or lines l empty).tests
   pub inside : (k : ℕ) → k < length claims
       → slice_index places k < length
-          (slice_index_or lines (line_of limits (slice_index_or claims k nobody.0)) empty).tests
+      (slice_index_or lines (line_of limits (slice_index_or claims k nobody.0)) empty).tests
   pub placed : (k : ℕ) → k < length claims
       → slice_index (slice_index_or lines (line_of limits (slice_index_or claims k nobody.0)) empty).tests
       (slice_index places k) ≡ k
@@ -135,7 +135,7 @@ pub record IsDrafted (limits : List ℕ) (claims : List Claim) (joins : ℕ) (li
         → IsInOrder (slice_index_or lines l empty).tests (slice_index_or lines l empty).weights
     pub inside : (k : ℕ) → k < joins
         → slice_index places k < length (slice_index_or lines
-            (line_of limits (slice_index_or claims k nobody.0)) empty).tests
+        (line_of limits (slice_index_or claims k nobody.0)) empty).tests
     pub placed : (k : ℕ) → k < joins
         → slice_index (slice_index_or lines (line_of limits (slice_index_or claims k nobody.0)) empty).tests
         (slice_index places k) ≡ k

@@ -89,7 +89,7 @@ comes_after p index run new e j below within = by_scripts (scripts_over p (units
     by_scripts : (b : Bool) → scripts_over p us ≡ b → (if b
         then test_newcomer p index us
         else option_and_then (λ i. script_newcomer p index i (slice_get p.plan.scripts i))
-            (open_script (scripts_of p us)))
+        (open_script (scripts_of p us)))
         ≡ Some new → is_done (unit_of j run) ≡ true
     by_scripts true over e = board_over p run over j within
     by_scripts false over e = by_open (open_script (scripts_of p us)) refl e

@@ -225,7 +225,7 @@ counted p backward legal = by_set (timed p backward legal).set ∙ regroup (is_f
         ≡ (is_free past && fires (limit_under p.interceptor p.plan.global_timeout))
     by_set (inl none) =
         off (not (is_over past)) (is_on run) (is_none (open_round (sub_run past)))
-            (fires_now (clock past) (global_timer p run))
+        (fires_now (clock past) (global_timer p run))
         (fires (limit_under p.interceptor p.plan.global_timeout)) (ap is_on none)
     by_set (inr set) =
         ap (λ b. not (is_over past) && ((is_on run && is_none (open_round (sub_run past))) && b))

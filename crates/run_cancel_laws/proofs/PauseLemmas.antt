@@ -206,10 +206,10 @@ deed_tells p past (Signal signal) en =
     (second_so (not (is_over past)) _ en))
 deed_tells p past Begin en = begin_cases (λ d. TellsBy (is_halted (dispatcher_of p past)) Begin d)
     (λ told after own later. bound_tells _ Begin told after own refl refl true false false)
-        (clock past) (dispatcher_of p past)
+    (clock past) (dispatcher_of p past)
 deed_tells p past End en = end_cases (λ d. TellsBy (is_halted (dispatcher_of p past)) End d)
     (λ told after over own later. bound_tells _ End told after own refl refl false true over)
-        (clock past) (dispatcher_of p past)
+    (clock past) (dispatcher_of p past)
 deed_tells p past Admit en = neither _ Admit _ refl refl (admission_tells
     (newcomer p (index_of (dispatcher_of p past)) (units p (sub_run past))))
 deed_tells p past Deliver en = neither _ Deliver _ refl refl (delivery_tells (board p past) (queue (sub_run past)))
@@ -250,9 +250,9 @@ pub ends_unpaused : (p : Settings) (past : List Happening)
 ends_unpaused p past =
     ap (λ b. not (is_over past)
     && (is_on (sub_run past) && is_none (open_round (sub_run past)) && is_all_done p (sub_run past) &&
-        not b)) (paused_is past)
+    not b)) (paused_is past)
     ∙ group (not (is_over past)) (is_on (sub_run past)) (is_none (open_round (sub_run past)))
-        (is_all_done p (sub_run past))
+    (is_all_done p (sub_run past))
     (not (is_run_paused past))
   where
     group : (a b c d e : Bool) → (a && (b && c && d && e)) ≡ (a && b && c && d && e)

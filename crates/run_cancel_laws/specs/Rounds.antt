@@ -44,7 +44,7 @@ abbrev pub AnswersAreTold : Type 0
 AnswersAreTold = (p : Settings) (journal : List Entry) → IsLegal p journal
     → enabled p (past_of p journal) Answer
     ≡ (goes_on (past_of p journal) && query_waits (open_round (sub_run (past_of p journal))) &&
-        has_answer (past_of p journal))
+    has_answer (past_of p journal))
 
 -- a key can come exactly where the newest sub-run is free and the key is heard, and a tick where that is free
 abbrev pub KeysAreHeard : Type 0

@@ -46,7 +46,7 @@ pub whole_text : (form : Form) (p : Settings) (turns : List Turn) (w v : Writing
 whole_text form p turns w v asks answer last on x none rest =
     let past : List Happening = past_of p x.journal in
     takes_both w.taken w.taken_after v.taken_after (joined (form.lines past))
-        (ask_lines (form.asks (asked past)) ++ last)
+    (ask_lines (form.asks (asked past)) ++ last)
     (x.told none)
     (subst (λ told_asks. HasTaken (record v { taken = w.taken_after }) (ask_lines told_asks ++ last)) x.asked
     (subst (λ t. HasTaken (record v { taken = t }) (ask_lines asks ++ last)) on rest))
@@ -56,7 +56,7 @@ pub took_parts : (form : Form) (p : Settings) (turns : List Turn) (w v : Writing
     (answer : Result RunOutcome (TestRunnerExecuteErrors Failed)) (last : List ℕ) → v.taken ≡ w.taken_after
     → v.faults ≡ w.faults_after → (x : IsExecuted form p turns w asks answer) → Writes v (ask_lines asks ++ last)
     → TookParts form (past_of p x.journal) (ask_lines (form.asks (asked (past_of p x.journal))) ++
-        last) (then_writing w v)
+    last) (then_writing w v)
 took_parts form p turns w v asks answer last on from x writes = record {
   between = w.taken_after;
   count = w.faults_after;

@@ -267,7 +267,7 @@ refused_plan command keys plan turns w error (Err d) b (inl m) =
     subst (λ f. IsInputEnding command keys plan turns w (Err f)) (sym m) tt
 refused_plan command keys plan turns w error (Err d) b (inr h) =
     subst (λ f. IsInputEnding command keys plan turns w (Err f)) (sym h.0)
-        (refusal_ends command keys plan turns w error b h.2)
+    (refusal_ends command keys plan turns w error b h.2)
 
 -- how a program ends whose words or input were not
 fault_says : (c : Call) (fault : Fault) → IsGivenFault c.words c.source fault → Writes c.sink (fault_only fault)

@@ -33,7 +33,7 @@ pub calm_ends : {W : Type 0} (said : W → List Heard → Type 0) (p : Settings)
     (asks : List (ℕ × Ask)) (o : RunOutcome) (ending : Result RunOutcome Fault) → v.taken ≡ w.taken_after
     → v.faults ≡ w.faults_after → IsClosed said p l → IsOver p w n l.journal asks o false
     → EndsAtOutcome v (ask_lines asks) o ending → IsRunEnd said p (then_writing w v)
-        (kept_by ending l) (ending_of ending)
+    (kept_by ending l) (ending_of ending)
 unfolding executed_calm executed_whole executed_from
 calm_ends said p w v n l asks o (Ok e) on from closed x h =
     let run : IsExecuted whole_form p (turns_of l.journal) w asks (Ok o) = executed_calm p w n l.journal asks o x in
@@ -45,7 +45,7 @@ calm_ends said p w v n l asks o (Err Report) on from closed x h =
     let run : IsExecuted whole_form p (turns_of l.journal) w asks (Ok o) = executed_calm p w n l.journal asks o x in
     let parts = report_of whole_form p (turns_of l.journal) w v asks (Ok o) run o true refl
     (took_parts whole_form p (turns_of l.journal) w v asks (Ok o) (line_bytes (outcome_text o))
-        on from run (inr h)) in (
+    on from run (inr h)) in (
       (closed, (o, finished p l.journal o closed.legal x.over, parts)),
       subst (λ n. Rose n v.faults_after) (from ∙ run.quiet refl) h.1,
     )
@@ -76,7 +76,7 @@ pub rough_ends : {W : Type 0} (said : W → List Heard → Type 0) (p : Settings
     (asks : List (ℕ × Ask)) (o : RunOutcome) (ending : Result RunOutcome Fault) → v.taken ≡ w.taken_after
     → v.faults ≡ w.faults_after → IsClosed said p l → IsOver p w n l.journal asks o true
     → EndsAtFault v (ask_lines asks) Report ending → IsRunEnd said p (then_writing w v)
-        (kept_by ending l) (ending_of ending)
+    (kept_by ending l) (ending_of ending)
 unfolding executed_rough executed_whole executed_from
 rough_ends said p w v n l asks o ending on from closed x h =
     let first = rough_error p w n l.journal asks o x in
@@ -129,6 +129,6 @@ pub open_ends : {W : Type 0} (said : W → List Heard → Type 0) (p : Settings)
     → EndsAtFault v (ask_lines asks) fault ending → IsRunEnd said p w (kept_by ending l) (ending_of ending)
 open_ends said p w v l asks fault ending closed none (inl full) h =
     full_ends said p w v l asks ending closed full.1 none (subst
-        (λ f. EndsAtFault v (ask_lines asks) f ending) full.0 h)
+    (λ f. EndsAtFault v (ask_lines asks) f ending) full.0 h)
 open_ends said p w v l asks fault ending closed none (inr memory) h =
     memory_ends said p w v l asks ending (subst (λ f. EndsAtFault v (ask_lines asks) f ending) memory h)

@@ -37,8 +37,13 @@ call_of words source sink = record { words = words; source = source; sink = sink
 
 -- one write, and then another
 abbrev pub then_writing : Writing → Writing → Writing
-then_writing a b = record { taken = a.taken; taken_after = b.taken_after; faults =
-    a.faults; faults_after = b.faults_after }
+then_writing a b = record {
+  taken = a.taken;
+  taken_after = b.taken_after;
+  faults =
+      a.faults;
+  faults_after = b.faults_after;
+}
 
 -- the source gave these bytes; the sink took these bytes
 abbrev pub HasGiven : Reading → List ℕ → Type 0

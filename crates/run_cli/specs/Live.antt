@@ -69,7 +69,7 @@ IsRunEnd said p w live (ends.Outcome o) = IsSomeAnd live (λ l. IsClosed said p 
 IsRunEnd said p w live (ends.Fault Report) = IsSomeAnd live (λ l. IsClosed said p l
     × ((o : RunOutcome) × IsFinished p l.journal o
     × TookParts whole_form (past_of p l.journal) (rest_text whole_form (past_of p l.journal)
-        (report_ending l.journal o)) w))
+    (report_ending l.journal o)) w))
     × HasWriteFault w
 IsRunEnd said p w live (ends.Fault Unfinished) = IsSomeAnd live (λ l. IsClosed said p l
     × (length l.journal ≡ 4294967295) × (is_over (past_of p l.journal) ≡ false))

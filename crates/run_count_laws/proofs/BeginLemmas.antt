@@ -92,7 +92,7 @@ admission_starts b (Some new) = refl
 aside_starts : (head : DispatcherView) (d : Deed) → IsAside d → TellsStart head d
 aside_starts head d aside =
     by_told d.told aside.told ∙ ap (λ b. if b && head.sub_runs.ended == 0 then Some head.head else
-        None) (sym aside.begins)
+    None) (sym aside.begins)
   where
     by_kind : (kind : TestEventKind) → IsAsideKind kind → run_start_in kind ≡ None
     by_kind (RunPaused event) h = refl

@@ -184,7 +184,7 @@ counts_told p journal e legal = by_begin x.begins refl
       cause = says_counts p (reason (x ∷ run)) (told (x ∷ run)) x.after
           (subst (λ t. IfSome x.after (SaysTally t)) (sym same)
           (if_some_map (SaysAt (moment_by (clock past) (run_watch past)) t) (SaysTally t)
-              x.after (λ e says. says.counts)
+          x.after (λ e says. says.counts)
           it.after));
     }
       where

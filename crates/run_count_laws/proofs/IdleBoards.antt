@@ -96,7 +96,7 @@ next_script : (p : Settings) (index : Option StressIndex) (us : List (Option Uni
     → is_some (newcomer p index us) ≡ true
 next_script p index us over some =
     ap (λ b. is_some (if b then test_newcomer p index us else option_and_then becomes
-        (open_script (scripts_of p us)))) some
+    (open_script (scripts_of p us)))) some
     ∙ ap (λ o. is_some (option_and_then becomes o)) opens.is
     ∙ ap (λ o. is_some (script_newcomer p index opens.place o)) found.1
   where
@@ -115,7 +115,7 @@ next_test : (p : Settings) (index : Option StressIndex) (run : List Happening) (
     → k < units_in p → unit_of k run ≡ None → is_some (newcomer p index (units p run)) ≡ true
 next_test p index run k over all below none =
     ap (λ b. is_some (if b then test_newcomer p index us else option_and_then becomes
-        (open_script (scripts_of p us)))) all
+    (open_script (scripts_of p us)))) all
     ∙ admits_first p index us j (over_idle (drop (scripts_in p) us) (drop_over (scripts_in p) us over))
     (omega (arith, above)) waits
   where

@@ -11,9 +11,9 @@ use Rattle.run_model.specs.Turns.{nothing_done}
 -- a delivery tells, asks and leaves the same whatever its unit does
 with_told : (b : Board) (m : Message) (answer : Deed) (cause : Option Cause)
     → deed_events (caused (moment_by b.clock b.dispatcher.watch) (tally_with b (event_of b m)) cause
-        (delivered_as b m answer))
+    (delivered_as b m answer))
     ≡ deed_events (caused (moment_by b.clock b.dispatcher.watch) (tally_with b (event_of b m)) cause
-        (delivered_as b m nothing_done))
+    (delivered_as b m nothing_done))
 with_told b m answer None = refl
 with_told b m answer (Some cause) = refl
 
@@ -23,9 +23,9 @@ delivery-told b m answer = with_told b m answer (cause_of b.dispatcher.rules (ta
 
 with_request : (b : Board) (m : Message) (answer : Deed) (cause : Option Cause)
     → (caused (moment_by b.clock b.dispatcher.watch) (tally_with b (event_of b m)) cause
-        (delivered_as b m answer)).request
+    (delivered_as b m answer)).request
     ≡ (caused (moment_by b.clock b.dispatcher.watch) (tally_with b (event_of b m)) cause
-        (delivered_as b m nothing_done)).request
+    (delivered_as b m nothing_done)).request
 with_request b m answer None = refl
 with_request b m answer (Some cause) = refl
 
@@ -35,7 +35,7 @@ delivery-request b m answer = with_request b m answer (cause_of b.dispatcher.rul
 
 with_dispatched : (b : Board) (m : Message) (answer : Deed) (cause : Option Cause)
     → dispatched b.clock b.dispatcher (caused (moment_by b.clock b.dispatcher.watch) (tally_with b (event_of b m)) cause
-        (delivered_as b m answer))
+    (delivered_as b m answer))
     ≡ dispatched b.clock b.dispatcher
     (caused (moment_by b.clock b.dispatcher.watch) (tally_with b (event_of b m)) cause (delivered_as b m nothing_done))
 with_dispatched b m answer None = refl

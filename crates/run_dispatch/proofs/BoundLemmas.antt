@@ -89,7 +89,7 @@ begun_as now d true =
     (quiet_started now d d.head.stress)
 begun_as now d false =
     begun_with now d (option_map (sub_run_started now d) d.head.stress) None
-        (quiet_started now d d.head.stress) quiet_none
+    (quiet_started now d d.head.stress) quiet_none
 
 pub begun_after : (now : ℕ) (d : DispatcherView) → with_seen now d (begins_at now d)
     ≡ record d {
@@ -113,8 +113,16 @@ ended_with : (now : ℕ) (d : DispatcherView) (told after : Option ReporterEvent
       latest = now;
     }
 ended_with now d told after over t a =
-    rw (t.plain.act, t.plain.answer, t.plain.ends, t.counts d.tally, a.counts d.tally, t.plain.seen
-        d.rerun, a.plain.seen d.rerun)
+    rw (
+      t.plain.act,
+      t.plain.answer,
+      t.plain.ends,
+      t.counts d.tally,
+      a.counts d.tally,
+      t.plain.seen
+          d.rerun,
+      a.plain.seen d.rerun,
+    )
     (ap
     (λ (p : ℕ × Tally). record d {
       on = false;
@@ -147,7 +155,7 @@ ended_as now d None =
     quiet_none
 ended_as now d (Some condition) =
     ended_with now d (ends_as now d (Some condition)).told (ends_as now d (Some condition)).after
-        (stops_with now d condition)
+    (stops_with now d condition)
     (record {
       plain = record { act = refl; answer = refl; ends = refl; seen = λ unseen. refl };
       counts = λ t. refl;

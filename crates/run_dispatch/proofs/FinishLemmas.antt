@@ -136,7 +136,7 @@ delivered_as now d told cause plain is =
     (causes-kept now d.rules d.causes deed refl refl plain is.is_other)
     ∙ ap (λ u. record d { tally = with_cause (Some cause.reason) u; latest = now })
     (cancel_counts (moment_by now d.watch) t (cancelled_for cause.reason t)
-        (is_above t.stats.cancel_reason cause.reason)
+    (is_above t.stats.cancel_reason cause.reason)
     cause.reason)
 
 -- too many failures are another cause
@@ -156,15 +156,24 @@ failure_is (Count most terminate) stats =
 script_is : (ended : ExecutionResult) → IfSome (script_cause ended) IsCalm
 script_is ended =
     elim (is_success ended)
-    as (λ b. IfSome (if b then None else Some script_failed) IsCalm)
-    [ true ↦ tt | false ↦ record { is_other = record { no_signal = refl; no_report = refl; no_time =
-        refl }; no_round = refl } ]
+    as (λ b. IfSome (if b then None else Some script_failed) IsCalm) [
+      | true ↦ tt
+      | false ↦ record {
+        is_other = record {
+          no_signal = refl;
+          no_report = refl;
+          no_time =
+              refl;
+        };
+        no_round = refl;
+      }
+    ]
 
 -- the delivery of a message that tells this, and may be another cause
 heeded_as : (now : ℕ) (d : DispatcherView) (told : Option ReporterEvent) (cause : Option Cause)
     → IsPlain told → IfSome cause IsCalm
     → with_seen now d (caused (moment_by now d.watch) (having_told d.tally told) cause
-        (record nothing_done { taken = true; told = told }))
+    (record nothing_done { taken = true; told = told }))
     ≡ record d {
       tally = with_cause (option_map (λ cause. cause.reason) cause) (having_told d.tally told);
       latest = now;
@@ -189,7 +198,7 @@ request_as now d t told (Some cause) = refl
 
 asked_as : (now : ℕ) (d : DispatcherView) (t : Tally) (told : Option ReporterEvent) (cause : Option Cause)
     → Path (Option Ask) None (caused (moment_by now d.watch) t cause
-        (record nothing_done { taken = true; told = told })).asked
+    (record nothing_done { taken = true; told = told })).asked
 asked_as now d t told None = refl
 asked_as now d t told (Some cause) = refl
 
@@ -199,7 +208,7 @@ heeded : (now : ℕ) (d new : DispatcherView) (told : Option ReporterEvent) (cau
     → fx ≡ record {
       events =
           option_to_list told ++ option_to_list (caused (moment_by now d.watch) (having_told d.tally told)
-              cause nothing_done).after;
+          cause nothing_done).after;
       request = (caused (moment_by now d.watch) (having_told d.tally told) cause nothing_done).request;
       asked = None;
       go = None;
@@ -209,7 +218,7 @@ heeded : (now : ℕ) (d new : DispatcherView) (told : Option ReporterEvent) (cau
       latest = now;
     }
     → Acts now d (caused (moment_by now d.watch) (having_told d.tally told) cause
-        (record nothing_done { taken = true; told = told }))
+    (record nothing_done { taken = true; told = told }))
     None new fx
 heeded now d new told cause fx plain is gives leaves =
     let t = having_told d.tally told in
@@ -238,7 +247,7 @@ heeded_answers : {E : Type 0} (now : ℕ) (d new : DispatcherView) (told : Optio
     })
     → IfOk answer (Acts now d
     (caused (moment_by now d.watch) (having_told d.tally told) heard
-        (record nothing_done { taken = true; told = told })) None new)
+    (record nothing_done { taken = true; told = told })) None new)
 heeded_answers now d new told heard t cause (Ok fx) events plain is counts tells why gives leaves =
     let all = having_told d.tally told in
     let gives_all : fx ≡ record {
@@ -276,7 +285,7 @@ finish_answers now d new finish t cause answer events counts tells why gives lea
     let why_all : cause ≡ failure_cause d.rules.max_fail all.stats = rw counts at why in
     heeded_answers now d new (told_by now d (Finish finish)) (failure_cause d.rules.max_fail all.stats) t cause answer
     events (record { act = refl; answer = refl; ends = refl; seen = λ unseen. refl })
-        (failure_is d.rules.max_fail all.stats) counts tells_all why_all gives leaves
+    (failure_is d.rules.max_fail all.stats) counts tells_all why_all gives leaves
 
 -- the delivery of a script's finish, which may be a failure
 pub script_answers : {E : Type 0} (now : ℕ) (d new : DispatcherView) (finish : ScriptFinish) (t : Tally)
@@ -298,4 +307,4 @@ pub script_answers : {E : Type 0} (now : ℕ) (d new : DispatcherView) (finish :
 script_answers now d new finish t cause answer events counts tells why gives leaves =
     heeded_answers now d new (told_by now d (ScriptFinished finish)) (script_cause finish.status.result) t cause answer
     events (record { act = refl; answer = refl; ends = refl; seen = λ unseen. refl }) (script_is finish.status.result)
-        counts tells why gives leaves
+    counts tells why gives leaves

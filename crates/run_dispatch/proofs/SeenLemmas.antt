@@ -58,7 +58,7 @@ seen-append events more None = refl
 seen-append events more (Some ids) =
     ap Some
     (both_pass (λ id. list_any (sees id) events) (λ id. list_any (sees id) more)
-        (λ id. list_any (sees id) (events ++ more))
+    (λ id. list_any (sees id) (events ++ more))
     (λ id. list_any-append (sees id) events more) ids)
 
 seen-both : (told after : Option ReporterEvent) (unseen : Option (List TestInstanceId))

@@ -29,7 +29,7 @@ cancelled : (now : ℕ) (d : DispatcherView) (cause : Cause) → opens_round (So
     }
 cancelled now d cause is =
     noted now d (cancels_for now d cause) refl refl refl refl
-        (record { act = refl; answer = refl; ends = refl; seen = λ unseen. refl })
+    (record { act = refl; answer = refl; ends = refl; seen = λ unseen. refl })
     (no_round (is_above d.tally.stats.cancel_reason cause.reason) cause.request is) refl
     (cancel_sees (moment_by now d.watch) d.rerun (cancelled_for cause.reason d.tally)
     (is_above d.tally.stats.cancel_reason cause.reason) cause.reason)
@@ -128,16 +128,26 @@ signalled now d signal =
 -- what a call gives and leaves that heard a signal, is what its deed does
 pub signal_does : (now : ℕ) (d left : DispatcherView) (signal : Signal) (cause : Cause) (fx : DispatchEffects)
     → cause ≡ signal_cause d.causes.signals signal
-    → fx ≡ record { events = deed_events (cancels_for now d cause); request =
-        (cancels_for now d cause).request; asked = None; go = None }
+    → fx ≡ record {
+      events = deed_events (cancels_for now d cause);
+      request =
+          (cancels_for now d cause).request;
+      asked = None;
+      go = None;
+    }
     → left ≡ record d { tally = with_cause (Some cause.reason) d.tally; latest = now }
     → Acts now d (cancels_for now d (signal_cause d.causes.signals signal)) None
     (record left { causes = record left.causes { signals = left.causes.signals + 1 } }) fx
 signal_does now d left signal cause fx is gives leaves =
     let all = signal_cause d.causes.signals signal in
     let gives_all : fx
-    ≡ record { events = deed_events (cancels_for now d all); request =
-        (cancels_for now d all).request; asked = None; go = None } =
+    ≡ record {
+      events = deed_events (cancels_for now d all);
+      request =
+          (cancels_for now d all).request;
+      asked = None;
+      go = None;
+    } =
     rw is at gives in
     let leaves_all : left ≡ record d { tally = with_cause (Some all.reason) d.tally; latest = now } =
     rw is at leaves in

@@ -119,7 +119,7 @@ fed_begun begun now at next said said_at found start b is from some same heard f
     (given_some begun (Refused silent_text) at (answers_in heard) b (sym is ∙ from) f.answers) f.words in
     subst (λ (bs : List Begun). IsFed bs next said said_at (heard ++ Asked start b ∷ [])) (sym same)
     (subst (λ (n : ℕ). IsFed begun n said said_at (heard ++ Asked start b ∷ []))
-        (sym (some (subst IsSome (sym is) refl)))
+    (sym (some (subst IsSome (sym is) refl)))
     more)
 
 pub fed_refused : (begun now : List Begun) (at next : ℕ) (said : List Said) (said_at : ℕ) (found : Option Begun)

@@ -209,7 +209,7 @@ pub retry_more : (p : Settings) (k n : ℕ) (role : UnitRole) (u : UnitView) (be
     ≡ gos_as p (index_of_role role) k (test_of_unit p k) (slots_in_role role) (n + 1)
 retry_more p k n (roles.Script s) u before it here some at was =
     none_of p (index_of_role (roles.Script s)) k (n + 1) before
-        (was ∙ gos-none p (index_of_role (roles.Script s)) k n (test_of_unit p k))
+    (was ∙ gos-none p (index_of_role (roles.Script s)) k n (test_of_unit p k))
 retry_more p k n (roles.Test t) u before it here some at was =
     ap (λ o. before ++ filter_map (go_in k) (option_to_list (Some (Retry o)))) made
     ∙ ap (λ b. before ++ cons_option (if b then Some (Retry retry) else None) []) (itself k)
@@ -229,7 +229,7 @@ retry_more p k n (roles.Test t) u before it here some at was =
         let later : (1 + n == 1) ≡ false = grind arith in
         let same : 1 + n ≡ n + 1 = omega arith in
         ap (λ b. if b then Start (start_as p t.test.stress_index k it.test t.slot) else Retry
-            (retry_as p t.test.stress_index k it.test t.slot (1 + n))) later
+        (retry_as p t.test.stress_index k it.test t.slot (1 + n))) later
         ∙ ap (λ n. Retry (retry_as p t.test.stress_index k it.test t.slot n)) same
 
     named : t.test ≡ test_named t.test.stress_index k it.test

@@ -109,7 +109,7 @@ acts_gos p k now turn u ms here above moved planned it =
       sent = filter_map-append (go_in k) ms (option_to_list (row now turn u).sent)
           ∙ ap (λ xs. gos_in k ms ++ xs) (none k) ∙ append-nil (gos_in k ms) ∙ it.sent
           ∙ ap (λ role. gos_as p (index_of_role role) k (test_of_unit p k) (slots_in_role role)
-              it.count) (sym role_kept);
+          it.count) (sym role_kept);
     }
     by_row (inr (at, fits, retry)) = record {
       count = it.count + 1;

@@ -126,7 +126,7 @@ retries_in_order p index k test slot zero a above = refl
 retries_in_order p index k test slot (suc n) a above =
     let later : (a == 1) ≡ false = grind arith in
     ap (λ b. filter_map retry_of ((if b then Start (start_as p index k test slot) else Retry
-        (retry_as p index k test slot a))
+    (retry_as p index k test slot a))
     ∷ map (go_as p index k test slot) (range_with_len (a + 1) n))) later
     ∙ ap (λ rs. retry_as p index k test slot a ∷ rs) (retries_in_order p index k test slot n (a + 1) (omega arith))
 
@@ -151,7 +151,7 @@ some_ordered p index k test slot zero planned = none_ordered p index k
 some_ordered p index k test slot (suc n) planned =
     let retries : filter_map retry_of (map (go_as p index k test slot) (range_with_len 2 n))
     ≡ map (retry_as p index k test slot) (range_with_len 2 n) =
-        retries_in_order p index k test slot n 2 (omega arith) in
+    retries_in_order p index k test slot n 2 (omega arith) in
     let many : length (filter_map retry_of (map (go_as p index k test slot) (range_with_len 2 n))) ≡ n =
     ap length retries ∙ length-map-range_with_len (retry_as p index k test slot) 2 n in
     retries ∙ sym (ap (λ n. map (retry_as p index k test slot) (range_with_len 2 n)) many)
@@ -183,7 +183,7 @@ told_ordered p index k es h =
 -- a unit that was admitted is of the newest sub-run
 same_gos : (p : Settings) (index : Option StressIndex) (k n : ℕ) (v : Option UnitView) → IsOfIndex index v
     → gos_as p (unit_index v) k (test_of_unit p k) (unit_slots v) n ≡ gos_as p index k
-        (test_of_unit p k) (unit_slots v) n
+    (test_of_unit p k) (unit_slots v) n
 same_gos p index k n None it = gos-none p None k n (test_of_unit p k) ∙ sym (gos-none p index k n (test_of_unit p k))
 same_gos p index k n (Some u) it = ap (λ i. gos_as p i k (test_of_unit p k) (slots_in_role u.role) n) it
 
@@ -192,7 +192,7 @@ pub retries_ordered : (p : Settings) (backward : List Entry) → IsLegalBackward
 retries_ordered p backward legal k =
     told_ordered p index k (told run)
     (ordered p index k all.count (test_of_unit p k) (unit_slots (unit_of k run))
-        (gos_in k (messages_of (told run))) refl
+    (gos_in k (messages_of (told run))) refl
     (subst (Extends (gos_in k (messages_of (told run))))
     (all.sent ∙ same_gos p index k all.count (unit_of k run) (indexed p backward legal k))
     (told_first p (go_in k) (only_starts k) backward legal)))

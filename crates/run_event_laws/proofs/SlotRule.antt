@@ -124,7 +124,7 @@ joins_so p past e h en plan kept first is =
     runs_so : (place global : ℕ) (slot : Option ℕ) (test : PlanTest) → slice_get p.plan.tests place ≡ Some test
         → admitted (limits_of p (units p run)) ≡ Some (Run place global slot)
         → first ≡ first_view p index (unit_of_test p place) (slots_of test global slot)
-            (handed_to p (units p run) test) test
+        (handed_to p (units p run) test) test
         → JoinsInSlots p run first
     runs_so place global slot test planned runs same =
         let rule = rule_slots p run place global slot test planned runs in
@@ -134,7 +134,7 @@ joins_so p past e h en plan kept first is =
             test_there p place test planned,
             λ matched. are_least p (frame_of p past) (clock past) run place global slot test
                 (first_view p index (unit_of_test p place) (slots_of test global slot)
-                    (handed_to p (units p run) test) test)
+                (handed_to p (units p run) test) test)
                 (record {
                   holds = h;
                   units = plan;

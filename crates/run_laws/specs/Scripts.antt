@@ -24,7 +24,7 @@ pub record HasScriptFate (p : Settings) (run : List Happening) (k : ℕ) : Type 
   pub never : never_started k run ≡ true → account_of k (told run) ≡ []
   pub once : never_started k run ≡ false
       → (s : ExecuteStatus) × ((account_of k (told run) ≡ started ∷ finished (s ∷ []) ∷ [])
-          × (statuses_of p k run ≡ s ∷ []))
+      × (statuses_of p k run ≡ s ∷ []))
 
 -- each script of the plan has that in each sub-run that has ended, of every legal journal
 abbrev pub ScriptsHaveFates : Type 0

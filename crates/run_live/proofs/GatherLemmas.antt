@@ -46,7 +46,7 @@ own_push has_said ws rss v new k w rs same before here (inl below) =
     rw (get_or_append_left ws (v ∷ []) w k below, get_or_append_left rss (new ∷ []) rs k within) (before k w rs below)
 own_push has_said ws rss v new k w rs same before here (inr at) =
     let of_ws : slice_index_or (ws ++ v ∷ []) k w ≡ v = ap (λ i. slice_index_or (ws ++ v ∷ []) i w) at
-        ∙ get_or-append_seam ws v [] w in
+    ∙ get_or-append_seam ws v [] w in
     let of_rss : slice_index_or (rss ++ new ∷ []) k rs ≡ new =
     ap (λ i. slice_index_or (rss ++ new ∷ []) i rs) (at ∙ sym same) ∙ get_or-append_seam rss new [] rs in
     rw (of_ws, of_rss) here
@@ -89,7 +89,7 @@ pub gathered_push : {W S : Type 0} (has_said : W → List Heard → Type 0) (par
     → amount_of s ≡ length rs → IsGathered has_said ws rss (sum_by parts_of ss) (sum_by amount_of ss)
     → IsOwn has_said w rs
     → IsGathered has_said (ws ++ w ∷ []) (rss ++ rs ∷ []) (sum_by parts_of (ss ++ s ∷ []))
-        (sum_by amount_of (ss ++ s ∷ []))
+    (sum_by amount_of (ss ++ s ∷ []))
 gathered_push has_said parts_of amount_of ws rss ss w rs s one rose g own =
     rw (sum_by_push parts_of ss s, sum_by_push amount_of ss s, one, rose)
     (gathered_more has_said ws rss (sum_by parts_of ss) (sum_by amount_of ss) w rs g own)

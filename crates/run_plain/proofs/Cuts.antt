@@ -38,7 +38,7 @@ pub decided_within : (story : List OwnTurn) → newest story ≢ 0 → decided_c
 decided_within [] some = absurd (some refl)
 decided_within (t ∷ before) some =
     within_one (begins_attempt t.turn) (decides t.turn) (newest before) (decided_count before)
-        some (decided_within before)
+    some (decided_within before)
 
 -- the attempts of a story, whose newest one has so many turns, so many of them from its decide on
 abbrev cut_at : ℕ → ℕ → List OwnTurn → List Attempt

@@ -6,6 +6,6 @@ use Rattle.run_plain.specs.Marks.{with_time}
 
 pub map_more : (b : Bool) (statuses : List ExecuteStatus) (s : ExecuteStatus)
     → map with_time (statuses ++ (if b then s ∷ [] else [])) ≡ map with_time statuses
-        ++ (if b then with_time s ∷ [] else [])
+    ++ (if b then with_time s ∷ [] else [])
 map_more true statuses s = map-append with_time statuses (s ∷ [])
 map_more false statuses s = map-append with_time statuses []

@@ -9,5 +9,5 @@ count_of v p = record { value = v; ok = p }
 pub count_same : (a b : NonZeroU32) → a.value ≡ b.value → a ≡ b
 count_same a b e =
     subst (λ (v : ℕ). (p : 0 < v) → a ≡ count_of v p) e (λ p. ap
-        (λ (q : 0 < a.value). count_of a.value q) (le_prop a.ok p))
+    (λ (q : 0 < a.value). count_of a.value q) (le_prop a.ok p))
     b.ok

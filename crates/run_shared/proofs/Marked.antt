@@ -57,8 +57,11 @@ pub looked_more : (journal : List Entry) (seen now after : List Bool) (rs ss : L
     → Looked journal now after ss → Looked journal seen after (rs ++ ss)
 looked_more journal seen now after rs ss a b = record {
   stands = All-append (StandsIn journal) rs ss a.stands b.stands;
-  marked = λ ns m. rw (map-append (λ (r : Receipt). r.number) rs ss, ← append_assoc ns
-      (receipt_numbers rs) (receipt_numbers ss))
+  marked = λ ns m. rw (
+    map-append (λ (r : Receipt). r.number) rs ss,
+    ← append_assoc ns
+        (receipt_numbers rs) (receipt_numbers ss),
+  )
       (b.marked (ns ++ receipt_numbers rs) (a.marked ns m));
 }
 
@@ -91,7 +94,7 @@ fault_later journal ns rs ss after (Mismatch number receipt found) h = (
 )
 fault_later journal ns rs ss after (Repeated n) h =
     rw (numbers_three rs ss after) (repeated_after n ns (receipt_numbers rs) (receipt_numbers ss)
-        (receipt_numbers after) h)
+    (receipt_numbers after) h)
 fault_later journal ns rs ss after OutOfMemory h = h
 
 pub fault_after : (journal : List Entry) (seen now : List Bool) (rs ss after : List Receipt) (e : CloseKind)

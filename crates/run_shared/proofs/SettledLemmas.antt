@@ -38,7 +38,7 @@ of_units p turn each rest later =
 due_settled : (p : Settings) → All Settled (of_each p turns.UnitDue ++ last_turns)
 due_settled p =
     of_units p turns.UnitDue (λ unit. refl) last_turns (three_settled turns.GlobalDue turns.Admit
-        turns.End refl refl refl)
+    turns.End refl refl refl)
 
 settling_settled : (p : Settings) (word : ℕ) → All Settled (settling p word)
 settling_settled p word =

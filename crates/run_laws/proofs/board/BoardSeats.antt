@@ -154,7 +154,7 @@ row_finishes now ph turn u seat is en goes below = by_take (row_takes now ph tur
     stays r role before on used =
         let quiet = quiet_leaves seat r.sent (number u) on.sent in
         quiet ∙ below (ap is_in_use (sym quiet) ∙ used) ∙ sym
-            (same_seat u r.next role (ap is_last is ∙ before) on.phase)
+        (same_seat u r.next role (ap is_last is ∙ before) on.phase)
 
     keeps : (row_at now ph turn u).next.role ≡ u.role
     keeps = (row_keeps now ph turn u is).role

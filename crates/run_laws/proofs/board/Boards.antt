@@ -93,7 +93,7 @@ units-cons : (p : Settings) (x : Happening) (run : List Happening)
     → reach_all x.request (units_after x.moment x.part (units p run)) ≡ units p (x ∷ run)
 units-cons p x run =
     fill_by_all (λ k. unit_of k (x ∷ run)) (reach_all x.request
-        (units_after x.moment x.part (units p run))) (units_in p)
+    (units_after x.moment x.part (units p run))) (units_in p)
     None
     (length-reach_all x.request (units_after x.moment x.part (units p run)) ∙ moved)
     (λ k h. at_reach x.request (units_after x.moment x.part (units p run)) k (omega (arith, moved))
@@ -160,7 +160,7 @@ frame-cons p past base e d joins does =
 
     by_end : (b : Bool) → d.ends ≡ b
         → sub_runs_of p (x ∷ past) ≡ (if b then with_sub_run (tally p base).stats (sub_runs_of p past)
-            else sub_runs_of p past)
+        else sub_runs_of p past)
     by_end true ends =
         ap (sub_runs_in p) (ap (λ b. if b then sub_run (x ∷ past) ∷ ended_runs past else ended_runs past) ends)
         ∙ ap (λ run. sub_runs_in p (run ∷ ended_runs past)) joins

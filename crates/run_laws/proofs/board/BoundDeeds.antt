@@ -110,29 +110,29 @@ begun : (p : Settings) (f : Frame) (now : ℕ) (told after : Option ReporterEven
     → Does p f now [] (bound_deed told after true false false)
 begun p f now told after own later = bound_does p f now [] told after true false false
     (holds-none p now) own later (record {
-  cancel = λ h. cc;
-  bounds = λ _. (own, later, refl);
-  begins = λ _. (
-    refl,
-    record {
-      part = refl;
-      sent = refl;
-      info = refl;
-      taken = refl;
-      asked = refl;
-      cause = refl;
-      request = refl;
-      stops = refl;
-      ends = refl;
-    },
-  );
-  still = λ h. cc;
-  finishes = λ h. cc;
-  ends = λ h. cc;
-  stops = λ h. cc;
-  opens = λ h. cc;
-  answers = λ tells. absurd (bound_answers told own tells);
-})
+      cancel = λ h. cc;
+      bounds = λ _. (own, later, refl);
+      begins = λ _. (
+        refl,
+        record {
+          part = refl;
+          sent = refl;
+          info = refl;
+          taken = refl;
+          asked = refl;
+          cause = refl;
+          request = refl;
+          stops = refl;
+          ends = refl;
+        },
+      );
+      still = λ h. cc;
+      finishes = λ h. cc;
+      ends = λ h. cc;
+      stops = λ h. cc;
+      opens = λ h. cc;
+      answers = λ tells. absurd (bound_answers told own tells);
+    })
 
 pub begin_does : (p : Settings) (f : Frame) (now : ℕ) (d : DispatcherView)
     → ((begins_at now d).begins ≡ true) × Does p f now [] (begins_at now d)
@@ -173,4 +173,4 @@ end_does p f now run h on complete = by_stress p.stress refl
         (ended _ None true tt tt (ap (ends_as now d) (sym is)))
     by_stress (Some condition) is = subst (Does p f now run) (ap (ends_as now d) (sym is))
         (ended _ _ (stops_with now d condition) tt (last condition (stops_with now d condition))
-            (ap (ends_as now d) (sym is)))
+        (ap (ends_as now d) (sym is)))

@@ -106,7 +106,7 @@ script_early p now run m rest h eq script = by_told (list_any starts_test (told 
     by_told false e = refl
     by_told true e =
         let none : list_any is_of_script (m ∷ rest) ≡ false =
-            ap (list_any is_of_script) (sym eq) ∙ (h.tests_told e).0 in
+        ap (list_any is_of_script) (sym eq) ∙ (h.tests_told e).0 in
         let never : true ≡ false = sym script ∙ oldest_not m rest none in cc
 
 test_last : (p : Settings) (now : ℕ) (run : List Happening) (m : Message) (rest : List Message)
@@ -123,7 +123,7 @@ delivers p f now run [] h on eq en = cc
 delivers p f now run (ScriptStart start ∷ rest) h on eq en =
     start_does p f now run start.script.unit (ScriptStart start) (SetupScriptStarted start) rest (may_go (tally p run))
     (get_or (units p run) start.script.unit None) h on (may_go-is p run) eq (λ k. refl)
-        (λ k. refl) (λ k. refl) (λ k. refl)
+    (λ k. refl) (λ k. refl) (λ k. refl)
     refl
     (λ untold below. (script_below p start.script.unit (oldest_kind p now run (ScriptStart start) rest h eq), untold))
     (λ admitted. record {
@@ -188,20 +188,20 @@ delivers p f now run (ScriptSlow slow ∷ rest) h on eq en =
     (record { test = λ e. cc; script = λ e. cc; said = λ m e. cc })
 delivers p f now run (Finish finish ∷ rest) h on eq en =
     let follows = finish_follows p now run finish.test.unit (Finish finish) finish.statuses rest h
-        eq (finish_own finish) in
+    eq (finish_own finish) in
     let b : Board = board_of p f now run in
     let tells : Option ReporterEvent = event_of b (Finish finish) in
     caused_does p f now run (cause_of b.dispatcher.rules (tally_with b tells) (Finish finish))
     (delivered_as b (Finish finish) nothing_done) on refl refl refl refl refl
     (finish_does p f now run finish.test.unit (Finish finish)
     (finished_event finish (with_finish (tally p run) (a_test (finished_test finish)))) finish.statuses
-        rest h on eq (λ k. refl)
+    rest h on eq (λ k. refl)
     (λ k. refl) (λ k. refl) (λ k. refl) refl
     (test_above p finish.test.unit (oldest_kind p now run (Finish finish) rest h eq), follows.below, follows.runs)
     (record { test = λ e. cc; script = λ e. cc; said = λ m e. cc }))
 delivers p f now run (ScriptFinish finish ∷ rest) h on eq en =
     let follows = finish_follows p now run finish.script.unit (ScriptFinish finish)
-        (attempt_of finish.status ∷ []) rest h eq
+    (attempt_of finish.status ∷ []) rest h eq
     (script_finish_own finish) in
     let b : Board = board_of p f now run in
     let tells : Option ReporterEvent = event_of b (ScriptFinish finish) in

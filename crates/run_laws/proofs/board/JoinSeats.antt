@@ -159,7 +159,7 @@ test_kept p now index run new found kept = by_case found.is
     by_case (inl (reason, skip, is)) =
         subst (λ (n : Newcomer). AreKeptIn p (seat_after now (Some (Joins n.unit)) run)) (sym is)
         (kept_fewer p (seat_after now (Some (Joins (skipped_view p index k found.test))) run)
-            (board_seat run) skips kept)
+        (board_seat run) skips kept)
     by_case (inr (skip, (global, (slot, runs, is)))) =
         subst (λ (n : Newcomer). AreKeptIn p (seat_after now (Some (Joins n.unit)) run)) (sym is)
         (starts global slot runs)
@@ -171,7 +171,7 @@ script_kept : (p : Settings) (now : ℕ) (index : Option StressIndex) (run : Lis
 script_kept p now index run new found kept =
     subst (λ (n : Newcomer). AreKeptIn p (seat_after now (Some (Joins n.unit)) run)) (sym found.is)
     (kept_fewer p (seat_after now (Some (Joins (script_view p index found.place found.script))) run)
-        (board_seat run) lower kept)
+    (board_seat run) lower kept)
   where
     lower : AreLower (seat_after now (Some (Joins (script_view p index found.place found.script))) run) (board_seat run)
     lower i = by_unit (found.place == i)

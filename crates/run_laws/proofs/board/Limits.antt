@@ -109,7 +109,7 @@ open-cons p f now run e d does moves o = record {
       (prefixes (λ es. AreKeptIn p (seat_told es)) own d.after
       (prefixes (λ es. AreKeptIn p (seat_told es)) (told run) d.told o.before own_kept)
       (subst (λ es. AreKeptIn p (seat_told es)) (sym events)
-          (kept_fewer p after (seat_told own) after_own own_kept)) n);
+      (kept_fewer p after (seat_told own) after_own own_kept)) n);
   along = λ calm. subst (Along (AreKeptIn p) after) (sym waiting)
       (along_sent p after (seat_after now d.part run) rest d.sent (along (before calm)) (sent (before calm)) board);
   last = λ calm. reached_above d.request
@@ -244,7 +244,7 @@ opens p (e ∷ before) legal = one_more (opens p before legal.2) (holds p before
             moves_base true is =
                 subst (λ run. MovesSeats p (clock past) run d) (sym (of.is ∙ ap (λ b. base_of b (sub_run past)) is))
                 (begin_moves p (clock past) d (of.does.marks.begins is).1
-                    (of.does.marks.bounds (ap (λ b. b || d.ends) is)).0)
+                (of.does.marks.bounds (ap (λ b. b || d.ends) is)).0)
             moves_base false is =
                 subst (λ run. MovesSeats p (clock past) run d) (sym (of.is ∙ ap (λ b. base_of b (sub_run past)) is))
                 (moves p (frame_of p past) (was_refused past) (clock past) (sub_run past) e.turn h legal.0)

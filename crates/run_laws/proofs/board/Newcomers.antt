@@ -226,7 +226,7 @@ newcomer_is p index us new e = by_scripts (scripts_over p us) refl e
     by_scripts : (b : Bool) → scripts_over p us ≡ b → (if b
         then test_newcomer p index us
         else option_and_then (λ i. script_newcomer p index i (slice_get p.plan.scripts i))
-            (open_script (scripts_of p us)))
+        (open_script (scripts_of p us)))
         ≡ Some new → Newcomes p index us new ⊎ ScriptComes p index us new
     by_scripts true over e = inl (by_admitted (admitted (limits_of p us)) over refl e)
     by_scripts false over e = inr (by_open (open_script (scripts_of p us)) refl e)

@@ -44,4 +44,4 @@ tally-nil p =
     ap (λ s. record (tally_from (initial_stats p)) { stats = s }) (sym (total-nil (initial_stats p)))
     ∙ ap (λ n. record { running = n; scripts_running = 0; stats = (tally p []).stats }) (sym (running-nil p))
     ∙ ap (λ n. record { running = running p []; scripts_running = n; stats = (tally p []).stats })
-        (sym (scripts_running-nil p))
+    (sym (scripts_running-nil p))

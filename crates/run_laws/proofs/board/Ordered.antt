@@ -103,7 +103,7 @@ sends_none p f now run None m h all fits from script = from
 sends_none p f now run (Some (Joins first)) m h all (sent, new) from script =
     let is : is_script p (number first) ≡ true = sym new.role ∙ sym from ∙ script in
     let never : false ≡ true = sym (ap is_done new.unknown) ∙ all (number first)
-        (number_below p (number first) is) in cc
+    (number_below p (number first) is) in cc
 sends_none p f now run (Some (Acts j turn)) m h all taken from script =
     let own : IsSentBy (Some taken.unit) m = subst (λ v. IsSentBy v m) taken.is from in
     let is : is_script p j ≡ true = sym (h.named j taken.unit taken.is).3 ∙ sym own ∙ script in
@@ -224,7 +224,7 @@ ordered_after p f now run e d h does = record {
 
     by_told : (o : Option ReporterEvent) → IfSome o (IsInOrder p run)
         → (list_any starts_test (told run) ≡ true) ⊎ (list_any starts_test
-            (option_to_list o ++ option_to_list d.after) ≡ true)
+        (option_to_list o ++ option_to_list d.after) ≡ true)
         → AreSettled p run
     by_told o order (inl some) = h.tests_told some
     by_told o order (inr some) =
@@ -245,14 +245,14 @@ ordered_after p f now run e d h does = record {
         by_script false script = refl
         by_script true script =
             absurd (sends_none p f now run d.part m h all does.part
-                (subst (IsSentFor run d.part) is does.source) script)
+            (subst (IsSentFor run d.part) is does.source) script)
 
     settled : AreSettled p run → AreSettled p (said now e d ∷ run)
     settled (none, all) = (
       ap (list_any is_of_script) (queue-cons (said now e d) run does.room)
           ∙ list_any-append is_of_script (drop (if d.taken then 1 else 0) (queue run)) (option_to_list d.sent)
           ∙ ap (λ b. b || list_any is_of_script (option_to_list d.sent))
-              (none-drop (if d.taken then 1 else 0) (queue run) none)
+          (none-drop (if d.taken then 1 else 0) (queue run) none)
           ∙ none_sent d.sent refl all,
       kept all,
     )

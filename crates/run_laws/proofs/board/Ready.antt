@@ -94,13 +94,17 @@ sum_none_scripts : (fs : List FinishedUnit) → sum_by (λ f. (adds_by f).setup_
 sum_none_scripts [] = refl
 sum_none_scripts (f ∷ fs) =
     sum_by-cons (λ f. (adds_by f).setup_scripts_initial_count) f fs
-        ∙ omega (arith, (adds_none f).1, sum_none_scripts fs)
+    ∙ omega (arith, (adds_none f).1, sum_none_scripts fs)
 
 -- numbers of scripts and of tests to run below a limit leave the others below it
 with_units : (limit tests scripts : ℕ) (why : Option CancelReason) (s : RunStats) → AreBelow limit s → tests < limit
     → scripts < limit
-    → AreBelow limit (record s { initial_run_count = tests; setup_scripts_initial_count =
-        scripts; cancel_reason = why })
+    → AreBelow limit (record s {
+      initial_run_count = tests;
+      setup_scripts_initial_count =
+          scripts;
+      cancel_reason = why;
+    })
 with_units limit tests scripts why s b h k = search rules
 
 zero_below : (n : ℕ) → 0 < n + 1
@@ -152,7 +156,7 @@ oldest_ready p f refused now run (ScriptStart start ∷ rest) h on few short eq 
     let waits = start_waits p now run k (ScriptStart start) rest h eq (script_own start) in
     let below = script_below p k (oldest_kind p now run (ScriptStart start) rest h eq) in
     let more = running-started 0 (scripts_in p) k (told run) e (omega arith) (omega (arith, below))
-        waits.untold (λ k. refl)
+    waits.untold (λ k. refl)
     (λ k. refl) in
     let most = most_run 0 (scripts_in p) (told run ++ e ∷ []) in
     ((on, omega arith), start_ready p f refused now run k (ScriptStart start) rest h eq (script_own start))

@@ -205,7 +205,7 @@ start_moves p f now run start rest false (Some u) h eq goes ew =
       sends = λ calm. acts_refused now start.test.unit run u _ ew phase
           (ap (λ q. at_last (seat_told (told run ++ [])) (drop 1 q) start.test.unit) eq
           ∙ at_last_apart start.test.unit rest (seat_told (told run ++ []))
-              (start_alone p f now run start.test.unit (Start start) rest h eq (start_own start))
+          (start_alone p f now run start.test.unit (Start start) rest h eq (start_own start))
           ∙ untold);
     }
   where
@@ -216,7 +216,7 @@ start_moves p f now run start rest false (Some u) h eq goes ew =
         let here : start.test.unit ≡ k = grind arith in
         let gone : seat_told (told run ++ []) k ≡ Gone =
         seat_told-nothing k (told run) ∙ untold_gone k (told run)
-            (ap (λ k. account_of k (told run)) (sym here) ∙ none) in
+        (ap (λ k. account_of k (told run)) (sym here) ∙ none) in
         let never : false ≡ true = sym (ap is_in_use gone) ∙ used in cc
     refused_tells k false e none used = rw e (seat_told-nothing k (told run))
 
@@ -238,7 +238,7 @@ script_started k moment es start none = by_unit (start.script.unit == k) refl
         slots_told-append k es (e ∷ []) ∙ ap (λ o. option_or o None) (none_told k es no_start) in
         let gone : seat_told (es ++ e ∷ []) k ≡ Gone =
         ap (λ o. if is_running (es ++ e ∷ []) k then seat_in o else Gone) no_slots
-            ∙ either (is_running (es ++ e ∷ []) k) in
+        ∙ either (is_running (es ++ e ∷ []) k) in
         let never : false ≡ true = sym (ap is_in_use gone) ∙ used in cc
       where
         either : (b : Bool) → (if b then Gone else Gone) ≡ Gone

@@ -69,7 +69,7 @@ running_one p why now elapsed (TestStarted e) es fits =
     running-started (scripts_in p) (tests_in p) e.start.test.unit es _ fits.0 fits.1 fits.2 (λ k. refl) (λ k. refl)
 running_one p why now elapsed (TestFinished e) es fits =
     let less = running-finished (scripts_in p) (tests_in p) e.finish.test.unit es
-        (told_kind now elapsed (TestFinished e))
+    (told_kind now elapsed (TestFinished e))
     fits.0 fits.1 fits.2 (λ k. refl) (λ k. refl) in omega arith
 running_one p why now elapsed kind es fits =
     running-kept (scripts_in p) (tests_in p) es _ (λ k. refl) (λ k. refl)
@@ -82,7 +82,7 @@ scripts_one : (p : Settings) (why : Option CancelReason) (now elapsed : ℕ) (ki
     ≡ (tallied kind (counts p why es)).scripts_running
 scripts_one p why now elapsed (SetupScriptStarted e) es fits =
     running-started 0 (scripts_in p) e.script.unit es _ (omega arith) (omega (arith, fits.0))
-        fits.1 (λ k. refl) (λ k. refl)
+    fits.1 (λ k. refl) (λ k. refl)
 scripts_one p why now elapsed (SetupScriptFinished e) es fits =
     let less = running-finished 0 (scripts_in p) e.script.unit es (told_kind now elapsed (SetupScriptFinished e))
     (omega arith) (omega (arith, fits.0)) fits.1 (λ k. refl) (λ k. refl) in omega arith

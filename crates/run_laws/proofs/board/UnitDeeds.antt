@@ -238,7 +238,7 @@ start_does p f now run i m kind rest go (Some u) h on goes eq pends news silent 
           (rw eq (start_reports k go));
       source = sent_for run i (Answered go) u (row now (Answered go) u).sent ew
           (row_sends_role now u.phase (Answered go) (at_moment now u) refl
-              (takes_moment now u.phase u (Answered go) waiting));
+          (takes_moment now u.phase u (Answered go) waiting));
       asks = sym (ap (option_and_then (λ v. (row now (Answered go) v).asked)) ew);
       sent_as = sym (ap (option_and_then (λ v. (row now (Answered go) v).sent)) ew);
       order = in_order go (order (ap is_some ew));
@@ -334,7 +334,7 @@ retry_does p f now run retry rest go (Some u) h on goes eq ew =
           (rw eq (retry_reports k go));
       source = sent_for run retry.start.test.unit (Answered go) u (row now (Answered go) u).sent ew
           (row_sends_role now u.phase (Answered go) (at_moment now u) refl
-              (takes_moment now u.phase u (Answered go) waiting));
+          (takes_moment now u.phase u (Answered go) waiting));
       asks = sym (ap (option_and_then (λ v. (row now (Answered go) v).asked)) ew);
       sent_as = sym (ap (option_and_then (λ v. (row now (Answered go) v).sent)) ew);
       order = in_order go;

@@ -216,6 +216,6 @@ stops_alone p b turn =
     delivers (m ∷ rest) s =
         let t : Tally = tally_by b.clock b.dispatcher m in
         let never : false ≡ true = sym (by_cause (moment_by b.clock b.dispatcher.watch) t
-            (cause_of b.dispatcher.rules t m)
+        (cause_of b.dispatcher.rules t m)
         (hears b.clock b.dispatcher m (answer_to b (starting m) (go_of b.dispatcher.tally m))) refl) ∙ s in
         cc

@@ -148,7 +148,7 @@ part_adds p f now run k (Some (Acts j turn)) sent h taken from = by_unit (j == k
         (later_pieces u.terms now u.phase u (pieces_of k run) (h.named k u is).2
         (subst (λ terms. HasPieces terms u.phase u (pieces_of k run)) (sym made.terms) made.has)) made.attempt in
         subst (λ terms. delays_by terms (pieces (own ∷ story_of k run)) ≡ delays_by terms
-            (pieces_of k run) ++ delays_sent k sent)
+        (pieces_of k run) ++ delays_sent k sent)
         made.terms (own_row ∙ ap (λ n. delays_by u.terms (pieces_of k run) ++ delays_sent n (row now turn u).sent) named
         ∙ ap (λ m. delays_by u.terms (pieces_of k run) ++ delays_sent k m) (sym row_sent))
     by_unit false e =
@@ -210,7 +210,7 @@ delivery_keeps k b (ScriptStart start ∷ rest) =
     told_if k _ (ScriptStarted start) (ScriptStart start) rest (may_go b.dispatcher.tally) refl refl
 delivery_keeps k b (Start start ∷ rest) =
     told_if k _ (started_event start (with_start b.dispatcher.tally)) (Start start) rest
-        (may_go b.dispatcher.tally) refl
+    (may_go b.dispatcher.tally) refl
     refl
 delivery_keeps k b (Retry retry ∷ rest) =
     told_if k _ (retried_event retry b.dispatcher.tally) (Retry retry) rest (may_go b.dispatcher.tally) refl refl
@@ -219,12 +219,12 @@ delivery_keeps k b (Slow slow ∷ rest) = refl
 delivery_keeps k b (Skip skip ∷ rest) = refl
 delivery_keeps k b (AttemptFailed failure ∷ rest) =
     told_so k (moment_by b.clock b.dispatcher.watch) (failed_event failure b.dispatcher.tally)
-        (AttemptFailed failure) rest refl
+    (AttemptFailed failure) rest refl
 delivery_keeps k b (Finish finish ∷ rest) =
     let tells : Option ReporterEvent = event_of b (Finish finish) in
     caused_keeps k (moment_by b.clock b.dispatcher.watch) (Finish finish ∷ rest) (tally_with b tells)
     (cause_of b.dispatcher.rules (tally_with b tells) (Finish finish))
-        (delivered_as b (Finish finish) nothing_done) refl refl
+    (delivered_as b (Finish finish) nothing_done) refl refl
 delivery_keeps k b (ScriptFinish finish ∷ rest) =
     let tells : Option ReporterEvent = event_of b (ScriptFinish finish) in
     caused_keeps k (moment_by b.clock b.dispatcher.watch) (ScriptFinish finish ∷ rest) (tally_with b tells)
@@ -355,6 +355,6 @@ own_delays p (e ∷ before) legal k = one_more (own_delays p before legal.2 k) (
                 let bounds = of.does.marks.bounds (ap (λ b. b || d.ends) is) in
                 subst (λ q. KeepsDelays k q d) (sym (here true is))
                 (rw (of.does.marks.begins is).1.taken (ap (λ ds. ds ++ [])
-                    (bounds_none k d.told d.after bounds.0 bounds.1)))
+                (bounds_none k d.told d.after bounds.0 bounds.1)))
             keeps_base false is = subst (λ q. KeepsDelays k q d) (sym (here false is)) (keeps p (board p past) k e.turn)
         by_run (inr none) = subst (λ run. AreDelaysOwn p run k) (sym none.still) refl

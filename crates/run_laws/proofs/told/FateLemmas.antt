@@ -122,7 +122,7 @@ each_of : (mm : Bool) (w : Way) (terms : AttemptTerms) (v : Option UnitView) (st
 each_of mm w terms None story t d a made h = cc
 each_of mm w terms (Some u) story t d a made h =
     sym (ap length (made_statuses terms u (pieces story) made))
-        ∙ by_last (made_last terms u (pieces story) made (over u.phase d))
+    ∙ by_last (made_last terms u (pieces story) made (over u.phase d))
   where
     over : (ph : Phase) → is_last ph ≡ true → ph ≡ Over
     over Over l = refl
@@ -183,7 +183,7 @@ ended_fate p f now run e k h below complete tells after over own later =
       ended = going_none (unit_terms p k) (unit_of k run) (story_of k run) done made;
       once = ap told_ended (nothing_more)
           ∙ all_told (is_mismatched p k) (was_left k run) (unit_of k run) (statuses_of p k run)
-              (account_of k (told run)) done
+          (account_of k (told run)) done
           told_all (λ u is. own_statuses u is made);
       each = each_of (is_mismatched p k) (way_of k run) (unit_terms p k) (unit_of k run) (story_of k run)
           (account_of k (told run)) done (h.on_way k) made told_all;

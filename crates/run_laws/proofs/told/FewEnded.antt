@@ -39,7 +39,7 @@ greatest_ends now d (Some condition) going = λ is.
     (sym (ap (λ n. n == 4294967295) is)
     ∙ last_of_four (is_some d.tally.stats.cancel_reason) (is_cancelled (summary d.tally.stats))
     (is_none (remaining (progress_of now d (d.sub_runs.ended + 1) condition)))
-        (d.sub_runs.ended + 1 == 4294967295) going)
+    (d.sub_runs.ended + 1 == 4294967295) going)
 
 -- nor have so many ended where the run goes on after the end of one
 ends_few : (p : Settings) (past : List Happening) (e : Entry) → HoldsAfter p past → IsTrue (enabled p past e.turn)
@@ -77,5 +77,5 @@ few-ended p (e ∷ before) legal going =
         let rest = ended_runs past in
         let more : length rest + 1 + 1 < 2 ^ 32 = one_more (length rest) few
         (ends_few p past e (holds p before legal.2) legal.0 ends
-            (both_false (happening p past e).over (is_over past) going).0) in
+        (both_false (happening p past e).over (is_over past) going).0) in
         omega arith

@@ -92,7 +92,7 @@ some_among f before rest e is =
 
 first_more : (p : Settings) (es : List ReporterEvent) (x : ReporterEvent) → ComeFirst p es
     → (starts_test x ≡ true → (k : ℕ) → k < scripts_in p → list_any (starts k) es ≡ true
-        → list_any (finishes k) es ≡ true)
+    → list_any (finishes k) es ≡ true)
     → ((k : ℕ) → k < scripts_in p → (starts_test x ≡ true) ⊎ (list_any starts_test es ≡ true) → starts k x ≡ false)
     → ComeFirst p (es ++ x ∷ [])
 first_more p es x first finishes_all none k before after e below is test some =
@@ -137,7 +137,7 @@ none_pends p k [] script kinds none = refl
 none_pends p k (m ∷ ms) script kinds none =
     rw (message_apart p k m script (All-head (IsOfKind p) m ms kinds) (oldest_not m ms none))
     (none_pends p k ms script (All-tail (IsOfKind p) m ms kinds)
-        (later (is_of_script m) (list_any is_of_script ms) none))
+    (later (is_of_script m) (list_any is_of_script ms) none))
   where
     later : (a b : Bool) → (a || b) ≡ false → b ≡ false
     later true b e = cc
@@ -192,7 +192,7 @@ settled_finished p f now run k h (none, all) below some =
         (subst (λ left. HasAccountAt false left u.phase u.statuses (account_of k (told run)) []) left
         (subst (λ q. HasAccountAt false (was_left k run) u.phase u.statuses (account_of k (told run)) q) pends
         (subst (λ mm. HasAccountAt mm (was_left k run) u.phase u.statuses (account_of k (told run))
-            (pending_of k (queue run)))
+        (pending_of k (queue run)))
         (matches p k script) a))) some
       where
         left : was_left k run ≡ false
@@ -279,7 +279,7 @@ script_fate p run k below fate = by_stop (stopped_at k run) refl
 
     by_statuses : (ss : List ExecuteStatus) → statuses_of p k run ≡ ss → stopped_at k run ≡ None
         → (s : ExecuteStatus) × ((account_of k (told run) ≡ started ∷ finished (s ∷ []) ∷ [])
-            × (statuses_of p k run ≡ s ∷ []))
+        × (statuses_of p k run ≡ s ∷ []))
     by_statuses [] is on = absurd (subst (MeetsAttemptLaw (retries_in p k)) is (fate.finished matched on))
     by_statuses (s ∷ []) is on = (s, (fate.account ∙ rw (matched, on, is) refl, is))
     by_statuses (s ∷ t ∷ ss) is on =

@@ -69,7 +69,7 @@ face_after p run now k (Some (Acts j turn)) v taken is = by_unit (j == k)
   where
     by_unit : (b : Bool)
         → option_map face (if b then option_map (λ w. (row now turn w).next) (unit_of k run)
-            else unit_of k run) ≡ Some v
+        else unit_of k run) ≡ Some v
     by_unit true = face_row now turn (unit_of k run) ∙ is
     by_unit false = is
 

@@ -161,7 +161,7 @@ asked_after p f now run k (Some (Acts j turn)) h taken was = by_unit (j == k) re
         next_attempt (unit_terms p k) now u.phase turn u (pieces_of k run) taken.takes e made.has made.attempt in
         ap (λ s. starts_asked k run ++ s) (by_begin true true e at)
         ∙ ap (λ s. s ++ start_at w (attempt_to u.phase u.attempt) ∷ [])
-            (was ∙ ap (λ v. starts_by (option_map face v) n) is)
+        (was ∙ ap (λ v. starts_by (option_map face v) n) is)
         ∙ ap (λ a. map (start_at (face u)) (range_with_len 1 n) ++ a ∷ [])
         (start_face w (attempt_to u.phase u.attempt) ∙ ap (start_at (face u)) next)
         ∙ sym (map-range_with_len_more (start_at (face u)) 1 n (1 + n) refl)
@@ -170,7 +170,7 @@ asked_after p f now run k (Some (Acts j turn)) h taken was = by_unit (j == k) re
     by_unit : (b : Bool) → (j == k) ≡ b
         → starts_asked k run ++ starts_in k (asked_by now run (Some (Acts j turn)))
         ≡ starts_by (option_map face (if b then option_map (λ w. (row now turn w).next)
-            (unit_of k run) else unit_of k run))
+        (unit_of k run) else unit_of k run))
         (length (pieces (option_to_list (if b then Some own else None) ++ story_of k run)))
     by_unit true e =
         let here : k ≡ j = grind arith in

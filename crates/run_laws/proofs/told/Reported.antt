@@ -99,7 +99,7 @@ pub record ActsReport (terms : AttemptTerms) (k now : ℕ) (part : Option UnitPa
 
 pub acts_report : (terms : AttemptTerms) (k now j : ℕ) (turn : UnitTurn) (u : UnitView) (v : Option UnitView)
     (line : List Request) (story : List OwnTurn) → takes now u turn ≡ true → u.latest ≤ now
-        → IsTriedOnce u → (number u) ≡ j
+    → IsTriedOnce u → (number u) ≡ j
     → ((j == k) ≡ true → request_of turn line ≡ request_of turn u.line)
     → ((j == k) ≡ true → v ≡ Some u) → IsMadeIf terms v story
     → ActsReport terms k now (Some (Acts j turn)) line story (row now turn u).asked (row now turn u).sent
@@ -117,7 +117,7 @@ acts_report terms k now j turn u v line story en le once named oldest same made 
         record {
           asks = rw (e, oldest e) (said.asks
               ∙ ap (λ i. signals_by terms.stops terms.slow (pieces story)
-                  ++ signals_for i (row now turn u).asked) here);
+              ++ signals_for i (row now turn u).asked) here);
           sends = rw (e, oldest e) (said.sends
               ∙ ap (λ i. reports_by terms.slow (pieces story)
               ++ reports_waiting i (option_to_list (row now turn u).sent)) here);

@@ -175,7 +175,7 @@ slots_all : (p : Settings) (f : Frame) (now : ℕ) (run : List Happening) (k : �
 slots_all p f now run k index slot vs test [] h is of some = cc
 slots_all p f now run k index slot vs test (e ∷ es) h is of some =
     by_start (slots_all p f now run k index slot vs test es h is
-        (All-tail (IsToldOfUnit p run) e es of)) (starts k e) refl
+    (All-tail (IsToldOfUnit p run) e es of)) (starts k e) refl
     some
   where
     by_start : (list_any (starts k) es ≡ true → slots_told k es ≡ Some slot) → (b : Bool) → starts k e ≡ b
@@ -202,7 +202,7 @@ planned_is p f now run k v h has matched is some =
     by_planned (inl script) = rw (script.kind, script.planned) (ap Some (sym script.is))
     by_planned (inr test) =
         let slots = slots_all p f now run k (index_of_role v.role) test.slot
-            (handed_to p (units p run) test.test) test.test (told run) h
+        (handed_to p (units p run) test.test) test.test (told run) h
         (is ∙ ap Some test.is) has.told some in
         let given = given_handed p f now run test.test h has (h.admitted k test.kind admitted) in
         rw (test.kind, test.planned, slots, given) (ap Some (sym test.is))
@@ -286,7 +286,7 @@ asked_so p f now index run k h has indexed = has.asked k ∙ by_pieces (length (
         sym (planned_is p f now run k (face u) h has
         (matched (is_mismatched p k) refl u made some account) (ap (option_map face) is) started)
         ∙ ap (λ index. planned_unit p index run k) (index_of_face index run k (face u) indexed
-            (ap (option_map face) is))
+        (ap (option_map face) is))
       where
         matched : (b : Bool) → is_mismatched p k ≡ b → (u : UnitView) → IsMade (unit_terms p k) u (pieces_of k run)
             → 0 < length (pieces_of k run)

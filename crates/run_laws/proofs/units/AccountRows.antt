@@ -170,7 +170,7 @@ IsTriedOnce u = (r : ScriptRole) → u.role ≡ roles.Script r → IsOneOff u
 failure_waits : (delay word : ℕ) (u : UnitView) (s : ExecuteStatus) (q : List Message) → u.phase ≡ Deciding
     → IsTriedOnce u → has_retry u ≡ true → last_status u.statuses ≡ Some s → pending_of (number u) q ≡ []
     → pending_of (number u) (q ++ option_to_list (failure_message u.role delay
-        (last_status u.statuses))) ≡ failed s ∷ []
+    (last_status u.statuses))) ≡ failed s ∷ []
 failure_waits delay word u s q at once left last none = by_role u.role refl none
   where
     by_role : (role : UnitRole) → u.role ≡ role → pending_of (number_of role) q ≡ []
@@ -179,7 +179,7 @@ failure_waits delay word u s q at once left last none = by_role u.role refl none
     by_role (roles.Test t) is none =
         ap (λ o. pending_of t.test.unit (q ++ option_to_list (option_map (failed_message delay t) o))) last
         ∙ waits_more t.test.unit q (failed_message delay t s) [] (failed s ∷ []) none
-            (rw (same_number t.test.unit) refl)
+        (rw (same_number t.test.unit) refl)
     by_role (roles.Script r) is none = let never : false ≡ true = sym ((once r is).done at) ∙ left in cc
 
 finish_waits : (u : UnitView) (q : List Message) → u.phase ≡ Deciding → IsTriedOnce u → pending_of (number u) q ≡ []
@@ -190,11 +190,11 @@ finish_waits u q at once none = by_role u.role refl none
         → pending_of (number_of role) (q ++ option_to_list (finish_message role u)) ≡ finished u.statuses ∷ []
     by_role (roles.Test t) is none =
         waits_more t.test.unit q (test_finish t u) [] (finished u.statuses ∷ []) none
-            (rw (same_number t.test.unit) refl)
+        (rw (same_number t.test.unit) refl)
     by_role (roles.Script r) is none =
         let it = (once r is).status at in
         ap (λ o. pending_of r.script.unit (q ++ option_to_list
-            (option_map (script_finish r u) o))) (ap last_status it.1.0)
+        (option_map (script_finish r u) o))) (ap last_status it.1.0)
         ∙ waits_more r.script.unit q (script_finish r u it.0) [] (finished u.statuses ∷ []) none
         (rw (same_number r.script.unit) (ap (λ ss. finished ss ∷ []) (ap (λ s. s ∷ []) it.1.1 ∙ sym it.1.0)))
 

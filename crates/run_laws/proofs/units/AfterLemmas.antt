@@ -107,7 +107,7 @@ delay_marked : (retries : RetryPolicy) (t : OwnTurn) (piece : List OwnTurn) (d :
     → pause_at t.moment t.request ≡ marks
     → delay_timer retries (t ∷ d ∷ after) (cut piece (t ∷ d ∷ after) ∷ earlier)
     ≡ record (delay_timer retries (d ∷ after) (cut piece (d ∷ after) ∷ earlier))
-        { past = marks ++ pauses_in (d ∷ after) }
+    { past = marks ++ pauses_in (d ∷ after) }
 delay_marked retries t piece d after earlier marks none quiet is =
     ap (λ m. record {
       set = m;
@@ -158,7 +158,7 @@ pub waiting_made : (t : OwnTurn) (u : UnitView) (piece : List OwnTurn) (d : OwnT
     → ends_delay t ≡ false → pause_at t.moment t.request ≡ [] → IsMade u.terms u (cut piece (t ∷ d ∷ after) ∷ earlier)
 waiting_made t u piece d after earlier is a start (again, not_over, wait, set) none quiet goes goes_on =
     delay_made t u u.timers piece d after earlier [] is a start (again, not_over, wait, set) none
-        quiet goes goes_on wait set
+    quiet goes goes_on wait set
 
 -- or is paused, or resumed
 pub delay_stopped : (now round : ℕ) (u : UnitView) (piece : List OwnTurn) (d : OwnTurn) (after : List OwnTurn)
@@ -171,11 +171,11 @@ delay_stopped now round u piece d after earlier is latest a start (again, not_ov
     let timer : Timer = delay_timer u.terms.retries (d ∷ after) (cut piece (d ∷ after) ∷ earlier) in
     let by : IsSetBy now (Some timer) = subst (λ later. IsSetBy later (Some timer)) latest set in
     delay_made (taken now Take (Some (Stop round))) u (all_paused now u.timers) piece d after earlier
-        (mark_of pause now ∷ [])
+    (mark_of pause now ∷ [])
     is a start (again, not_over, wait, set) refl refl refl refl
     (keeps_stop now (Some timer) u.timers.wait by wait)
     (subst (λ later. IsSetBy later (Some (marked pause now timer))) (sym latest)
-        (set_by_marked now pause (Some timer) by))
+    (set_by_marked now pause (Some timer) by))
 
 pub delay_continued : (now : ℕ) (u : UnitView) (piece : List OwnTurn) (d : OwnTurn) (after : List OwnTurn)
     (earlier : List Attempt)
@@ -187,11 +187,11 @@ delay_continued now u piece d after earlier is latest a start (again, not_over, 
     let timer : Timer = delay_timer u.terms.retries (d ∷ after) (cut piece (d ∷ after) ∷ earlier) in
     let by : IsSetBy now (Some timer) = subst (λ later. IsSetBy later (Some timer)) latest set in
     delay_made (taken now Take (Some Continue)) u (all_resumed now u.timers) piece d after earlier
-        (mark_of resume now ∷ [])
+    (mark_of resume now ∷ [])
     is a (resumed_start u.timers.stopwatch now ∙ start) (again, not_over, wait, set) refl refl refl refl
     (keeps_continue now (Some timer) u.timers.wait by wait)
     (subst (λ later. IsSetBy later (Some (marked resume now timer))) (sym latest)
-        (set_by_marked now resume (Some timer) by))
+    (set_by_marked now resume (Some timer) by))
 
 -- it is left, and not let go for its next attempt
 pub left_made : (now : ℕ) (u : UnitView) (piece : List OwnTurn) (d : OwnTurn) (after : List OwnTurn)

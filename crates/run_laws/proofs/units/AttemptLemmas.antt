@@ -24,8 +24,15 @@ use Rattle.run_laws.proofs.units.RowLemmas.{read_made}
 use Rattle.run_laws.proofs.units.AfterLemmas.{decide_made, retried_made, left_made}
 use Rattle.run_laws.proofs.units.DueLemmas.{leaked_made, killed_due, slow_made}
 use Rattle.run_laws.proofs.units.RequestLemmas.{take_running, take_grace, take_leak, take_delay}
-pub use Rattle.run_laws.proofs.units.MadeLemmas.{HasPieces, IsMade, made_first, made_statuses,
-    made_ended, made_last, made_due}
+pub use Rattle.run_laws.proofs.units.MadeLemmas.{
+  HasPieces,
+  IsMade,
+  made_first,
+  made_statuses,
+  made_ended,
+  made_last,
+  made_due,
+}
 
 -- the pieces after one more turn
 abbrev pub more : OwnTurn → List Attempt → List Attempt
@@ -47,9 +54,9 @@ row_made now Starting (Started pid) before u (cut piece [] ∷ earlier) same en 
     started_made now pid u piece earlier (rw latest (omega arith)) a (on, ss)
 row_made now Starting (StartFailed error) before u (cut piece [] ∷ earlier) same en is latest a st (on, ss) =
     made_more (row_at now Starting (StartFailed error) u).next Deciding
-        (taken now (StartFailed error) None) piece earlier refl
+    (taken now (StartFailed error) None) piece earlier refl
     a (resumed_start u.timers.stopwatch now ∙ simp quiet_said st)
-        (past_refused now error None u piece earlier latest on a ss)
+    (past_refused now error None u piece earlier latest on a ss)
 row_made now Running Due before u (cut piece [] ∷ earlier) same en is latest a st h =
     slow_made now u piece earlier is (rw latest (omega arith)) (rw same at en) a h
 row_made now Running Take before u (cut piece [] ∷ earlier) same en is latest a st h =
@@ -58,7 +65,7 @@ row_made now Running (Exit exit) before u (cut piece [] ∷ earlier) same en is 
     exit_made Running now (Some exit) u.capture (Exit exit) u piece earlier latest a h refl refl refl refl refl refl
 row_made now Running (WaitFailed error) before u (cut piece [] ∷ earlier) same en is latest a st h =
     exit_made Running now None (with_wait_error u.capture error) (WaitFailed error) u piece earlier
-        latest a h refl refl refl
+    latest a h refl refl refl
     refl refl refl
 row_made now Running (Piece stream bytes) before u (cut piece [] ∷ earlier) same en is latest a st h =
     heard_running Running now (Piece stream bytes) u piece earlier (λ h. h) is a h refl refl refl refl refl refl refl
@@ -66,7 +73,7 @@ row_made now Running (StreamEnd stream) before u (cut piece [] ∷ earlier) same
     heard_running Running now (StreamEnd stream) u piece earlier (λ h. h) is a h refl refl refl refl refl refl refl
 row_made now Running (ReadError stream error) before u (cut piece [] ∷ earlier) same en is latest a st h =
     heard_running Running now (ReadError stream error) u piece earlier (λ h. h) is a h refl refl
-        refl refl refl refl refl
+    refl refl refl refl refl
 row_made now Grace Due before u (cut piece [] ∷ earlier) same en is latest a st h = killed_due now u piece earlier a h
 row_made now Grace Take before u (cut piece [] ∷ earlier) same en is latest a st h =
     take_grace now u.line u piece earlier is latest a h
@@ -74,7 +81,7 @@ row_made now Grace (Exit exit) before u (cut piece [] ∷ earlier) same en is la
     exit_made Grace now (Some exit) u.capture (Exit exit) u piece earlier latest a h refl refl refl refl refl refl
 row_made now Grace (WaitFailed error) before u (cut piece [] ∷ earlier) same en is latest a st h =
     exit_made Grace now None (with_wait_error u.capture error) (WaitFailed error) u piece earlier
-        latest a h refl refl refl
+    latest a h refl refl refl
     refl refl refl
 row_made now Grace (Piece stream bytes) before u (cut piece [] ∷ earlier) same en is latest a st h =
     heard_running Grace now (Piece stream bytes) u piece earlier (λ h. h) is a h refl refl refl refl refl refl refl
@@ -86,7 +93,7 @@ row_made now KillWait (Exit exit) before u (cut piece [] ∷ earlier) same en is
     exit_made KillWait now (Some exit) u.capture (Exit exit) u piece earlier latest a h refl refl refl refl refl refl
 row_made now KillWait (WaitFailed error) before u (cut piece [] ∷ earlier) same en is latest a st h =
     exit_made KillWait now None (with_wait_error u.capture error) (WaitFailed error) u piece earlier
-        latest a h refl refl refl
+    latest a h refl refl refl
     refl refl refl
 row_made now Leak (Piece stream bytes) before u (cut piece [] ∷ earlier) same en is latest a st h =
     heard_made now (Piece stream bytes) u piece earlier is latest a h refl refl refl refl refl refl refl

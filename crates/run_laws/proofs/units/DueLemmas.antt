@@ -60,7 +60,7 @@ killed_made t u piece earlier a (on, ss) ends quiet starts goes_on over it =
       going_more u.terms Running false None (killed u).next t piece it on.not_ended quiet refl
           (λ still. timed_still u.terms u.timers.stopwatch u.latest t piece still goes_on on.watch) on.pauses
           (timer_killed u.terms u.timers (killed u).next.timers u.latest t piece refl
-              on.is_at.wait_over on.timer.stage ends
+          on.is_at.wait_over on.timer.stage ends
           starts goes_on over),
       ss,
     )
@@ -72,7 +72,7 @@ pub killed_due : (now : ℕ) (u : UnitView) (piece : List OwnTurn) (earlier : Li
 killed_due now u piece earlier a (on, ss) =
     killed_made (taken now Due None) u piece earlier a (on, ss) refl refl refl refl refl
     (at_due u.terms u.timers.stopwatch.start false None u.timers.slow_count u.timers.slow_count
-        u.capture now piece on.is_at
+    u.capture now piece on.is_at
     (count_killed u.terms.slow (taken now Due None) piece on.timer.stage.1 ∙ on.is_at.counted))
 
 -- it is slow
@@ -80,7 +80,7 @@ pub slow_made : (now : ℕ) (u : UnitView) (piece : List OwnTurn) (earlier : Lis
     → u.phase ≡ Running → now ≤ u.latest → fires_now now u.timers.slow ≡ true → u.attempt ≡ length earlier + 1
     → GoesOn u.terms Running false None u piece earlier
     → IsMade u.terms (slow_row now (one_more u.timers.slow_count) u).next
-        (cut (taken now Due None ∷ piece) [] ∷ earlier)
+    (cut (taken now Due None ∷ piece) [] ∷ earlier)
 slow_made now u piece earlier ph le due a (on, ss) =
     by_out (is_out_of_time u.terms.slow n) (u.terms.slow.grace == 0) refl refl
   where
@@ -119,7 +119,7 @@ slow_made now u piece earlier ph le due a (on, ss) =
     goes ph v watch count capture latest timer =
         going_more u.terms ph false None v t piece (rw (watch, count, capture) it) on.not_ended refl refl
         (λ still. rw (watch, latest) (timed_still u.terms u.timers.stopwatch u.latest t piece still
-            refl on.watch)) on.pauses
+        refl on.watch)) on.pauses
         timer
 
     by_out : (o g : Bool) → is_out_of_time u.terms.slow n ≡ o → (u.terms.slow.grace == 0) ≡ g

@@ -200,17 +200,17 @@ past_exited now exit leaked c turn u piece earlier it none quiet done awaits wat
   ends,
   past_with u.terms u.statuses
       (status_at now (result_of exit c.errors leaked u) (Output c.output c.errors) u)
-          (taken now turn None ∷ piece) earlier ends
+      (taken now turn None ∷ piece) earlier ends
       (status_as Unread true exit leaked c now (delay_after u.terms.retries earlier) (length earlier + 1)
       (taken now turn None ∷ piece) u it (time_settled u.terms u.timers.stopwatch
-          (taken now turn None) piece still watch)
+      (taken now turn None) piece still watch)
       (rw unread refl) end a delay) ss,
 )
   where
     still : is_settled u.terms (taken now turn None ∷ piece) ≡ true
     still =
         settled_as u.terms u.timers.stopwatch.start true exit leaked u.timers.slow_count c
-            (taken now turn None ∷ piece) it
+        (taken now turn None ∷ piece) it
         ∙ done
 
     unread : env_read (taken now turn None ∷ piece) ≡ None
@@ -257,14 +257,14 @@ awaiting_exited now exit leaked c turn u piece it none quiet done awaits latest 
   settled = still;
   watch =
       subst (λ latest. IsTimed u.terms (watch_resumed now u.timers.stopwatch) latest
-          (taken now turn None ∷ piece)) (sym latest)
+      (taken now turn None ∷ piece)) (sym latest)
       (timed_settled u.terms u.timers.stopwatch (taken now turn None) piece still watch);
 }
   where
     still : is_settled u.terms (taken now turn None ∷ piece) ≡ true
     still =
         settled_as u.terms u.timers.stopwatch.start true exit leaked u.timers.slow_count c
-            (taken now turn None ∷ piece) it
+        (taken now turn None ∷ piece) it
         ∙ done
 
     unread : env_read (taken now turn None ∷ piece) ≡ None
@@ -298,14 +298,14 @@ reads_no_more false success = refl
 pub past_read : (now : ℕ) (input : EnvInput) (u : UnitView) (piece : List OwnTurn) (earlier : List Attempt)
     → u.latest ≡ now → IsAwaiting u.terms u piece → u.attempt ≡ length earlier + 1 → Follows u.terms u earlier
     → IsPast u.terms (ended_with now (env_of input) u.exit u.leaked u.capture u)
-        (taken now (Env input) None ∷ piece) earlier
+    (taken now (Env input) None ∷ piece) earlier
 past_read now input u piece earlier latest on a (ss, delay) = (
   ends,
   past_with u.terms u.statuses
       (status_at now (result_with (env_of input) (result_of u.exit u.capture.errors u.leaked u))
       (Output u.capture.output u.capture.errors) u) (taken now (Env input) None ∷ piece) earlier ends
       (status_as (env_of input) true u.exit u.leaked u.capture now
-          (delay_after u.terms.retries earlier) (length earlier + 1)
+      (delay_after u.terms.retries earlier) (length earlier + 1)
       (taken now (Env input) None ∷ piece) u it
       (time_settled u.terms u.timers.stopwatch (taken now (Env input) None) piece still
       (subst (λ latest. IsTimed u.terms u.timers.stopwatch latest piece) latest on.watch))
@@ -316,7 +316,7 @@ past_read now input u piece earlier latest on a (ss, delay) = (
         (taken now (Env input) None ∷ piece)
     it = rw (quiet_said u.exit) at
         (at_more u.terms u.timers.stopwatch.start true u.exit u.leaked u.timers.slow_count u.capture
-            now (Env input) None piece
+        now (Env input) None piece
         on.is_at refl refl)
 
     still : is_settled u.terms (taken now (Env input) None ∷ piece) ≡ true
@@ -324,7 +324,7 @@ past_read now input u piece earlier latest on a (ss, delay) = (
         settled_as u.terms u.timers.stopwatch.start true u.exit u.leaked u.timers.slow_count u.capture
         (taken now (Env input) None ∷ piece) it
         ∙ sym (settled_as u.terms u.timers.stopwatch.start true u.exit u.leaked u.timers.slow_count
-            u.capture piece on.is_at)
+        u.capture piece on.is_at)
         ∙ on.settled
 
     ends : has_ended u.terms (taken now (Env input) None ∷ piece) ≡ true

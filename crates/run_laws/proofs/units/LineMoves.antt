@@ -24,9 +24,11 @@ pub part_line : (p : Settings) (run : List Happening) (now k : ℕ) (part : Opti
     → HasLine (unit_after now k part (unit_of k run))
     (drop (taken_by k run + (if takes_request k part then 1 else 0)) (broadcast_to k run))
     × (taken_by k run + (if takes_request k part then 1 else 0) ≤ length (broadcast_to k run))
-part_line p run now k None h le fits =
-    (subst (λ n. HasLine (unit_of k run) (drop n (broadcast_to k run)))
-        (sym (add-zero (taken_by k run))) h, omega arith)
+part_line p run now k None h le fits = (
+  subst (λ n. HasLine (unit_of k run) (drop n (broadcast_to k run)))
+      (sym (add-zero (taken_by k run))) h,
+  omega arith,
+)
 part_line p run now k (Some (Joins first)) h le (sent, new) = (
   subst (λ n. HasLine (if (number first) == k then Some first else unit_of k run) (drop n (broadcast_to k run)))
       (sym (add-zero (taken_by k run))) (begins ((number first) == k) refl),
@@ -76,9 +78,11 @@ part_line p run now k (Some (Acts j turn)) h le taken =
         and_true false = refl
     by_unit false e =
         subst (λ b. HasLine (unit_of k run) (drop (taken_by k run + (if b then 1 else 0)) (broadcast_to k run))
-        × (taken_by k run + (if b then 1 else 0) ≤ length (broadcast_to k run))) (sym (and_false (is_take turn)))
-        (subst (λ n. HasLine (unit_of k run) (drop n (broadcast_to k run)))
-            (sym (add-zero (taken_by k run))) h, omega arith)
+        × (taken_by k run + (if b then 1 else 0) ≤ length (broadcast_to k run))) (sym (and_false (is_take turn))) (
+          subst (λ n. HasLine (unit_of k run) (drop n (broadcast_to k run)))
+              (sym (add-zero (taken_by k run))) h,
+          omega arith,
+        )
       where
         and_false : (b : Bool) → (b && false) ≡ false
         and_false true = refl
@@ -98,7 +102,7 @@ line_after p run now k request part h le fits =
     let within = it.1 in (
       subst (HasLine (reach request (unit_after now k part (unit_of k run))))
           (sym (drop-append-le (taken_by k run + (if takes_request k part then 1 else 0))
-              (broadcast_to k run) _ within))
+          (broadcast_to k run) _ within))
           (reach_line request (unit_after now k part (unit_of k run)) _ it.0),
       omega (
         arith,

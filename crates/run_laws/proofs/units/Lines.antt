@@ -197,7 +197,7 @@ own_line now turn u is en h = by_take (row_takes now u.phase turn u en)
     by_take (answers go at to) = moves StartSent at to (by_go go (subst (λ ph. HasLineIn ph u.line is) at h))
     by_take (opens on) =
         moved_line (at_moment now u) (row_at now u.phase turn (at_moment now u))
-            (drop (if is_take turn then 1 else 0) is)
+        (drop (if is_take turn then 1 else 0) is)
         (row_moves now u.phase turn (at_moment now u) refl on)
         (row_line now u.phase turn (at_moment now u) on (takes_moment now u.phase u turn en)
         ∙ left_of-is turn u.line ∙ ap (drop (if is_take turn then 1 else 0)) (open_line u.phase u.line is on h))

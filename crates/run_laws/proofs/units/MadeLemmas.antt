@@ -152,7 +152,7 @@ made_due terms u ps made now le = by_phase u.phase ps made.has
     on_timer : (ph : Phase) (waited : Bool) (exit : Option ChildExit) (piece : List OwnTurn)
         → IsGoing terms ph waited exit u piece
         → fires_now now (waits ph u.timers) ≡ (not (is_settled terms piece) && is_timer_due_at
-            now (timer_of terms piece))
+        now (timer_of terms piece))
     on_timer ph waited exit piece on =
         rw on.unsettled
         (due_as now (timer_of terms piece) (waits ph u.timers)
@@ -181,7 +181,7 @@ made_due terms u ps made now le = by_phase u.phase ps made.has
         rw (again.1, not_over)
         (due_as now (Some (delay_timer terms.retries (d ∷ after) (cut piece (d ∷ after) ∷ earlier))) u.timers.wait
         (set_by_later u.latest now le (Some (delay_timer terms.retries (d ∷ after)
-            (cut piece (d ∷ after) ∷ earlier))) set)
+        (cut piece (d ∷ after) ∷ earlier))) set)
         wait)
     by_phase RetrySent (cut piece (d ∷ after) ∷ earlier) (again, is_over) = rw (again.1, is_over) refl
     by_phase Over [] h = refl

@@ -295,7 +295,7 @@ requests now ph u on ph_on = by_line u.line
     }
     by_request Running (Shutdown request) line ph_on =
         ends_by now (Signalled request) (terminate_method (Signalled request) u.terms.slow.grace) u
-            (record u { line = line })
+        (record u { line = line })
         (record { role = refl; command = refl; around = refl; terms = refl; latest = refl }) refl on refl refl
     by_request Grace (Shutdown request) line ph_on = record {
       keeps = record { role = refl; command = refl; around = refl; terms = refl; latest = refl };

@@ -44,9 +44,11 @@ stage_stopped : (terms : AttemptTerms) (ph : Phase) (timers : Timers) (t : OwnTu
     → pause_at t.moment t.request ≡ mark_of pause t.moment ∷ []
     → signal_of terms.slow t.request ≡ None → IsAtStage terms ph timers t.moment piece
     → IsAtStage terms ph (all_paused t.moment timers) t.moment (t ∷ piece)
-stage_stopped terms Starting timers t piece due starts marks none (count, grace) =
-    (count_still terms.slow t piece due ∙ count, grace_still terms.slow t piece due
-        (unheeded terms.slow t piece none) ∙ grace)
+stage_stopped terms Starting timers t piece due starts marks none (count, grace) = (
+  count_still terms.slow t piece due ∙ count,
+  grace_still terms.slow t piece due
+      (unheeded terms.slow t piece none) ∙ grace,
+)
 stage_stopped terms Running timers t piece due starts marks none (child, grace) =
     (rw starts child, grace_still terms.slow t piece due (unheeded terms.slow t piece none) ∙ grace)
 stage_stopped terms Grace timers t piece due starts marks none (child, grace, slow, set) = (
@@ -65,9 +67,11 @@ stage_continued : (terms : AttemptTerms) (ph : Phase) (timers : Timers) (t : Own
     → pause_at t.moment t.request ≡ mark_of resume t.moment ∷ []
     → signal_of terms.slow t.request ≡ None → IsAtStage terms ph timers t.moment piece
     → IsAtStage terms ph (all_resumed t.moment timers) t.moment (t ∷ piece)
-stage_continued terms Starting timers t piece due starts marks none (count, grace) =
-    (count_still terms.slow t piece due ∙ count, grace_still terms.slow t piece due
-        (unheeded terms.slow t piece none) ∙ grace)
+stage_continued terms Starting timers t piece due starts marks none (count, grace) = (
+  count_still terms.slow t piece due ∙ count,
+  grace_still terms.slow t piece due
+      (unheeded terms.slow t piece none) ∙ grace,
+)
 stage_continued terms Running timers t piece due starts marks none (child, grace) =
     (rw starts child, grace_still terms.slow t piece due (unheeded terms.slow t piece none) ∙ grace)
 stage_continued terms Grace timers t piece due starts marks none (child, grace, slow, set) = (

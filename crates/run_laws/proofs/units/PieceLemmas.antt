@@ -88,7 +88,7 @@ pub settled_as : (terms : AttemptTerms) (start : ℕ) (waited : Bool) (exit : Op
 settled_as terms start waited exit leaked count c piece it =
     rw (it.not_refused, it.wait_over, it.leaked_so)
     (ap (λ d. waited && (terms.skips_leak_detection || d || leaked))
-        (sym (done_as terms.streams piece) ∙ ap is_done (sym it.captured)))
+    (sym (done_as terms.streams piece) ∙ ap is_done (sym it.captured)))
 
 -- what its child's end makes its result
 pub result_as : (start : ℕ) (waited : Bool) (exit : Option ChildExit) (leaked : Bool) (c : Captured)

@@ -236,7 +236,7 @@ row_reads now Deciding (Decide word) u is en passed =
     by_given false e again = refl
     by_given true e again =
         let never : false ≡ true = sym (ap not (passed e)) ∙ first_so
-            (not (has_passed (last_status u.statuses))) _ again in
+        (not (has_passed (last_status u.statuses))) _ again in
         cc
 row_reads now Delay Due u is en none = left_so _ u _ refl none (record { env = refl; ready = tt })
 row_reads now Delay Take u is en none = left_so _ u _ refl none (leaves_taken now Delay u (ap awaits is))

@@ -41,13 +41,21 @@ IsFirstTry u = (r : ScriptRole) → u.role ≡ roles.Script r → u.attempt ≡ 
 
 slow_waits : (n : ℕ) (u : UnitView) → IsFirstTry u
     → reports_waiting (number u) (slow_report n u.role u ∷ [])
-    ≡ record { attempt = u.attempt; elapsed = slow_time u.terms.slow n; terminates =
-        is_out_of_time u.terms.slow n } ∷ []
+    ≡ record {
+      attempt = u.attempt;
+      elapsed = slow_time u.terms.slow n;
+      terminates =
+          is_out_of_time u.terms.slow n;
+    } ∷ []
 slow_waits n u first = by_role u.role refl
   where
     by_role : (role : UnitRole) → u.role ≡ role → reports_waiting (number_of role) (slow_report n role u ∷ [])
-        ≡ record { attempt = u.attempt; elapsed = slow_time u.terms.slow n; terminates =
-            is_out_of_time u.terms.slow n } ∷ []
+        ≡ record {
+          attempt = u.attempt;
+          elapsed = slow_time u.terms.slow n;
+          terminates =
+              is_out_of_time u.terms.slow n;
+        } ∷ []
     by_role (roles.Test t) is = rw (itself t.test.unit) refl
     by_role (roles.Script r) is = rw (itself r.script.unit, first r is) refl
 

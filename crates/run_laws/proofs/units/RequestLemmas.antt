@@ -39,7 +39,7 @@ at_take ph waited exit now request u piece on =
     subst (λ exit. IsAt u.terms u.timers.stopwatch.start waited exit false u.timers.slow_count u.capture
     (taken now Take request ∷ piece)) (quiet_said exit)
     (at_more u.terms u.timers.stopwatch.start waited exit false u.timers.slow_count u.capture now
-        Take request piece on.is_at
+    Take request piece on.is_at
     refl refl)
 
 -- a request that isn't heeded changes nothing of its attempt
@@ -58,10 +58,10 @@ quiet_made ph waited exit now request u piece earlier into is a (on, ss) goes_on
       going_more u.terms ph waited exit u (taken now Take request) piece it on.not_ended refl
           (waits_on ph waited exit u piece on)
           (λ still. timed_still u.terms u.timers.stopwatch u.latest (taken now Take request)
-              piece still goes_on on.watch)
+          piece still goes_on on.watch)
           on.pauses
           (timer_still u.terms ph u.timers u.latest (taken now Take request) piece refl refl refl
-              goes_on heeds on.timer),
+          goes_on heeds on.timer),
       ss,
     ))
   where
@@ -98,7 +98,7 @@ stopped_made ph waited exit now round u piece earlier into waits_is is latest a 
     (into (
       going_more u.terms ph waited exit v t piece it on.not_ended refl (waits_on ph waited exit u piece on)
           (λ still. subst (λ later. IsTimed u.terms (watch_paused now u.timers.stopwatch) later
-              (t ∷ piece)) (sym latest)
+          (t ∷ piece)) (sym latest)
           (timed_stop u.terms u.timers.stopwatch t piece still refl
           (subst (λ later. IsTimed u.terms u.timers.stopwatch later piece) latest on.watch))) on.pauses
           (subst (λ later. HasTimer u.terms ph (all_paused now u.timers) later (t ∷ piece)) (sym latest)
@@ -132,10 +132,10 @@ continued_made ph waited exit now u piece earlier into waits_is is latest a (on,
     (into (
       going_more u.terms ph waited exit v t piece
           (subst (λ start. IsAt u.terms start waited exit false u.timers.slow_count u.capture
-              (t ∷ piece)) (sym from) it)
+          (t ∷ piece)) (sym from) it)
           on.not_ended refl (waits_on ph waited exit u piece on)
           (λ still. subst (λ later. IsTimed u.terms (watch_resumed now u.timers.stopwatch) later
-              (t ∷ piece)) (sym latest)
+          (t ∷ piece)) (sym latest)
           (timed_continue u.terms u.timers.stopwatch t piece still refl
           (subst (λ later. IsTimed u.terms u.timers.stopwatch later piece) latest on.watch))) on.pauses
           (subst (λ later. HasTimer u.terms ph (all_resumed now u.timers) later (t ∷ piece)) (sym latest)
@@ -161,14 +161,14 @@ asked_made : (now : ℕ) (reason : ShutdownRequest) (u : UnitView) (piece : List
     → now ≤ u.latest → u.attempt ≡ length earlier + 1 → GoesOn u.terms Running false None u piece earlier
     → gives_time (Some (terminate_method (Signal reason) u.terms.slow.grace)) ≡ true
     → IsMade u.terms (asked_to_end now (Signal reason) Term u).next
-        (cut (taken now Take (Some (Shutdown reason)) ∷ piece) [] ∷ earlier)
+    (cut (taken now Take (Some (Shutdown reason)) ∷ piece) [] ∷ earlier)
 asked_made now reason u piece earlier le a (on, ss) gives =
     made_more v Grace t piece earlier refl a
     (began u.terms u.timers.stopwatch.start false None false u.timers.slow_count u.capture (t ∷ piece) it) (
       going_more u.terms Grace false None v t piece it on.not_ended refl refl
           (λ still. timed_still u.terms u.timers.stopwatch u.latest t piece still refl on.watch) on.pauses
           (timer_asked u.terms u.timers v.timers u.latest t piece le refl refl
-              on.is_at.wait_over on.timer refl refl refl
+          on.is_at.wait_over on.timer refl refl refl
           refl gives),
       ss,
     )
@@ -291,7 +291,7 @@ requested_delay : (now : ℕ) (request : Request) (u : UnitView) (piece : List O
     → u.phase ≡ Delay → u.latest ≡ now → u.attempt ≡ length earlier + 1 → u.timers.stopwatch.start ≡ start_of piece
     → IsDelayed u.terms u piece (d ∷ after) earlier
     → IsMade u.terms (requested now Delay request u).next (cut piece
-        (taken now Take (Some request) ∷ d ∷ after) ∷ earlier)
+    (taken now Take (Some request) ∷ d ∷ after) ∷ earlier)
 requested_delay now (Shutdown reason) u piece d after earlier ph latest a start h =
     retried_made (taken now Take (Some (Shutdown reason))) u piece d after earlier a start h refl refl
 requested_delay now OtherCancel u piece d after earlier ph latest a start h =

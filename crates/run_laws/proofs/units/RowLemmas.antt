@@ -86,9 +86,9 @@ exited_made now exit leaked c turn u piece earlier it none quiet done latest wat
         (awaiting_exited now exit leaked c turn u piece it none quiet done e latest watch, ss)
     by_env false e =
         made_more (ended now (result_of exit c.errors leaked u) (Output c.output c.errors) u)
-            Deciding (taken now turn None)
+        Deciding (taken now turn None)
         piece earlier refl a resumed (past_exited now exit leaked c turn u piece earlier it none
-            quiet done e watch a ss)
+        quiet done e watch a ss)
 
 -- its environment file was read, or could not be
 pub read_made : (now : ℕ) (input : EnvInput) (u : UnitView) (piece : List OwnTurn) (earlier : List Attempt)
@@ -98,9 +98,9 @@ pub read_made : (now : ℕ) (input : EnvInput) (u : UnitView) (piece : List OwnT
     (cut (taken now (Env input) None ∷ piece) [] ∷ earlier)
 read_made now input u piece earlier latest a start on ss =
     made_more (ended_with now (env_of input) u.exit u.leaked u.capture u) Deciding
-        (taken now (Env input) None) piece earlier
+    (taken now (Env input) None) piece earlier
     refl a (resumed_start u.timers.stopwatch now ∙ simp quiet_said start)
-        (past_read now input u piece earlier latest on a ss)
+    (past_read now input u piece earlier latest on a ss)
 
 -- an attempt whose child is waited for no more ends, or waits for its streams
 settled_made : (now : ℕ) (exit : Option ChildExit) (c : Captured) (turn : UnitTurn) (u : UnitView)
@@ -137,10 +137,10 @@ settled_made now exit c turn u piece earlier latest ends quiet it none watch pau
 
     held_timed : (still : is_settled u.terms (t ∷ piece) ≡ false)
         → IsTimed u.terms (if is_paused u.timers then watch_paused now u.timers.stopwatch else
-            u.timers.stopwatch) now (t ∷ piece)
+        u.timers.stopwatch) now (t ∷ piece)
     held_timed still =
         timed_still u.terms (if is_paused u.timers then watch_paused now u.timers.stopwatch else
-            u.timers.stopwatch) now t piece
+        u.timers.stopwatch) now t piece
         still refl (timed_held u.terms u.timers.stopwatch now piece (is_paused u.timers) refl watch)
 
     left_timed : is_settled u.terms (t ∷ piece) ≡ false
@@ -148,7 +148,7 @@ settled_made now exit c turn u piece earlier latest ends quiet it none watch pau
     left_timed still =
         subst (λ later. IsTimed u.terms (leaking now exit c u).timers.stopwatch later (t ∷ piece)) (sym latest)
         (subst (λ w. IsTimed u.terms w now (t ∷ piece))
-            (sym (held_watch now (is_paused u.timers) waiting)) (held_timed still))
+        (sym (held_watch now (is_paused u.timers) waiting)) (held_timed still))
 
     by_done : (b : Bool) → (u.terms.skips_leak_detection || is_done c) ≡ b
         → IsMade u.terms (if b then exited now exit false c u else leaking now exit c u)
@@ -201,7 +201,7 @@ heard_running ph now turn u piece earlier into phase a (on, ss) unrefused due en
     (into (
       going_more u.terms ph false None (having_captured turn u) (taken now turn None) piece it on.not_ended quiet refl
           (λ still. timed_still u.terms u.timers.stopwatch u.latest (taken now turn None) piece still
-              refl on.watch) on.pauses
+          refl on.watch) on.pauses
           (timer_still u.terms ph u.timers u.latest (taken now turn None) piece due ends starts refl
           (unheeded u.terms.slow (taken now turn None) piece refl) on.timer),
       ss,
@@ -214,7 +214,7 @@ heard_running ph now turn u piece earlier into phase a (on, ss) unrefused due en
         (heard_by u.capture turn) (taken now turn None ∷ piece)
     more_at =
         at_more u.terms u.timers.stopwatch.start false None false u.timers.slow_count u.capture now
-            turn None piece on.is_at
+        turn None piece on.is_at
         unrefused due
 
     it : IsAt u.terms u.timers.stopwatch.start false None false u.timers.slow_count c (taken now turn None ∷ piece)
@@ -236,7 +236,7 @@ heard_made now turn u piece earlier ph latest a (on, ss) unrefused due ends is q
         u.timers.slow_count (heard_by u.capture turn) (taken now turn None ∷ piece)
     more_at =
         at_more u.terms u.timers.stopwatch.start true u.exit false u.timers.slow_count u.capture now
-            turn None piece on.is_at
+        turn None piece on.is_at
         unrefused due
 
     it : IsAt u.terms u.timers.stopwatch.start true u.exit false u.timers.slow_count c (taken now turn None ∷ piece)
@@ -259,7 +259,7 @@ heard_made now turn u piece earlier ph latest a (on, ss) unrefused due ends is q
               piece it on.not_ended quiet
               (waits_further u.exit c u piece on e)
               (λ still. timed_still u.terms u.timers.stopwatch u.latest (taken now turn None) piece still
-                  refl on.watch) on.pauses
+              refl on.watch) on.pauses
               (timer_still u.terms Leak u.timers u.latest (taken now turn None) piece due ends starts refl
               (unheeded u.terms.slow (taken now turn None) piece refl) on.timer),
           ss,
@@ -276,10 +276,10 @@ started_made now pid u piece earlier le a (on, ss) =
       going_more u.terms Running false None (started now pid u) (taken now (Started pid) None) piece
           it on.not_ended refl refl
           (λ still. timed_still u.terms u.timers.stopwatch u.latest (taken now (Started pid) None)
-              piece still refl on.watch)
+          piece still refl on.watch)
           on.pauses
           (timer_started u.terms (started now pid u).timers now u.latest pid piece le refl
-              on.is_at.wait_over on.timer.stage.0
+          on.is_at.wait_over on.timer.stage.0
           on.timer.stage.1),
       ss,
     )

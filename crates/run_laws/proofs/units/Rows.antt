@@ -125,19 +125,39 @@ row_keeps now ph turn u is = by_open ph turn is (is_open ph) refl
   where
     closed : (ph : Phase) (turn : UnitTurn) → u.phase ≡ ph → is_open ph ≡ false → Keeps u (row_at now ph turn u).next
     closed Delay turn is e = (row_passes now turn u is).keeps
-    closed StartSent (Answered true) is e = record { role = refl; command = refl; around = refl;
-        terms = refl; latest = refl }
-    closed StartSent (Answered false) is e = record { role = refl; command = refl; around = refl;
-        terms = refl; latest = refl }
+    closed StartSent (Answered true) is e = record {
+      role = refl;
+      command = refl;
+      around = refl;
+      terms = refl;
+      latest = refl;
+    }
+    closed StartSent (Answered false) is e = record {
+      role = refl;
+      command = refl;
+      around = refl;
+      terms = refl;
+      latest = refl;
+    }
     closed StartSent turn is e = same u
     closed Deciding (Decide word) is e = decide_cases (λ r. Keeps u r.next) now word u
         (λ _. record { role = refl; command = refl; around = refl; terms = refl; latest = refl })
         (λ _. record { role = refl; command = refl; around = refl; terms = refl; latest = refl })
     closed Deciding turn is e = same u
-    closed RetrySent (Answered true) is e = record { role = refl; command = refl; around = refl;
-        terms = refl; latest = refl }
-    closed RetrySent (Answered false) is e = record { role = refl; command = refl; around = refl;
-        terms = refl; latest = refl }
+    closed RetrySent (Answered true) is e = record {
+      role = refl;
+      command = refl;
+      around = refl;
+      terms = refl;
+      latest = refl;
+    }
+    closed RetrySent (Answered false) is e = record {
+      role = refl;
+      command = refl;
+      around = refl;
+      terms = refl;
+      latest = refl;
+    }
     closed RetrySent turn is e = same u
     closed Over turn is e = same u
     closed ph turn is e = cc

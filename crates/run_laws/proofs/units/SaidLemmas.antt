@@ -67,7 +67,7 @@ pub said_still : (terms : AttemptTerms) (k : ℕ) (t : OwnTurn) (piece : List Ow
     → reports_waiting k (option_to_list r.sent) ≡ [] → IsSaid terms k t (cut piece [] ∷ earlier) r
 said_still terms k t piece earlier r goes undecided due none job asks sends =
     said_more terms k t piece earlier r goes undecided
-        (rw (signal_still terms.stops terms.slow t piece due none job, asks) refl)
+    (rw (signal_still terms.stops terms.slow t piece due none job, asks) refl)
     (rw (report_still terms.slow (length earlier + 1) t piece due) (sym sends))
 
 -- neither does any turn once its child has ended

@@ -72,7 +72,7 @@ said_asked now reason u piece earlier waited grace =
     said_more u.terms (number u) (taken now Take (Some (Shutdown reason))) piece earlier
     (requested now Running (Shutdown reason) u) refl refl
     (rw (waited, grace) (sym (ap (signals_for (number u)) (asked_signal now (Signal reason) signal u)
-        ∙ rw (itself (number u)) refl)))
+    ∙ rw (itself (number u)) refl)))
     (rw waited (sym (ap sends (sent_none now (Signal reason) signal u))))
   where
     signal : TermSignal
@@ -130,7 +130,7 @@ pub take_said_grace : (now : ℕ) (line : List Request) (u : UnitView) (piece : 
     → IsSaid u.terms (number u) (taken now Take (oldest line)) (cut piece [] ∷ earlier) (take_row now Grace line u)
 take_said_grace now (Shutdown reason ∷ line) u piece earlier waited grace =
     said_killed (taken now Take (Some (Shutdown reason))) (record u { line = line }) piece earlier
-        waited grace refl refl refl
+    waited grace refl refl refl
 take_said_grace now (Stop round ∷ line) u piece earlier waited grace =
     said_more u.terms (number u) (taken now Take (Some (Stop round))) piece earlier
     (take_row now Grace (Stop round ∷ line) u) refl refl (rw (waited, grace, itself (number u)) refl) (rw waited refl)

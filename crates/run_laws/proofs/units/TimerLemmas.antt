@@ -55,9 +55,14 @@ due_as now (Some t) sleep order keeps = rw keeps.1.0 (keeps_fires t keeps.0 now 
 pub keeps_stop : (now : ℕ) (t : Option Timer) (sleep : Option Sleep) → IsSetBy now t → KeepsSome t sleep
     → KeepsSome (option_map (marked pause now) t) (option_map (sleep_paused now) sleep)
 keeps_stop now None sleep order none = rw none refl
-keeps_stop now (Some t) sleep order keeps =
-    (sleep_paused now keeps.0, (ap (option_map (sleep_paused now)) keeps.1.0, keeps_paused t
-        keeps.0 now keeps.1.1 order))
+keeps_stop now (Some t) sleep order keeps = (
+  sleep_paused now keeps.0,
+  (
+    ap (option_map (sleep_paused now)) keeps.1.0,
+    keeps_paused t
+        keeps.0 now keeps.1.1 order,
+  ),
+)
 
 pub keeps_continue : (now : ℕ) (t : Option Timer) (sleep : Option Sleep) → IsSetBy now t → KeepsSome t sleep
     → KeepsSome (option_map (marked resume now) t) (option_map (sleep_resumed now) sleep)
@@ -265,7 +270,7 @@ timer_still terms ph timers latest t piece due ends starts goes_on heeds h = rec
   set_by = subst (IsSetBy latest) (sym (timer_of-still terms t piece due ends starts goes_on heeds)) h.set_by;
   waits_for =
       subst (λ timer. KeepsSome timer (waits ph timers)) (sym
-          (timer_of-still terms t piece due ends starts goes_on heeds))
+      (timer_of-still terms t piece due ends starts goes_on heeds))
       h.waits_for;
   stage = stage_still terms ph timers latest t piece due starts goes_on heeds h.stage;
 }
@@ -293,7 +298,7 @@ pub timer_killed : (terms : AttemptTerms) (before after : Timers) (latest : ℕ)
 timer_killed terms before after latest t piece same waited (child, grace, slow, set) ends starts goes_on over =
     timer_known terms Running after latest (t ∷ piece) (slow_timer terms piece)
     (timer_of-runs terms (t ∷ piece) (rw ends waited) left ∙ slow_timer-killed terms t piece grace
-        waited starts goes_on) set
+    waited starts goes_on) set
     (subst (KeepsSome (slow_timer terms piece)) (sym same) slow) (rw starts child, left)
   where
     left : is_in_grace terms.slow (t ∷ piece) ≡ false

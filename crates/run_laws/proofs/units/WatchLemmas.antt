@@ -144,7 +144,7 @@ timed_open terms watch now piece h is = h.times.paused_is ∙ ap is_open is
 -- timers that are held: their stopwatch, its start, and how often the attempt was slow
 pub held_watch : (now : ℕ) (stopped : Bool) (t : Timers)
     → (if stopped then all_paused now t else t).stopwatch ≡ (if stopped then watch_paused now
-        t.stopwatch else t.stopwatch)
+    t.stopwatch else t.stopwatch)
 held_watch now true t = refl
 held_watch now false t = refl
 

@@ -27,7 +27,7 @@ pub delay_marked : (retries : RetryPolicy) (t : OwnTurn) (piece : List OwnTurn) 
     → pause_at t.moment t.request ≡ marks
     → delay_timer retries (t ∷ d ∷ after) (cut piece (t ∷ d ∷ after) ∷ earlier)
     ≡ record (delay_timer retries (d ∷ after) (cut piece (d ∷ after) ∷ earlier))
-        { past = marks ++ pauses_in (d ∷ after) }
+    { past = marks ++ pauses_in (d ∷ after) }
 delay_marked retries t piece d after earlier marks none quiet is =
     ap (λ m. record {
       set = m;

@@ -9,7 +9,7 @@ returns-in-Ok-clause-once g c = λ none k below.
     let counted = sym c.requires.whole.amounts ∙ c.in-Ok.ensures.counted (c.requires.whole.parts ∙ c.requires.parts) in
     let same : c.left.result.live.receipts ≡ c.args.all.receipts = c.left.ensures.receipts ∙ c.in-Ok.ensures.back in
     let shorter : k < length c.in-Ok.closed.journal = subst (λ (es : List Entry). k < length es)
-        c.left.ensures.journal below in
+    c.left.ensures.journal below in
     rw same (c.in-Ok.ensures.receipts.once counted k shorter)
 
 pub returns-in-Ok-clause-stands : goal.returns-in-Ok-clause-stands

@@ -8,7 +8,7 @@ pub loop-share-preserved : goal.loop-share-preserved
 loop-share-preserved g c =
     let was = c.loop-share.invariant in let step = c.in-Some.ensures.steps in
     let P : Job g.row.L.Denot g.row.H-Worker.Denot → Type 0 = λ j. g.H.Worker.Spawner.has_said j.worker []
-        × IsOneEmpty j.share.parts j.share.amount in
+    × IsOneEmpty j.share.parts j.share.amount in
     let one : IsOneEmpty c.in-Some.share.parts c.in-Some.share.amount =
     let h = was.2 0 c.in-Some.share in grind rules in (
       search rules,

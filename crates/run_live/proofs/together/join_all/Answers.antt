@@ -8,7 +8,7 @@ pub loop-one-preserved : goal.loop-one-preserved
 loop-one-preserved g c =
     let was = c.loop-one.invariant in let step = c.in-Some.ensures.steps in
     let P : Done g.row.L.Denot g.row.W.Denot → Type 0 = λ d. IsWork g.W.Spawner.has_said d.worker d.share.parts
-        d.share.amount d.receipts in (
+    d.share.amount d.receipts in (
       search rules,
       rw c.push_reserved.ensures.items (All-push P c.loop-one.all.items c.join_one.result was.1 c.join_one.ensures),
       (λ k d below. let h = was.2 (k + 1) d in grind rules),

@@ -12,10 +12,10 @@ pub loop-job-preserved : goal.loop-job-preserved
 loop-job-preserved g c =
     let was = c.loop-job.invariant in let step = c.in-Some.ensures.steps in
     let P : Result (PromisedHandle (Done g.row.L.Denot g.row.W.Denot) OwnWork)
-        (Done g.row.L.Denot g.row.W.Denot) → Type 0 =
+    (Done g.row.L.Denot g.row.W.Denot) → Type 0 =
     λ r. IfErr r (λ d. IsWork g.W.Spawner.has_said d.worker d.share.parts d.share.amount d.receipts) in
     let Q : Job g.row.L.Denot g.row.W.Denot → Type 0 = λ j. g.W.Spawner.has_said j.worker []
-        × IsOneEmpty j.share.parts j.share.amount in (
+    × IsOneEmpty j.share.parts j.share.amount in (
       search rules,
       rw c.push_reserved.ensures.items (All-push P c.loop-job.all.items c.start.result was.1 c.start.ensures),
       all_after Q _ _ c.in-Some.job step.0 was.2,

@@ -13,7 +13,7 @@ returns-in-Err-clause-fault c =
     (sym (cut_joined xss i xs c.loop-list-test.true c.list-item.is))
     (fault_after c.args.journal.now c.args.seen.now c.loop-list.seen (concatenated (take i xss)) xs
     (concatenated (drop (i + 1) xss)) c.in-Err.kind c.loop-list.invariant
-        (rw c.as_slice.ensures at c.in-Err.ensures.fault))
+    (rw c.as_slice.ensures at c.in-Err.ensures.fault))
 
 pub loop-list-preserved : goal.loop-list-preserved
 loop-list-preserved c =

@@ -65,9 +65,9 @@ room_of-room-requires c =
     let many : length c.give_in_group.new.groups ≡ v.groups.len =
     omega (arith, ap length after, length_give_in v.groups.items claim.group c.in-InUse.group claim.weight) in
     λ g u e. within_of v.waiting c.give_back.new.self (with_items v.groups c.give_in_group.new.groups).items
-        v.claims.items (set v.seats.items c.args.test Gone)
+    v.claims.items (set v.seats.items c.args.test Gone)
     (release_kept v.waiting v.whole c.give_back.new.self v.groups.items
-        (with_items v.groups c.give_in_group.new.groups).items v.claims.items v.seats.items c.args.test _ _
+    (with_items v.groups c.give_in_group.new.groups).items v.claims.items v.seats.items c.args.test _ _
     claim w.kept can of c.give_back.ensures (with_items_is v.groups c.give_in_group.new.groups many ∙ after)) g u
     (ap (λ l. slice_get l g) (sym c.deref.ensures.value) ∙ e)
 
@@ -108,8 +108,8 @@ invariant_of-self c =
     c.unwrap_or-line.result c.unwrap_or-line.ensures in
     release_ready v.waiting v.whole _ v.groups.items (with_items v.groups c.give_in_group.new.groups).items v.lines
     c.refresh.new.self v.order.items v.claims.items v.seats.items c.args.test _ c.unwrap_or-line.result
-        c.room_of-room.result _ claim w can of c.give_back.ensures
-        (with_items_is v.groups c.give_in_group.new.groups many ∙ after) low
+    c.room_of-room.result _ claim w can of c.give_back.ensures
+    (with_items_is v.groups c.give_in_group.new.groups many ∙ after) low
     (λ h e. c.unwrap_or-line.ensures ∙ ap (λ o. unwrap_or o c.len.result) e)
     (c.room_of-room.ensures ∙ ap (λ l. room_of l c.unwrap_or-line.result) c.deref.ensures.value) c.refresh.ensures
 

@@ -69,14 +69,14 @@ room_of-room-requires c =
     let many : length c.take_in_group-group.new.groups ≡ v.groups.len =
     omega (arith, ap length after, length_take_in v.groups.items claim.group c.args.test claim.weight) in
     λ g u e. within_of (v.waiting - 1) c.take-global.new.self
-        (with_items v.groups c.take_in_group-group.new.groups).items v.claims.items
+    (with_items v.groups c.take_in_group-group.new.groups).items v.claims.items
     (set v.seats.items c.args.test (InUse c.take-global.result c.take_in_group-group.result))
     (run_kept v.waiting (v.waiting - 1) v.whole c.take-global.new.self v.groups.items
-        (with_items v.groups c.take_in_group-group.new.groups).items v.claims.items
+    (with_items v.groups c.take_in_group-group.new.groups).items v.claims.items
     v.seats.items c.args.test c.take-global.result c.take_in_group-group.result claim w.kept is of
     c.take-global.ensures.slot (c.take_in_group-group.ensures.slot
-        ∙ ap (λ l. free_within l claim.group) c.deref_mut.ensures.value) c.take-global.ensures.after
-        (with_items_is v.groups c.take_in_group-group.new.groups many ∙ after)
+    ∙ ap (λ l. free_within l claim.group) c.deref_mut.ensures.value) c.take-global.ensures.after
+    (with_items_is v.groups c.take_in_group-group.new.groups many ∙ after)
     (omega (
       arith,
       w.kept.waits,
@@ -214,13 +214,13 @@ invariant_of-self c =
     omega (arith, ap length after, length_take_in v.groups.items claim.group c.args.test claim.weight) in
     run_ready v.waiting v.whole _ v.groups.items (with_items v.groups c.take_in_group-group.new.groups).items v.lines
     c.leave.new.self c.refresh.new.self v.order.items v.claims.items v.seats.items c.first-first.result
-        c.args.test _ c.line_of-line.result
+    c.args.test _ c.line_of-line.result
     c.room_of-room.result _ claim w is
     (first_is v.waiting v.whole v.groups.items v.lines v.order.items v.claims.items v.seats.items c.first-first.result w
     c.first-first.ensures (Fits c.args.test) is) of c.take-global.ensures.slot
     (c.take_in_group-group.ensures.slot ∙ ap (λ l. free_within l claim.group) c.deref_mut.ensures.value)
     c.take-global.ensures.after (with_items_is v.groups c.take_in_group-group.new.groups many
-        ∙ after) own c.leave.ensures
+    ∙ after) own c.leave.ensures
     (c.room_of-room.ensures ∙ ap (λ l. room_of l c.line_of-line.result) c.deref-2.ensures.value) c.refresh.ensures
 
 pub returns-clause-admitted : goal.returns-clause-admitted
@@ -252,7 +252,7 @@ returns-clause-after c =
     let many : length c.take_in_group-group.new.groups ≡ v.groups.len =
     omega (arith, ap length after, length_take_in v.groups.items claim.group c.args.test claim.weight) in
     run_seen v.waiting v.whole _ v.groups.items (with_items v.groups c.take_in_group-group.new.groups).items
-        v.claims.items v.seats.items c.args.test _ _ claim w.kept is of
+    v.claims.items v.seats.items c.args.test _ _ claim w.kept is of
     c.take-global.ensures.slot
     (c.take_in_group-group.ensures.slot ∙ ap (λ l. free_within l claim.group) c.deref_mut.ensures.value)
     c.take-global.ensures.after (with_items_is v.groups c.take_in_group-group.new.groups many ∙ after)

@@ -28,7 +28,7 @@ leave-requires-clause-line c =
     let read = get_or_read v.claims.items c.args.test c.index.result.now (omega (arith, can.0, w.kept.paired))
     c.index.ensures nobody.0 in
     let of : c.line_of-line.result ≡ line_of (map (λ (u : Use). u.limit) v.groups.items)
-        (get_or v.claims.items c.args.test nobody.0) =
+    (get_or v.claims.items c.args.test nobody.0) =
     c.line_of-line.ensures ∙ ap (λ l. line_of (map (λ (u : Use). u.limit) l) c.index.result.now) c.deref.ensures.value
     ∙ ap (line_of (map (λ (u : Use). u.limit) v.groups.items)) read in
     let at = in_line v.waiting v.whole v.groups.items v.lines v.order.items v.claims.items v.seats.items
@@ -46,7 +46,7 @@ leave-requires-clause-test c =
     let read = get_or_read v.claims.items c.args.test c.index.result.now (omega (arith, can.0, w.kept.paired))
     c.index.ensures nobody.0 in
     let of : c.line_of-line.result ≡ line_of (map (λ (u : Use). u.limit) v.groups.items)
-        (get_or v.claims.items c.args.test nobody.0) =
+    (get_or v.claims.items c.args.test nobody.0) =
     c.line_of-line.ensures ∙ ap (λ l. line_of (map (λ (u : Use). u.limit) l) c.index.result.now) c.deref.ensures.value
     ∙ ap (line_of (map (λ (u : Use). u.limit) v.groups.items)) read in
     let at = in_line v.waiting v.whole v.groups.items v.lines v.order.items v.claims.items v.seats.items
@@ -64,7 +64,7 @@ leave-requires-clause-place c =
     let read = get_or_read v.claims.items c.args.test c.index.result.now (omega (arith, can.0, w.kept.paired))
     c.index.ensures nobody.0 in
     let of : c.line_of-line.result ≡ line_of (map (λ (u : Use). u.limit) v.groups.items)
-        (get_or v.claims.items c.args.test nobody.0) =
+    (get_or v.claims.items c.args.test nobody.0) =
     c.line_of-line.ensures ∙ ap (λ l. line_of (map (λ (u : Use). u.limit) l) c.index.result.now) c.deref.ensures.value
     ∙ ap (line_of (map (λ (u : Use). u.limit) v.groups.items)) read in
     let at = in_line v.waiting v.whole v.groups.items v.lines v.order.items v.claims.items v.seats.items
@@ -82,7 +82,7 @@ refresh-requires c =
     let read = get_or_read v.claims.items c.args.test c.index.result.now (omega (arith, can.0, w.kept.paired))
     c.index.ensures nobody.0 in
     let of : c.line_of-line.result ≡ line_of (map (λ (u : Use). u.limit) v.groups.items)
-        (get_or v.claims.items c.args.test nobody.0) =
+    (get_or v.claims.items c.args.test nobody.0) =
     c.line_of-line.ensures ∙ ap (λ l. line_of (map (λ (u : Use). u.limit) l) c.index.result.now) c.deref.ensures.value
     ∙ ap (line_of (map (λ (u : Use). u.limit) v.groups.items)) read in
     let at = in_line v.waiting v.whole v.groups.items v.lines v.order.items v.claims.items v.seats.items
@@ -122,7 +122,7 @@ invariant_of-self c =
     let read = get_or_read v.claims.items c.args.test c.index.result.now (omega (arith, can.0, w.kept.paired))
     c.index.ensures nobody.0 in
     let of : c.line_of-line.result ≡ line_of (map (λ (u : Use). u.limit) v.groups.items)
-        (get_or v.claims.items c.args.test nobody.0) =
+    (get_or v.claims.items c.args.test nobody.0) =
     c.line_of-line.ensures ∙ ap (λ l. line_of (map (λ (u : Use). u.limit) l) c.index.result.now) c.deref.ensures.value
     ∙ ap (line_of (map (λ (u : Use). u.limit) v.groups.items)) read in
     skip_ready v.waiting v.whole v.groups.items v.lines c.leave.new.self c.refresh.new.self v.order.items v.claims.items

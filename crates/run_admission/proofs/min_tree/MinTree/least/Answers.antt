@@ -16,7 +16,7 @@ loop-low-preserved-then-low-eq1 c =
     subst (IsSought nodes _ c.args.from c.args.to (l.low + 1) l.high)
     (sym (c.min-least.ensures
     ∙ ap (min l.least) (get_or_read nodes l.low c.index.result.now
-        (omega (arith, l.invariant.inside)) c.index.ensures 0)))
+    (omega (arith, l.invariant.inside)) c.index.ensures 0)))
     (sought_low nodes _ c.args.from c.args.to l.low l.high l.least l.invariant (omega arith))
 
 pub loop-low-preserved-then-high-eq1 : goal.loop-low-preserved-then-high-eq1
