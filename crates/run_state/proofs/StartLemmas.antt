@@ -1,6 +1,6 @@
 -- A sub-run before any unit was admitted: what its tests hold of the limits, and the dispatcher before any turn.
 use Rattle.std.proofs.Common.{◌≡◌, ℕ, ◌+◌, ◌-◌, ◌<◌, List, [], length, get_or, Option, None, refl, ap, ap₂, sym, ◌∙◌}
-use Rattle.std.proofs.Common.{map, drop}
+use Rattle.std.proofs.Common.{map, drop, zero, suc, ◌∷◌}
 use Rattle.std.proofs.Common.{replicate, Some, subst, arith}
 use Rattle.std.proofs.lemmas.List.{ext_get_or, get_or-replicate, length-replicate, get_or-map, length-map}
 use Rattle.std.proofs.lemmas.List.{get_or-drop, length-drop}
@@ -32,6 +32,12 @@ waits us n many none long =
     waiting : (i : ℕ) → i < length (drop n us) → get_or (map seat_of (drop n us)) i Waiting ≡ Waiting
     waiting i inside =
         get_or-map seat_of (drop n us) i None Waiting inside ∙ ap seat_of (get_or-drop n us i None ∙ none (n + i))
+
+-- of units that were forgotten none was admitted
+pub forgotten : (us : List (Option UnitView)) (k : ℕ) → get_or (map {B = Option UnitView} (λ _. None) us) k None ≡ None
+forgotten [] k = refl
+forgotten (u ∷ us) zero = refl
+forgotten (u ∷ us) (suc k) = forgotten us k
 
 -- so the limits as a sub-run begins are those of these units
 pub limits-anew : (p : Settings) (us : List (Option UnitView)) → ((k : ℕ) → get_or us k None ≡ None)

@@ -29,8 +29,8 @@ impl Drop for Kept {
     }
 }
 
-/// So many units, none of which was admitted, and the limits, of which no test holds anything.
-pub fn new_parts(alloc: Global, settings: &Settings, count: usize) -> Mem<(Units, Admission)>
+// So many units, none of which was admitted, and the limits, of which no test holds anything.
+fn new_parts(alloc: Global, settings: &Settings, count: usize) -> Mem<(Units, Admission)>
     requires few { count < 2 ^ 32 }
     requires tests { length settings.now.plan.tests < 2 ^ 32 }
     ensures count { IfOk result (λ parts. length parts.0 ≡ count) }

@@ -11,7 +11,6 @@ ghost use Rattle.run_state.specs.Held.{KeepsSeats};
 
 use crate::broadcast::broadcast;
 use crate::effects::{Effects, telling};
-use crate::kept::new_parts;
 use crate::state::State;
 use crate::units::Units;
 use run_admission::Admission;
@@ -19,7 +18,7 @@ use run_capture::Mem;
 use run_events::Settings;
 use std::alloc::Global;
 
-// As many units again, none of which was admitted, and limits of which no test holds anything.
+// No unit is admitted any more, and no test holds anything of the limits.
 fn renew(
     alloc: Global,
     settings: &Settings,
@@ -33,9 +32,10 @@ fn renew(
         OnOk result (admission.new ≡ limits_begun settings.now.threads plan.groups plan.tests) }
     ensures err { OnErr result ((units.new ≡ units.old) × (admission.new ≡ admission.old)) }
 {
-    let (new_units, new_admission) = new_parts(alloc, settings, units.len())?;
-    *units = new_units;
-    *admission = new_admission;
+    let groups = settings.plan.groups.as_slice();
+    let tests = settings.plan.tests.as_slice();
+    *admission = Admission::new(alloc, settings.threads, groups, tests)?;
+    units.forget();
     Ok(())
 }
 

@@ -241,6 +241,17 @@ impl Units {
         reach_each(alloc, self.items.as_mut_slice(), request)
     }
 
+    /// None is admitted any more. Takes no memory.
+    pub fn forget(&mut self)
+        ensures count { length self.new ≡ length self.old }
+        ensures none { (k : ℕ) → slice_index_or self.new k None ≡ None }
+    {
+        forget_each(self.items.as_mut_slice());
+        self.left = self.items.len();
+        self.live = 0;
+        self.working.truncate(0);
+    }
+
     /// A unit that wasn't admitted is.
     pub fn admit(&mut self, place: u32, unit: Unit) -> Mem<()>
         requires within { place < length self.old }
@@ -313,6 +324,15 @@ fn put(units: &mut Vec<Option<Unit>>, place: usize, unit: Unit)
     ensures { units.new.items ≡ slice_set units.old.items place (Some unit) }
 {
     units[place] = Some(unit);
+}
+
+// None of these is admitted any more.
+fn forget_each(units: &mut [Option<Unit>])
+    ensures { units.new ≡ map (λ _. None) units.old }
+{
+    for unit in units.iter_mut() {
+        *unit = None;
+    }
 }
 
 /// So many units, none of which was admitted.
