@@ -1,15 +1,16 @@
 -- The plan of a generated run, and how its children exit, by counts.
 use Rattle.std.proofs.Common.{◌≡◌, ◌≢◌, ℕ, zero, suc, pos, ◌+◌, ◌-◌, ◌/◌, ◌%◌, ◌==◌, ◌&&◌, ◌||◌, map, count_by}
-use Rattle.std.proofs.Common.{Bool, true, false, cond, if◌then◌else◌, Some, None, is_some, codes, refl, ap, sym, ◌∙◌}
-use Rattle.std.proofs.Common.{arith}
+use Rattle.std.proofs.Common.{Bool, true, false, cond, if◌then◌else◌, Some, None, is_none, is_some, codes, refl, ap}
+use Rattle.std.proofs.Common.{sym, ◌∙◌, arith}
 use Rattle.std.specs.List.{range_with_len}
 use Rattle.std.proofs.lemmas.Bool.Decides.{nat_tests}
 use Rattle.std.proofs.lemmas.List.FromFn.{length-map-range_with_len, sum_by-map-range_with_len_more}
 use Rattle.run_events.specs.declared.result.ChildExit.TheVariants.{Code}
+use Rattle.run_count_laws.specs.PlanLimits.{is_of_group}
 use Rattle.run_generate.specs.Plan.{test_at}
 use Rattle.run_generate.specs.Turns.{exit_at}
-use Rattle.run_generate_laws.specs.Counts.{HasCounts, HasFailures, count_of, failures, is_failure, is_grouped}
-use Rattle.run_generate_laws.specs.Counts.{is_retried, is_skipped, weighs}
+use Rattle.run_generate_laws.specs.Counts.{HasCounts, HasFailures, count_of, failures, is_failure, is_retried}
+use Rattle.run_generate_laws.specs.Counts.{is_skipped, is_ungrouped, weighs}
 
 -- a count that grows with each number as it says is the total
 counted : {X : Type 0} (is : X → Bool) (make : ℕ → X) (total : ℕ → ℕ) → total 0 ≡ 0
@@ -32,11 +33,22 @@ skipped_more n = by_test (n % 11 == 10) refl
     by_test true is = let rest : n % 11 ≡ 10 = grind (arith, nat_tests) in omega arith
     by_test false is = let rest : n % 11 ≢ 10 = grind (arith, nat_tests) in omega arith
 
-grouped_more : (n : ℕ) → (n + 1 + 4) / 5 ≡ (n + 4) / 5 + cond (is_grouped (test_at n)) 1 0
+grouped_more : (n : ℕ) → (n + 1 + 4) / 5 ≡ (n + 4) / 5 + cond (is_of_group (codes "g") (test_at n)) 1 0
 grouped_more n = by_test (n % 5 == 0) refl
   where
     by_test : (b : Bool) → (n % 5 == 0) ≡ b
-        → (n + 1 + 4) / 5 ≡ (n + 4) / 5 + cond (is_some (if b then Some (codes "g") else None)) 1 0
+        → (n + 1 + 4) / 5
+        ≡ (n + 4) / 5 + cond (is_of_group (codes "g")
+        (record (test_at n) { group = if b then Some (codes "g") else None })) 1 0
+    by_test true is = let rest : n % 5 ≡ 0 = grind (arith, nat_tests) in omega arith
+    by_test false is = let rest : n % 5 ≢ 0 = grind (arith, nat_tests) in omega arith
+
+ungrouped_more : (n : ℕ) → n + 1 - (n + 1 + 4) / 5 ≡ n - (n + 4) / 5 + cond (is_ungrouped (test_at n)) 1 0
+ungrouped_more n = by_test (n % 5 == 0) refl
+  where
+    by_test : (b : Bool) → (n % 5 == 0) ≡ b
+        → n + 1 - (n + 1 + 4) / 5
+        ≡ n - (n + 4) / 5 + cond (is_none (if b then Some (codes "g") else None)) 1 0
     by_test true is = let rest : n % 5 ≡ 0 = grind (arith, nat_tests) in omega arith
     by_test false is = let rest : n % 5 ≢ 0 = grind (arith, nat_tests) in omega arith
 
@@ -81,7 +93,11 @@ pub counts : (n : ℕ) → HasCounts n
 counts n = record {
   tests = length-map-range_with_len test_at 0 n;
   skipped = counted is_skipped test_at (λ n. n / 11) refl skipped_more n;
-  grouped = counted is_grouped test_at (λ n. (n + 4) / 5) refl grouped_more n;
+  grouped = counted (is_of_group (codes "g")) test_at (λ n. (n + 4) / 5) refl grouped_more n;
+  ungrouped =
+      let rest : count_of is_ungrouped n ≡ n - (n + 4) / 5 =
+      counted is_ungrouped test_at (λ n. n - (n + 4) / 5) refl ungrouped_more n in
+      omega arith;
   retried = counted (is_retried 1) test_at (λ n. (n + 3) / 7) refl retried_more n;
   untried =
       let rest : count_of (is_retried 0) n ≡ n - (n + 3) / 7 =

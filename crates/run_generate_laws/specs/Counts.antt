@@ -1,6 +1,6 @@
 -- The plan of a generated run, and how its children exit, by counts.
 use Rattle.std.specs.Prelude.{ℕ, zero, pos, ◌≡◌, ◌≢◌, ◌+◌, ◌/◌, ◌==◌, List, length, map, count_by, Bool, true, false}
-use Rattle.std.specs.Prelude.{Some, is_some}
+use Rattle.std.specs.Prelude.{Some, is_none, is_some, codes}
 use Rattle.std.specs.List.{range_with_len}
 use Rattle.run_events.specs.declared.plan.PlanTest.{PlanTest}
 use Rattle.run_events.specs.declared.result.ChildExit.{ChildExit}
@@ -11,6 +11,7 @@ use Rattle.run_model.specs.Attempts.{attempt_in, pieces_of}
 use Rattle.run_model.specs.Backoff.{retry_count}
 use Rattle.run_model.specs.Journal.{IsLegal, past_of}
 use Rattle.run_model.specs.Words.{sub_run}
+use Rattle.run_count_laws.specs.PlanLimits.{is_of_group}
 use Rattle.run_generate.specs.Plan.{generated_plan, generated_settings}
 use Rattle.run_generate.specs.Turns.{exit_at, next_turn}
 
@@ -18,12 +19,12 @@ use Rattle.run_generate.specs.Turns.{exit_at, next_turn}
 abbrev pub count_of : (PlanTest → Bool) → ℕ → ℕ
 count_of is n = count_by is (generated_plan n).tests
 
--- whether a test is skipped, is in a group, takes so much of the limits, and is tried again so often
+-- whether a test is skipped, is in no group, takes so much of the limits, and is tried again so often
 abbrev pub is_skipped : PlanTest → Bool
 is_skipped test = is_some test.skip
 
-abbrev pub is_grouped : PlanTest → Bool
-is_grouped test = is_some test.group
+abbrev pub is_ungrouped : PlanTest → Bool
+is_ungrouped test = is_none test.group
 
 abbrev pub weighs : ℕ → PlanTest → Bool
 weighs weight test = test.weight == weight
@@ -31,12 +32,14 @@ weighs weight test = test.weight == weight
 abbrev pub is_retried : ℕ → PlanTest → Bool
 is_retried count test = retry_count test.retries == count
 
--- of n tests every eleventh is skipped; every fifth is in a group, from the first on; every seventh is tried again, and
--- once, from the fourth on; and every third takes 1 of the limits, from the first on, 2, from the second on, or 3
+-- of n tests every eleventh is skipped; every fifth is in the group `g`, from the first on, and the others in none;
+-- every seventh is tried again, and once, from the fourth on; and every third takes 1 of the limits, from the first on,
+-- 2, from the second on, or 3
 pub record HasCounts (n : ℕ) : Type 0 where
   pub tests : length (generated_plan n).tests ≡ n
   pub skipped : count_of is_skipped n ≡ n / 11
-  pub grouped : count_of is_grouped n ≡ (n + 4) / 5
+  pub grouped : count_of (is_of_group (codes "g")) n ≡ (n + 4) / 5
+  pub ungrouped : count_of is_ungrouped n + (n + 4) / 5 ≡ n
   pub retried : count_of (is_retried 1) n ≡ (n + 3) / 7
   pub untried : count_of (is_retried 0) n + (n + 3) / 7 ≡ n
   pub light : count_of (weighs 1) n ≡ (n + 2) / 3

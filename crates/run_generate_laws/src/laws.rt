@@ -8,8 +8,8 @@ pub fn generated_runs_end()
     ensures { RunsEnd }
 {}
 
-/// Of the tests of a generated plan, in order, every eleventh is skipped, every fifth is in a group, every seventh is
-/// tried again once, and every third takes each of the weights 1, 2 and 3.
+/// Of the tests of a generated plan, in order, every eleventh is skipped, every fifth is in the group `g` and the
+/// others in none, every seventh is tried again once, and every third takes each of the weights 1, 2 and 3.
 pub fn generated_plans_are_counted()
     ensures { PlansAreCounted }
 {}
