@@ -156,7 +156,7 @@ first_own false u m k (ph, is) apart = rw is (by_role u.role apart)
     by_role (roles.Test t) apart = rw apart refl
     by_role (roles.Script s) apart = rw apart refl
 
-same_number : (a b : ℕ) → (a == b) ≡ true → b ≡ a
+pub same_number : (a b : ℕ) → (a == b) ≡ true → b ≡ a
 same_number a b e = grind arith
 
 -- so once unit j is over, nothing more of it is sent

@@ -1,6 +1,6 @@
 -- Which keys can come, and what each does.
 use Rattle.std.proofs.Common.{◌≡◌, inl, inr, ℕ, ◌&&◌, ◌==◌, ◌++◌, List, [], ◌∷◌, Bool, true, false, not, Option}
-use Rattle.std.proofs.Common.{if◌then◌else◌, Some, None, is_some, option_map, reverse, refl, ap, sym, subst, ◌∙◌, arith}
+use Rattle.std.proofs.Common.{if◌then◌else◌, Some, None, is_some, option_map, reverse, refl, ap, sym, subst, ◌∙◌}
 use Rattle.std.specs.Cmp.{first_so, second_so}
 use Rattle.std.proofs.lemmas.List.{reverse-append}
 use Rattle.run_events.specs.Hearing.{heard_key, pressed}
@@ -48,12 +48,10 @@ use Rattle.run_laws.proofs.told.Bounds.{IsBound, IsBoundKind, begin_cases, end_c
 use Rattle.run_cancel_laws.specs.Enabled.{is_free}
 use Rattle.run_cancel_laws.specs.Keys.{ComesAsKnown, DoesAsItsKey, IsKnown, TellsAlone, asks_in, enter, enters_in}
 use Rattle.run_cancel_laws.specs.Keys.{letter_t}
+use Rattle.run_cancel_laws.proofs.Behind.{same_number}
 use Rattle.run_cancel_laws.proofs.RoundTurns.{keys_so}
 
 -- a key that is heard is one of those
-same_number : (a b : ℕ) → (a == b) ≡ true → a ≡ b
-same_number a b e = grind arith
-
 pressed_known : (code : KeyCode) (modified : Bool) → is_some (pressed code modified) ≡ true
     → IsKnown (record { code = code; modified = modified; press = true })
 pressed_known Enter modified some = inr (modified, refl)
@@ -63,7 +61,7 @@ pressed_known (Char c) modified some = by_char (c == 116) modified refl some
         → is_some (if b && not modified then Some inputs.Info else None) ≡ true
         → IsKnown (record { code = Char c; modified = modified; press = true })
     by_char true false is some =
-        inl (ap (λ n. record { code = Char n; modified = false; press = true }) (same_number c 116 is))
+        inl (ap (λ n. record { code = Char n; modified = false; press = true }) (sym (same_number c 116 is)))
     by_char true true is some = cc
     by_char false modified is some = cc
 

@@ -243,10 +243,10 @@ agrees p (e ∷ before) legal k =
     by_run was (inr before) = subst (AgreesOf p k) (sym before.still) refl
 
 -- so each turn asks what is asked
-stops_is : (i : Interceptor) → sends_sigtstp i ≡ stops_with_run i
-stops_is under.None = refl
-stops_is (under.Debugger words) = refl
-stops_is (under.Tracer words) = refl
+sends_sigtstp-is : (i : Interceptor) → sends_sigtstp i ≡ stops_with_run i
+sends_sigtstp-is under.None = refl
+sends_sigtstp-is (under.Debugger words) = refl
+sends_sigtstp-is (under.Tracer words) = refl
 
 pub asks_stops : (p : Settings) (journal : List Entry) (e : Entry) → IsLegal p (journal ++ e ∷ [])
     → AsksItsStops p (sub_run (past_of p journal)) (happening p (past_of p journal) e)
@@ -276,4 +276,4 @@ asks_stops p journal e legal k = by_begin d.begins refl
         (steps_after p k (clock past) run d (now.reported k) (agrees p (reverse journal) backward.2 k)).asks
         ∙ ap (λ stops. job_for (is_awaited k run && (is_ending k run || stops))
         (is_awaited k run && (is_ending k run || is_stopped_unit k run)) (request_in k run d.part))
-        (stops_by_terms p k ∙ stops_is p.interceptor)
+        (stops_by_terms p k ∙ sends_sigtstp-is p.interceptor)

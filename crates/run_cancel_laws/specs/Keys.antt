@@ -16,7 +16,7 @@ use Rattle.run_model.specs.Turns.{enabled, happening}
 use Rattle.run_model.specs.Words.{sub_run}
 use Rattle.run_cancel_laws.specs.Enabled.{is_free}
 
--- the press of `t`, the 116th character, with no modifier; that of enter, with one or with none
+-- the press of `t`, whose code is 116, with no modifier; that of enter, with one or with none
 abbrev pub letter_t : Key
 letter_t = record { code = Char 116; modified = false; press = true }
 

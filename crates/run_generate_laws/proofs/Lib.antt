@@ -16,3 +16,5 @@ mod Known
 mod Course
 mod Back
 mod Short
+mod CountLemmas
+mod ExitLemmas
