@@ -9,7 +9,7 @@ use Rattle.run_events.specs.declared.result.ChildExit.TheVariants.{Code}
 use Rattle.run_count_laws.specs.PlanLimits.{is_of_group}
 use Rattle.run_generate.specs.Plan.{test_at}
 use Rattle.run_generate.specs.Turns.{exit_at}
-use Rattle.run_generate_laws.specs.Counts.{HasCounts, HasFailures, count_of, failures, is_failure, is_retried}
+use Rattle.run_generate_laws.specs.Counts.{HasCounts, HasFailures, tests_that, failed_at, exits_badly, is_repeated}
 use Rattle.run_generate_laws.specs.Counts.{is_skipped, is_ungrouped, weighs}
 
 -- a count that grows with each number as it says is the total
@@ -52,7 +52,7 @@ ungrouped_more n = by_test (n % 5 == 0) refl
     by_test true is = let rest : n % 5 ≡ 0 = grind (arith, nat_tests) in omega arith
     by_test false is = let rest : n % 5 ≢ 0 = grind (arith, nat_tests) in omega arith
 
-retried_more : (n : ℕ) → (n + 1 + 3) / 7 ≡ (n + 3) / 7 + cond (is_retried 1 (test_at n)) 1 0
+retried_more : (n : ℕ) → (n + 1 + 3) / 7 ≡ (n + 3) / 7 + cond (is_repeated 1 (test_at n)) 1 0
 retried_more n = by_test (n % 7 == 3) refl
   where
     by_test : (b : Bool) → (n % 7 == 3) ≡ b
@@ -60,7 +60,7 @@ retried_more n = by_test (n % 7 == 3) refl
     by_test true is = let rest : n % 7 ≡ 3 = grind (arith, nat_tests) in omega arith
     by_test false is = let rest : n % 7 ≢ 3 = grind (arith, nat_tests) in omega arith
 
-untried_more : (n : ℕ) → n + 1 - (n + 1 + 3) / 7 ≡ n - (n + 3) / 7 + cond (is_retried 0 (test_at n)) 1 0
+untried_more : (n : ℕ) → n + 1 - (n + 1 + 3) / 7 ≡ n - (n + 3) / 7 + cond (is_repeated 0 (test_at n)) 1 0
 untried_more n = by_test (n % 7 == 3) refl
   where
     by_test : (b : Bool) → (n % 7 == 3) ≡ b
@@ -95,13 +95,13 @@ counts n = record {
   skipped = counted is_skipped test_at (λ n. n / 11) refl skipped_more n;
   grouped = counted (is_of_group (codes "g")) test_at (λ n. (n + 4) / 5) refl grouped_more n;
   ungrouped =
-      let rest : count_of is_ungrouped n ≡ n - (n + 4) / 5 =
+      let rest : tests_that is_ungrouped n ≡ n - (n + 4) / 5 =
       counted is_ungrouped test_at (λ n. n - (n + 4) / 5) refl ungrouped_more n in
       omega arith;
-  retried = counted (is_retried 1) test_at (λ n. (n + 3) / 7) refl retried_more n;
+  retried = counted (is_repeated 1) test_at (λ n. (n + 3) / 7) refl retried_more n;
   untried =
-      let rest : count_of (is_retried 0) n ≡ n - (n + 3) / 7 =
-      counted (is_retried 0) test_at (λ n. n - (n + 3) / 7) refl untried_more n in
+      let rest : tests_that (is_repeated 0) n ≡ n - (n + 3) / 7 =
+      counted (is_repeated 0) test_at (λ n. n - (n + 3) / 7) refl untried_more n in
       omega arith;
   light = counted (weighs 1) test_at (λ n. (n + 2) / 3) refl light_more n;
   middle = counted (weighs 2) test_at (λ n. (n + 1) / 3) refl middle_more n;
@@ -109,25 +109,25 @@ counts n = record {
 }
 
 -- the attempts that fail
-later_more : (attempt n : ℕ) → attempt ≢ 1 → (n + 1) / 13 ≡ n / 13 + cond (is_failure (exit_at n attempt)) 1 0
+later_more : (attempt n : ℕ) → attempt ≢ 1 → (n + 1) / 13 ≡ n / 13 + cond (exits_badly (exit_at n attempt)) 1 0
 later_more attempt n other = by_test (n % 13 == 12) (n % 7 == 3) (attempt == 1) refl (grind (arith, nat_tests))
   where
     by_test : (b c first : Bool) → (n % 13 == 12) ≡ b → first ≡ false
         → (n + 1) / 13
-        ≡ n / 13 + cond (is_failure (Code (if b || (c && first) then pos 1 else pos 0))) 1 0
+        ≡ n / 13 + cond (exits_badly (Code (if b || (c && first) then pos 1 else pos 0))) 1 0
     by_test true c first is off = let rest : n % 13 ≡ 12 = grind (arith, nat_tests) in omega arith
     by_test false true true is off = cc
     by_test false true false is off = let rest : n % 13 ≢ 12 = grind (arith, nat_tests) in omega arith
     by_test false false first is off = let rest : n % 13 ≢ 12 = grind (arith, nat_tests) in omega arith
 
 first_more : (n : ℕ) → (n + 1) / 13 + (n + 1 + 3) / 7 - (n + 1 + 52) / 91
-    ≡ n / 13 + (n + 3) / 7 - (n + 52) / 91 + cond (is_failure (exit_at n 1)) 1 0
+    ≡ n / 13 + (n + 3) / 7 - (n + 52) / 91 + cond (exits_badly (exit_at n 1)) 1 0
 first_more n = by_test (n % 13 == 12) (n % 7 == 3) refl refl
   where
     by_test : (b c : Bool) → (n % 13 == 12) ≡ b → (n % 7 == 3) ≡ c
         → (n + 1) / 13 + (n + 1 + 3) / 7 - (n + 1 + 52) / 91
         ≡ n / 13 + (n + 3) / 7 - (n + 52) / 91
-        + cond (is_failure (Code (if b || (c && true) then pos 1 else pos 0))) 1 0
+        + cond (exits_badly (Code (if b || (c && true) then pos 1 else pos 0))) 1 0
     by_test true true is tries =
         let rest : n % 13 ≡ 12 = grind (arith, nat_tests) in
         let again : n % 7 ≡ 3 = grind (arith, nat_tests) in
@@ -148,9 +148,9 @@ first_more n = by_test (n % 13 == 12) (n % 7 == 3) refl refl
 pub fails_so : (n : ℕ) → HasFailures n
 fails_so n = record {
   first =
-      let rest : failures 1 n ≡ n / 13 + (n + 3) / 7 - (n + 52) / 91 =
-      counted is_failure (λ k. exit_at k 1) (λ n. n / 13 + (n + 3) / 7 - (n + 52) / 91) refl first_more n in
+      let rest : failed_at 1 n ≡ n / 13 + (n + 3) / 7 - (n + 52) / 91 =
+      counted exits_badly (λ k. exit_at k 1) (λ n. n / 13 + (n + 3) / 7 - (n + 52) / 91) refl first_more n in
       omega arith;
   later = λ attempt other.
-      counted is_failure (λ k. exit_at k attempt) (λ n. n / 13) refl (λ n. later_more attempt n other) n;
+      counted exits_badly (λ k. exit_at k attempt) (λ n. n / 13) refl (λ n. later_more attempt n other) n;
 }
