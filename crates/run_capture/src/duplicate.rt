@@ -15,7 +15,7 @@ pub trait Duplicate: Sized {
 pub fn copies<T: Duplicate + Drop>(alloc: Global, items: &[T]) -> Mem<Vec<T>>
     ensures { IfOk result (λ v. v.items ≡ items.now) }
 {
-    let mut vec = Vec::new(alloc);
+    let mut vec = Vec::with_capacity(alloc, items.len())?;
     for item in items {
         vec.push(item.copy(alloc)?)?;
     }

@@ -32,6 +32,13 @@ impl<T> List<T> {
         List { vec: None }
     }
 
+    /// No items, with room for so many.
+    pub fn with_capacity(alloc: Global, count: usize) -> Mem<List<T>>
+        ensures { IfOk result (λ l. l ≡ []) }
+    {
+        Ok(List::from_vec(Vec::with_capacity(alloc, count)?))
+    }
+
     /// Takes a `Vec`, and no memory.
     pub fn from_vec(vec: Vec<T>) -> List<T>
         ensures { result ≡ vec.items }

@@ -130,7 +130,7 @@ pub fn text_or(alloc: Global, usual: &str, value: Option<&Value>) -> Result<Text
 pub fn texts_in(alloc: Global, items: &[Value]) -> Result<List<Text>, LineError>
     ensures { ReadsValue result (texts_from (items_view items.now)) }
 {
-    let mut texts = List::new();
+    let mut texts = List::with_capacity(alloc, items.len())?;
     for item in items {
         texts.push(alloc, text_at(alloc, Some(item))?)?;
     }
@@ -161,7 +161,7 @@ pub fn texts_or_none(alloc: Global, value: Option<&Value>) -> Result<List<Text>,
 fn numbers_in(alloc: Global, items: &[Value]) -> Result<List<u32>, LineError>
     ensures { ReadsValue result (numbers_from (items_view items.now)) }
 {
-    let mut numbers = List::new();
+    let mut numbers = List::with_capacity(alloc, items.len())?;
     for item in items {
         let number = u32_at(Some(item)).ok_or(LineError::NotInTable)?;
         numbers.push(alloc, number)?;

@@ -1,5 +1,5 @@
 // The oldest message is delivered.
-ghost use Rattle.std.specs.Prelude.{◌≡◌, ◌≤◌, IfOk, OnOk};
+ghost use Rattle.std.specs.Prelude.{◌≡◌, ◌≤◌, ◌++◌, [], IfOk, OnOk, IsNone, option_to_list};
 ghost use Rattle.run_model.specs.Board.{moved, deed_events, reach_all};
 ghost use Rattle.run_model.specs.Turns.{starting, answer_to, delivery};
 ghost use Rattle.run_laws.specs.Ready.{CanAnswer, CanDeliverOldest};
@@ -14,6 +14,22 @@ use run_dispatch::DispatchEffects;
 use run_events::{Ask, Message, Request, Settings};
 use run_model::UnitTurn;
 use std::alloc::Global;
+use std::collections::VecDeque;
+
+// Room for so many messages is kept where none waits.
+const ROOM_KEPT: usize = 64;
+
+// Takes the oldest message. Where none is left, the room that many of them took is given back.
+fn take_oldest(queue: &mut VecDeque<Message>) -> Option<Message>
+    ensures taken { queue.old.items ≡ option_to_list result ++ queue.new.items }
+    ensures none { IsNone result → queue.old.items ≡ [] }
+{
+    let oldest = queue.pop_front();
+    if queue.is_empty() && queue.capacity() > ROOM_KEPT {
+        queue.shrink_to_fit();
+    }
+    oldest
+}
 
 // The unit whose start, or retry, a message is.
 fn starting(message: &Message) -> Option<u32>
@@ -89,7 +105,7 @@ pub fn deliver(alloc: Global, settings: &Settings, state: &mut State) -> Mem<Eff
     ensures asked { let deed = delivery state.old.board state.old.board.queue in
         IfOk result (λ effects. effects.asked ≡ deed.asked) }
 {
-    match state.queue.pop_front() {
+    match take_oldest(&mut state.queue) {
         Some(message) => {
             let unit = starting(&message);
             let now = state.clock;

@@ -16,9 +16,9 @@ returns-clause-after c =
       clock = c.state.inside.clock;
       refused = c.state.inside.refused;
     } in
-    let rest = c.pop_front.new.self.items in
+    let rest = c.take_oldest.new.queue.items in
     let waits : c.state.inside.queue.items ≡ c.in-Some.message ∷ rest =
-    c.pop_front.ensures.items ∙ ap (λ m. option_to_list m ++ rest) c.in-Some.is in
+    c.take_oldest.ensures.taken ∙ ap (λ m. option_to_list m ++ rest) c.in-Some.is in
     let x : Board = record b { queue = rest; dispatcher = c.deliver.new.self } in
     delivered b x (moved x (answer_to x c.starting-unit.result c.in_ok-events-in-Some.field-0.go))
     c.heed.new.state.board
@@ -40,8 +40,8 @@ returns-clause-told c =
       refused = c.state.inside.refused;
     } in
     c.in_ok-events-in-Some.ensures.does.told
-    ∙ delivery_tells b c.in-Some.message c.pop_front.new.self.items
-    (c.pop_front.ensures.items ∙ ap (λ m. option_to_list m ++ c.pop_front.new.self.items) c.in-Some.is)
+    ∙ delivery_tells b c.in-Some.message c.take_oldest.new.queue.items
+    (c.take_oldest.ensures.taken ∙ ap (λ m. option_to_list m ++ c.take_oldest.new.queue.items) c.in-Some.is)
     ∙ ap (λ (h : Held). deed_events (delivery h.board h.board.queue)) c.state.view_is
 
 pub invariant_of-state-in-Some : goal.invariant_of-state-in-Some
