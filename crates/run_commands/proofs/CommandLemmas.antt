@@ -1,5 +1,24 @@
 -- What reading a command to its end gives.
-use Rattle.std.proofs.Common.{◌≡◌, ◌≢◌, false, ℕ, zero, suc, ◌<◌, List, [], ◌∷◌, length, Result, Ok, Err, refl, ap, sym, ◌∙◌}
+use Rattle.std.proofs.Common.{
+  ◌≡◌,
+  ◌≢◌,
+  false,
+  ℕ,
+  zero,
+  suc,
+  ◌<◌,
+  List,
+  [],
+  ◌∷◌,
+  length,
+  Result,
+  Ok,
+  Err,
+  refl,
+  ap,
+  sym,
+  ◌∙◌,
+}
 use Rattle.std.proofs.Common.{arith, is_some, IfOk, IfErr, Some, None, subst}
 use Rattle.std.proofs.Math.Seq.{take-length}
 use Rattle.std.proofs.lemmas.Option.{none-some, same_Some}
@@ -110,7 +129,8 @@ read_some : (text : List ℕ) (words : List (List ℕ)) (read : Read) → readin
     → some_words read ≡ Some words → IsCommand text words
 read_some text words (Ok []) is e = absurd (none-some words e)
 read_some text words (Ok (word ∷ more)) is e =
-    subst (IsCommand text) (same_Some _ _ e) (record { read = read_stands text (word ∷ more) is; some = has_some word more })
+    subst (IsCommand text) (same_Some _ _ e)
+    (record { read = read_stands text (word ∷ more) is; some = has_some word more })
 read_some text words (Err place) is e = absurd (none-some words e)
 
 -- command words are those of the grammar

@@ -178,7 +178,8 @@ pub found_bound : {F : Type 0} (key : List ℕ) (rows : List (Bor (List ℕ) × 
     → row_place key rows < length rows
 found_bound key [] e = absurd (cc)
 found_bound key (row ∷ rows) e =
-    found_by (slice_cmp nat_cmp key row.0.now) (has_key key rows) (row_place key rows) (length rows) e (found_bound key rows)
+    found_by (slice_cmp nat_cmp key row.0.now) (has_key key rows) (row_place key rows) (length rows)
+    e (found_bound key rows)
 
 -- what stands there is replaced
 starts_above_there : {F : Type 0} (low : List ℕ) (rows : List (Bor (List ℕ) × F)) (n : ℕ) (d : Bor (List ℕ) × F)

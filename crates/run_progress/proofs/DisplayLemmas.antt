@@ -84,7 +84,8 @@ parts-push test status start before slow ends continues paused =
     = omega (arith, pauses-push before ends paused) in
     rw total (elim slow as (λ b. record (parts test status start before (b || false) ends)
     { paused = min (min (pauses before ends) (2 ^ 64 - 1) + (paused - last_or before ends)) (2 ^ 64 - 1) }
-    ≡ paused_more (paused - last_or before ends) (parts test status start before b ends)) [ true ↦ refl | false ↦ refl ])
+    ≡ paused_more (paused - last_or before ends) (parts test status start before b ends))
+    [ true ↦ refl | false ↦ refl ])
 
 -- a running test after one more event
 running_test-push : (test : TestInstanceId) (status : RunningTestStatus) (start before : ℕ) (later : List TestEvent)

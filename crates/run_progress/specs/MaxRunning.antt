@@ -56,7 +56,8 @@ error_message OutOfMemory = codes "out of memory"
 -- this is the error's message, and its kind is what std finds wrong with the text
 abbrev pub IsMessage : List ℕ → List ℕ → Type 0
 IsMessage text message = (kind : IntErrorKind)
-    × IsParseIntError 10 text (without_leading_plus text) kinds.PosOverflow kind × (message ≡ number_error_text text kind)
+    × IsParseIntError 10 text (without_leading_plus text) kinds.PosOverflow kind
+    × (message ≡ number_error_text text kind)
 
 -- why a text is refused: it says nothing, and the message tells what is wrong with it
 abbrev pub RefusesText : List ℕ → MaxProgressError → Type 0

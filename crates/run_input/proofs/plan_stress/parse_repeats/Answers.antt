@@ -11,7 +11,8 @@ returns-in-Ok-Count c =
 
 pub returns-in-Ok-Infinite : goal.returns-in-Ok-Infinite
 returns-in-Ok-Infinite c =
-    sym (says_word c.args.text.now (says_same c.args.text.now _ _ c.in-Ok-Infinite.field-0-is c.in-Ok-Infinite.ensures.ok))
+    sym (says_word c.args.text.now (says_same c.args.text.now _ _ c.in-Ok-Infinite.field-0-is
+    c.in-Ok-Infinite.ensures.ok))
 
 pub returns-in-Err : goal.returns-in-Err
 returns-in-Err c = sym (says_nothing c.args.text.now c.in-Err.ensures.err)
