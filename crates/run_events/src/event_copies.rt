@@ -6,22 +6,24 @@ use crate::TestEventKind;
 use run_capture::{Duplicate, Mem};
 use std::alloc::Global;
 
-// Whether an event is of one script or test.
-fn is_of_unit(kind: &TestEventKind) -> bool
-    ensures { result ≡ is_of_unit kind.now }
-{
-    matches!(
-        kind,
-        TestEventKind::SetupScriptStarted(_)
-            | TestEventKind::SetupScriptSlow(_)
-            | TestEventKind::SetupScriptFinished(_)
-            | TestEventKind::TestStarted(_)
-            | TestEventKind::TestSlow(_)
-            | TestEventKind::TestAttemptFailedWillRetry(_)
-            | TestEventKind::TestRetryStarted(_)
-            | TestEventKind::TestFinished(_)
-            | TestEventKind::TestSkipped(_)
-    )
+impl TestEventKind {
+    /// Whether it is of one script or test.
+    pub fn is_of_unit(&self) -> bool
+        ensures { result ≡ is_of_unit self.now }
+    {
+        matches!(
+            self,
+            TestEventKind::SetupScriptStarted(_)
+                | TestEventKind::SetupScriptSlow(_)
+                | TestEventKind::SetupScriptFinished(_)
+                | TestEventKind::TestStarted(_)
+                | TestEventKind::TestSlow(_)
+                | TestEventKind::TestAttemptFailedWillRetry(_)
+                | TestEventKind::TestRetryStarted(_)
+                | TestEventKind::TestFinished(_)
+                | TestEventKind::TestSkipped(_)
+        )
+    }
 }
 
 // A copy of an event of one script or test.
@@ -81,7 +83,7 @@ fn copy_of_run(alloc: Global, kind: &TestEventKind) -> Mem<TestEventKind>
 
 impl Duplicate for TestEventKind {
     fn copy(&self, alloc: Global) -> Mem<TestEventKind> {
-        if is_of_unit(self) {
+        if self.is_of_unit() {
             copy_of_unit(alloc, self)
         } else {
             copy_of_run(alloc, self)

@@ -143,18 +143,20 @@ fn copy_wait_failed(alloc: Global, unit: u32, error: &Text) -> Mem<Turn>
     Ok(Turn::WaitFailed { unit, error })
 }
 
-// Whether a turn holds text or bytes.
-fn has_bytes(turn: &Turn) -> bool
-    ensures { result ≡ has_bytes turn.now }
-{
-    matches!(
-        turn,
-        Turn::StartFailed { .. }
-            | Turn::WaitFailed { .. }
-            | Turn::Piece { .. }
-            | Turn::ReadError { .. }
-            | Turn::Env { .. }
-    )
+impl Turn {
+    /// Whether it holds text or bytes.
+    pub fn has_bytes(&self) -> bool
+        ensures { result ≡ has_bytes self.now }
+    {
+        matches!(
+            self,
+            Turn::StartFailed { .. }
+                | Turn::WaitFailed { .. }
+                | Turn::Piece { .. }
+                | Turn::ReadError { .. }
+                | Turn::Env { .. }
+        )
+    }
 }
 
 // A copy of a turn that holds text or bytes.
@@ -223,7 +225,7 @@ fn copy_plain(turn: &Turn) -> Turn
 
 impl Duplicate for Turn {
     fn copy(&self, alloc: Global) -> Mem<Turn> {
-        if has_bytes(self) {
+        if self.has_bytes() {
             copy_bytes(alloc, self)
         } else {
             Ok(copy_plain(self))

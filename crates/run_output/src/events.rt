@@ -54,24 +54,6 @@ fn event_name(kind: &TestEventKind) -> &'static str
     }
 }
 
-// Whether an event is of one script or test.
-fn is_of_unit(kind: &TestEventKind) -> bool
-    ensures { result ≡ is_of_unit kind.now }
-{
-    matches!(
-        kind,
-        TestEventKind::SetupScriptStarted(_)
-            | TestEventKind::SetupScriptSlow(_)
-            | TestEventKind::SetupScriptFinished(_)
-            | TestEventKind::TestStarted(_)
-            | TestEventKind::TestSlow(_)
-            | TestEventKind::TestAttemptFailedWillRetry(_)
-            | TestEventKind::TestRetryStarted(_)
-            | TestEventKind::TestFinished(_)
-            | TestEventKind::TestSkipped(_)
-    )
-}
-
 fn with_unit_kind<'a>(object: Object<Field<'a>>, kind: &'a TestEventKind) -> Mem<Object<Field<'a>>>
     requires { is_of_unit kind.now ≡ true }
     ensures { IfOk result (λ o. members_of field_data o
@@ -118,7 +100,7 @@ fn with_kind<'a>(object: Object<Field<'a>>, kind: &'a TestEventKind) -> Mem<Obje
     ensures { IfOk result (λ o. members_of field_data o
         ≡ put_all (kind_fields kind.now) (members_of field_data object.entry)) }
 {
-    if is_of_unit(kind) {
+    if kind.is_of_unit() {
         with_unit_kind(object, kind)
     } else {
         with_run_kind(object, kind)

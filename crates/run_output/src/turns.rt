@@ -273,20 +273,6 @@ fn print_bare(alloc: Global, out: &mut Printer, turn: &Turn) -> Mem<()>
     }
 }
 
-// Whether a turn holds text or bytes.
-fn has_bytes(turn: &Turn) -> bool
-    ensures { result ≡ has_bytes turn.now }
-{
-    matches!(
-        turn,
-        Turn::StartFailed { .. }
-            | Turn::WaitFailed { .. }
-            | Turn::Piece { .. }
-            | Turn::ReadError { .. }
-            | Turn::Env { .. }
-    )
-}
-
 fn print_bytes(alloc: Global, out: &mut Printer, turn: &Turn) -> Mem<()>
     requires { has_bytes turn.now ≡ true }
     ensures { Prints result out.old out.new (data_tokens (turn_data turn.now)) }
@@ -334,7 +320,7 @@ pub(crate) fn print_turn(alloc: Global, out: &mut Printer, turn: &Turn) -> Mem<(
 {
     if is_bare(turn) {
         print_bare(alloc, out, turn)
-    } else if has_bytes(turn) {
+    } else if turn.has_bytes() {
         print_bytes(alloc, out, turn)
     } else {
         print_numbers(alloc, out, turn)
