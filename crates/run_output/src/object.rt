@@ -27,7 +27,7 @@ impl<F: Printed + Copy> Object<F> {
         ensures { IfOk result (λ o. members_of F.printed o ≡ no_members) }
     {
         Ok(Object {
-            rows: Vec::with_capacity(alloc, 16)?,
+            rows: Vec::with_capacity(alloc, 14)?,
         })
     }
 

@@ -36,7 +36,7 @@ impl Printer {
         ensures { IfOk result (λ p. p ≡ []) }
     {
         Ok(Printer {
-            out: Writer::new(Vec::with_capacity(alloc, 256)?),
+            out: Writer::new(Vec::with_capacity(alloc, 1000)?),
         })
     }
 
