@@ -55,9 +55,10 @@ fn first_unit(state: &State, turn: &UnitTurn) -> Option<u32>
     ensures none { IsNone result → NoneTakes state.now.board turn.now
         (length state.now.board.units) }
 {
-    for unit in state.units.working() {
-        if state.units.takes(*unit, turn, state.clock) {
-            return Some(*unit);
+    for place in 0..state.units.working_count() {
+        let unit = state.units.working_at(place);
+        if state.units.takes(unit, turn, state.clock) {
+            return Some(unit);
         }
     }
     None

@@ -23,6 +23,7 @@ use run_events::Request;
 use run_model::{Phase, UnitTurn};
 use run_unit::{Unit, UnitEffects};
 use std::alloc::Global;
+use std::collections::VecDeque;
 use std::marker::Model;
 
 /// Each script and test of the plan, once it was admitted, with counts of those that aren't over and of those that are
@@ -36,7 +37,7 @@ pub struct Units {
     /// How many are live.
     live: u32,
     /// The numbers of those that were admitted and aren't over, in ascending order.
-    working: Vec<u32>,
+    working: VecDeque<u32>,
 }
 
 impl Model for Units {
@@ -83,7 +84,7 @@ impl Units {
             items,
             left,
             live: 0,
-            working: Vec::new(alloc),
+            working: VecDeque::new(alloc),
         }
     }
 
@@ -108,12 +109,21 @@ impl Units {
         }
     }
 
-    /// The numbers of those that were admitted and aren't over, in ascending order.
-    pub fn working(&self) -> &[u32]
-        ensures { result.now ≡ working_in self.now }
+    /// How many were admitted and aren't over.
+    pub fn working_count(&self) -> usize
+        ensures { result ≡ length (working_in self.now) }
     {
         let _ = &self.items;
-        self.working.as_slice()
+        self.working.len()
+    }
+
+    /// The number of one of those, by its place among them in ascending order.
+    pub fn working_at(&self, place: usize) -> u32
+        requires { place < length (working_in self.now) }
+        ensures { result ≡ slice_index_or (working_in self.now) place 0 }
+    {
+        let _ = &self.items;
+        self.working[place]
     }
 
     // The least moment at which the timer of a unit is due.
@@ -131,8 +141,8 @@ impl Units {
         ensures { IsDueFrom (λ now. list_any (λ unit. unit_takes now unit Due) self.now) result }
     {
         let mut first = None;
-        for unit in self.working.as_slice() {
-            first = sooner(first, self.due_of(*unit));
+        for place in 0..self.working_count() {
+            first = sooner(first, self.due_of(self.working_at(place)));
         }
         first
     }

@@ -1,5 +1,4 @@
-use Rattle.std.proofs.Common.{◌≡◌, ◌⊎◌, ℕ, Ok, Err, ap, sym, subst, ◌∙◌}
-use Rattle.std.specs.List.{insert}
+use Rattle.std.proofs.Common.{◌≡◌, ◌⊎◌, ℕ, Ok, Err, sym, subst, ◌∙◌}
 use Rattle.run_state.proofs.WorkingLemmas.{put-near}
 use Rattle.run_state.proofs.working.put_in.Goals as goal
 use Rattle.run_state.proofs.working.put_in.Goals.{in-Ok, in-Ok-2}
@@ -8,9 +7,8 @@ pub returns-in-Ok-insert-clause-ok : goal.returns-in-Ok-insert-clause-ok
 returns-in-Ok-insert-clause-ok c flags is inside off =
     let place = c.match-binary_search.place in
     c.in-Ok-insert.ensures.items
-    ∙ ap (λ ns. insert ns place c.args.number) (sym c.as_slice.ensures.value)
-    ∙ put-near c.as_slice.result.now flags c.args.number c.binary_search.result place
-    (c.as_slice.ensures.value ∙ is) inside off c.binary_search.ensures.position at
+    ∙ put-near c.args.numbers.now.items flags c.args.number c.binary_search.result place is inside off
+    c.binary_search.ensures.position at
   where
     ends : ℕ → Type 0
     ends place = (c.binary_search.result ≡ Ok place) ⊎ (c.binary_search.result ≡ Err place)

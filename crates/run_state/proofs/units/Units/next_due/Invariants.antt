@@ -6,7 +6,7 @@ use Rattle.run_model.specs.Turns.{unit_takes}
 use Rattle.run_state.specs.Counted.{working_in}
 use Rattle.run_state.proofs.units.Units.next_due.Given as goal
 
-abbrev pub invariant-loop-unit : goal.invariant-loop-unit
-invariant-loop-unit l =
-    IsDueFrom (λ now. list_any (λ k. unit_takes now (get_or l.self k None) Due) (take l.unit-index (working_in l.self)))
+abbrev pub invariant-loop-place : goal.invariant-loop-place
+invariant-loop-place l =
+    IsDueFrom (λ now. list_any (λ k. unit_takes now (get_or l.self k None) Due) (take l.place (working_in l.self)))
     l.first
