@@ -1,5 +1,6 @@
 // A sub-run begins, and ends.
-ghost use Rattle.std.specs.Prelude.{◌≡◌, ◌+◌, ◌≤◌, ◌<◌, ◌^◌, ◌++◌, IfOk, OnErr, None, Some, option_map, option_to_list};
+ghost use Rattle.std.specs.Prelude.{◌≡◌, ◌+◌, ◌≤◌, ◌<◌, ◌^◌, ◌++◌, ◌∷◌, [], IfOk, OnErr, None, Some};
+ghost use Rattle.std.specs.Prelude.{option_map, option_to_list};
 ghost use Rattle.run_events.specs.Outcome.{summary};
 ghost use Rattle.run_model.specs.Board.{deed_events};
 ghost use Rattle.run_model.specs.Dispatch.{no_causes, no_rounds, tally_from};
@@ -186,6 +187,23 @@ fn stress_finale(view: &DispatcherView, condition: &StressCondition) -> RunFinis
     RunFinishedStats::Stress(stress_stats(condition, runs, last))
 }
 
+// Some events, and then the end of a stress run.
+fn with_finale(
+    alloc: Global,
+    view: &DispatcherView,
+    condition: &StressCondition,
+    events: List<ReporterEvent>,
+    now: u64,
+) -> Mem<List<ReporterEvent>>
+    requires count { CanCount view.now.sub_runs }
+    requires timed { view.now.watch.latest ≤ now }
+    ensures { IfOk result (λ all. all
+        ≡ events ++ run_finished now view.now (stress_finale view.now condition.now) ∷ []) }
+{
+    let finale = run_finished(alloc, view, stress_finale(view, condition), now)?;
+    with_event(alloc, events, Some(finale))
+}
+
 // What is told as a sub-run of a stress run ends, and whether the run ends with it.
 fn stress_events(
     alloc: Global,
@@ -205,8 +223,7 @@ fn stress_events(
     if !over {
         return Ok((events, over));
     }
-    let finale = stress_finale(view, condition);
-    events.push(alloc, run_finished(alloc, view, finale, now)?)?;
+    let events = with_finale(alloc, view, condition, events, now)?;
     Ok((events, over))
 }
 

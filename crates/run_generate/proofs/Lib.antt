@@ -4,3 +4,5 @@ mod AcceptLemmas
 mod Attempts
 mod ChildLemmas
 mod WayLemmas
+mod ShortLemmas
+mod CountLemmas

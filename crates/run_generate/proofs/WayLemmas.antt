@@ -1,15 +1,13 @@
 -- A generated run on its way stays so, turn by turn.
-use Rattle.std.proofs.Common.{◌≡◌, ◌⊎◌, inl, inr, ℕ, zero, suc, ◌+◌, ◌-◌, ◌<◌, ◌≤◌, ◌*◌, ◌^◌, ◌==◌, min, List, [], ◌∷◌}
-use Rattle.std.proofs.Common.{◌++◌, length, map, zip, take}
-use Rattle.std.proofs.Common.{slice_get, nat_lt, reverse, Bool, true, false, if◌then◌else◌, Option, Some, None, is_some}
-use Rattle.std.proofs.Common.{option_map}
-use Rattle.std.proofs.Common.{option_to_list, get_or, Result, Err, refl, ap, sym, subst, ◌∙◌, arith, length-append}
+use Rattle.std.proofs.Common.{◌≡◌, inl, inr, ℕ, zero, suc, ◌+◌, ◌<◌, ◌==◌, List, [], ◌∷◌, ◌++◌, length, take, slice_get}
+use Rattle.std.proofs.Common.{nat_lt, Bool, true, false, if◌then◌else◌, Option, Some, None, is_some, Result, Err, refl}
+use Rattle.std.proofs.Common.{ap, sym, subst, ◌∙◌, arith, length-append}
 use Rattle.std.specs.BTreeMap.{BTreeMap, get}
 use Rattle.std.specs.Ordering.{nat_cmp}
 use Rattle.std.specs.declared.convert.Infallible.{Infallible}
 use Rattle.std.proofs.lemmas.Bool.Decides.{nat_tests}
 use Rattle.std.specs.Option.{option_or}
-use Rattle.std.proofs.lemmas.List.{append-nil, length-map, take-append-le}
+use Rattle.std.proofs.lemmas.List.{take-append-le}
 use Rattle.std.proofs.lemmas.Option.{same_Some, slice_get_within}
 use Rattle.run_events.specs.declared.ask.Ask.{Ask}
 use Rattle.run_events.specs.declared.ask.Ask.TheVariants.{Start, Signal, StopSelf}
@@ -22,34 +20,27 @@ use Rattle.run_model.specs.declared.happening.Happening.{Happening}
 use Rattle.run_model.specs.declared.unit_view.UnitView.{UnitView}
 use Rattle.run_model.specs.Admission.{AreFew}
 use Rattle.run_model.specs.Board.{board, unit_in}
-use Rattle.run_model.specs.Journal.{history, past_of, IsLegal, IsLegalBackward, outcome}
+use Rattle.run_model.specs.Journal.{past_of, IsLegal}
 use Rattle.run_model.specs.Turns.{enabled, happening}
-use Rattle.run_model.specs.Unit.{is_live}
-use Rattle.run_model.specs.Words.{answers, clock, events_in, sub_run, told}
+use Rattle.run_model.specs.Words.{clock, sub_run}
 use Rattle.run_laws.proofs.board.Kept.{holds}
 use Rattle.run_laws.proofs.board.OnBoard.{unit_in-is}
-use Rattle.run_laws.proofs.board.Ready.{past_of-length}
 use Rattle.run_engine.specs.Heard.{IsHeard}
 use Rattle.run_engine.specs.Settling.{first_settled, Settles}
-use Rattle.run_engine.specs.Refused.{IsRefused}
 use Rattle.run_engine.specs.Standing.{IsRunnable, sound}
 use Rattle.run_engine.specs.Starts.{start_among, starts_of}
-use Rattle.run_engine.specs.World.{World, IsUntouched, Outside, TakesTurn, entry_of, flagged, history_of}
+use Rattle.run_engine.specs.World.{World, IsUntouched, Outside, TakesTurn, entry_of}
 use Rattle.run_engine.proofs.JournalLemmas.{legal-push, past_of-push}
 use Rattle.run_engine.proofs.StartsLemmas.{starts-push}
-use Rattle.run_engine.specs.declared.errors.StepError.{StepError}
-use Rattle.run_engine.specs.declared.errors.StepError.TheVariants as steps
-use Rattle.run_generate.specs.Generated.{StopsShort, error_of_step}
 use Rattle.run_generate.specs.OnWay.{counts, IsOnWay, KeepsAttempts, Notes, TakesNext, board_of, attempts_noted}
 use Rattle.run_generate.specs.OnWay.{waiting_start}
 use Rattle.run_generate.specs.Turns.{IsGenerated, last_as, last_turn, made_turn, next_turn, turn_after}
 use Rattle.run_generate.specs.declared.child.Last.{Last}
 use Rattle.run_generate.specs.declared.child.Last.TheVariants as lasts
-use Rattle.run_generate.specs.declared.generated.GenerateError.TheVariants as errors
 use Rattle.run_generate.specs.declared.hearers.Counter.{Counter}
 use Rattle.run_generate.specs.declared.hearers.Deaf.{Deaf}
 use Rattle.run_generate.specs.declared.on_way.OnWay.{OnWay}
-use Rattle.run_generate.proofs.Attempts.{attempts_after, ComesFrom, IsLiveAt, AsksFor, AsksNone}
+use Rattle.run_generate.proofs.Attempts.{attempts_after, ComesFrom, AsksNone}
 
 -- a run that has taken no turn
 no_unit : (p : Settings) (k : ℕ) (u : UnitView) → unit_in (board p []) k ≡ Some u → ⊥
@@ -286,55 +277,6 @@ takes_next old mid new turn o refusal way next room t heard same noted = record 
         (subst (λ past. KeepsAttempts new.attempts (board p past)) (sym (past_of-push p journal e))
         (kept_attempts p journal e old.attempts new.attempts way.runnable.legal t.is_enabled way.attempts kept_as))
 
--- why a turn that comes next was not taken
-pub refused_short : (w : World) (turn : Turn) (error : StepError) → IsRefused w turn error
-    → error_of_step error ≡ errors.Unfinished
-    → (length w.journal ≡ 4294967295) ⊎ (enabled w.settings (history_of w) turn ≡ false)
-refused_short w turn steps.NotEnabled refused e = inr refused.1.0
-refused_short w turn steps.ThirdSignal refused e = inr refused.1.0
-refused_short w turn steps.Full refused e = inl refused
-refused_short w turn steps.OutOfMemory refused e = cc
-
-pub stops_short : (g : OnWay) (turn : Turn) (error : StepError) → IsOnWay g
-    → next_turn g.run.settings g.run.journal ≡ Some turn → outcome g.run.settings (history_of g.run) ≡ None
-    → IsRefused g.run turn error → error_of_step error ≡ errors.Unfinished → StopsShort g.run.settings
-stops_short g turn error way next goes_on refused e = record {
-  journal = g.run.journal;
-  legal = way.runnable.legal;
-  generated = way.generated;
-  goes_on = goes_on;
-  why = by_cause (refused_short g.run turn error refused e);
-}
-  where
-    by_cause : (length g.run.journal ≡ 4294967295) ⊎ (enabled g.run.settings (history_of g.run) turn ≡ false)
-        → (length g.run.journal ≡ 4294967295) ⊎ ((other : Turn) → next_turn g.run.settings g.run.journal ≡ Some other
-        → enabled g.run.settings (history_of g.run) other ≡ false)
-    by_cause (inl full) = inl full
-    by_cause (inr off) = inr (λ other is.
-        subst (λ turn. enabled g.run.settings (history_of g.run) turn ≡ false) (same_Some _ _ (sym next ∙ is)) off)
-
--- a run whose journal is full stops short
-pub full_short : (g : OnWay) → IsOnWay g → outcome g.run.settings (history_of g.run) ≡ None
-    → 4294967295 ≤ length g.run.journal → StopsShort g.run.settings
-full_short g way goes_on full = record {
-  journal = g.run.journal;
-  legal = way.runnable.legal;
-  generated = way.generated;
-  goes_on = goes_on;
-  why = inl (let short : length g.run.journal < 2 ^ 32 = way.runnable.short in omega arith);
-}
-
--- and so does one that has no next turn
-pub end_short : (g : OnWay) → IsOnWay g → outcome g.run.settings (history_of g.run) ≡ None
-    → next_turn g.run.settings g.run.journal ≡ None → StopsShort g.run.settings
-end_short g way goes_on none = record {
-  journal = g.run.journal;
-  legal = way.runnable.legal;
-  generated = way.generated;
-  goes_on = goes_on;
-  why = inr (λ turn is. let never : None ≡ Some turn = sym none ∙ is in cc);
-}
-
 -- a run that settled nothing is as it was
 pub same_way : (old : OnWay) (run : World) (counter : Counter) (deaf : Deaf) → run ≡ old.run → counter ≡ old.counter
     → deaf ≡ old.deaf → record { run = run; counter = counter; deaf = deaf; attempts = old.attempts } ≡ old
@@ -352,51 +294,6 @@ next_settled w turn last first =
 pub next_of : (w : World) (last : Last) → last_as (last_turn w.journal) ≡ last
     → next_turn w.settings w.journal ≡ turn_after w.settings (board_of w) last
 next_of w last is = ap (turn_after w.settings (board_of w)) is
-
--- what is counted of a run that is over
-told-length : (p : Settings) (backward : List Entry) → IsLegalBackward p backward
-    → length (answers (history p backward)) ≡ length (told (history p backward))
-told-length p [] legal = refl
-told-length p (e ∷ before) legal =
-    let x : Happening = happening p (history p before) e in
-    let here : length (zip (events_in x) e.refused) ≡ length (events_in x) =
-    length-zip (events_in x) e.refused legal.1 in
-    let earlier : length (answers (history p before)) ≡ length (told (history p before)) = told-length p before legal.2 in
-    length-append (answers (history p before)) (zip (events_in x) e.refused)
-    ∙ ap (λ n. n + length (zip (events_in x) e.refused)) earlier
-    ∙ ap (λ n. length (told (history p before)) + n) here ∙ sym (length-append (told (history p before)) (events_in x))
-  where
-    length-zip : {A B : Type 0} (xs : List A) (ys : List B) → length ys ≡ length xs → length (zip xs ys) ≡ length xs
-    length-zip [] ys same = refl
-    length-zip (x ∷ xs) [] same = absurd (omega arith)
-    length-zip (x ∷ xs) (y ∷ ys) same =
-        let rest : length (zip xs ys) ≡ length xs = length-zip xs ys (omega arith) in ap (λ n. suc n) rest
-
-told-few : (past : List Happening) → length (told past) ≤ 2 * length past
-told-few [] = omega arith
-told-few (x ∷ past) =
-    let here : length (events_in x) ≤ 2 = few (x.told) (x.after) in
-    omega (arith, told-few past, length-append (told past) (events_in x))
-  where
-    few : (a b : Option ReporterEvent) → length (option_to_list a ++ option_to_list b) ≤ 2
-    few None None = omega arith
-    few None (Some b) = omega arith
-    few (Some a) None = omega arith
-    few (Some a) (Some b) = omega arith
-
-pub counted : (g : OnWay) → IsOnWay g → g.counter.events ≡ length (told (history_of g.run))
-counted g way =
-    let h = way.heard in
-    let flags : length h.events ≡ length (answers (history_of g.run)) =
-    sym (length-map h.events flagged) ∙ ap length (h.flags ∙ ap (λ es. answers (history_of g.run) ++ es) (h.whole way.sound).0
-    ∙ append-nil (answers (history_of g.run))) in
-    let same : length h.events ≡ length (told (history_of g.run)) =
-    flags ∙ told-length g.run.settings (reverse g.run.journal) way.runnable.legal in
-    let count : g.counter.events ≡ min (length h.events) 18446744073709551615 = h.told in
-    let few : length (told (history_of g.run)) ≤ 2 * length (history_of g.run) = told-few (history_of g.run) in
-    let long : length (history_of g.run) ≡ length g.run.journal = past_of-length g.run.settings g.run.journal in
-    let short : length g.run.journal < 2 ^ 32 = way.runnable.short in
-    omega arith
 
 pub same_error : {T E : Type 0} (a b : E) → ◌≡◌ {A = Result T E} (Err a) (Err b) → a ≡ b
 same_error a b e = cc

@@ -2,7 +2,7 @@
 use Rattle.std.proofs.Common.{◌≡◌, subst, Option, Some, None, IsNone, refl}
 use Rattle.run_generate.specs.Generated.{StopsShort}
 use Rattle.run_generate.specs.OnWay.{Advances}
-use Rattle.run_generate.proofs.WayLemmas.{end_short}
+use Rattle.run_generate.proofs.ShortLemmas.{end_short}
 use Rattle.run_generate.proofs.generated.carry_out.Goals as goal
 
 none_of : {X : Type 0} (o : Option X) → ((x : X) → o ≡ Some x → ⊥) → IsNone o

@@ -3,7 +3,7 @@ use Rattle.std.proofs.Common.{◌∙◌, sym, refl, ap, length, if◌then◌else
 use Rattle.std.proofs.lemmas.Option.{same_Some}
 use Rattle.run_model.specs.Words.{stats, sub_run}
 use Rattle.run_engine.specs.World.{history_of}
-use Rattle.run_generate.proofs.WayLemmas.{counted}
+use Rattle.run_generate.proofs.CountLemmas.{counted}
 use Rattle.run_generate.proofs.on_way.OnWay.summary.Goals as goal
 
 pub returns-clause-some : goal.returns-clause-some

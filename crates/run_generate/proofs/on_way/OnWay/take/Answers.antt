@@ -1,6 +1,7 @@
 -- The next turn was taken, or wasn't.
 use Rattle.std.proofs.Common.{◌∙◌, sym, refl}
-use Rattle.run_generate.proofs.WayLemmas.{same_error, takes_next, stops_short}
+use Rattle.run_generate.proofs.ShortLemmas.{stops_short}
+use Rattle.run_generate.proofs.WayLemmas.{same_error, takes_next}
 use Rattle.run_generate.proofs.on_way.OnWay.take.Goals as goal
 
 pub returns-in_ok-note-in-Ok-clause-advances : goal.returns-in_ok-note-in-Ok-clause-advances
