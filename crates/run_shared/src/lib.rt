@@ -2,7 +2,6 @@
 //! turns that were taken, and receipts.
 #![tactic(auto)]
 
-mod beginning;
 mod closing;
 mod locked;
 mod receipts;
