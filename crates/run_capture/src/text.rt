@@ -1,24 +1,58 @@
 // A text, which contracts see as the list of its bytes.
-ghost use Rattle.std.specs.Prelude.{◌≡◌, ◌++◌, ◌==◌, length, string_bytes, IfOk, OnOk, OnErr};
+ghost use Rattle.std.specs.Prelude.{◌≡◌, ◌++◌, ◌==◌, length, string_bytes, decimal, IfOk, IfSome, OnOk, OnErr};
 
 use crate::{Duplicate, Mem};
+use arrayvec::ArrayString;
 use std::alloc::Global;
 use std::cmp::Ordering;
+use std::fmt;
+use std::fmt::{Debug, Write};
+use std::hash::{Hash, Hasher};
 use std::marker::Model;
 
-/// A text in UTF-8.
-#[derive(Drop, Debug)]
+/// Where the bytes of a text lie.
+#[derive(Drop)]
+enum Bytes {
+    /// In the program.
+    Static(&'static str),
+    /// In the text itself.
+    Short(ArrayString<16>),
+    /// In memory of their own.
+    Long(String),
+}
+
+/// A text in UTF-8. A short one takes no memory beside itself.
+#[derive(Drop)]
 pub struct Text {
-    string: String,
+    bytes: Bytes,
 }
 
 impl Model for Text {
     ghost use Rattle.std.specs.Prelude.{List, ℕ};
-    ghost use Rattle.std.specs.Prelude.{string_bytes};
+    ghost use Rattle.run_capture.specs.Held.{text_held};
 
     ghost Value = { List ℕ };
 
-    ghost view = { λ t. string_bytes t.string };
+    ghost view = { λ t. text_held t.bytes };
+}
+
+// A text that fits beside its length.
+fn short_of(text: &str) -> Option<ArrayString<16>>
+    ensures { IfSome result (λ short. short.bytes ≡ text.now) }
+{
+    match ArrayString::from(text) {
+        Ok(short) => Some(short),
+        Err(_) => None,
+    }
+}
+
+// The decimal digits of a number.
+fn digits(number: u32) -> Result<ArrayString<16>, fmt::Error>
+    ensures { IfOk result (λ short. short.bytes ≡ decimal number) }
+{
+    let mut short = ArrayString::new();
+    write!(short, "{number}")?;
+    Ok(short)
 }
 
 impl Text {
@@ -26,40 +60,71 @@ impl Text {
     pub fn from_str(alloc: Global, text: &str) -> Mem<Text>
         ensures { IfOk result (λ t. t ≡ text.now) }
     {
-        Ok(Text {
-            string: String::from_str(alloc, text)?,
-        })
+        let bytes = match short_of(text) {
+            Some(short) => Bytes::Short(short),
+            None => Bytes::Long(String::from_str(alloc, text)?),
+        };
+        Ok(Text { bytes })
+    }
+
+    /// A text that is part of the program. Takes no memory.
+    pub fn from_static(text: &'static str) -> Text
+        ensures { result ≡ text.now }
+    {
+        Text {
+            bytes: Bytes::Static(text),
+        }
     }
 
     /// Takes a `String`, and no memory.
     pub fn from_string(string: String) -> Text
         ensures { result ≡ string_bytes string }
     {
-        Text { string }
+        let bytes = match short_of(string.as_str()) {
+            Some(short) => Bytes::Short(short),
+            None => Bytes::Long(string),
+        };
+        Text { bytes }
+    }
+
+    /// A number in decimal digits.
+    pub fn from_number(alloc: Global, number: u32) -> Mem<Text>
+        ensures { IfOk result (λ t. t ≡ decimal number) }
+    {
+        match digits(number) {
+            Ok(short) => Ok(Text {
+                bytes: Bytes::Short(short),
+            }),
+            Err(_) => Ok(Text::from_string(format!(in alloc; "{number}")?)),
+        }
     }
 
     pub fn as_str(&self) -> &str
         ensures { result.now ≡ self.now }
     {
-        self.string.as_str()
+        match &self.bytes {
+            Bytes::Static(text) => text,
+            Bytes::Short(short) => short.as_str(),
+            Bytes::Long(string) => string.as_str(),
+        }
     }
 
     pub fn as_bytes(&self) -> &[u8]
         ensures { result.now ≡ self.now }
     {
-        self.string.as_bytes()
+        self.as_str().as_bytes()
     }
 
     pub fn len(&self) -> usize
         ensures { result ≡ length self.now }
     {
-        self.string.len()
+        self.as_str().len()
     }
 
     pub fn is_empty(&self) -> bool
         ensures { result ≡ (length self.now == 0) }
     {
-        self.string.is_empty()
+        self.as_str().is_empty()
     }
 
     /// Adds a `str` at the end.
@@ -67,15 +132,31 @@ impl Text {
         ensures ok { OnOk result (self.new ≡ self.old ++ text.now) }
         ensures err { OnErr result (self.new ≡ self.old) }
     {
-        let _alloc = alloc;
-        self.string.push_str(text)?;
+        if let Bytes::Long(string) = &mut self.bytes {
+            string.push_str(text)?;
+            return Ok(());
+        }
+        let mut string = String::from_str(alloc, self.as_str())?;
+        string.push_str(text)?;
+        self.bytes = Bytes::Long(string);
         Ok(())
+    }
+}
+
+impl Debug for Text {
+    fn fmt<W: Write>(&self, f: &mut fmt::Formatter<W>) -> fmt::Result {
+        Debug::fmt(self.as_str(), f)
     }
 }
 
 impl Duplicate for Text {
     fn copy(&self, alloc: Global) -> Mem<Text> {
-        Text::from_str(alloc, self.as_str())
+        let bytes = match &self.bytes {
+            Bytes::Static(text) => Bytes::Static(text),
+            Bytes::Short(short) => Bytes::Short(*short),
+            Bytes::Long(string) => Bytes::Long(String::from_str(alloc, string.as_str())?),
+        };
+        Ok(Text { bytes })
     }
 }
 
@@ -131,5 +212,19 @@ impl Ord for Text {
 
     fn cmp(&self, other: &Text) -> Ordering {
         self.as_str().cmp(other.as_str())
+    }
+}
+
+impl Hash for Text {
+    ghost use Rattle.std.specs.Hash.{str as fed_text};
+    ghost use Rattle.std.specs.Cmp.Rules.{hashing};
+    ghost use Rattle.std.proofs.Common.{rules};
+
+    ghost hash_input = { λ t. fed_text t };
+
+    ghost respects_eq = { Prim.search (hashing, rules) };
+
+    fn hash<H: Hasher>(&self, state: &mut H) {
+        self.as_str().hash(state);
     }
 }

@@ -15,13 +15,13 @@ use uuid::Uuid;
 
 type Variables = Vec<(Text, Text)>;
 
-fn pair(alloc: Global, key: &str, value: &str) -> Mem<(Text, Text)>
+fn pair(alloc: Global, key: &'static str, value: &str) -> Mem<(Text, Text)>
     ensures { IfOk result (λ p. p ≡ (key.now, value.now)) }
 {
-    Ok((Text::from_str(alloc, key)?, Text::from_str(alloc, value)?))
+    Ok((Text::from_static(key), Text::from_str(alloc, value)?))
 }
 
-fn with_text(alloc: Global, list: Variables, key: &str, value: &str) -> Mem<Variables>
+fn with_text(alloc: Global, list: Variables, key: &'static str, value: &str) -> Mem<Variables>
     ensures { IfOk result (λ v. v.items ≡ list.items ++ (key.now, value.now) ∷ []) }
 {
     let mut list = list;
@@ -29,7 +29,7 @@ fn with_text(alloc: Global, list: Variables, key: &str, value: &str) -> Mem<Vari
     Ok(list)
 }
 
-fn with_number(alloc: Global, list: Variables, key: &str, value: u32) -> Mem<Variables>
+fn with_number(alloc: Global, list: Variables, key: &'static str, value: u32) -> Mem<Variables>
     ensures { IfOk result (λ v. v.items ≡ list.items ++ (key.now, decimal value) ∷ []) }
 {
     let mut list = list;
@@ -37,7 +37,7 @@ fn with_number(alloc: Global, list: Variables, key: &str, value: u32) -> Mem<Var
     Ok(list)
 }
 
-fn with_id(alloc: Global, list: Variables, key: &str, value: Uuid) -> Mem<Variables>
+fn with_id(alloc: Global, list: Variables, key: &'static str, value: Uuid) -> Mem<Variables>
     ensures { IfOk result (λ v. v.items ≡ list.items ++ (key.now, hyphenated_text lower value) ∷ []) }
 {
     let mut list = list;
@@ -45,18 +45,18 @@ fn with_id(alloc: Global, list: Variables, key: &str, value: Uuid) -> Mem<Variab
     Ok(list)
 }
 
-fn number(alloc: Global, key: &str, value: u32) -> Mem<(Text, Text)>
+fn number(alloc: Global, key: &'static str, value: u32) -> Mem<(Text, Text)>
     ensures { IfOk result (λ p. p ≡ (key.now, decimal value)) }
 {
     let text = format!(in alloc; "{value}")?;
-    Ok((Text::from_str(alloc, key)?, Text::from_string(text)))
+    Ok((Text::from_static(key), Text::from_string(text)))
 }
 
-fn id_pair(alloc: Global, key: &str, value: Uuid) -> Mem<(Text, Text)>
+fn id_pair(alloc: Global, key: &'static str, value: Uuid) -> Mem<(Text, Text)>
     ensures { IfOk result (λ p. p ≡ (key.now, hyphenated_text lower value)) }
 {
     let text = format!(in alloc; "{value}")?;
-    Ok((Text::from_str(alloc, key)?, Text::from_string(text)))
+    Ok((Text::from_static(key), Text::from_string(text)))
 }
 
 // What the tests of a run are run as.
