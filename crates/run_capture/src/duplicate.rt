@@ -1,5 +1,5 @@
 // Copies that take memory.
-ghost use Rattle.std.specs.Prelude.{◌≡◌, IfOk};
+ghost use Rattle.std.specs.Prelude.{◌≡◌, ◌++◌, IfOk};
 
 use crate::Mem;
 use std::alloc::Global;
@@ -11,15 +11,22 @@ pub trait Duplicate: Sized {
         ensures { IfOk result (λ c. c ≡ self.now) };
 }
 
-/// Copies each item, in order.
-pub fn copies<T: Duplicate + Drop>(alloc: Global, items: &[T]) -> Mem<Vec<T>>
-    ensures { IfOk result (λ v. v.items ≡ items.now) }
+/// Some items, and then copies of others, in order.
+pub fn with_copies<T: Duplicate + Drop>(alloc: Global, front: Vec<T>, items: &[T]) -> Mem<Vec<T>>
+    ensures { IfOk result (λ v. v.items ≡ front.items ++ items.now) }
 {
-    let mut vec = Vec::with_capacity(alloc, items.len())?;
+    let mut vec = front;
     for item in items {
         vec.push(item.copy(alloc)?)?;
     }
     Ok(vec)
+}
+
+/// Copies each item, in order.
+pub fn copies<T: Duplicate + Drop>(alloc: Global, items: &[T]) -> Mem<Vec<T>>
+    ensures { IfOk result (λ v. v.items ≡ items.now) }
+{
+    with_copies(alloc, Vec::with_capacity(alloc, items.len())?, items)
 }
 
 impl Duplicate for u32 {

@@ -29,7 +29,7 @@ mod whole;
 pub use accumulator::ChildAccumulator;
 pub use blob::Blob;
 pub use child_output_mut::ChildOutputMut;
-pub use duplicate::Duplicate;
+pub use duplicate::{Duplicate, with_copies};
 pub use laws::output_is_what_was_heard;
 pub use list::List;
 pub use memory::{Mem, OutOfMemory};

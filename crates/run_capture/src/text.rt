@@ -3,6 +3,7 @@ ghost use Rattle.std.specs.Prelude.{◌≡◌, ◌++◌, ◌==◌, length, strin
 
 use crate::{Duplicate, Mem};
 use arrayvec::ArrayString;
+use itoa::Buffer;
 use std::alloc::Global;
 use std::cmp::Ordering;
 use std::fmt;
@@ -46,15 +47,6 @@ fn short_of(text: &str) -> Option<ArrayString<16>>
     }
 }
 
-// The decimal digits of a number.
-fn digits(number: u32) -> Result<ArrayString<16>, fmt::Error>
-    ensures { IfOk result (λ short. short.bytes ≡ decimal number) }
-{
-    let mut short = ArrayString::new();
-    write!(short, "{number}")?;
-    Ok(short)
-}
-
 impl Text {
     /// Copies a `str`.
     pub fn from_str(alloc: Global, text: &str) -> Mem<Text>
@@ -91,12 +83,8 @@ impl Text {
     pub fn from_number(alloc: Global, number: u32) -> Mem<Text>
         ensures { IfOk result (λ t. t ≡ decimal number) }
     {
-        match digits(number) {
-            Ok(short) => Ok(Text {
-                bytes: Bytes::Short(short),
-            }),
-            Err(_) => Ok(Text::from_string(format!(in alloc; "{number}")?)),
-        }
+        let mut digits = Buffer::new();
+        Text::from_str(alloc, digits.format(number))
     }
 
     pub fn as_str(&self) -> &str

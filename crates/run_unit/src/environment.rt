@@ -7,7 +7,7 @@ ghost use Rattle.run_model.specs.Environment.{script_variables, environment_as, 
 ghost use Rattle.run_model.specs.Environment.{stress_total};
 
 use crate::messages::attempts;
-use run_capture::{Duplicate, List, Mem, Text};
+use run_capture::{Duplicate, List, Mem, Text, with_copies};
 use run_events::{GroupSlot, RunMode, StressIndex};
 use run_model::{ScriptRole, Surroundings, TestRole, UnitRole, UnitView};
 use std::alloc::Global;
@@ -15,48 +15,33 @@ use uuid::Uuid;
 
 type Variables = Vec<(Text, Text)>;
 
-fn pair(alloc: Global, key: &'static str, value: &str) -> Mem<(Text, Text)>
-    ensures { IfOk result (λ p. p ≡ (key.now, value.now)) }
+// How many variables a child has beside those of versions and those that are handed on.
+const OWN: usize = 13;
+
+fn with(list: Variables, key: &'static str, value: Text) -> Mem<Variables>
+    ensures { IfOk result (λ v. v.items ≡ list.items ++ (key.now, value) ∷ []) }
 {
-    Ok((Text::from_static(key), Text::from_str(alloc, value)?))
+    let mut list = list;
+    list.push((Text::from_static(key), value))?;
+    Ok(list)
 }
 
 fn with_text(alloc: Global, list: Variables, key: &'static str, value: &str) -> Mem<Variables>
     ensures { IfOk result (λ v. v.items ≡ list.items ++ (key.now, value.now) ∷ []) }
 {
-    let mut list = list;
-    list.push(pair(alloc, key, value)?)?;
-    Ok(list)
+    with(list, key, Text::from_str(alloc, value)?)
 }
 
 fn with_number(alloc: Global, list: Variables, key: &'static str, value: u32) -> Mem<Variables>
     ensures { IfOk result (λ v. v.items ≡ list.items ++ (key.now, decimal value) ∷ []) }
 {
-    let mut list = list;
-    list.push(number(alloc, key, value)?)?;
-    Ok(list)
+    with(list, key, Text::from_number(alloc, value)?)
 }
 
 fn with_id(alloc: Global, list: Variables, key: &'static str, value: Uuid) -> Mem<Variables>
     ensures { IfOk result (λ v. v.items ≡ list.items ++ (key.now, hyphenated_text lower value) ∷ []) }
 {
-    let mut list = list;
-    list.push(id_pair(alloc, key, value)?)?;
-    Ok(list)
-}
-
-fn number(alloc: Global, key: &'static str, value: u32) -> Mem<(Text, Text)>
-    ensures { IfOk result (λ p. p ≡ (key.now, decimal value)) }
-{
-    let text = format!(in alloc; "{value}")?;
-    Ok((Text::from_static(key), Text::from_string(text)))
-}
-
-fn id_pair(alloc: Global, key: &'static str, value: Uuid) -> Mem<(Text, Text)>
-    ensures { IfOk result (λ p. p ≡ (key.now, hyphenated_text lower value)) }
-{
-    let text = format!(in alloc; "{value}")?;
-    Ok((Text::from_static(key), Text::from_string(text)))
+    with(list, key, Text::from_string(format!(in alloc; "{value}")?))
 }
 
 // What the tests of a run are run as.
@@ -70,67 +55,60 @@ fn mode_name(mode: RunMode) -> &'static str
 }
 
 // Which run it is.
-fn run_variables(alloc: Global, around: &Surroundings) -> Mem<Variables>
-    ensures { IfOk result (λ v. v.items ≡ run_variables around.now) }
+fn with_run(alloc: Global, list: Variables, around: &Surroundings) -> Mem<Variables>
+    ensures { IfOk result (λ v. v.items ≡ list.items ++ run_variables around.now) }
 {
-    let list = Vec::new(alloc);
+    let mode = Text::from_static(mode_name(around.mode));
     let list = with_id(alloc, list, "NEXTEST_RUN_ID", around.run_id)?;
-    let list = with_text(alloc, list, "NEXTEST_RUN_MODE", mode_name(around.mode))?;
-    Ok(list)
+    with(list, "NEXTEST_RUN_MODE", mode)
 }
 
 // How much runs at a time, and in which folder.
-fn shared_variables(alloc: Global, around: &Surroundings) -> Mem<Variables>
-    ensures { IfOk result (λ v. v.items ≡ shared_variables around.now) }
+fn with_shared(alloc: Global, list: Variables, around: &Surroundings) -> Mem<Variables>
+    ensures { IfOk result (λ v. v.items ≡ list.items ++ shared_variables around.now) }
 {
-    let list = Vec::new(alloc);
-    let list = with_number(alloc, list, "NEXTEST_TEST_THREADS", around.threads)?;
     let root = around.workspace_root.as_str();
-    let list = with_text(alloc, list, "NEXTEST_WORKSPACE_ROOT", root)?;
-    Ok(list)
+    let list = with_number(alloc, list, "NEXTEST_TEST_THREADS", around.threads)?;
+    with_text(alloc, list, "NEXTEST_WORKSPACE_ROOT", root)
 }
 
 // Which attempt of which test it is.
 #[tactic(auto, unfolding(run_model::specs::Environment::identity_variables))]
-fn identity_variables(alloc: Global, role: &TestRole, view: &UnitView) -> Mem<Variables>
+fn with_identity(alloc: Global, list: Variables, role: &TestRole, view: &UnitView) -> Mem<Variables>
     requires { attempts view.now < 2 ^ 32 }
-    ensures { IfOk result (λ v. v.items ≡ identity_variables role.now view.now) }
+    ensures { IfOk result (λ v. v.items ≡ list.items ++ identity_variables role.now view.now) }
 {
     let id = &role.test.id;
-    let list = Vec::new(alloc);
     let list = with_text(alloc, list, "NEXTEST_BINARY_ID", id.binary.as_str())?;
     let list = with_text(alloc, list, "NEXTEST_TEST_NAME", id.name.as_str())?;
     let list = with_number(alloc, list, "NEXTEST_ATTEMPT", view.attempt)?;
-    let list = with_number(alloc, list, "NEXTEST_TOTAL_ATTEMPTS", attempts(view))?;
-    Ok(list)
+    with_number(alloc, list, "NEXTEST_TOTAL_ATTEMPTS", attempts(view))
 }
 
 // How many sub-runs of a stress run there are to be.
-fn with_total(alloc: Global, list: Variables, total: Option<u32>) -> Mem<Variables>
-    ensures { IfOk result (λ v. v.items ≡ list.items ++ (codes "NEXTEST_STRESS_TOTAL", count_text total) ∷ []) }
+fn count_text(alloc: Global, count: Option<u32>) -> Mem<Text>
+    ensures { IfOk result (λ t. t ≡ count_text count) }
 {
-    match total {
-        Some(count) => with_number(alloc, list, "NEXTEST_STRESS_TOTAL", count),
-        None => with_text(alloc, list, "NEXTEST_STRESS_TOTAL", "unknown"),
+    match count {
+        Some(count) => Text::from_number(alloc, count),
+        None => Ok(Text::from_static("unknown")),
     }
 }
 
 // Which sub-run of a stress run it is in.
-fn stress_variables(alloc: Global, index: Option<StressIndex>) -> Mem<Variables>
-    ensures { IfOk result (λ v. v.items ≡ (codes "NEXTEST_STRESS_CURRENT", stress_current index)
+fn with_stress(alloc: Global, list: Variables, index: Option<StressIndex>) -> Mem<Variables>
+    ensures { IfOk result (λ v. v.items ≡ list.items ++ (codes "NEXTEST_STRESS_CURRENT", stress_current index)
         ∷ (codes "NEXTEST_STRESS_TOTAL", stress_total index) ∷ []) }
 {
-    let list = Vec::new(alloc);
-    match index {
-        Some(index) => {
-            let list = with_number(alloc, list, "NEXTEST_STRESS_CURRENT", index.current)?;
-            with_total(alloc, list, index.total)
-        }
-        None => {
-            let list = with_text(alloc, list, "NEXTEST_STRESS_CURRENT", "none")?;
-            with_text(alloc, list, "NEXTEST_STRESS_TOTAL", "none")
-        }
-    }
+    let (current, total) = match index {
+        Some(index) => (
+            Text::from_number(alloc, index.current)?,
+            count_text(alloc, index.total)?,
+        ),
+        None => (Text::from_static("none"), Text::from_static("none")),
+    };
+    let list = with(list, "NEXTEST_STRESS_CURRENT", current)?;
+    with(list, "NEXTEST_STRESS_TOTAL", total)
 }
 
 // The group that a test runs in, and its slot there.
@@ -138,58 +116,38 @@ fn with_group(alloc: Global, list: Variables, group: &Option<GroupSlot>) -> Mem<
     ensures { IfOk result (λ v. v.items ≡ list.items ++ (codes "NEXTEST_TEST_GROUP", group_name group.now)
         ∷ (codes "NEXTEST_TEST_GROUP_SLOT", group_number group.now) ∷ []) }
 {
-    match group {
-        Some(group) => {
-            let list = with_text(alloc, list, "NEXTEST_TEST_GROUP", group.name.as_str())?;
-            with_number(alloc, list, "NEXTEST_TEST_GROUP_SLOT", group.slot)
-        }
-        None => {
-            let list = with_text(alloc, list, "NEXTEST_TEST_GROUP", "@global")?;
-            with_text(alloc, list, "NEXTEST_TEST_GROUP_SLOT", "none")
-        }
-    }
+    let (name, slot) = match group {
+        Some(group) => (group.name.copy(alloc)?, Text::from_number(alloc, group.slot)?),
+        None => (Text::from_static("@global"), Text::from_static("none")),
+    };
+    let list = with(list, "NEXTEST_TEST_GROUP", name)?;
+    with(list, "NEXTEST_TEST_GROUP_SLOT", slot)
 }
 
 // Where it runs.
 #[tactic(auto, unfolding(run_model::specs::Environment::place_variables))]
-fn place_variables(alloc: Global, role: &TestRole) -> Mem<Variables>
-    ensures { IfOk result (λ v. v.items ≡ place_variables role.now) }
+fn with_place(alloc: Global, list: Variables, role: &TestRole) -> Mem<Variables>
+    ensures { IfOk result (λ v. v.items ≡ list.items ++ place_variables role.now) }
 {
-    let list = stress_variables(alloc, role.test.stress_index)?;
+    let list = with_stress(alloc, list, role.test.stress_index)?;
     let list = with_number(alloc, list, "NEXTEST_TEST_GLOBAL_SLOT", role.slot.global)?;
-    let list = with_group(alloc, list, &role.slot.group)?;
-    Ok(list)
+    with_group(alloc, list, &role.slot.group)
 }
 
-/// Some items, and then others.
-pub fn followed_by<T: Drop>(front: Vec<T>, back: Vec<T>) -> Mem<Vec<T>>
-    ensures { IfOk result (λ v. v.items ≡ front.items ++ back.items) }
+// Room for the variables of a child, beside which there are so many of versions and so many that are handed on.
+fn room(alloc: Global, versions: usize, handed: usize) -> Mem<Variables>
+    ensures { IfOk result (λ v. v.items ≡ []) }
 {
-    let mut front = front;
-    let mut back = back;
-    front.append(&mut back)?;
-    Ok(front)
+    let outside = versions.saturating_add(handed);
+    Ok(Vec::with_capacity(alloc, outside.saturating_add(OWN))?)
 }
 
-// Those that all children have alike, and then these.
-fn shared_then(alloc: Global, around: &Surroundings, own: Variables) -> Mem<Variables>
-    ensures { IfOk result (λ v. v.items ≡ shared_variables around.now ++ (around.now.versions ++ own.items)) }
+// Those that all children have alike.
+fn with_alike(alloc: Global, list: Variables, around: &Surroundings) -> Mem<Variables>
+    ensures { IfOk result (λ v. v.items ≡ list.items ++ (shared_variables around.now ++ around.now.versions)) }
 {
-    let shared = shared_variables(alloc, around)?;
-    let versions = around.versions.copy(alloc)?.into_vec(alloc);
-    let outside = followed_by(versions, own)?;
-    followed_by(shared, outside)
-}
-
-// Where a test runs, and what comes after that.
-fn place_then(alloc: Global, role: &TestRole, around: &Surroundings) -> Mem<Variables>
-    ensures { IfOk result (λ v. v.items ≡ place_variables role.now
-        ++ (shared_variables around.now ++ (around.now.versions ++ role.now.handed))) }
-{
-    let handed = role.handed.copy(alloc)?.into_vec(alloc);
-    let shared = shared_then(alloc, around, handed)?;
-    let place = place_variables(alloc, role)?;
-    followed_by(place, shared)
+    let list = with_shared(alloc, list, around)?;
+    with_copies(alloc, list, around.versions.as_slice())
 }
 
 // Those of a test's child.
@@ -198,9 +156,13 @@ fn test_variables(alloc: Global, role: &TestRole, view: &UnitView) -> Mem<Variab
     requires { attempts view.now < 2 ^ 32 }
     ensures { IfOk result (λ v. v.items ≡ test_variables role.now view.now) }
 {
-    let place = place_then(alloc, role, view.around.get())?;
-    let identity = followed_by(identity_variables(alloc, role, view)?, place)?;
-    followed_by(run_variables(alloc, view.around.get())?, identity)
+    let around = view.around.get();
+    let list = room(alloc, around.versions.len(), role.handed.len())?;
+    let list = with_run(alloc, list, around)?;
+    let list = with_identity(alloc, list, role, view)?;
+    let list = with_place(alloc, list, role)?;
+    let list = with_alike(alloc, list, around)?;
+    with_copies(alloc, list, role.handed.as_slice())
 }
 
 // Those of a script's child.
@@ -208,11 +170,11 @@ fn test_variables(alloc: Global, role: &TestRole, view: &UnitView) -> Mem<Variab
 fn script_variables(alloc: Global, role: &ScriptRole, view: &UnitView) -> Mem<Variables>
     ensures { IfOk result (λ v. v.items ≡ script_variables role.now view.now) }
 {
-    let path = role.env_path.as_str();
-    let list = with_text(alloc, Vec::new(alloc), "NEXTEST_ENV", path)?;
-    let list = followed_by(list, run_variables(alloc, view.around.get())?)?;
-    let shared = shared_then(alloc, view.around.get(), Vec::new(alloc))?;
-    followed_by(list, shared)
+    let around = view.around.get();
+    let list = room(alloc, around.versions.len(), 0)?;
+    let list = with_text(alloc, list, "NEXTEST_ENV", role.env_path.as_str())?;
+    let list = with_run(alloc, list, around)?;
+    with_alike(alloc, list, around)
 }
 
 /// The variables of a unit's child, in order.

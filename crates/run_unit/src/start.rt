@@ -7,10 +7,12 @@ ghost use Rattle.run_model.specs.Unit.{begun_row, nothing_captured};
 ghost use Rattle.run_unit.specs.Effects.{IsRow};
 
 use crate::effects::{UnitEffects, acting};
-use crate::environment::{environment, followed_by};
+use crate::environment::environment;
 use crate::messages::number_of;
 use crate::pauses::timers_from;
-use run_capture::{CaptureStrategy, ChildAccumulator, Duplicate, List, Mem, Stream, Text};
+use run_capture::{
+    CaptureStrategy, ChildAccumulator, Duplicate, List, Mem, Stream, Text, with_copies,
+};
 use run_events::{Ask, StartAsk};
 use run_model::{CapturedStreams, Phase, UnitRole, UnitView};
 use std::alloc::Global;
@@ -19,8 +21,7 @@ use std::alloc::Global;
 pub fn with_command(alloc: Global, words: List<Text>, command: &List<Text>) -> Mem<List<Text>>
     ensures { IfOk result (λ all. all ≡ words ++ command.now) }
 {
-    let own = command.copy(alloc)?.into_vec(alloc);
-    let all = followed_by(words.into_vec(alloc), own)?;
+    let all = with_copies(alloc, words.into_vec(alloc), command.as_slice())?;
     Ok(List::from_vec(all))
 }
 
