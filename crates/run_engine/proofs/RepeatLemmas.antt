@@ -1,30 +1,11 @@
--- Ids in their order, the test that has the id of an earlier one, and why it is refused.
-use Rattle.std.proofs.Common.{◌≡◌, ℕ, ◌&&◌, ◌||◌, cond, Bool, true, not, ap, sym, ◌∙◌, refl, nat_eq, List, take}
+-- The test that has the id of an earlier one, and why it is refused.
+use Rattle.std.proofs.Common.{◌≡◌, ℕ, ◌||◌, cond, Bool, true, not, ap, sym, ◌∙◌, refl, List, take}
 use Rattle.std.proofs.Common.{false, slice_get, Option, Some, option_and_then}
 use Rattle.std.specs.List.{list_any}
-use Rattle.std.specs.declared.cmp.Ordering.{Ordering}
-use Rattle.std.specs.declared.cmp.Ordering.TheVariants.{Less, Equal, Greater}
-use Rattle.std.specs.Ordering.{nat_cmp, ordering_then, is_eq}
-use Rattle.std.specs.Cmp.Lexicographic.{slice_cmp, texts_ties}
-use lib.Pointwise.{pointwise}
-use Rattle.run_events.specs.declared.plan.TestInstanceId.{TestInstanceId}
 use Rattle.run_events.specs.declared.plan.PlanTest.{PlanTest}
 use Rattle.run_events.specs.declared.plan.Group.{Group}
 use Rattle.run_events.specs.declared.retry_policy.RetryPolicy.{RetryPolicy}
-use Rattle.run_model.specs.Reruns.{id_order}
 use Rattle.run_engine.specs.Builder.{same_id, is_among, is_repeat, refusal_at, test_refusal}
-
-then_equal : (a b : Ordering) → is_eq (ordering_then a b) ≡ (is_eq a && is_eq b)
-then_equal Less b = refl
-then_equal Equal b = refl
-then_equal Greater b = refl
-
--- ids that are equal in their order are those of one test
-pub id_equal : (a b : TestInstanceId) → is_eq (id_order a b) ≡ same_id a b
-id_equal a b =
-    then_equal (slice_cmp nat_cmp a.binary b.binary) (slice_cmp nat_cmp a.name b.name)
-    ∙ ap (λ e. e && is_eq (slice_cmp nat_cmp a.name b.name)) (sym (texts_ties a.binary b.binary))
-    ∙ ap (λ e. pointwise nat_eq a.binary b.binary && e) (sym (texts_ties a.name b.name))
 
 -- what a set has after an insertion
 cond_or : (b had : Bool) → cond b true had ≡ (had || b)

@@ -20,7 +20,7 @@ use run_events::{
 };
 use run_model::retry_count;
 use std::alloc::Global;
-use std::collections::BTreeSet;
+use std::collections::{BTreeSet, HashSet};
 use std::fmt;
 use std::fmt::{Debug, Write};
 use std::marker::Model;
@@ -373,7 +373,7 @@ fn tests_refusal<'a>(
         (first_refused groups.now retries tests.now)) }
 {
     let names = names_of(alloc, groups)?;
-    let mut ids = BTreeSet::new(alloc);
+    let mut ids = HashSet::with_capacity(alloc, tests.len())?;
     for (place, test) in tests.iter().enumerate() {
         let fresh = ids.insert(&test.id)?;
         let refusal = refusal_at(place as u32, !fresh, &names, retries, test);

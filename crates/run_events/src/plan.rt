@@ -13,7 +13,7 @@ use std::alloc::Global;
 use uuid::Uuid;
 
 /// The name of a test: its binary and its name within it. In order by binary, then by name.
-#[derive(Debug, Drop, PartialEq, Eq, PartialOrd, Ord)]
+#[derive(Debug, Drop, PartialEq, Eq, PartialOrd, Ord, Hash)]
 pub struct TestInstanceId {
     pub binary: Text,
     pub name: Text,

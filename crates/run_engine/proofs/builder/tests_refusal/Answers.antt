@@ -1,4 +1,4 @@
-use Rattle.std.proofs.Common.{◌≡◌, ◌<◌, ◌||◌, take, length, true, false, not, Some, None, slice_get, sym, ◌∙◌, ap}
+use Rattle.std.proofs.Common.{◌≡◌, ◌<◌, ◌||◌, take, length, true, false, not, Some, None, slice_get, refl, sym, ◌∙◌, ap}
 use Rattle.std.proofs.Common.{arith, below_more, is_some, option_and_then}
 use Rattle.std.specs.List.{list_any}
 use Rattle.std.proofs.lemmas.Option.{slice_get-get_or}
@@ -6,7 +6,7 @@ use Rattle.std.proofs.lemmas.List.Folds.{list_any_more}
 use Rattle.run_laws.proofs.board.Scan.{found_first, found_none}
 use Rattle.run_engine.specs.Builder.{same_id, test_refusal, first_refused}
 use Rattle.run_events.specs.declared.plan.PlanTest.{PlanTest}
-use Rattle.run_engine.proofs.RepeatLemmas.{id_equal, one_more, found, refusal_here}
+use Rattle.run_engine.proofs.RepeatLemmas.{one_more, found, refusal_here}
 use Rattle.run_engine.proofs.builder.tests_refusal.Goals as goal
 
 pub returns-then-is_some : goal.returns-then-is_some
@@ -52,7 +52,7 @@ loop-place-preserved c =
       known = λ q.
           c.in_ok-fresh.ensures.updates.0 q
           ∙ one_more _ _ (list_any (λ (t : PlanTest). same_id t.id q.now) (take place tests)) (same_id test.id q.now)
-          (id_equal test.id q.now) (c.loop-place.invariant.known q)
+          refl (c.loop-place.invariant.known q)
           ∙ ap
           (λ (t : PlanTest). list_any (λ (t : PlanTest). same_id t.id q.now) (take place tests) || same_id t.id q.now)
           c.index-tests-place.is
