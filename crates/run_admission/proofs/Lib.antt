@@ -2,6 +2,7 @@ mod ListLemmas
 mod MemberLemmas
 mod OpenLemmas
 mod TreeLemmas
+mod DescentLemmas
 mod NameLemmas
 mod RoomLemmas
 mod GroupLemmas

@@ -27,10 +27,9 @@ marked_free k r None is h = (is, refl)
 marked_free k r (Some t) is h = absurd (omega arith)
 
 -- the least mark is the first free slot
-pub least_marked : (hs : List (Option ℕ)) (ms : List ℕ) (to r : ℕ) → IsMarked hs ms
-    → position_or_len is_none hs < length hs → to ≡ length hs
-    → IsLeast ms 0 to r → r ≡ position_or_len is_none hs
-least_marked hs ms to r m inside whole least =
+pub least_marked : (hs : List (Option ℕ)) (ms : List ℕ) (r : ℕ) → IsMarked hs ms
+    → position_or_len is_none hs < length hs → IsLeast ms 0 (length ms) r → r ≡ position_or_len is_none hs
+least_marked hs ms r m inside least =
     elim least.there [
       | inl e ↦ absurd (omega (arith, low, m.few))
       | inr s ↦

@@ -84,7 +84,7 @@ impl Room {
         requires { free_in self.now < length self.now.holders }
         ensures { result ≡ free_in self.now }
     {
-        self.free.least(0, self.holders.len())
+        self.free.least()
     }
 
     /// A test takes the first free slot, and its weight of the limit.

@@ -9,6 +9,5 @@ returns c =
     let r = c.self.inside in
     let inside : position_or_len is_none r.holders.items < length r.holders.items =
     omega (arith, ap free_in c.self.view_is, ap (λ (u : Use). length u.holders) c.self.view_is) in
-    least_marked r.holders.items r.free c.len.result c.least.result c.self.invariant inside (omega arith)
-    c.least.ensures
+    least_marked r.holders.items r.free c.least.result c.self.invariant inside c.least.ensures
     ∙ ap free_in c.self.view_is
