@@ -4,7 +4,7 @@ use Rattle.std.proofs.Common.{Bool, true}
 use Rattle.std.proofs.Common.{if◌then◌else◌, Some}
 use Rattle.std.specs.Option.{option_map_or}
 use Rattle.std.proofs.Common.{nat_lt, ◌≤◌}
-use Rattle.std.proofs.Common.{false, not, ◌+◌, ◌-◌, Option, None, replicate, unwrap_or, slice_get, refl, ap, sym, subst}
+use Rattle.std.proofs.Common.{false, not, ◌-◌, Option, None, replicate, slice_get, refl, ap, sym, subst}
 use Rattle.std.proofs.Common.{◌∙◌, arith, get_or-set_other}
 use Rattle.std.proofs.Math.ListN.{length-set}
 use Rattle.std.proofs.lemmas.Grind.{get_or-set_at}
@@ -18,7 +18,7 @@ use Rattle.run_admission.specs.Kept.{Use, IsWhole, nobody, comes, fits_in, seen,
 use Rattle.run_admission.specs.Kept.{give_back, give_in}
 use Rattle.run_admission.specs.Lined.{Queue, Queues, IsFirst, IsLined, IsLineup, IsQueued, IsReady, empty}
 use Rattle.run_admission.specs.Lined.{without, line_of, room_of}
-use Rattle.run_admission.proofs.LineLemmas.{AreWithin, comes_other, head_is, line_inside, lined_leave, lined_moves}
+use Rattle.run_admission.proofs.LineLemmas.{AreWithin, comes_other, head_is, head_stays, line_inside, lined_leave, lined_moves}
 use Rattle.run_admission.specs.Ordered.{IsOrder, at_places}
 use Rattle.run_admission.proofs.ListLemmas.{get_default}
 use Rattle.run_admission.proofs.NextLemmas.{IsPlace, get_at_places, length_at_places, places_apart, set_at_places}
@@ -130,6 +130,22 @@ queued_release us afters claims seats q t line room first paired there queued li
         let c = get_or claims k nobody.0 in
         ap (λ b. b && (not c.matched || fits_in afters c)) (still k)
         ∙ comes_other us afters (map (λ u. u.limit) us) line c (get_or seats k Gone) others apart
+
+-- a test of no group is released
+queued_stays : (us : List Use) (claims : List Claim) (seats : List Seat) (q : Queues) (t : ℕ)
+    → length claims ≡ length seats → IsQueued us claims seats q → t < length claims
+    → is_waiting (get_or seats t Gone) ≡ false → IsQueued us claims (set seats t Gone) q
+queued_stays us claims seats q t paired queued inside was = record {
+  lined = lined_moves (map (λ u. u.limit) us) claims seats (set seats t Gone) q.lines q.places still queued.lined;
+  all = queued.all;
+  heads = λ l h. head_stays us us (map (λ u. u.limit) us) claims seats (set seats t Gone) l (get_or q.firsts l 0)
+      (λ k k_in own. ap (λ b. b && (not (get_or claims k nobody.0).matched || fits_in us (get_or claims k nobody.0)))
+      (still k))
+      (queued.heads l h);
+}
+  where
+    still : (k : ℕ) → is_waiting (get_or (set seats t Gone) k Gone) ≡ is_waiting (get_or seats k Gone)
+    still k = waits_same seats t k (omega arith) was
 
 -- the line of a test that matches is that of its group
 pub line_matched : (limits : List ℕ) (c : Claim) (g : ℕ) → c.matched ≡ true → c.group ≡ Some g → line_of limits c ≡ g
@@ -353,23 +369,43 @@ release_ready waiting whole after_whole us afters q after order claims seats t n
     at : IsPlace order place.0 t
     at = record { inside = place.1; is = place.2 }
 
--- the line that is looked at anew, as a test is released, is one of the lines
+-- the line of a group of a test is one of the lines
 pub line_low : (waiting : ℕ) (whole : Use) (us : List Use) (q : Queues) (order : List ℕ) (claims : List Claim)
-    (seats : List Seat) (t : ℕ) (claim : Claim) (many : ℕ) → IsReady waiting whole us q order claims seats
-    → claim ≡ get_or claims t nobody.0 → many ≡ length us → (line : ℕ) → line ≡ unwrap_or claim.group many
-    → line < length q.lines
-line_low waiting whole us q order claims seats t claim many w read same line is =
+    (seats : List Seat) (t line : ℕ) (claim : Claim) → IsReady waiting whole us q order claims seats
+    → claim ≡ get_or claims t nobody.0 → claim.group ≡ Some line → line < length q.lines
+line_low waiting whole us q order claims seats t line claim w read of =
     omega (
       arith,
-      is,
-      by_group claim.group (λ g e. w.kept.members t g (ap (λ (c : Claim). c.group) (sym read) ∙ e)),
+      w.kept.members t line (ap (λ (c : Claim). c.group) (sym read) ∙ of),
       w.queued.lined.count,
       length-map us (λ (u : Use). u.limit),
     )
+
+-- a test of no group is released: the lines stay
+pub release_idle : (waiting : ℕ) (whole after_whole : Use) (us afters : List Use) (q : Queues) (order : List ℕ)
+    (claims : List Claim) (seats : List Seat) (t n : ℕ) (m : Option ℕ) (claim : Claim)
+    → IsReady waiting whole us q order claims seats → CanLeave whole us claims seats t n m
+    → claim ≡ get_or claims t nobody.0 → after_whole ≡ give_back whole n claim.weight
+    → afters ≡ give_in us claim.group m claim.weight → claim.group ≡ None
+    → IsReady waiting after_whole afters q order claims (set seats t Gone)
+release_idle waiting whole after_whole us afters q order claims seats t n m claim w can read all parts none = record {
+  kept = release_kept waiting whole after_whole us afters claims seats t n m claim w.kept can read all parts;
+  ordered = w.ordered;
+  queued = subst (λ gs. IsQueued gs (at_places nobody.0 claims order) (at_places Gone (set seats t Gone) order) q)
+      (sym (parts ∙ ap (λ o. give_in us o m claim.weight) none))
+      (subst (λ ss. IsQueued us (at_places nobody.0 claims order) ss q)
+      (sym (queue_set claims seats order place.0 t Gone w.kept.paired w.ordered at))
+      (queued_stays us (at_places nobody.0 claims order) (at_places Gone seats order) q place.0
+      (queue_paired claims seats order) w.queued (omega (arith, at.inside, length_at_places nobody.0 claims order))
+      (ap is_waiting (get_at_places Gone seats order place.0 Gone at.inside ∙ ap (λ k. get_or seats k Gone) at.is
+      ∙ get_default seats t Gone Waiting can.inside ∙ can.used))));
+}
   where
-    by_group : (o : Option ℕ) → ((g : ℕ) → o ≡ Some g → g < length us) → unwrap_or o many < length us + 1
-    by_group None there = omega arith
-    by_group (Some g) there = omega (arith, there g refl)
+    place : (r : ℕ) × (r < length order) × (get_or order r 0 ≡ t)
+    place = w.ordered.placed t (omega (arith, can.inside, w.kept.paired))
+
+    at : IsPlace order place.0 t
+    at = record { inside = place.1; is = place.2 }
 
 -- the lines at first, as they were built
 pub queued_begun : (us : List Use) (claims queue : List Claim) (order : List ℕ) (q : Queues)

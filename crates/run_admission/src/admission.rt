@@ -150,10 +150,11 @@ impl Admission {
             let claim = self.claims[test as usize];
             self.whole.give_back(global, claim.weight);
             give_in_group(&mut self.groups, claim.group, group, claim.weight);
-            let line = claim.group.unwrap_or(self.groups.len());
-            let room = room_of(&self.groups, line);
-            self.lines.refresh(line, room);
             self.seats[test as usize] = Seat::Gone;
+            if let Some(line) = claim.group {
+                let room = room_of(&self.groups, line);
+                self.lines.refresh(line, room);
+            }
         }
     }
 
