@@ -16,6 +16,7 @@ mod QueueLemmas
 mod NextLemmas
 mod OrderLemmas
 mod ReadyLemmas
+mod ReleaseLemmas
 mod FirstLemmas
 mod DraftLemmas
 mod BegunLemmas

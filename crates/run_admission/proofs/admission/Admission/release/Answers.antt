@@ -4,7 +4,8 @@ use Rattle.std.proofs.lemmas.Option.{same_Some}
 use Rattle.std.specs.Vec.{with_items}
 use Rattle.run_admission.specs.Lined.{room_of}
 use Rattle.run_admission.specs.declared.seat.Seat.TheVariants.{Gone}
-use Rattle.run_admission.proofs.ReadyLemmas.{line_low, release_idle, release_ready, within_of}
+use Rattle.run_admission.proofs.ReadyLemmas.{within_of}
+use Rattle.run_admission.proofs.ReleaseLemmas.{line_low, release_idle, release_ready}
 use Rattle.std.proofs.lemmas.List.{get_or_read, with_items_is}
 use Rattle.run_admission.specs.declared.seat.Claim.{Claim}
 use Rattle.run_admission.specs.InUse.{is_test_in_use, released}
