@@ -3,7 +3,8 @@ ghost use Rattle.std.specs.Prelude.{◌≡◌, ◌<◌, ◌^◌, length, IfOk, S
 ghost use Rattle.run_admission.specs.declared.seat.Seat.TheVariants.{Gone};
 ghost use Rattle.run_admission.specs.declared.seat.Candidate.TheVariants.{Skip, Fits};
 ghost use Rattle.run_admission.specs.InUse.{begun, candidate, admitted, after_admission, is_test_in_use, released};
-ghost use Rattle.run_admission.specs.InUse.{is_done};
+ghost use Rattle.run_admission.specs.InUse.{is_done, is_waiting};
+ghost use Rattle.std.specs.List.{list_all};
 ghost use Rattle.run_admission.specs.Laws.{KeepsLimits, HasOwnSlots};
 
 use crate::claims::{claims_of, members_of, rooms_of};
@@ -156,6 +157,13 @@ impl Admission {
                 self.lines.refresh(line, room);
             }
         }
+    }
+
+    /// Whether all tests wait, as they do when a sub-run begins.
+    pub fn all_wait(&self) -> bool
+        ensures { result ≡ list_all is_waiting self.now.seats }
+    {
+        self.waiting == self.seats.len()
     }
 
     /// Whether no test waits.
