@@ -2,6 +2,7 @@ mod ListLemmas
 mod MemberLemmas
 mod OpenLemmas
 mod TreeLemmas
+mod DescentLemmas
 mod NameLemmas
 mod RoomLemmas
 mod GroupLemmas
@@ -15,6 +16,7 @@ mod QueueLemmas
 mod NextLemmas
 mod OrderLemmas
 mod ReadyLemmas
+mod ReleaseLemmas
 mod FirstLemmas
 mod DraftLemmas
 mod BegunLemmas

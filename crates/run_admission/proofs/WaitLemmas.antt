@@ -1,9 +1,9 @@
 -- How many tests wait.
-use Rattle.std.proofs.Common.{◌≡◌, ◌≢◌, ℕ, zero, suc, ◌+◌, ◌<◌, ◌||◌, List, [], ◌∷◌, length, get_or, set, replicate}
+use Rattle.std.proofs.Common.{◌≡◌, ◌≢◌, ℕ, zero, suc, ◌+◌, ◌<◌, ◌&&◌, ◌||◌, List, [], ◌∷◌, length, get_or, set, replicate}
 use Rattle.std.proofs.Common.{Bool, true}
 use Rattle.std.proofs.Common.{false, not, cond, count_by, nat_eq, refl, ap, sym, ◌∙◌, arith}
-use Rattle.std.specs.List.{list_any}
-use Rattle.std.proofs.lemmas.List.Sums.{sum_by-cons, sum_by-set}
+use Rattle.std.specs.List.{list_all, list_any}
+use Rattle.std.proofs.lemmas.List.Sums.{count_by-le-length, sum_by-cons, sum_by-set}
 use Rattle.run_admission.specs.declared.seat.Seat.{Seat}
 use Rattle.run_admission.specs.declared.seat.Seat.TheVariants.{Waiting}
 use Rattle.run_admission.specs.InUse.{is_waiting}
@@ -54,3 +54,33 @@ done_is (s ∷ ss) = by_seat (is_waiting s) refl (done_is ss)
         let same : count_by is_waiting (s ∷ ss) ≡ count_by is_waiting ss =
         omega (arith, sum_by-cons (λ s. cond (is_waiting s) 1 0) s ss) in
         ap (λ n. nat_eq n 0) same ∙ rest ∙ sym (ap (λ b. not (b || list_any is_waiting ss)) e)
+
+-- all wait exactly where as many wait as there are
+pub all_waiting : (seats : List Seat)
+    → nat_eq (count_by is_waiting seats) (length seats) ≡ list_all is_waiting seats
+all_waiting [] = refl
+all_waiting (s ∷ ss) = by_seat (is_waiting s) refl (all_waiting ss)
+  where
+    step : (n m : ℕ) → nat_eq (n + 1) (suc m) ≡ nat_eq n m
+    step n m = by_case (nat_eq n m) refl
+      where
+        by_case : (b : Bool) → nat_eq n m ≡ b → nat_eq (n + 1) (suc m) ≡ nat_eq n m
+        by_case true e = let is : n + 1 ≡ suc m = grind (arith, e) in grind (arith, e, is)
+        by_case false e = let apart : n + 1 ≢ suc m = grind (arith, e) in grind (arith, e, apart)
+
+    by_seat : (b : Bool) → is_waiting s ≡ b → nat_eq (count_by is_waiting ss) (length ss) ≡ list_all is_waiting ss
+        → nat_eq (count_by is_waiting (s ∷ ss)) (length (s ∷ ss)) ≡ list_all is_waiting (s ∷ ss)
+    by_seat true e rest =
+        let first : cond {A = ℕ} (is_waiting s) 1 0 ≡ 1 = ap (λ b. cond b 1 0) e in
+        let more : count_by is_waiting (s ∷ ss) ≡ count_by is_waiting ss + 1 =
+        omega (arith, sum_by-cons (λ s. cond (is_waiting s) 1 0) s ss) in
+        ap (λ n. nat_eq n (length (s ∷ ss))) more ∙ step (count_by is_waiting ss) (length ss) ∙ rest
+        ∙ sym (ap (λ b. b && list_all is_waiting ss) e)
+    by_seat false e rest =
+        let first : cond {A = ℕ} (is_waiting s) 1 0 ≡ 0 = ap (λ b. cond b 1 0) e in
+        let same : count_by is_waiting (s ∷ ss) ≡ count_by is_waiting ss =
+        omega (arith, sum_by-cons (λ s. cond (is_waiting s) 1 0) s ss) in
+        let apart : count_by is_waiting (s ∷ ss) ≢ suc (length ss) =
+        omega (arith, same, count_by-le-length is_waiting ss) in
+        let is : nat_eq (count_by is_waiting (s ∷ ss)) (suc (length ss)) ≡ false = grind (arith, apart) in
+        is ∙ sym (ap (λ b. b && list_all is_waiting ss) e)

@@ -24,20 +24,15 @@ pub record Use : Type 0 where
   pub used : ℕ
   pub holders : List (Option ℕ)
 
--- a free slot stands at its own place of a row, and none at the place of another
-abbrev pub mark_of : ℕ → Option ℕ → ℕ
-mark_of n None = n
-mark_of n (Some test) = none
+-- at the place of a free slot stands 0, and none at the place of another
+abbrev pub mark_of : Option ℕ → ℕ
+mark_of None = 0
+mark_of (Some test) = none
 
 pub record IsMarked (holders : List (Option ℕ)) (marks : List ℕ) : Type 0 where
   pub few : length holders < 2 ^ 32
   pub many : length marks ≡ length holders
-  pub each : (n : ℕ) → n < length holders → slice_index marks n ≡ mark_of n (slice_index_or holders n None)
-
--- the numbers from 0, so many
-pub record AreNumbers (many : ℕ) (numbers : List ℕ) : Type 0 where
-  pub all : length numbers ≡ many
-  pub each : (n : ℕ) → n < many → slice_index numbers n ≡ n
+  pub each : (n : ℕ) → n < length holders → slice_index marks n ≡ mark_of (slice_index_or holders n None)
 
 -- the first slot that no test holds
 abbrev pub free_in : Use → ℕ

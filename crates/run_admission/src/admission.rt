@@ -3,7 +3,8 @@ ghost use Rattle.std.specs.Prelude.{◌≡◌, ◌<◌, ◌^◌, length, IfOk, S
 ghost use Rattle.run_admission.specs.declared.seat.Seat.TheVariants.{Gone};
 ghost use Rattle.run_admission.specs.declared.seat.Candidate.TheVariants.{Skip, Fits};
 ghost use Rattle.run_admission.specs.InUse.{begun, candidate, admitted, after_admission, is_test_in_use, released};
-ghost use Rattle.run_admission.specs.InUse.{is_done};
+ghost use Rattle.run_admission.specs.InUse.{is_done, is_waiting};
+ghost use Rattle.std.specs.List.{list_all};
 ghost use Rattle.run_admission.specs.Laws.{KeepsLimits, HasOwnSlots};
 
 use crate::claims::{claims_of, members_of, rooms_of};
@@ -150,11 +151,19 @@ impl Admission {
             let claim = self.claims[test as usize];
             self.whole.give_back(global, claim.weight);
             give_in_group(&mut self.groups, claim.group, group, claim.weight);
-            let line = claim.group.unwrap_or(self.groups.len());
-            let room = room_of(&self.groups, line);
-            self.lines.refresh(line, room);
             self.seats[test as usize] = Seat::Gone;
+            if let Some(line) = claim.group {
+                let room = room_of(&self.groups, line);
+                self.lines.refresh(line, room);
+            }
         }
+    }
+
+    /// Whether all tests wait, as they do when a sub-run begins.
+    pub fn all_wait(&self) -> bool
+        ensures { result ≡ list_all is_waiting self.now.seats }
+    {
+        self.waiting == self.seats.len()
     }
 
     /// Whether no test waits.

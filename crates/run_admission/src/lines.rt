@@ -48,7 +48,7 @@ impl Lines {
     pub fn first(&self) -> usize
         ensures { IsLeast self.now.firsts 0 (length self.now.lines) result }
     {
-        self.firsts.least(0, self.lines.len())
+        self.firsts.least()
     }
 
     /// A test leaves its line.

@@ -54,49 +54,57 @@ impl MinTree {
         self.nodes[node] = value;
         while node > 1 {
             node /= 2;
-            self.nodes[node] = self.nodes[2 * node].min(self.nodes[2 * node + 1]);
+            let least = self.nodes[2 * node].min(self.nodes[2 * node + 1]);
+            if self.nodes[node] == least {
+                return;
+            }
+            self.nodes[node] = least;
         }
     }
 
-    /// The least of the numbers from one place to before another, or `NONE`.
-    pub fn least(&self, from: usize, to: usize) -> usize
-        requires order { from ≤ to }
-        requires within { to ≤ length self.now }
-        ensures { IsLeast self.now from to result }
+    /// The least of the numbers, or `NONE`.
+    pub fn least(&self) -> usize
+        ensures { IsLeast self.now 0 (length self.now) result }
     {
-        let mut low = self.many + from;
-        let mut high = self.many + to;
-        let mut least = NONE;
-        while low < high {
-            if low % 2 == 1 {
-                least = least.min(self.nodes[low]);
-                low += 1;
-            } else if high % 2 == 1 {
-                high -= 1;
-                least = least.min(self.nodes[high]);
-            } else {
-                low /= 2;
-                high /= 2;
-            }
-        }
-        least
+        if self.many == 0 { NONE } else { self.nodes[1] }
     }
 
     /// The first place whose number is at most so much, or how many numbers there are.
     pub fn first_within(&self, limit: u32) -> usize
         ensures { IsFirstWithin self.now limit result }
     {
-        let mut from = 0;
-        let mut to = self.many;
-        while from < to {
-            let middle = from + (to - from) / 2;
-            let least = self.least(from, middle + 1);
-            if least <= limit as usize {
-                to = middle;
+        let limit = limit as usize;
+        let mut low = self.many;
+        let mut high = 2 * self.many;
+        // The first node after those from `low` to `high` that has such a number below it, or 0.
+        let mut node = 0;
+        while low < high {
+            if low % 2 == 1 {
+                if self.nodes[low] <= limit {
+                    node = low;
+                    high = low;
+                } else {
+                    low += 1;
+                }
+            } else if high % 2 == 1 {
+                high -= 1;
+                if self.nodes[high] <= limit {
+                    node = high;
+                }
             } else {
-                from = middle + 1;
+                low /= 2;
+                high /= 2;
             }
         }
-        from
+        if node == 0 {
+            return self.many;
+        }
+        while node < self.many {
+            node *= 2;
+            if self.nodes[node] > limit {
+                node += 1;
+            }
+        }
+        node - self.many
     }
 }

@@ -1,7 +1,7 @@
 // One limit on tests, with how much of it is in use, and which test holds each slot.
 ghost use Rattle.std.specs.Prelude.{◌≡◌, ◌<◌, ◌≤◌, ◌+◌, ◌-◌, ◌^◌, min, length, IfOk};
 ghost use Rattle.run_admission.specs.InUse.{fits_beside};
-ghost use Rattle.run_admission.specs.Kept.{CanTake, CanGive, AreNumbers, unused, free_in, take_of, give_back};
+ghost use Rattle.run_admission.specs.Kept.{CanTake, CanGive, unused, free_in, take_of, give_back};
 
 use crate::min_tree::{MinTree, NONE};
 use run_capture::Mem;
@@ -14,7 +14,7 @@ pub struct Room {
     limit: u32,
     used: u32,
     holders: Vec<Option<u32>>,
-    /// At the place of each free slot its number, and at another `NONE`.
+    /// At the place of each free slot 0, and at another `NONE`.
     free: MinTree,
 }
 
@@ -28,17 +28,6 @@ impl Model for Room {
     ghost invariant = { λ r. IsMarked r.holders.items r.free };
 }
 
-// The numbers of so many slots.
-fn numbers(alloc: Global, slots: usize) -> Mem<Vec<usize>>
-    ensures { IfOk result (λ v. AreNumbers slots v.items) }
-{
-    let mut numbers = Vec::new(alloc);
-    for slot in 0..slots {
-        numbers.push(slot)?;
-    }
-    Ok(numbers)
-}
-
 impl Room {
     /// A limit of which nothing is in use, with so many slots.
     pub fn new(alloc: Global, limit: u32, slots: usize) -> Mem<Room>
@@ -46,8 +35,8 @@ impl Room {
         ensures { IfOk result (λ r. r ≡ unused slots limit) }
     {
         let holders = vec![in alloc; None; slots]?;
-        let slots = numbers(alloc, slots)?;
-        let free = MinTree::new(alloc, &slots)?;
+        let marks = vec![in alloc; 0; slots]?;
+        let free = MinTree::new(alloc, &marks)?;
         Ok(Room {
             limit,
             used: 0,
@@ -84,7 +73,7 @@ impl Room {
         requires { free_in self.now < length self.now.holders }
         ensures { result ≡ free_in self.now }
     {
-        self.free.least(0, self.holders.len())
+        self.free.first_within(0)
     }
 
     /// A test takes the first free slot, and its weight of the limit.
@@ -106,7 +95,7 @@ impl Room {
         ensures { self.new ≡ give_back self.old slot weight }
     {
         self.holders[slot as usize] = None;
-        self.free.set(slot as usize, slot as usize);
+        self.free.set(slot as usize, 0);
         self.used -= weight.min(self.limit);
     }
 }

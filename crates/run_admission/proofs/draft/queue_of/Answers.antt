@@ -1,7 +1,5 @@
-use Rattle.std.proofs.Common.{length, ap, subst, arith, replicate, ◌∙◌}
-use Rattle.run_admission.specs.declared.seat.Seat.TheVariants.{Waiting}
+use Rattle.std.proofs.Common.{length, ap, arith, ◌∙◌}
 use Rattle.run_admission.specs.Kept.{nobody}
-use Rattle.run_admission.specs.Lined.{IsQueued}
 use Rattle.run_admission.specs.Ordered.{at_places}
 use Rattle.run_admission.proofs.NextLemmas.{length_at_places}
 use Rattle.run_admission.proofs.ReadyLemmas.{queue_there, queued_begun}

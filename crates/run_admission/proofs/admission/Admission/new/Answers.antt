@@ -3,10 +3,8 @@ use Rattle.std.proofs.lemmas.List.{length-map}
 use Rattle.run_admission.proofs.BegunLemmas.{begun_whole, begun_seen, begun_within, begun_there, members_inside}
 use Rattle.run_admission.proofs.MemberLemmas.{few_of_each}
 use Rattle.run_admission.specs.InUse.{claim_of}
-use Rattle.run_admission.specs.Kept.{AreMembers, nobody}
-use Rattle.run_admission.specs.Ordered.{IsOrder, at_places}
-use Rattle.run_admission.proofs.NextLemmas.{length_at_places}
-use Rattle.run_admission.proofs.QueueLemmas.{AreThere}
+use Rattle.run_admission.specs.Kept.{AreMembers}
+use Rattle.run_admission.specs.Ordered.{IsOrder}
 use Rattle.run_admission.proofs.ReadyLemmas.{queued_read}
 use Rattle.run_admission.proofs.admission.Admission.new.Goals as goal
 

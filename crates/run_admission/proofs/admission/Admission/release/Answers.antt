@@ -1,9 +1,11 @@
 use Rattle.std.proofs.Common.{◌≡◌, length, ap, sym, subst, ◌∙◌, arith, slice_get}
-use Rattle.std.proofs.Common.{set, unwrap_or}
+use Rattle.std.proofs.Common.{set}
+use Rattle.std.proofs.lemmas.Option.{same_Some}
 use Rattle.std.specs.Vec.{with_items}
 use Rattle.run_admission.specs.Lined.{room_of}
 use Rattle.run_admission.specs.declared.seat.Seat.TheVariants.{Gone}
-use Rattle.run_admission.proofs.ReadyLemmas.{line_low, release_ready, within_of}
+use Rattle.run_admission.proofs.ReadyLemmas.{within_of}
+use Rattle.run_admission.proofs.ReleaseLemmas.{line_low, release_idle, release_ready}
 use Rattle.std.proofs.lemmas.List.{get_or_read, with_items_is}
 use Rattle.run_admission.specs.declared.seat.Claim.{Claim}
 use Rattle.run_admission.specs.InUse.{is_test_in_use, released}
@@ -80,14 +82,8 @@ refresh-requires c =
     let claim = c.index-claim.result.now in
     let of = get_or_read v.claims.items c.args.test claim (omega (arith, can.inside, w.kept.paired))
     c.index-claim.ensures nobody.0 in
-    let after : c.give_in_group.new.groups ≡ give_in v.groups.items claim.group c.in-InUse.group claim.weight =
-    c.give_in_group.ensures ∙ ap (λ l. give_in l claim.group c.in-InUse.group claim.weight) c.deref_mut.ensures.value in
-    let many : length c.give_in_group.new.groups ≡ v.groups.len =
-    omega (arith, ap length after, length_give_in v.groups.items claim.group c.in-InUse.group claim.weight) in
     line_low v.waiting v.whole v.groups.items v.lines v.order.items v.claims.items v.seats.items c.args.test
-    claim c.len.result w of
-    (omega (arith, many, ap length after, length_give_in v.groups.items claim.group c.in-InUse.group claim.weight))
-    c.unwrap_or-line.result c.unwrap_or-line.ensures
+    c.in-Some.line claim w of c.in-Some.is
 
 pub invariant_of-self : goal.invariant_of-self
 invariant_of-self c =
@@ -102,19 +98,48 @@ invariant_of-self c =
     c.give_in_group.ensures ∙ ap (λ l. give_in l claim.group c.in-InUse.group claim.weight) c.deref_mut.ensures.value in
     let many : length c.give_in_group.new.groups ≡ v.groups.len =
     omega (arith, ap length after, length_give_in v.groups.items claim.group c.in-InUse.group claim.weight) in
-    let low = line_low v.waiting v.whole v.groups.items v.lines v.order.items v.claims.items v.seats.items
-    c.args.test claim c.len.result w of
-    (omega (arith, many, ap length after, length_give_in v.groups.items claim.group c.in-InUse.group claim.weight))
-    c.unwrap_or-line.result c.unwrap_or-line.ensures in
     release_ready v.waiting v.whole _ v.groups.items (with_items v.groups c.give_in_group.new.groups).items v.lines
-    c.refresh.new.self v.order.items v.claims.items v.seats.items c.args.test _ c.unwrap_or-line.result
+    c.refresh.new.self v.order.items v.claims.items v.seats.items c.args.test _ c.in-Some.line
     c.room_of-room.result _ claim w can of c.give_back.ensures
-    (with_items_is v.groups c.give_in_group.new.groups many ∙ after) low
-    (λ h e. c.unwrap_or-line.ensures ∙ ap (λ o. unwrap_or o c.len.result) e)
-    (c.room_of-room.ensures ∙ ap (λ l. room_of l c.unwrap_or-line.result) c.deref.ensures.value) c.refresh.ensures
+    (with_items_is v.groups c.give_in_group.new.groups many ∙ after)
+    (line_low v.waiting v.whole v.groups.items v.lines v.order.items v.claims.items v.seats.items c.args.test
+    c.in-Some.line claim w of c.in-Some.is)
+    (λ h e. same_Some c.in-Some.line h (sym c.in-Some.is ∙ e))
+    (c.room_of-room.ensures ∙ ap (λ l. room_of l c.in-Some.line) c.deref.ensures.value) c.refresh.ensures
 
-pub returns-in-InUse : goal.returns-in-InUse
-returns-in-InUse c =
+pub invariant_of-self-in_default-group : goal.invariant_of-self-in_default-group
+invariant_of-self-in_default-group c =
+    let v = c.self.inside in
+    let w = c.self.invariant in
+    let can = may_leave v.waiting v.whole v.groups.items v.claims.items v.seats.items c.args.test _ _ c.index.result.now
+    w.kept (ap (λ a. is_test_in_use a c.args.test) c.self.view_is ∙ c.requires) c.index.ensures c.in-InUse.is in
+    let claim = c.index-claim.result.now in
+    let of = get_or_read v.claims.items c.args.test claim (omega (arith, can.inside, w.kept.paired))
+    c.index-claim.ensures nobody.0 in
+    let after : c.give_in_group.new.groups ≡ give_in v.groups.items claim.group c.in-InUse.group claim.weight =
+    c.give_in_group.ensures ∙ ap (λ l. give_in l claim.group c.in-InUse.group claim.weight) c.deref_mut.ensures.value in
+    let many : length c.give_in_group.new.groups ≡ v.groups.len =
+    omega (arith, ap length after, length_give_in v.groups.items claim.group c.in-InUse.group claim.weight) in
+    release_idle v.waiting v.whole _ v.groups.items (with_items v.groups c.give_in_group.new.groups).items v.lines
+    v.order.items v.claims.items v.seats.items c.args.test _ _ claim w can of c.give_back.ensures
+    (with_items_is v.groups c.give_in_group.new.groups many ∙ after)
+    c.in_default-group.is
+
+pub returns-in-Some : goal.returns-in-Some
+returns-in-Some c =
+    let v = c.self.inside in
+    let claim = c.index-claim.result.now in
+    let after : c.give_in_group.new.groups ≡ give_in v.groups.items claim.group c.in-InUse.group claim.weight =
+    c.give_in_group.ensures ∙ ap (λ l. give_in l claim.group c.in-InUse.group claim.weight) c.deref_mut.ensures.value in
+    let many : length c.give_in_group.new.groups ≡ v.groups.len =
+    omega (arith, ap length after, length_give_in v.groups.items claim.group c.in-InUse.group claim.weight) in
+    release_seen v.whole _ v.groups.items (with_items v.groups c.give_in_group.new.groups).items v.claims.items
+    v.seats.items c.args.test _ _ claim c.give_back.ensures
+    (with_items_is v.groups c.give_in_group.new.groups many ∙ after)
+    ∙ ap (λ a. released a c.args.test) c.self.view_is
+
+pub returns-in_default-group : goal.returns-in_default-group
+returns-in_default-group c =
     let v = c.self.inside in
     let claim = c.index-claim.result.now in
     let after : c.give_in_group.new.groups ≡ give_in v.groups.items claim.group c.in-InUse.group claim.weight =
