@@ -4,3 +4,4 @@ mod SlowLemmas
 mod TakenLemmas
 mod TimelyLemmas
 mod TriedLemmas
+mod VariableLemmas

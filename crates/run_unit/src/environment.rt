@@ -8,7 +8,7 @@ ghost use Rattle.run_model.specs.Environment.{stress_total};
 
 use crate::messages::attempts;
 use run_capture::{Duplicate, List, Mem, Text, with_copies};
-use run_events::{GroupSlot, RunMode, StressIndex};
+use run_events::{GroupSlot, RunMode, StressIndex, TestInstanceId};
 use run_model::{ScriptRole, Surroundings, TestRole, UnitRole, UnitView};
 use std::alloc::Global;
 use uuid::Uuid;
@@ -72,17 +72,33 @@ fn with_shared(alloc: Global, list: Variables, around: &Surroundings) -> Mem<Var
     with_text(alloc, list, "NEXTEST_WORKSPACE_ROOT", root)
 }
 
+// Which test it is.
+fn with_name(alloc: Global, list: Variables, id: &TestInstanceId) -> Mem<Variables>
+    ensures { IfOk result (λ v. v.items ≡ list.items ++ (codes "NEXTEST_BINARY_ID", id.now.binary)
+        ∷ (codes "NEXTEST_TEST_NAME", id.now.name) ∷ []) }
+{
+    let list = with(list, "NEXTEST_BINARY_ID", id.binary.copy(alloc)?)?;
+    with(list, "NEXTEST_TEST_NAME", id.name.copy(alloc)?)
+}
+
+// Which attempt it is, and of how many.
+fn with_attempts(alloc: Global, list: Variables, view: &UnitView) -> Mem<Variables>
+    requires { attempts view.now < 2 ^ 32 }
+    ensures { IfOk result (λ v. v.items ≡ list.items ++ (codes "NEXTEST_ATTEMPT", decimal view.now.attempt)
+        ∷ (codes "NEXTEST_TOTAL_ATTEMPTS", decimal (attempts view.now)) ∷ []) }
+{
+    let list = with_number(alloc, list, "NEXTEST_ATTEMPT", view.attempt)?;
+    with_number(alloc, list, "NEXTEST_TOTAL_ATTEMPTS", attempts(view))
+}
+
 // Which attempt of which test it is.
 #[tactic(auto, unfolding(run_model::specs::Environment::identity_variables))]
 fn with_identity(alloc: Global, list: Variables, role: &TestRole, view: &UnitView) -> Mem<Variables>
     requires { attempts view.now < 2 ^ 32 }
     ensures { IfOk result (λ v. v.items ≡ list.items ++ identity_variables role.now view.now) }
 {
-    let id = &role.test.id;
-    let list = with_text(alloc, list, "NEXTEST_BINARY_ID", id.binary.as_str())?;
-    let list = with_text(alloc, list, "NEXTEST_TEST_NAME", id.name.as_str())?;
-    let list = with_number(alloc, list, "NEXTEST_ATTEMPT", view.attempt)?;
-    with_number(alloc, list, "NEXTEST_TOTAL_ATTEMPTS", attempts(view))
+    let list = with_name(alloc, list, &role.test.id)?;
+    with_attempts(alloc, list, view)
 }
 
 // How many sub-runs of a stress run there are to be.
@@ -95,18 +111,25 @@ fn count_text(alloc: Global, count: Option<u32>) -> Mem<Text>
     }
 }
 
+// The texts of which sub-run of a stress run it is in, and of how many there are to be.
+fn stress_texts(alloc: Global, index: Option<StressIndex>) -> Mem<(Text, Text)>
+    ensures { IfOk result (λ texts. texts ≡ (stress_current index, stress_total index)) }
+{
+    match index {
+        Some(index) => {
+            let total = count_text(alloc, index.total)?;
+            Ok((Text::from_number(alloc, index.current)?, total))
+        }
+        None => Ok((Text::from_static("none"), Text::from_static("none"))),
+    }
+}
+
 // Which sub-run of a stress run it is in.
 fn with_stress(alloc: Global, list: Variables, index: Option<StressIndex>) -> Mem<Variables>
     ensures { IfOk result (λ v. v.items ≡ list.items ++ (codes "NEXTEST_STRESS_CURRENT", stress_current index)
         ∷ (codes "NEXTEST_STRESS_TOTAL", stress_total index) ∷ []) }
 {
-    let (current, total) = match index {
-        Some(index) => (
-            Text::from_number(alloc, index.current)?,
-            count_text(alloc, index.total)?,
-        ),
-        None => (Text::from_static("none"), Text::from_static("none")),
-    };
+    let (current, total) = stress_texts(alloc, index)?;
     let list = with(list, "NEXTEST_STRESS_CURRENT", current)?;
     with(list, "NEXTEST_STRESS_TOTAL", total)
 }
