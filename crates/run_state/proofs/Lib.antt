@@ -2,6 +2,7 @@ pub mod AnswerLemmas
 pub mod CountedLemmas
 pub mod DeedLemmas
 pub mod DueLemmas
+pub mod FirstLemmas
 pub mod HoldersLemmas
 pub mod PlaceLemmas
 pub mod RoundLemmas

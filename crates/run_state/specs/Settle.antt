@@ -1,14 +1,16 @@
 -- The turns that a run takes by itself, and the first of them that is enabled.
 use Rattle.std.specs.Prelude.{ℕ, ◌≡◌, ◌<◌, List, [], ◌∷◌, ◌++◌, map, length, true, false, if◌then◌else◌, Option, Some}
-use Rattle.std.specs.Prelude.{None}
+use Rattle.std.specs.Prelude.{None, IfSome, IsNone, Bool}
 use Rattle.std.specs.List.{range_with_len}
 use Rattle.run_events.specs.declared.settings.Settings.{Settings}
 use Rattle.run_events.specs.declared.turn.Turn.{Turn}
 use Rattle.run_events.specs.declared.turn.Turn.TheVariants as turns
 use Rattle.run_model.specs.declared.unit_turn.UnitTurn.{UnitTurn}
+use Rattle.run_model.specs.declared.unit_turn.UnitTurn.TheVariants as own
 use Rattle.run_model.specs.Admission.{units_in}
 use Rattle.run_model.specs.Board.{Board, unit_in}
 use Rattle.run_model.specs.Turns.{enabled_on, unit_takes}
+use Rattle.run_state.specs.declared.settle.Firsts.{Firsts}
 use Rattle.run_state.specs.declared.settle.Settled.{Settled}
 use Rattle.run_state.specs.declared.settle.Settled.TheVariants as settled
 
@@ -52,3 +54,19 @@ pub record IsFirstTaker (b : Board) (turn : UnitTurn) (unit : ℕ) : Type 0 wher
 
 abbrev pub NoneTakes : Board → UnitTurn → ℕ → Type 0
 NoneTakes b turn count = (k : ℕ) → k < count → unit_takes b.clock (unit_in b k) turn ≡ false
+
+-- the first unit that takes a turn, none where none does
+abbrev pub IsFirstOf : Board → UnitTurn → Option ℕ → Type 0
+IsFirstOf b turn first =
+    IfSome first (IsFirstTaker b turn) × (IsNone first → NoneTakes b turn (length b.units))
+
+-- the first of some, after one more, which is of them or not
+abbrev pub first_of : Option ℕ → ℕ → Bool → Option ℕ
+first_of (Some first) unit is = Some first
+first_of None unit is = if is then Some unit else None
+
+-- the first units that take each of the turns that come by themselves; of the later ones where none takes a request
+pub record AreFirsts (b : Board) (word : ℕ) (f : Firsts) : Type 0 where
+  pub take : IsFirstOf b own.Take f.take
+  pub decide : IsNone f.take → IsFirstOf b (own.Decide word) f.decide
+  pub due : IsNone f.take → IsFirstOf b own.Due f.due

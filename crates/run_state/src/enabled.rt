@@ -90,8 +90,8 @@ fn env(alloc: Global, unit: u32, input: &EnvInput) -> Mem<Option<(u32, UnitTurn)
     Ok(Some((unit, UnitTurn::Env { input })))
 }
 
-// Whether a sub-run has begun and not ended.
-fn is_on(state: &State) -> bool
+/// Whether a sub-run has begun and not ended.
+pub fn is_on(state: &State) -> bool
     ensures { result ≡ state.now.board.dispatcher.on }
 {
     !matches!(state.dispatcher.state(), DispatchState::Idle)

@@ -1,18 +1,17 @@
 // Which turn a run takes by itself.
-ghost use Rattle.std.specs.Prelude.{◌≤◌, ◌≡◌, ◌<◌, ◌^◌, ◌++◌, length, IfSome, IsNone, None, false, option_map};
+ghost use Rattle.std.specs.Prelude.{◌≡◌, ◌<◌, ◌^◌, ◌++◌, length, false, option_map};
 ghost use Rattle.run_model.specs.Admission.{units_in};
+ghost use Rattle.run_model.specs.Turns.{enabled_on};
 ghost use Rattle.run_laws.specs.Ready.{IsTimelyBoard};
 ghost use Rattle.run_state.specs.Held.{KeepsSeats};
 ghost use Rattle.run_state.specs.Settle.{settled_turn, of_each, first_turns, last_turns, settling, first_enabled};
-ghost use Rattle.run_state.specs.Settle.{IsFirstTaker};
-ghost use Rattle.run_state.specs.Settle.{NoneTakes};
+ghost use Rattle.run_state.specs.Settle.{AreFirsts, IsFirstOf, first_of};
 ghost use Rattle.run_events.specs.declared.turn.Turn.TheVariants as turns;
 ghost use Rattle.run_model.specs.declared.unit_turn.UnitTurn.TheVariants as own;
 
-use crate::enabled::is_enabled;
+use crate::enabled::{is_enabled, is_on};
 use crate::state::State;
 use run_events::{Settings, Turn};
-use run_model::UnitTurn;
 
 /// A turn that a run takes by itself.
 #[derive(Clone, Copy)]
@@ -47,35 +46,90 @@ impl Settled {
     }
 }
 
-// The first unit that takes a turn.
-fn first_unit(state: &State, turn: &UnitTurn) -> Option<u32>
-    requires timely { IsTimelyBoard state.now.board }
-    requires few { length state.now.board.units < 2 ^ 32 }
-    ensures first { IfSome result (IsFirstTaker state.now.board turn.now) }
-    ensures none { IsNone result → NoneTakes state.now.board turn.now
-        (length state.now.board.units) }
-{
-    for place in 0..state.units.working_count() {
-        let unit = state.units.working_at(place);
-        if state.units.takes(unit, turn, state.clock) {
-            return Some(unit);
-        }
-    }
-    None
+// The first units that take each of the turns that come by themselves. Where there is one that takes a request, the
+// others say nothing of the units after it.
+#[derive(Clone, Copy)]
+struct Firsts {
+    take: Option<u32>,
+    decide: Option<u32>,
+    due: Option<u32>,
 }
 
-// The first unit that decides.
-fn first_decide(state: &State, word: u32) -> Option<u32>
+// The first unit of some, after one more, which is of them or not.
+fn first_of(first: Option<u32>, unit: u32, is: bool) -> Option<u32>
+    ensures { result ≡ first_of first unit is }
+{
+    match first {
+        Some(first) => Some(first),
+        None if is => Some(unit),
+        None => None,
+    }
+}
+
+// The first units that take a request, decide, and have a timer that is due.
+fn first_units(state: &State, word: u32) -> Firsts
     requires timely { IsTimelyBoard state.now.board }
     requires few { length state.now.board.units < 2 ^ 32 }
-    ensures first { IfSome result (IsFirstTaker state.now.board (own.Decide word)) }
-    ensures none { IsNone result → NoneTakes state.now.board (own.Decide word)
-        (length state.now.board.units) }
+    ensures { AreFirsts state.now.board word result }
 {
-    let turn = UnitTurn::Decide { word };
-    let unit = first_unit(state, &turn);
-    drop(turn);
-    unit
+    let mut decide = None;
+    let mut due = None;
+    for place in 0..state.units.working_count() {
+        let unit = state.units.working_at(place);
+        let wants = state.units.wants(unit, state.clock);
+        if wants.take {
+            return Firsts {
+                take: Some(unit),
+                decide,
+                due,
+            };
+        }
+        decide = first_of(decide, unit, wants.decide);
+        due = first_of(due, unit, wants.due);
+    }
+    Firsts {
+        take: None,
+        decide,
+        due,
+    }
+}
+
+// Whether a sub-run, the report that the run is cancelled, a delivery, or the end of a sub-run comes by itself. Most
+// often one flag says no.
+fn begins(settings: &Settings, state: &State) -> bool
+    requires whole { length state.now.board.units ≡ units_in settings.now }
+    requires seated { KeepsSeats settings.now state.now }
+    requires timely { IsTimelyBoard state.now.board }
+    ensures { result ≡ enabled_on settings.now state.now.board turns.Begin }
+{
+    !is_on(state) && is_enabled(settings, state, &Turn::Begin)
+}
+
+fn reports_cancel(settings: &Settings, state: &State) -> bool
+    requires whole { length state.now.board.units ≡ units_in settings.now }
+    requires seated { KeepsSeats settings.now state.now }
+    requires timely { IsTimelyBoard state.now.board }
+    ensures { result ≡ enabled_on settings.now state.now.board turns.ReportCancel }
+{
+    state.refused && is_enabled(settings, state, &Turn::ReportCancel)
+}
+
+fn delivers(settings: &Settings, state: &State) -> bool
+    requires whole { length state.now.board.units ≡ units_in settings.now }
+    requires seated { KeepsSeats settings.now state.now }
+    requires timely { IsTimelyBoard state.now.board }
+    ensures { result ≡ enabled_on settings.now state.now.board turns.Deliver }
+{
+    !state.queue.is_empty() && is_enabled(settings, state, &Turn::Deliver)
+}
+
+fn ends(settings: &Settings, state: &State) -> bool
+    requires whole { length state.now.board.units ≡ units_in settings.now }
+    requires seated { KeepsSeats settings.now state.now }
+    requires timely { IsTimelyBoard state.now.board }
+    ensures { result ≡ enabled_on settings.now state.now.board turns.End }
+{
+    state.units.are_over() && is_enabled(settings, state, &Turn::End)
 }
 
 // The first of the turns that come before those of units.
@@ -86,13 +140,13 @@ fn first_settled(settings: &Settings, state: &State) -> Option<Settled>
     ensures { option_map settled_turn result ≡ first_enabled settings.now state.now.board
         first_turns }
 {
-    if is_enabled(settings, state, &Turn::Begin) {
+    if begins(settings, state) {
         return Some(Settled::Begin);
     }
-    if is_enabled(settings, state, &Turn::ReportCancel) {
+    if reports_cancel(settings, state) {
         return Some(Settled::ReportCancel);
     }
-    if is_enabled(settings, state, &Turn::Deliver) {
+    if delivers(settings, state) {
         return Some(Settled::Deliver);
     }
     None
@@ -112,7 +166,7 @@ fn last_settled(settings: &Settings, state: &State) -> Option<Settled>
     if is_enabled(settings, state, &Turn::Admit) {
         return Some(Settled::Admit);
     }
-    if is_enabled(settings, state, &Turn::End) {
+    if ends(settings, state) {
         return Some(Settled::End);
     }
     None
@@ -120,9 +174,9 @@ fn last_settled(settings: &Settings, state: &State) -> Option<Settled>
 
 // The first unit whose timer is due, or a later turn.
 #[tactic(auto, using(crate::proofs::SettleLemmas::unit_first, crate::proofs::SettleLemmas::unit_none))]
-fn due_or_later(settings: &Settings, state: &State) -> Option<Settled>
+fn due_or_later(settings: &Settings, state: &State, due: Option<u32>) -> Option<Settled>
     requires whole { length state.now.board.units ≡ units_in settings.now }
-    requires few { units_in settings.now < 2 ^ 32 }
+    requires first { IsFirstOf state.now.board own.Due due }
     requires seated { KeepsSeats settings.now state.now }
     requires timely { IsTimelyBoard state.now.board }
     requires going { state.now.board.dispatcher.over ≡ false }
@@ -130,7 +184,7 @@ fn due_or_later(settings: &Settings, state: &State) -> Option<Settled>
         ≡ first_enabled settings.now state.now.board
         (of_each settings.now turns.UnitDue ++ last_turns) }
 {
-    match first_unit(state, &UnitTurn::Due) {
+    match due {
         Some(unit) => Some(Settled::UnitDue { unit }),
         None => last_settled(settings, state),
     }
@@ -138,9 +192,16 @@ fn due_or_later(settings: &Settings, state: &State) -> Option<Settled>
 
 // The first unit that decides, or a later turn.
 #[tactic(auto, using(crate::proofs::SettleLemmas::unit_first, crate::proofs::SettleLemmas::unit_none))]
-fn decide_or_later(settings: &Settings, state: &State, word: u32) -> Option<Settled>
+fn decide_or_later(
+    settings: &Settings,
+    state: &State,
+    word: u32,
+    decide: Option<u32>,
+    due: Option<u32>,
+) -> Option<Settled>
     requires whole { length state.now.board.units ≡ units_in settings.now }
-    requires few { units_in settings.now < 2 ^ 32 }
+    requires decide { IsFirstOf state.now.board (own.Decide word) decide }
+    requires due { IsFirstOf state.now.board own.Due due }
     requires seated { KeepsSeats settings.now state.now }
     requires timely { IsTimelyBoard state.now.board }
     requires going { state.now.board.dispatcher.over ≡ false }
@@ -149,9 +210,9 @@ fn decide_or_later(settings: &Settings, state: &State, word: u32) -> Option<Sett
         (of_each settings.now (λ unit. turns.Decide unit word)
         ++ (of_each settings.now turns.UnitDue ++ last_turns)) }
 {
-    match first_decide(state, word) {
+    match decide {
         Some(unit) => Some(Settled::Decide { unit, word }),
-        None => due_or_later(settings, state),
+        None => due_or_later(settings, state, due),
     }
 }
 
@@ -168,9 +229,10 @@ fn take_or_later(settings: &Settings, state: &State, word: u32) -> Option<Settle
         ++ (of_each settings.now (λ unit. turns.Decide unit word)
         ++ (of_each settings.now turns.UnitDue ++ last_turns))) }
 {
-    match first_unit(state, &UnitTurn::Take) {
+    let firsts = first_units(state, word);
+    match firsts.take {
         Some(unit) => Some(Settled::Take { unit }),
-        None => decide_or_later(settings, state, word),
+        None => decide_or_later(settings, state, word, firsts.decide, firsts.due),
     }
 }
 

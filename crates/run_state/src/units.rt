@@ -3,7 +3,7 @@ ghost use Rattle.std.specs.Prelude.{◌≡◌, ◌<◌, ◌≤◌, ℕ, length, 
 ghost use Rattle.std.specs.Prelude.{None, true, ◌+◌, ◌-◌, ◌^◌, cond, map, option_map};
 ghost use Rattle.std.specs.List.{list_all, list_any};
 ghost use Rattle.run_clock.specs.Sleep.{IsDueFrom};
-ghost use Rattle.run_model.specs.declared.unit_turn.UnitTurn.TheVariants.{Due};
+ghost use Rattle.run_model.specs.declared.unit_turn.UnitTurn.TheVariants.{Take, Decide, Due};
 ghost use Rattle.run_model.specs.declared.unit_view.UnitView.{UnitView};
 ghost use Rattle.run_model.specs.Admission.{handed_from, is_done, is_last, open_script};
 ghost use Rattle.run_model.specs.Board.{reach_all, units_after};
@@ -21,7 +21,7 @@ use run_capture::{List, Mem, OutOfMemory, Text};
 use run_clock::sooner;
 use run_events::Request;
 use run_model::{Phase, UnitTurn};
-use run_unit::{Unit, UnitEffects};
+use run_unit::{Unit, UnitEffects, Wants};
 use std::alloc::Global;
 use std::collections::VecDeque;
 use std::marker::Model;
@@ -106,6 +106,25 @@ impl Units {
         match self.items.get(unit as usize) {
             Some(Some(unit)) => unit.enabled(turn, now),
             _ => false,
+        }
+    }
+
+    /// Which of the turns that come by themselves a unit takes at a moment, as `takes` says of each.
+    pub fn wants(&self, unit: u32, now: u64) -> Wants
+        requires later { (u : UnitView) → slice_index_or self.now unit None ≡ Some u → u.latest
+            ≤ now }
+        ensures take { result.take ≡ unit_takes now (slice_index_or self.now unit None) Take }
+        ensures decide { (word : ℕ) → result.decide
+            ≡ unit_takes now (slice_index_or self.now unit None) (Decide word) }
+        ensures due { result.due ≡ unit_takes now (slice_index_or self.now unit None) Due }
+    {
+        match self.items.get(unit as usize) {
+            Some(Some(unit)) => unit.wants(now),
+            _ => Wants {
+                take: false,
+                decide: false,
+                due: false,
+            },
         }
     }
 

@@ -24,6 +24,7 @@ mod status;
 mod terminate;
 mod timing;
 mod unit;
+mod wants;
 
 pub use alike::Alike;
 pub use effects::UnitEffects;
@@ -34,3 +35,4 @@ pub use run_model::{BackoffIter, Phase, UnitTurn};
 pub use start::start_of;
 pub use terminate::terminate_method;
 pub use unit::Unit;
+pub use wants::Wants;

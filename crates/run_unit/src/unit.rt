@@ -1,5 +1,5 @@
 // A unit: a setup script, or one test with its attempts.
-ghost use Rattle.std.specs.Prelude.{◌≡◌, ◌+◌, ◌≤◌, ◌<◌, ◌^◌, length, IfOk, OnOk, OnErr, Some, option_map, slice_get};
+ghost use Rattle.std.specs.Prelude.{ℕ, ◌≡◌, ◌+◌, ◌≤◌, ◌<◌, ◌^◌, length, IfOk, OnOk, OnErr, Some, option_map, slice_get};
 ghost use Rattle.std.specs.Prelude.{true};
 ghost use Rattle.std.specs.List.{list_any};
 ghost use Rattle.run_clock.specs.Sleep.{IsDueFrom};
@@ -8,7 +8,7 @@ ghost use Rattle.run_model.specs.Admission.{first_view, script_view, skipped_vie
 ghost use Rattle.run_model.specs.Admission.{scripts_in, terms_at, unit_of_test};
 ghost use Rattle.run_model.specs.Backoff.{retry_count};
 ghost use Rattle.run_model.specs.declared.phase.Phase.TheVariants as phases;
-ghost use Rattle.run_model.specs.declared.unit_turn.UnitTurn.TheVariants.{Due};
+ghost use Rattle.run_model.specs.declared.unit_turn.UnitTurn.TheVariants.{Take, Decide, Due};
 ghost use Rattle.run_unit.specs.Alike.{alike_of};
 ghost use Rattle.run_unit.specs.Effects.{IsRow};
 ghost use Rattle.run_model.specs.Same.{is_request};
@@ -21,6 +21,7 @@ use crate::messages::start_message;
 use crate::requests::{holds, is_live};
 use crate::script::script_view;
 use crate::timing::next_due;
+use crate::wants::{Wants, wants_of};
 use run_capture::{List, Mem, Text};
 use run_events::{Message, Request, ScriptEnv, Settings, StressIndex, TestSlotAssignment};
 use run_model::{Phase, UnitTurn, UnitView};
@@ -174,6 +175,17 @@ impl Unit {
         ensures { result ≡ takes now self.now turn.now }
     {
         is_enabled(&self.view, turn, now)
+    }
+
+    /// Which of the turns that come by themselves the unit takes at a moment of the run's clock, which is no earlier than
+    /// its latest turn.
+    pub fn wants(&self, now: u64) -> Wants
+        requires { self.now.latest ≤ now }
+        ensures take { result.take ≡ takes now self.now Take }
+        ensures decide { (word : ℕ) → result.decide ≡ takes now self.now (Decide word) }
+        ensures due { result.due ≡ takes now self.now Due }
+    {
+        wants_of(&self.view, now)
     }
 
     /// The least moment of the run's clock at which the timer of its phase is due, none where it waits for none.

@@ -8,4 +8,4 @@ returns-in-None c =
     c.due_or_later.ensures
     ∙ sym (unit_none c.args.settings.now c.args.state.now.board (λ unit. turns.Decide unit c.args.word) _ _
     (λ k. refl) c.requires.going c.requires.whole
-    (c.in-None.ensures.none (search rules)))
+    (c.requires.decide.1 (search rules)))

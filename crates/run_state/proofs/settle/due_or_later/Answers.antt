@@ -8,4 +8,4 @@ returns-in-None c =
     c.last_settled.ensures
     ∙ sym (unit_none c.args.settings.now c.args.state.now.board (λ unit. turns.UnitDue unit) _ _
     (λ k. refl) c.requires.going c.requires.whole
-    (c.in-None.ensures.none (search rules)))
+    (c.requires.first.1 (search rules)))

@@ -8,4 +8,4 @@ returns-in-None c =
     c.decide_or_later.ensures
     ∙ sym (unit_none c.args.settings.now c.args.state.now.board (λ unit. turns.Take unit) _ _
     (λ k. refl) c.requires.going c.requires.whole
-    (c.in-None.ensures.none (search rules)))
+    (c.first_units-firsts.ensures.take.1 (search rules)))
