@@ -1,4 +1,4 @@
-// Numbers in a row, of which the least of any part is found in a logarithm of steps.
+// Numbers in a row, whose least is at hand. The first that is small enough is found in a logarithm of steps.
 ghost use Rattle.std.specs.Prelude.{◌≡◌, ◌<◌, ◌≤◌, length, slice_set, IfOk};
 ghost use Rattle.run_admission.specs.Least.{IsFirstWithin, IsLeast};
 

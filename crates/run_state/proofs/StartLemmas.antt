@@ -1,11 +1,13 @@
 -- A sub-run before any unit was admitted: what its tests hold of the limits, and the dispatcher before any turn.
 use Rattle.std.proofs.Common.{◌≡◌, ℕ, ◌+◌, ◌-◌, ◌<◌, List, [], length, get_or, Option, None, refl, ap, ap₂, sym, ◌∙◌}
 use Rattle.std.proofs.Common.{map, drop, zero, suc, ◌∷◌}
-use Rattle.std.proofs.Common.{replicate, Some, subst, arith}
+use Rattle.std.proofs.Common.{replicate, Some, subst, true, arith}
 use Rattle.std.proofs.lemmas.List.{ext_get_or, get_or-replicate, length-replicate, get_or-map, length-map}
 use Rattle.std.proofs.lemmas.List.{get_or-drop, length-drop}
-use Rattle.run_admission.specs.declared.seat.Seat.TheVariants.{Waiting}
-use Rattle.run_admission.specs.InUse.{Admissions, begun, claim_of}
+use Rattle.std.specs.List.{list_all}
+use Rattle.run_admission.specs.declared.seat.Seat.{Seat}
+use Rattle.run_admission.specs.declared.seat.Seat.TheVariants.{Waiting, InUse, Gone}
+use Rattle.run_admission.specs.InUse.{Admissions, begun, claim_of, is_waiting}
 use Rattle.run_events.specs.declared.request.Request.{Request}
 use Rattle.run_events.specs.declared.settings.Settings.{Settings}
 use Rattle.run_model.proofs.RerunLemmas.{unseen-none}
@@ -44,6 +46,22 @@ pub limits-anew : (p : Settings) (us : List (Option UnitView)) → ((k : ℕ) �
     → length (drop (scripts_in p) us) ≡ tests_in p → begun p.threads p.plan.groups p.plan.tests ≡ limits_of p us
 limits-anew p us none long =
     ap (λ seats. record (limits_of p us) { seats = seats }) (waits us (scripts_in p) (tests_in p) none long)
+
+-- and so are limits of which no test has taken
+all_waiting : (ss : List Seat) → list_all is_waiting ss ≡ true → ss ≡ replicate (length ss) Waiting
+all_waiting [] e = refl
+all_waiting (Waiting ∷ ss) e = ap (λ rest. Waiting ∷ rest) (all_waiting ss e)
+all_waiting (InUse global group ∷ ss) e = cc
+all_waiting (Gone ∷ ss) e = cc
+
+pub limits-untouched : (p : Settings) (us : List (Option UnitView)) (a : Admissions) → a ≡ limits_of p us → HasSeats a
+    → list_all is_waiting a.seats ≡ true → a ≡ begun p.threads p.plan.groups p.plan.tests
+limits-untouched p us a is has wait =
+    let many : length a.seats ≡ tests_in p =
+    has ∙ ap (λ (a : Admissions). length a.claims) is ∙ length-map p.plan.tests (claim_of p.plan.groups) in
+    let seats : map seat_of (drop (scripts_in p) us) ≡ replicate (tests_in p) Waiting =
+    sym (ap (λ (a : Admissions). a.seats) is) ∙ all_waiting a.seats wait ∙ ap (λ n. replicate n Waiting) many in
+    is ∙ ap (λ seats. record (limits_of p us) { seats = seats }) seats
 
 -- each test has a seat then
 seats-anew : (p : Settings) → HasSeats (begun p.threads p.plan.groups p.plan.tests)

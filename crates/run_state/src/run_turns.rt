@@ -2,12 +2,13 @@
 ghost use Rattle.std.specs.Prelude.{ℕ, ◌≡◌, ◌≤◌, IfOk, None, OnOk, OnErr, true, false, length, slice_index_or};
 ghost use Rattle.run_admission.specs.InUse.{begun as limits_begun};
 ghost use Rattle.run_dispatch.specs.Stress.{CanCount};
-ghost use Rattle.run_model.specs.Admission.{AreFew};
+ghost use Rattle.run_model.specs.Admission.{AreFew, limits_of};
 ghost use Rattle.run_model.specs.Board.{deed_events, moved};
 ghost use Rattle.run_model.specs.Cancel.{time_is_up, event_refused};
 ghost use Rattle.run_model.specs.Turns.{begun, cancelled, ended, ticks};
 ghost use Rattle.run_state.specs.Done.{Done};
 ghost use Rattle.run_state.specs.Held.{KeepsSeats};
+ghost use Rattle.run_state.specs.Placed.{HasSeats};
 
 use crate::broadcast::broadcast;
 use crate::effects::{Effects, telling};
@@ -25,7 +26,9 @@ fn renew(
     units: &mut Units,
     admission: &mut Admission,
 ) -> Mem<()>
-    requires { AreFew settings.now }
+    requires few { AreFew settings.now }
+    requires held { admission.old ≡ limits_of settings.now units.old }
+    requires seated { HasSeats admission.old }
     ensures count { OnOk result (length units.new ≡ length units.old) }
     ensures none { OnOk result ((k : ℕ) → slice_index_or units.new k None ≡ None) }
     ensures limits { let plan = settings.now.plan in
@@ -34,7 +37,9 @@ fn renew(
 {
     let groups = settings.plan.groups.as_slice();
     let tests = settings.plan.tests.as_slice();
-    *admission = Admission::new(alloc, settings.threads, groups, tests)?;
+    if !admission.all_wait() {
+        *admission = Admission::new(alloc, settings.threads, groups, tests)?;
+    }
     units.forget();
     Ok(())
 }
