@@ -140,7 +140,10 @@ fn with_group(alloc: Global, list: Variables, group: &Option<GroupSlot>) -> Mem<
         ∷ (codes "NEXTEST_TEST_GROUP_SLOT", group_number group.now) ∷ []) }
 {
     let (name, slot) = match group {
-        Some(group) => (group.name.copy(alloc)?, Text::from_number(alloc, group.slot)?),
+        Some(group) => (
+            group.name.copy(alloc)?,
+            Text::from_number(alloc, group.slot)?,
+        ),
         None => (Text::from_static("@global"), Text::from_static("none")),
     };
     let list = with(list, "NEXTEST_TEST_GROUP", name)?;
