@@ -31,7 +31,8 @@ use std::marker::Model;
 /// A setup script, or one test with its attempts. Contracts see it as the unit table does.
 #[derive(Drop)]
 pub struct Unit {
-    view: UnitView,
+    // Boxed, since it is wide and a new unit is moved often.
+    view: Box<UnitView>,
 }
 
 impl Model for Unit {
@@ -40,9 +41,9 @@ impl Model for Unit {
 
     ghost Value = { UnitView };
 
-    ghost view = { λ u. u.view };
+    ghost view = { λ u. u.view.value };
 
-    ghost invariant = { λ u. IsCurrent u.view × IsTried u.view };
+    ghost invariant = { λ u. IsCurrent u.view.value × IsTried u.view.value };
 }
 
 impl Unit {
@@ -78,6 +79,7 @@ impl Unit {
             handed,
             planned,
         )?;
+        let view = Box::new(alloc, view)?;
         Ok(Unit { view })
     }
 
@@ -123,6 +125,7 @@ impl Unit {
     {
         let planned = &settings.plan.scripts.as_slice()[script as usize];
         let view = script_view(alloc, settings, &alike.scripts, index, script, planned)?;
+        let view = Box::new(alloc, view)?;
         Ok(Unit { view })
     }
 
@@ -130,7 +133,7 @@ impl Unit {
     pub fn start_message(&self, alloc: Global) -> Mem<Message>
         ensures { IfOk result (λ m. m ≡ start_message self.now.role self.now) }
     {
-        start_message(alloc, &self.view)
+        start_message(alloc, &*self.view)
     }
 
     pub fn phase(&self) -> Phase
@@ -174,7 +177,7 @@ impl Unit {
         requires { self.now.latest ≤ now }
         ensures { result ≡ takes now self.now turn.now }
     {
-        is_enabled(&self.view, turn, now)
+        is_enabled(&*self.view, turn, now)
     }
 
     /// Which of the turns that come by themselves the unit takes at a moment of the run's clock, which is no earlier than
@@ -185,14 +188,14 @@ impl Unit {
         ensures decide { (word : ℕ) → result.decide ≡ takes now self.now (Decide word) }
         ensures due { result.due ≡ takes now self.now Due }
     {
-        wants_of(&self.view, now)
+        wants_of(&*self.view, now)
     }
 
     /// The least moment of the run's clock at which the timer of its phase is due, none where it waits for none.
     pub fn next_due(&self) -> Option<u64>
         ensures { IsDueFrom (λ now. takes now self.now Due) result }
     {
-        next_due(&self.view)
+        next_due(&*self.view)
     }
 
     /// Takes a turn at a moment of the run's clock, in nanoseconds: one row of the unit table. No turn is earlier than
@@ -205,7 +208,7 @@ impl Unit {
     {
         let latest = self.view.latest;
         self.view.latest = now;
-        match act(alloc, &mut self.view, turn, now) {
+        match act(alloc, &mut *self.view, turn, now) {
             Ok(effects) => Ok(effects),
             Err(error) => {
                 self.view.latest = latest;

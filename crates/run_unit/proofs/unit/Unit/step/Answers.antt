@@ -1,6 +1,7 @@
 -- The unit stays current, and at one of its attempts.
-use Rattle.std.proofs.Common.{◌≤◌, refl, sym, subst, arith}
+use Rattle.std.proofs.Common.{◌≡◌, ◌≤◌, refl, ap, sym, subst, ◌∙◌, arith}
 use Rattle.run_model.specs.declared.unit_view.UnitView.{UnitView}
+use Rattle.run_model.specs.Unit.{at_moment, row, row_at}
 use Rattle.run_unit.specs.Timely.{IsCurrent, IsTried}
 use Rattle.run_unit.proofs.TimelyLemmas.{row_current, at_moment_current}
 use Rattle.run_unit.proofs.TriedLemmas.{row_tried}
@@ -8,11 +9,17 @@ use Rattle.run_unit.proofs.unit.Unit.step.Goals as goal
 
 pub invariant_of-self : goal.invariant_of-self
 invariant_of-self c =
-    let later : c.self.inside.view.latest ≤ c.args.now = rw c.self.view_is c.requires.later in
-    let now_is : c.args.now ≤ c.args.now = omega arith in
-    subst (λ (u : UnitView). IsCurrent u × IsTried u) (sym c.in-Ok.ensures.row.next) (
-      row_current c.args.now c.self.inside.view.phase c.args.turn (record c.self.inside.view { latest = c.args.now }) now_is
-          (at_moment_current c.args.now c.self.inside.view later c.self.invariant.0),
-      row_tried c.args.now c.self.inside.view.phase c.args.turn (record c.self.inside.view { latest = c.args.now }) refl
-          c.self.invariant.1,
+    let now = c.args.now in
+    let turn = c.args.turn in
+    let unit = c.self.inside.view.value in
+    let later : unit.latest ≤ now = rw c.self.view_is c.requires.later in
+    let now_is : now ≤ now = omega arith in
+    let before : c.deref_mut-2.result.now ≡ at_moment now unit =
+    c.deref_mut-2.ensures.value ∙ ap (at_moment now) c.deref_mut.ensures.value in
+    let next : c.act.new.view ≡ (row now turn unit).next =
+    c.in-Ok.ensures.row.next ∙ ap (λ (u : UnitView). (row_at now u.phase turn u).next) before in
+    subst (λ (u : UnitView). IsCurrent u × IsTried u) (sym next) (
+      row_current now unit.phase turn (at_moment now unit) now_is
+          (at_moment_current now unit later c.self.invariant.0),
+      row_tried now unit.phase turn (at_moment now unit) refl c.self.invariant.1,
     )
