@@ -7,9 +7,10 @@ ghost use Rattle.run_model.specs.Journal.{outcome};
 ghost use Rattle.run_engine.specs.Standing.{sound};
 ghost use Rattle.run_engine.specs.World.{history_of};
 ghost use Rattle.run_generate.specs.Generated.{IsSummary, StopsShort};
-ghost use Rattle.run_generate.specs.OnWay.{Advances, IsOnWay, Notes, board_of};
+ghost use Rattle.run_generate.specs.OnWay.{Advances, IsOnWay, Keeps, Notes, board_of};
 ghost use Rattle.run_generate.specs.Turns.{exit_turn, first_with, last_as, last_turn, made_turn, next_turn, start_turn};
 ghost use Rattle.run_generate.specs.Turns.{stream_turn, time_turn, turn_after, unit_has};
+ghost use Rattle.run_generate.specs.declared.on_way.OnWay.{OnWay};
 
 use crate::child::{Child, Last, exit_at};
 use crate::generated::{GenerateError, Generated};
@@ -138,6 +139,9 @@ impl OnWay {
     fn note(&mut self) -> Mem<()>
         ensures { OnOk result (Notes self.old self.new) }
     {
+        if !self.run.has_start() {
+            return Ok(());
+        }
         let Some(start) = self.run.claim() else {
             return Ok(());
         };
@@ -157,6 +161,20 @@ impl OnWay {
             if self.run.phase(*unit) == Some(Phase::Over) {
                 self.attempts.remove(unit);
             }
+        }
+    }
+
+    // Keeps what a turn that was settled has asked for, and forgets what it has ended.
+    fn keep(&mut self, turn: Turn) -> Mem<()>
+        requires { (noted : OnWay) → Notes self.old noted → IsOnWay noted }
+        ensures { OnOk result (Keeps self.old self.new) }
+    {
+        match self.note() {
+            Ok(()) => {
+                self.forget(&turn);
+                Ok(())
+            }
+            Err(error) => Err(error),
         }
     }
 
@@ -194,8 +212,7 @@ impl OnWay {
     {
         match self.run.settle(alloc, 0, &mut self.deaf, &mut self.counter) {
             Ok(Some(turn)) => {
-                self.note()?;
-                self.forget(&turn);
+                self.keep(turn)?;
                 Ok(true)
             }
             Ok(None) => {

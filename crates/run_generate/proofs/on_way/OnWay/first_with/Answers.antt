@@ -1,5 +1,5 @@
 -- The first unit that has such a child is the least, since keys rise.
-use Rattle.std.proofs.Common.{◌∙◌, ◌≡◌, ℕ, [], ◌∷◌, ◌++◌, ap, sym, subst, append_assoc}
+use Rattle.std.proofs.Common.{◌∙◌, ℕ, [], ◌∷◌, ◌++◌, ap, sym, subst, append_assoc}
 use Rattle.std.proofs.lemmas.List.{append-nil}
 use Rattle.run_generate.specs.OnWay.{board_of}
 use Rattle.run_generate.proofs.ChildLemmas.{AreSeen, first_is, first_few, none_at_all, none_is, seen_more}
