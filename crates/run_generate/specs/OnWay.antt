@@ -59,8 +59,8 @@ pub record Notes (old new : OnWay) : Type 0 where
       → get nat_cmp new.attempts k ≡ attempts_noted (waiting_start old.run) (get nat_cmp old.attempts) k
 
 -- that start was claimed and kept, and an attempt may have been forgotten
-abbrev pub Keeps : OnWay → OnWay → Type 0
-Keeps old new = (noted : OnWay) × Notes old noted × IsOnWay new × (new.run ≡ noted.run)
+abbrev pub KeepsSettled : OnWay → OnWay → Type 0
+KeepsSettled old new = (noted : OnWay) × Notes old noted × IsOnWay new × (new.run ≡ noted.run)
 
 -- a run on its way takes the next turn, or is left as it is where there is none
 pub record TakesNext (old new : OnWay) : Type 0 where

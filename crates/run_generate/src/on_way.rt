@@ -7,7 +7,7 @@ ghost use Rattle.run_model.specs.Journal.{outcome};
 ghost use Rattle.run_engine.specs.Standing.{sound};
 ghost use Rattle.run_engine.specs.World.{history_of};
 ghost use Rattle.run_generate.specs.Generated.{IsSummary, StopsShort};
-ghost use Rattle.run_generate.specs.OnWay.{Advances, IsOnWay, Keeps, Notes, board_of};
+ghost use Rattle.run_generate.specs.OnWay.{Advances, IsOnWay, KeepsSettled, Notes, board_of};
 ghost use Rattle.run_generate.specs.Turns.{exit_turn, first_with, last_as, last_turn, made_turn, next_turn, start_turn};
 ghost use Rattle.run_generate.specs.Turns.{stream_turn, time_turn, turn_after, unit_has};
 ghost use Rattle.run_generate.specs.declared.on_way.OnWay.{OnWay};
@@ -167,7 +167,7 @@ impl OnWay {
     // Keeps what a turn that was settled has asked for, and forgets what it has ended.
     fn keep(&mut self, turn: Turn) -> Mem<()>
         requires { (noted : OnWay) → Notes self.old noted → IsOnWay noted }
-        ensures { OnOk result (Keeps self.old self.new) }
+        ensures { OnOk result (KeepsSettled self.old self.new) }
     {
         match self.note() {
             Ok(()) => {
