@@ -1,10 +1,10 @@
 -- What a list and a text hold. A list that is made without an allocator holds no `Vec` until its first item; the bytes
--- of a text lie in the program, in the text itself or in memory of their own.
+-- of a text lie in the text itself or in memory of their own.
 use Rattle.std.specs.Prelude.{ℕ, List, [], Option, None, Some, string_bytes}
 use Rattle.std.specs.declared.vec.Vec.{Vec}
 use Rattle.std.specs.declared.alloc.Global.{Global}
 use Rattle.run_capture.specs.declared.text.Bytes.{Bytes}
-use Rattle.run_capture.specs.declared.text.Bytes.TheVariants.{Static, Short, Long}
+use Rattle.run_capture.specs.declared.text.Bytes.TheVariants.{Short, Long}
 
 -- the items of such a list
 abbrev pub items_held : {T : Type 0} → Option (Vec T Global) → List T
@@ -13,6 +13,5 @@ items_held (Some v) = v.items
 
 -- the bytes of such a text
 abbrev pub text_held : Bytes → List ℕ
-text_held (Static text) = text.now
 text_held (Short short) = short.bytes
 text_held (Long string) = string_bytes string

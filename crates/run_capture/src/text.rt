@@ -14,10 +14,8 @@ use std::marker::Model;
 /// Where the bytes of a text lie.
 #[derive(Drop)]
 enum Bytes {
-    /// In the program.
-    Static(&'static str),
     /// In the text itself.
-    Short(ArrayString<16>),
+    Short(ArrayString<24>),
     /// In memory of their own.
     Long(String),
 }
@@ -38,7 +36,7 @@ impl Model for Text {
 }
 
 // A text that fits beside its length.
-fn short_of(text: &str) -> Option<ArrayString<16>>
+fn short_of(text: &str) -> Option<ArrayString<24>>
     ensures { IfSome result (λ short. short.bytes ≡ text.now) }
 {
     match ArrayString::from(text) {
@@ -57,15 +55,6 @@ impl Text {
             None => Bytes::Long(String::from_str(alloc, text)?),
         };
         Ok(Text { bytes })
-    }
-
-    /// A text that is part of the program. Takes no memory.
-    pub fn from_static(text: &'static str) -> Text
-        ensures { result ≡ text.now }
-    {
-        Text {
-            bytes: Bytes::Static(text),
-        }
     }
 
     /// Takes a `String`, and no memory.
@@ -91,7 +80,6 @@ impl Text {
         ensures { result.now ≡ self.now }
     {
         match &self.bytes {
-            Bytes::Static(text) => text,
             Bytes::Short(short) => short.as_str(),
             Bytes::Long(string) => string.as_str(),
         }
@@ -140,7 +128,6 @@ impl Debug for Text {
 impl Duplicate for Text {
     fn copy(&self, alloc: Global) -> Mem<Text> {
         let bytes = match &self.bytes {
-            Bytes::Static(text) => Bytes::Static(text),
             Bytes::Short(short) => Bytes::Short(*short),
             Bytes::Long(string) => Bytes::Long(String::from_str(alloc, string.as_str())?),
         };

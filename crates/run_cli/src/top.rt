@@ -21,7 +21,7 @@ use crate::plan_line::runner_of;
 use run_capture::{Sink, Source};
 use run_drive::Host;
 use run_engine::TestRunnerBuildError;
-use run_events::{Hearing, InputHandlerKind, Plan, RunOutcome, SignalHandlerKind};
+use run_events::{InputHandlerKind, Plan, RunOutcome, SignalHandlerKind};
 use run_input::{Input, RunnerKeys};
 use run_live::Live;
 use run_output::{Fault, PlanFault};
@@ -104,11 +104,8 @@ fn unheard(plan: Plan) -> Plan
     ensures { result ≡ unheard plan }
 {
     let mut plan = plan;
-    plan.hearing = Hearing {
-        signals: SignalHandlerKind::Noop,
-        input: InputHandlerKind::Noop,
-        quit_is_info: plan.hearing.quit_is_info,
-    };
+    plan.hearing.signals = SignalHandlerKind::Noop;
+    plan.hearing.input = InputHandlerKind::Noop;
     plan
 }
 

@@ -18,30 +18,35 @@ type Variables = Vec<(Text, Text)>;
 // How many variables a child has beside those of versions and those that are handed on.
 const OWN: usize = 13;
 
-fn with(list: Variables, key: &'static str, value: Text) -> Mem<Variables>
+fn with(alloc: Global, list: Variables, key: &str, value: Text) -> Mem<Variables>
     ensures { IfOk result (λ v. v.items ≡ list.items ++ (key.now, value) ∷ []) }
 {
     let mut list = list;
-    list.push((Text::from_static(key), value))?;
+    list.push((Text::from_str(alloc, key)?, value))?;
     Ok(list)
 }
 
-fn with_text(alloc: Global, list: Variables, key: &'static str, value: &str) -> Mem<Variables>
+fn with_text(alloc: Global, list: Variables, key: &str, value: &str) -> Mem<Variables>
     ensures { IfOk result (λ v. v.items ≡ list.items ++ (key.now, value.now) ∷ []) }
 {
-    with(list, key, Text::from_str(alloc, value)?)
+    with(alloc, list, key, Text::from_str(alloc, value)?)
 }
 
-fn with_number(alloc: Global, list: Variables, key: &'static str, value: u32) -> Mem<Variables>
+fn with_number(alloc: Global, list: Variables, key: &str, value: u32) -> Mem<Variables>
     ensures { IfOk result (λ v. v.items ≡ list.items ++ (key.now, decimal value) ∷ []) }
 {
-    with(list, key, Text::from_number(alloc, value)?)
+    with(alloc, list, key, Text::from_number(alloc, value)?)
 }
 
-fn with_id(alloc: Global, list: Variables, key: &'static str, value: Uuid) -> Mem<Variables>
+fn with_id(alloc: Global, list: Variables, key: &str, value: Uuid) -> Mem<Variables>
     ensures { IfOk result (λ v. v.items ≡ list.items ++ (key.now, hyphenated_text lower value) ∷ []) }
 {
-    with(list, key, Text::from_string(format!(in alloc; "{value}")?))
+    with(
+        alloc,
+        list,
+        key,
+        Text::from_string(format!(in alloc; "{value}")?),
+    )
 }
 
 // What the tests of a run are run as.
@@ -58,9 +63,9 @@ fn mode_name(mode: RunMode) -> &'static str
 fn with_run(alloc: Global, list: Variables, around: &Surroundings) -> Mem<Variables>
     ensures { IfOk result (λ v. v.items ≡ list.items ++ run_variables around.now) }
 {
-    let mode = Text::from_static(mode_name(around.mode));
+    let mode = Text::from_str(alloc, mode_name(around.mode))?;
     let list = with_id(alloc, list, "NEXTEST_RUN_ID", around.run_id)?;
-    with(list, "NEXTEST_RUN_MODE", mode)
+    with(alloc, list, "NEXTEST_RUN_MODE", mode)
 }
 
 // How much runs at a time, and in which folder.
@@ -77,8 +82,8 @@ fn with_name(alloc: Global, list: Variables, id: &TestInstanceId) -> Mem<Variabl
     ensures { IfOk result (λ v. v.items ≡ list.items ++ (codes "NEXTEST_BINARY_ID", id.now.binary)
         ∷ (codes "NEXTEST_TEST_NAME", id.now.name) ∷ []) }
 {
-    let list = with(list, "NEXTEST_BINARY_ID", id.binary.copy(alloc)?)?;
-    with(list, "NEXTEST_TEST_NAME", id.name.copy(alloc)?)
+    let list = with(alloc, list, "NEXTEST_BINARY_ID", id.binary.copy(alloc)?)?;
+    with(alloc, list, "NEXTEST_TEST_NAME", id.name.copy(alloc)?)
 }
 
 // Which attempt it is, and of how many.
@@ -107,7 +112,7 @@ fn count_text(alloc: Global, count: Option<u32>) -> Mem<Text>
 {
     match count {
         Some(count) => Text::from_number(alloc, count),
-        None => Ok(Text::from_static("unknown")),
+        None => Text::from_str(alloc, "unknown"),
     }
 }
 
@@ -120,7 +125,10 @@ fn stress_texts(alloc: Global, index: Option<StressIndex>) -> Mem<(Text, Text)>
             let total = count_text(alloc, index.total)?;
             Ok((Text::from_number(alloc, index.current)?, total))
         }
-        None => Ok((Text::from_static("none"), Text::from_static("none"))),
+        None => Ok((
+            Text::from_str(alloc, "none")?,
+            Text::from_str(alloc, "none")?,
+        )),
     }
 }
 
@@ -130,8 +138,8 @@ fn with_stress(alloc: Global, list: Variables, index: Option<StressIndex>) -> Me
         ∷ (codes "NEXTEST_STRESS_TOTAL", stress_total index) ∷ []) }
 {
     let (current, total) = stress_texts(alloc, index)?;
-    let list = with(list, "NEXTEST_STRESS_CURRENT", current)?;
-    with(list, "NEXTEST_STRESS_TOTAL", total)
+    let list = with(alloc, list, "NEXTEST_STRESS_CURRENT", current)?;
+    with(alloc, list, "NEXTEST_STRESS_TOTAL", total)
 }
 
 // The group that a test runs in, and its slot there.
@@ -144,10 +152,13 @@ fn with_group(alloc: Global, list: Variables, group: &Option<GroupSlot>) -> Mem<
             group.name.copy(alloc)?,
             Text::from_number(alloc, group.slot)?,
         ),
-        None => (Text::from_static("@global"), Text::from_static("none")),
+        None => (
+            Text::from_str(alloc, "@global")?,
+            Text::from_str(alloc, "none")?,
+        ),
     };
-    let list = with(list, "NEXTEST_TEST_GROUP", name)?;
-    with(list, "NEXTEST_TEST_GROUP_SLOT", slot)
+    let list = with(alloc, list, "NEXTEST_TEST_GROUP", name)?;
+    with(alloc, list, "NEXTEST_TEST_GROUP_SLOT", slot)
 }
 
 // Where it runs.

@@ -103,9 +103,9 @@ impl Unit {
             global: 0,
             group: None,
         };
-        let mut view = Unit::test(alloc, settings, alike, index, test, slot, List::new())?.view;
-        view.phase = Phase::Over;
-        Ok(Unit { view })
+        let mut unit = Unit::test(alloc, settings, alike, index, test, slot, List::new())?;
+        unit.view.phase = Phase::Over;
+        Ok(unit)
     }
 
     /// The script at this place of the plan.
