@@ -89,7 +89,7 @@ impl Children for Yard {
 
     fn ask(&mut self, _alloc: Global, _turn: u64, ask: &Ask) -> Mem<()> {
         if let Ask::Start(start) = ask {
-            self.0.push(start.unit)?;
+            self.0.push(start.get().unit)?;
         }
         Ok(())
     }

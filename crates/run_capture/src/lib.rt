@@ -7,6 +7,7 @@
 
 mod accumulator;
 mod blob;
+mod boxed;
 mod child_output_mut;
 mod duplicate;
 mod ended;
@@ -28,6 +29,7 @@ mod whole;
 
 pub use accumulator::ChildAccumulator;
 pub use blob::Blob;
+pub use boxed::Boxed;
 pub use child_output_mut::ChildOutputMut;
 pub use duplicate::{Duplicate, with_copies};
 pub use laws::output_is_what_was_heard;

@@ -31,15 +31,15 @@ pub fn hear(alloc: Global, view: &mut DispatcherView, message: Message, now: u64
     ensures err { OnErr result (view.new ≡ view.old) }
 {
     match message {
-        Message::ScriptStart(start) => hear_script_start(alloc, view, start, now),
-        Message::ScriptSlow(slow) => hear_script_slow(alloc, view, slow, now),
-        Message::ScriptFinish(finish) => hear_script_finish(alloc, view, finish, now),
-        Message::Start(start) => hear_start(alloc, view, start, now),
-        Message::Slow(slow) => hear_slow(alloc, view, slow, now),
-        Message::AttemptFailed(failed) => hear_failed(alloc, view, failed, now),
-        Message::Retry(retry) => hear_retry(alloc, view, retry, now),
-        Message::Skip(skip) => hear_skip(alloc, view, skip, now),
-        Message::Finish(finish) => hear_finish(alloc, view, finish, now),
+        Message::ScriptStart(start) => hear_script_start(alloc, view, start.into_inner(), now),
+        Message::ScriptSlow(slow) => hear_script_slow(alloc, view, slow.into_inner(), now),
+        Message::ScriptFinish(finish) => hear_script_finish(alloc, view, finish.into_inner(), now),
+        Message::Start(start) => hear_start(alloc, view, start.into_inner(), now),
+        Message::Slow(slow) => hear_slow(alloc, view, slow.into_inner(), now),
+        Message::AttemptFailed(failed) => hear_failed(alloc, view, failed.into_inner(), now),
+        Message::Retry(retry) => hear_retry(alloc, view, retry.into_inner(), now),
+        Message::Skip(skip) => hear_skip(alloc, view, skip.into_inner(), now),
+        Message::Finish(finish) => hear_finish(alloc, view, finish.into_inner(), now),
     }
 }
 

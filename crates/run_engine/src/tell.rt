@@ -114,7 +114,7 @@ pub fn keep_start(starts: &mut VecDeque<StartAsk>, asked: Option<Ask>)
     ensures { starts.new.items ≡ starts.old.items ++ start_among asked }
 {
     match asked {
-        Some(Ask::Start(start)) => starts.push_back_reserved(start),
+        Some(Ask::Start(start)) => starts.push_back_reserved(start.into_inner()),
         Some(Ask::Signal(_)) => {}
         Some(Ask::StopSelf) => {}
         None => {}

@@ -1,7 +1,7 @@
 // What the outside is asked to do.
 use crate::ChildSignal;
 use crate::copies::both;
-use run_capture::{Duplicate, List, Mem, Stream, Text};
+use run_capture::{Boxed, Duplicate, List, Mem, Stream, Text};
 use std::alloc::Global;
 
 /// A child is to be started.
@@ -69,7 +69,7 @@ pub struct SignalAsk {
 /// A request to the outside.
 #[derive(Debug, Drop)]
 pub enum Ask {
-    Start(StartAsk),
+    Start(Boxed<StartAsk>),
     Signal(SignalAsk),
     /// The runner itself is to stop.
     StopSelf,

@@ -4,7 +4,7 @@ use crate::{
     ExecuteStatus, FlakyResult, SetupScriptExecuteStatus, StressIndex, TestInstanceId,
     TestSlotAssignment,
 };
-use run_capture::{Duplicate, List, Mem, Text};
+use run_capture::{Boxed, Duplicate, List, Mem, Text};
 use std::alloc::Global;
 
 /// A test, as its messages and events name it. The unit's number isn't printed.
@@ -317,15 +317,15 @@ impl Duplicate for TestSkip {
 /// A message of a unit to the dispatcher. All messages stand in one queue.
 #[derive(Debug, Drop)]
 pub enum Message {
-    ScriptStart(ScriptStart),
-    ScriptSlow(ScriptSlow),
-    ScriptFinish(ScriptFinish),
-    Start(TestStart),
-    Slow(TestSlow),
-    AttemptFailed(AttemptFailed),
-    Retry(TestRetry),
-    Finish(TestFinish),
-    Skip(TestSkip),
+    ScriptStart(Boxed<ScriptStart>),
+    ScriptSlow(Boxed<ScriptSlow>),
+    ScriptFinish(Boxed<ScriptFinish>),
+    Start(Boxed<TestStart>),
+    Slow(Boxed<TestSlow>),
+    AttemptFailed(Boxed<AttemptFailed>),
+    Retry(Boxed<TestRetry>),
+    Finish(Boxed<TestFinish>),
+    Skip(Boxed<TestSkip>),
 }
 
 impl Duplicate for Message {

@@ -76,7 +76,7 @@ fn print_ask(alloc: Global, turn: u64, ask: &Ask) -> Mem<Printer>
     ensures { IfOk result (λ p. print p ≡ ask_text turn ask.now) }
 {
     match ask {
-        Ask::Start(start) => print_start(alloc, turn, start),
+        Ask::Start(start) => print_start(alloc, turn, start.get()),
         Ask::Signal(ask) => print_signal(alloc, turn, *ask),
         Ask::StopSelf => print_stop_self(alloc, turn),
     }

@@ -36,9 +36,9 @@ fn starting(message: &Message) -> Option<u32>
     ensures { result ≡ starting message.now }
 {
     match message {
-        Message::ScriptStart(start) => Some(start.script.unit),
-        Message::Start(start) => Some(start.test.unit),
-        Message::Retry(retry) => Some(retry.start.test.unit),
+        Message::ScriptStart(start) => Some(start.get().script.unit),
+        Message::Start(start) => Some(start.get().test.unit),
+        Message::Retry(retry) => Some(retry.get().start.test.unit),
         _ => None,
     }
 }

@@ -11,7 +11,7 @@ ghost use Rattle.run_model.specs.Unit.{slow_report, test_slow};
 
 use crate::script::{script_finish, script_slow, script_start};
 use crate::slow::{is_out_of_time, slow_time};
-use run_capture::{Duplicate, Mem, Text};
+use run_capture::{Boxed, Duplicate, Mem, Text};
 use run_events::{
     AttemptFailed, ExecuteStatus, Message, PlanTest, StressIndex, TestFinish, TestRetry, TestSkip,
     TestSlow, TestStart, TestUnit,
@@ -75,11 +75,11 @@ pub fn start_message(alloc: Global, view: &UnitView) -> Mem<Message>
     match &view.role {
         UnitRole::Test(role) => {
             let start = test_start(alloc, role, view)?;
-            Ok(Message::Start(start))
+            Ok(Message::Start(Boxed::new(alloc, start)?))
         }
         UnitRole::Script(role) => {
             let start = script_start(alloc, role, view)?;
-            Ok(Message::ScriptStart(start))
+            Ok(Message::ScriptStart(Boxed::new(alloc, start)?))
         }
     }
 }
@@ -97,7 +97,8 @@ pub fn skip_message(
 {
     let reason = reason.copy(alloc)?;
     let test = test_unit(alloc, index, unit, test)?;
-    Ok(Message::Skip(TestSkip { test, reason }))
+    let skip = TestSkip { test, reason };
+    Ok(Message::Skip(Boxed::new(alloc, skip)?))
 }
 
 // That an attempt of a test was slow so often.
@@ -123,11 +124,11 @@ pub fn slow_report(alloc: Global, view: &UnitView, count: u32) -> Mem<Message>
     match &view.role {
         UnitRole::Test(role) => {
             let slow = test_slow(alloc, role, view, count)?;
-            Ok(Message::Slow(slow))
+            Ok(Message::Slow(Boxed::new(alloc, slow)?))
         }
         UnitRole::Script(role) => {
             let slow = script_slow(alloc, role, view, count)?;
-            Ok(Message::ScriptSlow(slow))
+            Ok(Message::ScriptSlow(Boxed::new(alloc, slow)?))
         }
     }
 }
@@ -143,11 +144,12 @@ fn failed_message(
 {
     let test = role.test.copy(alloc)?;
     let status = status.copy(alloc)?;
-    Ok(Message::AttemptFailed(AttemptFailed {
+    let failed = AttemptFailed {
         test,
         status,
         delay_next: delay,
-    }))
+    };
+    Ok(Message::AttemptFailed(Boxed::new(alloc, failed)?))
 }
 
 /// The message that its last attempt failed, and that the next comes after this delay: none of a script, which has one.
@@ -190,7 +192,7 @@ pub fn retry_message(alloc: Global, view: &UnitView) -> Mem<Option<Message>>
     match &view.role {
         UnitRole::Test(role) => {
             let retry = test_retry(alloc, role, view)?;
-            Ok(Some(Message::Retry(retry)))
+            Ok(Some(Message::Retry(Boxed::new(alloc, retry)?)))
         }
         UnitRole::Script(_) => Ok(None),
     }
@@ -218,7 +220,7 @@ fn script_end(alloc: Global, role: &ScriptRole, view: &UnitView) -> Mem<Option<M
     match view.statuses.as_slice().last() {
         Some(status) => {
             let finish = script_finish(alloc, role, view, status)?;
-            Ok(Some(Message::ScriptFinish(finish)))
+            Ok(Some(Message::ScriptFinish(Boxed::new(alloc, finish)?)))
         }
         None => Ok(None),
     }
@@ -231,7 +233,7 @@ pub fn finish_message(alloc: Global, view: &UnitView) -> Mem<Option<Message>>
     match &view.role {
         UnitRole::Test(role) => {
             let finish = test_finish(alloc, role, view)?;
-            Ok(Some(Message::Finish(finish)))
+            Ok(Some(Message::Finish(Boxed::new(alloc, finish)?)))
         }
         UnitRole::Script(role) => script_end(alloc, role, view),
     }

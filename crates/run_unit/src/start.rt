@@ -11,7 +11,7 @@ use crate::environment::environment;
 use crate::messages::number_of;
 use crate::pauses::timers_from;
 use run_capture::{
-    CaptureStrategy, ChildAccumulator, Duplicate, List, Mem, Stream, Text, with_copies,
+    Boxed, CaptureStrategy, ChildAccumulator, Duplicate, List, Mem, Stream, Text, with_copies,
 };
 use run_events::{Ask, StartAsk};
 use run_model::{CapturedStreams, Phase, UnitRole, UnitView};
@@ -97,7 +97,7 @@ pub fn start_of(alloc: Global, unit: &UnitView) -> Mem<Ask>
     let env_path = env_path_of(alloc, &unit.role)?;
     let streams = streams_of(alloc, unit.terms.streams)?;
     let (command, env) = program_of(alloc, unit)?;
-    Ok(Ask::Start(StartAsk {
+    let start = StartAsk {
         unit: number_of(&unit.role),
         attempt: unit.attempt,
         command,
@@ -106,7 +106,8 @@ pub fn start_of(alloc: Global, unit: &UnitView) -> Mem<Ask>
         stdin: unit.around.get().stdin,
         streams,
         env_path,
-    }))
+    };
+    Ok(Ask::Start(Boxed::new(alloc, start)?))
 }
 
 // What is captured of a child before its first piece.
