@@ -8,7 +8,7 @@ ghost use Rattle.run_model.specs.Environment.{stress_total};
 
 use crate::messages::attempts;
 use run_capture::{Duplicate, List, Mem, Text, with_copies};
-use run_events::{GroupSlot, RunMode, StressIndex, TestInstanceId};
+use run_events::{GroupSlot, RunMode, StressIndex, TestInstanceId, TestSlotAssignment};
 use run_model::{ScriptRole, Surroundings, TestRole, UnitRole, UnitView};
 use std::alloc::Global;
 use uuid::Uuid;
@@ -125,10 +125,10 @@ fn stress_texts(alloc: Global, index: Option<StressIndex>) -> Mem<(Text, Text)>
             let total = count_text(alloc, index.total)?;
             Ok((Text::from_number(alloc, index.current)?, total))
         }
-        None => Ok((
-            Text::from_str(alloc, "none")?,
-            Text::from_str(alloc, "none")?,
-        )),
+        None => {
+            let total = Text::from_str(alloc, "none")?;
+            Ok((Text::from_str(alloc, "none")?, total))
+        }
     }
 }
 
@@ -142,23 +142,40 @@ fn with_stress(alloc: Global, list: Variables, index: Option<StressIndex>) -> Me
     with(alloc, list, "NEXTEST_STRESS_TOTAL", total)
 }
 
+// The name of the group that a test runs in, and its slot there.
+fn group_texts(alloc: Global, group: &Option<GroupSlot>) -> Mem<(Text, Text)>
+    ensures { IfOk result (λ texts. texts ≡ (group_name group.now, group_number group.now)) }
+{
+    match group {
+        Some(group) => {
+            let name = group.name.copy(alloc)?;
+            Ok((name, Text::from_number(alloc, group.slot)?))
+        }
+        None => {
+            let name = Text::from_str(alloc, "@global")?;
+            Ok((name, Text::from_str(alloc, "none")?))
+        }
+    }
+}
+
 // The group that a test runs in, and its slot there.
 fn with_group(alloc: Global, list: Variables, group: &Option<GroupSlot>) -> Mem<Variables>
     ensures { IfOk result (λ v. v.items ≡ list.items ++ (codes "NEXTEST_TEST_GROUP", group_name group.now)
         ∷ (codes "NEXTEST_TEST_GROUP_SLOT", group_number group.now) ∷ []) }
 {
-    let (name, slot) = match group {
-        Some(group) => (
-            group.name.copy(alloc)?,
-            Text::from_number(alloc, group.slot)?,
-        ),
-        None => (
-            Text::from_str(alloc, "@global")?,
-            Text::from_str(alloc, "none")?,
-        ),
-    };
+    let (name, slot) = group_texts(alloc, group)?;
     let list = with(alloc, list, "NEXTEST_TEST_GROUP", name)?;
     with(alloc, list, "NEXTEST_TEST_GROUP_SLOT", slot)
+}
+
+// The slots in which it runs.
+fn with_slots(alloc: Global, list: Variables, slot: &TestSlotAssignment) -> Mem<Variables>
+    ensures { IfOk result (λ v. v.items ≡ list.items ++ (codes "NEXTEST_TEST_GLOBAL_SLOT", decimal slot.now.global)
+        ∷ (codes "NEXTEST_TEST_GROUP", group_name slot.now.group)
+        ∷ (codes "NEXTEST_TEST_GROUP_SLOT", group_number slot.now.group) ∷ []) }
+{
+    let list = with_number(alloc, list, "NEXTEST_TEST_GLOBAL_SLOT", slot.global)?;
+    with_group(alloc, list, &slot.group)
 }
 
 // Where it runs.
@@ -167,8 +184,7 @@ fn with_place(alloc: Global, list: Variables, role: &TestRole) -> Mem<Variables>
     ensures { IfOk result (λ v. v.items ≡ list.items ++ place_variables role.now) }
 {
     let list = with_stress(alloc, list, role.test.stress_index)?;
-    let list = with_number(alloc, list, "NEXTEST_TEST_GLOBAL_SLOT", role.slot.global)?;
-    with_group(alloc, list, &role.slot.group)
+    with_slots(alloc, list, &role.slot)
 }
 
 // Room for the variables of a child, beside which there are so many of versions and so many that are handed on.
