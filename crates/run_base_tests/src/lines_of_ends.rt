@@ -1,7 +1,7 @@
 // The lines of asks, outcomes and faults.
 use crate::line_samples::{is_line, words};
 use crate::rows::{MEMORY, one, text};
-use run_capture::{List, Text};
+use run_capture::{Boxed, List, Text};
 use run_events::{Ask, ChildSignal, RunOutcome, SignalAsk, StartAsk};
 use run_output::{Fault, ask_line, fault_line, outcome_line, with_line_feed};
 use std::alloc::Global;
@@ -18,7 +18,7 @@ pub(crate) enum Sample {
 }
 
 fn start(rt: &impl Abort, alloc: Global) -> Ask {
-    Ask::Start(StartAsk {
+    let start = StartAsk {
         unit: 4,
         attempt: 1,
         command: words(rt, alloc, "true"),
@@ -27,7 +27,8 @@ fn start(rt: &impl Abort, alloc: Global) -> Ask {
         stdin: false,
         streams: List::new(),
         env_path: None,
-    })
+    };
+    Ask::Start(Boxed::new(alloc, start).expect(rt, MEMORY))
 }
 
 fn signal(signal: ChildSignal) -> Ask {
