@@ -2,7 +2,7 @@
 use crate::line_samples::{is_line, words};
 use crate::rows::{MEMORY, one, text};
 use run_capture::{Boxed, List, Text};
-use run_events::{Ask, ChildSignal, RunOutcome, SignalAsk, StartAsk};
+use run_events::{Ask, ChildSignal, RunOutcome, SignalAsk, StartAsk, Variables};
 use run_output::{Fault, ask_line, fault_line, outcome_line, with_line_feed};
 use std::alloc::Global;
 use std::process::Abort;
@@ -22,7 +22,7 @@ fn start(rt: &impl Abort, alloc: Global) -> Ask {
         unit: 4,
         attempt: 1,
         command: words(rt, alloc, "true"),
-        env: one(rt, alloc, (text(rt, alloc, "A"), text(rt, alloc, "b"))),
+        env: Variables::listed(one(rt, alloc, (text(rt, alloc, "A"), text(rt, alloc, "b")))),
         group: true,
         stdin: false,
         streams: List::new(),

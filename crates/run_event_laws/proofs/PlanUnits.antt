@@ -22,7 +22,8 @@ use Rattle.run_model.specs.declared.unit_view.UnitRole.TheVariants as roles
 use Rattle.run_model.specs.declared.unit_view.UnitView.{UnitView}
 use Rattle.run_model.specs.Admission.{first_view, global_slot, group_slot, handed_to, newcomer, Newcomer, runner_words}
 use Rattle.run_model.specs.Admission.{slots_of, unit_of_test}
-use Rattle.run_model.specs.Environment.{Variable, attempts_by, number}
+use Rattle.run_events.specs.Variables.{Variable}
+use Rattle.run_model.specs.Environment.{attempts_by, number}
 use Rattle.run_model.specs.Unit.{at_moment, is_live, reach, row}
 use Rattle.run_model.specs.Words.{unit_after, unit_of, units}
 use Rattle.run_laws.proofs.board.Newcomers.{Becomes, Newcomes, ScriptComes, newcomer_is, place-of_test, test_number}

@@ -1,1 +1,2 @@
 pub mod StatsLemmas
+mod VariableLemmas

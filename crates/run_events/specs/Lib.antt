@@ -8,3 +8,4 @@ pub mod Stress
 pub mod Cancel
 pub mod Usual
 pub mod Parts
+pub mod Variables

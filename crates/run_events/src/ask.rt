@@ -1,6 +1,6 @@
 // What the outside is asked to do.
-use crate::ChildSignal;
 use crate::copies::both;
+use crate::{ChildSignal, Variables};
 use run_capture::{Boxed, Duplicate, List, Mem, Stream, Text};
 use std::alloc::Global;
 
@@ -13,7 +13,7 @@ pub struct StartAsk {
     /// The program and its arguments.
     pub command: List<Text>,
     /// The variables that it gets, in order.
-    pub env: List<(Text, Text)>,
+    pub env: Variables,
     /// Whether it gets a process group of its own.
     pub group: bool,
     /// Whether it keeps the program's standard input.

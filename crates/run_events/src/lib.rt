@@ -28,6 +28,8 @@ mod stress;
 mod turn;
 mod usual;
 mod values;
+mod variable_list;
+mod variables;
 
 pub use ask::{Ask, SignalAsk, StartAsk};
 pub use ask_list::AskList;
@@ -63,3 +65,4 @@ pub use signal::{Heard, Signal, SignalHandlerKind, hears_signal};
 pub use stats::RunStats;
 pub use stress::{StressIndex, StressProgress, StressRemaining, StressRunStats};
 pub use turn::Turn;
+pub use variables::{RunContext, ScriptVariables, TestVariables, Variables};

@@ -1,5 +1,5 @@
 -- What an admission and the clock do to the board of a generated run.
-use Rattle.std.proofs.Common.{◌≡◌, ◌⊎◌, inl, inr, ℕ, ◌+◌, ◌-◌, ◌≤◌, ◌&&◌, not, []}
+use Rattle.std.proofs.Common.{◌≡◌, ◌⊎◌, inl, inr, ℕ, ◌+◌, ◌≤◌, ◌&&◌, not, []}
 use Rattle.std.proofs.Common.{length, get_or, set, drop, true, false, Option, Some, None, is_some}
 use Rattle.std.proofs.Common.{refl, ap, sym, ◌∙◌, arith}
 use Rattle.run_events.specs.declared.settings.Settings.{Settings}

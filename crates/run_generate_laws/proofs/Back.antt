@@ -1,5 +1,5 @@
 -- A generated journal, the newest entry first.
-use Rattle.std.proofs.Common.{◌≡◌, ℕ, zero, suc, ◌+◌, ◌-◌, ◌≤◌, List, [], ◌∷◌, ◌++◌, length, take, reverse, Some}
+use Rattle.std.proofs.Common.{◌≡◌, ℕ, zero, suc, ◌-◌, ◌≤◌, List, [], ◌∷◌, ◌++◌, length, take, reverse, Some}
 use Rattle.std.proofs.Common.{option_map, slice_get, refl, ap, sym, ◌∙◌, subst, arith, length-append}
 use Rattle.std.proofs.lemmas.List.{reverse-append, reverse-reverse, take-append-le}
 use Rattle.std.proofs.lemmas.Option.{slice_get_within}
@@ -17,17 +17,21 @@ get_front [] ys k x is = cc
 get_front (y ∷ xs) ys zero x is = is
 get_front (y ∷ xs) ys (suc k) x is = get_front xs ys k x is
 
+-- the element after a list
 get_next : {X : Type 0} (xs : List X) (x : X) → slice_get (xs ++ x ∷ []) (length xs) ≡ Some x
 get_next [] x = refl
 get_next (y ∷ xs) x = get_next xs x
 
+-- the first of two lists
 take_front : {X : Type 0} (xs ys : List X) → take (length xs) (xs ++ ys) ≡ xs
 take_front [] ys = refl
 take_front (x ∷ xs) ys = ap (λ zs. x ∷ zs) (take_front xs ys)
 
+-- the first element of a list stands last in its reverse
 reverse-cons : {X : Type 0} (x : X) (xs : List X) → reverse (x ∷ xs) ≡ reverse xs ++ x ∷ []
 reverse-cons x xs = reverse-append (x ∷ []) xs
 
+-- the last turn of a journal with one more entry
 last_pushed : (xs : List Entry) (e : Entry) → last_turn (xs ++ e ∷ []) ≡ Some e.turn
 last_pushed xs e =
     ap (λ k. option_map (λ (e : Entry). e.turn) (slice_get (xs ++ e ∷ []) k)) at
@@ -42,11 +46,13 @@ last-back [] = refl
 last-back (e ∷ before) =
     ap (λ xs. stage_of (last_turn xs)) (reverse-cons e before) ∙ ap stage_of (last_pushed (reverse before) e)
 
+-- its next turn
 pub next-back : (p : Settings) (backward : List Entry)
     → next_turn p (reverse backward) ≡ next_by p (board_back p backward) (last_back backward)
 next-back p backward =
     next-is p (board p (history p (reverse (reverse backward)))) (last_turn (reverse backward))
-    ∙ (ap (λ es. next_by p (board p (history p es)) (stage_of (last_turn (reverse backward)))) (reverse-reverse backward)
+    ∙ (ap (λ es. next_by p (board p (history p es)) (stage_of (last_turn (reverse backward))))
+    (reverse-reverse backward)
     ∙ ap (next_by p (board_back p backward)) (last-back backward))
 
 -- the entries before the last of a generated journal are one too
@@ -58,6 +64,7 @@ generated_front p xs e generated = λ k x is.
     within : (k : ℕ) (x : Entry) → slice_get xs k ≡ Some x → k ≤ length xs
     within k x is = let inside = slice_get_within xs k x is in omega arith
 
+-- so each turn of a generated journal, newest first, is the next one after those before it
 pub generated_back : (p : Settings) (backward : List Entry) → IsGenerated p (reverse backward)
     → IsGeneratedBack p backward
 generated_back p [] generated = tt

@@ -1,5 +1,5 @@
 -- What the turns of the children of a generated run do to its board.
-use Rattle.std.proofs.Common.{◌≡◌, ℕ, not, List, [], length, get_or, set, Bool}
+use Rattle.std.proofs.Common.{◌≡◌, ℕ, not, List, length, get_or, set, Bool}
 use Rattle.std.proofs.Common.{true, false, Option, Some, None, nat_lt, cond, position, option_map, refl, ap, sym, ◌∙◌}
 use Rattle.std.proofs.Common.{subst}
 use Rattle.std.proofs.Common.{arith}
@@ -32,6 +32,7 @@ pub record IsFound (child : Phase → Bool) (b : Board) (k : ℕ) : Type 0 where
   pub is : unit_in b k ≡ Some unit
   pub stands : child unit.phase ≡ true
 
+-- the first that is found stands so
 pub found : (child : Phase → Bool) (b : Board) (k : ℕ) → first_in child b ≡ Some k → IsFound child b k
 found child b k e =
     by_unit (unit_in b k) refl (position-Some (stands_as child) b.units k None e).1
@@ -40,14 +41,17 @@ found child b k e =
     by_unit None is has = cc
     by_unit (Some u) is has = record { unit = u; is = is; stands = has }
 
+-- a child that runs is that of a unit that runs
 pub runs_in : (ph : Phase) → is_running ph ≡ true → ph ≡ Running
 runs_in Running e = refl
 runs_in ph e = cc
 
+-- and one that is asked for is that of a unit that starts
 pub starts_in : (ph : Phase) → is_asked ph ≡ true → ph ≡ Starting
 starts_in Starting e = refl
 starts_in ph e = cc
 
+-- a child has started
 pub started_eases : (p : Settings) (b : Board) (k pid : ℕ) → IsKnown p b → IsCalm None b
     → enabled_on p b (turns.Started k pid) ≡ true
     → Eases at_rest at_rest 1 None b (step b (turns.Started k pid) (deed_on p b (turns.Started k pid)))
@@ -65,6 +69,7 @@ started_eases p b k pid known calm en =
         (started_row b.clock pid false u.phase u takes easy.stands easy.line (known.plain k u is)) (λ j e. refl)
         (omega arith)
 
+-- the output of the first child that runs has ended
 pub stream_eases : (p : Settings) (b : Board) (k : ℕ) → IsCalm None b → first_in is_running b ≡ Some k
     → Eases after_tick after_end 1 (Some k) b
     (step b (turns.StreamEnd k streams.Combined) (deed_on p b (turns.StreamEnd k streams.Combined)))
@@ -85,6 +90,7 @@ position-set f xs k y d same =
     ap (λ n. cond (nat_lt n (length (set xs k y))) (Some n) None) (position_or_len-set f xs k y d same)
     ∙ ap (λ m. cond (nat_lt (position_or_len f xs) m) (Some (position_or_len f xs)) None) (length-set xs k y)
 
+-- after that it is still the first that runs
 pub stream_first : (p : Settings) (b : Board) (k : ℕ) → first_in is_running b ≡ Some k
     → first_in is_running
     (step b (turns.StreamEnd k streams.Combined) (deed_on p b (turns.StreamEnd k streams.Combined))) ≡ Some k
@@ -113,6 +119,7 @@ stream_first p b k first =
         (row_at b.clock ph (own.StreamEnd streams.Combined) (at_moment b.clock u)).next.phase)
         (runs_in u.phase at.stands) ∙ at.stands
 
+-- the first child that runs, whose output has ended, exits
 pub exit_eases : (p : Settings) (b : Board) (k : ℕ) (exit : ChildExit) → IsKnown p b → IsCalm (Some k) b
     → first_in is_running b ≡ Some k
     → Eases after_end at_rest 1 None b (step b (turns.Exit k exit) (deed_on p b (turns.Exit k exit)))

@@ -1,5 +1,5 @@
 -- In a generated run that isn't over a turn always comes, and it is enabled.
-use Rattle.std.proofs.Common.{◌≡◌, ℕ, ◌+◌, ◌^◌, ◌<◌, ◌&&◌, not, []}
+use Rattle.std.proofs.Common.{◌≡◌, ℕ, ◌+◌, ◌^◌, ◌<◌, ◌&&◌, not}
 use Rattle.std.proofs.Common.{true, false, Option, Some, None, nat_lt, option_map}
 use Rattle.std.proofs.Common.{option_and_then, refl, ap, ◌∙◌, subst, arith}
 use Rattle.std.specs.Option.{option_or}
@@ -41,11 +41,13 @@ takes_own b k u to going is takes =
     ap (λ over. not over && unit_takes b.clock (unit_in b k) to) going
     ∙ (ap (λ o. unit_takes b.clock o to) is ∙ takes)
 
+-- a child that runs has its output ended
 stream_comes : (now : ℕ) (ph : Phase) (u : UnitView) → ph ≡ Running → StandsIn now false ph u
     → takes_at now ph u (own.StreamEnd streams.Combined) ≡ true
 stream_comes now Running u runs stands = ap (λ c. hears c (own.StreamEnd streams.Combined)) stands.0
 stream_comes now ph u runs stands = cc
 
+-- so a turn comes
 pub comes : (p : Settings) (b : Board) (last : Stage) (current : Option ℕ) → IsKnown p b → IsCalm current b
     → b.clock < 60000000000 → IsAt last current b → b.dispatcher.over ≡ false → Comes p b last
 comes p b after_tick current known calm early at going =

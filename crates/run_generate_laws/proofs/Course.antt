@@ -1,5 +1,5 @@
 -- A generated run on its way: its board is calm, and its turns so far and those to come are few.
-use Rattle.std.proofs.Common.{◌≡◌, ℕ, suc, ◌+◌, ◌-◌, ◌*◌, ◌<◌, ◌≤◌, List, [], ◌∷◌, length}
+use Rattle.std.proofs.Common.{◌≡◌, ℕ, suc, ◌+◌, ◌*◌, ◌<◌, ◌≤◌, List, [], ◌∷◌, length}
 use Rattle.std.proofs.Common.{Option, Some, None, refl, ap, sym, ◌∙◌, subst}
 use Rattle.std.proofs.Common.{arith}
 use Rattle.std.specs.Prelude.{⊤}
@@ -10,7 +10,7 @@ use Rattle.run_model.specs.Admission.{units_in}
 use Rattle.run_model.specs.Board.{Board, answered, board, step, unit_in}
 use Rattle.run_model.specs.Journal.{history, IsLegalBackward}
 use Rattle.run_model.specs.Turns.{deed_on}
-use Rattle.run_model.specs.Words.{clock, ns_of, units}
+use Rattle.run_model.specs.Words.{ns_of, units}
 use Rattle.run_model.specs.declared.entry.Entry.{Entry}
 use Rattle.run_laws.proofs.board.Boards.{board-steps}
 use Rattle.run_laws.proofs.board.Kept.{holds}
@@ -26,6 +26,7 @@ abbrev pub last_back : List Entry → Stage
 last_back [] = at_rest
 last_back (e ∷ before) = stage_of (Some e.turn)
 
+-- the board after a journal whose newest entry stands first
 abbrev pub board_back : Settings → List Entry → Board
 board_back p backward = board p (history p backward)
 
@@ -91,10 +92,12 @@ others_of : Turn → ℕ
 others_of (turns.Clock ns) = 0
 others_of turn = 1
 
+-- a turn is one of the clock or another one, and counts as its cost
 record IsCounted (turn : Turn) : Type 0 where
   one : others_of turn + ticks_of turn ≡ 1
   cost : others_of turn + 20 * ticks_of turn ≡ cost_of turn
 
+-- each turn is so
 counted : (turn : Turn) → IsCounted turn
 unfolding others_of
 counted (turns.Clock ns) = record { one = refl; cost = refl }
@@ -113,7 +116,8 @@ more p e before legal ran it =
       current = it.current;
       calm = subst (IsCalm it.current) (sym next)
           (record { quiet = it.eases.calm.quiet; easy = it.eases.calm.easy; before = it.eases.calm.before });
-      at = subst (IsAt (stage_of (Some e.turn)) it.current) (sym next) (still (stage_of (Some e.turn)) it.current it.at);
+      at = subst (IsAt (stage_of (Some e.turn)) it.current) (sym next)
+          (still (stage_of (Some e.turn)) it.current it.at);
       ticks = ran.ticks + ticks_of e.turn;
       others = ran.others + others_of e.turn;
       whole = longer (length before) ran.others ran.ticks (others_of e.turn) (ticks_of e.turn) ran.whole count.one;

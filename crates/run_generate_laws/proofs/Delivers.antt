@@ -1,5 +1,5 @@
 -- What a delivery does to the board of a generated run.
-use Rattle.std.proofs.Common.{◌≡◌, ℕ, suc, ◌+◌, ◌-◌, ◌≤◌, ◌&&◌, not, List, [], ◌∷◌, length, drop, Bool, true, false}
+use Rattle.std.proofs.Common.{◌≡◌, ℕ, suc, ◌+◌, ◌≤◌, ◌&&◌, not, List, [], ◌∷◌, length, drop, Bool, true, false}
 use Rattle.std.proofs.Common.{Option, Some, None, is_none, if◌then◌else◌, option_map, refl, ap, sym, subst, arith}
 use Rattle.run_clock.specs.Counted.{other}
 use Rattle.run_events.specs.declared.message.Message.{Message}
@@ -68,6 +68,7 @@ by_answer P b (Some k) (Some go) none acts = by_unit (unit_in b k) refl
     by_unit None is = none
     by_unit (Some u) is = acts k go u is
 
+-- the delivery of the oldest message
 pub deliver_eases : (p : Settings) (b : Board) → IsKnown p b → IsCalm None b → enabled_on p b turns.Deliver ≡ true
     → Eases at_rest at_rest 1 None b (step b turns.Deliver (deed_on p b turns.Deliver))
 deliver_eases p b known calm en =

@@ -62,6 +62,7 @@ is_settled turns.Admit = true
 is_settled turns.End = true
 is_settled turn = false
 
+-- the turns of two lists
 all_both : (xs ys : List Turn) → list_all is_settled xs ≡ true → list_all is_settled ys ≡ true
     → list_all is_settled (xs ++ ys) ≡ true
 all_both [] ys all more = more
@@ -73,11 +74,13 @@ all_both (x ∷ xs) ys all more = by_first (is_settled x) all (λ rest. all_both
     by_first true all rest = rest all
     by_first false all rest = cc
 
+-- a turn of each of some units
 all_each : (turn : ℕ → Turn) → ((k : ℕ) → is_settled (turn k) ≡ true) → (ks : List ℕ)
     → list_all is_settled (map turn ks) ≡ true
 all_each turn each [] = refl
 all_each turn each (k ∷ ks) = ap (λ b. b && list_all is_settled (map turn ks)) (each k) ∙ all_each turn each ks
 
+-- all turns that a run takes by itself are so
 pub all_settled : (p : Settings) (word : ℕ) → list_all is_settled (settling p word) ≡ true
 all_settled p word =
     all_both first_turns (takes ++ (decides ++ (dues ++ last_turns))) refl
@@ -101,6 +104,7 @@ pub record IsFirst (p : Settings) (b : Board) (turn : Turn) : Type 0 where
   pub settled : is_settled turn ≡ true
   pub en : enabled_on p b turn ≡ true
 
+-- the first that is enabled is so
 pub first_is : (p : Settings) (b : Board) (ts : List Turn) (turn : Turn) → list_all is_settled ts ≡ true
     → first_enabled p b ts ≡ Some turn → IsFirst p b turn
 first_is p b [] turn all first = cc
@@ -142,6 +146,7 @@ by_itself p b turns.End known calm early settled en =
     record { current = None; eases = end_eases p b calm en; at = refl; time = refl }
 by_itself p b turn known calm early settled en = cc
 
+-- two turns that are there are one where they are equal
 same_some : (x y : Turn) → Some x ≡ Some y → x ≡ y
 same_some x y e = cc
 

@@ -1,5 +1,5 @@
 -- What the laws of every legal journal say of the board of a run whose plan has plain tests alone.
-use Rattle.std.proofs.Common.{◌≡◌, ◌⊎◌, inl, inr, ℕ, ◌-◌, ◌<◌, List, [], length, Bool, true, false}
+use Rattle.std.proofs.Common.{◌≡◌, ◌⊎◌, inl, inr, ℕ, ◌<◌, List, [], length, Bool, true, false}
 use Rattle.std.proofs.Common.{Some, None, refl, ap, sym, ◌∙◌, subst, arith}
 use Rattle.run_events.specs.declared.message.Message.{Message}
 use Rattle.run_events.specs.declared.message.Message.TheVariants as messages
@@ -50,6 +50,7 @@ waits_not false left RetrySent ss t (early, (s, (e, inl (told, waits)))) = cc
 waits_not false left RetrySent ss t (early, (s, (e, inr (told, waits)))) = cc
 waits_not mm left ph ss t h = refl
 
+-- what is known of the board after a legal journal
 pub known : (p : Settings) (backward : List Entry) → IsPlainPlan p → IsLegalBackward p backward
     → IsKnown p (board p (history p backward))
 known p backward is legal = record {

@@ -1,5 +1,5 @@
 -- What holds of the board of a generated run, how many turns may still come, and what a deed does to both.
-use Rattle.std.proofs.Common.{◌≡◌, ◌≢◌, ℕ, ◌+◌, ◌<◌, ◌≤◌, ◌==◌, List, [], ◌++◌, length, get_or, set}
+use Rattle.std.proofs.Common.{◌≡◌, ◌≢◌, ℕ, ◌+◌, ◌<◌, ◌≤◌, ◌==◌, List, ◌++◌, length, get_or, set}
 use Rattle.std.proofs.Common.{drop, Bool, true, false, Option, Some, None, if◌then◌else◌, option_map, option_to_list}
 use Rattle.std.proofs.Common.{refl, ap}
 use Rattle.std.proofs.Common.{sym, ◌∙◌, subst, arith, length-append, get_or-set_other}
@@ -51,9 +51,11 @@ pace at_rest = 21
 pace after_tick = 1
 pace after_end = 0
 
+-- the same on a board
 abbrev pub ahead_on : Board → ℕ
 ahead_on b = ahead b.dispatcher.over b.dispatcher.on b.dispatcher.causes.reported (length b.units)
 
+-- how many turns may come, of units, messages and the run itself
 abbrev pub load : Stage → Board → ℕ
 load last b = sum_of b.units + length b.queue + ahead_on b + pace last
 
@@ -96,12 +98,14 @@ plain_deed part sent info taken told asked = record nothing_done {
   asked = asked;
 }
 
+-- a part leaves the number of units
 length-after : (now : ℕ) (part : Option UnitPart) (us : List (Option UnitView))
     → length (units_after now part us) ≡ length us
 length-after now None us = refl
 length-after now (Some (Joins first)) us = length-set us (number first) (Some first)
 length-after now (Some (Acts j turn)) us = length-set us j _
 
+-- such a deed leaves the board calm and lessens what may come, where its part and its message do
 pub plain_eases : (last after : Stage) (cost : ℕ) (was current : Option ℕ) (b : Board) (part : Option UnitPart)
     (sent : Option Message) (info : List (ℕ × InfoResponse)) (taken : Bool) (told : Option ReporterEvent)
     (asked : Option Ask)

@@ -1,6 +1,5 @@
 -- The next turn of a generated run, by cases that proofs can name.
-use Rattle.std.proofs.Common.{◌≡◌, ℕ, ◌+◌, List, Bool, true, false, Option, Some, None, position, option_map}
-use Rattle.std.proofs.Common.{option_and_then}
+use Rattle.std.proofs.Common.{◌≡◌, ℕ, ◌+◌, Bool, true, false, Option, Some, None, position, option_map, option_and_then}
 use Rattle.std.proofs.Common.{refl}
 use Rattle.std.specs.Option.{option_or}
 use Rattle.run_capture.specs.declared.test_output.Stream.TheVariants as streams
@@ -20,6 +19,7 @@ pub data Stage : Type 0 where
   after_tick : Stage
   after_end : Stage
 
+-- where a run is after its last turn
 abbrev pub stage_of : Option Turn → Stage
 stage_of (Some (turns.Clock ns)) = after_tick
 stage_of (Some (turns.StreamEnd k stream)) = after_end
@@ -30,23 +30,29 @@ abbrev pub is_asked : Phase → Bool
 is_asked Starting = true
 is_asked ph = false
 
+-- whether it runs
 abbrev pub is_running : Phase → Bool
 is_running Running = true
 is_running ph = false
 
+-- whether the phase of a unit that was admitted passes a test
 abbrev pub stands_as : (Phase → Bool) → Option UnitView → Bool
 stands_as test None = false
 stands_as test (Some u) = test u.phase
 
+-- the first unit whose phase does
 abbrev pub first_in : (Phase → Bool) → Board → Option ℕ
 first_in test b = position (stands_as test) b.units
 
+-- the tick for the first child that runs
 abbrev pub time_by : Board → Option Turn
 time_by b = option_map (λ k. turns.Clock 1000000) (first_in is_running b)
 
+-- the start of the first child that is asked for, or that tick
 abbrev pub made_by : Board → Option Turn
 made_by b = option_or (option_map (λ k. turns.Started k (k + 1)) (first_in is_asked b)) (time_by b)
 
+-- the next turn at a stage
 abbrev pub next_by : Settings → Board → Stage → Option Turn
 next_by p b after_tick = option_map (λ k. turns.StreamEnd k streams.Combined) (first_in is_running b)
 next_by p b after_end =

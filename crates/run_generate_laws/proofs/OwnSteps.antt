@@ -1,5 +1,5 @@
 -- What the begin, the end and a refused event do to the board of a generated run.
-use Rattle.std.proofs.Common.{◌≡◌, ℕ, zero, suc, ◌+◌, ◌-◌, ◌*◌, ◌≤◌, ◌==◌, ◌&&◌, not, List, [], ◌∷◌}
+use Rattle.std.proofs.Common.{◌≡◌, ℕ, zero, suc, ◌+◌, ◌*◌, ◌≤◌, ◌==◌, ◌&&◌, not, List, [], ◌∷◌}
 use Rattle.std.proofs.Common.{◌++◌, length, get_or, drop, Bool, true, false, Option, Some, None, is_none}
 use Rattle.std.proofs.Common.{if◌then◌else◌, option_map, refl, ap, sym, ◌∙◌, subst, arith, length-append}
 use Rattle.std.proofs.lemmas.List.{length-map}
@@ -122,6 +122,7 @@ cancel_deed after above = record nothing_done {
   request = if above then Some OtherCancel else None;
 }
 
+-- so it leaves the board calm
 pub cancel_eases : (p : Settings) (b : Board) → IsCalm None b → enabled_on p b turns.ReportCancel ≡ true
     → Eases at_rest at_rest 1 None b (step b turns.ReportCancel (deed_on p b turns.ReportCancel))
 unfolding cancel_deed

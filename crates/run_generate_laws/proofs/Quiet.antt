@@ -9,6 +9,7 @@ use Rattle.run_model.specs.Rounds.{watch_after}
 use Rattle.run_model.specs.Words.{armed, is_by_time}
 use Rattle.run_model.specs.declared.dispatcher_view.DispatcherView.{DispatcherView}
 
+-- no round is open, the run is not paused, and nothing limits it
 pub record IsQuiet (d : DispatcherView) : Type 0 where
   pub asks : d.rounds.asks ≡ None
   pub opened : d.watch.opened ≡ None
@@ -17,6 +18,7 @@ pub record IsQuiet (d : DispatcherView) : Type 0 where
   pub all : d.rules.max_fail ≡ All
   pub unlimited : d.rules.global_timeout ≡ None
 
+-- a timer that is none stays so
 timer_none : (now : ℕ) (act : Act) (timer : Option Sleep) → timer ≡ None → timer_after now act timer ≡ None
 timer_none now pause timer none = rw none refl
 timer_none now resume timer none = rw none refl

@@ -47,6 +47,7 @@ far_off now terms plain = λ moment early. by_set moment early terms.disables_ti
     by_set moment early true = refl
     by_set moment early false = rw plain.slow (late now moment early)
 
+-- its child has started
 pub started_row : (now pid : ℕ) (ended : Bool) (ph : Phase) (u : UnitView)
     → takes_at now ph u (Started pid) ≡ true → StandsIn now ended ph u → AreCancels u.line → IsPlain u.terms
     → Lessens now false ph u 1 (row_at now ph (Started pid) (at_moment now u))
@@ -56,6 +57,7 @@ started_row now pid ended Starting u takes stands line plain = record {
 }
 started_row now pid ended ph u takes stands line plain = cc
 
+-- the output of its child has ended, which lessens nothing by itself
 pub stream_row : (now : ℕ) (ph : Phase) (u : UnitView)
     → ph ≡ Running → StandsIn now false ph u → u.phase ≡ ph → AreCancels u.line
     → Lessens now true ph u 0 (row_at now ph (StreamEnd streams.Combined) (at_moment now u))
@@ -65,6 +67,7 @@ stream_row now Running u runs stands at line = record {
 }
 stream_row now ph u runs stands at line = cc
 
+-- its child exits after that, and the attempt ends: with the tick and the end of its output that is twenty-two
 pub exit_row : (now : ℕ) (exit : ChildExit) (ph : Phase) (u : UnitView)
     → ph ≡ Running → StandsIn now true ph u → AreCancels u.line → IsPlain u.terms
     → Lessens now false ph u 22 (row_at now ph (Exit exit) (at_moment now u))
@@ -92,6 +95,7 @@ exit_row now exit Running u runs stands line plain =
         (ap (λ b. b && is_success result) plain.reads_env)
 exit_row now exit ph u runs stands line plain = cc
 
+-- it decides that it is done, or that it is tried again
 pub decide_lessens : (now word : ℕ) (ended : Bool) (ph : Phase) (u : UnitView)
     → takes_at now ph u (Decide word) ≡ true → AreCancels u.line → IsPlain u.terms
     → Lessens now false ph u 1 (row_at now ph (Decide word) (at_moment now u))
@@ -137,6 +141,7 @@ take_running now (OtherCancel ∷ line) u some cancels at stands =
     (rw at (omega arith), record { stands = rw at stands; line = cancels.1 })
 take_running now (request ∷ line) u some cancels at stands = let never = cancels.0 in cc
 
+-- the same of a unit in a delay
 take_delay : (now : ℕ) (line : List Request) (u : UnitView) → has_request line ≡ true → AreCancels line
     → (weight (Some (take_row now Delay line u).next) + length (option_to_list (take_row now Delay line u).sent) + 1
     ≤ weight_at Delay (retry_count u.terms.retries) u.attempt + length line)
@@ -147,6 +152,7 @@ take_delay now (OtherCancel ∷ line) u some cancels =
     (omega arith, record { stands = tt; line = cancels.1 })
 take_delay now (request ∷ line) u some cancels = let never = cancels.0 in cc
 
+-- so a request that is taken lessens the weight
 pub take_lessens : (now : ℕ) (ph : Phase) (u : UnitView)
     → takes_at now ph u Take ≡ true → StandsIn now false ph u → u.phase ≡ ph → AreCancels u.line
     → Lessens now false ph u 1 (row_at now ph Take (at_moment now u))
@@ -158,6 +164,7 @@ take_lessens now Grace u takes stands at line = absurd stands
 take_lessens now Leak u takes stands at line = absurd stands
 take_lessens now ph u takes stands at line = cc
 
+-- a delay is over; no slow timer is due within a minute
 pub due_lessens : (now : ℕ) (ph : Phase) (u : UnitView) → now < 60000000000
     → takes_at now ph u Due ≡ true → StandsIn now false ph u → AreCancels u.line
     → Lessens now false ph u 1 (row_at now ph Due (at_moment now u))
@@ -194,6 +201,7 @@ same_row now ended ph u at stands line = record {
     unread RetrySent h = h
     unread Over h = h
 
+-- the answer to its start or its retry, or to nothing
 pub answered_row : (now : ℕ) (go ended : Bool) (ph : Phase) (u : UnitView)
     → u.phase ≡ ph → StandsIn now ended ph u → AreCancels u.line → IsPlain u.terms
     → Lessens now ended ph u 0 (row_at now ph (Answered go) (at_moment now u))

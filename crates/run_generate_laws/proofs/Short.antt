@@ -63,9 +63,11 @@ plain_terms n k =
       reads_env = refl;
     }
 
+-- so is the plan
 plain : (n : ℕ) → IsPlainPlan (generated_settings n)
 plain n = record { scripts = refl; single = refl; all = refl; unlimited = refl; terms = plain_terms n }
 
+-- it has as many units as tests
 units : (n : ℕ) → units_in (generated_settings n) ≡ n
 units n = omega (arith, length-map (range_with_len 0 n) test_at, length-range_with_len 0 n)
 
@@ -89,6 +91,7 @@ not_over p backward legal none = by_over (is_over past) refl
     by_over false e = e
     by_over true e = absurd (by_runs (ended_runs past) refl e (sym (over_outcome p past e) ∙ none))
 
+-- a generated run that has no outcome has few turns, and the next one comes
 short_backward : (n : ℕ) → n ≤ 20000 → (backward : List Entry) → IsLegalBackward (generated_settings n) backward
     → IsGenerated (generated_settings n) (reverse backward)
     → outcome (generated_settings n) (history (generated_settings n) backward) ≡ None
@@ -113,6 +116,7 @@ short_backward n few backward legal generated none = (
     sums : (m o t l u : ℕ) → u ≤ 20000 → m ≡ o + t → l + o + 20 * t ≤ 55 * u + 24 → m < 4294967295
     sums m o t l u most same few = omega arith
 
+-- so no generated run stops short
 pub never_short : (n : ℕ) → n ≤ 20000 → StopsShort (generated_settings n) → ⊥
 never_short n few it = by_why it.why
   where

@@ -1,5 +1,5 @@
 -- What each turn of a generated run does to its board: it stays calm, and fewer turns may come.
-use Rattle.std.proofs.Common.{◌≡◌, ◌⊎◌, ℕ, zero, suc, ◌+◌, ◌-◌, ◌<◌, ◌≤◌, ◌==◌, ◌&&◌, not, List, [], ◌∷◌}
+use Rattle.std.proofs.Common.{◌≡◌, ◌⊎◌, ℕ, zero, suc, ◌+◌, ◌<◌, ◌≤◌, ◌==◌, ◌&&◌, not, List, [], ◌∷◌}
 use Rattle.std.proofs.Common.{length, get_or, drop, Bool, true, false, Option, Some, None}
 use Rattle.std.proofs.Common.{refl, sym, subst, arith}
 use Rattle.std.proofs.Common.{length-drop}
@@ -57,23 +57,28 @@ pub record IsKnown (p : Settings) (b : Board) : Type 0 where
       → (k : ℕ) → k < length b.units → unit_in b k ≡ None → enabled_on p b turns.Admit ≡ true
   pub whole : length b.units ≡ units_in p
 
+-- of two tests that both pass, the first does
 pub both-left : (a b : Bool) → (a && b) ≡ true → a ≡ true
 both-left true b e = refl
 both-left false b e = cc
 
+-- and the second
 pub both-right : (a b : Bool) → (a && b) ≡ true → b ≡ true
 both-right true b e = e
 both-right false b e = cc
 
+-- a test whose opposite passes fails
 pub not_true : (b : Bool) → not b ≡ true → b ≡ false
 not_true true e = cc
 not_true false e = refl
 
+-- a unit that stands in a list has a place in it
 pub within_list : {X : Type 0} (xs : List (Option X)) (k : ℕ) (x : X) → get_or xs k None ≡ Some x → k < length xs
 within_list [] k x is = cc
 within_list (y ∷ xs) zero x is = omega arith
 within_list (y ∷ xs) (suc k) x is = let rest = within_list xs k x is in omega arith
 
+-- nothing is dropped
 pub same_drop : {X : Type 0} (xs : List X) → length (drop 0 xs) ≡ length xs
 same_drop xs = omega (arith, length-drop 0 xs)
 
@@ -83,12 +88,14 @@ ahead-off true on reported n going off = cc
 ahead-off false true reported n going off = cc
 ahead-off false false reported n going off = refl
 
+-- one at least comes of a run that is on
 pub ahead-some : (over on reported : Bool) (n : ℕ) → over ≡ false → on ≡ true → 1 ≤ ahead over on reported n
 ahead-some true on reported n going begun = cc
 ahead-some false false reported n going begun = cc
 ahead-some false true true n going begun = omega arith
 ahead-some false true false n going begun = omega arith
 
+-- of one that is on, and was not cancelled by a refused event
 pub ahead-begun : (over on reported : Bool) (n : ℕ) → over ≡ false → on ≡ true → reported ≡ false
     → ahead over on reported n ≡ n + 2
 ahead-begun true on reported n going begun fresh = cc
@@ -96,6 +103,7 @@ ahead-begun false false reported n going begun fresh = cc
 ahead-begun false true true n going begun fresh = cc
 ahead-begun false true false n going begun fresh = refl
 
+-- and of one that was
 pub ahead-told : (over on : Bool) (n : ℕ) → over ≡ false → on ≡ true → ahead over on true n ≡ 1
 ahead-told true on n going begun = cc
 ahead-told false false n going begun = cc
@@ -116,6 +124,7 @@ acts_eases last after cost by was current b k u to calm is lessens apart less =
     sums : (x q e c l by : ℕ) → x ≡ q → e + c ≤ l + by → x + e + c ≤ q + l + by
     sums x q e c l by same le = omega arith
 
+-- a unit takes a request
 pub take_eases : (p : Settings) (b : Board) (k : ℕ) → IsCalm None b → enabled_on p b (turns.Take k) ≡ true
     → Eases at_rest at_rest 1 None b (step b (turns.Take k) (deed_on p b (turns.Take k)))
 take_eases p b k calm en =
@@ -130,6 +139,7 @@ take_eases p b k calm en =
         acts_eases at_rest at_rest 1 1 None None b k u own.Take calm is
         (take_lessens b.clock u.phase u takes easy.stands refl easy.line) (λ j e. refl) (omega arith)
 
+-- a unit decides
 pub decide_eases : (p : Settings) (b : Board) (k word : ℕ) → IsKnown p b → IsCalm None b
     → enabled_on p b (turns.Decide k word) ≡ true
     → Eases at_rest at_rest 1 None b (step b (turns.Decide k word) (deed_on p b (turns.Decide k word)))
@@ -146,6 +156,7 @@ decide_eases p b k word known calm en =
         acts_eases at_rest at_rest 1 1 None None b k u (own.Decide word) calm is
         (decide_lessens b.clock word false u.phase u takes easy.line (known.plain k u is)) (λ j e. refl) (omega arith)
 
+-- a delay of a unit is over
 pub due_eases : (p : Settings) (b : Board) (k : ℕ) → b.clock < 60000000000 → IsCalm None b
     → enabled_on p b (turns.UnitDue k) ≡ true
     → Eases at_rest at_rest 1 None b (step b (turns.UnitDue k) (deed_on p b (turns.UnitDue k)))

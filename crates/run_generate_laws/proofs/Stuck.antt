@@ -1,5 +1,5 @@
 -- A generated run that isn't over and takes no turn by itself has a child that is asked for or runs.
-use Rattle.std.proofs.Common.{◌≡◌, ℕ, zero, suc, ◌+◌, ◌<◌, ◌≤◌, ◌&&◌, not, List, [], ◌∷◌, ◌++◌, length, get_or, map}
+use Rattle.std.proofs.Common.{◌≡◌, ℕ, zero, suc, ◌<◌, ◌≤◌, ◌&&◌, not, List, [], ◌∷◌, ◌++◌, length, get_or, map}
 use Rattle.std.proofs.Common.{Bool}
 use Rattle.std.proofs.Common.{true, false, Option, Some, None, nat_lt, cond, if◌then◌else◌, is_none, is_some}
 use Rattle.std.proofs.Common.{refl, ap, sym, ◌∙◌, arith, zero-add}
@@ -40,14 +40,17 @@ none_first p b (x ∷ xs) ys none = by_first (enabled_on p b x) none (none_first
     by_first true none rest = cc
     by_first false none rest = rest none
 
+-- nor is the first
 none_here : (en : Bool) (t : Turn) (o : Option Turn) → (if en then Some t else o) ≡ None → en ≡ false
 none_here true t o none = cc
 none_here false t o none = refl
 
+-- nor is one of those after it
 none_after : (en : Bool) (t : Turn) (o : Option Turn) → (if en then Some t else o) ≡ None → o ≡ None
 none_after true t o none = cc
 none_after false t o none = none
 
+-- nor is the turn of any of some units
 none_each : (p : Settings) (b : Board) (turn : ℕ → Turn) (ks : List ℕ) (i : ℕ) → first_enabled p b (map turn ks) ≡ None
     → i < length ks → enabled_on p b (turn (get_or ks i 0)) ≡ false
 none_each p b turn [] i none within = absurd (omega arith)
@@ -57,6 +60,7 @@ none_each p b turn (k ∷ ks) (suc i) none within =
     none_each p b turn ks i
     (none_after (enabled_on p b (turn k)) (turn k) (first_enabled p b (map turn ks)) none) (omega arith)
 
+-- nor is that of any unit of the plan
 none_of : (p : Settings) (b : Board) (turn : ℕ → Turn) (k : ℕ) → first_enabled p b (of_each p turn) ≡ None
     → k < units_in p → enabled_on p b (turn k) ≡ false
 none_of p b turn k none within =
@@ -74,6 +78,7 @@ pub record IsStuck (p : Settings) (b : Board) : Type 0 where
   pub admit : enabled_on p b turns.Admit ≡ false
   pub end : enabled_on p b turns.End ≡ false
 
+-- so it is where the first enabled one is none
 pub stuck : (p : Settings) (b : Board) → first_enabled p b (settling p 0) ≡ None → IsStuck p b
 stuck p b none =
     let starts = none_first p b first_turns
@@ -140,6 +145,7 @@ record IsAbsent (us : List (Option UnitView)) : Type 0 where
   within : place < length us
   none : get_or us place None ≡ None
 
+-- where not all are done, one was not admitted
 absent_in : (us : List (Option UnitView)) → ((k : ℕ) (u : UnitView) → get_or us k None ≡ Some u → u.phase ≡ Over)
     → list_all is_done us ≡ false → IsAbsent us
 absent_in [] over some = cc

@@ -16,6 +16,7 @@ use Rattle.run_model.specs.declared.phase.Phase.TheVariants.{Delay}
 use Rattle.run_model.specs.declared.unit_view.UnitView.{UnitView}
 use Rattle.run_generate_laws.proofs.Weights.{AreCancels, IsEasy, IsFarOff, StandsIn, weight}
 
+-- the sum of the weights
 abbrev pub sum_of : List (Option UnitView) → ℕ
 sum_of [] = 0
 sum_of (v ∷ us) = weight v + sum_of us
@@ -43,9 +44,11 @@ sum-none (v ∷ us) none = more (weight v) (sum_of us) (length us) (ap weight (n
     more : (a b n : ℕ) → a ≡ 54 → b ≡ 54 * n → a + b ≡ 54 * suc n
     more a b n here rest = omega arith
 
+-- as many units that were not admitted
 abbrev pub nones : List (Option UnitView) → List (Option UnitView)
 nones us = map (λ u. None) us
 
+-- each of them is none
 pub nones-at : (us : List (Option UnitView)) (k : ℕ) → get_or (nones us) k None ≡ None
 nones-at [] k = refl
 nones-at (u ∷ us) zero = refl
@@ -61,6 +64,7 @@ reach_weight (Some u) = by_live (is_live u.phase)
     by_live true = omega (arith, length-append u.line (OtherCancel ∷ []))
     by_live false = omega arith
 
+-- the same of all units
 pub sum-reach : (us : List (Option UnitView)) → sum_of (reach_all (Some OtherCancel) us) ≤ sum_of us + length us
 sum-reach [] = omega arith
 sum-reach (v ∷ us) =
@@ -88,6 +92,7 @@ fires_later now later (Some timer) le fires = by_state timer.state fires
     by_state (states.Running deadline) fires = grind (arith, nat_tests, fires)
     by_state (states.Paused remaining) fires = cc
 
+-- so a unit is easy later on
 pub easy_later : (now later : ℕ) (ended : Bool) (u : UnitView) → now ≤ later → IsEasy now ended u
     → IsEasy later ended u
 easy_later now later ended u le easy = record { stands = by_phase u.phase easy.stands; line = easy.line }
@@ -96,10 +101,12 @@ easy_later now later ended u le easy = record { stands = by_phase u.phase easy.s
     by_phase Delay h = fires_later now later u.timers.wait le h
     by_phase ph h = h
 
+-- a line with one more cancel
 lined : (line : List Request) → AreCancels line → AreCancels (line ++ OtherCancel ∷ [])
 lined [] cancels = (refl, tt)
 lined (request ∷ line) cancels = (cancels.0, lined line cancels.1)
 
+-- a unit that is told that the run is cancelled
 pub reached_easy : (now : ℕ) (ended : Bool) (u : UnitView) → IsEasy now ended u
     → IsEasy now ended (reached OtherCancel u)
 reached_easy now ended u easy = by_live (is_live u.phase)

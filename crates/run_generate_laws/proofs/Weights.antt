@@ -53,6 +53,7 @@ abbrev pub AreCancels : List Request → Type 0
 AreCancels [] = ⊤
 AreCancels (request ∷ line) = (request ≡ OtherCancel) × AreCancels line
 
+-- a unit stands as a generated run leaves it
 pub record IsEasy (now : ℕ) (ended : Bool) (u : UnitView) : Type 0 where
   pub stands : StandsIn now ended u.phase u
   pub line : AreCancels u.line
@@ -68,9 +69,11 @@ weight_at Delay retries attempt = 27 + 27 * (retries - attempt)
 weight_at RetrySent retries attempt = 25 + 27 * (retries - attempt)
 weight_at _ retries attempt = 0
 
+-- with the requests in its line
 abbrev pub weight_in : Phase → UnitView → ℕ
 weight_in ph u = weight_at ph (retry_count u.terms.retries) u.attempt + length u.line
 
+-- of a unit that was not admitted: all attempts, its admission and its first message
 abbrev pub weight : Option UnitView → ℕ
 weight None = 54
 weight (Some u) = weight_in u.phase u

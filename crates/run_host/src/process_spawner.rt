@@ -4,7 +4,7 @@ ghost use Rattle.std.specs.Prelude.{◌≡◌};
 use crate::running::{Running, Step, error_text, nothing_more};
 use run_capture::{Duplicate, Mem, OutOfMemory, Stream, Text};
 use run_drive::{Begun, Said, Spawner};
-use run_events::StartAsk;
+use run_events::{StartAsk, Variables};
 use std::alloc::{AllocError, Global};
 use std::fs::Files;
 use std::process::{Child, Command, Processes, Stdio};
@@ -84,8 +84,15 @@ fn add_arguments(command: &mut Command, words: &[Text]) -> Result<(), AllocError
 }
 
 // Gives a command its variables.
-fn add_variables(command: &mut Command, variables: &[(Text, Text)]) -> Result<(), AllocError> {
-    for (key, value) in variables {
+fn add_variables(
+    alloc: Global,
+    command: &mut Command,
+    variables: &Variables,
+) -> Result<(), AllocError> {
+    let Ok(list) = variables.to_list(alloc) else {
+        return Err(AllocError);
+    };
+    for (key, value) in list.as_slice() {
         command.env(key.as_str(), value.as_str())?;
     }
     Ok(())
@@ -99,9 +106,14 @@ fn add_streams(command: &mut Command, streams: &[Stream]) {
 }
 
 // Gives a command what was asked. The first word is its program.
-fn prepare(command: &mut Command, words: &[Text], ask: &StartAsk) -> Result<(), AllocError> {
+fn prepare(
+    alloc: Global,
+    command: &mut Command,
+    words: &[Text],
+    ask: &StartAsk,
+) -> Result<(), AllocError> {
     add_arguments(command, words)?;
-    add_variables(command, ask.env.as_slice())?;
+    add_variables(alloc, command, &ask.env)?;
     add_streams(command, ask.streams.as_slice());
     Ok(())
 }
@@ -146,11 +158,12 @@ impl<P: Processes + Files + Drop> ProcessSpawner<P> {
     // Prepares a command, and starts it with the script's environment file made empty.
     fn run(
         &self,
+        alloc: Global,
         command: &mut Command,
         words: &[Text],
         ask: &StartAsk,
     ) -> io::Result<Child<P::Started>> {
-        prepare(command, words, ask)?;
+        prepare(alloc, command, words, ask)?;
         clear(&self.outside, &ask.env_path)?;
         command.spawn(&self.outside)
     }
@@ -158,11 +171,12 @@ impl<P: Processes + Files + Drop> ProcessSpawner<P> {
     // The same of a command that is needed no more.
     fn run_once(
         &self,
+        alloc: Global,
         mut command: Command,
         words: &[Text],
         ask: &StartAsk,
     ) -> io::Result<Child<P::Started>> {
-        let child = self.run(&mut command, words, ask);
+        let child = self.run(alloc, &mut command, words, ask);
         put_away(command);
         child
     }
@@ -176,7 +190,7 @@ impl<P: Processes + Files + Drop> ProcessSpawner<P> {
         ask: &StartAsk,
     ) -> io::Result<Child<P::Started>> {
         match Command::new(alloc, program.as_str()) {
-            Ok(command) => self.run_once(command, words, ask),
+            Ok(command) => self.run_once(alloc, command, words, ask),
             Err(error) => Err(io::Error::from(error)),
         }
     }

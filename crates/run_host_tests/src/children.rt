@@ -2,7 +2,7 @@
 use crate::given::{Given, MEMORY, ask, run, text};
 use run_capture::{List, Stream};
 use run_drive::{Begun, Spawner};
-use run_events::ChildExit;
+use run_events::{ChildExit, Variables};
 use run_host::ProcessSpawner;
 use std::alloc::Global;
 use std::fs::Files;
@@ -28,8 +28,10 @@ fn ended_well(given: &Given) -> bool {
 fn a_child_gets_its_arguments_and_variables(rt: HostRuntime) {
     let alloc = rt.alloc();
     let mut ask = ask(&rt, alloc, &["sh", "-c", "echo \"$1 $V\"", "sh", "one two"]);
+    let mut variables = List::new();
     let variable = (text(&rt, alloc, "V"), text(&rt, alloc, "three"));
-    ask.env.push(alloc, variable).expect(&rt, MEMORY);
+    variables.push(alloc, variable).expect(&rt, MEMORY);
+    ask.env = Variables::listed(variables);
     ask.streams.push(alloc, Stream::Stderr).expect(&rt, MEMORY);
     let given = run(&rt, alloc, &mut ProcessSpawner::new(rt), &ask);
     assert!(rt; given.output.as_slice() == b"one two three\n".as_slice());

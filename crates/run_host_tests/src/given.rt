@@ -1,7 +1,7 @@
 // Starts made by hand, and what a child gives.
 use run_capture::{Blob, List, Stream, Text};
 use run_drive::{Begun, Said, Spawner};
-use run_events::{ChildExit, StartAsk};
+use run_events::{ChildExit, StartAsk, Variables};
 use std::alloc::Global;
 use std::process::Abort;
 
@@ -34,7 +34,7 @@ pub fn ask(rt: &impl Abort, alloc: Global, words: &[&str]) -> StartAsk {
         unit: 0,
         attempt: 1,
         command,
-        env: List::new(),
+        env: Variables::listed(List::new()),
         group: true,
         stdin: false,
         streams,

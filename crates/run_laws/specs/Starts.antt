@@ -23,7 +23,8 @@ use Rattle.run_events.specs.declared.result.ScriptEnv.TheVariants.{Unread}
 use Rattle.run_model.specs.declared.entry.Entry.{Entry}
 use Rattle.run_model.specs.declared.happening.Happening.{Happening}
 use Rattle.run_model.specs.declared.unit_view.UnitView.{UnitView}
-use Rattle.run_model.specs.Environment.{Variable, start_ask}
+use Rattle.run_events.specs.Variables.{Variable}
+use Rattle.run_model.specs.Environment.{start_ask}
 use Rattle.run_model.specs.Admission.{is_script, scripts_in, global_slot, first_view, runner_words, script_view}
 use Rattle.run_model.specs.Admission.{start_message, variables_of}
 use Rattle.run_model.specs.Ending.{last_status}

@@ -20,6 +20,7 @@ use Rattle.run_events.specs.declared.settings.Settings.{Settings}
 use Rattle.run_events.specs.declared.stress.StressIndex.{StressIndex}
 use Rattle.run_events.specs.declared.result.FlakyResult.{FlakyResult}
 use Rattle.run_events.specs.declared.result.ScriptEnv.{ScriptEnv}
+use Rattle.run_events.specs.Variables.{Variable}
 use Rattle.run_events.specs.declared.result.ScriptEnv.TheVariants.{Unread, Variables}
 use Rattle.run_events.specs.declared.result.SlowTimeoutResult.TheVariants.{Fail}
 use Rattle.run_events.specs.declared.retry_policy.RetryPolicy.{RetryPolicy}
@@ -46,7 +47,7 @@ use Rattle.run_model.specs.declared.unit_view.UnitRole.TheVariants as roles
 use Rattle.run_model.specs.declared.unit_view.UnitView.{UnitView}
 use Rattle.run_model.specs.Backoff.{retry_count}
 use Rattle.run_model.specs.Pauses.{timers_from}
-use Rattle.run_model.specs.Environment.{Variable, test_start, script_start}
+use Rattle.run_model.specs.Environment.{test_start, script_start}
 
 -- whether a phase is the last one
 abbrev pub is_last : Phase → Bool
@@ -177,11 +178,13 @@ pub record AreFew (p : Settings) : Type 0 where
 -- what the children of tests have alike, and those of scripts, which run under no interceptor
 abbrev pub surroundings_of : Settings → Surroundings
 surroundings_of p = record {
-  run_id = p.plan.head.run_id;
-  mode = p.plan.head.mode;
-  threads = p.threads;
-  workspace_root = p.plan.head.workspace_root;
-  versions = version_pairs p.plan.head.versions;
+  run = record {
+    run_id = p.plan.head.run_id;
+    mode = p.plan.head.mode;
+    threads = p.threads;
+    workspace_root = p.plan.head.workspace_root;
+    versions = version_pairs p.plan.head.versions;
+  };
   wrapper = interceptor_words p.interceptor;
   group = has_process_group p.interceptor;
   stdin = passes_stdin_through p.interceptor;

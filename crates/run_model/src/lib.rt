@@ -10,7 +10,6 @@ mod entry;
 mod happening;
 mod phase;
 mod rerun;
-mod shared;
 mod unit_turn;
 mod unit_view;
 mod values;
@@ -21,7 +20,6 @@ pub use entry::Entry;
 pub use happening::{Happening, UnitPart};
 pub use phase::Phase;
 pub use rerun::RerunContext;
-pub use shared::Shared;
 pub use unit_turn::UnitTurn;
 pub use unit_view::{
     AttemptTerms, CapturedStreams, ScriptRole, Surroundings, TestRole, Timers, UnitRole, UnitView,

@@ -1,12 +1,11 @@
 // A unit as the tables see it.
-use crate::{Phase, Shared};
-use run_capture::{ChildAccumulator, List, Text};
+use crate::Phase;
+use run_capture::{ChildAccumulator, List, Shared, Text};
 use run_clock::{PausableSleep, StopwatchStart};
 use run_events::{
     ChildExit, ExecuteStatus, ExecutionResult, FlakyResult, LeakTimeout, Request, RetryPolicy,
-    RunMode, ScriptEnv, ScriptUnit, SlowTimeout, TerminateReason, TestSlotAssignment, TestUnit,
+    RunContext, ScriptEnv, ScriptUnit, SlowTimeout, TerminateReason, TestSlotAssignment, TestUnit,
 };
-use uuid::Uuid;
 
 /// Which streams of a child are captured.
 #[derive(Clone, Copy, Drop)]
@@ -39,13 +38,7 @@ pub struct AttemptTerms {
 
 /// What is the same for the children of all tests of a run, or of all its setup scripts.
 pub struct Surroundings {
-    pub run_id: Uuid,
-    pub mode: RunMode,
-    /// How much may run at a time.
-    pub threads: u32,
-    pub workspace_root: Text,
-    /// The variables that tell the versions, with their values.
-    pub versions: List<(Text, Text)>,
+    pub run: Shared<RunContext>,
     /// The words of the interceptor, which stand before each command.
     pub wrapper: List<Text>,
     /// Whether each child has a process group of its own.
@@ -58,11 +51,7 @@ pub struct Surroundings {
 impl Drop for Surroundings {
     fn drop(self) {
         let Surroundings {
-            run_id: _,
-            mode: _,
-            threads: _,
-            workspace_root: _,
-            versions: _,
+            run: _,
             wrapper: _,
             group: _,
             stdin: _,

@@ -2,6 +2,7 @@
 //! turns that were taken, and receipts.
 #![tactic(auto)]
 
+mod beginning;
 mod closing;
 mod locked;
 mod receipts;

@@ -4,21 +4,21 @@ ghost use Rattle.std.specs.Prelude.{vec_len, true};
 ghost use Rattle.run_shared.specs.Settled.{is_settled_turn};
 ghost use Rattle.std.specs.List.{All, sum_by};
 ghost use Rattle.run_engine.specs.Heard.{IsHeard};
-ghost use Rattle.run_engine.specs.Standing.{sound};
 ghost use Rattle.run_shared.specs.Receipts.{concatenated, Closes};
 ghost use Rattle.run_shared.specs.Closed.{IsLeft, IsOther, Refuses};
 
+use crate::beginning::{Begun, begin};
 use crate::closing::{CloseError, CloseKind};
 use crate::locked::Locked;
 use crate::receipts::check;
 use crate::same::Same;
-use run_capture::{Duplicate, List, Mem, OutOfMemory, Whole};
+use run_capture::{Duplicate, List, OutOfMemory, Whole};
 use run_engine::{Run, StepError, TestRunner};
 use run_events::{AskList, Reporter, RunOutcome, Settings, StartAsk, Turn};
 use run_model::Entry;
 use std::alloc::Global;
 use std::marker::Model;
-use std::sync::ledger::{Blank, Book, Ledger, Share};
+use std::sync::ledger::{Blank, Ledger, Share};
 use std::sync::{Condvar, Mutex, Wait};
 
 /// That a turn was taken: its place in the journal. Only a shared run makes one.
@@ -79,83 +79,6 @@ impl<L: Ledger, R: Reporter> Model for SharedRun<L, R> {
     ghost Value = { Settings };
 
     ghost view = { λ s. s.settings };
-}
-
-// Cuts a share into as many as there are workers, each of one part.
-fn split<L: Ledger>(alloc: Global, all: Share<L>, workers: u64) -> Mem<Vec<Share<L>>>
-    requires parts { all.parts ≡ workers }
-    requires empty { all.amount ≡ 0 }
-    ensures count { IfOk result (λ shares. vec_len shares ≡ workers) }
-    ensures each { IfOk result (λ shares. All (λ (s : Share L). (s.parts ≡ 1) × (s.amount ≡ 0)) shares.items) }
-{
-    let mut rest = all;
-    let mut shares = Vec::with_capacity(alloc, workers as usize)?;
-    for _ in 0..workers {
-        shares.push(rest.split_off(1, 0))?;
-    }
-    Ok(shares)
-}
-
-// What a shared run begins with.
-#[derive(Drop)]
-struct Begun<L: Ledger> {
-    settings: Whole<Settings>,
-    run: Run,
-    book: Book<L>,
-    rest: Share<L>,
-    shares: Vec<Share<L>>,
-}
-
-// A run that has taken no turn, with a copy of its settings.
-fn run_of(alloc: Global, runner: TestRunner) -> Mem<(Whole<Settings>, Run)>
-    ensures settings { IfOk result (λ r. r.0 ≡ runner) }
-    ensures run { IfOk result (λ r. r.1 ≡ sound runner []) }
-{
-    let settings = match runner.settings().copy(alloc) {
-        Ok(settings) => Whole::new(settings),
-        Err(error) => {
-            drop(runner);
-            return Err(error);
-        }
-    };
-    match runner.into_run(alloc) {
-        Ok(run) => Ok((settings, run)),
-        Err(error) => {
-            drop(settings);
-            Err(error)
-        }
-    }
-}
-
-// What a run of this runner begins with, and a share of one part for each worker.
-fn begin<L: Ledger>(alloc: Global, runner: TestRunner, workers: u64, blank: Blank) -> Mem<Begun<L>>
-    requires name { blank.name ≡ L.name }
-    requires parts { blank.parts ≡ L.parts }
-    requires workers { blank.parts ≡ workers }
-    ensures settings { IfOk result (λ b. b.settings ≡ runner) }
-    ensures run { IfOk result (λ b. b.run ≡ sound runner []) }
-    ensures book { IfOk result (λ b. b.book.total ≡ 0) }
-    ensures rest { IfOk result (λ b. b.rest.parts ≡ 0) }
-    ensures count { IfOk result (λ b. vec_len b.shares ≡ workers) }
-    ensures each { IfOk result (λ b. All (λ (s : Share L). (s.parts ≡ 1) × (s.amount ≡ 0)) b.shares.items) }
-{
-    let (book, mut all) = blank.open::<L>();
-    let rest = all.empty();
-    let Ok(shares) = split(alloc, all, workers) else {
-        drop(runner);
-        return Err(OutOfMemory);
-    };
-    let Ok((settings, run)) = run_of(alloc, runner) else {
-        drop(shares);
-        return Err(OutOfMemory);
-    };
-    Ok(Begun {
-        settings,
-        run,
-        book,
-        rest,
-        shares,
-    })
 }
 
 // The receipt of a turn that was taken, at this place.
@@ -251,6 +174,30 @@ fn unclosed_of<R: Reporter>(
         journal: run.into_journal(),
         receipts,
         report,
+    }
+}
+
+// What a run leaves that was given these settings: it is closed, or isn't.
+fn leave<R: Reporter>(
+    alloc: Global,
+    given: &Whole<Settings>,
+    run: Run,
+    asks: AskList,
+    report: R,
+    receipts: List<List<Receipt>>,
+) -> Result<Closed<R>, Unclosed<R>>
+    requires heard { IsHeard R.told (λ list xs. list ≡ xs) report asks run }
+    ensures left { IfOk result (λ c. IsLeft R.told c.report c.asks given.now c.journal c.outcome) }
+    ensures receipts { IfOk result (λ c. Closes c.journal (concatenated receipts)) }
+    ensures journal { IfOk result (λ c. c.journal ≡ run.journal) }
+    ensures back { IfOk result (λ c. c.receipts ≡ receipts) }
+    ensures refused { IfErr result (λ u. Refuses given.now u.journal (concatenated receipts) u.error.kind) }
+    ensures journal_too { IfErr result (λ u. u.journal ≡ run.journal) }
+    ensures back_too { IfErr result (λ u. u.receipts ≡ receipts) }
+{
+    match judge(alloc, given, &run, &receipts) {
+        Ok(()) => Ok(closed_of(run, asks, report, receipts)),
+        Err(kind) => Err(unclosed_of(kind, run, asks, report, receipts)),
     }
 }
 
@@ -392,9 +339,6 @@ impl<L: Ledger, R: Reporter> SharedRun<L, R> {
     {
         let SharedRun { lock, settings, .. } = self;
         let (run, asks, report) = lock.into_inner().into_parts(shares);
-        match judge(alloc, &settings, &run, &receipts) {
-            Ok(()) => Ok(closed_of(run, asks, report, receipts)),
-            Err(kind) => Err(unclosed_of(kind, run, asks, report, receipts)),
-        }
+        leave(alloc, &settings, run, asks, report, receipts)
     }
 }

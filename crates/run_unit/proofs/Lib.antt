@@ -4,4 +4,3 @@ mod SlowLemmas
 mod TakenLemmas
 mod TimelyLemmas
 mod TriedLemmas
-mod VariableLemmas

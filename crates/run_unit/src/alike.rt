@@ -3,9 +3,9 @@ ghost use Rattle.std.specs.Prelude.{◌≡◌, IfOk};
 ghost use Rattle.run_model.specs.Admission.{surroundings_of, script_surroundings};
 ghost use Rattle.run_unit.specs.Alike.{alike_of};
 
-use run_capture::{Duplicate, List, Mem};
-use run_events::Settings;
-use run_model::{Shared, Surroundings};
+use run_capture::{Duplicate, List, Mem, Shared};
+use run_events::{RunContext, Settings};
+use run_model::Surroundings;
 use std::alloc::Global;
 
 /// What the children of all tests of a run have alike, and those of all its setup scripts: made once a run, for all its
@@ -16,21 +16,31 @@ pub struct Alike {
     pub scripts: Shared<Surroundings>,
 }
 
-// What the children of tests have alike.
-fn surroundings_of(alloc: Global, settings: &Settings) -> Mem<Surroundings>
-    ensures { IfOk result (λ around. around ≡ surroundings_of settings.now) }
+// What the variables of all children tell alike.
+fn context_of(alloc: Global, settings: &Settings) -> Mem<RunContext>
+    ensures { IfOk result (λ run. run ≡ (surroundings_of settings.now).run) }
 {
     let head = &settings.plan.head;
     let workspace_root = head.workspace_root.copy(alloc)?;
     let versions = head.versions.pairs(alloc)?;
-    let interceptor = &settings.interceptor;
-    let wrapper = interceptor.words(alloc)?;
-    Ok(Surroundings {
+    Ok(RunContext {
         run_id: head.run_id,
         mode: head.mode,
         threads: settings.threads,
         workspace_root,
         versions,
+    })
+}
+
+// What the children of tests have alike.
+fn surroundings_of(alloc: Global, settings: &Settings) -> Mem<Surroundings>
+    ensures { IfOk result (λ around. around ≡ surroundings_of settings.now) }
+{
+    let run = Shared::new(alloc, context_of(alloc, settings)?)?;
+    let interceptor = &settings.interceptor;
+    let wrapper = interceptor.words(alloc)?;
+    Ok(Surroundings {
+        run,
         wrapper,
         group: interceptor.should_create_process_group(),
         stdin: interceptor.should_passthrough_stdin(),

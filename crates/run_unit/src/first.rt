@@ -7,15 +7,13 @@ ghost use Rattle.run_model.specs.Admission.{streams_by, test_role, first_view};
 use crate::messages::test_unit;
 use crate::pauses::timers_from;
 use crate::start::with_command;
-use run_capture::{CaptureStrategy, ChildAccumulator, Duplicate, List, Mem, Text};
+use run_capture::{CaptureStrategy, ChildAccumulator, Duplicate, List, Mem, Shared, Text};
 use run_commands::PlatformRunner;
 use run_events::{
     FlakyResult, PlanTest, RetryPolicy, ScriptEnv, Settings, StressIndex, TerminateReason,
     TestSlotAssignment,
 };
-use run_model::{
-    AttemptTerms, CapturedStreams, Phase, Shared, Surroundings, TestRole, UnitRole, UnitView,
-};
+use run_model::{AttemptTerms, CapturedStreams, Phase, Surroundings, TestRole, UnitRole, UnitView};
 use std::alloc::Global;
 
 /// A unit as it begins, in this role, with this command, in these surroundings and on these terms.

@@ -8,7 +8,6 @@ mod alike;
 mod effects;
 mod ending;
 mod env;
-mod environment;
 mod first;
 mod hearing;
 mod info;

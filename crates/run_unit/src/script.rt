@@ -9,14 +9,12 @@ ghost use Rattle.run_model.specs.Unit.{script_slow};
 
 use crate::first::begun_view;
 use crate::slow::{is_out_of_time, slow_time};
-use run_capture::{CaptureStrategy, Duplicate, Mem};
+use run_capture::{CaptureStrategy, Duplicate, Mem, Shared};
 use run_events::{
     ExecuteStatus, PlanScript, RetryPolicy, ScriptEnv, ScriptFinish, ScriptSlow, ScriptStart,
     ScriptUnit, Settings, SetupScriptExecuteStatus, SlowTimeout, SlowTimeoutResult, StressIndex,
 };
-use run_model::{
-    AttemptTerms, CapturedStreams, ScriptRole, Shared, Surroundings, UnitRole, UnitView,
-};
+use run_model::{AttemptTerms, CapturedStreams, ScriptRole, Surroundings, UnitRole, UnitView};
 use std::alloc::Global;
 
 // The streams of its child that are captured: none where nothing is.

@@ -3,18 +3,19 @@ ghost use Rattle.std.specs.Prelude.{◌≡◌, ◌<◌, ◌^◌, ◌++◌, IfOk,
 ghost use Rattle.run_capture.specs.Captured.{begun};
 ghost use Rattle.run_model.specs.Environment.{attempts, start_ask, environment_as, env_path_of};
 ghost use Rattle.run_model.specs.Environment.{split_streams, streams_of};
+ghost use Rattle.run_model.specs.declared.unit_view.UnitRole.TheVariants as roles;
 ghost use Rattle.run_model.specs.Unit.{begun_row, nothing_captured};
 ghost use Rattle.run_unit.specs.Effects.{IsRow};
+ghost use Rattle.run_events.specs.declared.ask.Ask.TheVariants.{Start};
 
 use crate::effects::{UnitEffects, acting};
-use crate::environment::environment;
-use crate::messages::number_of;
+use crate::messages::{attempts, number_of};
 use crate::pauses::timers_from;
 use run_capture::{
     Boxed, CaptureStrategy, ChildAccumulator, Duplicate, List, Mem, Stream, Text, with_copies,
 };
-use run_events::{Ask, StartAsk};
-use run_model::{CapturedStreams, Phase, UnitRole, UnitView};
+use run_events::{Ask, ScriptVariables, StartAsk, TestVariables, Variables};
+use run_model::{CapturedStreams, Phase, ScriptRole, TestRole, UnitRole, UnitView};
 use std::alloc::Global;
 
 /// These words and then those of a command.
@@ -77,27 +78,67 @@ fn wrapped(alloc: Global, unit: &UnitView) -> Mem<List<Text>>
     with_command(alloc, wrapper.copy(alloc)?, &unit.command)
 }
 
-// That command, and the child's variables.
-fn program_of(alloc: Global, unit: &UnitView) -> Mem<(List<Text>, List<(Text, Text)>)>
+// What the variables of a test's child tell.
+fn test_variables(alloc: Global, role: &TestRole, unit: &UnitView) -> Mem<Variables>
+    requires { attempts unit.now < 2 ^ 32 }
+    ensures { IfOk result (λ v. v ≡ environment_as (roles.Test role.now) unit.now) }
+{
+    let run = unit.around.get().run.share()?;
+    let id = role.test.id.copy(alloc)?;
+    let slot = role.slot.copy(alloc)?;
+    let handed = role.handed.copy(alloc)?;
+    Ok(Variables::of_test(TestVariables {
+        run,
+        id,
+        attempt: unit.attempt,
+        attempts: attempts(unit),
+        stress_index: role.test.stress_index,
+        slot,
+        handed,
+    }))
+}
+
+// What the variables of a setup script's child tell.
+fn script_variables(alloc: Global, role: &ScriptRole, unit: &UnitView) -> Mem<Variables>
+    ensures { IfOk result (λ v. v ≡ environment_as (roles.Script role.now) unit.now) }
+{
+    let run = unit.around.get().run.share()?;
+    let env_path = role.env_path.copy(alloc)?;
+    Ok(Variables::of_script(ScriptVariables { run, env_path }))
+}
+
+// The variables of a unit's child.
+fn variables_of(alloc: Global, unit: &UnitView) -> Mem<Variables>
+    requires { attempts unit.now < 2 ^ 32 }
+    ensures { IfOk result (λ v. v ≡ environment_as unit.now.role unit.now) }
+{
+    match &unit.role {
+        UnitRole::Test(role) => test_variables(alloc, role, unit),
+        UnitRole::Script(role) => script_variables(alloc, role, unit),
+    }
+}
+
+// The command of a unit's child, and its variables.
+fn program_of(alloc: Global, unit: &UnitView) -> Mem<(List<Text>, Variables)>
     requires { attempts unit.now < 2 ^ 32 }
     ensures { IfOk result (λ program. program
         ≡ (unit.now.around.wrapper ++ unit.now.command, environment_as unit.now.role unit.now)) }
 {
     let command = wrapped(alloc, unit)?;
-    let env = environment(alloc, unit)?;
+    let env = variables_of(alloc, unit)?;
     Ok((command, env))
 }
 
-/// The start that is asked where an attempt is let go, of a unit whose attempts fit in a `u32`.
+// What is asked of that start.
 #[tactic(auto, unfolding(run_model::specs::Environment::start_ask))]
-pub fn start_of(alloc: Global, unit: &UnitView) -> Mem<Ask>
+fn asked_start(alloc: Global, unit: &UnitView) -> Mem<StartAsk>
     requires { attempts unit.now < 2 ^ 32 }
-    ensures { IfOk result (λ ask. ask ≡ start_ask unit.now) }
+    ensures { IfOk result (λ start. Start start ≡ start_ask unit.now) }
 {
     let env_path = env_path_of(alloc, &unit.role)?;
     let streams = streams_of(alloc, unit.terms.streams)?;
     let (command, env) = program_of(alloc, unit)?;
-    let start = StartAsk {
+    Ok(StartAsk {
         unit: number_of(&unit.role),
         attempt: unit.attempt,
         command,
@@ -106,7 +147,15 @@ pub fn start_of(alloc: Global, unit: &UnitView) -> Mem<Ask>
         stdin: unit.around.get().stdin,
         streams,
         env_path,
-    };
+    })
+}
+
+/// The start that is asked where an attempt is let go, of a unit whose attempts fit in a `u32`.
+pub fn start_of(alloc: Global, unit: &UnitView) -> Mem<Ask>
+    requires { attempts unit.now < 2 ^ 32 }
+    ensures { IfOk result (λ ask. ask ≡ start_ask unit.now) }
+{
+    let start = asked_start(alloc, unit)?;
     Ok(Ask::Start(Boxed::new(alloc, start)?))
 }
 

@@ -11,6 +11,7 @@ ghost use Rattle.run_model.specs.declared.phase.Phase.TheVariants as phases;
 ghost use Rattle.run_model.specs.declared.unit_turn.UnitTurn.TheVariants.{Take, Decide, Due};
 ghost use Rattle.run_unit.specs.Alike.{alike_of};
 ghost use Rattle.run_unit.specs.Effects.{IsRow};
+ghost use Rattle.run_unit.specs.Timely.{IsCurrent, IsTried};
 ghost use Rattle.run_model.specs.Same.{is_request};
 
 use crate::acting::{act, is_enabled};
@@ -21,7 +22,7 @@ use crate::messages::start_message;
 use crate::requests::{holds, is_live};
 use crate::script::script_view;
 use crate::timing::next_due;
-use crate::wants::{Wants, wants_of};
+use crate::wants::{Wants, wakes_of, wants_of};
 use run_capture::{List, Mem, Text};
 use run_events::{Message, Request, ScriptEnv, Settings, StressIndex, TestSlotAssignment};
 use run_model::{Phase, UnitTurn, UnitView};
@@ -33,20 +34,34 @@ use std::marker::Model;
 pub struct Unit {
     // Boxed, since it is wide and a new unit is moved often.
     view: Box<UnitView>,
+    // Before this moment it takes no turn that comes by itself, so that most often the view isn't looked at.
+    wakes: u64,
 }
 
 impl Model for Unit {
     ghost use Rattle.run_model.specs.declared.unit_view.UnitView.{UnitView};
-    ghost use Rattle.run_unit.specs.Timely.{IsCurrent, IsTried};
+    ghost use Rattle.run_unit.specs.Timely.{IsCurrent, IsQuietUntil, IsTried};
 
     ghost Value = { UnitView };
 
     ghost view = { λ u. u.view.value };
 
-    ghost invariant = { λ u. IsCurrent u.view.value × IsTried u.view.value };
+    ghost invariant = { λ u. IsCurrent u.view.value × IsTried u.view.value
+        × IsQuietUntil u.view.value u.wakes };
 }
 
 impl Unit {
+    // A unit as it begins.
+    fn begun(alloc: Global, view: UnitView) -> Mem<Unit>
+        requires current { IsCurrent view }
+        requires tried { IsTried view }
+        ensures { IfOk result (λ u. u ≡ view) }
+    {
+        let wakes = wakes_of(&view);
+        let view = Box::new(alloc, view)?;
+        Ok(Unit { view, wakes })
+    }
+
     /// The test at this place of the plan, admitted in this sub-run of a stress run and in this slot, where its scripts
     /// handed these variables on.
     pub fn test(
@@ -79,8 +94,7 @@ impl Unit {
             handed,
             planned,
         )?;
-        let view = Box::new(alloc, view)?;
-        Ok(Unit { view })
+        Unit::begun(alloc, view)
     }
 
     /// The test at this place of the plan, which doesn't match: it is over from its admission.
@@ -105,6 +119,7 @@ impl Unit {
         };
         let mut unit = Unit::test(alloc, settings, alike, index, test, slot, List::new())?;
         unit.view.phase = Phase::Over;
+        unit.wakes = wakes_of(&*unit.view);
         Ok(unit)
     }
 
@@ -125,8 +140,7 @@ impl Unit {
     {
         let planned = &settings.plan.scripts.as_slice()[script as usize];
         let view = script_view(alloc, settings, &alike.scripts, index, script, planned)?;
-        let view = Box::new(alloc, view)?;
-        Ok(Unit { view })
+        Unit::begun(alloc, view)
     }
 
     /// The message that it sends when it is admitted.
@@ -169,7 +183,9 @@ impl Unit {
         ensures ok { OnOk result (self.new ≡ reached request self.old) }
         ensures err { OnErr result (self.new ≡ self.old) }
     {
-        self.view.line.push(alloc, request)
+        self.view.line.push(alloc, request)?;
+        self.wakes = 0;
+        Ok(())
     }
 
     /// Whether the unit takes a turn at a moment of the run's clock, which is no earlier than its latest turn.
@@ -188,6 +204,13 @@ impl Unit {
         ensures decide { (word : ℕ) → result.decide ≡ takes now self.now (Decide word) }
         ensures due { result.due ≡ takes now self.now Due }
     {
+        if now < self.wakes {
+            return Wants {
+                take: false,
+                decide: false,
+                due: false,
+            };
+        }
         wants_of(&*self.view, now)
     }
 
@@ -209,7 +232,10 @@ impl Unit {
         let latest = self.view.latest;
         self.view.latest = now;
         match act(alloc, &mut *self.view, turn, now) {
-            Ok(effects) => Ok(effects),
+            Ok(effects) => {
+                self.wakes = wakes_of(&*self.view);
+                Ok(effects)
+            }
             Err(error) => {
                 self.view.latest = latest;
                 Err(error)

@@ -28,7 +28,8 @@ use Rattle.run_model.specs.declared.unit_view.UnitRole.{UnitRole}
 use Rattle.run_model.specs.declared.unit_view.UnitRole.TheVariants as roles
 use Rattle.run_model.specs.declared.unit_view.AttemptTerms.{AttemptTerms}
 use Rattle.run_model.specs.declared.unit_view.UnitView.{UnitView}
-use Rattle.run_model.specs.Environment.{Variable, number_of, number}
+use Rattle.run_events.specs.Variables.{Variable}
+use Rattle.run_model.specs.Environment.{number_of, number}
 use Rattle.run_model.specs.Admission.{first_view, global_slot, handed_by, handed_to, is_done, is_last, scripts_in}
 use Rattle.run_model.specs.Admission.{start_message, unit_terms, variables_of}
 use Rattle.run_model.specs.Accounts.{News, HasAccountAt, HasAccountIn, HasSkipIn, IsDone, is_mismatched, account_of}

@@ -8,8 +8,9 @@ use Rattle.run_events.specs.declared.settings.Settings.{Settings}
 use Rattle.run_commands.specs.Interceptor.{interceptor_words}
 use Rattle.run_commands.specs.TargetRunner.{runner_for}
 use Rattle.run_commands.specs.VersionEnvVars.{version_pairs}
-use Rattle.run_model.specs.Environment.{Variable, start_ask, test_variables, identity_variables, place_variables}
-use Rattle.run_model.specs.Environment.{script_variables}
+use Rattle.run_events.specs.Variables.{Variable, test_variables, identity_variables, place_variables}
+use Rattle.run_events.specs.Variables.{script_variables}
+use Rattle.run_model.specs.Environment.{start_ask}
 use Rattle.run_model.specs.Admission.{first_view, runner_words, script_view}
 use Rattle.run_laws.specs.Starts.{command_asked, names_asked, start_at, test_names, script_names, version_names}
 use Rattle.run_events.specs.declared.stress.StressIndex.{StressIndex}

@@ -27,8 +27,8 @@ use Rattle.run_model.specs.declared.unit_turn.UnitTurn.TheVariants.{Answered}
 use Rattle.run_model.specs.declared.unit_view.UnitRole.{UnitRole}
 use Rattle.run_model.specs.declared.unit_view.UnitRole.TheVariants as roles
 use Rattle.run_model.specs.declared.unit_view.UnitView.{UnitView}
-use Rattle.run_model.specs.Environment.{Variable, number, start_ask, environment_as, test_variables}
-use Rattle.run_model.specs.Environment.{identity_variables, place_variables, script_variables}
+use Rattle.run_events.specs.Variables.{Variable}
+use Rattle.run_model.specs.Environment.{number, start_ask, environment_as}
 use Rattle.run_model.specs.Admission.{begun_view, handed_by, handed_from, handed_to, scripts_in, start_message}
 use Rattle.run_model.specs.Admission.{units_in}
 use Rattle.run_model.specs.Ending.{last_status}
@@ -50,7 +50,7 @@ pub face_kept : (u v : UnitView) → Keeps u v → face v ≡ face u
 face_kept u v it = rw (it.role, it.command, it.around, it.terms) refl
 
 pub start_face : (u : UnitView) (n : ℕ) → start_at u n ≡ start_at (face u) n
-unfolding start_ask test_variables identity_variables place_variables script_variables
+unfolding start_ask
 start_face u n = rw (same u.role) refl
   where
     same : (role : UnitRole)

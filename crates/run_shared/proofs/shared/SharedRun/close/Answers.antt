@@ -1,12 +1,24 @@
-use Rattle.std.proofs.Common.{◌≡◌, sym, subst, ◌∙◌, ap, rules}
-use Rattle.run_events.specs.declared.settings.Settings.{Settings}
-use Rattle.run_shared.specs.Closed.{IsLeft}
+use Rattle.std.proofs.Common.{◌≡◌, ◌∙◌, ap, sym, length}
+use Rattle.std.proofs.lemmas.Result.{IfOk-weaker, IfErr-weaker}
+use Rattle.run_engine.specs.World.{World}
 use Rattle.run_shared.proofs.shared.SharedRun.close.Goals as goal
 
-pub returns-in-Ok-clause-left : goal.returns-in-Ok-clause-left
-returns-in-Ok-clause-left g c =
+pub leave-requires : goal.leave-requires
+leave-requires g c = record { heard = rw (sym c.into_parts-run.ensures.run) at c.into_parts-run.ensures.heard }
+
+pub returns-clause-refused : goal.returns-clause-refused
+returns-clause-refused g c = rw c.self.view_is at c.leave.ensures.refused
+
+pub returns-clause-counted : goal.returns-clause-counted
+returns-clause-counted g c =
     let run = c.into_parts-run.result.0 in
-    let left = c.closed_of.ensures.left (rw (sym c.into_parts-run.ensures.run) at c.into_parts-run.ensures.heard) in
-    let same : c.args.self ≡ run.settings = search rules in
-    subst (λ (p : Settings). IsLeft g.R.Reporter.told c.closed_of.result.report c.closed_of.result.asks p
-    c.closed_of.result.journal c.closed_of.result.outcome) (sym same) left
+    IfOk-weaker c.leave.result (λ closed. closed.journal ≡ run.journal) _ (λ closed same all.
+    c.into_parts-run.ensures.counted all ∙ ap (λ (w : World). length w.journal) (sym c.into_parts-run.ensures.run)
+    ∙ sym (ap length same)) c.leave.ensures.journal
+
+pub returns-clause-counted_too : goal.returns-clause-counted_too
+returns-clause-counted_too g c =
+    let run = c.into_parts-run.result.0 in
+    IfErr-weaker c.leave.result (λ unclosed. unclosed.journal ≡ run.journal) _ (λ unclosed same all.
+    c.into_parts-run.ensures.counted all ∙ ap (λ (w : World). length w.journal) (sym c.into_parts-run.ensures.run)
+    ∙ sym (ap length same)) c.leave.ensures.journal_too

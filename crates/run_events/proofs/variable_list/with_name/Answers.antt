@@ -1,6 +1,6 @@
 use Rattle.std.proofs.Common.{rules, codes, ◌∷◌, []}
-use Rattle.run_unit.proofs.VariableLemmas.{more}
-use Rattle.run_unit.proofs.environment.with_name.Goals as goal
+use Rattle.run_events.proofs.VariableLemmas.{more}
+use Rattle.run_events.proofs.variable_list.with_name.Goals as goal
 
 pub returns : goal.returns
 returns c =

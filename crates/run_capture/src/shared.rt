@@ -1,7 +1,7 @@
 // A value that several hold and nobody changes.
 ghost use Rattle.std.specs.Prelude.{◌≡◌, IfOk};
 
-use run_capture::Mem;
+use crate::Mem;
 use std::alloc::Global;
 use std::marker::Model;
 use std::sync::Arc;

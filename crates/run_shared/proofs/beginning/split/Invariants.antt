@@ -1,6 +1,6 @@
 use Rattle.std.proofs.Common.{◌≡◌, ◌+◌, vec_len}
 use Rattle.std.specs.List.{All}
-use Rattle.run_shared.proofs.shared.split.Given as goal
+use Rattle.run_shared.proofs.beginning.split.Given as goal
 
 abbrev pub invariant-loop : goal.invariant-loop
 invariant-loop g l =

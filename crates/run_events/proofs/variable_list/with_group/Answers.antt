@@ -1,7 +1,7 @@
 use Rattle.std.proofs.Common.{rules, codes, ◌∷◌, []}
-use Rattle.run_model.specs.Environment.{group_name, group_number}
-use Rattle.run_unit.proofs.VariableLemmas.{more}
-use Rattle.run_unit.proofs.environment.with_group.Goals as goal
+use Rattle.run_events.specs.Variables.{group_name, group_number}
+use Rattle.run_events.proofs.VariableLemmas.{more}
+use Rattle.run_events.proofs.variable_list.with_group.Goals as goal
 
 pub returns : goal.returns
 returns c =
