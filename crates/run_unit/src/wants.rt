@@ -1,7 +1,7 @@
 // Which of the turns that come by themselves a unit takes.
 ghost use Rattle.std.specs.Prelude.{◌≡◌, ◌<◌, ◌^◌, ℕ, false};
 ghost use Rattle.run_clock.specs.Sleep.{fires_now};
-ghost use Rattle.run_model.specs.Unit.{has_request};
+ghost use Rattle.run_model.specs.Requests.{has_request};
 ghost use Rattle.run_model.specs.declared.unit_turn.UnitTurn.TheVariants.{Take, Decide, Due};
 ghost use Rattle.run_model.specs.Unit.{takes_at};
 ghost use Rattle.run_unit.specs.Timely.{IsQuietUntil, IsTimely};
