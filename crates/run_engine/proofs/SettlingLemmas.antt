@@ -1,16 +1,13 @@
 -- The turn that a run takes by itself is enabled.
-use Rattle.std.proofs.Common.{◌≡◌, ℕ, List, [], ◌∷◌, Bool, true, false, Some, refl, ap, sym, subst}
+use Rattle.std.proofs.Common.{◌≡◌, ◌≤◌, ◌<◌, ◌^◌, ℕ, List, [], ◌∷◌, Bool, true, false, Some, refl, ap, sym, subst, arith}
 use Rattle.run_events.specs.declared.settings.Settings.{Settings}
 use Rattle.run_events.specs.declared.turn.Turn.{Turn}
 use Rattle.run_model.specs.Board.{Board, board}
-use Rattle.run_model.specs.Turns.{enabled_on}
+use Rattle.run_model.specs.Turns.{enabled, enabled_on}
 use Rattle.run_state.specs.Held.{Held, held}
 use Rattle.run_state.specs.Settle.{settling, first_enabled}
 use Rattle.run_engine.specs.World.{World, history_of}
-use Rattle.run_engine.specs.Refused.{IsRefused}
-use Rattle.run_engine.specs.Settling.{first_settled, IsUnsettled}
-use Rattle.run_engine.specs.declared.errors.StepError.{StepError}
-use Rattle.run_engine.specs.declared.errors.StepError.TheVariants.{NotEnabled, ThirdSignal, Full, OutOfMemory}
+use Rattle.run_engine.specs.Settling.{first_settled}
 
 -- the first enabled turn is enabled
 found_is : (p : Settings) (b : Board) (ts : List Turn) (t : Turn) → first_enabled p b ts ≡ Some t
@@ -33,16 +30,12 @@ settled_on p q h b word same st =
     subst (λ q. first_enabled q h.board (settling q word) ≡ first_enabled p b (settling p word)) (sym same)
     (ap (λ (h : Held). first_enabled p h.board (settling p word)) st)
 
--- it is refused only by a journal that is full
-pub unsettled : (w : World) (word : ℕ) (t : Turn) (e : StepError) → first_settled w word ≡ Some t → IsRefused w t e
-    → IsUnsettled w word e
-unsettled w word t NotEnabled first why =
-    let on = found_is w.settings (board w.settings (history_of w)) (settling w.settings word) t first in
-    let off = why.1.0 in
-    cc
-unsettled w word t ThirdSignal first why =
-    let on = found_is w.settings (board w.settings (history_of w)) (settling w.settings word) t first in
-    let off = why.1.0 in
-    cc
-unsettled w word t Full first why = (why, (t, first))
-unsettled w word t OutOfMemory first why = tt
+-- the turn that a run takes by itself is enabled in it
+pub first_is_enabled : (w : World) (word : ℕ) (t : Turn) → first_settled w word ≡ Some t
+    → enabled w.settings (history_of w) t ≡ true
+first_is_enabled w word t first =
+    found_is w.settings (board w.settings (history_of w)) (settling w.settings word) t first
+
+-- a journal that has no room is full
+pub full_at : (count turns : ℕ) → count ≡ turns → 4294967295 ≤ count → turns < 2 ^ 32 → turns ≡ 4294967295
+full_at count turns same low high = omega (arith, same, low, high)

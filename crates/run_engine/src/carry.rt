@@ -33,7 +33,7 @@ use crate::tell::{Told, ask, keep_start, tell};
 use run_capture::{Mem, OutOfMemory};
 use run_events::{Children, Reporter, Settings, StartAsk, Turn};
 use run_model::{Entry, UnitTurn};
-use run_state::{Effects, State, advance, is_enabled, turn_of_unit};
+use run_state::{Effects, Settled, State, advance, is_enabled, turn_of_unit};
 use std::alloc::Global;
 use std::collections::VecDeque;
 
@@ -248,5 +248,17 @@ pub(crate) fn named_if_enabled(
     match turn_of_unit(alloc, turn) {
         Ok(named) => Ok(named),
         Err(_) => Err(StepError::OutOfMemory),
+    }
+}
+
+/// The unit that a turn names that the run takes by itself, with what the turn is to it.
+pub(crate) fn named_of(settled: Settled) -> Option<(u32, UnitTurn)>
+    ensures { result ≡ turn_of_unit (settled_turn settled) }
+{
+    match settled {
+        Settled::Take { unit } => Some((unit, UnitTurn::Take)),
+        Settled::Decide { unit, word } => Some((unit, UnitTurn::Decide { word })),
+        Settled::UnitDue { unit } => Some((unit, UnitTurn::Due)),
+        _ => None,
     }
 }

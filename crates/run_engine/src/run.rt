@@ -27,7 +27,7 @@ ghost use Rattle.run_engine.specs.Refused.{IsRefused, IsNotNamed, IfNotMemory};
 
 mod questions;
 
-use crate::carry::{carry_out, named_if_enabled};
+use crate::carry::{carry_out, named_if_enabled, named_of};
 use crate::errors::StepError;
 use run_capture::{List, Whole};
 use run_events::{Children, Reporter, Settings, StartAsk, Turn};
@@ -269,10 +269,12 @@ impl Run {
         if self.broken {
             return Err(StepError::OutOfMemory);
         }
-        let Some(settled) = self.next(word) else {
-            return Ok(None);
+        let settled = match self.next(word) {
+            Some(_) if self.journal.len() >= MOST_TURNS => return Err(StepError::Full),
+            Some(settled) => settled,
+            None => return Ok(None),
         };
-        match self.step(alloc, settled.turn(), children, report) {
+        match self.take_named(alloc, settled.turn(), named_of(settled), children, report) {
             Ok(_) => Ok(Some(settled.turn())),
             Err(error) => Err(error),
         }
