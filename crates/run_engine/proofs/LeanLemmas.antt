@@ -8,18 +8,14 @@ use Rattle.run_events.specs.declared.events.ReporterEvent.{ReporterEvent}
 use Rattle.run_model.specs.declared.entry.Entry.{Entry}
 use Rattle.run_model.specs.Board.{board}
 use Rattle.run_model.specs.Journal.{past_of}
-use Rattle.run_model.specs.Turns.{enabled_on, is_third_signal}
 use Rattle.run_state.specs.Held.{Held, held}
 use Rattle.run_state.specs.Settle.{settling, first_enabled}
 use Rattle.run_engine.specs.World.{World, Outside, entry_of}
 use Rattle.run_engine.specs.Broken.{BreaksOff}
 use Rattle.run_engine.specs.Standing.{IsRunnable, sound}
-use Rattle.run_engine.specs.Refused.{IsRefused, IsNotNamed}
-use Rattle.run_engine.specs.Settling.{first_settled, IsUnsettled}
+use Rattle.run_engine.specs.Settling.{first_settled}
 use Rattle.run_engine.specs.Unkept.{StandsAfter, TakesUnkept}
 use Rattle.run_engine.specs.Lean.{Lean, StandsFor, TakesOne, settled_next}
-use Rattle.run_engine.specs.declared.errors.StepError.{StepError}
-use Rattle.run_engine.specs.declared.errors.StepError.TheVariants.{NotEnabled, ThirdSignal, Full, OutOfMemory}
 use Rattle.run_engine.proofs.CarryLemmas.{runnable_next}
 use Rattle.run_engine.proofs.SettlingLemmas.{full_at}
 
@@ -45,21 +41,6 @@ takes_one tells asks o old state journal turn refusal s room t =
         many = omega (arith, s.many, ap length grown, length-append journal (entry_of turn t.1.refused ∷ []));
       };
     }
-
--- a turn that isn't enabled on its board is refused after the journal
-pub refused_after : (p : Settings) (state : Held) (place : ℕ) (journal : List Entry) (turn : Turn) (e : StepError)
-    → StandsAfter p state place journal → place < 4294967295 → IsNotNamed p state.board turn e
-    → IsRefused (sound p journal) turn e
-refused_after p state place journal turn NotEnabled s room no = (
-  omega (arith, s.many, room),
-  subst (λ (h : Held). (enabled_on p h.board turn ≡ false) × (is_third_signal h.board turn ≡ false)) s.stands no,
-)
-refused_after p state place journal turn ThirdSignal s room no = (
-  omega (arith, s.many, room),
-  subst (λ (h : Held). (enabled_on p h.board turn ≡ false) × (is_third_signal h.board turn ≡ true)) s.stands no,
-)
-refused_after p state place journal turn Full s room no = absurd no
-refused_after p state place journal turn OutOfMemory s room no = tt
 
 -- a run that has taken the most turns
 pub is_full : (r : Lean) (journal : List Entry) → StandsFor r journal → 4294967295 ≤ r.turns

@@ -171,7 +171,10 @@ impl LeanRun {
         };
         let turn = settled.turn();
         match self.take(alloc, &turn, named_of(settled), children, report) {
-            Ok(_) => Ok(Some(turn)),
+            Ok(refusal) => {
+                drop(refusal);
+                Ok(Some(turn))
+            }
             Err(error) => {
                 drop(turn);
                 Err(error)
