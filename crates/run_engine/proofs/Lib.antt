@@ -9,6 +9,7 @@ pub mod SettlingLemmas
 pub mod OutcomeLemmas
 pub mod CourseLemmas
 pub mod UnkeptLemmas
+pub mod LeanLemmas
 pub mod RepeatLemmas
 pub mod FewLemmas
 pub mod NameLemmas

@@ -10,7 +10,7 @@ use Rattle.run_engine.specs.World.{World, history_of}
 use Rattle.run_engine.specs.Settling.{first_settled}
 
 -- the first enabled turn is enabled
-found_is : (p : Settings) (b : Board) (ts : List Turn) (t : Turn) → first_enabled p b ts ≡ Some t
+pub found_is : (p : Settings) (b : Board) (ts : List Turn) (t : Turn) → first_enabled p b ts ≡ Some t
     → enabled_on p b t ≡ true
 found_is p b [] t e = cc
 found_is p b (u ∷ ts) t e = at (enabled_on p b u) refl (found_is p b ts t)

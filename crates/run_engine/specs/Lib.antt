@@ -7,6 +7,7 @@ pub mod Heard
 pub mod Refused
 pub mod Execution
 pub mod Unkept
+pub mod Lean
 pub mod Handlers
 pub mod Names
 pub mod Builder

@@ -12,11 +12,13 @@ ghost use Rattle.run_engine.specs.Standing.{sound};
 ghost use Rattle.run_engine.specs.Execution.{Carries, Executes, AnswersCourse, UnlessMemory, IsFinal};
 ghost use Rattle.run_engine.specs.Broken.{RunsOut};
 ghost use Rattle.run_engine.specs.Unkept.{outcome_on};
+ghost use Rattle.run_engine.specs.Lean.{StandsFor};
 ghost use Rattle.run_capture.specs.Faults.{Rose};
 ghost use Rattle.run_laws.specs.Course.{refuses_none};
 
 use crate::course::{Stop, take_all};
 use crate::errors::TestRunnerExecuteErrors;
+use crate::lean::LeanRun;
 use crate::run::Run;
 use jiff::Timestamp;
 use run_capture::{Mem, Whole};
@@ -162,6 +164,20 @@ impl TestRunner {
     {
         match State::new(alloc, self.settings.get()) {
             Ok(state) => Ok(Run::begin(alloc, self.settings, state)),
+            Err(error) => {
+                drop(self);
+                Err(error)
+            }
+        }
+    }
+
+    /// A run that has taken no turn, and keeps no journal.
+    pub fn into_lean_run(self, alloc: Global) -> Mem<LeanRun>
+        ensures stands { IfOk result (λ run. StandsFor run []) }
+        ensures settings { IfOk result (λ run. run.settings ≡ self) }
+    {
+        match State::new(alloc, self.settings.get()) {
+            Ok(state) => Ok(LeanRun::begin(self.settings, state)),
             Err(error) => {
                 drop(self);
                 Err(error)

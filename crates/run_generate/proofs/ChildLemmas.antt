@@ -1,127 +1,87 @@
--- The least unit whose child stands so, among the units whose attempts are kept.
-use Rattle.std.proofs.Common.{◌≡◌, ℕ, zero, suc, ◌+◌, ◌<◌, ◌^◌, List, [], ◌∷◌, ◌++◌, length, get_or, slice_get, Bool}
-use Rattle.std.proofs.Common.{true, false, is_some}
-use Rattle.std.proofs.Common.{Option, Some, None, IsSome, option_map, option_and_then, refl, ap, sym, subst, ◌∙◌, arith}
-use Rattle.std.proofs.Common.{position}
-use Rattle.std.specs.BTreeMap.{BTreeMap, IsOrdered, get, is_at}
-use Rattle.std.specs.Map.{lookup}
-use Rattle.std.specs.Ordering.{nat_cmp}
+-- The least unit whose child stands so is the first in its phase.
+use Rattle.std.proofs.Common.{◌≡◌, ℕ, ◌+◌, ◌<◌, ◌^◌, List, length, get_or, Bool, true, false, Option, Some, None}
+use Rattle.std.proofs.Common.{option_map, option_and_then, IfSome, IsNone, refl, ap, sym, subst, ◌∙◌, arith}
 use Rattle.std.proofs.lemmas.List.Quantifiers.{position-Some}
-use Rattle.std.proofs.lemmas.Option.{slice_get_within}
+use Rattle.std.proofs.lemmas.Option.{same_Some}
+use Rattle.run_events.specs.declared.turn.Turn.{Turn}
 use Rattle.run_events.specs.declared.turn.Turn.TheVariants.{Exit}
+use Rattle.run_model.specs.declared.entry.Entry.{Entry}
 use Rattle.run_model.specs.declared.phase.Phase.{Phase}
 use Rattle.run_model.specs.declared.phase.Phase.TheVariants.{Starting, Running}
 use Rattle.run_model.specs.declared.unit_view.UnitView.{UnitView}
-use Rattle.run_model.specs.Admission.{AreFew, units_in}
+use Rattle.run_model.specs.Admission.{is_last, units_in}
 use Rattle.run_model.specs.Board.{Board, unit_in}
-use Rattle.run_model.specs.Unit.{is_live}
-use Rattle.run_model.specs.Words.{sub_run}
-use Rattle.run_laws.proofs.board.OnBoard.{units-length}
-use Rattle.run_engine.specs.World.{World, history_of}
-use Rattle.run_generate.specs.OnWay.{KeepsAttempts, board_of}
+use Rattle.run_state.specs.First.{IsFirstIn, NoneIsIn}
+use Rattle.run_state.specs.First.{phase_of as phase_in}
+use Rattle.run_engine.specs.Lean.{StandsFor}
+use Rattle.run_engine.proofs.UnkeptLemmas.{all_units}
+use Rattle.run_generate.specs.OnWay.{board_of, phase_of}
 use Rattle.run_generate.specs.Turns.{exit_at, exit_turn, first_with, has_child, unit_has}
 use Rattle.run_generate.specs.declared.child.Child.{Child}
 use Rattle.run_generate.specs.declared.child.Child.TheVariants as children
-use Rattle.run_generate.proofs.FirstLemmas.{first_found, none_found}
+use Rattle.run_generate.specs.declared.on_way.OnWay.{OnWay}
+use Rattle.run_generate.proofs.FirstLemmas.{position_is, position_none}
 
-child_live : (child : Child) (ph : Phase) → has_child child ph ≡ true → is_live ph ≡ true
-child_live children.Asked Starting e = refl
-child_live children.Runs Running e = refl
-child_live child ph e = cc
+-- a unit that has such a child isn't over
+pub child_going : (child : Child) → is_last (phase_of child) ≡ false
+child_going children.Asked = refl
+child_going children.Runs = refl
 
--- a unit with a child is there, and its attempt is kept
-pub record IsKept (attempts : BTreeMap ℕ ℕ) (b : Board) (k : ℕ) : Type 0 where
-  pub unit : UnitView
-  pub is : unit_in b k ≡ Some unit
-  pub at : get nat_cmp attempts k ≡ Some unit.attempt
+-- a unit has such a child where it is in its phase, and nowhere else
+has_child_in : (child : Child) (u : Option UnitView) → phase_in u ≡ Some (phase_of child) → unit_has child u ≡ true
+has_child_in child None e = cc
+has_child_in children.Asked (Some u) e = ap (has_child children.Asked) (same_Some _ _ e)
+has_child_in children.Runs (Some u) e = ap (has_child children.Runs) (same_Some _ _ e)
 
-kept_of : (child : Child) (attempts : BTreeMap ℕ ℕ) (b : Board) (k : ℕ) → KeepsAttempts attempts b
-    → unit_has child (unit_in b k) ≡ true → IsKept attempts b k
-kept_of child attempts b k keeps has = by_unit (unit_in b k) refl has
+phase_is : (child : Child) (ph : Phase) → has_child child ph ≡ true → ph ≡ phase_of child
+phase_is children.Asked Starting e = refl
+phase_is children.Runs Running e = refl
+phase_is child ph e = cc
+
+has_none : (child : Child) (u : Option UnitView) → (phase_in u ≡ Some (phase_of child) → ⊥) → unit_has child u ≡ false
+has_none child None none = refl
+has_none child (Some u) none = by_test (has_child child u.phase) refl
   where
-    by_unit : (u : Option UnitView) → unit_in b k ≡ u → unit_has child u ≡ true → IsKept attempts b k
-    by_unit None is has = cc
-    by_unit (Some u) is has =
-        record { unit = u; is = is; at = keeps k u is (child_live child u.phase has) }
+    by_test : (b : Bool) → has_child child u.phase ≡ b → b ≡ false
+    by_test false e = refl
+    by_test true e = absurd (none (ap Some (phase_is child u.phase e)))
 
-covers : (child : Child) (attempts : BTreeMap ℕ ℕ) (b : Board) → KeepsAttempts attempts b → (k : ℕ)
-    → unit_has child (get_or b.units k None) ≡ true → IsSome (lookup (is_at (nat_cmp k)) attempts.entries)
-covers child attempts b keeps k has = ap is_some (kept_of child attempts b k keeps has).at
+first_is : (child : Child) (b : Board) (k : ℕ) → IsFirstIn b.units (phase_of child) k → Some k ≡ first_with child b
+first_is child b k f =
+    sym (position_is (unit_has child) b.units None refl k (has_child_in child (get_or b.units k None) f.is)
+    (λ j less. has_none child (get_or b.units j None) (f.before j less)))
 
-abbrev pub AreSeen : Child → Board → List (ℕ × ℕ) → Type 0
-AreSeen child b done = (i : ℕ) (e : ℕ × ℕ) → slice_get done i ≡ Some e → unit_has child (unit_in b e.0) ≡ false
+none_is : (child : Child) (b : Board) → NoneIsIn b.units (phase_of child) → None ≡ first_with child b
+none_is child b none =
+    sym (position_none (unit_has child) b.units None (λ k. has_none child (get_or b.units k None) (none k)))
 
-slice_get-end : {X : Type 0} (xs ys : List X) → slice_get (xs ++ ys) (length xs) ≡ slice_get ys 0
-slice_get-end [] ys = refl
-slice_get-end (x ∷ xs) ys = slice_get-end xs ys
-
-slice_get-front : {X : Type 0} (xs ys : List X) (k : ℕ) → k < length xs → slice_get (xs ++ ys) k ≡ slice_get xs k
-slice_get-front [] ys k below = absurd (omega arith)
-slice_get-front (x ∷ xs) ys zero below = refl
-slice_get-front (x ∷ xs) ys (suc k) below = slice_get-front xs ys k (omega arith)
-
-pub first_is : (child : Child) (attempts : BTreeMap ℕ ℕ) (b : Board) (done rest : List (ℕ × ℕ)) (k v : ℕ)
-    → IsOrdered nat_cmp attempts → KeepsAttempts attempts b → done ++ (k, v) ∷ rest ≡ attempts.entries
-    → AreSeen child b done → unit_has child (unit_in b k) ≡ true → Some k ≡ first_with child b
-first_is child attempts b done rest k v ordered keeps all seen has =
-    sym (first_found (unit_has child) b.units None refl attempts.entries ordered (covers child attempts b keeps)
-    (length done) (k, v) (ap (λ es. slice_get es (length done)) (sym all) ∙ slice_get-end done ((k, v) ∷ rest)) has
-    (λ j f below at. seen j f (sym (slice_get-front done ((k, v) ∷ rest) j below)
-    ∙ ap (λ es. slice_get es j) all ∙ at)))
-
-pub none_is : (child : Child) (attempts : BTreeMap ℕ ℕ) (b : Board) → KeepsAttempts attempts b
-    → AreSeen child b attempts.entries → None ≡ first_with child b
-none_is child attempts b keeps seen =
-    sym (none_found (unit_has child) b.units None refl attempts.entries (covers child attempts b keeps) seen)
-
--- one more that was looked at
-pub seen_more : (child : Child) (b : Board) (done : List (ℕ × ℕ)) (e : ℕ × ℕ) → AreSeen child b done
-    → unit_has child (unit_in b e.0) ≡ false → AreSeen child b (done ++ e ∷ [])
-seen_more child b [] e seen off zero f at = subst (λ (f : ℕ × ℕ). unit_has child (unit_in b f.0) ≡ false) (one e f at) off
-  where
-    one : (e f : ℕ × ℕ) → Some e ≡ Some f → e ≡ f
-    one e f at = cc
-seen_more child b [] e seen off (suc i) f at = cc
-seen_more child b (d ∷ done) e seen off zero f at = seen 0 f at
-seen_more child b (d ∷ done) e seen off (suc i) f at =
-    seen_more child b done e (λ j g here. seen (suc j) g here) off i f at
+-- the first unit in the phase of a child is the least that has it
+pub first_found : (child : Child) (b : Board) (phase : Phase) (first : Option ℕ) → phase ≡ phase_of child
+    → IfSome first (IsFirstIn b.units phase) → (IsNone first → NoneIsIn b.units phase) → first ≡ first_with child b
+first_found child b phase None same some none =
+    none_is child b (subst (NoneIsIn b.units) same (none refl))
+first_found child b phase (Some k) same some none =
+    first_is child b k (subst (λ ph. IsFirstIn b.units ph k) same some)
 
 -- the number of such a unit has room
-pub first_few : (w : World) (child : Child) (k : ℕ) → AreFew w.settings → Some k ≡ first_with child (board_of w)
-    → k + 1 < 2 ^ 32
-first_few w child k few is =
-    let within = (position-Some (unit_has child) (board_of w).units k None (sym is)).0 in
-    let long = units-length w.settings (sub_run (history_of w)) in
-    let most : units_in w.settings < 2 ^ 32 = few.units in
-    omega arith
+pub first_few : (g : OnWay) (journal : List Entry) (child : Child) (k : ℕ) → StandsFor g.run journal
+    → Some k ≡ first_with child (board_of g) → k + 1 < 2 ^ 32
+first_few g journal child k s is =
+    let within = (position-Some (unit_has child) (board_of g).units k None (sym is)).0 in
+    let long = all_units g.run.settings g.run.state g.run.turns journal s in
+    let most : units_in g.run.settings < 2 ^ 32 = s.runnable.few.units in
+    omega (arith, within, long, most)
 
--- the exit of the least unit whose child runs
-pub running_kept : (attempts : BTreeMap ℕ ℕ) (b : Board) (k : ℕ) → KeepsAttempts attempts b
-    → Some k ≡ first_with children.Runs b → IsKept attempts b k
-running_kept attempts b k keeps is =
-    kept_of children.Runs attempts b k keeps (position-Some (unit_has children.Runs) b.units k None (sym is)).1
-
-pub exit_is : (attempts : BTreeMap ℕ ℕ) (b : Board) (k attempt : ℕ) → KeepsAttempts attempts b
-    → Some k ≡ first_with children.Runs b → get nat_cmp attempts k ≡ Some attempt
-    → Some (Exit k (exit_at k attempt)) ≡ exit_turn b
-exit_is attempts b k attempt keeps is at =
-    let it = running_kept attempts b k keeps is in
-    let same : it.unit.attempt ≡ attempt = same_some _ _ (sym it.at ∙ at) in
-    ap (λ n. Some (Exit k (exit_at k n))) (sym same)
-    ∙ sym (ap (option_map (λ (u : UnitView). Exit k (exit_at k u.attempt))) it.is)
+-- the exit of the least unit whose child runs, by the attempt that it is at
+pub exit_is : (b : Board) (k : ℕ) (attempt : Option ℕ) → Some k ≡ first_with children.Runs b
+    → attempt ≡ option_map (λ (u : UnitView). u.attempt) (unit_in b k)
+    → option_map (λ n. Exit k (exit_at k n)) attempt ≡ exit_turn b
+exit_is b k attempt is at =
+    ap (option_map (λ n. Exit k (exit_at k n))) at ∙ at_once (unit_in b k)
     ∙ ap (option_and_then (λ k. option_map (λ (u : UnitView). Exit k (exit_at k u.attempt)) (unit_in b k))) is
   where
-    same_some : (m n : ℕ) → Some m ≡ Some n → m ≡ n
-    same_some m n e = cc
-
-pub exit_never : (attempts : BTreeMap ℕ ℕ) (b : Board) (k : ℕ) → KeepsAttempts attempts b
-    → Some k ≡ first_with children.Runs b → get nat_cmp attempts k ≡ None → ⊥
-exit_never attempts b k keeps is none =
-    let it = running_kept attempts b k keeps is in
-    let never : None ≡ Some it.unit.attempt = sym none ∙ it.at in cc
-
--- where no attempt is kept no unit has such a child
-pub none_at_all : (child : Child) (attempts : BTreeMap ℕ ℕ) (b : Board) → KeepsAttempts attempts b
-    → length attempts.entries ≡ 0 → None ≡ first_with child b
-none_at_all child attempts b keeps empty =
-    none_is child attempts b keeps (λ i e at. absurd (omega (arith, slice_get_within attempts.entries i e at)))
+    at_once : (o : Option UnitView)
+        → option_map (λ n. Exit k (exit_at k n)) (option_map (λ (u : UnitView). u.attempt) o)
+        ≡ option_map (λ (u : UnitView). Exit k (exit_at k u.attempt)) o
+    at_once None = refl
+    at_once (Some u) = refl

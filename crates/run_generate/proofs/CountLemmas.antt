@@ -6,12 +6,12 @@ use Rattle.run_events.specs.declared.events.ReporterEvent.{ReporterEvent}
 use Rattle.run_events.specs.declared.settings.Settings.{Settings}
 use Rattle.run_model.specs.declared.entry.Entry.{Entry}
 use Rattle.run_model.specs.declared.happening.Happening.{Happening}
-use Rattle.run_model.specs.Journal.{history, IsLegalBackward}
+use Rattle.run_model.specs.Journal.{history, past_of, IsLegalBackward}
 use Rattle.run_model.specs.Turns.{happening}
 use Rattle.run_model.specs.Words.{answers, events_in, told}
 use Rattle.run_laws.proofs.board.Ready.{past_of-length}
-use Rattle.run_engine.specs.World.{flagged, history_of}
-use Rattle.run_generate.specs.OnWay.{IsOnWay}
+use Rattle.run_engine.specs.World.{flagged}
+use Rattle.run_generate.specs.OnWay.{IsAfter}
 use Rattle.run_generate.specs.declared.on_way.OnWay.{OnWay}
 
 -- a legal journal has an answer to each event that it told
@@ -47,16 +47,19 @@ told-few (x ∷ past) =
     few (Some a) (Some b) = omega arith
 
 -- a run on its way has counted the events that it told
-pub counted : (g : OnWay) → IsOnWay g → g.counter.events ≡ length (told (history_of g.run))
-counted g way =
+pub counted : (g : OnWay) (journal : List Entry) → IsAfter g journal
+    → g.counter.events ≡ length (told (past_of g.run.settings journal))
+counted g journal way =
+    let p = g.run.settings in
+    let past = past_of p journal in
     let h = way.heard in
-    let flags : length h.events ≡ length (answers (history_of g.run)) =
-    sym (length-map h.events flagged) ∙ ap length (h.flags ∙ ap (λ es. answers (history_of g.run) ++ es) (h.whole way.sound).0
-    ∙ append-nil (answers (history_of g.run))) in
-    let same : length h.events ≡ length (told (history_of g.run)) =
-    flags ∙ told-length g.run.settings (reverse g.run.journal) way.runnable.legal in
+    let flags : length h.events ≡ length (answers past) =
+    sym (length-map h.events flagged) ∙ ap length (h.flags ∙ ap (λ es. answers past ++ es) (h.whole refl).0
+    ∙ append-nil (answers past)) in
+    let same : length h.events ≡ length (told past) =
+    flags ∙ told-length p (reverse journal) way.stands.runnable.legal in
     let count : g.counter.events ≡ min (length h.events) 18446744073709551615 = h.told in
-    let few : length (told (history_of g.run)) ≤ 2 * length (history_of g.run) = told-few (history_of g.run) in
-    let long : length (history_of g.run) ≡ length g.run.journal = past_of-length g.run.settings g.run.journal in
-    let short : length g.run.journal < 2 ^ 32 = way.runnable.short in
+    let few : length (told past) ≤ 2 * length past = told-few past in
+    let long : length past ≡ length journal = past_of-length p journal in
+    let short : length journal < 2 ^ 32 = way.stands.runnable.short in
     omega arith

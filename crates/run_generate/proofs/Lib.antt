@@ -1,7 +1,6 @@
 mod FirstLemmas
 mod NameLemmas
 mod AcceptLemmas
-mod Attempts
 mod ChildLemmas
 mod WayLemmas
 mod ShortLemmas

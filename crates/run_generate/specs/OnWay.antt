@@ -1,19 +1,18 @@
 -- A generated run on its way.
-use Rattle.std.specs.Prelude.{ℕ, ◌≡◌, ◌+◌, ◌==◌, ◌^◌, ◌-◌, List, length, min, slice_get, Bool, true, false, Option}
-use Rattle.std.specs.Prelude.{Some, None}
-use Rattle.std.specs.Prelude.{is_some, if◌then◌else◌, ⊤}
-use Rattle.std.specs.BTreeMap.{BTreeMap, get}
-use Rattle.std.specs.Ordering.{nat_cmp}
+use Rattle.std.specs.Prelude.{ℕ, ◌≡◌, ◌+◌, ◌^◌, ◌-◌, List, length, min, Bool, true, false, Option, None, ⊤}
 use Rattle.std.specs.declared.convert.Infallible.{Infallible}
-use Rattle.run_events.specs.declared.ask.StartAsk.{StartAsk}
-use Rattle.run_model.specs.Board.{Board, board, unit_in}
-use Rattle.run_model.specs.Unit.{is_live}
-use Rattle.run_model.specs.declared.unit_view.UnitView.{UnitView}
+use Rattle.run_events.specs.declared.turn.Turn.{Turn}
+use Rattle.run_model.specs.declared.entry.Entry.{Entry}
+use Rattle.run_model.specs.declared.phase.Phase.{Phase}
+use Rattle.run_model.specs.declared.phase.Phase.TheVariants.{Starting, Running}
+use Rattle.run_model.specs.Board.{Board}
+use Rattle.run_model.specs.Journal.{past_of, outcome}
 use Rattle.run_engine.specs.Heard.{IsHeard}
-use Rattle.run_engine.specs.Standing.{IsRunnable}
-use Rattle.run_engine.specs.Starts.{starts_of}
-use Rattle.run_engine.specs.World.{World, history_of}
-use Rattle.run_generate.specs.Turns.{IsGenerated, next_turn}
+use Rattle.run_engine.specs.Lean.{StandsFor}
+use Rattle.run_engine.specs.Standing.{sound}
+use Rattle.run_generate.specs.Turns.{IsGenerated, last_as, last_turn, turn_after}
+use Rattle.run_generate.specs.declared.child.Child.{Child}
+use Rattle.run_generate.specs.declared.child.Child.TheVariants as children
 use Rattle.run_generate.specs.declared.on_way.OnWay.{OnWay}
 use Rattle.run_generate.specs.declared.hearers.Counter.{Counter}
 use Rattle.run_generate.specs.declared.hearers.Deaf.{Deaf}
@@ -22,52 +21,38 @@ use Rattle.run_generate.specs.declared.hearers.Deaf.{Deaf}
 abbrev pub counts : {X : Type 0} → Counter → List X → Type 0
 counts counter events = counter.events ≡ min (length events) (2 ^ 64 - 1)
 
--- of each unit that is live it is kept which attempt it is at
-abbrev pub KeepsAttempts : BTreeMap ℕ ℕ → Board → Type 0
-KeepsAttempts attempts b =
-    (k : ℕ) (u : UnitView) → unit_in b k ≡ Some u → is_live u.phase ≡ true → get nat_cmp attempts k ≡ Some u.attempt
+-- the phase of a unit whose child stands so
+abbrev pub phase_of : Child → Phase
+phase_of children.Asked = Starting
+phase_of children.Runs = Running
 
--- the board of a run
-abbrev pub board_of : World → Board
-board_of w = board w.settings (history_of w)
+-- the board of a run, and the turn that comes next
+abbrev pub board_of : OnWay → Board
+board_of g = g.run.state.board
 
--- a run isn't broken, its turns are the generated ones, its events were counted, its starts were claimed, and the
--- attempts of its units are kept
-pub record IsOnWay (g : OnWay) : Type 0 where
-  pub runnable : IsRunnable g.run.settings g.run.journal
-  pub sound : g.run.broken ≡ false
-  pub generated : IsGenerated g.run.settings g.run.journal
-  pub heard : IsHeard {E = Infallible} (λ c xs. counts c xs) (λ d xs. ⊤) g.counter g.deaf g.run
-  pub claimed : g.run.claimed ≡ length (starts_of g.run.settings g.run.journal)
-  pub attempts : KeepsAttempts g.attempts (board_of g.run)
+abbrev pub next_on : OnWay → Option Turn
+next_on g = turn_after g.run.settings (board_of g) g.last
 
--- the earliest start that was asked and not claimed, and the attempts with it
-abbrev pub waiting_start : World → Option StartAsk
-waiting_start w = slice_get (starts_of w.settings w.journal) w.claimed
+-- a run stands for a journal whose turns are the generated ones, its events were counted, and its last turn is kept
+pub record IsAfter (g : OnWay) (journal : List Entry) : Type 0 where
+  pub stands : StandsFor g.run journal
+  pub generated : IsGenerated g.run.settings journal
+  pub heard : IsHeard {E = Infallible} (λ c xs. counts c xs) (λ d xs. ⊤) g.counter g.deaf (sound g.run.settings journal)
+  pub last : g.last ≡ last_as (last_turn journal)
 
-abbrev pub attempts_noted : Option StartAsk → (ℕ → Option ℕ) → ℕ → Option ℕ
-attempts_noted None attempts k = attempts k
-attempts_noted (Some start) attempts k = if start.unit == k then Some start.attempt else attempts k
+abbrev pub IsOnWay : OnWay → Type 0
+IsOnWay g = (journal : List Entry) × IsAfter g journal
 
--- that start was claimed, and kept
-pub record Notes (old new : OnWay) : Type 0 where
-  pub run : new.run ≡ (if is_some (waiting_start old.run)
-      then record old.run { claimed = old.run.claimed + 1 } else old.run)
-  pub counter : new.counter ≡ old.counter
-  pub deaf : new.deaf ≡ old.deaf
-  pub attempts : (k : ℕ)
-      → get nat_cmp new.attempts k ≡ attempts_noted (waiting_start old.run) (get nat_cmp old.attempts) k
-
--- that start was claimed and kept, and an attempt may have been forgotten
-abbrev pub KeepsSettled : OnWay → OnWay → Type 0
-KeepsSettled old new = (noted : OnWay) × Notes old noted × IsOnWay new × (new.run ≡ noted.run)
+-- a run isn't over
+abbrev pub GoesOn : OnWay → Type 0
+GoesOn g = (journal : List Entry) → StandsFor g.run journal → outcome g.run.settings (past_of g.run.settings journal) ≡ None
 
 -- a run on its way takes the next turn, or is left as it is where there is none
 pub record TakesNext (old new : OnWay) : Type 0 where
   pub way : IsOnWay new
   pub settings : new.run.settings ≡ old.run.settings
-  pub longer : length new.run.journal ≡ length old.run.journal + 1
+  pub longer : new.run.turns ≡ old.run.turns + 1
 
 abbrev pub Advances : OnWay → OnWay → Bool → Type 0
 Advances old new true = TakesNext old new
-Advances old new false = (new ≡ old) × (next_turn old.run.settings old.run.journal ≡ None)
+Advances old new false = (new ≡ old) × (next_on old ≡ None)

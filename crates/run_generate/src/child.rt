@@ -1,6 +1,7 @@
 // The children of a generated run, which are made up.
 ghost use Rattle.std.specs.Prelude.{◌≡◌, Some};
-ghost use Rattle.run_generate.specs.Turns.{exit_at, fails, has_child, last_as};
+ghost use Rattle.run_generate.specs.OnWay.{phase_of};
+ghost use Rattle.run_generate.specs.Turns.{exit_at, fails, last_as};
 
 use run_events::{ChildExit, Turn};
 use run_model::Phase;
@@ -15,14 +16,14 @@ pub(crate) enum Child {
 }
 
 impl Child {
-    /// Whether that of a unit in this phase stands so.
-    pub(crate) fn is_of(self, phase: Phase) -> bool
-        ensures { result ≡ has_child self phase }
+    /// The phase of its unit.
+    pub(crate) fn phase(self) -> Phase
+        ensures { result ≡ phase_of self }
     {
-        matches!(
-            (self, phase),
-            (Child::Asked, Phase::Starting) | (Child::Runs, Phase::Running)
-        )
+        match self {
+            Child::Asked => Phase::Starting,
+            Child::Runs => Phase::Running,
+        }
     }
 }
 

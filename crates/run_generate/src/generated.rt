@@ -87,7 +87,7 @@ pub fn generate(alloc: Global, tests: u32) -> Result<Generated, GenerateError>
     ensures short { IsErrOf result GenerateError.Unfinished → StopsShort (generated_settings tests) }
 {
     let runner = runner_of(alloc, tests)?;
-    let mut run = OnWay::new(alloc, runner.into_run(alloc)?);
+    let mut run = OnWay::new(runner.into_lean_run(alloc)?);
     let generated = carry_out(alloc, &mut run);
     drop(run);
     generated

@@ -29,7 +29,7 @@ impl Reporter for Counter {
     }
 }
 
-/// No child: which starts were asked the run says itself.
+/// No child: which attempt a unit is at the run says itself.
 #[derive(Drop)]
 pub(crate) struct Deaf;
 

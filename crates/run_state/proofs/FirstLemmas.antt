@@ -31,7 +31,7 @@ pub first_more : (b : Board) (turn : UnitTurn) (n unit : ℕ) (takes : Bool) (fi
     → IsFirstBy b turn (n + 1) (first_of first unit takes)
 first_more b turn n unit takes (Some u) inside here is by = record { some = by.some; none = λ e. cc }
 first_more b turn n unit true None inside here is by = record {
-  some = first_working b turn (working_in b.units) n unit refl inside (sym here) (by.none refl) is;
+  some = first_working b turn n unit inside (sym here) (by.none refl) is;
   none = λ e. cc;
 }
 first_more b turn n unit false None inside here is by = record {
@@ -43,7 +43,7 @@ first_more b turn n unit false None inside here is by = record {
 pub none_all : (b : Board) (turn : UnitTurn) (n : ℕ) → n ≡ length (working_in b.units) → NoneBy b turn n
     → NoneTakes b turn (length b.units)
 none_all b turn n all none =
-    none_working b turn (working_in b.units) (length b.units) refl (λ j below. none j (omega (arith, below, all)))
+    none_working b turn (length b.units) (λ j below. none j (omega (arith, below, all)))
 
 -- the first one, where it is that of all working units
 pub first_all : (b : Board) (turn : UnitTurn) (n : ℕ) (first : Option ℕ) → n ≡ length (working_in b.units)

@@ -10,8 +10,10 @@ use Rattle.std.specs.Ordering.{nat_cmp}
 use Rattle.std.proofs.lemmas.Bool.{cases_lt}
 use Rattle.std.proofs.lemmas.List.{map-append, map-set, set-get_or, take-append-drop}
 use Rattle.std.proofs.lemmas.List.Sorted.{searched}
+use Rattle.std.proofs.lemmas.Option.{same_Some}
 use Rattle.std.proofs.Math.ListN.{get_or-map}
 use Rattle.run_events.specs.declared.request.Request.{Request}
+use Rattle.run_model.specs.declared.phase.Phase.{Phase}
 use Rattle.run_model.specs.declared.unit_turn.UnitTurn.{UnitTurn}
 use Rattle.run_model.specs.declared.unit_view.UnitView.{UnitView}
 use Rattle.run_model.specs.Admission.{is_last}
@@ -19,6 +21,7 @@ use Rattle.run_model.specs.Board.{Board, unit_in}
 use Rattle.run_model.specs.Turns.{unit_takes}
 use Rattle.run_model.specs.Unit.{is_live, reached, takes}
 use Rattle.run_state.specs.Counted.{is_working, places, working_in}
+use Rattle.run_state.specs.First.{phase_of}
 use Rattle.run_state.specs.Settle.{IsFirstTaker, NoneTakes}
 use Rattle.run_state.proofs.CountedLemmas.{not_last, stands_inside}
 
@@ -173,60 +176,77 @@ pub taken_working : (now : ℕ) (o : Option UnitView) (turn : UnitTurn) → unit
 taken_working now None turn e = cc
 taken_working now (Some u) turn e = ap not (not_last now u turn e)
 
-idle : (b : Board) (turn : UnitTurn) (k : ℕ) → is_working (unit_in b k) ≡ false
-    → unit_takes b.clock (unit_in b k) turn ≡ false
-idle b turn k off = by_taken (unit_takes b.clock (unit_in b k) turn) refl
+idle : (now : ℕ) (turn : UnitTurn) (o : Option UnitView) → is_working o ≡ false → unit_takes now o turn ≡ false
+idle now turn o off = by_taken (unit_takes now o turn) refl
   where
-    by_taken : (t : Bool) → unit_takes b.clock (unit_in b k) turn ≡ t → t ≡ false
+    by_taken : (t : Bool) → unit_takes now o turn ≡ t → t ≡ false
     by_taken false e = refl
-    by_taken true e = sym (taken_working b.clock (unit_in b k) turn e) ∙ off
+    by_taken true e = sym (taken_working now o turn e) ∙ off
 
-listed : (b : Board) (k : ℕ) → is_working (unit_in b k) ≡ true
-    → (at : ℕ) × (at < length (working_in b.units)) × (get_or (working_in b.units) at 0 ≡ k)
-listed b k on = found 0 (map is_working b.units) k k (omega arith) (flag-at b.units k None true on)
+listed : (us : List (Option UnitView)) (k : ℕ) → is_working (get_or us k None) ≡ true
+    → (at : ℕ) × (at < length (working_in us)) × (get_or (working_in us) at 0 ≡ k)
+listed us k on = found 0 (map is_working us) k k (omega arith) (flag-at us k None true on)
+
+-- what is so of each unit that isn't working, and of those listed before a unit, is so of all before it
+pub all_before : (us : List (Option UnitView)) (P : Option UnitView → Type 0)
+    → ((o : Option UnitView) → is_working o ≡ false → P o) → (at unit : ℕ) → at < length (working_in us)
+    → get_or (working_in us) at 0 ≡ unit → ((j : ℕ) → j < at → P (get_or us (get_or (working_in us) j 0) None))
+    → (k : ℕ) → k < unit → P (get_or us k None)
+all_before us P rest at unit inside here so k less = by_flag (is_working (get_or us k None)) refl
+  where
+    by_place : (j : ℕ) → j < length (working_in us) → get_or (working_in us) j 0 ≡ k → (j < at) ⊎ (at ≤ j)
+        → P (get_or us k None)
+    by_place j below stands (inl first) = subst (λ n. P (get_or us n None)) stands (so j first)
+    by_place j below stands (inr later) =
+        let le : get_or (working_in us) at 0 ≤ get_or (working_in us) j 0 =
+        ascend 0 (map is_working us) at j later below in
+        absurd (omega arith)
+
+    by_flag : (f : Bool) → is_working (get_or us k None) ≡ f → P (get_or us k None)
+    by_flag false off = rest (get_or us k None) off
+    by_flag true on = let it = listed us k on in by_place it.0 it.1 it.2 (cases_lt it.0 at)
+
+-- what is so of each unit that isn't working, and of all listed, is so of all
+pub all_units : (us : List (Option UnitView)) (P : Option UnitView → Type 0)
+    → ((o : Option UnitView) → is_working o ≡ false → P o)
+    → ((j : ℕ) → j < length (working_in us) → P (get_or us (get_or (working_in us) j 0) None))
+    → (k : ℕ) → P (get_or us k None)
+all_units us P rest so k = by_flag (is_working (get_or us k None)) refl
+  where
+    by_flag : (f : Bool) → is_working (get_or us k None) ≡ f → P (get_or us k None)
+    by_flag false off = rest (get_or us k None) off
+    by_flag true on =
+        let it = listed us k on in subst (λ n. P (get_or us n None)) it.2 (so it.0 it.1)
+
+-- a unit that isn't working is in no phase but the last
+pub not_in : (phase : Phase) → is_last phase ≡ false → (o : Option UnitView) → is_working o ≡ false
+    → phase_of o ≡ Some phase → ⊥
+not_in phase going None off is = cc
+not_in phase going (Some u) off is =
+    let same : u.phase ≡ phase = same_Some _ _ is in
+    let never : true ≡ false = sym (ap not going) ∙ ap (λ ph. not (is_last ph)) (sym same) ∙ off in cc
 
 -- a unit that takes a turn, of which those listed before it take none, is the first
-pub first_working : (b : Board) (turn : UnitTurn) (ns : List ℕ) (at unit : ℕ) → ns ≡ working_in b.units → at < length ns
-    → get_or ns at 0 ≡ unit
-    → ((j : ℕ) → j < at → unit_takes b.clock (unit_in b (get_or ns j 0)) turn ≡ false)
+pub first_working : (b : Board) (turn : UnitTurn) (at unit : ℕ) → at < length (working_in b.units)
+    → get_or (working_in b.units) at 0 ≡ unit
+    → ((j : ℕ) → j < at → unit_takes b.clock (unit_in b (get_or (working_in b.units) j 0)) turn ≡ false)
     → unit_takes b.clock (unit_in b unit) turn ≡ true → IsFirstTaker b turn unit
-first_working b turn ns at unit is inside here none takes =
-    record { within = by_unit (unit_in b unit) refl takes; takes = takes; before = before }
+first_working b turn at unit inside here none takes = record {
+  within = by_unit (unit_in b unit) refl takes;
+  takes = takes;
+  before = all_before b.units (λ o. unit_takes b.clock o turn ≡ false) (idle b.clock turn) at unit inside here none;
+}
   where
     by_unit : (o : Option UnitView) → unit_in b unit ≡ o → unit_takes b.clock o turn ≡ true → unit < length b.units
     by_unit None e t = cc
     by_unit (Some u) e t = stands_inside b.units unit u e
 
-    by_place : (k j : ℕ) → k < unit → j < length (working_in b.units) → get_or (working_in b.units) j 0 ≡ k
-        → (j < at) ⊎ (at ≤ j) → unit_takes b.clock (unit_in b k) turn ≡ false
-    by_place k j less below stands (inl first) =
-        subst (λ n. unit_takes b.clock (unit_in b n) turn ≡ false) (ap (λ ms. get_or ms j 0) is ∙ stands) (none j first)
-    by_place k j less below stands (inr later) =
-        let le : get_or (working_in b.units) at 0 ≤ get_or (working_in b.units) j 0 =
-        ascend 0 (map is_working b.units) at j later below in
-        let same : get_or (working_in b.units) at 0 ≡ unit = ap (λ ms. get_or ms at 0) (sym is) ∙ here in
-        absurd (omega arith)
-
-    by_flag : (k : ℕ) → k < unit → (f : Bool) → is_working (unit_in b k) ≡ f
-        → unit_takes b.clock (unit_in b k) turn ≡ false
-    by_flag k less false off = idle b turn k off
-    by_flag k less true on =
-        let it = listed b k on in by_place k it.0 less it.1 it.2 (cases_lt it.0 at)
-
-    before : (k : ℕ) → k < unit → unit_takes b.clock (unit_in b k) turn ≡ false
-    before k less = by_flag k less (is_working (unit_in b k)) refl
-
 -- where none of those listed takes a turn, none does
-pub none_working : (b : Board) (turn : UnitTurn) (ns : List ℕ) (n : ℕ) → ns ≡ working_in b.units
-    → ((j : ℕ) → j < length ns → unit_takes b.clock (unit_in b (get_or ns j 0)) turn ≡ false) → NoneTakes b turn n
-none_working b turn ns n is none k below = by_flag (is_working (unit_in b k)) refl
-  where
-    by_flag : (f : Bool) → is_working (unit_in b k) ≡ f → unit_takes b.clock (unit_in b k) turn ≡ false
-    by_flag false off = idle b turn k off
-    by_flag true on =
-        let it = listed b k on in
-        subst (λ n. unit_takes b.clock (unit_in b n) turn ≡ false) (ap (λ ms. get_or ms it.0 0) is ∙ it.2)
-        (none it.0 (subst (λ ms. it.0 < length ms) (sym is) it.1))
+pub none_working : (b : Board) (turn : UnitTurn) (n : ℕ)
+    → ((j : ℕ) → j < length (working_in b.units)
+    → unit_takes b.clock (unit_in b (get_or (working_in b.units) j 0)) turn ≡ false) → NoneTakes b turn n
+none_working b turn n none k below =
+    all_units b.units (λ o. unit_takes b.clock o turn ≡ false) (idle b.clock turn) none k
 
 -- the same of numbers that are such places
 pub put-of : (ns : List ℕ) (flags : List Bool) (at x : ℕ) → ns ≡ places 0 flags → x < length flags

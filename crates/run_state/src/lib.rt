@@ -13,6 +13,7 @@ mod kept;
 mod rounds;
 mod run_turns;
 mod scripts;
+mod search;
 mod settle;
 mod state;
 mod turns;

@@ -167,6 +167,13 @@ impl State {
         self.units.phase(unit)
     }
 
+    /// Which attempt a unit is at, from 1, if it was admitted; between two attempts the failed one.
+    pub fn attempt(&self, unit: u32) -> Option<u32>
+        ensures { result ≡ option_map (λ unit. unit.attempt) (unit_in self.now.board unit) }
+    {
+        self.units.attempt(unit)
+    }
+
     /// What the dispatcher asks of the rest of the run. Takes no look at all units.
     pub(crate) fn facts(&self) -> Facts
         ensures { result ≡ facts self.now.board }

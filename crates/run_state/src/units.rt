@@ -176,6 +176,16 @@ impl Units {
         }
     }
 
+    /// Which attempt a unit is at, if it was admitted.
+    pub fn attempt(&self, unit: u32) -> Option<u32>
+        ensures { result ≡ option_map (λ unit. unit.attempt) (slice_index_or self.now unit None) }
+    {
+        match self.items.get(unit as usize) {
+            Some(Some(unit)) => Some(unit.attempt()),
+            _ => None,
+        }
+    }
+
     /// How many are live.
     pub fn live(&self) -> u32
         ensures { result ≡ live_in self.now }

@@ -156,6 +156,13 @@ impl Unit {
         self.view.phase
     }
 
+    /// Which attempt it is at, from 1; between two attempts the failed one.
+    pub fn attempt(&self) -> u32
+        ensures { result ≡ self.now.attempt }
+    {
+        self.view.attempt
+    }
+
     /// What came of its environment file.
     pub fn env(&self) -> &ScriptEnv
         ensures { result.now ≡ self.now.env }

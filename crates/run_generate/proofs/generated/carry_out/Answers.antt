@@ -1,5 +1,5 @@
 -- A run that has no next turn stops short.
-use Rattle.std.proofs.Common.{◌≡◌, subst, Option, Some, None, IsNone, refl}
+use Rattle.std.proofs.Common.{◌≡◌, ◌<◌, ◌^◌, arith, length, subst, Option, Some, None, IsNone, refl}
 use Rattle.run_generate.specs.Generated.{StopsShort}
 use Rattle.run_generate.specs.OnWay.{Advances}
 use Rattle.run_generate.proofs.ShortLemmas.{end_short}
@@ -14,4 +14,11 @@ returns-then-not-branch-clause-short c = λ e.
     let none = subst (Advances c.loop.run c.advance.new.self) c.if-not-branch.true
     c.in_ok-advance.ensures.advances in
     subst StopsShort c.loop.invariant.settings
-    (end_short c.loop.run c.loop.invariant.way (c.summary.ensures.none (none_of c.summary.result c.in_default.not-Some)) none.1)
+    (end_short c.loop.run c.loop.invariant.way
+    (c.summary.ensures.none (none_of c.summary.result c.in_default.not-Some)) none.1)
+
+pub returns-clause-short : goal.returns-clause-short
+returns-clause-short c = λ e.
+    let stands = c.loop.invariant.way.1.stands in
+    let short : length c.loop.invariant.way.0 < 2 ^ 32 = stands.runnable.short in
+    absurd (omega (arith, stands.many, short, c.loop.invariant.long))

@@ -27,7 +27,7 @@ returns-then-wants c =
     c.state.view_is (sym c.wants-wants.ensures.take ∙ c.if-wants.true) in
     record {
       take = (
-        first_working b own.Take (working_in b.units) at unit refl inside (sym here) c.loop-place.invariant.0 takes,
+        first_working b own.Take at unit inside (sym here) c.loop-place.invariant.0 takes,
         λ e. cc,
       );
       decide = λ e. cc;

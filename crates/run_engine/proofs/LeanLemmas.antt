@@ -1,0 +1,89 @@
+-- A run that keeps no journal: what a step of it does after each journal that it stands for.
+use Rattle.std.proofs.Common.{◌≡◌, ℕ, ◌+◌, ◌<◌, ◌≤◌, ◌^◌, List, [], ◌∷◌, ◌++◌, length, true, false, Option, Some}
+use Rattle.std.proofs.Common.{ap, sym, subst, refl, ◌∙◌, arith, length-append}
+use Rattle.run_events.specs.declared.settings.Settings.{Settings}
+use Rattle.run_events.specs.declared.turn.Turn.{Turn}
+use Rattle.run_events.specs.declared.ask.Ask.{Ask}
+use Rattle.run_events.specs.declared.events.ReporterEvent.{ReporterEvent}
+use Rattle.run_model.specs.declared.entry.Entry.{Entry}
+use Rattle.run_model.specs.Board.{board}
+use Rattle.run_model.specs.Journal.{past_of}
+use Rattle.run_state.specs.Held.{Held, held}
+use Rattle.run_state.specs.Settle.{settling, first_enabled}
+use Rattle.run_engine.specs.World.{World, Outside, entry_of}
+use Rattle.run_engine.specs.Broken.{BreaksOff}
+use Rattle.run_engine.specs.Standing.{IsRunnable, sound}
+use Rattle.run_engine.specs.Settling.{first_settled}
+use Rattle.run_engine.specs.Unkept.{StandsAfter, TakesUnkept}
+use Rattle.run_engine.specs.Lean.{Lean, StandsFor, TakesOne, settled_next}
+use Rattle.run_engine.proofs.CarryLemmas.{runnable_next}
+use Rattle.run_engine.proofs.SettlingLemmas.{full_at}
+
+-- a turn was taken, and the run stands for the longer journal
+pub takes_one : {R E C : Type 0} (tells : R → List (ReporterEvent × Option E) → Type 0)
+    (asks : C → List (ℕ × Ask) → Type 0) (o : Outside R C) (old : Lean) (state : Held) (journal : List Entry)
+    (turn : Turn) (refusal : Option E) → StandsFor old journal → old.turns < 4294967295
+    → TakesUnkept tells asks o old.settings state journal turn refusal
+    → TakesOne tells asks o old (record { settings = old.settings; state = state; turns = old.turns + 1 }) journal turn
+    refusal
+takes_one tells asks o old state journal turn refusal s room t =
+    let p = old.settings in
+    let grown : t.0 ≡ journal ++ entry_of turn t.1.refused ∷ [] = ap (λ (w : World). w.journal) t.1.grown in
+    let short : length journal + 1 < 2 ^ 32 = omega (arith, s.many, room) in
+    record {
+      after = t.0;
+      takes = t.1;
+      settings = refl;
+      stands = record {
+        runnable = subst (IsRunnable p) (sym grown)
+            (runnable_next p journal turn t.1.refused s.runnable short t.1.is_enabled t.1.answered);
+        stands = t.2;
+        many = omega (arith, s.many, ap length grown, length-append journal (entry_of turn t.1.refused ∷ []));
+      };
+    }
+
+-- a run that has taken the most turns
+pub is_full : (r : Lean) (journal : List Entry) → StandsFor r journal → 4294967295 ≤ r.turns
+    → length journal ≡ 4294967295
+is_full r journal s full = full_at r.turns (length journal) s.many full s.runnable.short
+
+-- the first enabled turn on the board is that after the journal
+pub settled_after : (r : Lean) (journal : List Entry) (word : ℕ) → StandsFor r journal
+    → settled_next r word ≡ first_settled (sound r.settings journal) word
+settled_after r journal word s =
+    ap (λ (h : Held). first_enabled r.settings h.board (settling r.settings word)) s.stands
+
+-- the fields of a run that stands for a journal, by settings that are its own
+pub fields_stand : (p : Settings) (r : Lean) (settings : Settings) (state : Held) (turns : ℕ) (journal : List Entry)
+    → record { settings = settings; state = state; turns = turns } ≡ r → p ≡ settings → StandsFor r journal
+    → StandsAfter p state turns journal
+fields_stand p r settings state turns journal is same s =
+    subst (λ p. StandsAfter p state turns journal) (sym same) (subst (λ r. StandsFor r journal) (sym is) s)
+
+-- a turn was taken by what stands for a run's fields
+pub takes_by : {R E C : Type 0} (tells : R → List (ReporterEvent × Option E) → Type 0)
+    (asks : C → List (ℕ × Ask) → Type 0) (o : Outside R C) (p settings : Settings) (state new : Held) (turns : ℕ)
+    (r : Lean) (turn : Turn) (refusal : Option E) → record { settings = settings; state = state; turns = turns } ≡ r
+    → p ≡ settings → r.turns < 4294967295
+    → ((journal : List Entry) → StandsAfter p state turns journal
+    → TakesUnkept tells asks o p new journal turn refusal)
+    → (journal : List Entry) → StandsFor r journal
+    → TakesOne tells asks o r (record { settings = settings; state = new; turns = turns + 1 }) journal turn refusal
+takes_by tells asks o p settings state new turns r turn refusal is same room all =
+    subst (λ (r : Lean). r.turns < 4294967295 → (journal : List Entry) → StandsFor r journal
+    → TakesOne tells asks o r (record { settings = settings; state = new; turns = turns + 1 }) journal turn refusal) is
+    (λ room journal s. takes_one tells asks o (record { settings = settings; state = state; turns = turns }) new journal
+    turn refusal s room (subst (λ p. StandsAfter p state turns journal
+    → TakesUnkept tells asks o p new journal turn refusal) same (all journal) s)) room
+
+-- or it was broken off
+pub breaks_by : {R E C : Type 0} (tells : R → List (ReporterEvent × Option E) → Type 0)
+    (asks : C → List (ℕ × Ask) → Type 0) (o : Outside R C) (p settings : Settings) (state : Held) (turns : ℕ) (r : Lean)
+    (turn : Turn) → record { settings = settings; state = state; turns = turns } ≡ r → p ≡ settings
+    → ((journal : List Entry) → StandsAfter p state turns journal → BreaksOff {E = E} tells asks o p journal turn)
+    → (journal : List Entry) → StandsFor r journal → BreaksOff {E = E} tells asks o r.settings journal turn
+breaks_by {E = E} tells asks o p settings state turns r turn is same all =
+    subst (λ (r : Lean). (journal : List Entry) → StandsFor r journal
+    → BreaksOff {E = E} tells asks o r.settings journal turn) is
+    (λ journal. subst (λ p. StandsAfter p state turns journal → BreaksOff {E = E} tells asks o p journal turn) same
+    (all journal))
