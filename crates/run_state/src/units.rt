@@ -23,7 +23,6 @@ use run_events::Request;
 use run_model::{Phase, UnitTurn};
 use run_unit::{Unit, UnitEffects, Wants};
 use std::alloc::Global;
-use std::collections::VecDeque;
 use std::marker::Model;
 
 /// Each script and test of the plan, once it was admitted, with counts of those that aren't over and of those that are
@@ -37,7 +36,7 @@ pub struct Units {
     /// How many are live.
     live: u32,
     /// The numbers of those that were admitted and aren't over, in ascending order.
-    working: VecDeque<u32>,
+    working: Vec<u32>,
 }
 
 impl Model for Units {
@@ -84,7 +83,7 @@ impl Units {
             items,
             left,
             live: 0,
-            working: VecDeque::new(alloc),
+            working: Vec::new(alloc),
         }
     }
 

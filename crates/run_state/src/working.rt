@@ -5,17 +5,16 @@ ghost use Rattle.std.specs.Prelude.{OnOk, OnErr, true, false, not};
 ghost use Rattle.run_state.specs.Counted.{places};
 
 use run_capture::{Mem, OutOfMemory};
-use std::collections::VecDeque;
 
 // Puts a number at its place.
-fn put_in(numbers: &mut VecDeque<u32>, number: u32) -> Mem<()>
+fn put_in(numbers: &mut Vec<u32>, number: u32) -> Mem<()>
     ensures ok { OnOk result ((flags : List Bool) → numbers.old.items ≡ places 0 flags → number
         < length flags
         → slice_index_or flags number false ≡ false → numbers.new.items
         ≡ places 0 (slice_set flags number true)) }
     ensures err { OnErr result (numbers.new.items ≡ numbers.old.items) }
 {
-    let place = match numbers.binary_search(&number) {
+    let place = match numbers.as_slice().binary_search(&number) {
         Ok(place) | Err(place) => place,
     };
     match numbers.insert(place, number) {
@@ -25,18 +24,18 @@ fn put_in(numbers: &mut VecDeque<u32>, number: u32) -> Mem<()>
 }
 
 // Takes a number away.
-fn take_out(numbers: &mut VecDeque<u32>, number: u32)
+fn take_out(numbers: &mut Vec<u32>, number: u32)
     ensures { (flags : List Bool) → numbers.old.items ≡ places 0 flags
         → slice_index_or flags number false ≡ true
         → numbers.new.items ≡ places 0 (slice_set flags number false) }
 {
-    if let Ok(place) = numbers.binary_search(&number) {
+    if let Ok(place) = numbers.as_slice().binary_search(&number) {
         numbers.remove(place);
     }
 }
 
 /// A unit is admitted, which is over or not: its flag is set where it isn't.
-pub fn admit(numbers: &mut VecDeque<u32>, unit: u32, over: bool) -> Mem<()>
+pub fn admit(numbers: &mut Vec<u32>, unit: u32, over: bool) -> Mem<()>
     ensures ok { OnOk result ((flags : List Bool) → numbers.old.items ≡ places 0 flags → unit
         < length flags
         → slice_index_or flags unit false ≡ false → numbers.new.items
@@ -50,7 +49,7 @@ pub fn admit(numbers: &mut VecDeque<u32>, unit: u32, over: bool) -> Mem<()>
 }
 
 /// A unit that wasn't over took a turn, after which it is over or not.
-pub fn leave(numbers: &mut VecDeque<u32>, unit: u32, over: bool)
+pub fn leave(numbers: &mut Vec<u32>, unit: u32, over: bool)
     ensures { (flags : List Bool) → numbers.old.items ≡ places 0 flags
         → slice_index_or flags unit false ≡ true
         → numbers.new.items ≡ places 0 (slice_set flags unit (not over)) }

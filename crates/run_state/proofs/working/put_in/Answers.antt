@@ -8,7 +8,7 @@ returns-in-Ok-insert-clause-ok c flags is inside off =
     let place = c.match-binary_search.place in
     c.in-Ok-insert.ensures.items
     ∙ put-near c.args.numbers.now.items flags c.args.number c.binary_search.result place is inside off
-    c.binary_search.ensures.position at
+    (rw c.as_slice.ensures.value at c.binary_search.ensures.position) at
   where
     ends : ℕ → Type 0
     ends place = (c.binary_search.result ≡ Ok place) ⊎ (c.binary_search.result ≡ Err place)
