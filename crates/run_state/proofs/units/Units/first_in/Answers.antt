@@ -16,7 +16,7 @@ pub loop-place-preserved : goal.loop-place-preserved
 loop-place-preserved c =
     let us = c.args.self.now in
     next_too (λ j. phase_of (get_or us (get_or (working_in us) j 0) None) ≡ Some c.args.phase → ⊥) c.loop-place.place
-    c.loop-place.invariant 
+    c.loop-place.invariant
     (subst (λ n. phase_of (get_or us n None) ≡ Some c.args.phase → ⊥) c.working_at-unit.ensures
     (λ is. c.is_in.ensures.other c.if-is_in.false (c.phase.ensures ∙ is)))
 
