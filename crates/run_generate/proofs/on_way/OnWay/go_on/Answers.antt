@@ -1,5 +1,5 @@
 -- A settled turn was taken, or none was settled.
-use Rattle.std.proofs.Common.{◌∙◌, ◌≡◌, ap, sym, subst, refl, Some, None}
+use Rattle.std.proofs.Common.{◌∙◌, ap, sym, subst, Some, None}
 use Rattle.run_generate.specs.OnWay.{GoesOn, IsOnWay, board_of, next_on}
 use Rattle.run_generate.specs.Turns.{made_turn}
 use Rattle.run_generate.specs.declared.on_way.OnWay.{OnWay}
