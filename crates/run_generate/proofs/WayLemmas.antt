@@ -7,6 +7,8 @@ use Rattle.std.specs.Option.{option_or}
 use Rattle.std.proofs.lemmas.Bool.Decides.{nat_tests}
 use Rattle.std.proofs.lemmas.List.{take-append-le}
 use Rattle.std.proofs.lemmas.Option.{same_Some, slice_get_within}
+use Rattle.run_events.specs.declared.ask.Ask.{Ask}
+use Rattle.run_events.specs.declared.events.ReporterEvent.{ReporterEvent}
 use Rattle.run_events.specs.declared.settings.Settings.{Settings}
 use Rattle.run_events.specs.declared.turn.Turn.{Turn}
 use Rattle.run_model.specs.declared.entry.Entry.{Entry}
@@ -14,9 +16,9 @@ use Rattle.run_model.specs.Board.{board}
 use Rattle.run_model.specs.Journal.{past_of}
 use Rattle.run_state.specs.Held.{Held}
 use Rattle.run_engine.specs.Heard.{IsHeard}
-use Rattle.run_engine.specs.Lean.{Lean, StandsFor, TakesOne, settled_next}
+use Rattle.run_engine.specs.Lean.{IsLeft, Lean, SettlesOne, StandsFor, TakesOne, settled_next}
 use Rattle.run_engine.specs.Standing.{sound}
-use Rattle.run_engine.specs.World.{World, entry_of, outside}
+use Rattle.run_engine.specs.World.{Outside, World, entry_of, outside}
 use Rattle.run_engine.proofs.HeardLemmas.{heard_takes}
 use Rattle.run_generate.specs.OnWay.{counts, IsAfter, IsOnWay, TakesNext, board_of, next_on}
 use Rattle.run_generate.specs.Turns.{IsGenerated, last_as, last_turn, made_turn, next_turn, turn_after}
@@ -155,3 +157,15 @@ next_of g last is = ap (turn_after g.run.settings (board_of g)) is
 
 pub same_error : {T E : Type 0} (a b : E) → ◌≡◌ {A = Result T E} (Err a) (Err b) → a ≡ b
 same_error a b e = cc
+
+-- what a run did that settled a turn, or none
+pub settled_some : {R E C : Type 0} (tells : R → List (ReporterEvent × Option E) → Type 0)
+    (asks : C → List (ℕ × Ask) → Type 0) (o : Outside R C) (old new : Lean) (t : Option Turn) (turn : Turn)
+    → t ≡ Some turn → SettlesOne tells asks o old new t → (journal : List Entry) → StandsFor old journal
+    → (refusal : Option E) × TakesOne tells asks o old new journal turn refusal
+settled_some tells asks o old new t turn is s = subst (SettlesOne tells asks o old new) is s
+
+pub settled_none : {R E C : Type 0} (tells : R → List (ReporterEvent × Option E) → Type 0)
+    (asks : C → List (ℕ × Ask) → Type 0) (o : Outside R C) (old new : Lean) (t : Option Turn)
+    → t ≡ None → SettlesOne tells asks o old new t → IsLeft old new o
+settled_none tells asks o old new t is s = subst (SettlesOne tells asks o old new) is s

@@ -1,5 +1,5 @@
 -- A generated run on its way.
-use Rattle.std.specs.Prelude.{ℕ, ◌≡◌, ◌+◌, ◌^◌, ◌-◌, List, length, min, Bool, true, false, Option, None, ⊤}
+use Rattle.std.specs.Prelude.{◌≡◌, ◌+◌, ◌^◌, ◌-◌, List, length, min, Bool, true, false, Option, None, ⊤}
 use Rattle.std.specs.declared.convert.Infallible.{Infallible}
 use Rattle.run_events.specs.declared.turn.Turn.{Turn}
 use Rattle.run_model.specs.declared.entry.Entry.{Entry}
@@ -15,7 +15,6 @@ use Rattle.run_generate.specs.declared.child.Child.{Child}
 use Rattle.run_generate.specs.declared.child.Child.TheVariants as children
 use Rattle.run_generate.specs.declared.on_way.OnWay.{OnWay}
 use Rattle.run_generate.specs.declared.hearers.Counter.{Counter}
-use Rattle.run_generate.specs.declared.hearers.Deaf.{Deaf}
 
 -- a count of events that were told, which stays at the greatest u64
 abbrev pub counts : {X : Type 0} → Counter → List X → Type 0

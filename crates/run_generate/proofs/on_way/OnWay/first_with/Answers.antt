@@ -1,5 +1,5 @@
 -- The first unit in the phase is the least with such a child.
-use Rattle.std.proofs.Common.{◌≡◌, ap, sym, ◌∙◌}
+use Rattle.std.proofs.Common.{ap, ◌∙◌}
 use Rattle.run_model.specs.Admission.{is_last}
 use Rattle.run_generate.specs.OnWay.{board_of}
 use Rattle.run_generate.proofs.ChildLemmas.{child_going, first_found}

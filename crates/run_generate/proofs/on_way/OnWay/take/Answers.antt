@@ -9,9 +9,9 @@ step-requires c = (c.requires.way.0, c.requires.way.1.stands)
 
 pub returns-in-Ok-clause-advances : goal.returns-in-Ok-clause-advances
 returns-in-Ok-clause-advances c =
-    takes_next c.args.self.now c.step.new.self c.step.new.report c.step.new.children c.of.result c.in-Some.turn
+    takes_next c.args.self.now c.step.new.self c.step.new.report c.step.new.children c.of-self.result c.in-Some.turn
     c.in-Ok.field-0 c.requires.way (c.requires.next ∙ c.in-Some.is)
-    (c.in-Ok.ensures.takes c.requires.way.0 c.requires.way.1.stands) c.of.ensures
+    (c.in-Ok.ensures.takes c.requires.way.0 c.requires.way.1.stands) c.of-self.ensures
 
 pub returns-in-Err : goal.returns-in-Err
 returns-in-Err c = record {
