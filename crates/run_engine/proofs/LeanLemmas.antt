@@ -15,14 +15,14 @@ use Rattle.run_engine.specs.Broken.{BreaksOff}
 use Rattle.run_engine.specs.Standing.{IsRunnable, sound}
 use Rattle.run_engine.specs.Settling.{first_settled}
 use Rattle.run_engine.specs.Unkept.{StandsAfter, TakesUnkept}
-use Rattle.run_engine.specs.Lean.{Lean, StandsFor, TakesOne, settled_next}
+use Rattle.run_engine.specs.Lean.{Lean, StandsForJournal, TakesOne, settled_next}
 use Rattle.run_engine.proofs.CarryLemmas.{runnable_next}
 use Rattle.run_engine.proofs.SettlingLemmas.{full_at}
 
 -- a turn was taken, and the run stands for the longer journal
 pub takes_one : {R E C : Type 0} (tells : R → List (ReporterEvent × Option E) → Type 0)
     (asks : C → List (ℕ × Ask) → Type 0) (o : Outside R C) (old : Lean) (state : Held) (journal : List Entry)
-    (turn : Turn) (refusal : Option E) → StandsFor old journal → old.turns < 4294967295
+    (turn : Turn) (refusal : Option E) → StandsForJournal old journal → old.turns < 4294967295
     → TakesUnkept tells asks o old.settings state journal turn refusal
     → TakesOne tells asks o old (record { settings = old.settings; state = state; turns = old.turns + 1 }) journal turn
     refusal
@@ -43,22 +43,22 @@ takes_one tells asks o old state journal turn refusal s room t =
     }
 
 -- a run that has taken the most turns
-pub is_full : (r : Lean) (journal : List Entry) → StandsFor r journal → 4294967295 ≤ r.turns
+pub is_full : (r : Lean) (journal : List Entry) → StandsForJournal r journal → 4294967295 ≤ r.turns
     → length journal ≡ 4294967295
 is_full r journal s full = full_at r.turns (length journal) s.many full s.runnable.short
 
 -- the first enabled turn on the board is that after the journal
-pub settled_after : (r : Lean) (journal : List Entry) (word : ℕ) → StandsFor r journal
+pub settled_after : (r : Lean) (journal : List Entry) (word : ℕ) → StandsForJournal r journal
     → settled_next r word ≡ first_settled (sound r.settings journal) word
 settled_after r journal word s =
     ap (λ (h : Held). first_enabled r.settings h.board (settling r.settings word)) s.stands
 
 -- the fields of a run that stands for a journal, by settings that are its own
 pub fields_stand : (p : Settings) (r : Lean) (settings : Settings) (state : Held) (turns : ℕ) (journal : List Entry)
-    → record { settings = settings; state = state; turns = turns } ≡ r → p ≡ settings → StandsFor r journal
+    → record { settings = settings; state = state; turns = turns } ≡ r → p ≡ settings → StandsForJournal r journal
     → StandsAfter p state turns journal
 fields_stand p r settings state turns journal is same s =
-    subst (λ p. StandsAfter p state turns journal) (sym same) (subst (λ r. StandsFor r journal) (sym is) s)
+    subst (λ p. StandsAfter p state turns journal) (sym same) (subst (λ r. StandsForJournal r journal) (sym is) s)
 
 -- a turn was taken by what stands for a run's fields
 pub takes_by : {R E C : Type 0} (tells : R → List (ReporterEvent × Option E) → Type 0)
@@ -67,10 +67,10 @@ pub takes_by : {R E C : Type 0} (tells : R → List (ReporterEvent × Option E) 
     → p ≡ settings → r.turns < 4294967295
     → ((journal : List Entry) → StandsAfter p state turns journal
     → TakesUnkept tells asks o p new journal turn refusal)
-    → (journal : List Entry) → StandsFor r journal
+    → (journal : List Entry) → StandsForJournal r journal
     → TakesOne tells asks o r (record { settings = settings; state = new; turns = turns + 1 }) journal turn refusal
 takes_by tells asks o p settings state new turns r turn refusal is same room all =
-    subst (λ (r : Lean). r.turns < 4294967295 → (journal : List Entry) → StandsFor r journal
+    subst (λ (r : Lean). r.turns < 4294967295 → (journal : List Entry) → StandsForJournal r journal
     → TakesOne tells asks o r (record { settings = settings; state = new; turns = turns + 1 }) journal turn refusal) is
     (λ room journal s. takes_one tells asks o (record { settings = settings; state = state; turns = turns }) new journal
     turn refusal s room (subst (λ p. StandsAfter p state turns journal
@@ -81,9 +81,9 @@ pub breaks_by : {R E C : Type 0} (tells : R → List (ReporterEvent × Option E)
     (asks : C → List (ℕ × Ask) → Type 0) (o : Outside R C) (p settings : Settings) (state : Held) (turns : ℕ) (r : Lean)
     (turn : Turn) → record { settings = settings; state = state; turns = turns } ≡ r → p ≡ settings
     → ((journal : List Entry) → StandsAfter p state turns journal → BreaksOff {E = E} tells asks o p journal turn)
-    → (journal : List Entry) → StandsFor r journal → BreaksOff {E = E} tells asks o r.settings journal turn
+    → (journal : List Entry) → StandsForJournal r journal → BreaksOff {E = E} tells asks o r.settings journal turn
 breaks_by {E = E} tells asks o p settings state turns r turn is same all =
-    subst (λ (r : Lean). (journal : List Entry) → StandsFor r journal
+    subst (λ (r : Lean). (journal : List Entry) → StandsForJournal r journal
     → BreaksOff {E = E} tells asks o r.settings journal turn) is
     (λ journal. subst (λ p. StandsAfter p state turns journal → BreaksOff {E = E} tells asks o p journal turn) same
     (all journal))

@@ -18,8 +18,8 @@ pub record Lean : Type 0 where
   pub turns : ℕ
 
 -- it stands for a journal
-abbrev pub StandsFor : Lean → List Entry → Type 0
-StandsFor r journal = StandsAfter r.settings r.state r.turns journal
+abbrev pub StandsForJournal : Lean → List Entry → Type 0
+StandsForJournal r journal = StandsAfter r.settings r.state r.turns journal
 
 -- it takes a turn after a journal, and stands for the longer one
 pub record TakesOne {R E C : Type 0} (tells : R → List (ReporterEvent × Option E) → Type 0)
@@ -28,11 +28,11 @@ pub record TakesOne {R E C : Type 0} (tells : R → List (ReporterEvent × Optio
   pub after : List Entry
   pub takes : TakesTurn tells asks o turn (sound old.settings journal) (sound old.settings after) refusal
   pub settings : new.settings ≡ old.settings
-  pub stands : StandsFor new after
+  pub stands : StandsForJournal new after
 
 -- the run and the outside are as they were
-abbrev pub IsLeft : {R C : Type 0} → Lean → Lean → Outside R C → Type 0
-IsLeft old new o = (new ≡ old) × (o.report_after ≡ o.report) × (o.children_after ≡ o.children)
+abbrev pub IsAsBefore : {R C : Type 0} → Lean → Lean → Outside R C → Type 0
+IsAsBefore old new o = (new ≡ old) × (o.report_after ≡ o.report) × (o.children_after ≡ o.children)
 
 -- the first enabled turn of those that it takes by itself, where units decide with this word
 abbrev pub settled_next : Lean → ℕ → Option Turn
@@ -41,6 +41,6 @@ settled_next r word = first_enabled r.settings r.state.board (settling r.setting
 -- it takes this turn after each journal that it stood for, or is left as it was where there is none
 abbrev pub SettlesOne : {R E C : Type 0} → (R → List (ReporterEvent × Option E) → Type 0)
     → (C → List (ℕ × Ask) → Type 0) → Outside R C → Lean → Lean → Option Turn → Type 0
-SettlesOne tells asks o old new None = IsLeft old new o
-SettlesOne {R} {E} tells asks o old new (Some turn) = (journal : List Entry) → StandsFor old journal
+SettlesOne tells asks o old new None = IsAsBefore old new o
+SettlesOne {R} {E} tells asks o old new (Some turn) = (journal : List Entry) → StandsForJournal old journal
     → (refusal : Option E) × TakesOne tells asks o old new journal turn refusal

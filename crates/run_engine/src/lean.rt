@@ -15,7 +15,7 @@ ghost use Rattle.run_engine.specs.Standing.{sound};
 ghost use Rattle.run_engine.specs.Broken.{BreaksOff};
 ghost use Rattle.run_engine.specs.Refused.{IsRefused, IfNotMemory};
 ghost use Rattle.run_engine.specs.Settling.{IsUnsettled};
-ghost use Rattle.run_engine.specs.Lean.{StandsFor, TakesOne, IsLeft, SettlesOne, settled_next};
+ghost use Rattle.run_engine.specs.Lean.{StandsForJournal, TakesOne, IsAsBefore, SettlesOne, settled_next};
 
 use crate::carry::{carry_unkept, named_if_enabled, named_of};
 use crate::errors::StepError;
@@ -48,7 +48,7 @@ impl LeanRun {
     pub(crate) fn begin(settings: Whole<Settings>, state: State) -> Self
         requires few { AreFew settings }
         requires stands { state ≡ held settings (board settings []) }
-        ensures stands { StandsFor result [] }
+        ensures stands { StandsForJournal result [] }
         ensures settings { result.settings ≡ settings }
     {
         LeanRun {
@@ -67,18 +67,18 @@ impl LeanRun {
         children: &mut C,
         report: &mut R,
     ) -> Result<Option<R::Error>, StepError>
-        requires { (journal : List Entry) × StandsFor self.old journal }
+        requires { (journal : List Entry) × StandsForJournal self.old journal }
         ensures takes { let o = outside R.faults report.old report.new children.old children.new in
-            IfOk result (λ refusal. (journal : List Entry) → StandsFor self.old journal
+            IfOk result (λ refusal. (journal : List Entry) → StandsForJournal self.old journal
             → TakesOne R.told C.asked o self.old self.new journal turn.now refusal) }
-        ensures refused { IfErr result (λ error. (journal : List Entry) → StandsFor self.old journal
+        ensures refused { IfErr result (λ error. (journal : List Entry) → StandsForJournal self.old journal
             → IsRefused (sound self.old.settings journal) turn.now error) }
         ensures unchanged { let o = outside R.faults report.old report.new
             children.old children.new in
-            IfErr result (λ error. IfNotMemory error (IsLeft self.old self.new o)) }
+            IfErr result (λ error. IfNotMemory error (IsAsBefore self.old self.new o)) }
         ensures part { let o = outside R.faults report.old report.new children.old children.new in
             IsErrOf result StepError.OutOfMemory
-            → (journal : List Entry) → StandsFor self.old journal
+            → (journal : List Entry) → StandsForJournal self.old journal
             → BreaksOff R.told C.asked o self.old.settings journal turn.now }
     {
         if self.turns >= MOST_TURNS as u64 {
@@ -99,16 +99,16 @@ impl LeanRun {
         children: &mut C,
         report: &mut R,
     ) -> Result<Option<R::Error>, StepError>
-        requires stands { (journal : List Entry) × StandsFor self.old journal }
+        requires stands { (journal : List Entry) × StandsForJournal self.old journal }
         requires named { named ≡ turn_of_unit turn.now }
         requires enabled { enabled_on self.old.settings self.old.state.board turn.now ≡ true }
         requires room { self.old.turns < 4294967295 }
         ensures takes { let o = outside R.faults report.old report.new children.old children.new in
-            IfOk result (λ refusal. (journal : List Entry) → StandsFor self.old journal
+            IfOk result (λ refusal. (journal : List Entry) → StandsForJournal self.old journal
             → TakesOne R.told C.asked o self.old self.new journal turn.now refusal) }
         ensures memory { IfErr result (λ error. error ≡ StepError.OutOfMemory) }
         ensures part { let o = outside R.faults report.old report.new children.old children.new in
-            OnErr result ((journal : List Entry) → StandsFor self.old journal
+            OnErr result ((journal : List Entry) → StandsForJournal self.old journal
             → BreaksOff R.told C.asked o self.old.settings journal turn.now) }
     {
         let place = self.turns;
@@ -133,7 +133,7 @@ impl LeanRun {
 
     // The first enabled turn of those that the run takes by itself.
     fn next(&self, word: u32) -> Option<Settled>
-        requires { (journal : List Entry) × StandsFor self.now journal }
+        requires { (journal : List Entry) × StandsForJournal self.now journal }
         ensures { option_map settled_turn result ≡ settled_next self.now word }
     {
         next_settled(self.settings.get(), &self.state, word)
@@ -148,20 +148,20 @@ impl LeanRun {
         children: &mut C,
         report: &mut R,
     ) -> Result<Option<Turn>, StepError>
-        requires { (journal : List Entry) × StandsFor self.old journal }
+        requires { (journal : List Entry) × StandsForJournal self.old journal }
         ensures first { IfOk result (λ turn. turn ≡ settled_next self.old word) }
         ensures settles { let o = outside R.faults report.old report.new children.old children.new
             in
             IfOk result (SettlesOne R.told C.asked o self.old self.new) }
-        ensures refused { IfErr result (λ error. (journal : List Entry) → StandsFor self.old journal
+        ensures refused { IfErr result (λ error. (journal : List Entry) → StandsForJournal self.old journal
             → IsUnsettled (sound self.old.settings journal) word error) }
         ensures unchanged { let o = outside R.faults report.old report.new
             children.old children.new in
-            IfErr result (λ error. IfNotMemory error (IsLeft self.old self.new o)) }
+            IfErr result (λ error. IfNotMemory error (IsAsBefore self.old self.new o)) }
         ensures part { let o = outside R.faults report.old report.new children.old children.new in
             IsErrOf result StepError.OutOfMemory
             → (turn : Turn) × (settled_next self.old word ≡ Some turn)
-            × ((journal : List Entry) → StandsFor self.old journal
+            × ((journal : List Entry) → StandsForJournal self.old journal
             → BreaksOff R.told C.asked o self.old.settings journal turn) }
     {
         let settled = match self.next(word) {
@@ -191,7 +191,7 @@ impl LeanRun {
 
     /// The outcome of a run that is over, and none of one that isn't.
     pub fn outcome(&self) -> Option<RunOutcome>
-        ensures { (journal : List Entry) → StandsFor self.now journal
+        ensures { (journal : List Entry) → StandsForJournal self.now journal
             → result ≡ outcome self.now.settings (past_of self.now.settings journal) }
     {
         if !self.state.is_over() {
@@ -202,7 +202,7 @@ impl LeanRun {
 
     /// The statistics of the newest sub-run so far.
     pub fn stats(&self) -> RunStats
-        ensures { (journal : List Entry) → StandsFor self.now journal
+        ensures { (journal : List Entry) → StandsForJournal self.now journal
             → result ≡ stats self.now.settings (sub_run (past_of self.now.settings journal)) }
     {
         self.state.stats()
@@ -217,7 +217,8 @@ impl LeanRun {
         self.state.first_in(phase)
     }
 
-    /// Which attempt a script or test is at, from 1: none before its admission. Between two attempts it is the failed one.
+    /// Which attempt a script or test is at, from 1: none before its admission. Between two attempts it is the failed
+    /// one.
     pub fn attempt(&self, unit: u32) -> Option<u32>
         ensures { result ≡ option_map (λ unit. unit.attempt) (unit_in self.now.state.board unit) }
     {

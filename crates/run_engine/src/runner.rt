@@ -12,7 +12,7 @@ ghost use Rattle.run_engine.specs.Standing.{sound};
 ghost use Rattle.run_engine.specs.Execution.{Carries, Executes, AnswersCourse, UnlessMemory, IsFinal};
 ghost use Rattle.run_engine.specs.Broken.{RunsOut};
 ghost use Rattle.run_engine.specs.Unkept.{outcome_on};
-ghost use Rattle.run_engine.specs.Lean.{StandsFor};
+ghost use Rattle.run_engine.specs.Lean.{StandsForJournal};
 ghost use Rattle.run_capture.specs.Faults.{Rose};
 ghost use Rattle.run_laws.specs.Course.{refuses_none};
 
@@ -173,7 +173,7 @@ impl TestRunner {
 
     /// A run that has taken no turn, and keeps no journal.
     pub fn into_lean_run(self, alloc: Global) -> Mem<LeanRun>
-        ensures stands { IfOk result (λ run. StandsFor run []) }
+        ensures stands { IfOk result (λ run. StandsForJournal run []) }
         ensures settings { IfOk result (λ run. run.settings ≡ self) }
     {
         match State::new(alloc, self.settings.get()) {

@@ -12,9 +12,9 @@ use Rattle.run_model.specs.Admission.{is_last, units_in}
 use Rattle.run_model.specs.Board.{Board, unit_in}
 use Rattle.run_state.specs.First.{IsFirstIn, NoneIsIn}
 use Rattle.run_state.specs.First.{phase_of as phase_in}
-use Rattle.run_engine.specs.Lean.{StandsFor}
+use Rattle.run_engine.specs.Lean.{StandsForJournal}
 use Rattle.run_engine.proofs.UnkeptLemmas.{all_units}
-use Rattle.run_generate.specs.OnWay.{board_of, phase_of}
+use Rattle.run_generate.specs.OnWay.{board_of, child_phase}
 use Rattle.run_generate.specs.Turns.{exit_at, exit_turn, first_with, has_child, unit_has}
 use Rattle.run_generate.specs.declared.child.Child.{Child}
 use Rattle.run_generate.specs.declared.child.Child.TheVariants as children
@@ -22,22 +22,22 @@ use Rattle.run_generate.specs.declared.on_way.OnWay.{OnWay}
 use Rattle.run_generate.proofs.FirstLemmas.{position_is, position_none}
 
 -- a unit that has such a child isn't over
-pub child_going : (child : Child) → is_last (phase_of child) ≡ false
+pub child_going : (child : Child) → is_last (child_phase child) ≡ false
 child_going children.Asked = refl
 child_going children.Runs = refl
 
 -- a unit has such a child where it is in its phase, and nowhere else
-has_child_in : (child : Child) (u : Option UnitView) → phase_in u ≡ Some (phase_of child) → unit_has child u ≡ true
+has_child_in : (child : Child) (u : Option UnitView) → phase_in u ≡ Some (child_phase child) → unit_has child u ≡ true
 has_child_in child None e = cc
 has_child_in children.Asked (Some u) e = ap (has_child children.Asked) (same_Some _ _ e)
 has_child_in children.Runs (Some u) e = ap (has_child children.Runs) (same_Some _ _ e)
 
-phase_is : (child : Child) (ph : Phase) → has_child child ph ≡ true → ph ≡ phase_of child
+phase_is : (child : Child) (ph : Phase) → has_child child ph ≡ true → ph ≡ child_phase child
 phase_is children.Asked Starting e = refl
 phase_is children.Runs Running e = refl
 phase_is child ph e = cc
 
-has_none : (child : Child) (u : Option UnitView) → (phase_in u ≡ Some (phase_of child) → ⊥) → unit_has child u ≡ false
+has_none : (child : Child) (u : Option UnitView) → (phase_in u ≡ Some (child_phase child) → ⊥) → unit_has child u ≡ false
 has_none child None none = refl
 has_none child (Some u) none = by_test (has_child child u.phase) refl
   where
@@ -45,17 +45,17 @@ has_none child (Some u) none = by_test (has_child child u.phase) refl
     by_test false e = refl
     by_test true e = absurd (none (ap Some (phase_is child u.phase e)))
 
-first_is : (child : Child) (b : Board) (k : ℕ) → IsFirstIn b.units (phase_of child) k → Some k ≡ first_with child b
+first_is : (child : Child) (b : Board) (k : ℕ) → IsFirstIn b.units (child_phase child) k → Some k ≡ first_with child b
 first_is child b k f =
     sym (position_is (unit_has child) b.units None refl k (has_child_in child (get_or b.units k None) f.is)
     (λ j less. has_none child (get_or b.units j None) (f.before j less)))
 
-none_is : (child : Child) (b : Board) → NoneIsIn b.units (phase_of child) → None ≡ first_with child b
+none_is : (child : Child) (b : Board) → NoneIsIn b.units (child_phase child) → None ≡ first_with child b
 none_is child b none =
     sym (position_none (unit_has child) b.units None (λ k. has_none child (get_or b.units k None) (none k)))
 
 -- the first unit in the phase of a child is the least that has it
-pub first_found : (child : Child) (b : Board) (phase : Phase) (first : Option ℕ) → phase ≡ phase_of child
+pub first_found : (child : Child) (b : Board) (phase : Phase) (first : Option ℕ) → phase ≡ child_phase child
     → IfSome first (IsFirstIn b.units phase) → (IsNone first → NoneIsIn b.units phase) → first ≡ first_with child b
 first_found child b phase None same some none =
     none_is child b (subst (NoneIsIn b.units) same (none refl))
@@ -63,7 +63,7 @@ first_found child b phase (Some k) same some none =
     first_is child b k (subst (λ ph. IsFirstIn b.units ph k) same some)
 
 -- the number of such a unit has room
-pub first_few : (g : OnWay) (journal : List Entry) (child : Child) (k : ℕ) → StandsFor g.run journal
+pub first_few : (g : OnWay) (journal : List Entry) (child : Child) (k : ℕ) → StandsForJournal g.run journal
     → Some k ≡ first_with child (board_of g) → k + 1 < 2 ^ 32
 first_few g journal child k s is =
     let within = (position-Some (unit_has child) (board_of g).units k None (sym is)).0 in

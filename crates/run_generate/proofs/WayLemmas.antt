@@ -16,7 +16,7 @@ use Rattle.run_model.specs.Board.{board}
 use Rattle.run_model.specs.Journal.{past_of}
 use Rattle.run_state.specs.Held.{Held}
 use Rattle.run_engine.specs.Heard.{IsHeard}
-use Rattle.run_engine.specs.Lean.{IsLeft, Lean, SettlesOne, StandsFor, TakesOne, settled_next}
+use Rattle.run_engine.specs.Lean.{IsLeft, Lean, SettlesOne, StandsForJournal, TakesOne, settled_next}
 use Rattle.run_engine.specs.Standing.{sound}
 use Rattle.run_engine.specs.World.{Outside, World, entry_of, outside}
 use Rattle.run_engine.proofs.HeardLemmas.{heard_takes}
@@ -29,7 +29,7 @@ use Rattle.run_generate.specs.declared.hearers.Deaf.{Deaf}
 use Rattle.run_generate.specs.declared.on_way.OnWay.{OnWay}
 
 -- a run that has taken no turn
-pub begins : (run : Lean) → StandsFor run []
+pub begins : (run : Lean) → StandsForJournal run []
     → IsOnWay (record { run = run; counter = record { events = 0 }; deaf = record {}; last = lasts.Other })
 begins run stands = (
   [],
@@ -161,7 +161,7 @@ same_error a b e = cc
 -- what a run did that settled a turn, or none
 pub settled_some : {R E C : Type 0} (tells : R → List (ReporterEvent × Option E) → Type 0)
     (asks : C → List (ℕ × Ask) → Type 0) (o : Outside R C) (old new : Lean) (t : Option Turn) (turn : Turn)
-    → t ≡ Some turn → SettlesOne tells asks o old new t → (journal : List Entry) → StandsFor old journal
+    → t ≡ Some turn → SettlesOne tells asks o old new t → (journal : List Entry) → StandsForJournal old journal
     → (refusal : Option E) × TakesOne tells asks o old new journal turn refusal
 settled_some tells asks o old new t turn is s = subst (SettlesOne tells asks o old new) is s
 

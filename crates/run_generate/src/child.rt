@@ -1,6 +1,6 @@
 // The children of a generated run, which are made up.
 ghost use Rattle.std.specs.Prelude.{◌≡◌, Some};
-ghost use Rattle.run_generate.specs.OnWay.{phase_of};
+ghost use Rattle.run_generate.specs.OnWay.{child_phase};
 ghost use Rattle.run_generate.specs.Turns.{exit_at, fails, last_as};
 
 use run_events::{ChildExit, Turn};
@@ -18,7 +18,7 @@ pub(crate) enum Child {
 impl Child {
     /// The phase of its unit.
     pub(crate) fn phase(self) -> Phase
-        ensures { result ≡ phase_of self }
+        ensures { result ≡ child_phase self }
     {
         match self {
             Child::Asked => Phase::Starting,

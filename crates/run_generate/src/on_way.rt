@@ -1,9 +1,9 @@
 // A generated run on its way, turn by turn.
 ghost use Rattle.std.specs.Prelude.{◌≡◌, ◌+◌, ◌<◌, ◌^◌, [], List, IfOk, IfSome, IsErrOf, IsNone, None};
 ghost use Rattle.run_model.specs.declared.entry.Entry.{Entry};
-ghost use Rattle.run_engine.specs.Lean.{StandsFor};
+ghost use Rattle.run_engine.specs.Lean.{StandsForJournal};
 ghost use Rattle.run_generate.specs.Generated.{IsSummary, StopsShort};
-ghost use Rattle.run_generate.specs.OnWay.{Advances, GoesOn, IsOnWay, board_of, next_on};
+ghost use Rattle.run_generate.specs.OnWay.{Advances, HasNoOutcome, IsOnWay, board_of, next_on};
 ghost use Rattle.run_generate.specs.Turns.{exit_turn, first_with, last_as, made_turn, start_turn};
 ghost use Rattle.run_generate.specs.Turns.{stream_turn, time_turn};
 ghost use Rattle.run_generate.specs.declared.on_way.OnWay.{OnWay};
@@ -29,7 +29,7 @@ pub(crate) struct OnWay {
 impl OnWay {
     /// A run that has taken no turn.
     pub(crate) fn new(run: LeanRun) -> OnWay
-        requires { StandsFor run [] }
+        requires { StandsForJournal run [] }
         ensures way { IsOnWay result }
         ensures same { result.run ≡ run }
     {
@@ -95,7 +95,7 @@ impl OnWay {
     fn take(&mut self, alloc: Global, turn: Option<Turn>) -> Result<bool, GenerateError>
         requires way { IsOnWay self.old }
         requires next { next_on self.old ≡ turn }
-        requires goes_on { GoesOn self.old }
+        requires goes_on { HasNoOutcome self.old }
         ensures advances { IfOk result (Advances self.old self.new) }
         ensures short { IsErrOf result GenerateError.Unfinished → StopsShort self.old.run.settings }
     {
@@ -122,7 +122,7 @@ impl OnWay {
     fn go_on(&mut self, alloc: Global) -> Result<bool, GenerateError>
         requires way { IsOnWay self.old }
         requires last { self.old.last ≡ Last.Other }
-        requires goes_on { GoesOn self.old }
+        requires goes_on { HasNoOutcome self.old }
         ensures advances { IfOk result (Advances self.old self.new) }
         ensures short { IsErrOf result GenerateError.Unfinished → StopsShort self.old.run.settings }
     {
@@ -143,7 +143,7 @@ impl OnWay {
     /// Takes the next turn. Answers whether there was one.
     pub(crate) fn advance(&mut self, alloc: Global) -> Result<bool, GenerateError>
         requires way { IsOnWay self.old }
-        requires goes_on { GoesOn self.old }
+        requires goes_on { HasNoOutcome self.old }
         ensures advances { IfOk result (Advances self.old self.new) }
         ensures short { IsErrOf result GenerateError.Unfinished → StopsShort self.old.run.settings }
     {
@@ -164,7 +164,7 @@ impl OnWay {
     pub(crate) fn summary(&self) -> Option<Generated>
         requires { IsOnWay self.now }
         ensures some { IfSome result (IsSummary self.now.run.settings) }
-        ensures none { IsNone result → GoesOn self.now }
+        ensures none { IsNone result → HasNoOutcome self.now }
     {
         let outcome = self.run.outcome()?;
         Some(Generated {

@@ -12,8 +12,8 @@ use Rattle.run_model.specs.Unit.{takes}
 -- no timer was given a later moment than this
 abbrev pub IsTimely : Timers → ℕ → Type 0
 IsTimely t now =
-    (t.stopwatch.latest ≤ now) × IfSome t.slow (λ timer. timer.latest ≤ now) × IfSome t.wait (λ timer. timer.latest ≤ now)
-    × (t.waiting.latest ≤ now)
+    (t.stopwatch.latest ≤ now) × IfSome t.slow (λ timer. timer.latest ≤ now)
+    × IfSome t.wait (λ timer. timer.latest ≤ now) × (t.waiting.latest ≤ now)
 
 -- no timer of a unit was given a later moment than that of its latest turn
 abbrev pub IsCurrent : UnitView → Type 0

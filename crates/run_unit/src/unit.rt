@@ -203,8 +203,8 @@ impl Unit {
         is_enabled(&*self.view, turn, now)
     }
 
-    /// Which of the turns that come by themselves the unit takes at a moment of the run's clock, which is no earlier than
-    /// its latest turn.
+    /// Which of the turns that come by themselves the unit takes at a moment of the run's clock, which is no earlier
+    /// than its latest turn.
     pub fn wants(&self, now: u64) -> Wants
         requires { self.now.latest ≤ now }
         ensures take { result.take ≡ takes now self.now Take }

@@ -1,6 +1,6 @@
 -- A settled turn was taken, or none was settled.
 use Rattle.std.proofs.Common.{◌∙◌, ap, sym, subst, Some, None}
-use Rattle.run_generate.specs.OnWay.{GoesOn, IsOnWay, board_of, next_on}
+use Rattle.run_generate.specs.OnWay.{HasNoOutcome, IsOnWay, board_of, next_on}
 use Rattle.run_generate.specs.Turns.{made_turn}
 use Rattle.run_generate.specs.declared.on_way.OnWay.{OnWay}
 use Rattle.run_generate.proofs.ShortLemmas.{unsettled_short}
@@ -36,7 +36,7 @@ take-requires-clause-way c =
 pub take-requires-clause-goes_on : goal.take-requires-clause-goes_on
 take-requires-clause-goes_on c =
     let same = settled_none _ _ _ _ _ _ c.in-Ok-None.field-0-is c.in-Ok-None.ensures.settles in
-    subst GoesOn
+    subst HasNoOutcome
     (sym (same_way c.args.self.now c.settle.new.self c.settle.new.report c.settle.new.children same.0 same.1 same.2))
     c.requires.goes_on
 
