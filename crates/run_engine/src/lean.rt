@@ -217,7 +217,8 @@ impl LeanRun {
         self.state.first_in(phase)
     }
 
-    /// Which attempt a script or test is at, from 1: none before its admission. Between two attempts it is the failed one.
+    /// Which attempt a script or test is at, from 1: none before its admission. Between two attempts it is the failed
+    /// one.
     pub fn attempt(&self, unit: u32) -> Option<u32>
         ensures { result ≡ option_map (λ unit. unit.attempt) (unit_in self.now.state.board unit) }
     {

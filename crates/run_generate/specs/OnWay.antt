@@ -44,7 +44,8 @@ IsOnWay g = (journal : List Entry) × IsAfter g journal
 
 -- a run isn't over
 abbrev pub GoesOn : OnWay → Type 0
-GoesOn g = (journal : List Entry) → StandsFor g.run journal → outcome g.run.settings (past_of g.run.settings journal) ≡ None
+GoesOn g = (journal : List Entry) → StandsFor g.run journal
+    → outcome g.run.settings (past_of g.run.settings journal) ≡ None
 
 -- a run on its way takes the next turn, or is left as it is where there is none
 pub record TakesNext (old new : OnWay) : Type 0 where
