@@ -22,7 +22,8 @@ told-length p (e ∷ before) legal =
     let x : Happening = happening p (history p before) e in
     let here : length (zip (events_in x) e.refused) ≡ length (events_in x) =
     length-zip (events_in x) e.refused legal.1 in
-    let earlier : length (answers (history p before)) ≡ length (told (history p before)) = told-length p before legal.2 in
+    let earlier : length (answers (history p before)) ≡ length (told (history p before)) =
+    told-length p before legal.2 in
     length-append (answers (history p before)) (zip (events_in x) e.refused)
     ∙ ap (λ n. n + length (zip (events_in x) e.refused)) earlier
     ∙ ap (λ n. length (told (history p before)) + n) here ∙ sym (length-append (told (history p before)) (events_in x))

@@ -115,7 +115,8 @@ takes_next old run counter deaf last turn refusal way next t is = record {
       generated = subst (λ p. IsGenerated p t.after) (sym t.settings)
           (subst (IsGenerated p) (sym grown)
           (generated-push p journal e way.1.generated (next_after old journal way.1 ∙ next)));
-      heard = subst (λ p. IsHeard {E = Infallible} (λ c xs. counts c xs) (λ d xs. Unit {0}) counter deaf (sound p t.after))
+      heard = subst
+          (λ p. IsHeard {E = Infallible} (λ c xs. counts c xs) (λ d xs. Unit {0}) counter deaf (sound p t.after))
           (sym t.settings)
           (heard_takes (λ c xs. counts c xs) (λ d xs. Unit {0}) (λ c. 0) old.counter counter old.deaf deaf turn
           (sound p journal) (sound p t.after) refusal refl t.takes way.1.heard);

@@ -8,7 +8,10 @@ use Rattle.run_engine.proofs.lean.LeanRun.settle.Goals as goal
 pub returns-in-Some-clause-refused : goal.returns-in-Some-clause-refused
 returns-in-Some-clause-refused g c = λ journal stands. (
   is_full c.args.self.now journal stands (subst (λ (r : Lean). 4294967295 ≤ r.turns) c.self.view_is (omega arith)),
-  (settled_turn c.in-Some.field-0, sym (settled_after c.args.self.now journal c.args.word stands) ∙ sym c.in-Some.ensures),
+  (
+    settled_turn c.in-Some.field-0,
+    sym (settled_after c.args.self.now journal c.args.word stands) ∙ sym c.in-Some.ensures,
+  ),
 )
 
 pub take-requires-clause-enabled : goal.take-requires-clause-enabled

@@ -16,5 +16,6 @@ returns-in-Ok-clause-takes g c =
 
 pub returns-in-Err-clause-part : goal.returns-in-Err-clause-part
 returns-in-Err-clause-part g c =
-    breaks_by g.R.Reporter.told g.C.Children.asked _ c.get-settings.result.now c.self.inside.settings c.self.inside.state
-    c.self.inside.turns c.args.self.now c.args.turn.now c.self.view_is c.get-settings.ensures c.in-Err.ensures.part
+    breaks_by g.R.Reporter.told g.C.Children.asked _ c.get-settings.result.now c.self.inside.settings
+    c.self.inside.state c.self.inside.turns c.args.self.now c.args.turn.now c.self.view_is c.get-settings.ensures
+    c.in-Err.ensures.part
