@@ -16,7 +16,7 @@ use Rattle.run_model.specs.Board.{board}
 use Rattle.run_model.specs.Journal.{past_of}
 use Rattle.run_state.specs.Held.{Held}
 use Rattle.run_engine.specs.Heard.{IsHeard}
-use Rattle.run_engine.specs.Lean.{IsLeft, Lean, SettlesOne, StandsForJournal, TakesOne, settled_next}
+use Rattle.run_engine.specs.Lean.{IsAsBefore, Lean, SettlesOne, StandsForJournal, TakesOne, settled_next}
 use Rattle.run_engine.specs.Standing.{sound}
 use Rattle.run_engine.specs.World.{Outside, World, entry_of, outside}
 use Rattle.run_engine.proofs.HeardLemmas.{heard_takes}
@@ -168,5 +168,5 @@ settled_some tells asks o old new t turn is s = subst (SettlesOne tells asks o o
 
 pub settled_none : {R E C : Type 0} (tells : R → List (ReporterEvent × Option E) → Type 0)
     (asks : C → List (ℕ × Ask) → Type 0) (o : Outside R C) (old new : Lean) (t : Option Turn)
-    → t ≡ None → SettlesOne tells asks o old new t → IsLeft old new o
+    → t ≡ None → SettlesOne tells asks o old new t → IsAsBefore old new o
 settled_none tells asks o old new t is s = subst (SettlesOne tells asks o old new) is s
