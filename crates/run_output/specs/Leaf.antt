@@ -4,7 +4,8 @@ use Rattle.serde_json.specs.Data.{Data, boolean, string}
 use Rattle.uuid.specs.Text.{hyphenated_text, lower}
 use Rattle.run_output.specs.declared.leaf.Leaf.{Leaf}
 use Rattle.run_output.specs.declared.leaf.Leaf.TheVariants.{Absent, Count, Number, Nonzero, Signed, Truth, Word, Text}
-use Rattle.run_output.specs.declared.leaf.Leaf.TheVariants.{Texts, Pairs, Hex, Id, Test, Tests, Result, Errors, Runs}
+use Rattle.run_output.specs.declared.leaf.Leaf.TheVariants.{Texts, Pairs, Variables, Hex, Id, Test, Tests}
+use Rattle.run_output.specs.declared.leaf.Leaf.TheVariants.{Result, Errors, Runs}
 use Rattle.run_output.specs.Fields.{count, signed, nonzero, texts, pair, array_of}
 use Rattle.run_output.specs.Texts.{bytes_data, test_data, runs_text, result_text}
 use Rattle.run_output.specs.Errors.{child_errors, fault_errors, errors_data}
@@ -21,6 +22,7 @@ leaf_data (Word word) = Some (string word.now)
 leaf_data (Text text) = Some (string text.now)
 leaf_data (Texts list) = Some (texts list.now)
 leaf_data (Pairs list) = Some (array_of pair list.now)
+leaf_data (Variables list) = Some (array_of pair list.now)
 leaf_data (Hex bytes) = Some (bytes_data bytes.now)
 leaf_data (Id id) = Some (string (hyphenated_text lower id))
 leaf_data (Test test) = Some (test_data test.now)

@@ -27,14 +27,13 @@ fn signal_name(signal: ChildSignal) -> &'static str
 fn print_start(alloc: Global, turn: u64, start: &StartAsk) -> Mem<Printer>
     ensures { IfOk result (λ p. print p ≡ object_text (start_fields turn start.now)) }
 {
-    let env = start.env.to_list(alloc)?;
     Object::printed_of(
         alloc,
         &[
             ("ask", Leaf::Word("start")),
             ("attempt", Leaf::Count(start.attempt)),
             ("command", Leaf::Texts(&start.command)),
-            ("env", Leaf::Pairs(env.as_slice())),
+            ("env", Leaf::Variables(&start.env)),
             ("group", Leaf::Truth(start.group)),
             ("stdin", Leaf::Truth(start.stdin)),
             ("turn", Leaf::Number(turn)),

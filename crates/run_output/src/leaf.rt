@@ -4,12 +4,12 @@ ghost use Rattle.run_output.specs.Fields.{count, nonzero};
 ghost use Rattle.run_output.specs.Printer.{Prints, data_tokens, or_null};
 
 use crate::errors::{has_no_errors, print_errors};
-use crate::lists::{print_pairs, print_test, print_tests, print_texts};
+use crate::lists::{print_pairs, print_test, print_tests, print_texts, print_variables};
 use crate::printer::{Printed, Printer};
 use crate::texts::{print_hex, print_id, print_result, print_runs};
 use run_capture::{Blob, List, Mem, Text};
 use run_commands::{SetupScriptOutputError, StressCount};
-use run_events::{ChildExecutionOutput, ExecutionResult, TestInstanceId};
+use run_events::{ChildExecutionOutput, ExecutionResult, TestInstanceId, Variables};
 use std::alloc::Global;
 use uuid::Uuid;
 
@@ -36,6 +36,8 @@ pub(crate) enum Leaf<'a> {
     Texts(&'a List<Text>),
     /// A list of pairs of texts, each as a list of two.
     Pairs(&'a [(Text, Text)]),
+    /// Variables, each as a list of its name and its value.
+    Variables(&'a Variables),
     /// Bytes, as a text in hex.
     Hex(&'a Blob),
     /// An id, as a text.
@@ -137,6 +139,7 @@ impl Leaf<'_> {
             Leaf::Text(text) => out.text(text.as_str()),
             Leaf::Texts(list) => print_texts(out, list.as_slice()),
             Leaf::Pairs(list) => print_pairs(out, list),
+            Leaf::Variables(list) => print_variables(alloc, out, list),
             Leaf::Hex(bytes) => print_hex(alloc, out, bytes),
             Leaf::Id(id) => print_id(alloc, out, id),
             Leaf::Test(test) => print_test(out, test),

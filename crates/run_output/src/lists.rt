@@ -6,7 +6,8 @@ ghost use Rattle.run_output.specs.Texts.{test_data};
 
 use crate::printer::Printer;
 use run_capture::{Mem, Text};
-use run_events::TestInstanceId;
+use run_events::{TestInstanceId, Variables};
+use std::alloc::Global;
 
 /// Texts.
 pub(crate) fn print_texts(out: &mut Printer, list: &[Text]) -> Mem<()>
@@ -40,6 +41,14 @@ pub(crate) fn print_pairs(out: &mut Printer, list: &[(Text, Text)]) -> Mem<()>
         print_pair(out, first, second)?;
     }
     out.end_array()
+}
+
+/// Variables, each as its name and its value.
+pub(crate) fn print_variables(alloc: Global, out: &mut Printer, variables: &Variables) -> Mem<()>
+    ensures { Prints result out.old out.new (data_tokens (array_of pair variables.now)) }
+{
+    let list = variables.to_list(alloc)?;
+    print_pairs(out, list.as_slice())
 }
 
 /// A test by its binary and its name.
