@@ -1,6 +1,6 @@
 //! The engine: a run stands for its journal, and each step of it is one turn of the tables. It is built
-//! from a plan by `TestRunnerBuilder`, and carried out turn by turn by `Run`, or by `LeanRun` with no journal kept, or at
-//! once by `TestRunner`.
+//! from a plan by `TestRunnerBuilder`, and carried out turn by turn by `Run`, or by `LeanRun` with no journal kept, or
+//! at once by `TestRunner`.
 #![tactic(auto)]
 
 mod builder;

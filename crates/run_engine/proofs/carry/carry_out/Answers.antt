@@ -34,7 +34,8 @@ returns-in-Ok-answers-clause-runnable g c =
     let journal = c.args.journal.now.items in
     let refused = c.in-Ok-act.told.refused in
     subst (IsRunnable p)
-    (sym (c.keep.ensures.grown ∙ ap (λ j. j ++ entry_of c.args.turn c.in-Ok-answers.refused ∷ []) c.make_room.ensures.same
+    (sym (c.keep.ensures.grown
+    ∙ ap (λ j. j ++ entry_of c.args.turn c.in-Ok-answers.refused ∷ []) c.make_room.ensures.same
     ∙ ap (λ r. c.args.journal.now.items ++ entry_of c.args.turn r ∷ []) c.in-Ok-answers.ensures))
     (runnable_next p journal c.args.turn refused c.requires.runnable c.requires.room c.requires.enabled
     (c.in-Ok-act.ensures.answered
@@ -46,7 +47,8 @@ returns-in-Ok-answers-clause-stands g c =
     let journal = c.args.journal.now.items in
     let refused = c.in-Ok-act.told.refused in
     subst (λ journal. c.act.new.state ≡ held p (board p (past_of p journal)))
-    (sym (c.keep.ensures.grown ∙ ap (λ j. j ++ entry_of c.args.turn c.in-Ok-answers.refused ∷ []) c.make_room.ensures.same
+    (sym (c.keep.ensures.grown
+    ∙ ap (λ j. j ++ entry_of c.args.turn c.in-Ok-answers.refused ∷ []) c.make_room.ensures.same
     ∙ ap (λ r. c.args.journal.now.items ++ entry_of c.args.turn r ∷ []) c.in-Ok-answers.ensures))
     (held-is p c.act.new.state _ c.in-Ok-act.ensures.seated
     (stands_next p journal c.args.state.now.board c.act.new.state.board c.args.turn refused c.requires.runnable
