@@ -1,14 +1,12 @@
 -- A run that keeps no journal: what a step of it does after each journal that it stands for.
-use Rattle.std.proofs.Common.{◌≡◌, ℕ, ◌+◌, ◌<◌, ◌≤◌, ◌^◌, List, [], ◌∷◌, ◌++◌, length, true, false, Option, Some}
-use Rattle.std.proofs.Common.{ap, sym, subst, refl, ◌∙◌, arith, length-append}
+use Rattle.std.proofs.Common.{◌≡◌, ℕ, ◌+◌, ◌<◌, ◌≤◌, ◌^◌, List, [], ◌∷◌, ◌++◌, length, Option}
+use Rattle.std.proofs.Common.{ap, sym, subst, refl, arith, length-append}
 use Rattle.run_events.specs.declared.settings.Settings.{Settings}
 use Rattle.run_events.specs.declared.turn.Turn.{Turn}
 use Rattle.run_events.specs.declared.ask.Ask.{Ask}
 use Rattle.run_events.specs.declared.events.ReporterEvent.{ReporterEvent}
 use Rattle.run_model.specs.declared.entry.Entry.{Entry}
-use Rattle.run_model.specs.Board.{board}
-use Rattle.run_model.specs.Journal.{past_of}
-use Rattle.run_state.specs.Held.{Held, held}
+use Rattle.run_state.specs.Held.{Held}
 use Rattle.run_state.specs.Settle.{settling, first_enabled}
 use Rattle.run_engine.specs.World.{World, Outside, entry_of}
 use Rattle.run_engine.specs.Broken.{BreaksOff}

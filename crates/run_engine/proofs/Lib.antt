@@ -2,6 +2,7 @@ pub mod JournalLemmas
 pub mod CarryLemmas
 pub mod TakesLemmas
 pub mod TellLemmas
+pub mod RefusalLemmas
 pub mod StartsLemmas
 pub mod PartLemmas
 pub mod HeardLemmas

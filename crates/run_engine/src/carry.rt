@@ -131,7 +131,7 @@ fn act<C: Children, R: Reporter>(
     let effects = advance(alloc, settings, state, turn, named)?;
     match say(alloc, place, &effects, children, report) {
         Ok(told) => {
-            state.hear_answers(told.refused.as_slice());
+            state.hear_answers(told.refused.kept());
             Ok((told, effects))
         }
         Err(error) => {
@@ -183,8 +183,18 @@ pub(crate) fn carry_out<C: Children, R: Reporter>(
     ) {
         Ok((told, effects)) => {
             let Told { refused, refusal } = told;
-            keep(journal, starts, Entry { turn, refused }, effects);
-            Ok(refusal)
+            let answers = refused.to_list(alloc);
+            drop(refused);
+            match answers {
+                Ok(refused) => {
+                    keep(journal, starts, Entry { turn, refused }, effects);
+                    Ok(refusal)
+                }
+                Err(error) => {
+                    drop((turn, effects, refusal));
+                    Err(error)
+                }
+            }
         }
         Err(error) => {
             drop(turn);

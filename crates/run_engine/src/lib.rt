@@ -9,6 +9,7 @@ mod course;
 mod errors;
 mod lean;
 mod names;
+mod refusals;
 mod run;
 mod runner;
 mod tell;

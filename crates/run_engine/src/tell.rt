@@ -9,14 +9,15 @@ ghost use Rattle.run_engine.specs.World.{TellsEvents, CountsErrors, earlier};
 ghost use Rattle.run_engine.specs.Broken.{TellsSome};
 ghost use Rattle.run_engine.specs.Starts.{start_among};
 
-use run_capture::{List, Mem, OutOfMemory};
+use crate::refusals::Refusals;
+use run_capture::{Mem, OutOfMemory};
 use run_events::{Ask, Children, ReportFault, Reporter, ReporterEvent, StartAsk};
 use std::alloc::Global;
 use std::collections::VecDeque;
 
 /// The reporter's answers to the events of a turn, and the first error with which it refused one.
 pub struct Told<E> {
-    pub refused: List<bool>,
+    pub refused: Refusals,
     pub refusal: Option<E>,
 }
 
@@ -45,7 +46,7 @@ fn tell_marked<R: Reporter>(
     alloc: Global,
     report: &mut R,
     event: &ReporterEvent,
-    refused: &mut List<bool>,
+    refused: &mut Refusals,
 ) -> Mem<Option<R::Error>>
     ensures marked { IfOk result (λ refusal. refused.new ≡ refused.old ++ is_some refusal ∷ []) }
     ensures told { IfOk result (λ refusal.
@@ -87,7 +88,7 @@ pub fn tell<R: Reporter>(
         (R.faults report.new)
         events.now) }
 {
-    let mut refused = List::new();
+    let mut refused = Refusals::new();
     let mut refusal = None;
     for event in events {
         let error = tell_marked(alloc, report, event, &mut refused)?;
