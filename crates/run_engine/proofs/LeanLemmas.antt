@@ -6,16 +6,22 @@ use Rattle.run_events.specs.declared.turn.Turn.{Turn}
 use Rattle.run_events.specs.declared.ask.Ask.{Ask}
 use Rattle.run_events.specs.declared.events.ReporterEvent.{ReporterEvent}
 use Rattle.run_model.specs.declared.entry.Entry.{Entry}
+use Rattle.run_model.specs.Board.{board}
+use Rattle.run_model.specs.Journal.{past_of}
 use Rattle.run_state.specs.Held.{Held}
 use Rattle.run_state.specs.Settle.{settling, first_enabled}
 use Rattle.run_engine.specs.World.{World, Outside, entry_of}
 use Rattle.run_engine.specs.Broken.{BreaksOff}
 use Rattle.run_engine.specs.Standing.{IsRunnable, sound}
+use Rattle.run_engine.specs.Refused.{IsNotNamed, IsRefused}
+use Rattle.run_engine.specs.declared.errors.StepError.{StepError}
 use Rattle.run_engine.specs.Settling.{first_settled}
 use Rattle.run_engine.specs.Unkept.{StandsAfter, TakesUnkept}
 use Rattle.run_engine.specs.Lean.{Lean, StandsForJournal, TakesOne, settled_next}
 use Rattle.run_engine.proofs.CarryLemmas.{runnable_next}
+use Rattle.run_engine.proofs.ForgottenTurns.{first_same}
 use Rattle.run_engine.proofs.SettlingLemmas.{full_at}
+use Rattle.run_engine.proofs.UnkeptLemmas.{is_refused}
 
 -- a turn was taken, and the run stands for the longer journal
 pub takes_one : {R E C : Type 0} (tells : R → List (ReporterEvent × Option E) → Type 0)
@@ -49,7 +55,8 @@ is_full r journal s full = full_at r.turns (length journal) s.many full s.runnab
 pub settled_after : (r : Lean) (journal : List Entry) (word : ℕ) → StandsForJournal r journal
     → settled_next r word ≡ first_settled (sound r.settings journal) word
 settled_after r journal word s =
-    ap (λ (h : Held). first_enabled r.settings h.board (settling r.settings word)) s.stands
+    first_same r.settings (board r.settings (past_of r.settings journal)) r.state.board (settling r.settings word)
+    s.stands.board
 
 -- the fields of a run that stands for a journal, by settings that are its own
 pub fields_stand : (p : Settings) (r : Lean) (settings : Settings) (state : Held) (turns : ℕ) (journal : List Entry)
@@ -85,3 +92,14 @@ breaks_by {E = E} tells asks o p settings state turns r turn is same all =
     → BreaksOff {E = E} tells asks o r.settings journal turn) is
     (λ journal. subst (λ p. StandsAfter p state turns journal → BreaksOff {E = E} tells asks o p journal turn) same
     (all journal))
+
+-- or it was refused
+pub refused_by : (p settings : Settings) (state : Held) (turns : ℕ) (r : Lean) (turn : Turn) (error : StepError)
+    → record { settings = settings; state = state; turns = turns } ≡ r → p ≡ settings → turns < 4294967295
+    → IsNotNamed p state.board turn error
+    → (journal : List Entry) → StandsForJournal r journal → IsRefused (sound r.settings journal) turn error
+refused_by p settings state turns r turn error is same room why =
+    subst (λ (r : Lean). (journal : List Entry) → StandsForJournal r journal
+    → IsRefused (sound r.settings journal) turn error) is
+    (λ journal s. is_refused settings state turns journal turn error s room
+    (subst (λ p. IsNotNamed p state.board turn error) same why))

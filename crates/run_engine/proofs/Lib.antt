@@ -14,3 +14,8 @@ pub mod LeanLemmas
 pub mod RepeatLemmas
 pub mod FewLemmas
 pub mod NameLemmas
+pub mod ForgottenLemmas
+pub mod ForgottenMoves
+pub mod ForgottenTurns
+pub mod ForgottenJournals
+mod KeptLemmas

@@ -14,8 +14,8 @@ use Rattle.run_events.specs.declared.events.ReporterEvent.{ReporterEvent}
 use Rattle.run_events.specs.declared.outcome.RunOutcome.{RunOutcome}
 use Rattle.run_model.specs.declared.entry.Entry.{Entry}
 use Rattle.run_model.specs.Admission.{AreFew, units_in}
-use Rattle.run_model.specs.Board.{board, step, answered, deed_events}
-use Rattle.run_model.specs.Turns.{enabled, enabled_on, turn_of_unit, deed_on}
+use Rattle.run_model.specs.Board.{Board, Deed, board, step, answered, deed_events}
+use Rattle.run_model.specs.Turns.{enabled_on, turn_of_unit, deed_on, is_third_signal}
 use Rattle.run_model.specs.Journal.{past_of, outcome}
 use Rattle.run_model.specs.Words.{sub_run}
 use Rattle.run_laws.specs.Course.{turns_of}
@@ -24,17 +24,23 @@ use Rattle.run_laws.proofs.board.OnBoard.{units-length}
 use Rattle.run_laws.proofs.board.Ready.{timely}
 use Rattle.run_laws.proofs.told.Outcomes.{over_is}
 use Rattle.run_state.specs.Held.{Held, KeepsSeats, held}
+use Rattle.run_engine.specs.Forgotten.{IsForgotten, IsKeptAfter}
 use Rattle.run_engine.specs.World.{World, Outside, outside, entry_of, earlier, TellsEvents, CountsErrors}
 use Rattle.run_engine.specs.Standing.{sound}
 use Rattle.run_engine.specs.Broken.{TellsPart, BreaksOff}
+use Rattle.run_engine.specs.Refused.{IsNotNamed, IsNotTaken, IsRefused}
+use Rattle.run_engine.specs.declared.errors.StepError.{StepError}
+use Rattle.run_engine.specs.declared.errors.StepError.TheVariants as steps
 use Rattle.run_engine.specs.Execution.{Carries, UnlessMemory, IsFinal, StopsHere, StopsAt}
-use Rattle.run_engine.specs.Unkept.{StandsAfter, TakesUnkept, StopsUnkept, TookAll, outcome_on}
+use Rattle.run_engine.specs.Unkept.{KeepsBoard, StandsAfter, TakesUnkept, StopsUnkept, TookAll, outcome_on}
 use Rattle.run_engine.specs.declared.course.Stop.{Stop}
 use Rattle.run_engine.specs.declared.course.Stop.TheVariants as stops
 use Rattle.run_engine.specs.declared.errors.TestRunnerExecuteErrors.{TestRunnerExecuteErrors}
 use Rattle.run_engine.specs.declared.errors.TestRunnerExecuteErrors.TheVariants.{Report, NotEnabled, ThirdSignal}
 use Rattle.run_engine.specs.declared.errors.TestRunnerExecuteErrors.TheVariants.{Unfinished, OutOfMemory}
-use Rattle.run_engine.proofs.CarryLemmas.{seated, held-is, can_advance, stands_next, takes_from}
+use Rattle.run_engine.proofs.CarryLemmas.{seated, can_advance, stands_next, takes_from}
+use Rattle.run_engine.proofs.ForgottenTurns.{enabled_same, forgotten-none, third_same}
+use Rattle.run_engine.proofs.ForgottenJournals.{kept_whole, kept_timely, kept_enabled, kept_can, kept_deed, kept_next}
 use Rattle.run_engine.proofs.OutcomeLemmas.{not_over}
 use Rattle.run_engine.proofs.PartLemmas.{tells-nothing, adds-nothing, breaks_off, runs_out}
 use Rattle.run_engine.proofs.TakesLemmas.{takes-more, turns-push, stops_here}
@@ -42,50 +48,70 @@ use Rattle.run_engine.proofs.TakesLemmas.{takes-more, turns-push, stops_here}
 -- what a state that stands for a journal has, and keeps
 pub all_units : (p : Settings) (state : Held) (place : ℕ) (journal : List Entry) → StandsAfter p state place journal
     → length state.board.units ≡ units_in p
-all_units p state place journal s =
-    ap (λ (h : Held). length h.board.units) s.stands ∙ units-length p (sub_run (past_of p journal))
+all_units p state place journal s = kept_whole p journal state.board s.stands.board
 
 pub is_timely : (p : Settings) (state : Held) (place : ℕ) (journal : List Entry) → StandsAfter p state place journal
     → IsTimelyBoard state.board
-is_timely p state place journal s =
-    subst (λ (h : Held). IsTimelyBoard h.board) (sym s.stands) (timely p journal s.runnable.legal)
+is_timely p state place journal s = kept_timely p journal state.board s.runnable s.stands.board
 
 pub keeps_seats : (p : Settings) (state : Held) (place : ℕ) (journal : List Entry) → StandsAfter p state place journal
     → KeepsSeats p state
-keeps_seats p state place journal s = seated p state (board p (past_of p journal)) s.stands
-
--- a turn that is enabled on its board is so after the journal, and can be taken
-enabled_after : (p : Settings) (state : Held) (place : ℕ) (journal : List Entry) (turn : Turn)
-    → StandsAfter p state place journal → enabled_on p state.board turn ≡ true
-    → enabled p (past_of p journal) turn ≡ true
-enabled_after p state place journal turn s en = sym (ap (λ (h : Held). enabled_on p h.board turn) s.stands) ∙ en
+keeps_seats p state place journal s = s.stands.seats
 
 pub can_take : (p : Settings) (state : Held) (place : ℕ) (journal : List Entry) (turn : Turn)
     → StandsAfter p state place journal → enabled_on p state.board turn ≡ true
     → CanAdvance p state.board turn (turn_of_unit turn)
-can_take p state place journal turn s en =
-    can_advance p journal state.board turn s.runnable (ap (λ (h : Held). h.board) s.stands)
-    (enabled_after p state place journal turn s en)
+can_take p state place journal turn s en = kept_can p journal state.board turn s.runnable s.stands.board en
+
+-- a turn that isn't enabled on its board isn't taken after the journal
+pub not_taken : (p : Settings) (state : Held) (place : ℕ) (journal : List Entry) (turn : Turn) (third : Bool)
+    → StandsAfter p state place journal → enabled_on p state.board turn ≡ false
+    → is_third_signal state.board turn ≡ third → IsNotTaken (sound p journal) turn third
+not_taken p state place journal turn third s off is =
+    let b = board p (past_of p journal) in (
+      sym (enabled_same p b state.board turn s.stands.board) ∙ off,
+      sym (third_same p b state.board turn s.stands.board) ∙ is,
+    )
+
+pub is_refused : (p : Settings) (state : Held) (place : ℕ) (journal : List Entry) (turn : Turn) (error : StepError)
+    → StandsAfter p state place journal → place < 4294967295 → IsNotNamed p state.board turn error
+    → IsRefused (sound p journal) turn error
+is_refused p state place journal turn steps.NotEnabled s room why =
+    (omega (arith, s.many, room), not_taken p state place journal turn false s why.0 why.1)
+is_refused p state place journal turn steps.ThirdSignal s room why =
+    (omega (arith, s.many, room), not_taken p state place journal turn true s why.0 why.1)
+is_refused p state place journal turn steps.Full s room why = absurd why
+is_refused p state place journal turn steps.OutOfMemory s room why = tt
 
 -- a turn is taken after the journal, from what its parts did
 pub takes_next : {R E C : Type 0} (tells : R → List (ReporterEvent × Option E) → Type 0)
-    (asks : C → List (ℕ × Ask) → Type 0) (o : Outside R C) (p : Settings) (state new : Held) (place : ℕ)
-    (journal : List Entry) (turn : Turn) (refused : List Bool) (refusal : Option E)
+    (asks : C → List (ℕ × Ask) → Type 0) (o : Outside R C) (p : Settings) (state : Held) (board_then : Board)
+    (new : Held) (place : ℕ) (journal : List Entry) (turn : Turn) (refused : List Bool) (refusal : Option E)
     → StandsAfter p state place journal → enabled_on p state.board turn ≡ true → KeepsSeats p new
-    → new.board ≡ answered (step state.board turn (deed_on p state.board turn)) refused
+    → board_then ≡ answered (step state.board turn (deed_on p state.board turn)) refused
+    → ((b : Board) → IsForgotten p b board_then → IsForgotten p b new.board)
     → length refused ≡ length (deed_events (deed_on p state.board turn)) → is_none refusal ≡ list_all not refused
     → TellsEvents tells o.report o.report_after (zip (deed_events (deed_on p state.board turn)) refused) refusal
     → Adds asks o.children o.children_after
     (map (λ ask. (place, ask)) (option_to_list (deed_on p state.board turn).asked))
     → CountsErrors o.faults o.faults_after refusal → TakesUnkept tells asks o p new journal turn refusal
-takes_next tells asks o p state new place journal turn refused refusal s on seats after answered marked tell ask
-    counted =
-    let st : state.board ≡ board p (past_of p journal) = ap (λ (h : Held). h.board) s.stands in
-    let en = enabled_after p state place journal turn s on in (
+takes_next tells asks o p state board_then new place journal turn refused refusal s on seats after forgets answered
+    marked tell ask counted =
+    let b = board p (past_of p journal) in
+    let same : deed_on p state.board turn ≡ deed_on p b turn =
+    kept_deed p journal state.board turn s.runnable s.stands.board on in (
       journal ++ entry_of turn refused ∷ [],
-      takes_from tells asks o p journal (journal ++ entry_of turn refused ∷ []) state.board turn refused refusal 0 place
-          s.many st en answered marked tell ask counted refl,
-      held-is p new _ seats (stands_next p journal state.board new.board turn refused s.runnable st en after),
+      takes_from tells asks o p journal (journal ++ entry_of turn refused ∷ []) b turn refused refusal 0 place s.many
+          refl (kept_enabled p journal state.board turn s.stands.board on)
+          (answered ∙ ap (λ d. length (deed_events d)) same) marked
+          (subst (λ d. TellsEvents tells o.report o.report_after (zip (deed_events d) refused) refusal) same tell)
+          (subst (λ (d : Deed). Adds asks o.children o.children_after
+          (map (λ ask. (place, ask)) (option_to_list d.asked))) same ask) counted refl,
+      record {
+        board = forgets _ (subst (IsKeptAfter p (journal ++ entry_of turn refused ∷ [])) (sym after)
+            (kept_next p journal state.board turn refused s.runnable s.stands.board on));
+        seats = seats;
+      },
     )
 
 -- or it was broken off
@@ -95,8 +121,17 @@ pub breaks_next : {R E C : Type 0} (tells : R → List (ReporterEvent × Option 
     → TellsPart tells asks o place (deed_events (deed_on p state.board turn)) (deed_on p state.board turn).asked
     → BreaksOff tells asks o p journal turn
 breaks_next tells asks o p state place journal turn s on x =
-    breaks_off tells asks o p journal state.board turn place s.many (ap (λ (h : Held). h.board) s.stands)
-    (enabled_after p state place journal turn s on) x
+    breaks_off tells asks o p journal (board p (past_of p journal)) turn place s.many refl
+    (kept_enabled p journal state.board turn s.stands.board on)
+    (subst (λ (d : Deed). TellsPart tells asks o place (deed_events d) d.asked)
+    (kept_deed p journal state.board turn s.runnable s.stands.board on) x)
+
+-- the state of a board keeps it, with nothing forgotten
+pub fresh_board : (p : Settings) (state : Held) → state ≡ held p (board p []) → KeepsBoard p (board p []) state
+fresh_board p state fresh = record {
+  board = subst (λ (h : Held). IsForgotten p (board p []) h.board) (sym fresh) (forgotten-none p (board p []));
+  seats = seated p state (board p []) fresh;
+}
 
 -- no turn was taken
 pub has_taken_none : {R E C : Type 0} (tells : R → List (ReporterEvent × Option E) → Type 0)
@@ -112,7 +147,7 @@ has_taken_none tells asks faults p state r c few fresh = record {
     counted = refl;
   };
   all = refl;
-  stands = fresh;
+  stands = fresh_board p state fresh;
 }
 
 -- after the turns before a place the state stands for their journal
@@ -182,7 +217,7 @@ pub carries_final : {R E C : Type 0} (tells : R → List (ReporterEvent × Optio
     → TookAll tells asks o p turns state refusal → IsFinal (outcome_on state.board) refusal answer
     → UnlessMemory answer (Carries tells asks o p turns answer)
 carries_final {E = E} tells asks o p turns state refusal answer x final =
-    by_answer answer (subst (λ (h : Held). IsFinal (outcome_on h.board) refusal answer) x.stands final)
+    by_answer answer (subst (λ (b : Board). IsFinal (outcome_on b) refusal answer) x.stands.board.rest final)
   where
     by_answer : (answer : Result RunOutcome (TestRunnerExecuteErrors E))
         → IsFinal (outcome p (past_of p x.journal)) refusal answer

@@ -6,6 +6,7 @@ pub mod Settling
 pub mod Heard
 pub mod Refused
 pub mod Execution
+pub mod Forgotten
 pub mod Unkept
 pub mod Lean
 pub mod Handlers

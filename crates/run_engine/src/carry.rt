@@ -14,7 +14,7 @@ ghost use Rattle.run_model.specs.declared.entry.Entry.{Entry};
 ghost use Rattle.run_model.specs.Admission.{AreFew, units_in};
 ghost use Rattle.run_model.specs.Turns.{enabled, enabled_on, turn_of_unit, deed_on};
 ghost use Rattle.run_model.specs.Words.{is_over};
-ghost use Rattle.run_model.specs.Board.{board, step, answered, deed_events};
+ghost use Rattle.run_model.specs.Board.{Board, board, step, answered, deed_events};
 ghost use Rattle.run_engine.specs.Broken.{TellsPart, BreaksOff};
 ghost use Rattle.run_engine.specs.Starts.{start_among, starts_of};
 ghost use Rattle.run_engine.specs.Heard.{IsHeard};
@@ -26,6 +26,7 @@ ghost use Rattle.run_engine.specs.World.{history_of};
 ghost use Rattle.run_state.specs.Held.{KeepsSeats, held};
 ghost use Rattle.run_engine.specs.Standing.{IsRunnable, unbroken, sound};
 ghost use Rattle.run_engine.specs.Refused.{IsRefused, IsNotNamed, IfNotMemory};
+ghost use Rattle.run_engine.specs.Forgotten.{IsForgotten};
 ghost use Rattle.run_engine.specs.Unkept.{StandsAfter, TakesUnkept};
 
 use crate::errors::StepError;
@@ -203,8 +204,27 @@ pub(crate) fn carry_out<C: Children, R: Reporter>(
     }
 }
 
-/// Takes an enabled turn as `carry_out` does, and keeps neither it nor what it asks. It is taken so after each journal
-/// that the state stands for.
+// The unit that a turn names.
+fn unit_of(named: &Option<(u32, UnitTurn)>) -> Option<u32> {
+    match named {
+        Some((unit, _)) => Some(*unit),
+        None => None,
+    }
+}
+
+// A unit is forgotten, where it may be.
+fn forget(settings: &Settings, state: &mut State, unit: Option<u32>)
+    ensures board { (b : Board) → IsForgotten settings.now b state.old.board
+        → IsForgotten settings.now b state.new.board }
+    ensures seated { KeepsSeats settings.now state.old → KeepsSeats settings.now state.new }
+{
+    if let Some(unit) = unit {
+        state.forget(settings, unit);
+    }
+}
+
+/// Takes an enabled turn as `carry_out` does, and keeps neither it nor what it asks, nor what a test was that is over. It
+/// is taken so after each journal that the state stands for.
 pub(crate) fn carry_unkept<C: Children, R: Reporter>(
     alloc: Global,
     settings: &Settings,
@@ -227,8 +247,10 @@ pub(crate) fn carry_unkept<C: Children, R: Reporter>(
         OnErr result ((journal : List Entry) → StandsAfter settings.now state.old place journal
         → BreaksOff R.told C.asked o settings.now journal turn.now) }
 {
+    let unit = unit_of(&named);
     let (told, effects) = act(alloc, settings, state, place, turn, named, children, report)?;
     drop(effects);
+    forget(settings, state, unit);
     let Told { refused, refusal } = told;
     drop(refused);
     Ok(refusal)

@@ -27,6 +27,7 @@ use Rattle.run_generate.specs.declared.child.Last.TheVariants as lasts
 use Rattle.run_generate.specs.declared.hearers.Counter.{Counter}
 use Rattle.run_generate.specs.declared.hearers.Deaf.{Deaf}
 use Rattle.run_generate.specs.declared.on_way.OnWay.{OnWay}
+use Rattle.run_generate.proofs.KeptTurns.{turn_kept}
 
 -- a run that has taken no turn
 pub begins : (run : Lean) → StandsForJournal run []
@@ -56,7 +57,7 @@ pub next_after : (g : OnWay) (journal : List Entry) → IsAfter g journal
 next_after g journal way =
     let p = g.run.settings in
     ap (turn_after p (board p (past_of p journal))) (sym way.last)
-    ∙ ap (λ (h : Held). turn_after p h.board g.last) (sym way.stands.stands)
+    ∙ sym (turn_kept p (board p (past_of p journal)) (board_of g) g.last way.stands.stands.board)
 
 -- one more turn that is the next one
 slice_get-front : {X : Type 0} (xs ys : List X) (k : ℕ) → k < length xs → slice_get (xs ++ ys) k ≡ slice_get xs k

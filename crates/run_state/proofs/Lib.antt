@@ -3,6 +3,7 @@ pub mod CountedLemmas
 pub mod DeedLemmas
 pub mod DueLemmas
 pub mod FirstLemmas
+pub mod ForgottenLemmas
 pub mod HoldersLemmas
 pub mod PlaceLemmas
 pub mod RoundLemmas

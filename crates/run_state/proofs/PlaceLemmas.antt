@@ -141,7 +141,7 @@ set_other (x ∷ us) (suc k) zero v e = refl
 set_other (x ∷ us) (suc k) (suc j) v e = set_other us k j v (grind (arith, e))
 
 -- one more unit, which is a test where it has a seat
-tests-set : (us : List (Option UnitView)) (a b : Admissions) (k : ℕ) (v : UnitView) → AreTests us a
+pub tests-set : (us : List (Option UnitView)) (a b : Admissions) (k : ℕ) (v : UnitView) → AreTests us a
     → length b.seats ≡ length a.seats → (length us ≤ k + length a.seats → is_test v.role ≡ true)
     → AreTests (set us k (Some v)) b
 tests-set us a b k v are seats new j u at le = by_place (j == k) refl

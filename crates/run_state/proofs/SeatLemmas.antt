@@ -61,7 +61,7 @@ seats-script : (p : Settings) (us : List (Option UnitView)) (k : ℕ) (v : Optio
 seats-script p us k v lt = ap (map seat_of) (drop-set-lt (scripts_in p) us k v lt)
 
 -- the seats after a unit that isn't over took a turn after which it isn't
-seats-going : (p : Settings) (us : List (Option UnitView)) (k : ℕ) (u v : UnitView) → get_or us k None ≡ Some u
+pub seats-going : (p : Settings) (us : List (Option UnitView)) (k : ℕ) (u v : UnitView) → get_or us k None ≡ Some u
     → seat_of (Some v) ≡ seat_of (Some u)
     → map seat_of (drop (scripts_in p) (set us k (Some v))) ≡ map seat_of (drop (scripts_in p) us)
 seats-going p us k u v at same = by_kind (nat_le (scripts_in p) k) refl

@@ -1,6 +1,7 @@
 pub mod Counted
 pub mod Placed
 pub mod Held
+pub mod Forgotten
 pub mod Done
 pub mod Settle
 pub mod First

@@ -8,6 +8,7 @@ mod counts;
 mod delivery;
 mod effects;
 mod enabled;
+mod forgetting;
 mod joining;
 mod kept;
 mod rounds;

@@ -4,7 +4,6 @@ ghost use Rattle.std.specs.List.{list_any};
 ghost use Rattle.run_model.specs.Admission.{handed_by, handed_from, open_script};
 
 use run_capture::{Duplicate, List, Mem, Text};
-use run_events::ScriptEnv;
 use run_unit::{Phase, Unit};
 use std::alloc::Global;
 
@@ -37,10 +36,7 @@ fn handed_by(script: &Option<Unit>) -> &[(Text, Text)]
     ensures { result.now ≡ handed_by script.now }
 {
     match script {
-        Some(script) => match script.env() {
-            ScriptEnv::Variables(variables) => variables.pairs(),
-            ScriptEnv::Unread | ScriptEnv::Fault(_) => &[],
-        },
+        Some(script) => script.variables(),
         None => &[],
     }
 }

@@ -9,7 +9,8 @@ ghost use Rattle.run_model.specs.Board.{board, answered, unit_in};
 ghost use Rattle.run_model.specs.Dispatch.{is_halted};
 ghost use Rattle.run_model.specs.Turns.{facts, is_held, is_third_signal};
 ghost use Rattle.run_state.specs.Due.{is_any_due};
-ghost use Rattle.run_state.specs.Held.{held};
+ghost use Rattle.run_state.specs.Forgotten.{test_forgotten};
+ghost use Rattle.run_state.specs.Held.{held, KeepsSeats};
 ghost use Rattle.run_state.specs.Placed.{FitsUnits};
 
 use crate::kept::{Kept, first_parts};
@@ -123,6 +124,20 @@ impl State {
         ensures { self.new ≡ record self.old { board = answered self.old.board refused.now } }
     {
         self.refused = is_one_refused(refused) || self.refused;
+    }
+
+    /// Nothing is kept of a unit but that it is over, where it is a test that is over and no request waits for it.
+    pub fn forget(&mut self, settings: &Settings, unit: u32)
+        ensures board { self.new.board ≡ record self.old.board {
+          units = test_forgotten settings.now unit self.old.board.units;
+        } }
+        ensures kept { self.new.kept ≡ self.old.kept }
+        ensures seated { KeepsSeats settings.now self.old → KeepsSeats settings.now self.new }
+    {
+        if (unit as usize) < settings.plan.scripts.len() {
+            return;
+        }
+        self.units.forget_one(unit);
     }
 
     /// Whether a turn is a shutdown signal that would be taken, but that two came before it.

@@ -10,11 +10,13 @@ ghost use Rattle.run_model.specs.Board.{reach_all, units_after};
 ghost use Rattle.run_model.specs.Story.{is_live_unit};
 ghost use Rattle.run_model.specs.Turns.{live_in, unit_takes};
 ghost use Rattle.run_state.specs.Counted.{holders_in, holds_asked, working_in};
+ghost use Rattle.run_state.specs.Forgotten.{forgotten_at};
 ghost use Rattle.run_state.specs.Placed.{is_no_script};
 ghost use Rattle.run_state.specs.UnitTurns.{MayTake, unit_deed, unit_next};
 
 use crate::broadcast::{holders, holds_asked, reach_each};
 use crate::counts::{count_after, left_after};
+use crate::forgetting::{forget_at, forget_each};
 use crate::scripts::{handed_from, open_script};
 use crate::working::{admit, leave};
 use run_capture::{List, Mem, OutOfMemory, Text};
@@ -290,6 +292,13 @@ impl Units {
         self.working.truncate(0);
     }
 
+    /// Nothing is kept of the unit of a number, if there is one, where it is over and no request waits for it.
+    pub fn forget_one(&mut self, unit: u32)
+        ensures { self.new ≡ forgotten_at unit self.old }
+    {
+        forget_at(&mut self.items, unit);
+    }
+
     /// A unit that wasn't admitted is.
     pub fn admit(&mut self, place: u32, unit: Unit) -> Mem<()>
         requires within { place < length self.old }
@@ -362,15 +371,6 @@ fn put(units: &mut Vec<Option<Unit>>, place: usize, unit: Unit)
     ensures { units.new.items ≡ slice_set units.old.items place (Some unit) }
 {
     units[place] = Some(unit);
-}
-
-// None of these is admitted any more.
-fn forget_each(units: &mut [Option<Unit>])
-    ensures { units.new ≡ map (λ _. None) units.old }
-{
-    for unit in units.iter_mut() {
-        *unit = None;
-    }
 }
 
 /// So many units, none of which was admitted.

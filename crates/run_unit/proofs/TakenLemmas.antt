@@ -1,5 +1,5 @@
 -- How a request is taken.
-use Rattle.std.proofs.Common.{ℕ, ◌≡◌, List, [], ◌∷◌, true, Some, refl}
+use Rattle.std.proofs.Common.{ℕ, ◌≡◌, List, true, Some, refl}
 use Rattle.run_events.specs.declared.request.Request.{Request}
 use Rattle.run_events.specs.declared.request.Request.TheVariants.{Shutdown, OtherCancel}
 use Rattle.run_model.specs.declared.phase.Phase.{Phase}

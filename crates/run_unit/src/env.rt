@@ -1,5 +1,6 @@
 // A script's environment file.
 ghost use Rattle.std.specs.Prelude.{◌≡◌, ◌≤◌, ◌<◌, ◌^◌, OnErr, IfOk, vec_len, vec_capacity};
+ghost use Rattle.run_model.specs.Admission.{variables_of};
 ghost use Rattle.run_model.specs.Env.{env_of};
 ghost use Rattle.run_model.specs.Environment.{attempts as attempts_of};
 ghost use Rattle.run_model.specs.Ending.{ended_with, result_with};
@@ -9,7 +10,7 @@ ghost use Rattle.run_unit.specs.Effects.{IsRow};
 use crate::effects::{UnitEffects, quiet};
 use crate::ending::{end_attempt, make_room};
 use crate::status::result_of;
-use run_capture::{Mem, OutOfMemory};
+use run_capture::{Mem, OutOfMemory, Text};
 use run_commands::{EnvInput, SetupScriptOutputError, env_outcome};
 use run_events::{ExecuteStatus, ExecutionResult, ScriptEnv};
 use run_model::UnitView;
@@ -60,5 +61,15 @@ fn result_with(env: &ScriptEnv, outcome: ExecutionResult) -> ExecutionResult
     match env {
         ScriptEnv::Fault(_) => ExecutionResult::ExecFail,
         _ => outcome,
+    }
+}
+
+/// The variables of an environment file: none where it gave none.
+pub fn variables_of(env: &ScriptEnv) -> &[(Text, Text)]
+    ensures { result.now ≡ variables_of env.now }
+{
+    match env {
+        ScriptEnv::Variables(variables) => variables.pairs(),
+        ScriptEnv::Unread | ScriptEnv::Fault(_) => &[],
     }
 }

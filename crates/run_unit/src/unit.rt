@@ -1,30 +1,32 @@
 // A unit: a setup script, or one test with its attempts.
 ghost use Rattle.std.specs.Prelude.{ℕ, ◌≡◌, ◌+◌, ◌≤◌, ◌<◌, ◌^◌, length, IfOk, OnOk, OnErr, Some, option_map, slice_get};
-ghost use Rattle.std.specs.Prelude.{true};
+ghost use Rattle.std.specs.Prelude.{true, false};
 ghost use Rattle.std.specs.List.{list_any};
 ghost use Rattle.run_clock.specs.Sleep.{IsDueFrom};
 ghost use Rattle.run_model.specs.Unit.{row, takes, is_live, reached};
-ghost use Rattle.run_model.specs.Admission.{first_view, script_view, skipped_view, start_message};
-ghost use Rattle.run_model.specs.Admission.{scripts_in, terms_at, unit_of_test};
+ghost use Rattle.run_model.specs.Admission.{first_view, script_view, skipped_view, start_message, variables_of};
+ghost use Rattle.run_model.specs.Admission.{is_last, scripts_in, terms_at, unit_of_test};
 ghost use Rattle.run_model.specs.Backoff.{retry_count};
 ghost use Rattle.run_model.specs.declared.phase.Phase.TheVariants as phases;
 ghost use Rattle.run_model.specs.declared.unit_turn.UnitTurn.TheVariants.{Take, Decide, Due};
 ghost use Rattle.run_unit.specs.Alike.{alike_of};
 ghost use Rattle.run_unit.specs.Effects.{IsRow};
+ghost use Rattle.run_unit.specs.Gone.{gone, is_spent};
 ghost use Rattle.run_unit.specs.Timely.{IsCurrent, IsTried};
 ghost use Rattle.run_model.specs.Same.{is_request};
 
 use crate::acting::{act, is_enabled};
 use crate::alike::Alike;
 use crate::effects::UnitEffects;
+use crate::env::variables_of;
 use crate::first::first_view;
 use crate::messages::start_message;
-use crate::requests::{holds, is_live};
+use crate::requests::{has_request, holds, is_live};
 use crate::script::script_view;
 use crate::timing::next_due;
-use crate::wants::{Wants, wakes_of, wants_of};
+use crate::wants::{Wants, no_wants, wakes_of, wants_of};
 use run_capture::{List, Mem, Text};
-use run_events::{Message, Request, ScriptEnv, Settings, StressIndex, TestSlotAssignment};
+use run_events::{Message, Request, Settings, StressIndex, TestSlotAssignment};
 use run_model::{Phase, UnitTurn, UnitView};
 use std::alloc::Global;
 use std::marker::Model;
@@ -32,8 +34,8 @@ use std::marker::Model;
 /// A setup script, or one test with its attempts. Contracts see it as the unit table does.
 #[derive(Drop)]
 pub struct Unit {
-    // Boxed, since it is wide and a new unit is moved often.
-    view: Box<UnitView>,
+    // Boxed, since it is wide and a new unit is moved often. None where the unit is over and was forgotten.
+    view: Option<Box<UnitView>>,
     // Before this moment it takes no turn that comes by itself, so that most often the view isn't looked at.
     wakes: u64,
 }
@@ -41,13 +43,15 @@ pub struct Unit {
 impl Model for Unit {
     ghost use Rattle.run_model.specs.declared.unit_view.UnitView.{UnitView};
     ghost use Rattle.run_unit.specs.Timely.{IsCurrent, IsQuietUntil, IsTried};
+    ghost use Rattle.std.specs.Prelude.{option_map, unwrap_or};
+    ghost use Rattle.run_unit.specs.Gone.{gone};
 
     ghost Value = { UnitView };
 
-    ghost view = { λ u. u.view.value };
+    ghost view = { λ u. unwrap_or (option_map (λ view. view.value) u.view) gone };
 
-    ghost invariant = { λ u. IsCurrent u.view.value × IsTried u.view.value
-        × IsQuietUntil u.view.value u.wakes };
+    ghost invariant = { λ u. let view = unwrap_or (option_map (λ view. view.value) u.view) gone in
+        IsCurrent view × IsTried view × IsQuietUntil view u.wakes };
 }
 
 impl Unit {
@@ -59,7 +63,10 @@ impl Unit {
     {
         let wakes = wakes_of(&view);
         let view = Box::new(alloc, view)?;
-        Ok(Unit { view, wakes })
+        Ok(Unit {
+            view: Some(view),
+            wakes,
+        })
     }
 
     /// The test at this place of the plan, admitted in this sub-run of a stress run and in this slot, where its scripts
@@ -118,8 +125,13 @@ impl Unit {
             group: None,
         };
         let mut unit = Unit::test(alloc, settings, alike, index, test, slot, List::new())?;
-        unit.view.phase = Phase::Over;
-        unit.wakes = wakes_of(&*unit.view);
+        match &mut unit.view {
+            Some(view) => {
+                view.phase = Phase::Over;
+                unit.wakes = wakes_of(&**view);
+            }
+            None => unreachable!(),
+        }
         Ok(unit)
     }
 
@@ -145,43 +157,69 @@ impl Unit {
 
     /// The message that it sends when it is admitted.
     pub fn start_message(&self, alloc: Global) -> Mem<Message>
+        requires { is_last self.now.phase ≡ false }
         ensures { IfOk result (λ m. m ≡ start_message self.now.role self.now) }
     {
-        start_message(alloc, &*self.view)
+        match &self.view {
+            Some(view) => start_message(alloc, &**view),
+            None => unreachable!(),
+        }
     }
 
     pub fn phase(&self) -> Phase
         ensures { result ≡ self.now.phase }
     {
-        self.view.phase
+        match &self.view {
+            Some(view) => view.phase,
+            None => Phase::Over,
+        }
     }
 
     /// Which attempt it is at, from 1; between two attempts the failed one.
     pub fn attempt(&self) -> u32
         ensures { result ≡ self.now.attempt }
     {
-        self.view.attempt
+        match &self.view {
+            Some(view) => view.attempt,
+            None => 1,
+        }
     }
 
-    /// What came of its environment file.
-    pub fn env(&self) -> &ScriptEnv
-        ensures { result.now ≡ self.now.env }
+    /// The variables that it handed on, with their values: none where it is no script, or gave none.
+    pub fn variables(&self) -> &[(Text, Text)]
+        ensures { result.now ≡ variables_of self.now.env }
     {
-        &self.view.env
+        match &self.view {
+            Some(view) => variables_of(&view.env),
+            None => &[],
+        }
     }
 
     /// Whether it was let go and isn't over, so that a request that is broadcast reaches it.
     pub fn is_live(&self) -> bool
         ensures { result ≡ is_live self.now.phase }
     {
-        is_live(self.view.phase)
+        is_live(self.phase())
+    }
+
+    /// Whether it is over and no request waits for it, so that it can be forgotten.
+    pub fn is_spent(&self) -> bool
+        ensures { result ≡ is_spent self.now }
+    {
+        match &self.view {
+            Some(view) => matches!(view.phase, Phase::Over) && !has_request(&view.line),
+            None => true,
+        }
     }
 
     /// Whether this request waits in its line.
     pub fn holds(&self, request: Request) -> bool
         ensures { result ≡ list_any (is_request request) self.now.line }
     {
-        holds(self.view.line.as_slice(), request)
+        match &self.view {
+            Some(view) => holds(view.line.as_slice(), request),
+            None => false,
+        }
     }
 
     /// A request comes last in its line. After want of memory the unit is unchanged.
@@ -190,7 +228,10 @@ impl Unit {
         ensures ok { OnOk result (self.new ≡ reached request self.old) }
         ensures err { OnErr result (self.new ≡ self.old) }
     {
-        self.view.line.push(alloc, request)?;
+        match &mut self.view {
+            Some(view) => view.line.push(alloc, request)?,
+            None => unreachable!(),
+        }
         self.wakes = 0;
         Ok(())
     }
@@ -200,7 +241,10 @@ impl Unit {
         requires { self.now.latest ≤ now }
         ensures { result ≡ takes now self.now turn.now }
     {
-        is_enabled(&*self.view, turn, now)
+        match &self.view {
+            Some(view) => is_enabled(&**view, turn, now),
+            None => false,
+        }
     }
 
     /// Which of the turns that come by themselves the unit takes at a moment of the run's clock, which is no earlier
@@ -212,20 +256,22 @@ impl Unit {
         ensures due { result.due ≡ takes now self.now Due }
     {
         if now < self.wakes {
-            return Wants {
-                take: false,
-                decide: false,
-                due: false,
-            };
+            return no_wants();
         }
-        wants_of(&*self.view, now)
+        match &self.view {
+            Some(view) => wants_of(&**view, now),
+            None => no_wants(),
+        }
     }
 
     /// The least moment of the run's clock at which the timer of its phase is due, none where it waits for none.
     pub fn next_due(&self) -> Option<u64>
         ensures { IsDueFrom (λ now. takes now self.now Due) result }
     {
-        next_due(&*self.view)
+        match &self.view {
+            Some(view) => next_due(&**view),
+            None => None,
+        }
     }
 
     /// Takes a turn at a moment of the run's clock, in nanoseconds: one row of the unit table. No turn is earlier than
@@ -236,17 +282,43 @@ impl Unit {
         ensures row { IfOk result (IsRow (row now turn self.old) self.new) }
         ensures err { OnErr result (self.new ≡ self.old) }
     {
-        let latest = self.view.latest;
-        self.view.latest = now;
-        match act(alloc, &mut *self.view, turn, now) {
-            Ok(effects) => {
-                self.wakes = wakes_of(&*self.view);
+        match &mut self.view {
+            Some(view) => {
+                let effects = act_at(alloc, &mut **view, turn, now)?;
+                self.wakes = wakes_of(&**view);
                 Ok(effects)
             }
-            Err(error) => {
-                self.view.latest = latest;
-                Err(error)
-            }
+            None => unreachable!(),
+        }
+    }
+
+    /// All is forgotten of a unit that is over.
+    pub fn forget(&mut self)
+        requires { is_last self.old.phase ≡ true }
+        ensures { self.new ≡ gone }
+    {
+        self.view = None;
+    }
+}
+
+// A unit takes a turn at this moment, which is its latest by then.
+fn act_at(alloc: Global, view: &mut UnitView, turn: UnitTurn, now: u64) -> Mem<UnitEffects>
+    requires enabled { takes now view.old turn ≡ true }
+    requires later { view.old.latest ≤ now }
+    requires current { IsCurrent view.old }
+    requires tried { IsTried view.old }
+    ensures row { IfOk result (IsRow (row now turn view.old) view.new) }
+    ensures current { OnOk result (IsCurrent view.new) }
+    ensures tried { OnOk result (IsTried view.new) }
+    ensures err { OnErr result (view.new ≡ view.old) }
+{
+    let latest = view.latest;
+    view.latest = now;
+    match act(alloc, view, turn, now) {
+        Ok(effects) => Ok(effects),
+        Err(error) => {
+            view.latest = latest;
+            Err(error)
         }
     }
 }

@@ -20,6 +20,19 @@ pub struct Wants {
     pub due: bool,
 }
 
+/// None of them.
+pub fn no_wants() -> Wants
+    ensures take { result.take ≡ false }
+    ensures decide { result.decide ≡ false }
+    ensures due { result.due ≡ false }
+{
+    Wants {
+        take: false,
+        decide: false,
+        due: false,
+    }
+}
+
 /// Which of them a unit takes now.
 pub fn wants_of(view: &UnitView, now: u64) -> Wants
     requires { IsTimely view.now.timers now }
@@ -39,9 +52,8 @@ pub fn wants_of(view: &UnitView, now: u64) -> Wants
             due: fires_now(&view.timers.wait, now),
         },
         phase => Wants {
-            take: false,
             decide: matches!(phase, Phase::Deciding),
-            due: false,
+            ..no_wants()
         },
     }
 }

@@ -20,6 +20,7 @@ returns-in_err-told-clause-part g c =
 pub returns-clause-takes : goal.returns-clause-takes
 returns-clause-takes g c = λ journal stands.
     let done = c.in_ok-told.ensures in
-    takes_next g.R.Reporter.told g.C.Children.asked _ c.args.settings.now c.args.state.now c.act.new.state c.args.place
-    journal c.args.turn.now c.in_ok-told.told.refused c.in_ok-told.told.refusal stands c.requires.enabled done.seated
-    done.after done.answered done.marked done.told done.asked done.faults
+    takes_next g.R.Reporter.told g.C.Children.asked _ c.args.settings.now c.args.state.now c.act.new.state.board
+    c.forget.new.state c.args.place journal c.args.turn.now c.in_ok-told.told.refused c.in_ok-told.told.refusal stands
+    c.requires.enabled (c.forget.ensures.seated done.seated) done.after c.forget.ensures.board done.answered done.marked
+    done.told done.asked done.faults

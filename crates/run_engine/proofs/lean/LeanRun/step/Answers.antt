@@ -1,5 +1,6 @@
+use Rattle.std.proofs.Common.{◌<◌, arith}
 use Rattle.run_engine.proofs.PartLemmas.{breaks_idle}
-use Rattle.run_engine.proofs.LeanLemmas.{fields_stand}
+use Rattle.run_engine.proofs.LeanLemmas.{fields_stand, refused_by}
 use Rattle.run_engine.proofs.UnkeptLemmas.{all_units, is_timely, keeps_seats}
 use Rattle.run_engine.proofs.lean.LeanRun.step.Goals as goal
 
@@ -24,3 +25,9 @@ named_if_enabled-requires-clause-timely g c =
 pub returns-in-Err-clause-part : goal.returns-in-Err-clause-part
 returns-in-Err-clause-part g c = λ e journal stands.
     breaks_idle g.R.Reporter.told g.C.Children.asked g.R.Reporter.faults c.args.report.now c.args.children.now _ _ _
+
+pub returns-in-Err-clause-refused : goal.returns-in-Err-clause-refused
+returns-in-Err-clause-refused g c =
+    let room : c.self.inside.turns < 4294967295 = omega arith in
+    refused_by c.get.result.now c.self.inside.settings c.self.inside.state c.self.inside.turns c.args.self.now
+    c.args.turn.now _ c.self.view_is c.get.ensures room c.in-Err.ensures.refused

@@ -1,4 +1,5 @@
-use Rattle.std.proofs.Common.{◌≡◌, get_or, Some, None, sym, subst, ◌∙◌, arith}
+use Rattle.std.proofs.Common.{◌≡◌, ◌<◌, ℕ, length, get_or, Option, Some, None, sym, subst, ◌∙◌, arith}
+use Rattle.run_model.specs.declared.unit_view.UnitView.{UnitView}
 use Rattle.run_state.specs.Counted.{working_in}
 use Rattle.run_state.specs.First.{phase_of}
 use Rattle.run_state.proofs.WorkingLemmas.{all_before, all_units, next_too, not_in}

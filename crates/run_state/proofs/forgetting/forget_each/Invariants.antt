@@ -1,5 +1,5 @@
 use Rattle.std.proofs.Common.{◌≡◌, ◌++◌, None, map, take, drop}
-use Rattle.run_state.proofs.units.forget_each.Given as goal
+use Rattle.run_state.proofs.forgetting.forget_each.Given as goal
 
 abbrev pub invariant-loop-unit : goal.invariant-loop-unit
 invariant-loop-unit l =
