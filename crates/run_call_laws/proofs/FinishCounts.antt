@@ -19,9 +19,8 @@ use Rattle.run_model.specs.Admission.{is_matched, is_script, matched_in, scripts
 use Rattle.run_model.specs.Words.{finishes, finishes_in}
 use Rattle.run_call_laws.specs.Counts.{finishes_told, is_to_run}
 use Rattle.run_call_laws.specs.Numbers.{HasNumber, script_number_in, test_number_in}
-use Rattle.run_call_laws.specs.Success.{finishes_test, finishes_test_in}
+use Rattle.run_call_laws.specs.Success.{finishes_script, finishes_script_in, finishes_test, finishes_test_in}
 use Rattle.run_call_laws.proofs.RangeLemmas.{sum-none, sum-one, sum-plus, sum-same, sum_from}
-use Rattle.run_call_laws.proofs.WeighLemmas.{finishes_script, finishes_script_in}
 
 -- one event is the finish of one unit, or of none
 kind_tests : (p : Settings) (kind : TestEventKind) → IfSome (script_number_in kind) (λ k. k < scripts_in p)

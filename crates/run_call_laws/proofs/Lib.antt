@@ -14,5 +14,6 @@ mod AnyLemmas
 mod SummaryLemmas
 mod ScriptLemmas
 mod SuccessLemmas
+mod EndingLemmas
 mod EndLemmas
 mod SubRunLemmas

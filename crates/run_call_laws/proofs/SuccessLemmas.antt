@@ -23,7 +23,7 @@ use Rattle.run_call_laws.specs.Counts.{AreToldJustOnce, IsToldAtMostOnce, finish
 use Rattle.run_call_laws.specs.Numbers.{HasNumber}
 use Rattle.run_call_laws.specs.Stops.{AreCausesTold, tells_cancel}
 use Rattle.run_call_laws.specs.Success.{EndsAsTold, HaveAllPassed, IsRunSuccess, IsSuccessOfAll, finishes_test}
-use Rattle.run_call_laws.specs.Success.{fails_script, fails_test, outcome_uncancelled}
+use Rattle.run_call_laws.specs.Success.{fails_script, fails_test, finishes_script, outcome_uncancelled}
 use Rattle.run_call_laws.proofs.AnyLemmas.{any-count, any_none, any_some, count_none, count_some}
 use Rattle.run_call_laws.proofs.CountLemmas.{at_most, each_once}
 use Rattle.run_call_laws.proofs.FinishCounts.{scripts_finished, scripts_to_run, tests_finished, tests_to_run}
@@ -34,19 +34,19 @@ use Rattle.run_call_laws.proofs.ScriptLemmas.{PassesScripts, no_script_fails}
 use Rattle.run_call_laws.proofs.SummaryLemmas.{IsGood, good_by, outcome_by, success_by, summary-calm}
 use Rattle.run_call_laws.proofs.ToldLemmas.{both_each, causes_told, each_ended, each_newest}
 use Rattle.run_call_laws.proofs.WholeLemmas.{one_run}
-use Rattle.run_call_laws.proofs.WeighLemmas.{AddUp, finishes_script, events_add}
+use Rattle.run_call_laws.proofs.WeighLemmas.{AddUp, events_add}
 
 -- the counts of the statistics, by what was told
-record IsCounted (p : Settings) (s : RunStats) (events : List ReporterEvent) : Type 0 where
-  bad : s.failed + s.exec_failed + s.failed_timed_out ≡ count_by fails_test events
-  scripts_bad : s.setup_scripts_failed + s.setup_scripts_exec_failed + s.setup_scripts_timed_out
+pub record IsCounted (p : Settings) (s : RunStats) (events : List ReporterEvent) : Type 0 where
+  pub bad : s.failed + s.exec_failed + s.failed_timed_out ≡ count_by fails_test events
+  pub scripts_bad : s.setup_scripts_failed + s.setup_scripts_exec_failed + s.setup_scripts_timed_out
       ≡ count_by fails_script events
-  scripts : s.setup_scripts_finished_count ≡ count_by finishes_script events
-  tests : s.finished_count ≡ count_by finishes_test events
-  scripts_initial : s.setup_scripts_initial_count ≡ scripts_in p
-  initial : s.initial_run_count ≡ matched_in p
+  pub scripts : s.setup_scripts_finished_count ≡ count_by finishes_script events
+  pub tests : s.finished_count ≡ count_by finishes_test events
+  pub scripts_initial : s.setup_scripts_initial_count ≡ scripts_in p
+  pub initial : s.initial_run_count ≡ matched_in p
 
-counted : (p : Settings) (why : Option CancelReason) (skipped : ℕ) (events : List ReporterEvent)
+pub counted : (p : Settings) (why : Option CancelReason) (skipped : ℕ) (events : List ReporterEvent)
     → IsCounted p (stats_after p why skipped (filter_map finish_of events)) events
 unfolding total_by
 counted p why skipped events =
@@ -61,7 +61,7 @@ counted p why skipped events =
       initial = omega (arith, h.initial);
     }
 
-reason_is : (p : Settings) (run : List Happening) → (stats p run).cancel_reason ≡ reason run
+pub reason_is : (p : Settings) (run : List Happening) → (stats p run).cancel_reason ≡ reason run
 unfolding total_by
 reason_is p run = refl
 

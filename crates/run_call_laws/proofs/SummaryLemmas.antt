@@ -21,7 +21,7 @@ pub record IsGood (s : RunStats) : Type 0 where
   pub some : 0 < s.finished_count
 
 -- the summary by its tests
-abbrev summed : Bool → Bool → Bool → Bool → Bool → Option CancelReason → FinalRunStats
+abbrev pub summed : Bool → Bool → Bool → Bool → Bool → Option CancelReason → FinalRunStats
 summed script unfinished failed left none why =
     if script then ended_at steps.SetupScript why
     else if unfinished then finals.Cancelled why steps.SetupScript
@@ -131,14 +131,14 @@ summed-calm false true e = refl
 summed-calm false false true = refl
 summed-calm false false false = refl
 
-least-some : (n : ℕ) → nat_lt 0 (min n (2 ^ 64 - 1)) ≡ nat_lt 0 n
+pub least-some : (n : ℕ) → nat_lt 0 (min n (2 ^ 64 - 1)) ≡ nat_lt 0 n
 least-some zero = refl
 least-some (suc n) = above_is (min (suc n) (2 ^ 64 - 1)) (omega arith) ∙ sym (above_is (suc n) (omega arith))
   where
     above_is : (m : ℕ) → 0 < m → nat_lt 0 m ≡ true
     above_is m h = grind (arith, nat_tests)
 
-not-none : (n : ℕ) → not (n == 0) ≡ nat_lt 0 n
+pub not-none : (n : ℕ) → not (n == 0) ≡ nat_lt 0 n
 not-none zero = refl
 not-none (suc n) = ap not (some_is (suc n) (omega arith)) ∙ sym (above_is (suc n) (omega arith))
   where

@@ -22,16 +22,7 @@ use Rattle.run_events.specs.declared.result.SlowTimeoutResult.TheVariants as tim
 use Rattle.run_events.specs.declared.stats.RunStats.{RunStats}
 use Rattle.run_model.specs.Words.{FinishedUnit, a_script, a_test, adds_by, finish_in, finish_of, finished_test}
 use Rattle.run_call_laws.specs.Success.{finishes_test, finishes_test_in, fails_script, fails_script_in, fails_test}
-use Rattle.run_call_laws.specs.Success.{fails_test_in, is_failure, is_strict}
-
--- whether an event tells the finish of a script
-abbrev pub finishes_script_in : TestEventKind → Bool
-finishes_script_in (SetupScriptFinished event) = true
-finishes_script_in _ = false
-
-abbrev pub finishes_script : ReporterEvent → Bool
-finishes_script (Test event) = finishes_script_in event.kind
-finishes_script _ = false
+use Rattle.run_call_laws.specs.Success.{fails_test_in, finishes_script, finishes_script_in, is_failure, is_strict}
 
 -- statistics that count so many finished tests and scripts, and so many that failed
 record Weigh (a : RunStats) (m n f g : ℕ) : Type 0 where

@@ -4,4 +4,5 @@ pub mod Stops
 pub mod Counts
 pub mod Outcomes
 pub mod Success
+pub mod Endings
 pub mod SubRunEnds

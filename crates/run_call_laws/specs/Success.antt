@@ -56,7 +56,15 @@ abbrev pub fails_test : ReporterEvent → Bool
 fails_test (Test event) = fails_test_in event.kind
 fails_test _ = false
 
--- whether an event tells the finish of a test
+-- whether an event tells the finish of a script, and whether that of a test
+abbrev pub finishes_script_in : TestEventKind → Bool
+finishes_script_in (SetupScriptFinished event) = true
+finishes_script_in _ = false
+
+abbrev pub finishes_script : ReporterEvent → Bool
+finishes_script (Test event) = finishes_script_in event.kind
+finishes_script _ = false
+
 abbrev pub finishes_test_in : TestEventKind → Bool
 finishes_test_in (TestFinished event) = true
 finishes_test_in _ = false

@@ -1,5 +1,6 @@
 // Theorems on what is told by the calls, over every legal journal.
 ghost use Rattle.run_call_laws.specs.Counts.{EachByItsFate, EachOnce, EachOnceAtMost, OneJustOnce};
+ghost use Rattle.run_call_laws.specs.Endings.{RunsEndSo, SubRunsEndSo};
 ghost use Rattle.run_call_laws.specs.Numbers.{EventsAreNumbered, NoScriptIsTold};
 ghost use Rattle.run_call_laws.specs.Outcomes.{OneOutcomeIsTold, OutcomesAreTold};
 ghost use Rattle.run_call_laws.specs.Stops.{CausesAreTold, NothingStops};
@@ -85,4 +86,14 @@ pub fn an_uncancelled_run_ends_as_told()
     ensures scripts { FailedScriptsCancel }
     ensures each { UncancelledOutcomes }
     ensures one { OneUncancelledOutcome }
+{}
+
+/// Each sub-run of a legal journal that has ended has the outcome that its events give, the first that holds: it failed at
+/// its scripts where one was told to fail, was cancelled there where not each was told finished, failed at its tests
+/// where one was told to fail, was cancelled there where not each that matches was told finished, is a success where some
+/// test was told finished, and else no test ran. It is said to be cancelled where it failed, too, where the latest event
+/// that told so had a reason above the failure of a test. So ends a run that is over, and no stress run.
+pub fn runs_end_as_told()
+    ensures each { SubRunsEndSo }
+    ensures one { RunsEndSo }
 {}
