@@ -131,10 +131,10 @@ all_least p f now run place global slot test first c = record { free = free; bel
             )
 
 -- two groups that stand at one place have one name
-nameless : Group
+pub nameless : Group
 nameless = record { name = []; limit = 0 }
 
-same_name : (groups : List Group) (a b : List ℕ) (g : ℕ) → group_of groups a ≡ Some g → group_of groups b ≡ Some g
+pub same_name : (groups : List Group) (a b : List ℕ) (g : ℕ) → group_of groups a ≡ Some g → group_of groups b ≡ Some g
     → a ≡ b
 same_name groups a b g first second =
     let one = position-Some (λ (g : Group). pointwise nat_eq g.name a) groups g nameless first in

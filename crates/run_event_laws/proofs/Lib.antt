@@ -20,3 +20,6 @@ mod Places
 mod HeldSlots
 mod LeastSlots
 mod SlotRule
+mod NextTest
+mod GroupRoom
+mod TestOrder

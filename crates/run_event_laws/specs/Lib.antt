@@ -1,3 +1,4 @@
 pub mod Names
+pub mod Order
 pub mod Retries
 pub mod Slots

@@ -1,5 +1,6 @@
 // Theorems over every legal journal: what events say of the plan.
 ghost use Rattle.run_event_laws.specs.Names.{EventsNameThePlan, FinishesSayFlaky, SlowReportsSayAttempts};
+ghost use Rattle.run_event_laws.specs.Order.{TestsComeInOrder};
 ghost use Rattle.run_event_laws.specs.Retries.{RetriesNumbered, RetriesToldFew, RetriesToldInOrder};
 ghost use Rattle.run_event_laws.specs.Slots.{SlotsAreLeast, StartsInSlots};
 
@@ -47,4 +48,12 @@ pub fn retries_are_numbered_in_accounts()
 pub fn slots_are_of_the_rule()
     ensures least { SlotsAreLeast }
     ensures told { StartsInSlots }
+{}
+
+/// Each turn of a legal journal that admits a test admits the one that comes first of those that were not admitted in
+/// the sub-run before and are not held back: of the greatest priority, and of those that have it the first in the plan.
+/// A test is held back exactly where it isn't skipped, and its weight, cut to the limit of the group that it names,
+/// passes that limit together with the weights of the tests of that group that hold slots.
+pub fn tests_come_in_order()
+    ensures { TestsComeInOrder }
 {}
