@@ -13,9 +13,9 @@ use run_model::SubRuns;
 use std::marker::Model;
 
 /// What a stress run does after a sub-run.
-#[derive(Clone, Copy, Debug, Drop)]
+#[derive(Clone, Copy, Debug, PartialEq, Eq, Drop)]
 pub enum StressLoopAction {
-    /// A further sub-run begins, this far in the run.
+    /// A further sub-run begins, this far in the run, unless as many have ended as a `u32` counts.
     Continue { next_progress: StressProgress },
     Stop,
 }
@@ -108,8 +108,8 @@ pub fn none_ended() -> SubRuns
     }
 }
 
-/// Whether a sub-run with this summary was cancelled.
-pub fn is_cancelled(last: FinalRunStats) -> bool
+// Whether a sub-run with this summary was cancelled.
+fn is_cancelled(last: FinalRunStats) -> bool
     ensures { result ≡ is_cancelled last }
 {
     matches!(last, FinalRunStats::Cancelled { .. })

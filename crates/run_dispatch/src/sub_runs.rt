@@ -12,7 +12,7 @@ ghost use Rattle.run_dispatch.specs.Deeds.{Acts};
 ghost use Rattle.run_dispatch.specs.Stress.{CanCount};
 
 use crate::effects::{Fx, event_at, one_event, telling};
-use crate::stress::{is_cancelled, progress_at, stress_stats, with_summary};
+use crate::stress::{StressLoopAction, progress_at, stress_stats, with_summary};
 use run_capture::{Duplicate, List, Mem};
 use run_clock::{PausableSleep, StopwatchStart};
 use run_commands::StressCondition;
@@ -171,10 +171,11 @@ fn stops_with(view: &DispatcherView, condition: &StressCondition, now: u64) -> b
     let elapsed = view.watch.snapshot(now).active;
     let ended = view.sub_runs.ended + 1;
     let next = progress_at(condition, ended, elapsed);
-    view.tally.stats.cancel_reason.is_some()
-        || is_cancelled(view.tally.stats.summarize_final())
-        || next.remaining().is_none()
-        || ended == u32::MAX
+    let stats = &view.tally.stats;
+    match StressLoopAction::after_sub_run(stats.summarize_final(), stats.cancel_reason, next) {
+        StressLoopAction::Stop => true,
+        StressLoopAction::Continue { .. } => ended == u32::MAX,
+    }
 }
 
 // The statistics that are told at the end of a stress run.

@@ -5,6 +5,7 @@ ghost use Rattle.run_events.specs.declared.plan.TestInstanceId.{TestInstanceId};
 ghost use Rattle.run_value_laws.specs.Values.{IsSameness, IsOrderBy, TellsApart, kind_number, test_cmp};
 
 use run_commands::{PlatformRunner, PlatformRunnerSource, StressCount, TargetRunner};
+use run_dispatch::StressLoopAction;
 use run_events::{
     CancelReason, InputHandlerKind, SignalHandlerKind, StressProgress, TestInstanceId,
 };
@@ -19,6 +20,7 @@ pub fn equal_values_are_the_same()
     ensures test_id { IsSameness ⟦<TestInstanceId as PartialEq>⟧.eq }
     ensures stress_count { IsSameness ⟦<StressCount as PartialEq>⟧.eq }
     ensures stress_progress { IsSameness ⟦<StressProgress as PartialEq>⟧.eq }
+    ensures stress_action { IsSameness ⟦<StressLoopAction as PartialEq>⟧.eq }
     ensures runner_source { IsSameness ⟦<PlatformRunnerSource as PartialEq>⟧.eq }
     ensures runner { IsSameness ⟦<PlatformRunner as PartialEq>⟧.eq }
     ensures runners { IsSameness ⟦<TargetRunner as PartialEq>⟧.eq }

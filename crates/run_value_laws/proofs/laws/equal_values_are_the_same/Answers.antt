@@ -1,9 +1,10 @@
-use Rattle.std.proofs.Common.{rules, ◌<◌}
+use Rattle.std.proofs.Common.{rules, ◌<◌, ap}
 use Rattle.std.proofs.Math.Bridge.{le_prop}
 use mathlib.Core.HLevel.{is_prop→PathP}
 use Rattle.run_commands.specs.declared.stress_count.StressCount.TheVariants as counts
 use Rattle.run_commands.specs.TargetRunner.{runner_with, runners_with}
 use Rattle.run_events.specs.declared.stress.StressProgress.TheVariants as progress
+use Rattle.run_dispatch.specs.declared.stress.StressLoopAction.TheVariants as actions
 use Rattle.run_value_laws.proofs.Sameness.{both, options, numbers, texts, lists_of_texts}
 use Rattle.run_value_laws.proofs.laws.equal_values_are_the_same.Goals as goal
 
@@ -25,6 +26,13 @@ returns-clause-stress_progress c (progress.Count t e n) (progress.Count u f m) =
 returns-clause-stress_progress c (progress.Count t e n) (progress.Time u f m) = search rules
 returns-clause-stress_progress c (progress.Time t e n) (progress.Count u f m) = search rules
 returns-clause-stress_progress c (progress.Time t e n) (progress.Time u f m) = search rules
+
+pub returns-clause-stress_action : goal.returns-clause-stress_action
+returns-clause-stress_action c (actions.Continue a) (actions.Continue b) =
+    let next = returns-clause-stress_progress c a b in (λ e. ap actions.Continue (next.0 e), λ e. next.1 cc)
+returns-clause-stress_action c (actions.Continue a) actions.Stop = search rules
+returns-clause-stress_action c actions.Stop (actions.Continue b) = search rules
+returns-clause-stress_action c actions.Stop actions.Stop = search rules
 
 pub returns-clause-runner_source : goal.returns-clause-runner_source
 returns-clause-runner_source c = search rules
