@@ -2,6 +2,7 @@
 use Rattle.std.proofs.Common.{◌≡◌, ℕ, ◌&&◌, List, [], ◌∷◌, ◌++◌, length, map, zip, reverse}
 use Rattle.std.proofs.Common.{Bool, true, false, not, Option, Some, None, is_none, is_some, Ok, Err}
 use Rattle.std.proofs.Common.{refl, ap, sym, ◌∙◌, arith}
+use Rattle.std.specs.Prelude.{IfSome, IsSomeAnd}
 use Rattle.std.specs.Option.{IsNone}
 use Rattle.std.specs.List.{list_all}
 use Rattle.std.proofs.lemmas.List.{append-nil, map-append, reverse-append, reverse-reverse}
@@ -28,7 +29,7 @@ use Rattle.run_cli.specs.Executed.{IsExecuted}
 use Rattle.run_shared.specs.Closed.{IsLeft}
 use Rattle.run_drive.specs.declared.spawner.Heard.{Heard}
 use Rattle.run_live.specs.declared.lived.Lived.{Lived}
-use Rattle.run_cli.specs.Live.{IsClosed}
+use Rattle.run_cli.specs.Live.{IsClosed, IsUnclosed}
 use Rattle.run_cli.specs.Lived.{IsOver, IsLeftOver}
 use Rattle.run_cli.proofs.ToldLines.{first_refused, executed_whole}
 
@@ -129,6 +130,18 @@ closed_from said tells p l x none = record {
   own = x.own;
   count = x.count;
 }
+
+both_some : {E : Type 0} (P Q : E → Type 0) (error : Option E) → IfSome error P → IfSome error Q
+    → is_some error ≡ true → IsSomeAnd error (λ e. P e × Q e)
+both_some P Q None p q some = cc
+both_some P Q (Some e) p q some = (p, q)
+
+-- and where they are refused
+pub unclosed_from : {W R : Type 0} (said : W → List Heard → Type 0)
+    (tells : R → List (ReporterEvent × Option Failed) → Type 0) (p : Settings) (l : Lived W R)
+    → IsLeftOver said tells p l → is_some l.live.error ≡ true → IsUnclosed said p l.live
+unclosed_from said tells p l x some =
+    record { why = both_some _ _ l.live.error x.refused x.kind some; own = x.own; count = x.count }
 
 -- and where it is over, with what its reporter has told
 pub over_from : {R : Type 0} (tells : R → List (ReporterEvent × Option Failed) → Type 0) (p : Settings) (w : Writing)

@@ -1,5 +1,5 @@
 -- What `live` says: of the plan that it reads, of the run that its workers make, and of what it writes.
-use Rattle.std.specs.Prelude.{ℕ, ◌≡◌, ◌⊎◌, ◌≤◌, ◌<◌, List, [], length, min, max, Option, Some, None, IsSomeAnd}
+use Rattle.std.specs.Prelude.{ℕ, ◌≡◌, ◌≢◌, ◌⊎◌, ◌≤◌, ◌<◌, List, [], length, min, max, Option, Some, None, IsSomeAnd}
 use Rattle.std.specs.Prelude.{false, Ok, Err, IsNone}
 use Rattle.std.specs.List.{All}
 use Rattle.run_input.specs.declared.plan_line.RunnerKeys.{RunnerKeys}
@@ -19,6 +19,7 @@ use Rattle.run_output.specs.declared.fault.Fault.TheVariants.{Unfinished, Report
 use Rattle.run_output.specs.declared.fault.PlanFault.{PlanFault}
 use Rattle.run_shared.specs.Receipts.{concatenated, receipt_numbers, times, StandsIn}
 use Rattle.run_shared.specs.Closed.{Refuses}
+use Rattle.run_shared.specs.declared.closing.CloseKind.TheVariants.{OutOfMemory}
 use Rattle.run_drive.specs.declared.spawner.Heard.{Heard}
 use Rattle.run_live.specs.Own.{IsLive}
 use Rattle.run_live.specs.declared.lived.Live.{Live}
@@ -60,8 +61,14 @@ pub record IsClosed {W : Type 0} (has_said : W → List Heard → Type 0) (p : S
   pub own : IsLive has_said l.workers.items l.receipts
   pub count : length l.workers.items ≡ workers_in p
 
+-- the receipts of a run are refused, and why: never for want of memory
+pub record IsUnclosed {W : Type 0} (has_said : W → List Heard → Type 0) (p : Settings) (l : Live W) : Type 0 where
+  pub why : IsSomeAnd l.error (λ e. Refuses p l.journal (concatenated l.receipts) e.kind × (e.kind ≢ OutOfMemory))
+  pub own : IsLive has_said l.workers.items l.receipts
+  pub count : length l.workers.items ≡ workers_in p
+
 -- how a run of real children ends, by what is handed back of it and what the sink took. With an outcome or status 9 it
--- is over; with status 8 its journal is full and it isn't; with status 13 its receipts are refused, and why
+-- is over; with status 8 its journal is full and it isn't; with status 13 its receipts are refused
 abbrev pub IsRunEnd : {W : Type 0} → (W → List Heard → Type 0) → Settings → Writing → Option (Live W) → LiveEnding
     → Type 0
 IsRunEnd said p w live (ends.Outcome o) = IsSomeAnd live (λ l. IsClosed said p l × IsFinished p l.journal o
@@ -73,8 +80,7 @@ IsRunEnd said p w live (ends.Fault Report) = IsSomeAnd live (λ l. IsClosed said
     × HasWriteFault w
 IsRunEnd said p w live (ends.Fault Unfinished) = IsSomeAnd live (λ l. IsClosed said p l
     × (length l.journal ≡ 4294967295) × (is_over (past_of p l.journal) ≡ false))
-IsRunEnd said p w live ends.Receipt = IsSomeAnd live (λ l.
-    IsSomeAnd l.error (λ e. Refuses p l.journal (concatenated l.receipts) e.kind))
+IsRunEnd said p w live ends.Receipt = IsSomeAnd live (IsUnclosed said p)
 IsRunEnd said p w live (ends.Fault Memory) = live ≡ None
 IsRunEnd said p w live (ends.Fault _) = ⊥
 

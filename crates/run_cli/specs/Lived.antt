@@ -1,5 +1,5 @@
 -- What is left of a run whose workers have ended, before its last lines are written.
-use Rattle.std.specs.Prelude.{ℕ, ◌≡◌, ◌⊎◌, ◌<◌, List, map, length, Bool, true, false}
+use Rattle.std.specs.Prelude.{ℕ, ◌≡◌, ◌≢◌, ◌⊎◌, ◌<◌, List, map, length, Bool, true, false}
 use Rattle.std.specs.Prelude.{Option, Some, None, Result, Ok, Err}
 use Rattle.run_capture.specs.declared.source.Failed.{Failed}
 use Rattle.run_events.specs.declared.settings.Settings.{Settings}
@@ -22,6 +22,7 @@ use Rattle.std.specs.Option.{IsNone, IfSome}
 use Rattle.std.specs.List.{All}
 use Rattle.run_shared.specs.Receipts.{concatenated, receipt_numbers, times, StandsIn}
 use Rattle.run_shared.specs.Closed.{IsLeft, Refuses}
+use Rattle.run_shared.specs.declared.closing.CloseKind.TheVariants.{OutOfMemory}
 use Rattle.run_drive.specs.declared.spawner.Heard.{Heard}
 use Rattle.run_live.specs.Own.{IsLive}
 use Rattle.run_cli.specs.Call.{Writing, Writes}
@@ -60,6 +61,7 @@ pub record IsLeftOver {W R : Type 0} (has_said : W → List Heard → Type 0)
   pub once : IsNone l.live.error → (k : ℕ) → k < length l.live.journal
       → times k (receipt_numbers (concatenated l.live.receipts)) ≡ 1
   pub refused : IfSome l.live.error (λ e. Refuses p l.live.journal (concatenated l.live.receipts) e.kind)
+  pub kind : IfSome l.live.error (λ e. e.kind ≢ OutOfMemory)
   pub own : IsLive has_said l.live.workers.items l.live.receipts
 
 -- the line of a fault was written, where the sink failed a front part of it, unless memory was wanting

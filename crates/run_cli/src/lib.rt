@@ -19,7 +19,7 @@ mod write;
 
 pub use live::LiveEnding;
 pub use plan_line::{read_plan_line, runner_of};
-// The rest of the given surface stands in the crates below.
+// What a caller of `run` names besides, of the crates below.
 pub use run_capture::{StdSink, StdSource};
 pub use run_drive::{
     Begun, Host, MemoryHost, MemorySpawner, MemoryTicker, Said, Spawner, Ticker, drive,

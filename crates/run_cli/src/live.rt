@@ -1,13 +1,12 @@
 // The command `live`: the run of a plan by workers, and its last lines.
-ghost use Rattle.std.specs.Prelude.{◌≡◌, ℕ, length, None, Some};
+ghost use Rattle.std.specs.Prelude.{◌≡◌, ℕ, length, None};
 ghost use Rattle.run_events.specs.declared.settings.Settings.{Settings};
 ghost use Rattle.run_model.specs.Journal.{past_of, outcome};
 ghost use Rattle.run_cli.specs.Call.{Writing, writing_of, then_writing};
-ghost use Rattle.run_cli.specs.Live.{IsClosed, IsRunEnd, live_status, workers_in};
+ghost use Rattle.run_cli.specs.Live.{IsClosed, IsUnclosed, IsRunEnd, live_status, workers_in};
 ghost use Rattle.run_cli.specs.Finish.{EndsAtFault, EndsAtOutcome};
 ghost use Rattle.run_output.specs.Asks.{ask_lines};
 ghost use Rattle.run_cli.specs.Lived.{IsOver, IsLeftOver, IsFaultEnd, EndsOver, IsOpenFault, ending_of, kept_by};
-ghost use Rattle.run_cli.specs.declared.live.LiveEnding.TheVariants as ends;
 
 use crate::ended::{Ended, end_at_fault, end_at_outcome, end_without_memory, status_of_outcome};
 use crate::receipts::write_receipt;
@@ -197,8 +196,8 @@ fn end_refused<K: Sink, W: Spawner + Drop>(
     asks: AskList,
     live: Live<W>,
 ) -> LiveEnded<K, W>
-    ensures ending { result.ending ≡ ends.Receipt }
-    ensures live { result.live ≡ Some live }
+    ensures { (p : Settings) (w : Writing) → IsUnclosed W.has_said p live
+        → IsRunEnd W.has_said p w result.live result.ending }
 {
     drop(asks);
     let mut sink = sink;

@@ -1,16 +1,22 @@
 -- What each thread leaves.
-use Rattle.std.specs.Prelude.{ℕ, ◌≡◌, ◌+◌, ◌<◌, List, length, slice_index_or, Option}
+use Rattle.std.specs.Prelude.{ℕ, ◌≡◌, ◌+◌, ◌<◌, List, [], length, slice_index_or, Option}
 use Rattle.std.specs.Option.{IfSome}
 use Rattle.std.specs.List.{All}
 use Rattle.run_shared.specs.declared.shared.Receipt.{Receipt}
 use Rattle.run_shared.specs.Receipts.{concatenated}
 use Rattle.run_drive.specs.declared.spawner.Heard.{Heard}
 use Rattle.run_drive.specs.Driven.{OfTicker}
+use Rattle.run_live.specs.declared.jobs.Job.{Job}
+use Rattle.run_live.specs.declared.worker_thread.Done.{Done}
 use Rattle.run_live.specs.Own.{IsOwn, IsLive}
 
 -- a share of one part that has counted nothing
 abbrev pub IsOneEmpty : ℕ → ℕ → Type 0
 IsOneEmpty parts amount = (parts ≡ 1) × (amount ≡ 0)
+
+-- a job begins so: with a spawner that has said nothing, and such a share
+abbrev pub IsFresh : {L W : Type 0} → (W → List Heard → Type 0) → Job L W → Type 0
+IsFresh has_said job = has_said job.worker [] × IsOneEmpty job.share.parts job.share.amount
 
 -- a share of one part that has counted these receipts of the ticker
 abbrev pub IsWound : ℕ → ℕ → List Receipt → Type 0
@@ -22,6 +28,10 @@ pub record IsWork {W : Type 0} (has_said : W → List Heard → Type 0) (w : W) 
   pub part : parts ≡ 1
   pub rose : IfSome receipts (λ rs. amount ≡ length rs)
   pub own : IfSome receipts (λ rs. IsOwn has_said w rs)
+
+-- that of a worker that is done
+abbrev pub HasWorked : {L W : Type 0} → (W → List Heard → Type 0) → Done L W → Type 0
+HasWorked has_said done = IsWork has_said done.worker done.share.parts done.share.amount done.receipts
 
 -- the same of the ticker's thread
 pub record IsTicked (parts amount : ℕ) (receipts : Option (List Receipt)) : Type 0 where

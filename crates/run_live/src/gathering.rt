@@ -2,7 +2,7 @@
 ghost use Rattle.std.specs.Prelude.{◌≡◌, ◌+◌, IfOk, OnOk, IfSome, length};
 ghost use Rattle.std.specs.List.{All, sum_by};
 ghost use Rattle.run_live.specs.Own.{IsOwn};
-ghost use Rattle.run_live.specs.Work.{IsWork, IsTicked, IsGathered, IsWholeWork};
+ghost use Rattle.run_live.specs.Work.{HasWorked, IsGathered, IsTicked, IsWholeWork};
 ghost use Rattle.run_drive.specs.Driven.{OfTicker};
 
 use crate::both::push_each;
@@ -26,7 +26,7 @@ pub(crate) struct Gathered<L: Ledger, W> {
 fn take_apart<W: Spawner + Drop, L: Ledger>(
     done: Done<L, W>,
 ) -> Option<(W, Share<L>, List<Receipt>)>
-    requires { IsWork W.has_said done.worker done.share.parts done.share.amount done.receipts }
+    requires { HasWorked W.has_said done }
     ensures part { IfSome result (λ t. t.1.parts ≡ 1) }
     ensures rose { IfSome result (λ t. t.1.amount ≡ length t.2) }
     ensures own { IfSome result (λ t. IsOwn W.has_said t.0 t.2) }
@@ -50,7 +50,7 @@ fn add<W: Spawner + Drop, L: Ledger>(
 ) -> Mem<()>
     requires gathered { IsGathered W.has_said all.old.workers.items all.old.receipts
         (sum_by (λ (s : Share L). s.parts) all.old.shares.items) (sum_by (λ (s : Share L). s.amount) all.old.shares.items) }
-    requires done { IsWork W.has_said done.worker done.share.parts done.share.amount done.receipts }
+    requires done { HasWorked W.has_said done }
     ensures gathered { OnOk result (IsGathered W.has_said all.new.workers.items all.new.receipts
         (sum_by (λ (s : Share L). s.parts) all.new.shares.items) (sum_by (λ (s : Share L). s.amount) all.new.shares.items)) }
     ensures one_more { OnOk result (length all.new.workers.items ≡ length all.old.workers.items + 1) }
@@ -83,7 +83,7 @@ fn nobody<W: Spawner + Drop, L: Ledger>(alloc: Global) -> Gathered<L, W>
 
 // What all workers leave.
 fn gather<W: Spawner + Drop, L: Ledger>(alloc: Global, done: Vec<Done<L, W>>) -> Mem<Gathered<L, W>>
-    requires { All (λ (d : Done L W). IsWork W.has_said d.worker d.share.parts d.share.amount d.receipts) done.items }
+    requires { All (HasWorked W.has_said) done.items }
     ensures gathered { IfOk result (λ g. IsGathered W.has_said g.workers.items g.receipts
         (sum_by (λ (s : Share L). s.parts) g.shares.items) (sum_by (λ (s : Share L). s.amount) g.shares.items)) }
     ensures count { IfOk result (λ g. length g.workers.items ≡ length done.items) }
@@ -123,7 +123,7 @@ pub(crate) fn gather_all<W: Spawner + Drop, L: Ledger>(
     done: Vec<Done<L, W>>,
     ticked: Ticked<L>,
 ) -> Mem<Gathered<L, W>>
-    requires done { All (λ (d : Done L W). IsWork W.has_said d.worker d.share.parts d.share.amount d.receipts) done.items }
+    requires done { All (HasWorked W.has_said) done.items }
     requires ticked { IsTicked ticked.share.parts ticked.share.amount ticked.receipts }
     ensures whole { IfOk result (λ g. IsWholeWork W.has_said g.workers.items g.receipts
         (sum_by (λ (s : Share L). s.parts) g.shares.items) (sum_by (λ (s : Share L). s.amount) g.shares.items)) }

@@ -1,7 +1,7 @@
 // What each thread begins with.
 ghost use Rattle.std.specs.Prelude.{◌≡◌, [], IfOk, vec_len};
 ghost use Rattle.std.specs.List.{All};
-ghost use Rattle.run_live.specs.Work.{IsOneEmpty};
+ghost use Rattle.run_live.specs.Work.{IsOneEmpty, IsFresh};
 
 use run_capture::{List, Mem, OutOfMemory};
 use run_drive::Host;
@@ -34,7 +34,7 @@ pub(crate) fn make_jobs<H: Host, L: Ledger>(
 ) -> Mem<Vec<Job<L, H::Worker>>>
     requires { All (λ (s : Share L). IsOneEmpty s.parts s.amount) shares.items }
     ensures count { IfOk result (λ jobs. vec_len jobs ≡ vec_len shares) }
-    ensures each { IfOk result (λ jobs. All (λ (j : Job L H.Worker). H.Worker.has_said j.worker [] × IsOneEmpty j.share.parts j.share.amount) jobs.items) }
+    ensures each { IfOk result (λ jobs. All (IsFresh H.Worker.has_said) jobs.items) }
 {
     let Ok(mut jobs) = Vec::with_capacity(alloc, shares.len()) else {
         drop(shares);

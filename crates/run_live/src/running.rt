@@ -4,7 +4,7 @@ ghost use Rattle.std.specs.List.{All, sum_by};
 ghost use Rattle.run_shared.specs.Receipts.{concatenated, receipt_numbers, times, StandsIn};
 ghost use Rattle.run_shared.specs.Closed.{IsLeft, Refuses};
 ghost use Rattle.run_live.specs.Own.{IsLive};
-ghost use Rattle.run_live.specs.Work.{IsOneEmpty, IsWound, IsWholeWork};
+ghost use Rattle.run_live.specs.Work.{IsOneEmpty, IsFresh, IsWholeWork, IsWound};
 
 use crate::both::both;
 use crate::ending::{finish, report_of};
@@ -36,7 +36,7 @@ fn make_all<H: Host, L: Ledger, R: Reporter>(
     requires each { All (λ (s : Share L). IsOneEmpty s.parts s.amount) shares.items }
     requires share { IsOneEmpty share.parts share.amount }
     ensures count { IfOk result (λ r. length r.0.items ≡ length shares.items) }
-    ensures jobs { IfOk result (λ r. All (λ (j : Job L H.Worker). H.Worker.has_said j.worker [] × IsOneEmpty j.share.parts j.share.amount) r.0.items) }
+    ensures jobs { IfOk result (λ r. All (IsFresh H.Worker.has_said) r.0.items) }
     ensures clock { IfOk result (λ r. IsWound r.1.share.parts r.1.share.amount r.1.first) }
 {
     let jobs = make_jobs(alloc, host, shares);
@@ -61,7 +61,7 @@ fn run_jobs<
 ) -> Mem<Gathered<L, W>>
 where
     R::Error: Send,
-    requires jobs { All (λ (j : Job L W). W.has_said j.worker [] × IsOneEmpty j.share.parts j.share.amount) jobs.items }
+    requires jobs { All (IsFresh W.has_said) jobs.items }
     requires clock { IsWound clock.share.parts clock.share.amount clock.first }
     ensures count { IfOk result (λ g. length g.workers.items ≡ length jobs.items) }
     ensures whole { IfOk result (λ g. IsWholeWork W.has_said g.workers.items g.receipts

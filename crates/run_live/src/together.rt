@@ -1,7 +1,7 @@
 // The threads of a run, and their end.
 ghost use Rattle.std.specs.Prelude.{◌≡◌, [], IfOk, IfErr, Result, ◌≤◌, vec_len, vec_capacity};
 ghost use Rattle.std.specs.List.{All};
-ghost use Rattle.run_live.specs.Work.{IsOneEmpty, IsWork, IsWound, IsTicked};
+ghost use Rattle.run_live.specs.Work.{HasWorked, IsFresh, IsTicked, IsWound};
 
 use crate::both::both;
 use crate::jobs::{Job, TickJob};
@@ -38,11 +38,11 @@ fn start_each<
 ) -> Vec<Running<L, W>>
 where
     R::Error: Send,
-    requires jobs { All (λ (j : Job L W). W.has_said j.worker [] × IsOneEmpty j.share.parts j.share.amount) jobs.items }
+    requires jobs { All (IsFresh W.has_said) jobs.items }
     requires empty { all.items ≡ [] }
     requires room { vec_len jobs ≤ vec_capacity all }
     ensures count { vec_len result ≡ vec_len jobs }
-    ensures each { All (λ r. IfErr r (λ (d : Done L W). IsWork W.has_said d.worker d.share.parts d.share.amount d.receipts)) result.items }
+    ensures each { All (λ r. IfErr r (HasWorked W.has_said)) result.items }
 {
     let mut all = all;
     for job in jobs {
@@ -68,9 +68,9 @@ fn start_all<
 ) -> Mem<Vec<Running<L, W>>>
 where
     R::Error: Send,
-    requires { All (λ (j : Job L W). W.has_said j.worker [] × IsOneEmpty j.share.parts j.share.amount) jobs.items }
+    requires { All (IsFresh W.has_said) jobs.items }
     ensures count { IfOk result (λ all. vec_len all ≡ vec_len jobs) }
-    ensures each { IfOk result (λ all. All (λ r. IfErr r (λ (d : Done L W). IsWork W.has_said d.worker d.share.parts d.share.amount d.receipts)) all.items) }
+    ensures each { IfOk result (λ all. All (λ r. IfErr r (HasWorked W.has_said)) all.items) }
 {
     let Ok(all) = Vec::with_capacity(alloc, jobs.len()) else {
         drop(jobs);
@@ -81,8 +81,8 @@ where
 
 // What a worker leaves, once its thread has ended.
 fn join_one<W: Spawner + Drop, L: Ledger>(rt: &impl Threads, running: Running<L, W>) -> Done<L, W>
-    requires { IfErr running (λ d. IsWork W.has_said d.worker d.share.parts d.share.amount d.receipts) }
-    ensures { IsWork W.has_said result.worker result.share.parts result.share.amount result.receipts }
+    requires { IfErr running (HasWorked W.has_said) }
+    ensures { HasWorked W.has_said result }
 {
     match running {
         Ok(handle) => handle.join(rt),
@@ -96,9 +96,9 @@ fn join_all<W: Spawner + Drop, L: Ledger>(
     alloc: Global,
     running: Vec<Running<L, W>>,
 ) -> Mem<Vec<Done<L, W>>>
-    requires { All (λ r. IfErr r (λ (d : Done L W). IsWork W.has_said d.worker d.share.parts d.share.amount d.receipts)) running.items }
+    requires { All (λ r. IfErr r (HasWorked W.has_said)) running.items }
     ensures count { IfOk result (λ all. vec_len all ≡ vec_len running) }
-    ensures each { IfOk result (λ all. All (λ (d : Done L W). IsWork W.has_said d.worker d.share.parts d.share.amount d.receipts) all.items) }
+    ensures each { IfOk result (λ all. All (HasWorked W.has_said) all.items) }
 {
     let Ok(mut all) = Vec::with_capacity(alloc, running.len()) else {
         drop(running);
@@ -127,9 +127,9 @@ fn run_workers<
 ) -> Mem<Vec<Done<L, W>>>
 where
     R::Error: Send,
-    requires { All (λ (j : Job L W). W.has_said j.worker [] × IsOneEmpty j.share.parts j.share.amount) jobs.items }
+    requires { All (IsFresh W.has_said) jobs.items }
     ensures count { IfOk result (λ all. vec_len all ≡ vec_len jobs) }
-    ensures each { IfOk result (λ all. All (λ (d : Done L W). IsWork W.has_said d.worker d.share.parts d.share.amount d.receipts) all.items) }
+    ensures each { IfOk result (λ all. All (HasWorked W.has_said) all.items) }
 {
     let Ok(running) = start_all(scope, rt, alloc, shared, jobs) else {
         shared.give_up(rt);
@@ -161,10 +161,10 @@ fn in_scope<
 ) -> Mem<(Vec<Done<L, W>>, Ticked<L>)>
 where
     R::Error: Send,
-    requires jobs { All (λ (j : Job L W). W.has_said j.worker [] × IsOneEmpty j.share.parts j.share.amount) jobs.items }
+    requires jobs { All (IsFresh W.has_said) jobs.items }
     requires clock { IsWound clock.share.parts clock.share.amount clock.first }
     ensures count { IfOk result (λ r. vec_len r.0 ≡ vec_len jobs) }
-    ensures each { IfOk result (λ r. All (λ (d : Done L W). IsWork W.has_said d.worker d.share.parts d.share.amount d.receipts) r.0.items) }
+    ensures each { IfOk result (λ r. All (HasWorked W.has_said) r.0.items) }
     ensures clock { IfOk result (λ r. IsTicked r.1.share.parts r.1.share.amount r.1.receipts) }
 {
     let ticking = start_ticker(scope, rt, alloc, shared, clock);
@@ -188,20 +188,20 @@ pub(crate) fn together<
 ) -> Mem<(Vec<Done<L, W>>, Ticked<L>)>
 where
     R::Error: Send,
-    requires jobs { All (λ (j : Job L W). W.has_said j.worker [] × IsOneEmpty j.share.parts j.share.amount) jobs.items }
+    requires jobs { All (IsFresh W.has_said) jobs.items }
     requires clock { IsWound clock.share.parts clock.share.amount clock.first }
     ensures count { IfOk result (λ r. vec_len r.0 ≡ vec_len jobs) }
-    ensures each { IfOk result (λ r. All (λ (d : Done L W). IsWork W.has_said d.worker d.share.parts d.share.amount d.receipts) r.0.items) }
+    ensures each { IfOk result (λ r. All (HasWorked W.has_said) r.0.items) }
     ensures clock { IfOk result (λ r. IsTicked r.1.share.parts r.1.share.amount r.1.receipts) }
 {
     thread::scope(
         thread::scope_env(),
         rt,
         move |scope| -> Mem<(Vec<Done<L, W>>, Ticked<L>)>
-            requires { All (λ (j : Job L W). W.has_said j.worker [] × IsOneEmpty j.share.parts j.share.amount) jobs.items
+            requires { All (IsFresh W.has_said) jobs.items
                 × IsWound clock.share.parts clock.share.amount clock.first }
             ensures { IfOk result (λ r. vec_len r.0 ≡ vec_len jobs)
-                × IfOk result (λ r. All (λ (d : Done L W). IsWork W.has_said d.worker d.share.parts d.share.amount d.receipts) r.0.items)
+                × IfOk result (λ r. All (HasWorked W.has_said) r.0.items)
                 × IfOk result (λ r. IsTicked r.1.share.parts r.1.share.amount r.1.receipts) }
         { in_scope(scope, rt, alloc, shared, jobs, clock) },
     )

@@ -1,6 +1,6 @@
 // A worker on a thread of its own.
 ghost use Rattle.std.specs.Prelude.{[], IfErr};
-ghost use Rattle.run_live.specs.Work.{IsOneEmpty, IsWork};
+ghost use Rattle.run_live.specs.Work.{HasWorked, IsOneEmpty, IsFresh};
 
 use crate::jobs::Job;
 use run_capture::List;
@@ -25,7 +25,7 @@ pub(crate) struct Done<L: Ledger, W> {
 pub(crate) struct OwnWork;
 
 impl<L: Ledger, W: Spawner> Promise<Done<L, W>> for OwnWork {
-    ghost kept_by = { λ p d. IsWork W.has_said d.worker d.share.parts d.share.amount d.receipts };
+    ghost kept_by = { λ p d. HasWorked W.has_said d };
 }
 
 // Drives the run until the worker is done.
@@ -37,7 +37,7 @@ fn work<W: Spawner, L: Ledger, R: Reporter>(
 ) -> Done<L, W>
     requires worker { W.has_said job.worker [] }
     requires share { IsOneEmpty job.share.parts job.share.amount }
-    ensures { IsWork W.has_said result.worker result.share.parts result.share.amount result.receipts }
+    ensures { HasWorked W.has_said result }
 {
     let Job {
         mut worker,
@@ -77,11 +77,11 @@ where
     R::Error: Send,
     requires worker { W.has_said job.worker [] }
     requires share { IsOneEmpty job.share.parts job.share.amount }
-    ensures { IfErr result (λ d. IsWork W.has_said d.worker d.share.parts d.share.amount d.receipts) }
+    ensures { IfErr result (HasWorked W.has_said) }
 {
     let run = move || -> Done<L, W>
-        requires { W.has_said job.worker [] × IsOneEmpty job.share.parts job.share.amount }
-        ensures { IsWork W.has_said result.worker result.share.parts result.share.amount result.receipts }
+        requires { IsFresh W.has_said job }
+        ensures { HasWorked W.has_said result }
     { work(rt, alloc, shared, job) };
     match scope.spawn_with(OwnWork, run) {
         Ok(handle) => Ok(handle),

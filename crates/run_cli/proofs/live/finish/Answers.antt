@@ -1,9 +1,21 @@
-use Rattle.std.proofs.Common.{rules, ◌≡◌, refl, sym, ◌∙◌, None}
+use Rattle.std.proofs.Common.{rules, ◌≡◌, refl, sym, ◌∙◌, None, is_some, true}
 use Rattle.std.specs.Option.{IsNone}
 use Rattle.run_model.specs.Journal.{past_of, outcome}
 use Rattle.run_cli.specs.Call.{Writing}
-use Rattle.run_cli.proofs.LivedLemmas.{closed_from, over_from}
+use Rattle.run_cli.proofs.LivedLemmas.{closed_from, over_from, unclosed_from}
 use Rattle.run_cli.proofs.live.finish.Goals as goal
+
+pub returns-then-is_some : goal.returns-then-is_some
+returns-then-is_some g c = λ p x.
+    let lived = c.args.lived in
+    let some : is_some lived.live.error ≡ true = search rules in
+    let w : Writing = record {
+      taken = g.O.Origin.taken_before;
+      taken_after = g.K.Sink.taken c.end_refused.result.sink;
+      faults = g.O.Origin.faults_before;
+      faults_after = g.K.Sink.faults c.end_refused.result.sink;
+    } in
+    c.end_refused.ensures p w (unclosed_from g.W.Spawner.has_said _ p lived x some)
 
 pub returns-in-Some : goal.returns-in-Some
 returns-in-Some g c = λ p x.

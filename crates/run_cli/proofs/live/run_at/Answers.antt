@@ -10,5 +10,6 @@ returns-in-Ok g c =
       stands = left.stands;
       once = left.once;
       refused = left.refused;
+      kind = left.kind;
       own = left.own;
     })))

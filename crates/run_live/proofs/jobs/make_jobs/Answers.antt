@@ -1,14 +1,13 @@
 use Rattle.std.proofs.Common.{rules, ◌+◌, []}
 use Rattle.std.proofs.lemmas.List.Elements.{All-push}
 use Rattle.run_live.specs.declared.jobs.Job.{Job}
-use Rattle.run_live.specs.Work.{IsOneEmpty}
+use Rattle.run_live.specs.Work.{IsOneEmpty, IsFresh}
 use Rattle.run_live.proofs.jobs.make_jobs.Goals as goal
 
 pub loop-share-preserved : goal.loop-share-preserved
 loop-share-preserved g c =
     let was = c.loop-share.invariant in let step = c.in-Some.ensures.steps in
-    let P : Job g.row.L.Denot g.row.H-Worker.Denot → Type 0 = λ j. g.H.Worker.Spawner.has_said j.worker []
-    × IsOneEmpty j.share.parts j.share.amount in
+    let P : Job g.row.L.Denot g.row.H-Worker.Denot → Type 0 = IsFresh g.H.Worker.Spawner.has_said in
     let one : IsOneEmpty c.in-Some.share.parts c.in-Some.share.amount =
     let h = was.2 0 c.in-Some.share in grind rules in (
       search rules,

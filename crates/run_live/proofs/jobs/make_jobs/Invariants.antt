@@ -1,12 +1,12 @@
 use Rattle.std.proofs.Common.{◌≡◌, ◌+◌, ◌≤◌, vec_capacity, [], vec_len}
 use Rattle.std.specs.List.{All}
 use Rattle.std.specs.Vec.Iter.{into_iter_items, into_iter_len}
-use Rattle.run_live.specs.Work.{IsOneEmpty}
+use Rattle.run_live.specs.Work.{IsOneEmpty, IsFresh}
 use Rattle.run_live.proofs.jobs.make_jobs.Given as goal
 
 abbrev pub invariant-loop-share : goal.invariant-loop-share
 invariant-loop-share g l =
     (vec_len l.jobs + into_iter_len l.share-iterator ≡ vec_len l.fn.shares)
-    × All (λ j. g.H.Worker.Spawner.has_said j.worker [] × IsOneEmpty j.share.parts j.share.amount) l.jobs.items
+    × All (IsFresh g.H.Worker.Spawner.has_said) l.jobs.items
     × All (λ s. IsOneEmpty s.parts s.amount) (into_iter_items l.share-iterator)
     × (vec_len l.fn.shares ≤ vec_capacity l.jobs)

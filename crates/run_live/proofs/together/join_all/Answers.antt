@@ -1,14 +1,13 @@
 use Rattle.std.proofs.Common.{rules, ◌+◌}
 use Rattle.std.proofs.lemmas.List.Elements.{All-push}
 use Rattle.run_live.specs.declared.worker_thread.Done.{Done}
-use Rattle.run_live.specs.Work.{IsWork}
+use Rattle.run_live.specs.Work.{HasWorked}
 use Rattle.run_live.proofs.together.join_all.Goals as goal
 
 pub loop-one-preserved : goal.loop-one-preserved
 loop-one-preserved g c =
     let was = c.loop-one.invariant in let step = c.in-Some.ensures.steps in
-    let P : Done g.row.L.Denot g.row.W.Denot → Type 0 = λ d. IsWork g.W.Spawner.has_said d.worker d.share.parts
-    d.share.amount d.receipts in (
+    let P : Done g.row.L.Denot g.row.W.Denot → Type 0 = HasWorked g.W.Spawner.has_said in (
       search rules,
       rw c.push_reserved.ensures.items (All-push P c.loop-one.all.items c.join_one.result was.1 c.join_one.ensures),
       (λ k d below. let h = was.2 (k + 1) d in grind rules),

@@ -4,7 +4,7 @@ use Rattle.std.specs.declared.thread.PromisedHandle.{PromisedHandle}
 use Rattle.run_live.specs.declared.worker_thread.Done.{Done}
 use Rattle.run_live.specs.declared.worker_thread.OwnWork.{OwnWork}
 use Rattle.run_live.specs.declared.jobs.Job.{Job}
-use Rattle.run_live.specs.Work.{IsOneEmpty, IsWork}
+use Rattle.run_live.specs.Work.{HasWorked, IsFresh}
 use Rattle.run_live.proofs.GatherLemmas.{all_after}
 use Rattle.run_live.proofs.together.start_each.Goals as goal
 
@@ -13,9 +13,8 @@ loop-job-preserved g c =
     let was = c.loop-job.invariant in let step = c.in-Some.ensures.steps in
     let P : Result (PromisedHandle (Done g.row.L.Denot g.row.W.Denot) OwnWork)
     (Done g.row.L.Denot g.row.W.Denot) → Type 0 =
-    λ r. IfErr r (λ d. IsWork g.W.Spawner.has_said d.worker d.share.parts d.share.amount d.receipts) in
-    let Q : Job g.row.L.Denot g.row.W.Denot → Type 0 = λ j. g.W.Spawner.has_said j.worker []
-    × IsOneEmpty j.share.parts j.share.amount in (
+    λ r. IfErr r (HasWorked g.W.Spawner.has_said) in
+    let Q : Job g.row.L.Denot g.row.W.Denot → Type 0 = IsFresh g.W.Spawner.has_said in (
       search rules,
       rw c.push_reserved.ensures.items (All-push P c.loop-job.all.items c.start.result was.1 c.start.ensures),
       all_after Q _ _ c.in-Some.job step.0 was.2,

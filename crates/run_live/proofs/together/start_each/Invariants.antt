@@ -2,13 +2,13 @@ use Rattle.std.proofs.Common.{◌≡◌, ◌+◌, ◌≤◌, vec_capacity, [], v
 use Rattle.std.specs.Result.{IfErr}
 use Rattle.std.specs.List.{All}
 use Rattle.std.specs.Vec.Iter.{into_iter_items, into_iter_len}
-use Rattle.run_live.specs.Work.{IsOneEmpty, IsWork}
+use Rattle.run_live.specs.Work.{HasWorked, IsFresh}
 use Rattle.run_live.proofs.together.start_each.Given as goal
 
 abbrev pub invariant-loop-job : goal.invariant-loop-job
 invariant-loop-job g l =
     (vec_len l.all + into_iter_len l.job-iterator ≡ vec_len l.fn.jobs)
-    × All (λ r. IfErr r (λ d. IsWork g.W.Spawner.has_said d.worker d.share.parts d.share.amount d.receipts)) l.all.items
-    × All (λ j. g.W.Spawner.has_said j.worker [] × IsOneEmpty j.share.parts j.share.amount)
+    × All (λ r. IfErr r (HasWorked g.W.Spawner.has_said)) l.all.items
+    × All (IsFresh g.W.Spawner.has_said)
     (into_iter_items l.job-iterator)
     × (vec_len l.fn.jobs ≤ vec_capacity l.all)
