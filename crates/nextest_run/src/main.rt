@@ -75,7 +75,7 @@ const MEMORY_LINE: &str = "{\"fault\":\"memory\",\"status\":11}";
 const NO_MEMORY: &str = "nextest_run: error: memory was wanting";
 
 // Says on standard error how the program ended, but of success.
-fn say(rt: &HostRuntime, words: &[String], status: u8, input: &[u8], last: &[u8]) {
+fn say(rt: &HostRuntime, words: Option<&[String]>, status: u8, input: &[u8], last: &[u8]) {
     let _ = match explain(rt.alloc(), words, status, input, last) {
         Ok(text) => eprint!(rt; "{text}"),
         Err(_) => eprintln!(rt; "{NO_MEMORY}"),
@@ -102,6 +102,8 @@ enum Request {
     Help,
     Version,
     Run(Vec<String>),
+    /// A word is not UTF-8.
+    NoText,
     /// The words could not be copied for want of memory.
     NoMemory,
 }
@@ -115,7 +117,7 @@ fn words_given(rt: &HostRuntime) -> io::Result<Vec<String>> {
     Ok(words)
 }
 
-// Words that are no text are bad words, as none are.
+// What the words ask for.
 fn request_of(rt: &HostRuntime) -> Request {
     match words_given(rt) {
         Ok(words) => match words.as_slice() {
@@ -124,24 +126,36 @@ fn request_of(rt: &HostRuntime) -> Request {
             _ => Request::Run(words),
         },
         Err(error) if error.kind() == io::ErrorKind::OutOfMemory => Request::NoMemory,
-        Err(_) => Request::Run(Vec::new(rt.alloc())),
+        Err(_) => Request::NoText,
     }
 }
 
+// The words that were given; none where one of them is not UTF-8.
+fn given(words: &Option<Vec<String>>) -> Option<&[String]> {
+    match words {
+        Some(words) => Some(words.as_slice()),
+        None => None,
+    }
+}
+
+// Words of which one is not UTF-8 are run as no words are.
 fn main(rt: HostRuntime) -> ExitCode {
     let alloc = rt.alloc();
     let words = match request_of(&rt) {
         Request::Help => return ExitCode::from(print(&rt, HELP)),
         Request::Version => return ExitCode::from(print(&rt, VERSION)),
         Request::NoMemory => return ExitCode::from(no_memory(&rt)),
-        Request::Run(words) => words,
+        Request::Run(words) => Some(words),
+        Request::NoText => None,
     };
+    let words = given(&words);
     let mut source = KeptSource::new(alloc, StdSource::new(rt.stdin()));
     let sink = LastLine::new(alloc, StdSink::new(rt.stdout()));
     let mut host = StdHost::new(rt);
-    let (ran, live) = run(&rt, alloc, words.as_slice(), &mut source, sink, &mut host);
+    let run_words = words.unwrap_or(&[]);
+    let (ran, live) = run(&rt, alloc, run_words, &mut source, sink, &mut host);
     drop(live);
     let Ran { status, sink } = ran;
-    say(&rt, words.as_slice(), status, source.bytes(), sink.line());
+    say(&rt, words, status, source.bytes(), sink.line());
     ExitCode::from(status)
 }

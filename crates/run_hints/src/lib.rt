@@ -8,11 +8,12 @@ mod kept_source;
 mod last_line;
 mod line_fault;
 mod misfit;
-mod plan_fault;
+mod object_fault;
 mod replayed;
 mod saying;
 mod shape;
 mod tables;
+mod turn_kind;
 mod waiting;
 
 pub use kept_source::KeptSource;

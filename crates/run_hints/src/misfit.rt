@@ -11,6 +11,8 @@ pub(crate) enum Wrong {
     Not(Shape),
     /// One of two keys must be there, and not both: this one and the other.
     NotOne(&'static str),
+    /// It is a key of retries whose delays grow.
+    NotExponential,
 }
 
 /// A place in a value, as `tests[2].weight`, and what is wrong there.
@@ -52,18 +54,21 @@ impl Misfit {
         })
     }
 
-    /// As words.
+    /// As words. A key of the input may have any character, so it is escaped.
     pub(crate) fn text(&self, alloc: Global) -> Result<String, AllocError> {
         let place = self.place.as_str();
         match self.wrong {
-            Wrong::UnknownKey => format!(in alloc; "unknown key \"{place}\""),
-            Wrong::MissingKey => format!(in alloc; "missing key \"{place}\""),
+            Wrong::UnknownKey => format!(in alloc; "unknown key {place:?}"),
+            Wrong::MissingKey => format!(in alloc; "missing key {place:?}"),
             Wrong::Not(shape) => {
                 let wanted = shape.wanted();
-                format!(in alloc; "\"{place}\" is not {wanted}")
+                format!(in alloc; "{place:?} is not {wanted}")
             }
             Wrong::NotOne(other) => {
-                format!(in alloc; "exactly one of the keys \"{place}\" and \"{other}\" is needed")
+                format!(in alloc; "exactly one of the keys {place:?} and {other:?} is needed")
+            }
+            Wrong::NotExponential => {
+                format!(in alloc; "{place:?} is only for \"backoff\":\"exponential\"")
             }
         }
     }

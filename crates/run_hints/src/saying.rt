@@ -1,5 +1,5 @@
 // What is said of how the program ended.
-use crate::line_fault::{line_at, line_fault};
+use crate::line_fault::{LineKind, line_at, line_fault};
 use crate::replayed::why_stopped;
 use serde_json::Value;
 use std::alloc::{AllocError, Global};
@@ -47,9 +47,12 @@ fn plain(alloc: Global, error: &str, hint: &str) -> Result<Message, AllocError> 
     message_of(alloc, String::from_str(alloc, error), hint)
 }
 
-// Whether a word is a command.
-fn is_command(word: &str) -> bool {
-    word == "live" || word == "replay"
+// Whether a word is one after which none comes.
+fn stands_alone(word: &str) -> bool {
+    matches!(
+        word,
+        "live" | "replay" | "--help" | "-h" | "--version" | "-V"
+    )
 }
 
 // Whether the first word is the command that takes a width.
@@ -79,47 +82,55 @@ fn words_hint(words: &[String]) -> &'static str {
     }
 }
 
-// What is wrong with words that are no command.
+// What is wrong with words that are no command. A word may have any character, so it is escaped.
 fn words_fault(alloc: Global, words: &[String]) -> Result<String, AllocError> {
     match words {
         [] => String::from_str(alloc, "no command is given"),
         [_] if is_progress(words) => String::from_str(alloc, "no width is given to \"progress\""),
-        [_, width] if is_progress(words) => format!(in alloc; "\"{width}\" is no width"),
+        [_, width] if is_progress(words) => format!(in alloc; "{width:?} is no width"),
         [_, _, word, ..] if is_progress(words) => {
-            format!(in alloc; "unexpected word \"{word}\" after the width")
+            format!(in alloc; "unexpected word {word:?} after the width")
         }
         [_] if is_generate(words) => {
             String::from_str(alloc, "no number of tests is given to \"generate\"")
         }
-        [_, tests] if is_generate(words) => format!(in alloc; "\"{tests}\" is no number of tests"),
+        [_, tests] if is_generate(words) => format!(in alloc; "{tests:?} is no number of tests"),
         [_, _, word, ..] if is_generate(words) => {
-            format!(in alloc; "unexpected word \"{word}\" after the number of tests")
+            format!(in alloc; "unexpected word {word:?} after the number of tests")
         }
-        [command, word, ..] if is_command(command.as_str()) => {
-            format!(in alloc; "unexpected word \"{word}\" after \"{command}\"")
+        [command, word, ..] if stands_alone(command.as_str()) => {
+            format!(in alloc; "unexpected word {word:?} after {command:?}")
         }
-        [word, ..] => format!(in alloc; "unknown command \"{word}\""),
+        [word, ..] => format!(in alloc; "unknown command {word:?}"),
+    }
+}
+
+// Of words that are no command; none where one of them is not UTF-8.
+fn of_words(alloc: Global, words: Option<&[String]>) -> Result<Message, AllocError> {
+    match words {
+        Some(words) => message_of(alloc, words_fault(alloc, words), words_hint(words)),
+        None => plain(alloc, "a word is not UTF-8", USAGE),
     }
 }
 
 // Whether the words are the command that takes a plan line alone.
-fn is_live(words: &[String]) -> bool {
+fn is_live(words: Option<&[String]>) -> bool {
     match words {
-        [word] => word.as_str() == "live",
+        Some([word]) => word.as_str() == "live",
         _ => false,
     }
 }
 
-// What is wrong with a line that is no plan, or no turn.
+// What is wrong with a line that is not of its kind.
 fn line_text(
     alloc: Global,
-    is_plan: bool,
+    kind: LineKind,
     input: &[u8],
     number: u64,
 ) -> Result<String, AllocError> {
-    let noun = if is_plan { "plan" } else { "turn" };
+    let noun = kind.noun();
     let line = line_at(input, number).unwrap_or(&[]);
-    match line_fault(alloc, is_plan, line)? {
+    match line_fault(alloc, kind, line)? {
         Some(fault) => format!(in alloc; "input line {number} is not a {noun}: {fault}"),
         None => format!(in alloc; "input line {number} is not a {noun}"),
     }
@@ -128,18 +139,20 @@ fn line_text(
 // Of a line that is no plan or no turn.
 fn of_line(
     alloc: Global,
-    words: &[String],
+    words: Option<&[String]>,
     input: &[u8],
     number: u64,
 ) -> Result<Message, AllocError> {
     if input.is_empty() {
         plain(alloc, "the input is empty", PLAN_HINT)
     } else if number <= 1 {
-        message_of(alloc, line_text(alloc, true, input, number), PLAN_HINT)
+        let text = line_text(alloc, LineKind::Plan, input, number);
+        message_of(alloc, text, PLAN_HINT)
     } else if is_live(words) {
         plain(alloc, "input line 2 is one too many", LIVE_HINT)
     } else {
-        message_of(alloc, line_text(alloc, false, input, number), TURN_HINT)
+        let text = line_text(alloc, LineKind::Turn, input, number);
+        message_of(alloc, text, TURN_HINT)
     }
 }
 
@@ -298,13 +311,13 @@ fn of_outcome(status: u8, last: &Value) -> Option<&'static str> {
 // Of a fault.
 fn said_of(
     alloc: Global,
-    words: &[String],
+    words: Option<&[String]>,
     status: u8,
     input: &[u8],
     last: &Value,
 ) -> Result<Message, AllocError> {
     match status {
-        2 => message_of(alloc, words_fault(alloc, words), words_hint(words)),
+        2 => of_words(alloc, words),
         3 => of_line(alloc, words, input, number_at(last, "line")),
         5 => of_plan(alloc, last),
         6 => of_not_enabled(alloc, input, last),
@@ -322,7 +335,7 @@ fn said_of(
 // The same, as lines.
 fn fault_text(
     alloc: Global,
-    words: &[String],
+    words: Option<&[String]>,
     status: u8,
     input: &[u8],
     last: &Value,
@@ -331,12 +344,12 @@ fn fault_text(
     format!(in alloc; "nextest_run: error: {error}\nhint: {hint}\n")
 }
 
-/// What standard error is to say of a run that these words asked for and that ended with this status, by the bytes of
-/// its input and the last line that was written: nothing of a success; of another outcome one line; of a fault one line
-/// that says what is wrong and where, and one that helps.
+/// What standard error is to say of a run that these words asked for (none where one of them is not UTF-8) and that
+/// ended with this status, by the bytes of its input and the last line that was written: nothing of a success; of
+/// another outcome one line; of a fault one line that says what is wrong and where, and one that helps.
 pub fn explain(
     alloc: Global,
-    words: &[String],
+    words: Option<&[String]>,
     status: u8,
     input: &[u8],
     last: &[u8],

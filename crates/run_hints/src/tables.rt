@@ -1,7 +1,8 @@
 // The tables of input lines: the keys of each object, and what stands at each.
 use crate::shape::{Names, Shape};
+use crate::turn_kind::TurnKind;
 
-/// The objects of a plan line.
+/// The objects of a plan line, and that of a turn line.
 #[derive(Clone, Copy, Drop)]
 pub(crate) enum Table {
     Plan,
@@ -19,6 +20,7 @@ pub(crate) enum Table {
     Slow,
     Leak,
     Retries,
+    Turn(TurnKind),
 }
 
 impl Table {
@@ -38,6 +40,7 @@ impl Table {
             Table::Slow => slow_shape(key),
             Table::Leak => leak_shape(key),
             Table::Retries => retries_shape(key),
+            Table::Turn(kind) => kind.shape_at(key),
         }
     }
 
@@ -52,6 +55,7 @@ impl Table {
             Table::MaxFail => &["count", "mode"],
             Table::Retries => &["count"],
             Table::Runners | Table::Stress | Table::Slow | Table::Leak => &[],
+            Table::Turn(kind) => kind.required(),
         }
     }
 
@@ -59,6 +63,7 @@ impl Table {
     pub(crate) fn either(self) -> Option<(&'static str, &'static str)> {
         match self {
             Table::Stress => Some(("count", "duration")),
+            Table::Turn(kind) => kind.either(),
             _ => None,
         }
     }
@@ -212,66 +217,5 @@ fn retries_shape(key: &str) -> Option<Shape> {
         "jitter" => Some(Shape::Truth),
         "backoff" => Some(Shape::Named(Names::Backoffs)),
         _ => None,
-    }
-}
-
-// The keys that the turn of a unit must have beside its name; none where no such turn has it.
-fn unit_turn_keys(name: &str) -> Option<&'static [&'static str]> {
-    match name {
-        "started" => Some(&["unit", "pid"]),
-        "start-failed" | "wait-failed" => Some(&["unit", "text"]),
-        "exit" | "env" | "take" => Some(&["unit"]),
-        "decide" => Some(&["unit", "word"]),
-        "piece" => Some(&["unit", "stream", "hex"]),
-        "stream-end" => Some(&["unit", "stream"]),
-        "read-error" => Some(&["unit", "stream", "text"]),
-        _ => None,
-    }
-}
-
-/// The keys that a turn must have beside its name; none where no turn has it.
-pub(crate) fn turn_keys(name: &str) -> Option<&'static [&'static str]> {
-    match name {
-        "begin" | "admit" | "deliver" | "answer" | "tick" | "report-cancel" | "end" | "due" => {
-            Some(&[])
-        }
-        "clock" => Some(&["ns"]),
-        "signal" => Some(&["name"]),
-        "key" => Some(&["code", "modified", "press"]),
-        _ => unit_turn_keys(name),
-    }
-}
-
-/// The two keys of which a turn must have exactly one, if there are such.
-pub(crate) fn either_key(name: &str) -> Option<(&'static str, &'static str)> {
-    match name {
-        "exit" => Some(("code", "signal")),
-        "env" => Some(("hex", "failed")),
-        "due" => Some(("unit", "timer")),
-        _ => None,
-    }
-}
-
-/// What stands at a key of a turn.
-pub(crate) fn turn_shape(turn: &str, key: &str) -> Shape {
-    match key {
-        "unit" | "pid" | "word" => Shape::U32,
-        "ns" => Shape::U64,
-        "code" if turn == "key" => Shape::KeyCode,
-        "code" | "signal" => Shape::I32,
-        "hex" => Shape::Hex,
-        "modified" | "press" => Shape::Truth,
-        _ => turn_choice(key),
-    }
-}
-
-// The same of a key at which a text stands.
-fn turn_choice(key: &str) -> Shape {
-    match key {
-        "stream" => Shape::Named(Names::Streams),
-        "failed" => Shape::Named(Names::EnvFailures),
-        "timer" => Shape::Named(Names::Timers),
-        "name" => Shape::Named(Names::Signals),
-        _ => Shape::Text,
     }
 }

@@ -1,7 +1,7 @@
 // The spawner of real children.
 ghost use Rattle.std.specs.Prelude.{◌≡◌};
 
-use crate::running::{Running, Step, error_text, nothing_more};
+use crate::running::{Running, Step, nothing_more};
 use run_capture::{Duplicate, Mem, OutOfMemory, Stream, Text};
 use run_drive::{Begun, Said, Spawner};
 use run_events::{StartAsk, Variables};
@@ -132,12 +132,12 @@ fn no_command(alloc: Global) -> Mem<Begun> {
     Ok(Begun::Refused { error })
 }
 
-// A start failed. Want of memory is no refusal.
-fn refused(alloc: Global, error: &io::Error) -> Mem<Begun> {
+// A start failed, and is refused with these words before the error's text. Want of memory is no refusal.
+fn refused(alloc: Global, role: &str, error: &io::Error) -> Mem<Begun> {
     if error.kind() == io::ErrorKind::OutOfMemory {
         return Err(OutOfMemory);
     }
-    let error = error_text(alloc, error)?;
+    let error = Text::from_string(format!(in alloc; "{role}{error}")?);
     Ok(Begun::Refused { error })
 }
 
@@ -155,7 +155,7 @@ fn is_fault(said: &Mem<Said>) -> bool {
 fn put_away(_command: Command) {}
 
 impl<P: Processes + Files + Drop> ProcessSpawner<P> {
-    // Prepares a command, and starts it with the script's environment file made empty.
+    // Prepares a command, and starts it.
     fn run(
         &self,
         alloc: Global,
@@ -164,7 +164,6 @@ impl<P: Processes + Files + Drop> ProcessSpawner<P> {
         ask: &StartAsk,
     ) -> io::Result<Child<P::Started>> {
         prepare(alloc, command, words, ask)?;
-        clear(&self.outside, &ask.env_path)?;
         command.spawn(&self.outside)
     }
 
@@ -214,14 +213,17 @@ impl<P: Processes + Files + Drop> ProcessSpawner<P> {
         Begun::Started { pid }
     }
 
-    // Starts a child, and keeps it.
+    // Starts a child with the script's environment file made empty, and keeps it.
     fn launch(&mut self, alloc: Global, ask: &StartAsk) -> Mem<Begun> {
         let Some((program, words)) = ask.command.as_slice().split_first() else {
             return no_command(alloc);
         };
+        if let Err(error) = clear(&self.outside, &ask.env_path) {
+            return refused(alloc, "environment file: ", &error);
+        }
         match self.spawn(alloc, program, words, ask) {
             Ok(child) => Ok(self.keep(child, first_step(ask.streams.as_slice()))),
-            Err(error) => refused(alloc, &error),
+            Err(error) => refused(alloc, "", &error),
         }
     }
 

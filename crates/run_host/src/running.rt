@@ -39,8 +39,8 @@ pub struct Running<C: OpenProcess + Drop> {
 // How many bytes one read moves at most.
 const PIECE: usize = 8192;
 
-/// The text of an error.
-pub fn error_text(alloc: Global, error: &io::Error) -> Mem<Text> {
+// The text of an error.
+fn error_text(alloc: Global, error: &io::Error) -> Mem<Text> {
     Ok(Text::from_string(format!(in alloc; "{error}")?))
 }
 

@@ -1,7 +1,7 @@
 // A script's child.
 use crate::given::{MEMORY, ask, run, text};
 use run_commands::EnvInput;
-use run_drive::{Said, Spawner};
+use run_drive::{Begun, Said, Spawner};
 use run_host::ProcessSpawner;
 use std::fs;
 
@@ -40,4 +40,19 @@ fn a_script_without_a_file_hands_on_nothing(rt: HostRuntime) {
         } => assert!(rt; bytes.is_empty()),
         _ => assert!(rt; false),
     }
+}
+
+#[test]
+fn a_file_that_cannot_be_made_is_named(rt: HostRuntime) {
+    let alloc = rt.alloc();
+    let mut ask = ask(&rt, alloc, &["true"]);
+    ask.env_path = Some(text(&rt, alloc, "no-such-folder/env.tmp"));
+    let mut spawner = ProcessSpawner::new(rt);
+    match &spawner.start(alloc, &ask).expect(&rt, MEMORY) {
+        Begun::Refused { error } => {
+            assert!(rt; error.as_str().starts_with("environment file: "));
+        }
+        Begun::Started { .. } => assert!(rt; false),
+    }
+    assert!(rt; spawner.faults() == 1);
 }

@@ -51,12 +51,17 @@ fn input_of<X: AllocGlobal + Files>(rt: &X, row: &Row) -> io::Result<Vec<u8>> {
 // The words of a row.
 fn words_of(alloc: Global, row: &Row) -> Result<Vec<String>, AllocError> {
     let mut words = Vec::new(alloc);
-    if row.words != "-" {
+    if row.words != "-" && row.words != "?" {
         for word in row.words.split(',') {
             words.push(String::from_str(alloc, word)?)?;
         }
     }
     Ok(words)
+}
+
+// The words that are explained; none where one is not UTF-8.
+fn given<'a>(row: &Row, words: &'a [String]) -> Option<&'a [String]> {
+    if row.words == "?" { None } else { Some(words) }
 }
 
 // The list of a number, or of none for 0.
@@ -97,7 +102,8 @@ pub fn answer_of<X: AllocGlobal + Files + Threads + Wait + Clock + Copy + Send +
     let (ran, live) = run(rt, alloc, words.as_slice(), &mut source, sink, &mut host);
     drop(live);
     let Ran { status, sink } = ran;
-    let said = explain(alloc, words.as_slice(), status, source.bytes(), sink.line())?;
+    let given = given(row, words.as_slice());
+    let said = explain(alloc, given, status, source.bytes(), sink.line())?;
     let mut written = Vec::new(alloc);
     written.extend_from_slice(sink.into_sink().bytes())?;
     Ok(Answer {

@@ -78,7 +78,7 @@ pub struct Row<'a> {
     pub name: &'a str,
     /// The name of the input, or `-` for an empty one.
     pub input: &'a str,
-    /// The words with commas between them, or `-` for none.
+    /// The words with commas between them, `-` for none, or `?` for words of which one is not UTF-8.
     pub words: &'a str,
     pub status: u8,
     pub streams: Streams,

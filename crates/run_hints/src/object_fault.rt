@@ -1,4 +1,4 @@
-// The first thing that is wrong with a plan line.
+// The first thing that is wrong with the object of a line.
 use crate::misfit::{Misfit, Wrong};
 use crate::shape::Shape;
 use crate::tables::Table;
@@ -56,11 +56,22 @@ fn value_misfit(
     }
 }
 
-// What is wrong with an object that has no object in it.
-fn flat_misfit(alloc: Global, table: Table, value: &Value) -> Result<Option<Misfit>, AllocError> {
-    let Some(members) = value.as_object() else {
-        return Ok(None);
-    };
+// A limit of delays that don't grow, of an object whose keys and values are as its table says.
+fn limit_misfit(alloc: Global, members: &Map<String, Value>) -> Result<Option<Misfit>, AllocError> {
+    let backoff = members.get("backoff").and_then(Value::as_str);
+    if members.get("max_delay").is_none() || matches!(backoff, Some("exponential")) {
+        Ok(None)
+    } else {
+        Ok(Some(Misfit::at(alloc, "max_delay", Wrong::NotExponential)?))
+    }
+}
+
+/// What is wrong with an object, apart from what stands in its values: its keys, and then the values at them.
+pub(crate) fn flat_misfit(
+    alloc: Global,
+    table: Table,
+    members: &Map<String, Value>,
+) -> Result<Option<Misfit>, AllocError> {
     if let Some(misfit) = key_misfit(alloc, table, members)? {
         return Ok(Some(misfit));
     }
@@ -71,39 +82,40 @@ fn flat_misfit(alloc: Global, table: Table, value: &Value) -> Result<Option<Misf
             }
         }
     }
-    Ok(None)
+    limit_misfit(alloc, members)
 }
 
-// What is wrong with the value at a key, and in it, where it is an object with no object in it.
-fn member_misfit(
+// What is wrong in the value at a key, where an object with no object in it stands there.
+fn inner_misfit(
     alloc: Global,
     key: &str,
     shape: Shape,
     value: &Value,
 ) -> Result<Option<Misfit>, AllocError> {
-    if let Some(misfit) = value_misfit(alloc, key, shape, value)? {
-        return Ok(Some(misfit));
-    }
     let Shape::Object(table) = shape else {
         return Ok(None);
     };
-    match flat_misfit(alloc, table, value)? {
+    let Some(members) = value.as_object() else {
+        return Ok(None);
+    };
+    match flat_misfit(alloc, table, members)? {
         Some(misfit) => Ok(Some(misfit.under(alloc, key)?)),
         None => Ok(None),
     }
 }
 
 // What is wrong with an item of a list of objects.
-fn item_misfit(alloc: Global, table: Table, value: &Value) -> Result<Option<Misfit>, AllocError> {
-    let Some(members) = value.as_object() else {
-        return Ok(None);
-    };
-    if let Some(misfit) = key_misfit(alloc, table, members)? {
+fn item_misfit(
+    alloc: Global,
+    table: Table,
+    members: &Map<String, Value>,
+) -> Result<Option<Misfit>, AllocError> {
+    if let Some(misfit) = flat_misfit(alloc, table, members)? {
         return Ok(Some(misfit));
     }
     for (key, value) in members.iter() {
         if let Some(shape) = table.shape_at(key.as_str()) {
-            if let Some(misfit) = member_misfit(alloc, key.as_str(), shape, value)? {
+            if let Some(misfit) = inner_misfit(alloc, key.as_str(), shape, value)? {
                 return Ok(Some(misfit));
             }
         }
@@ -131,17 +143,17 @@ fn list_misfit(
     items: &[Value],
 ) -> Result<Option<Misfit>, AllocError> {
     for (number, item) in items.iter().enumerate() {
-        if item.as_object().is_none() {
+        let Some(members) = item.as_object() else {
             return no_object(alloc, key, table, number);
-        }
-        if let Some(misfit) = item_misfit(alloc, table, item)? {
+        };
+        if let Some(misfit) = item_misfit(alloc, table, members)? {
             return Ok(Some(misfit.in_item(alloc, key, number)?));
         }
     }
     Ok(None)
 }
 
-// What is wrong with the value at a key of a plan.
+// What is wrong in the value at a key of a plan.
 fn plan_member_misfit(
     alloc: Global,
     key: &str,
@@ -153,24 +165,31 @@ fn plan_member_misfit(
             return list_misfit(alloc, key, table, items.as_slice());
         }
     }
-    member_misfit(alloc, key, shape, value)
+    inner_misfit(alloc, key, shape, value)
 }
 
-// The table of a plan's object, by its version.
-fn table_of(members: &Map<String, Value>) -> Table {
+// The table of a plan's object, by its version; none where there is no such version.
+fn table_of(members: &Map<String, Value>) -> Option<Table> {
     match members.get("version") {
-        Some(value) if value.as_u64().is_some_and(|version| version == 2) => Table::SecondPlan,
-        _ => Table::Plan,
+        Some(value) => match value.as_u64() {
+            Some(1) => Some(Table::Plan),
+            Some(2) => Some(Table::SecondPlan),
+            _ => None,
+        },
+        None => Some(Table::Plan),
     }
 }
 
-/// The first thing that is wrong with the object of a plan: its keys, and then the values at them.
+/// The first thing that is wrong with the object of a plan: its version, then its keys and the values at them, and then
+/// what stands in these.
 pub(crate) fn plan_misfit(
     alloc: Global,
     members: &Map<String, Value>,
 ) -> Result<Option<Misfit>, AllocError> {
-    let table = table_of(members);
-    if let Some(misfit) = key_misfit(alloc, table, members)? {
+    let Some(table) = table_of(members) else {
+        return Ok(Some(Misfit::at(alloc, "version", Wrong::Not(Shape::Form))?));
+    };
+    if let Some(misfit) = flat_misfit(alloc, table, members)? {
         return Ok(Some(misfit));
     }
     for (key, value) in members.iter() {
