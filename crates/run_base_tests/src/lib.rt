@@ -35,4 +35,6 @@ mod rows;
 #[cfg(test)]
 mod runners;
 #[cfg(test)]
+mod turn_lines;
+#[cfg(test)]
 mod unit_lines;

@@ -1,6 +1,7 @@
 // What the runner of a plan line answers: the moment at which the clock of its run is 0, and how many threads it has.
 use crate::made::MEMORY;
 use run_cli::read_plan_line;
+use run_events::InputHandlerStatus;
 use std::alloc::Global;
 use std::process::Abort;
 
@@ -49,4 +50,26 @@ fn the_threads_of_a_runner(rt: HostRuntime) {
     let alloc = rt.alloc();
     assert!(rt; threads(&rt, alloc, UNCAPTURED) == 1);
     assert!(rt; threads(&rt, alloc, CAPTURED) == 20);
+}
+
+const KEYLESS: &str =
+    r#"{"input":"noop","run_id":"00000000-0000-4000-8000-00000000000a","tests":[]}"#;
+
+// The last byte of the run's id, and whether the run hears keys.
+fn head(rt: &impl Abort, alloc: Global, line: &str) -> (u8, bool) {
+    let (builder, plan) = read_plan_line(alloc, line.as_bytes()).expect(rt, "a plan line");
+    assert!(rt; plan.scripts.len() == 0 && plan.tests.len() == 0, "no test");
+    let runner = builder.build(alloc, plan).expect(rt, MEMORY);
+    let hears = match runner.input_handler_status() {
+        InputHandlerStatus::Enabled { info_char } => info_char == 't',
+        InputHandlerStatus::Disabled => false,
+    };
+    (runner.run_id().as_bytes()[15], hears)
+}
+
+#[test]
+fn the_head_of_a_runner(rt: HostRuntime) {
+    let alloc = rt.alloc();
+    assert!(rt; head(&rt, alloc, KEYLESS) == (10, false));
+    assert!(rt; head(&rt, alloc, CAPTURED) == (1, true));
 }
