@@ -28,7 +28,7 @@ mod wants;
 pub use alike::Alike;
 pub use effects::UnitEffects;
 pub use messages::skip_message;
-// `start_of` has the environment in its contract, and the next four are the given surface of a unit.
+// What a caller of a unit names besides is named here too: it stands in crates below.
 pub use run_events::create_execution_result;
 pub use run_model::{BackoffIter, Phase, UnitTurn};
 pub use start::start_of;
