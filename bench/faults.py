@@ -3,7 +3,7 @@
 
     bench/faults.py PROGRAM [--rows NAME,..]
 
-Each input is a worked row of crates/run_rows/data, or `live` for a plan of two real commands. First the program runs
+Each input is a worked row of crates/run_tests_rows/data, or `live` for a plan of two real commands. First the program runs
 as it is, and its calls of malloc, read and write are counted; then once for each of them, with that call refused, or
 made short (one byte). It prints, for each kind, how often each status came, and each answer that is not one of these:
 
@@ -23,7 +23,7 @@ import sys
 import tempfile
 
 HERE = os.path.dirname(os.path.abspath(__file__))
-ROWS = os.path.join(HERE, "..", "crates", "run_rows", "data")
+ROWS = os.path.join(HERE, "..", "crates", "run_tests_rows", "data")
 LIVE = ('{"run_id":"00000000-0000-4000-8000-000000000001","threads":2,"tests":['
         '{"binary":"b","command":["echo","hi"],"name":"says"},'
         '{"binary":"b","command":["sh","-c","exit 3"],"name":"fails"}]}\n')

@@ -23,9 +23,9 @@ use Rattle.run_model.specs.Words.{answers, events_in, told}
 use Rattle.run_engine.specs.Standing.{sound}
 use Rattle.run_engine.specs.Settling.{Settles}
 use Rattle.run_engine.specs.World.{Outside, World, entry_of, flagged, history_of}
-use Rattle.run_call_laws.specs.Counts.{finishes_told}
-use Rattle.run_call_laws.specs.Success.{has_last_passed}
-use Rattle.run_call_laws.specs.Stops.{tells_cancel}
+use Rattle.run_laws_calls.specs.Counts.{finishes_told}
+use Rattle.run_laws_calls.specs.Success.{has_last_passed}
+use Rattle.run_laws_calls.specs.Stops.{tells_cancel}
 use Rattle.example_supervisor.specs.declared.outside.Ledger.{Ledger}
 use Rattle.example_supervisor.specs.declared.supervisor.Supervisor.{Supervisor}
 use Rattle.example_supervisor.specs.declared.outside.Yard.{Yard}

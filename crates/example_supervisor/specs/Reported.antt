@@ -15,9 +15,9 @@ use Rattle.run_model.specs.Journal.{past_of, IsLegal, outcome}
 use Rattle.run_model.specs.Words.{told}
 use Rattle.run_engine.specs.Heard.{IsHeard}
 use Rattle.run_engine.specs.World.{World}
-use Rattle.run_call_laws.specs.Counts.{is_to_run}
-use Rattle.run_call_laws.specs.Stops.{tells_cancel}
-use Rattle.run_call_laws.specs.Success.{has_last_passed}
+use Rattle.run_laws_calls.specs.Counts.{is_to_run}
+use Rattle.run_laws_calls.specs.Stops.{tells_cancel}
+use Rattle.run_laws_calls.specs.Success.{has_last_passed}
 use Rattle.example_supervisor.specs.declared.outside.JobResult.{JobResult}
 use Rattle.example_supervisor.specs.declared.outside.Ledger.{Ledger}
 use Rattle.example_supervisor.specs.declared.supervisor.Report.{Report}

@@ -2,7 +2,7 @@
 ghost use Rattle.std.specs.Prelude.{ℕ, ◌≡◌, List, [], ◌∷◌, ◌++◌, ◌||◌, Option, option_to_list, OnOk, OnErr, ⊤};
 ghost use Rattle.run_events.specs.Tell.{answered, Adds};
 ghost use Rattle.run_events.specs.Counts.{CountsRefusal};
-ghost use Rattle.run_call_laws.specs.Stops.{tells_cancel};
+ghost use Rattle.run_laws_calls.specs.Stops.{tells_cancel};
 ghost use Rattle.example_supervisor.specs.Reported.{job_result};
 
 use run_capture::{List, Mem};

@@ -3,10 +3,10 @@ ghost use Rattle.std.specs.Prelude.{ℕ, ◌≡◌, ◌<◌, ◌+◌, ◌^◌, l
 ghost use Rattle.example_supervisor.specs.Reported.{Grows, IsUpToDate, IsReported};
 
 use crate::outside::{JobResult, Ledger, Yard};
-use run_call_laws::nothing_stops_without_a_cause;
 use run_capture::{CaptureStrategy, List, OutOfMemory, Stream};
 use run_engine::{Run, StepError, TestRunnerBuildError, TestRunnerBuilder};
 use run_events::{ChildExit, Plan, RunOutcome, TestThreads, Turn};
+use run_laws_calls::nothing_stops_without_a_cause;
 use std::alloc::Global;
 use thiserror::Error;
 
@@ -107,33 +107,4 @@ pub fn supervise(alloc: Global, plan: Plan, codes: &[i32]) -> Result<Report, Sup
     let report = supervisor.report(alloc, codes);
     drop(supervisor);
     report
-}
-
-#[cfg(test)]
-mod tests {
-    use super::*;
-    use run_capture::{Mem, Text};
-    use run_events::{PlanTest, TestInstanceId};
-
-    fn plan_of(alloc: Global, names: &[&str]) -> Mem<Plan> {
-        let mut tests = List::new();
-        for name in names {
-            let (binary, name) = (Text::from_str(alloc, "job")?, Text::from_str(alloc, name)?);
-            let id = TestInstanceId { binary, name };
-            tests.push(alloc, PlanTest::usual(id, List::new(), None))?;
-        }
-        Plan::usual(alloc, uuid::Uuid::nil(), tests)
-    }
-
-    #[test]
-    fn runs_three_jobs(rt: HostRuntime) {
-        let plan = plan_of(rt.alloc(), &["fetch", "build", "report"]).expect(&rt, "memory");
-        assert!(rt; plan.scripts.is_empty() && plan.tests.len() == 3);
-        let report = supervise(rt.alloc(), plan, &[0, 1, 0]).expect(&rt, "a report");
-        assert!(rt; matches!(report.outcome, RunOutcome::Failed { .. }));
-        assert_eq!(rt; report.results.len(), 3);
-        for result in report.results.as_slice() {
-            assert_eq!(rt; result.passed, result.job != 1);
-        }
-    }
 }

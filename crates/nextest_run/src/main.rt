@@ -4,7 +4,7 @@
 #![tactic(auto)]
 
 use run_cli::{Ran, StdSink, StdSource, run};
-use run_hints::{KeptSource, LastLine, explain};
+use run_hints::{KeptSource, LastLine, Seen, explain};
 use run_host::StdHost;
 use std::process::ExitCode;
 use std::{env, io};
@@ -22,7 +22,7 @@ Usage: nextest_run live < PLAN
   replay           carries out the run that INPUT tells
   progress WIDTH   the same, and shows its progress on a terminal of WIDTH columns, from 1 to 1000
   generate TESTS   carries out the run of a plan of TESTS tests, from 1 to 20000, that it makes up, and sums it up
-  -h, --help       prints this
+  -h, --help       prints this, also after a command
   -V, --version    prints the version
 
 PLAN is one line, a JSON object: each of its tests has a command. So many run side by side as its \"threads\" say.
@@ -74,11 +74,12 @@ const MEMORY_LINE: &str = "{\"fault\":\"memory\",\"status\":11}";
 
 const NO_MEMORY: &str = "nextest_run: error: memory was wanting";
 
-// Says on standard error how the program ended, but of success.
-fn say(rt: &HostRuntime, words: Option<&[String]>, status: u8, input: &[u8], last: &[u8]) {
-    let _ = match explain(rt.alloc(), words, status, input, last) {
+// Says on standard error how the program ended, but of success: nothing where memory is wanting for that.
+fn say(rt: &HostRuntime, words: Option<&[String]>, status: u8, seen: Seen) {
+    let _ = match explain(rt.alloc(), words, status, seen) {
         Ok(text) => eprint!(rt; "{text}"),
-        Err(_) => eprintln!(rt; "{NO_MEMORY}"),
+        Err(_) if status == 11 => eprintln!(rt; "{NO_MEMORY}"),
+        Err(_) => Ok(()),
     };
 }
 
@@ -117,12 +118,19 @@ fn words_given(rt: &HostRuntime) -> io::Result<Vec<String>> {
     Ok(words)
 }
 
+// Whether a command is asked what it does.
+fn asks_of(command: &str, word: &str) -> bool {
+    let is_command = matches!(command, "live" | "replay" | "progress" | "generate");
+    is_command && matches!(word, "--help" | "-h")
+}
+
 // What the words ask for.
 fn request_of(rt: &HostRuntime) -> Request {
     match words_given(rt) {
         Ok(words) => match words.as_slice() {
-            [word] if matches!(word.as_str(), "--help" | "-h") => Request::Help,
+            [word] if matches!(word.as_str(), "--help" | "-h" | "help") => Request::Help,
             [word] if matches!(word.as_str(), "--version" | "-V") => Request::Version,
+            [command, word] if asks_of(command.as_str(), word.as_str()) => Request::Help,
             _ => Request::Run(words),
         },
         Err(error) if error.kind() == io::ErrorKind::OutOfMemory => Request::NoMemory,
@@ -156,6 +164,7 @@ fn main(rt: HostRuntime) -> ExitCode {
     let (ran, live) = run(&rt, alloc, run_words, &mut source, sink, &mut host);
     drop(live);
     let Ran { status, sink } = ran;
-    say(&rt, words, status, source.bytes(), sink.line());
+    let (input, last) = (source.bytes(), sink.line());
+    say(&rt, words, status, Seen { input, last });
     ExitCode::from(status)
 }

@@ -103,7 +103,7 @@ sum_after : (f : Test → ℕ) (ts : List Test) (k : ℕ) (t : Test) → k < len
 sum_after f ts k t inside = omega (arith, sum_by-set f ts k t nobody inside)
 
 -- what fits beside the weight in use is within the limit with it
-fits_is : (used limit weight : ℕ) → fits_beside used limit weight ≡ true → used + min weight limit ≤ limit
+pub fits_is : (used limit weight : ℕ) → fits_beside used limit weight ≡ true → used + min weight limit ≤ limit
 fits_is used limit weight e = grind (arith, e)
 
 -- a test that waits holds no slot

@@ -14,7 +14,7 @@ use Rattle.run_events.specs.declared.plan.PlanTest.{PlanTest}
 use Rattle.run_admission.specs.declared.seat.Claim.{Claim}
 use Rattle.run_admission.specs.declared.seat.Seat.TheVariants.{Waiting}
 use Rattle.run_admission.specs.InUse.{Test, taken, taken_in, slot_of, slot_in, is_of, group_of, claim_of}
-use Rattle.run_admission.specs.InUse.{begun}
+use Rattle.run_admission.specs.InUse.{new_admissions}
 use Rattle.run_admission.proofs.WaitLemmas.{all_wait}
 use Rattle.run_admission.specs.Kept.{Use, IsKept, IsOfGroup, IsWhole, IsSeated, AreMembers, Points, nobody, unused}
 use Rattle.run_admission.specs.Kept.{unused_each, seen}
@@ -172,7 +172,7 @@ begun_there threads groups tests counts few members k g e =
 pub begun_seen : (threads : ℕ) (groups : List Group) (tests : List PlanTest) (counts : List ℕ)
     → length counts ≡ length groups
     → seen (unused (length tests) threads) (unused_each counts groups)
-    (map (claim_of groups) tests) (replicate (length tests) Waiting) ≡ begun threads groups tests
+    (map (claim_of groups) tests) (replicate (length tests) Waiting) ≡ new_admissions threads groups tests
 begun_seen threads groups tests counts all =
     ap (λ l. record {
       threads = threads;

@@ -10,7 +10,7 @@ use Rattle.std.proofs.lemmas.List.Sums.{sum_by-cons, count_by-le-length, passes_
 use Rattle.run_admission.specs.InUse.{Test, holds, least_free}
 
 -- how many of a range pass: the first, and those of the rest
-count-cons : (f : ℕ → Bool) (a n : ℕ)
+pub count-cons : (f : ℕ → Bool) (a n : ℕ)
     → count_by f (range_with_len a (suc n)) ≡ cond (f a) 1 0 + count_by f (range_with_len (a + 1) n)
 count-cons f a n = sum_by-cons (λ x. cond (f x) 1 0) a (range_with_len (a + 1) n)
 

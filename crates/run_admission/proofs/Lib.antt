@@ -1,19 +1,19 @@
-mod ListLemmas
+pub mod ListLemmas
 mod MemberLemmas
 mod OpenLemmas
 mod TreeLemmas
 mod DescentLemmas
-mod NameLemmas
+pub mod NameLemmas
 mod RoomLemmas
 mod GroupLemmas
 mod KeptLemmas
 mod TestLemmas
 mod WholeLemmas
 mod WaitLemmas
-mod RuleLemmas
+pub mod RuleLemmas
 mod LineLemmas
 mod QueueLemmas
-mod NextLemmas
+pub mod NextLemmas
 mod OrderLemmas
 mod ReadyLemmas
 mod ReleaseLemmas
@@ -22,6 +22,6 @@ mod DraftLemmas
 mod BegunLemmas
 mod LawLemmas
 pub mod FewerLemmas
-mod FreeLemmas
+pub mod FreeLemmas
 mod OwnLemmas
 pub mod AdmittedLemmas

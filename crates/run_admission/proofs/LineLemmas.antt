@@ -6,6 +6,7 @@ use Rattle.std.proofs.Common.{subst, ◌∙◌, arith, inl, inr, get_or-set_othe
 use Rattle.std.proofs.Math.ListN.{length-set}
 use Rattle.std.specs.Option.{option_map_or}
 use Rattle.std.proofs.lemmas.Grind.{get_or-set_at}
+use Rattle.run_capture.proofs.Facts.{both_true}
 use Rattle.run_admission.specs.declared.seat.Claim.{Claim}
 use Rattle.run_admission.specs.declared.seat.Seat.{Seat}
 use Rattle.run_admission.specs.declared.seat.Seat.TheVariants.{Gone}
@@ -64,7 +65,7 @@ pub comes_is : (us : List Use) (limits : List ℕ) (c : Claim) (s : Seat) → ma
 comes_is us limits c s is within there =
     ap (λ b. is_waiting s && b) (fits_by us limits c.weight is within c.matched c.group there)
 
--- of two limits that differ in one line at most, a test of another may come by both or by none
+-- of two limits that differ in one line at most, a test of another may come by both_true or by none
 other_by : (us afters : List Use) (limits : List ℕ) (w line : ℕ) (m : Bool) (o : Option ℕ)
     → ((g : ℕ) → g ≢ line → slice_get afters g ≡ slice_get us g)
     → (if m then option_map_or (λ g. g) o (length limits) else length limits) ≢ line
@@ -107,10 +108,6 @@ head_stays us afters limits claims seats seated line first same h = record {
   ];
 }
 
-both : (a b : Bool) → (a && b) ≡ true → (a ≡ true) × (b ≡ true)
-both true b e = (refl, e)
-both false b e = cc
-
 -- the first of a line, as it is found, is the first of its tests that may come
 pub head_is : (us : List Use) (limits : List ℕ) (claims : List Claim) (seats : List Seat) (lines : List Queue)
     (places : List ℕ) (line room first : ℕ) → map (λ u. u.limit) us ≡ limits → AreWithin us
@@ -118,7 +115,7 @@ pub head_is : (us : List Use) (limits : List ℕ) (claims : List Claim) (seats :
     → IsLined limits claims seats lines places → line < length lines → room ≡ room_of us line
     → IsFirst (get_or lines line empty) room first → IsHead us limits claims seats line first
 head_is us limits claims seats lines places line room first is within there q known left f = record {
-  before = λ k inside own e. not_after k inside own (both _ _ (sym (at k) ∙ e));
+  before = λ k inside own e. not_after k inside own (both_true _ _ (sym (at k) ∙ e));
   there = elim f.there [
     | inl e ↦ inl e
     | inr s ↦ inr (found s.0 s.1 s.2 s.3 s.4 (is_waiting (get_or seats first Gone)) refl)

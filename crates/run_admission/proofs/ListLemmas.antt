@@ -12,7 +12,7 @@ found_at p xs i d inside below here =
     let lt : nat_lt i (length xs) ≡ true = grind arith in
     ap (λ m. cond (nat_lt m (length xs)) (Some m) None) at ∙ ap (λ b. cond b (Some i) None) lt
 
-not_below : (n : ℕ) → nat_lt n n ≡ false
+pub not_below : (n : ℕ) → nat_lt n n ≡ false
 not_below n = grind arith
 
 -- no item passes

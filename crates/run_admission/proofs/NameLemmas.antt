@@ -82,11 +82,11 @@ push_kept : {X : Type 0} (p : X → Bool) (xs : List X) (y : X) (o : Option ℕ)
 push_kept p xs y None e fails = push_none p xs y e fails
 push_kept p xs y (Some k) e fails = push_found p xs y k e
 
-no_value : (o : Option ℕ) → is_some o ≡ false → o ≡ None
+pub no_value : (o : Option ℕ) → is_some o ≡ false → o ≡ None
 no_value None e = refl
 no_value (Some k) e = cc
 
-a_value : (o : Option ℕ) → is_some o ≡ true → (k : ℕ) × (o ≡ Some k)
+pub a_value : (o : Option ℕ) → is_some o ≡ true → (k : ℕ) × (o ≡ Some k)
 a_value None e = cc
 a_value (Some k) e = (k, refl)
 

@@ -56,7 +56,7 @@ pub record IsPlace (order : List ℕ) (r t : ℕ) : Type 0 where
   pub is : get_or order r 0 ≡ t
 
 -- no test is before itself
-not_above : (p : ℤ) → int_lt p p ≡ false
+pub not_above : (p : ℤ) → int_lt p p ≡ false
 not_above p = grind arith
 
 -- two places of the order are those of two tests

@@ -7,6 +7,7 @@ use Rattle.std.proofs.lemmas.List.{length-replicate, get_or-replicate}
 use Rattle.std.proofs.lemmas.List.Sums.{passes_at_first, fails_before_first}
 use Rattle.run_admission.specs.Kept.{IsMarked, mark_of}
 use Rattle.run_admission.specs.Least.{IsFirstWithin}
+use Rattle.run_admission.proofs.KeptLemmas.{none_there}
 
 -- at first each slot is free
 pub marked_first : (n : ℕ) → n < 2 ^ 32 → IsMarked (replicate n None) (replicate n 0)
@@ -17,10 +18,6 @@ marked_first n few = record {
       let inside : k < n = omega (arith, length-replicate {A = Option ℕ} n None) in
       get_or-replicate n k 0 0 inside ∙ ap mark_of (sym (get_or-replicate n k None None inside));
 }
-
-none_there : (x : Option ℕ) → is_none x ≡ true → x ≡ None
-none_there None e = refl
-none_there (Some n) e = cc
 
 -- a mark that is 0 is that of a free slot
 marked_free : (o : Option ℕ) → mark_of o ≤ 0 → is_none o ≡ true

@@ -11,6 +11,7 @@ use Rattle.std.specs.Cmp.{first_so}
 use Rattle.std.proofs.lemmas.Option.{same_Some, slice_get-get_or}
 use Rattle.std.proofs.lemmas.List.Sums.{sum-map}
 use Rattle.std.proofs.lemmas.List.Quantifiers.{position-Some}
+use Rattle.run_capture.proofs.Facts.{both_true}
 use Rattle.run_admission.specs.declared.seat.Claim.{Claim}
 use Rattle.run_admission.specs.declared.seat.Seat.{Seat}
 use Rattle.run_admission.specs.declared.seat.Seat.TheVariants.{Waiting, InUse, Gone}
@@ -29,6 +30,7 @@ use Rattle.run_admission.proofs.OpenLemmas.{open_slot, open_in_group}
 use Rattle.run_admission.proofs.TestLemmas.{least_is, may_take}
 use Rattle.run_admission.proofs.WholeLemmas.{limit_at, of_same, CanRun, CanLeave, can_leave, run_whole, release_whole}
 use Rattle.run_admission.proofs.GroupLemmas.{free_is}
+use Rattle.run_admission.proofs.AdmittedLemmas.{fits_is}
 
 -- the weight in use is what is kept of it
 pub all_used : (u : Use) (ts : List Test) → IsOfAll u ts → sum_by (taken u.limit) ts ≡ u.used
@@ -115,10 +117,6 @@ place_inside p claims seats k same e =
     let found = position-Some p (zip claims seats) k nobody e in omega
     (arith, found.0, length_zip claims seats same)
 
-both_true : (a b : Bool) → (a && b) ≡ true → (a ≡ true) × (b ≡ true)
-both_true true b e = (refl, e)
-both_true false b e = cc
-
 is_waiting_true : (s : Seat) → is_waiting s ≡ true → s ≡ Waiting
 is_waiting_true Waiting e = refl
 is_waiting_true (InUse n m) e = cc
@@ -193,9 +191,6 @@ can_skip waiting whole us claims seats t w is =
     (position (comes_next (seen whole us claims seats)) (zip claims seats)) w refl is in
     let same : found.0 ≡ t = skips t found.0 (get_or claims found.0 nobody.0) _ _ refl found.1.is in
     (omega (arith, same, found.1.inside), ap (λ k. get_or seats k Waiting) (sym same) ∙ found.1.waits)
-
-fits_is : (used limit weight : ℕ) → fits_beside used limit weight ≡ true → used + min weight limit ≤ limit
-fits_is used limit weight e = grind (arith, e)
 
 -- a candidate that fits can run
 pub can_run : (waiting : ℕ) (whole : Use) (us : List Use) (claims : List Claim) (seats : List Seat) (t : ℕ)

@@ -43,8 +43,8 @@ claim_of groups test = record {
 }
 
 -- a sub-run as it begins: each test waits
-abbrev pub begun : ℕ → List Group → List PlanTest → Admissions
-begun threads groups tests = record {
+abbrev pub new_admissions : ℕ → List Group → List PlanTest → Admissions
+new_admissions threads groups tests = record {
   threads = threads;
   limits = map (λ g. g.limit) groups;
   claims = map (claim_of groups) tests;

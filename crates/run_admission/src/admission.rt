@@ -2,7 +2,8 @@
 ghost use Rattle.std.specs.Prelude.{◌≡◌, ◌<◌, ◌^◌, length, IfOk, Some, true, slice_set};
 ghost use Rattle.run_admission.specs.declared.seat.Seat.TheVariants.{Gone};
 ghost use Rattle.run_admission.specs.declared.seat.Candidate.TheVariants.{Skip, Fits};
-ghost use Rattle.run_admission.specs.InUse.{begun, candidate, admitted, after_admission, is_test_in_use, released};
+ghost use Rattle.run_admission.specs.InUse.{new_admissions, candidate, admitted};
+ghost use Rattle.run_admission.specs.InUse.{after_admission, is_test_in_use, released};
 ghost use Rattle.run_admission.specs.InUse.{is_done, is_waiting};
 ghost use Rattle.std.specs.List.{list_all};
 ghost use Rattle.run_admission.specs.Laws.{KeepsLimits, HasOwnSlots};
@@ -55,7 +56,7 @@ impl Admission {
     /// A sub-run as it begins. This call alone takes memory.
     pub fn new(alloc: Global, threads: u32, groups: &[Group], tests: &[PlanTest]) -> Mem<Admission>
         requires { length tests.now < 2 ^ 32 }
-        ensures { IfOk result (λ a. a ≡ begun threads groups.now tests.now) }
+        ensures { IfOk result (λ a. a ≡ new_admissions threads groups.now tests.now) }
     {
         let whole = Room::new(alloc, threads, tests.len())?;
         let claims = claims_of(alloc, groups, tests)?;

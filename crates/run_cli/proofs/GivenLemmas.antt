@@ -27,7 +27,7 @@ use Rattle.run_input.specs.Lines.{lines_of, at_front}
 use Rattle.run_input.specs.Input.{IsInput, turns_said, turn_line_of}
 use Rattle.run_input.specs.PlanHead.{frame_of}
 use Rattle.run_input.specs.PlanLine.{keys_of, rules_from, plan_scripts_of, plan_tests_of, plan_groups_of, lists_of}
-use Rattle.run_input.specs.PlanLine.{plan_names, plan_with, plan_alone_of, plan_of, version_of}
+use Rattle.run_input.specs.PlanLine.{plan_names, plan_with, plan_alone_of, plan_of, plan_version_of}
 use Rattle.run_input.specs.Fields.{when, is_object_of, or_usual}
 use Rattle.run_input.specs.ValueOf.{json_value}
 use Rattle.serde_json.specs.Data.{Data}
@@ -118,7 +118,7 @@ few_as k l p q e few = subst IsFew (ap (λ (x : RunnerKeys × Plan). x.1) e) few
 
 few_alone : (d : Data) (plan : Plan) → plan_alone_of d ≡ Some plan → IsFew plan
 few_alone d plan e =
-    let v = then_some (or_usual 1 version_of (get (codes "version") d))
+    let v = then_some (or_usual 1 plan_version_of (get (codes "version") d))
     (λ v. option_and_then (λ r. option_and_then (λ f. option_and_then (λ l. Some (plan_with r f l)) (lists_of v d))
     (frame_of d)) (rules_from d)) plan e in
     let r = then_some (rules_from d)

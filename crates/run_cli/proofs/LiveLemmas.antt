@@ -1,5 +1,5 @@
 -- How `live` ends, by what the source gave and how the run of its plan ended.
-use Rattle.std.proofs.Common.{◌≡◌, ◌≤◌, inl, inr, List, [], Option, None}
+use Rattle.std.proofs.Common.{◌≡◌, ◌≤◌, inl, inr, List, [], Option, None, true}
 use Rattle.std.proofs.Common.{Err}
 use Rattle.std.proofs.Common.{refl, sym, subst, arith}
 use Rattle.run_input.specs.declared.plan_line.RunnerKeys.{RunnerKeys}
@@ -7,6 +7,10 @@ use Rattle.run_events.specs.declared.plan.Plan.{Plan}
 use Rattle.run_engine.specs.Builder.{IsBuilt}
 use Rattle.run_engine.specs.declared.errors.TestRunnerBuildError.{TestRunnerBuildError}
 use Rattle.run_engine.specs.declared.errors.TestRunnerBuildError.TheVariants as build
+use Rattle.run_events.specs.declared.settings.Settings.{Settings}
+use Rattle.run_events.specs.declared.outcome.RunOutcome.{RunOutcome}
+use Rattle.run_events.specs.declared.outcome.RunOutcome.TheVariants as outcomes
+use Rattle.run_events.specs.declared.outcome.RunStep.TheVariants as steps
 use Rattle.run_output.specs.declared.fault.Fault.{Fault}
 use Rattle.run_output.specs.declared.fault.Fault.TheVariants.{Words, Line, Plan as BadPlan, NotEnabled, ThirdSignal}
 use Rattle.run_output.specs.declared.fault.Fault.TheVariants.{Unfinished, Report, Read, Memory, TooLong}
@@ -18,7 +22,8 @@ use Rattle.run_cli.specs.Call.{Call, Reading, Writing}
 use Rattle.run_cli.specs.Given.{SaysInput, CountsRead}
 use Rattle.run_cli.specs.LiveGiven.{IsLiveWord, IsLineFault}
 use Rattle.run_cli.specs.Live.{live_settings, live_refusal, unheard, IsRunEnd, IsPlanEnd, IsLiveEnd}
-use Rattle.run_cli.specs.Live.{CountsLive}
+use Rattle.run_cli.specs.Live.{CountsLive, is_unbegun, live_status}
+use Rattle.run_cli.specs.Text.{outcome_status}
 use Rattle.run_cli.specs.Lived.{IsFaultEnd}
 use Rattle.run_cli.specs.Plans.{builder_of, fault_of_plan}
 
@@ -154,3 +159,27 @@ fault_counts w r fault ending why counted (inr e) = subst (CountsLive r) (sym e.
     own (ThirdSignal n) why h = absurd why
     own Unfinished why h = absurd why
     own Report why h = absurd why
+
+-- a run that was begun has none of the statuses of one that wasn't
+outcome_begun : (o : RunOutcome) → is_unbegun (outcome_status o) ≡ true → ⊥
+outcome_begun outcomes.Success h = cc
+outcome_begun outcomes.NoTestsRun h = cc
+outcome_begun (outcomes.Failed steps.Test) h = cc
+outcome_begun (outcomes.Failed steps.SetupScript) h = cc
+outcome_begun (outcomes.Cancelled steps.Test) h = cc
+outcome_begun (outcomes.Cancelled steps.SetupScript) h = cc
+
+pub run_begun : {W : Type 0} (said : W → List Heard → Type 0) (p : Settings) (w : Writing) (live : Option (Live W))
+    (ending : LiveEnding) → IsRunEnd said p w live ending → is_unbegun (live_status ending) ≡ true → ⊥
+run_begun said p w live (ends.Outcome o) h unbegun = outcome_begun o unbegun
+run_begun said p w live ends.Receipt h unbegun = cc
+run_begun said p w live (ends.Fault Report) h unbegun = cc
+run_begun said p w live (ends.Fault Unfinished) h unbegun = cc
+run_begun said p w live (ends.Fault Memory) h unbegun = cc
+run_begun said p w live (ends.Fault Words) h unbegun = absurd h
+run_begun said p w live (ends.Fault (Line n)) h unbegun = absurd h
+run_begun said p w live (ends.Fault (BadPlan f)) h unbegun = absurd h
+run_begun said p w live (ends.Fault (NotEnabled n)) h unbegun = absurd h
+run_begun said p w live (ends.Fault (ThirdSignal n)) h unbegun = absurd h
+run_begun said p w live (ends.Fault Read) h unbegun = absurd h
+run_begun said p w live (ends.Fault TooLong) h unbegun = absurd h

@@ -32,7 +32,7 @@ use Rattle.run_model.specs.Dispatch.{Moment, event, told_of, heard_by, moment_by
 use Rattle.run_model.specs.Turns.{begins_as, ends_as, index_of, run_finished, stops_with, stress_finale}
 use Rattle.run_model.specs.Turns.{sub_run_started}
 use Rattle.run_model.specs.Turns.{deed_on, admission, answer_to, starting, delivery}
-use Rattle.run_model.specs.Turns.{hears}
+use Rattle.run_model.specs.Turns.{message_deed}
 use Rattle.run_model.specs.Turns.{tally_by, signal_deed, job_deed, key_deed, answered_by, oldest_of, cancels_for}
 use Rattle.run_model.specs.Turns.{nothing_done, live_in, tells, job_event}
 use Rattle.run_model.specs.Words.{told}
@@ -104,7 +104,7 @@ delivery_quiet b (m ∷ rest) =
     let d : DispatcherView = b.dispatcher in
     let answer : Deed = answer_to b (starting m) (go_of d.tally m) in
     caused_quiet (moment_by b.clock d.watch) (tally_by b.clock d m) (cause_of d.rules (tally_by b.clock d m) m)
-    (hears b.clock d m answer) (told_quiet (moment_by b.clock d.watch) (told_of d.tally m)) refl
+    (message_deed b.clock d m answer) (told_quiet (moment_by b.clock d.watch) (told_of d.tally m)) refl
 
 cancels_quiet : (now : ℕ) (d : DispatcherView) (cause : Cause) → AreQuiet (cancels_for now d cause)
 cancels_quiet now d cause = caused_quiet (moment_by now d.watch) d.tally (Some cause) nothing_done refl refl

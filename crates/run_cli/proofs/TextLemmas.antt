@@ -7,6 +7,7 @@ use Rattle.run_output.specs.Fields.{line_bytes}
 use Rattle.run_capture.specs.Bytes.{Takes}
 use Rattle.run_capture.proofs.BytesLemmas.{takes_both}
 use Rattle.run_cli.specs.Call.{TakesFront}
+use Rattle.run_engine.proofs.PartLemmas.{on_err}
 
 -- a line has its line feed at least
 pub line_some : (text : List ℕ) → 0 < length (line_bytes text)
@@ -44,11 +45,6 @@ front_after before between after first later one (front, left, some, is, h) = (
   ap (λ bytes. first ++ bytes) is ∙ sym (append_assoc first front left),
   takes_both before between after first front one h,
 )
-
--- what holds at any rate holds after an error
-pub on_err : {T E : Type 0} (r : Result T E) (P : Type 0) → P → OnErr r P
-on_err (Ok x) P h = tt
-on_err (Err e) P h = h
 
 -- and what follows from what holds after an error
 pub on_err_then : {T E : Type 0} (r : Result T E) (P Q : Type 0) → (P → Q) → OnErr r P → OnErr r Q

@@ -6,6 +6,7 @@ use Rattle.std.proofs.Common.{unwrap_or, Result, Ok, Err, refl, ap, sym, ◌∙�
 use Rattle.std.proofs.Common.{IsTrue}
 use Rattle.std.proofs.lemmas.List.{append-nil, map-append, length-map, length-append, reverse-append}
 use Rattle.std.proofs.lemmas.List.{reverse-reverse, take-append-drop}
+use Rattle.run_capture.proofs.Facts.{true_lt}
 use Rattle.run_capture.specs.declared.source.Failed.{Failed}
 use Rattle.run_events.specs.declared.settings.Settings.{Settings}
 use Rattle.run_events.specs.declared.turn.Turn.{Turn}
@@ -32,6 +33,7 @@ use Rattle.run_cli.specs.Clocks.{clock_after, clock_after_all, clock_at, turn_cl
 use Rattle.run_cli.specs.Commands.{ticks_in, tick_clocks}
 use Rattle.run_cli.proofs.ClockLemmas.{turn_clocks-more, clock_after-more, turn_clocks-append}
 use Rattle.run_cli.proofs.QuietLemmas.{ticks_in-append, ticks_by}
+use Rattle.run_generate.proofs.WayLemmas.{slice_get-front}
 
 -- a clock that is at most the greatest u64 stays so after an enabled turn
 second : (a b : Bool) → IsTrue (a && b) → b ≡ true
@@ -97,15 +99,6 @@ rest_of p ts journal refusal (Err (engine.ThirdSignal i)) some h =
 rest_of p ts journal refusal (Err engine.Unfinished) some h = ([], sym h.0 ∙ sym (append-nil (turns_of journal)))
 rest_of p ts journal refusal (Err engine.OutOfMemory) some h = absurd (some refl)
 
--- an item of the first of two lists
-first_get : {X : Type 0} (xs ys : List X) (i : ℕ) → i < length xs → slice_get (xs ++ ys) i ≡ slice_get xs i
-first_get [] ys i below = absurd (omega arith)
-first_get (x ∷ xs) ys zero below = refl
-first_get (x ∷ xs) ys (suc i) below = first_get xs ys i (omega arith)
-
-true_lt : (m n : ℕ) → m < n → nat_lt m n ≡ true
-true_lt m n below = grind arith
-
 -- a display with these clocks
 abbrev with_clocks : Screen → List ℕ → Screen
 with_clocks w clocks = record w { clocks = clocks }
@@ -116,7 +109,7 @@ tick_line : (w : Screen) (clocks more : List ℕ) → w.ticks < length clocks
 tick_line w clocks more below =
     ap (λ (now : Option ℕ). if is_hidden_in w then [] else line_bytes (tick_of w.showing (seen_in w)
     (unwrap_or now 0) w.width))
-    (first_get clocks more w.ticks below)
+    (slice_get-front clocks more w.ticks below)
 
 tick_after : (w : Screen) (clocks more : List ℕ) → w.ticks < length clocks
     → screen_after (with_clocks w (clocks ++ more)) Tick ≡ with_clocks (screen_after (with_clocks w clocks) Tick)
@@ -133,7 +126,7 @@ tick_after w clocks more below =
       clocks = clocks ++ more;
       ticks = if nat_lt w.ticks (length clocks) then w.ticks + 1 else w.ticks;
       showing = if is_hidden_in w then w.showing else shown_after w.showing (seen_in w) (unwrap_or now 0) w.width;
-    }) (first_get clocks more w.ticks below)
+    }) (slice_get-front clocks more w.ticks below)
 
 -- the lines of events among which are no more ticks than clocks
 lines_more : (w : Screen) (clocks more : List ℕ) (events : List ReporterEvent)

@@ -1,7 +1,7 @@
 -- What `live` says: of the plan that it reads, of the run that its workers make, and of what it writes.
 use Rattle.std.specs.Prelude.{ℕ, ◌≡◌, ◌≢◌, ◌⊎◌, ◌≤◌, ◌<◌, List, [], length, min, max, Option, Some, None, IsSomeAnd}
-use Rattle.std.specs.Prelude.{false, Ok, Err, IsNone}
-use Rattle.std.specs.List.{All}
+use Rattle.std.specs.Prelude.{Bool, false, ◌∷◌, ◌==◌, Ok, Err, IsNone}
+use Rattle.std.specs.List.{All, list_any}
 use Rattle.run_input.specs.declared.plan_line.RunnerKeys.{RunnerKeys}
 use Rattle.run_events.specs.declared.input.InputHandlerKind.TheVariants as inputs
 use Rattle.run_events.specs.declared.plan.Plan.{Plan}
@@ -17,7 +17,8 @@ use Rattle.run_input.specs.Input.{IsFirstBadAlone}
 use Rattle.run_output.specs.declared.fault.Fault.TheVariants.{Words, Line, Plan as BadPlan, NotEnabled, ThirdSignal}
 use Rattle.run_output.specs.declared.fault.Fault.TheVariants.{Unfinished, Report, Read, Memory, TooLong}
 use Rattle.run_output.specs.declared.fault.PlanFault.{PlanFault}
-use Rattle.run_shared.specs.Receipts.{concatenated, receipt_numbers, times, StandsIn}
+use Rattle.run_model.specs.Words.{times}
+use Rattle.run_shared.specs.Receipts.{concatenated, receipt_numbers, StandsIn}
 use Rattle.run_shared.specs.Closed.{Refuses}
 use Rattle.run_shared.specs.declared.closing.CloseKind.TheVariants.{OutOfMemory}
 use Rattle.run_drive.specs.declared.spawner.Heard.{Heard}
@@ -142,6 +143,10 @@ abbrev pub live_status : LiveEnding → ℕ
 live_status (ends.Outcome o) = outcome_status o
 live_status (ends.Fault fault) = fault_status fault
 live_status ends.Receipt = 13
+
+-- the statuses with which no run was begun: a bad line, a refused plan, a read that failed, an input that is too long
+abbrev pub is_unbegun : ℕ → Bool
+is_unbegun status = list_any (λ known. known == status) (3 ∷ 5 ∷ 10 ∷ 12 ∷ [])
 
 -- the source's count of faults rose exactly where `live` ends since reading failed; where memory was wanting it may
 -- have risen

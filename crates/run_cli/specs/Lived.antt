@@ -20,7 +20,8 @@ use Rattle.run_cli.specs.declared.live.LiveEnding.{LiveEnding}
 use Rattle.run_cli.specs.declared.live.LiveEnding.TheVariants as ends
 use Rattle.std.specs.Option.{IsNone, IfSome}
 use Rattle.std.specs.List.{All}
-use Rattle.run_shared.specs.Receipts.{concatenated, receipt_numbers, times, StandsIn}
+use Rattle.run_model.specs.Words.{times}
+use Rattle.run_shared.specs.Receipts.{concatenated, receipt_numbers, StandsIn}
 use Rattle.run_shared.specs.Closed.{IsLeft, Refuses}
 use Rattle.run_shared.specs.declared.closing.CloseKind.TheVariants.{OutOfMemory}
 use Rattle.run_drive.specs.declared.spawner.Heard.{Heard}

@@ -10,7 +10,7 @@ use crate::ended::{Ended, end_at_fault, end_for_memory};
 use crate::write::{WriteError, write_line};
 use run_capture::Sink;
 use run_generate::{GenerateError, Generated, generate};
-use run_generate_laws::generated_runs_end;
+use run_laws_generate::generated_runs_end;
 use run_output::{Fault, summary_line};
 use std::alloc::Global;
 

@@ -1,5 +1,5 @@
 // The top call: all that the program does.
-ghost use Rattle.std.specs.Prelude.{◌≡◌, ◌+◌, ◌≤◌, ◌<◌, ◌^◌, ℕ, List, map, length, string_bytes, None};
+ghost use Rattle.std.specs.Prelude.{◌≡◌, ◌+◌, ◌≤◌, ◌<◌, ◌^◌, ℕ, List, map, length, string_bytes, None, true};
 ghost use Rattle.run_cli.specs.Call.{reading_of, writing_of, call_of};
 ghost use Rattle.run_cli.specs.Plans.{fault_of_plan};
 ghost use Rattle.run_cli.specs.Given.{CountsReadAtEnd};
@@ -10,7 +10,8 @@ ghost use Rattle.run_cli.specs.Ending.{IsEnding};
 ghost use Rattle.run_cli.specs.Text.{ending_status, outcome_status};
 ghost use Rattle.run_cli.specs.Status.{Answers};
 ghost use Rattle.run_cli.specs.LiveGiven.{IsLiveWord};
-ghost use Rattle.run_cli.specs.Live.{unheard, IsPlanEnd, IsLiveEnd, CountsLive, AnswersLive};
+ghost use Rattle.run_cli.specs.Live.{unheard, live_status, IsPlanEnd, IsLiveEnd, CountsLive};
+ghost use Rattle.run_cli.specs.Live.{AnswersLive, is_unbegun};
 
 use crate::command::{Command, generated_tests};
 use crate::ended::{Ended, end_at_fault, replay, status_of_outcome};
@@ -118,9 +119,10 @@ fn live_plan<K: Sink + Send, H: Host, X: Threads + Wait + Sync>(
     host: &mut H,
 ) -> LiveEnded<K, H::Worker>
     requires { length said.1.scripts + length said.1.tests < 2 ^ 32 }
-    ensures { IsPlanEnd H.Worker.has_said said.0 said.1
+    ensures says { IsPlanEnd H.Worker.has_said said.0 said.1
         (writing_of K.Sink sink result.sink) result.live
         result.ending }
+    ensures unused { is_unbegun (live_status result.ending) ≡ true → host.new ≡ host.old }
 {
     let (keys, plan) = said;
     match runner_of(alloc, keys, unheard(plan)) {
@@ -141,6 +143,7 @@ fn live_to_end<S: Source, K: Sink + Send, H: Host, X: Threads + Wait + Sync>(
         (words : List (List ℕ)) → IsLiveWord words → IsLiveEnd H.Worker.has_said
         (call_of words reading (writing_of K.Sink sink result.sink)) result.live result.ending }
     ensures counted { CountsLive (reading_of S.Source source.old source.new) result.ending }
+    ensures unused { is_unbegun (live_status result.ending) ≡ true → host.new ≡ host.old }
 {
     match read_plan(alloc, source) {
         Ok(said) => live_plan(rt, alloc, said, sink, host),
@@ -170,9 +173,10 @@ fn lived<S: Source, K: Sink + Send, H: Host, X: Threads + Wait + Sync>(
     sink: K,
     host: &mut H,
 ) -> (Ran<K>, Option<Live<H::Worker>>)
-    ensures { let reading = reading_of S.Source source.old source.new in
+    ensures says { let reading = reading_of S.Source source.old source.new in
         (words : List (List ℕ)) → IsLiveWord words → AnswersLive H.Worker.has_said
         (call_of words reading (writing_of K.Sink sink result.0.sink)) result.1 result.0.status }
+    ensures unused { is_unbegun result.0.status ≡ true → host.new ≡ host.old }
 {
     let LiveEnded { ending, sink, live } = live_to_end(rt, alloc, source, sink, host);
     let ran = Ran {
@@ -223,6 +227,10 @@ pub fn run<S: Source, K: Sink + Send, H: Host, X: Threads + Wait + Sync>(
         IsLiveWord said → AnswersLive H.Worker.has_said call result.1 result.0.status }
     ensures untouched { let said = map (λ w. string_bytes w) words.now in
         ¬ IsLiveWord said → ¬ NamesCommand said → source.new ≡ source.old }
+    // The host is asked for nothing but by `live`, and by that only once it has a plan that is accepted.
+    ensures alone { ¬ IsLiveWord (map (λ w. string_bytes w) words.now) → host.new ≡ host.old }
+    ensures unused { IsLiveWord (map (λ w. string_bytes w) words.now) → is_unbegun result.0.status ≡ true
+        → host.new ≡ host.old }
 {
     if is_live(words) {
         return lived(rt, alloc, source, sink, host);

@@ -1,5 +1,6 @@
 -- What contracts see of a sleep, and the timer that it keeps.
-use Rattle.std.specs.Prelude.{ℕ, ◌≡◌, ◌+◌, ◌-◌, ◌^◌, ◌≤◌, ◌<◌, Bool, true, false, nat_le, if◌then◌else◌, Option, Some, None}
+use Rattle.std.specs.Prelude.{ℕ, ◌≡◌, ◌+◌, ◌-◌, ◌^◌, ◌≤◌, ◌<◌, Bool}
+use Rattle.std.specs.Prelude.{true, false, nat_le, if◌then◌else◌, Option, Some, None}
 use Rattle.run_clock.specs.declared.poll.Poll.{Poll}
 use Rattle.run_clock.specs.declared.poll.Poll.TheVariants.{Ready, Pending}
 use Rattle.run_clock.specs.declared.sleep_state.SleepState.{SleepState}

@@ -2,7 +2,8 @@
 ghost use Rattle.std.specs.Prelude.{◌≡◌, ◌+◌, ◌≤◌, [], IfSome};
 ghost use Rattle.run_clock.specs.Counted.{pause, resume, is_paused, is_due};
 ghost use Rattle.run_clock.specs.Sleep.{set_at, is_stopped, paused_at, resumed_at, reset_at, fires_at, IsOutOfReach};
-ghost use Rattle.run_clock.specs.Sleep.{fires_now, ready_where, IsDueFrom, Keeps, ForTimer, ForTimerBy, AddsToTimer, SetsAgain};
+ghost use Rattle.run_clock.specs.Sleep.{fires_now, ready_where, IsDueFrom, Keeps};
+ghost use Rattle.run_clock.specs.Sleep.{ForTimer, ForTimerBy, AddsToTimer, SetsAgain};
 
 use crate::poll::Poll;
 use crate::sleep_state::SleepState;

@@ -5,14 +5,14 @@ use Rattle.std.specs.Option.{option_to_list}
 use Rattle.run_commands.specs.declared.words.char_kind.CharKind.{CharKind}
 use Rattle.run_commands.specs.declared.words.char_kind.CharKind.TheVariants as kinds
 use Rattle.run_commands.specs.declared.words.machine.State.{State}
-use Rattle.run_commands.specs.Gathered.{Gathered, begun}
+use Rattle.run_commands.specs.Gathered.{Gathered, word_so_far}
 use Rattle.run_commands.specs.WordMachine.{Mode, Effect, Read, step_outside, step_escape, step_single, step_double}
 use Rattle.run_commands.specs.WordMachine.{step_double_escape, effects, put, mode_of, step_for, IsSound, TakesChar}
 use Rattle.run_commands.proofs.WordSoundLemmas.{onto_both, onto_none}
 
 -- bytes that are added to the open word
 put-add : (ended : List (List ℕ)) (open_word : Option (List ℕ)) (bytes : List ℕ) (r : Read)
-    → put (record { ended = ended; open_word = Some (begun open_word ++ bytes) }) r
+    → put (record { ended = ended; open_word = Some (word_so_far open_word ++ bytes) }) r
     ≡ put (record { ended = ended; open_word = open_word }) (effects (Effect.add bytes) r)
 put-add ended open_word bytes (Err place) = refl
 put-add ended None bytes (Ok more) = refl
@@ -20,7 +20,7 @@ put-add ended (Some word) bytes (Ok more) = ap (λ words. Ok (ended ++ words)) (
 
 -- a word that is opened
 put-open : (ended : List (List ℕ)) (open_word : Option (List ℕ)) (r : Read)
-    → put (record { ended = ended; open_word = Some (begun open_word) }) r
+    → put (record { ended = ended; open_word = Some (word_so_far open_word) }) r
     ≡ put (record { ended = ended; open_word = open_word }) r
 put-open ended open_word (Err place) = refl
 put-open ended None (Ok more) = ap (λ words. Ok (ended ++ words)) (onto_none more)
@@ -45,8 +45,8 @@ put-pass words (Ok more) = refl
 -- a step that adds bytes
 pub takes_add : (state next : State) (old : Gathered) (bytes : List ℕ) (place c : ℕ)
     → step_for state old place c ≡ (mode_of next true, Effect.add bytes)
-    → IsSound next (record old { open_word = Some (begun old.open_word ++ bytes) })
-    → TakesChar state next old (record old { open_word = Some (begun old.open_word ++ bytes) }) place c
+    → IsSound next (record old { open_word = Some (word_so_far old.open_word ++ bytes) })
+    → TakesChar state next old (record old { open_word = Some (word_so_far old.open_word ++ bytes) }) place c
 takes_add state next old bytes place c step' sound = record {
   mode = ap (λ (to : Mode × Effect). to.0) (sym step');
   adds = λ r. put-add old.ended old.open_word bytes r
@@ -57,8 +57,8 @@ takes_add state next old bytes place c step' sound = record {
 -- a step that opens a word
 pub takes_open : (state next : State) (old : Gathered) (place c : ℕ)
     → step_for state old place c ≡ (mode_of next true, Effect.pass)
-    → IsSound next (record old { open_word = Some (begun old.open_word) })
-    → TakesChar state next old (record old { open_word = Some (begun old.open_word) }) place c
+    → IsSound next (record old { open_word = Some (word_so_far old.open_word) })
+    → TakesChar state next old (record old { open_word = Some (word_so_far old.open_word) }) place c
 takes_open state next old place c step' sound = record {
   mode = ap (λ (to : Mode × Effect). to.0) (sym step');
   adds = λ r. put-open old.ended old.open_word r ∙ put-pass old r
@@ -133,7 +133,7 @@ outside_other kinds.Plain inside place bytes a b c d e hash = refl
 -- a step that adds bytes in two parts
 pub takes_add_both : (state next : State) (old : Gathered) (xs ys : List ℕ) (place c : ℕ)
     → step_for state old place c ≡ (mode_of next true, Effect.add (xs ++ ys))
-    → IsSound next (record old { open_word = Some (begun old.open_word ++ (xs ++ ys)) })
-    → TakesChar state next old (record old { open_word = Some ((begun old.open_word ++ xs) ++ ys) }) place c
+    → IsSound next (record old { open_word = Some (word_so_far old.open_word ++ (xs ++ ys)) })
+    → TakesChar state next old (record old { open_word = Some ((word_so_far old.open_word ++ xs) ++ ys) }) place c
 takes_add_both state next old xs ys place c step' sound =
-    rw (append_assoc (begun old.open_word) xs ys) (takes_add state next old (xs ++ ys) place c step' sound)
+    rw (append_assoc (word_so_far old.open_word) xs ys) (takes_add state next old (xs ++ ys) place c step' sound)

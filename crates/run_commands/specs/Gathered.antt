@@ -7,6 +7,6 @@ pub record Gathered : Type 0 where
   pub open_word : Option (List ℕ)
 
 -- what an open word has so far
-abbrev pub begun : Option (List ℕ) → List ℕ
-begun None = []
-begun (Some word) = word
+abbrev pub word_so_far : Option (List ℕ) → List ℕ
+word_so_far None = []
+word_so_far (Some word) = word

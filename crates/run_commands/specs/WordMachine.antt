@@ -8,7 +8,7 @@ use Rattle.run_commands.specs.declared.words.machine.State.{State}
 use Rattle.run_commands.specs.declared.words.machine.State.TheVariants as states
 use Rattle.run_commands.specs.declared.words.words_error.WordsError.{WordsError}
 use Rattle.run_commands.specs.declared.words.words_error.WordsError.TheVariants as errors
-use Rattle.run_commands.specs.Gathered.{Gathered, begun}
+use Rattle.run_commands.specs.Gathered.{Gathered, word_so_far}
 use Rattle.run_commands.specs.Words.{kind}
 
 -- what came before: nothing that matters, in a word or not; a backslash of these bytes; the `#` of a comment;
@@ -129,7 +129,8 @@ mode_of (states.DoubleQuotesEscape quote) inside = double_escape quote (92 ∷ [
 -- the words so far before those that are read
 abbrev pub put : Gathered → Read → Read
 put words (Err place) = Err place
-put words (Ok more) = Ok (words.ended ++ (if is_some words.open_word then onto (begun words.open_word) more else more))
+put words (Ok more) = Ok (words.ended ++ (if is_some words.open_word then onto (word_so_far words.open_word) more
+    else more))
 
 -- no word is open in a comment
 abbrev pub IsSound : State → Gathered → Type 0

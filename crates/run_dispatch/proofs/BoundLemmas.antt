@@ -15,7 +15,7 @@ use Rattle.run_dispatch.specs.Deeds.{with_seen}
 use Rattle.run_dispatch.proofs.FinishLemmas.{IsPlain, with_cause-none}
 
 -- an event that is plain, and counts nothing
-record IsQuiet (told : Option ReporterEvent) : Type 0 where
+pub record IsQuiet (told : Option ReporterEvent) : Type 0 where
   plain : IsPlain told
   counts : (t : Tally) → having_told t told ≡ t
 
@@ -25,7 +25,7 @@ quiet_none = record {
   counts = λ t. refl;
 }
 
-quiet_started : (now : ℕ) (d : DispatcherView) (stress : Option StressCondition)
+pub quiet_started : (now : ℕ) (d : DispatcherView) (stress : Option StressCondition)
     → IsQuiet (option_map (sub_run_started now d) stress)
 quiet_started now d None = quiet_none
 quiet_started now d (Some condition) = record {

@@ -1,8 +1,8 @@
 mod CurrentLemmas
 pub mod BoardLemmas
-mod FinishLemmas
+pub mod FinishLemmas
 mod SeenLemmas
 mod SetLemmas
-mod BoundLemmas
+pub mod BoundLemmas
 mod SignalLemmas
 mod TallyLemmas

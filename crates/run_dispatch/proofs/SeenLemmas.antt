@@ -3,6 +3,7 @@ use Rattle.std.proofs.Common.{◌≡◌, ◌++◌, ◌∷◌, [], ◌||◌, cond
 use Rattle.std.proofs.Common.{ℕ, subst, List, Option, Some, None, Result, Ok, Err, IfOk, option_map, option_to_list}
 use Rattle.std.specs.List.{filter, list_any}
 use Rattle.std.proofs.lemmas.List.Folds.{list_any-append}
+use Rattle.run_capture.proofs.Facts.{or_false}
 use Rattle.run_events.specs.declared.events.ReporterEvent.{ReporterEvent}
 use Rattle.run_events.specs.declared.events.ReporterEvent.TheVariants.{Test}
 use Rattle.run_events.specs.declared.events.TestEvent.{TestEvent}
@@ -16,19 +17,15 @@ use Rattle.run_model.proofs.RerunLemmas.{unseen-none, unseen-one}
 use Rattle.run_dispatch.specs.Deeds.{Acts, Does, having_seen, with_seen, unseen_after}
 use Rattle.run_dispatch.specs.declared.effects.DispatchEffects.{DispatchEffects}
 
-or_none : (b : Bool) → (b || false) ≡ b
-or_none true = refl
-or_none false = refl
-
 -- what one event leaves
 seen_by : (event : TestEvent) (kind : TestEventKind) (unseen : Option (List TestInstanceId))
     → option_map (unseen_among (Test (record event { kind = kind }) ∷ [])) unseen ≡ unseen_after kind unseen
 seen_by event (TestStarted told) unseen =
     unseen-one told.start.test.id (Test (record event { kind = TestStarted told }) ∷ [])
-    (λ id. or_none (is_one_test told.start.test.id id)) unseen
+    (λ id. or_false (is_one_test told.start.test.id id)) unseen
 seen_by event (TestSkipped told) unseen =
     unseen-one told.test.id (Test (record event { kind = TestSkipped told }) ∷ [])
-    (λ id. or_none (is_one_test told.test.id id)) unseen
+    (λ id. or_false (is_one_test told.test.id id)) unseen
 seen_by event kind unseen = unseen-none (Test (record event { kind = kind }) ∷ []) (λ id. refl) unseen
 
 seen-told : (told : Option ReporterEvent) (unseen : Option (List TestInstanceId))

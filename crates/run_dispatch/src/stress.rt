@@ -5,11 +5,13 @@ ghost use Rattle.run_model.specs.SubRuns.{index_at, is_failed, is_cancelled, out
 ghost use Rattle.run_model.specs.SubRuns.{stress_stats, total_of, with_summary};
 ghost use Rattle.run_dispatch.specs.Stress.{action_after, CanCount};
 
+use run_capture::{Duplicate, Mem};
 use run_commands::{StressCondition, StressCount};
 use run_events::{
     CancelReason, FinalRunStats, RunOutcome, StressIndex, StressProgress, StressRunStats,
 };
 use run_model::SubRuns;
+use std::alloc::Global;
 use std::marker::Model;
 
 /// What a stress run does after a sub-run.
@@ -18,6 +20,12 @@ pub enum StressLoopAction {
     /// A further sub-run begins, this far in the run, unless as many have ended as a `u32` counts.
     Continue { next_progress: StressProgress },
     Stop,
+}
+
+impl Duplicate for StressLoopAction {
+    fn copy(&self, _alloc: Global) -> Mem<StressLoopAction> {
+        Ok(*self)
+    }
 }
 
 impl StressLoopAction {

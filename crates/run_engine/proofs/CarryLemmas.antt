@@ -32,7 +32,8 @@ pub can_advance : (p : Settings) (journal : List Entry) (b : Board) (turn : Turn
     → b ≡ board p (past_of p journal) → enabled p (past_of p journal) turn ≡ true
     → CanAdvance p b turn (turn_of_unit turn)
 can_advance p journal b turn r st en =
-    subst (λ b. CanAdvance p b turn (turn_of_unit turn)) (sym st) (ready_after p journal turn r.legal r.few.units r.short en)
+    subst (λ b. CanAdvance p b turn (turn_of_unit turn)) (sym st) (ready_after p journal turn r.legal r.few.units
+    r.short en)
 
 -- the board after a turn is that of the longer journal
 pub stands_next : (p : Settings) (journal : List Entry) (old new : Board) (turn : Turn) (refused : List Bool)
@@ -73,7 +74,8 @@ takes_from tells asks o p journal after b turn refused refusal claimed place at 
       answered = answered ∙ ap (λ b. length (deed_events (deed_on p b turn))) st;
       marked = marked;
       grown = ap (λ j. unbroken p j claimed) grown;
-      told = subst (λ b. TellsEvents tells o.report o.report_after (zip (deed_events (deed_on p b turn)) refused) refusal)
+      told = subst (λ b. TellsEvents tells o.report o.report_after (zip (deed_events (deed_on p b turn)) refused)
+          refusal)
           st tell;
       asked = subst (λ b. Adds asks o.children o.children_after
           (map (λ ask. (length journal, ask)) (option_to_list (deed_on p b turn).asked))) st

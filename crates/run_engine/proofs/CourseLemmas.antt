@@ -14,7 +14,7 @@ use Rattle.run_laws.proofs.board.Courses.{one_course, unrefused}
 use Rattle.run_laws.proofs.told.FateLemmas.{ended_fates, over_ended}
 use Rattle.run_engine.proofs.OutcomeLemmas.{has_outcome}
 use Rattle.run_engine.specs.World.{Outside, CountsErrors}
-use Rattle.run_engine.specs.Execution.{IsAnswerOf, IsRefusedAt, stopped_at, AnswersCourse, UnlessMemory, Carries}
+use Rattle.run_engine.specs.Execution.{IsAnswerOf, IsRefusedAt, stop_at, AnswersCourse, UnlessMemory, Carries}
 use Rattle.run_engine.specs.Execution.{Executes}
 use Rattle.run_engine.specs.declared.errors.TestRunnerExecuteErrors.{TestRunnerExecuteErrors}
 use Rattle.run_engine.specs.declared.errors.TestRunnerExecuteErrors.TheVariants.{Report, NotEnabled, ThirdSignal}
@@ -42,7 +42,7 @@ memory_course o p turns refuses = record {
 -- a list of turns that stops answers where, and at what
 stopped_course : {R E C : Type 0} (o : Outside R C) (p : Settings) (turns : List Turn) (refuses : ℕ → Bool)
     (journal : List Entry) (i : ℕ) (third : Bool) → IsLegal p journal → AreAnswersOf refuses journal
-    → IsRefusedAt p turns journal i third → AnswersCourse {E = E} o p turns refuses (Err (stopped_at i third))
+    → IsRefusedAt p turns journal i third → AnswersCourse {E = E} o p turns refuses (Err (stop_at i third))
 stopped_course o p turns refuses journal i third legal answers says =
     let one : HasOneCourse p turns refuses = one_course p turns refuses in
     let stops : Stops p turns refuses i third =
@@ -50,7 +50,7 @@ stopped_course o p turns refuses journal i third legal answers says =
     record {
       stops = λ place t s.
           let same : (i ≡ place) × (third ≡ t) = one.one_stop i place third t stops s in
-          inl (ap₂ (λ k t. Err (stopped_at k t)) same.0 same.1);
+          inl (ap₂ (λ k t. Err (stop_at k t)) same.0 same.1);
       unfinished = λ g. absurd (one.stop_or_unfinished i third stops g);
       ended = λ u e calm. absurd (one.stop_or_end i third u stops e);
       refused = λ u e lt. absurd (one.stop_or_end i third u stops e);

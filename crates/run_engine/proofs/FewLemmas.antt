@@ -46,7 +46,8 @@ none_refused : (groups : List Group) (retries : Option RetryPolicy) (tests : Lis
     → option_and_then (test_refusal groups retries tests) first ≡ None → first ≡ None
 none_refused groups retries tests None e h = refl
 none_refused groups retries tests (Some k) e h =
-    let it = position-Some (λ k. is_some (test_refusal groups retries tests k)) (range_with_len 0 (length tests)) k 0 e in
+    let it = position-Some (λ k. is_some (test_refusal groups retries tests k)) (range_with_len 0 (length tests)) k 0
+    e in
     let below : k < length tests = omega (arith, it.0, length-range_with_len 0 (length tests)) in
     let at : get_or (range_with_len 0 (length tests)) k 0 ≡ k =
     get_or-range_with_len 0 (length tests) k 0 below ∙ zero-add k in
@@ -65,7 +66,8 @@ not_too_many k repeats groups retries test =
     by_rule _ _ _ _ repeats (names_no_group groups test) (test.weight == 0) (has_too_many retries test)
   where
     by_rule : (a b c d : TestRunnerBuildError) (r g w m : Bool)
-        → is_some (if r then Some a else (if g then Some b else (if w then Some c else (if m then Some d else None)))) ≡ false
+        → is_some (if r then Some a else (if g then Some b else (if w then Some c else (if m then Some d else
+        None)))) ≡ false
         → m ≡ false
     by_rule a b c d true g w m e = cc
     by_rule a b c d false true w m e = cc
@@ -83,7 +85,8 @@ pub unrefused : (p : Settings) (threads : ℕ)
     → is_some (refusal_at j (is_repeat p.plan.tests j) p.plan.groups p.retries test) ≡ false
 unrefused p threads accepted j test e =
     sym (ap (λ o. is_some (option_and_then (refusal_at j (is_repeat p.plan.tests j) p.plan.groups p.retries) o)) e)
-    ∙ none_passes (λ k. is_some (test_refusal p.plan.groups p.retries p.plan.tests k)) (length p.plan.tests) j first_none
+    ∙ none_passes (λ k. is_some (test_refusal p.plan.groups p.retries p.plan.tests k)) (length p.plan.tests) j
+    first_none
     (slice_get_within p.plan.tests j test e)
   where
     first_none : first_refused p.plan.groups p.retries p.plan.tests ≡ None

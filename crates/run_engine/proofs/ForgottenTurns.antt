@@ -23,7 +23,7 @@ use Rattle.run_model.specs.Board.{Board, Deed, unit_in, anew, moved_in, step, an
 use Rattle.run_model.specs.Dispatch.{dispatch_takes, go_of}
 use Rattle.run_model.specs.Turns.{admission, answer_to, delivers, delivery, done_by, deed_on, enabled_on, facts}
 use Rattle.run_model.specs.Turns.{index_of, is_empty, is_third_signal, keys_at, live_in, run_takes, signals_at}
-use Rattle.run_model.specs.Turns.{starting, taken_by, takes_turn, turn_of_unit, unit_takes}
+use Rattle.run_model.specs.Turns.{starting, taken_deed, takes_turn, turn_of_unit, unit_takes}
 use Rattle.run_laws.specs.Ready.{IsTimelyBoard, CanTakeTurn, CanAnswer, CanDeliverOldest, CanAdvance}
 use Rattle.run_laws.proofs.board.ByTurn.{Cases, by_turn}
 use Rattle.run_state.specs.Held.{kept_of}
@@ -108,7 +108,7 @@ taker p b vs k turn h can = kept_taker p k b.clock turn (get_or b.units k None) 
 answer_same : (p : Settings) (b : Board) (vs : List (Option UnitView)) (k : Option ℕ) (go : Option Bool)
     → AreForgotten p b.units vs → CanAnswer b k go → answer_to (with_units b vs) k go ≡ answer_to b k go
 answer_same p b vs (Some k) (Some go) h can =
-    ap (taken_by b.clock k (Answered go)) (taker p b vs k (Answered go) h can)
+    ap (taken_deed b.clock k (Answered go)) (taker p b vs k (Answered go) h can)
 answer_same p b vs k go h can = refl
 
 delivery_same : (p : Settings) (b : Board) (vs : List (Option UnitView)) (queue : List Message)
@@ -160,7 +160,7 @@ deed_same p b c turn h = subst (λ (c : Board). CanAdvance p b turn (turn_of_uni
       stop_wait_due = λ can. refl;
       answer = λ can. refl;
       info_due = λ can. refl;
-      named = λ turn k to own can. ap (taken_by b.clock k to) (taker p b vs k to h.units can);
+      named = λ turn k to own can. ap (taken_deed b.clock k to) (taker p b vs k to h.units can);
     }
 
 -- and it can be taken

@@ -115,7 +115,8 @@ pub heard_named : {R E C : Type 0} (tells : R → List (ReporterEvent × Option 
     → OnErr result (BreaksOff tells asks (outside faults r s c d) mid.settings mid.journal turn)
     → IsHeard tells asks r c old → IsHeard tells asks s d new
 heard_named tells asks faults r s c d turn old mid new (Ok refusal) same sound takes broke memory off h =
-    heard_takes tells asks faults r s c d turn mid new refusal (subst (λ (w : World). w.broken ≡ false) (sym same) sound)
+    heard_takes tells asks faults r s c d turn mid new refusal (subst (λ (w : World). w.broken ≡ false) (sym same)
+    sound)
     takes (subst (IsHeard tells asks r c) (sym same) h)
 heard_named tells asks faults r s c d turn old mid new (Err e) same sound takes broke memory off h =
     heard_breaks tells asks faults r s c d turn mid new (subst (λ (w : World). w.broken ≡ false) (sym same) sound)

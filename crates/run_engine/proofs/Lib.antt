@@ -13,6 +13,7 @@ pub mod UnkeptLemmas
 pub mod LeanLemmas
 pub mod RepeatLemmas
 pub mod FewLemmas
+pub mod OnceLemmas
 pub mod NameLemmas
 pub mod ForgottenLemmas
 pub mod ForgottenMoves

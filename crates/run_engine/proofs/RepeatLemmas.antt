@@ -5,7 +5,8 @@ use Rattle.std.specs.List.{list_any}
 use Rattle.run_events.specs.declared.plan.PlanTest.{PlanTest}
 use Rattle.run_events.specs.declared.plan.Group.{Group}
 use Rattle.run_events.specs.declared.retry_policy.RetryPolicy.{RetryPolicy}
-use Rattle.run_engine.specs.Builder.{same_id, is_among, is_repeat, refusal_at, test_refusal}
+use Rattle.run_engine.specs.Builder.{is_among, is_repeat, refusal_at, test_refusal}
+use Rattle.run_model.specs.Reruns.{is_one_test}
 
 -- what a set has after an insertion
 cond_or : (b had : Bool) → cond b true had ≡ (had || b)
@@ -29,7 +30,7 @@ found added had e = ap not e ∙ twice had
 pub refusal_here : (groups : List Group) (retries : Option RetryPolicy) (tests : List PlanTest) (k : ℕ)
     (test : PlanTest)
     (repeats : Bool)
-    → slice_get tests k ≡ Some test → list_any (λ t. same_id t.id test.id) (take k tests) ≡ repeats
+    → slice_get tests k ≡ Some test → list_any (λ t. is_one_test t.id test.id) (take k tests) ≡ repeats
     → test_refusal groups retries tests k ≡ refusal_at k repeats groups retries test
 refusal_here groups retries tests k test repeats at among =
     ap (option_and_then (refusal_at k (is_repeat tests k) groups retries)) at

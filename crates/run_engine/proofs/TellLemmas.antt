@@ -2,14 +2,7 @@
 use Rattle.std.proofs.Common.{◌≡◌, ℕ, ◌+◌, ◌<◌, List, [], ◌∷◌, ◌++◌, length, take, zip, get_or, refl, ap, sym, ◌∙◌}
 use Rattle.std.proofs.Common.{arith, length-take}
 use Rattle.std.proofs.lemmas.List.{take_more}
-
--- the pairs of two lists of one length, and one pair more
-zip-push : {X Y : Type 0} (xs : List X) (ys : List Y) (x : X) (y : Y) → length xs ≡ length ys
-    → zip (xs ++ x ∷ []) (ys ++ y ∷ []) ≡ zip xs ys ++ (x, y) ∷ []
-zip-push [] [] x y e = refl
-zip-push [] (w ∷ ys) x y e = absurd (omega arith)
-zip-push (v ∷ xs) [] x y e = absurd (omega arith)
-zip-push (v ∷ xs) (w ∷ ys) x y e = ap (λ ps. (v, w) ∷ ps) (zip-push xs ys x y (omega arith))
+use Rattle.run_capture.proofs.Facts.{zip-push}
 
 -- the pairs of the first items of a list, and the next one
 pub zip-more : {X Y : Type 0} (xs : List X) (ys : List Y) (i : ℕ) (x : X) (y : Y) → i < length xs → length ys ≡ i

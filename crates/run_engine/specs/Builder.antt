@@ -21,6 +21,7 @@ use Rattle.run_events.specs.declared.retry_policy.TestThreads.TheVariants.{Count
 use Rattle.run_commands.specs.declared.interceptor.Interceptor.{Interceptor}
 use Rattle.run_commands.specs.declared.stress_count.StressCondition.{StressCondition}
 use Rattle.run_admission.specs.InUse.{group_of}
+use Rattle.run_model.specs.Reruns.{is_one_test}
 use Rattle.run_model.specs.Backoff.{retry_count}
 use Rattle.run_engine.specs.declared.errors.TestRunnerBuildError.{TestRunnerBuildError}
 use Rattle.run_engine.specs.declared.errors.TestRunnerBuildError.TheVariants.{ZeroLimit, DuplicateTest, UnknownGroup}
@@ -65,14 +66,10 @@ settings_of builder plan = record {
   flaky_result = builder.flaky_result;
 }
 
--- whether two ids are of one test
-abbrev pub same_id : TestInstanceId → TestInstanceId → Bool
-same_id a b = pointwise nat_eq a.binary b.binary && pointwise nat_eq a.name b.name
-
 -- whether one of the earlier tests has the id of this one
 abbrev pub is_among : List PlanTest → Option PlanTest → Bool
 is_among earlier None = false
-is_among earlier (Some test) = list_any (λ t. same_id t.id test.id) earlier
+is_among earlier (Some test) = list_any (λ t. is_one_test t.id test.id) earlier
 
 -- whether the test at this place has the id of an earlier one
 abbrev pub is_repeat : List PlanTest → ℕ → Bool

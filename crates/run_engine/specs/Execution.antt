@@ -65,16 +65,16 @@ UnlessMemory (Err Unfinished) fact = fact
 UnlessMemory (Err OutOfMemory) fact = ⊤
 
 -- the answer to turns that stop at a place, at a third signal or at another turn
-abbrev pub stopped_at : {E : Type 0} → ℕ → Bool → TestRunnerExecuteErrors E
-stopped_at place true = ThirdSignal place
-stopped_at place false = NotEnabled place
+abbrev pub stop_at : {E : Type 0} → ℕ → Bool → TestRunnerExecuteErrors E
+stop_at place true = ThirdSignal place
+stop_at place false = NotEnabled place
 
 -- what each course of the turns with a reporter answers, unless memory was wanting: it stops, it leaves the run
 -- unfinished, or it ends the run, where the reporter's count of faults stayed or rose
 pub record AnswersCourse {R E C : Type 0} (o : Outside R C) (p : Settings) (turns : List Turn) (refuses : ℕ → Bool)
     (answer : Result RunOutcome (TestRunnerExecuteErrors E)) : Type 0 where
   pub stops : (place : ℕ) (third : Bool) → Stops p turns refuses place third
-      → (answer ≡ Err (stopped_at place third)) ⊎ (answer ≡ Err OutOfMemory)
+      → (answer ≡ Err (stop_at place third)) ⊎ (answer ≡ Err OutOfMemory)
   pub unfinished : GoesOn p turns refuses → (answer ≡ Err Unfinished) ⊎ (answer ≡ Err OutOfMemory)
   pub ended : (outcome : RunOutcome) → Ends p turns refuses outcome → ¬ Rose o.faults o.faults_after
       → (answer ≡ Ok outcome) ⊎ (answer ≡ Err OutOfMemory)

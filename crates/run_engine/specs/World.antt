@@ -90,7 +90,8 @@ pub record TakesTurn {R E C : Type 0} (tells : R → List (ReporterEvent × Opti
   pub answered : length refused ≡ length (events_in (next_happening old turn refused))
   pub grown : new ≡ record old { journal = old.journal ++ entry_of turn refused ∷ [] }
   pub marked : is_none refusal ≡ list_all not refused
-  pub told : TellsEvents tells o.report o.report_after (zip (events_in (next_happening old turn refused)) refused) refusal
+  pub told : TellsEvents tells o.report o.report_after (zip (events_in (next_happening old turn refused)) refused)
+      refusal
   pub asked : Adds asks o.children o.children_after
       (map (λ ask. (length old.journal, ask)) (option_to_list (next_happening old turn refused).asked))
   pub counted : CountsErrors o.faults o.faults_after refusal

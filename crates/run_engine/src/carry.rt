@@ -223,8 +223,8 @@ fn forget(settings: &Settings, state: &mut State, unit: Option<u32>)
     }
 }
 
-/// Takes an enabled turn as `carry_out` does, and keeps neither it nor what it asks, nor what a test was that is over. It
-/// is taken so after each journal that the state stands for.
+/// Takes an enabled turn as `carry_out` does, and keeps neither it nor what it asks, nor what a test was that is over.
+/// It is taken so after each journal that the state stands for.
 pub(crate) fn carry_unkept<C: Children, R: Reporter>(
     alloc: Global,
     settings: &Settings,

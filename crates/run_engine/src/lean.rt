@@ -27,8 +27,8 @@ use run_state::{Settled, State, next_settled};
 use std::alloc::Global;
 use std::marker::Model;
 
-/// A run that keeps no journal: its state stands for it. Its calls speak of a run that stands for one: after want of memory
-/// nothing is said of it.
+/// A run that keeps no journal: its state stands for it. Its calls speak of a run that stands for one: after want of
+/// memory nothing is said of it.
 #[derive(Drop)]
 pub struct LeanRun {
     settings: Whole<Settings>,

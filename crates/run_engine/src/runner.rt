@@ -8,6 +8,7 @@ ghost use Rattle.run_model.specs.Board.{board};
 ghost use Rattle.run_state.specs.Held.{held};
 ghost use Rattle.run_engine.specs.World.{outside};
 ghost use Rattle.run_engine.specs.Handlers.{handler_status};
+ghost use Rattle.run_engine.specs.Once.{HasEachIdOnce};
 ghost use Rattle.run_engine.specs.Standing.{sound};
 ghost use Rattle.run_engine.specs.Execution.{Carries, Executes, AnswersCourse, UnlessMemory, IsFinal};
 ghost use Rattle.run_engine.specs.Broken.{RunsOut};
@@ -43,12 +44,14 @@ impl Model for TestRunner {
     ghost use Rattle.run_model.specs.Admission.{AreFew};
     ghost use Rattle.run_model.specs.Reruns.{AreAscending};
     ghost use Rattle.run_events.specs.declared.settings.Settings.{Settings};
+    ghost use Rattle.run_engine.specs.Once.{HasEachIdOnce};
 
     ghost Value = { Settings };
 
     ghost view = { λ r. r.settings };
 
-    ghost invariant = { λ r. AreFew r.settings × AreAscending r.settings.expected };
+    ghost invariant = { λ r. AreFew r.settings × AreAscending r.settings.expected
+        × HasEachIdOnce r.settings };
 }
 
 impl Debug for TestRunner {
@@ -107,6 +110,7 @@ impl TestRunner {
     pub(crate) fn new(settings: Settings) -> Self
         requires few { AreFew settings }
         requires ascending { AreAscending settings.expected }
+        requires once { HasEachIdOnce settings }
         ensures { result ≡ settings }
     {
         TestRunner {
@@ -151,9 +155,10 @@ impl TestRunner {
         self.settings.get().threads
     }
 
-    /// The effective settings, with the plan.
+    /// The effective settings, with the plan, in which each test has an id of its own.
     pub fn settings(&self) -> &Settings
-        ensures { result.now ≡ self.now }
+        ensures is { result.now ≡ self.now }
+        ensures once { HasEachIdOnce self.now }
     {
         self.settings.get()
     }

@@ -29,7 +29,7 @@ pub enum InputHandlerKind {
 }
 
 /// Whether a run hears keys.
-#[derive(Debug, Drop)]
+#[derive(Clone, Copy, Debug, Drop)]
 pub enum InputHandlerStatus {
     /// It does, and this one asks for information.
     Enabled { info_char: char },

@@ -4,11 +4,11 @@ ghost use Rattle.std.specs.Prelude.{◌≡◌, IfOk};
 use crate::{
     CancelReason, ChildExit, ChildSignal, ExecutionResult, FailureStatus, FinalRunStats,
     FlakyResult, Heard, Hearing, InfoStarted, InputEntered, InputEvent, InputHandlerKind,
-    JobControlled, Key, KeyCode, LeakTimeout, LeakTimeoutResult, MaxFail, Request, RetryPolicy,
-    RunCancelled, RunFinishedStats, RunMode, RunOutcome, RunStats, RunStep, ShutdownRequest,
-    Signal, SignalAsk, SignalHandlerKind, SlowTimeout, SlowTimeoutResult, StressIndex,
-    StressProgress, StressRemaining, StressRunStats, SubRunFinished, TermSignal, TerminateMode,
-    TerminateReason, TestThreads, UnitState, Waiting,
+    InputHandlerStatus, JobControlled, Key, KeyCode, LeakTimeout, LeakTimeoutResult, MaxFail,
+    Request, RetryPolicy, RunCancelled, RunFinishedStats, RunMode, RunOutcome, RunStats, RunStep,
+    ShutdownRequest, Signal, SignalAsk, SignalHandlerKind, SlowTimeout, SlowTimeoutResult,
+    StressIndex, StressProgress, StressRemaining, StressRunStats, SubRunFinished, TermSignal,
+    TerminateMode, TerminateReason, TestThreads, UnitState, Waiting,
 };
 use run_capture::{Duplicate, Mem};
 use std::alloc::Global;
@@ -87,6 +87,12 @@ impl Duplicate for InputEvent {
 
 impl Duplicate for InputHandlerKind {
     fn copy(&self, _alloc: Global) -> Mem<InputHandlerKind> {
+        Ok(*self)
+    }
+}
+
+impl Duplicate for InputHandlerStatus {
+    fn copy(&self, _alloc: Global) -> Mem<InputHandlerStatus> {
         Ok(*self)
     }
 }

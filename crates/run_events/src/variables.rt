@@ -65,8 +65,8 @@ impl Drop for Kept {
     }
 }
 
-/// The variables that a child gets, in order. Contracts see the list of their names and values; it is made only where it
-/// is read, since most runs only hand them on.
+/// The variables that a child gets, in order. Contracts see the list of their names and values; it is made only where
+/// it is read, since most runs only hand them on.
 #[derive(Drop)]
 pub struct Variables {
     kept: Kept,

@@ -15,7 +15,8 @@ use lib.Pointwise.{pointwise}
 use Rattle.run_events.specs.declared.plan.PlanTest.{PlanTest}
 use Rattle.run_events.specs.declared.plan.TestInstanceId.{TestInstanceId}
 use Rattle.run_engine.specs.Builder.{is_among, is_repeat, names_no_group, has_too_many, refusal_at, refusal_with}
-use Rattle.run_engine.specs.Builder.{same_id, test_refusal}
+use Rattle.run_engine.specs.Builder.{test_refusal}
+use Rattle.run_model.specs.Reruns.{is_one_test}
 use Rattle.run_engine.specs.Builder.{first_refused, refusal_of, Builder, IsBuilt}
 use Rattle.run_engine.specs.declared.errors.TestRunnerBuildError.{TestRunnerBuildError}
 use Rattle.run_engine.specs.declared.errors.TestRunnerBuildError.TheVariants.{ZeroLimit, DuplicateTest, UnknownGroup}
@@ -30,7 +31,7 @@ tests : ℕ → List PlanTest
 tests n = map test_at (range_with_len 0 n)
 
 -- two tests have two ids
-apart : (i j : ℕ) → i < j → j < 2 ^ 32 → same_id (id_at i) (id_at j) ≡ false
+apart : (i j : ℕ) → i < j → j < 2 ^ 32 → is_one_test (id_at i) (id_at j) ≡ false
 apart i j before few =
     by_binary (pointwise nat_eq (codes "gen") (codes "gen"))
     (names_apart i j (omega arith) few (λ e. absurd (omega arith)))
@@ -41,10 +42,10 @@ apart i j before few =
     by_binary false e = refl
 
 none_has : (k m : ℕ) → m ≤ k → k < 2 ^ 32
-    → list_any (λ t. same_id t.id (id_at k)) (map test_at (range_with_len 0 m)) ≡ false
+    → list_any (λ t. is_one_test t.id (id_at k)) (map test_at (range_with_len 0 m)) ≡ false
 none_has k zero le few = refl
 none_has k (suc m) le few =
-    let f : PlanTest → Bool = λ t. same_id t.id (id_at k) in
+    let f : PlanTest → Bool = λ t. is_one_test t.id (id_at k) in
     let more = map-range_with_len_more test_at 0 m m (omega arith) in
     let last : f (test_at m) ≡ false = apart m k (omega arith) few in
     let earlier : list_any f (map test_at (range_with_len 0 m)) ≡ false = none_has k m (omega arith) few in
@@ -82,9 +83,10 @@ at_place n k few = by_place (nat_lt k n) refl
         let at : slice_get ts k ≡ Some (test_at k) =
         slice_get-get_or ts k (test_at k) (omega (arith, long))
         ∙ ap Some (get_or-map-range_with_len test_at 0 n k k (test_at k) below (omega arith)) in
-        let before : take k ts ≡ map test_at (range_with_len 0 k) = take-map-range_with_len test_at 0 n k (omega arith) in
+        let before : take k ts ≡ map test_at (range_with_len 0 k) = take-map-range_with_len test_at 0 n k (omega
+        arith) in
         let repeats : is_repeat ts k ≡ false =
-        ap (is_among (take k ts)) at ∙ ap (list_any (λ t. same_id t.id (id_at k))) before
+        ap (is_among (take k ts)) at ∙ ap (list_any (λ t. is_one_test t.id (id_at k))) before
         ∙ none_has k k (omega arith) (omega arith) in
         ap (option_and_then (refusal_at k (is_repeat ts k) (the_group ∷ []) None)) at
         ∙ ap (λ r. refusal_at k r (the_group ∷ []) None (test_at k)) repeats ∙ fine k
@@ -107,8 +109,13 @@ pub memory_only : (n : ℕ) → n ≤ 20000 → (builder : Builder) (plan : Plan
     → refusal_of builder plan ≡ refusal_with 16 (generated_plan n).groups None (generated_plan n).tests
     → IsBuilt builder plan (Err error) → error ≡ OutOfMemory
 memory_only n few builder plan OutOfMemory same built = refl
-memory_only n few builder plan (ZeroLimit group) same built = let never : None ≡ Some (ZeroLimit group) = sym (same ∙ accepted n few) ∙ built in cc
-memory_only n few builder plan (DuplicateTest test) same built = let never : None ≡ Some (DuplicateTest test) = sym (same ∙ accepted n few) ∙ built in cc
-memory_only n few builder plan (UnknownGroup test) same built = let never : None ≡ Some (UnknownGroup test) = sym (same ∙ accepted n few) ∙ built in cc
-memory_only n few builder plan (ZeroWeight test) same built = let never : None ≡ Some (ZeroWeight test) = sym (same ∙ accepted n few) ∙ built in cc
-memory_only n few builder plan (TooManyRetries test) same built = let never : None ≡ Some (TooManyRetries test) = sym (same ∙ accepted n few) ∙ built in cc
+memory_only n few builder plan (ZeroLimit group) same built = let never : None ≡ Some (ZeroLimit group) = sym (same ∙
+    accepted n few) ∙ built in cc
+memory_only n few builder plan (DuplicateTest test) same built = let never : None ≡ Some (DuplicateTest test) = sym
+    (same ∙ accepted n few) ∙ built in cc
+memory_only n few builder plan (UnknownGroup test) same built = let never : None ≡ Some (UnknownGroup test) = sym
+    (same ∙ accepted n few) ∙ built in cc
+memory_only n few builder plan (ZeroWeight test) same built = let never : None ≡ Some (ZeroWeight test) = sym (same ∙
+    accepted n few) ∙ built in cc
+memory_only n few builder plan (TooManyRetries test) same built = let never : None ≡ Some (TooManyRetries test) = sym
+    (same ∙ accepted n few) ∙ built in cc

@@ -37,7 +37,8 @@ phase_is children.Asked Starting e = refl
 phase_is children.Runs Running e = refl
 phase_is child ph e = cc
 
-has_none : (child : Child) (u : Option UnitView) → (phase_in u ≡ Some (child_phase child) → ⊥) → unit_has child u ≡ false
+has_none : (child : Child) (u : Option UnitView) → (phase_in u ≡ Some (child_phase child) → ⊥) → unit_has child u ≡
+    false
 has_none child None none = refl
 has_none child (Some u) none = by_test (has_child child u.phase) refl
   where

@@ -3,6 +3,6 @@ mod NameLemmas
 mod AcceptLemmas
 mod ChildLemmas
 mod KeptTurns
-mod WayLemmas
+pub mod WayLemmas
 mod ShortLemmas
 mod CountLemmas

@@ -4,12 +4,8 @@ use Rattle.std.proofs.Common.{refl, ap, sym, ◌∙◌, arith}
 use Rattle.std.proofs.lemmas.Bool.Decides.{nat_tests}
 use Rattle.std.proofs.lemmas.Fmt.{decimal_is_IsNumeral}
 use Rattle.std.specs.Str.Parse.{digits_value}
+use Rattle.run_capture.proofs.Facts.{both_true}
 use lib.Pointwise.{pointwise}
-
-both : (a b : Bool) → (a && b) ≡ true → (a ≡ true) × (b ≡ true)
-both true true e = (refl, refl)
-both true false e = cc
-both false b e = cc
 
 -- lists of numbers that are equal item by item are equal
 same_list : (xs ys : List ℕ) → pointwise nat_eq xs ys ≡ true → xs ≡ ys
@@ -17,7 +13,7 @@ same_list [] [] e = refl
 same_list [] (y ∷ ys) e = cc
 same_list (x ∷ xs) [] e = cc
 same_list (x ∷ xs) (y ∷ ys) e =
-    let parts = both (nat_eq x y) (pointwise nat_eq xs ys) e in
+    let parts = both_true (nat_eq x y) (pointwise nat_eq xs ys) e in
     let test : nat_eq x y ≡ true = parts.0 in
     let first : x ≡ y = grind (arith, nat_tests) in
     let rest : xs ≡ ys = same_list xs ys parts.1 in cc

@@ -41,7 +41,8 @@ refused_short w turn steps.Full refused e = inl refused
 refused_short w turn steps.OutOfMemory refused e = cc
 
 -- a run whose next turn was refused, and not for want of memory, stops short
-pub stops_short : (g : OnWay) (turn : Turn) (error : StepError) (way : IsOnWay g) → next_on g ≡ Some turn → HasNoOutcome g
+pub stops_short : (g : OnWay) (turn : Turn) (error : StepError) (way : IsOnWay g) → next_on g ≡ Some turn →
+    HasNoOutcome g
     → IsRefused (sound g.run.settings way.0) turn error → error_of_step error ≡ errors.Unfinished
     → StopsShort g.run.settings
 stops_short g turn error way next goes_on refused e =

@@ -60,7 +60,7 @@ next_after g journal way =
     ∙ sym (turn_kept p (board p (past_of p journal)) (board_of g) g.last way.stands.stands.board)
 
 -- one more turn that is the next one
-slice_get-front : {X : Type 0} (xs ys : List X) (k : ℕ) → k < length xs → slice_get (xs ++ ys) k ≡ slice_get xs k
+pub slice_get-front : {X : Type 0} (xs ys : List X) (k : ℕ) → k < length xs → slice_get (xs ++ ys) k ≡ slice_get xs k
 slice_get-front [] ys k below = absurd (omega arith)
 slice_get-front (x ∷ xs) ys zero below = refl
 slice_get-front (x ∷ xs) ys (suc k) below = slice_get-front xs ys k (omega arith)
@@ -95,7 +95,7 @@ generated-push p journal e before next k f at = by_place (nat_lt k (length journ
         take-all (x ∷ xs) = ap (λ ys. x ∷ ys) (take-all xs)
 
 -- the last turn of a journal that has grown
-last_turn-push : (journal : List Entry) (e : Entry) → last_turn (journal ++ e ∷ []) ≡ Some e.turn
+pub last_turn-push : (journal : List Entry) (e : Entry) → last_turn (journal ++ e ∷ []) ≡ Some e.turn
 last_turn-push journal e =
     let place : length (journal ++ e ∷ []) - 1 ≡ length journal = omega (arith, length-append journal (e ∷ [])) in
     ap (λ k. option_map (λ (e : Entry). e.turn) (slice_get (journal ++ e ∷ []) k)) place

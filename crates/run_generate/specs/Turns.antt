@@ -54,7 +54,8 @@ abbrev pub stream_turn : Board → Option Turn
 stream_turn b = option_map (λ k. StreamEnd k Combined) (first_with children.Runs b)
 
 abbrev pub exit_turn : Board → Option Turn
-exit_turn b = option_and_then (λ k. option_map (λ u. Exit k (exit_at k u.attempt)) (unit_in b k)) (first_with children.Runs b)
+exit_turn b =
+    option_and_then (λ k. option_map (λ u. Exit k (exit_at k u.attempt)) (unit_in b k)) (first_with children.Runs b)
 
 -- a start, or else time passes for a child that runs; but before that the first turn that is enabled of those that a
 -- run takes by itself, where units decide with the word 0

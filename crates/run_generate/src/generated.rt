@@ -80,7 +80,7 @@ fn carry_out(alloc: Global, run: &mut OnWay) -> Result<Generated, GenerateError>
 
 /// Carries out the generated plan of so many tests, 20,000 at most, by its generated turns, and counts. `Unfinished`:
 /// the turns led to a place where none comes next, or one that isn't enabled, or filled the journal; a law of
-/// run_generate_laws says that this never comes. In time in step with the number of tests.
+/// run_laws_generate says that this never comes. In time in step with the number of tests.
 pub fn generate(alloc: Global, tests: u32) -> Result<Generated, GenerateError>
     requires { tests ≤ 20000 }
     ensures summary { IfOk result (IsSummary (generated_settings tests)) }

@@ -19,12 +19,12 @@ impl<S: Source> KeptSource<S> {
         }
     }
 
-    /// What was given; nothing where memory was wanting.
-    pub fn bytes(&self) -> &[u8] {
+    /// What was given; none where memory was wanting.
+    pub fn bytes(&self) -> Option<&[u8]> {
         if self.is_whole {
-            self.bytes.as_slice()
+            Some(self.bytes.as_slice())
         } else {
-            &[]
+            None
         }
     }
 }

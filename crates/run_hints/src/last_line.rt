@@ -10,6 +10,8 @@ const MOST: usize = 256;
 struct Line {
     bytes: Vec<u8>,
     is_ended: bool,
+    // Whether memory was there for it.
+    is_kept: bool,
 }
 
 impl Line {
@@ -23,6 +25,7 @@ impl Line {
         let begin = text.iter().rposition(|byte| *byte == b'\n');
         if self.is_ended || begin.is_some() {
             self.bytes.clear();
+            self.is_kept = true;
         }
         self.is_ended = is_ended;
         let line = match begin {
@@ -30,7 +33,13 @@ impl Line {
             None => text,
         };
         let room = MOST.saturating_sub(self.bytes.len());
-        let _ = self.bytes.extend_from_slice(&line[..line.len().min(room)]);
+        if self
+            .bytes
+            .extend_from_slice(&line[..line.len().min(room)])
+            .is_err()
+        {
+            self.is_kept = false;
+        }
     }
 }
 
@@ -49,13 +58,18 @@ impl<K: Sink> LastLine<K> {
             line: Line {
                 bytes,
                 is_ended: false,
+                is_kept: true,
             },
         }
     }
 
-    /// The last line, without its line feed.
-    pub fn line(&self) -> &[u8] {
-        self.line.bytes.as_slice()
+    /// The last line, without its line feed; none where memory was wanting.
+    pub fn line(&self) -> Option<&[u8]> {
+        if self.line.is_kept {
+            Some(self.line.bytes.as_slice())
+        } else {
+            None
+        }
     }
 
     /// The sink beneath.

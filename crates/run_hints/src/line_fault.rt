@@ -1,9 +1,6 @@
 // Why a line of input is no plan or no turn.
-use crate::misfit::Misfit;
-use crate::object_fault::{flat_misfit, plan_misfit};
-use crate::tables::Table;
-use crate::turn_kind::TurnKind;
-use serde_json::{Map, Value};
+use run_capture::OutOfMemory;
+use run_input::{Misfit, Wrong, plan_line_misfit, turn_line_misfit};
 use std::alloc::{AllocError, Global};
 
 /// What a line is to be.
@@ -35,67 +32,76 @@ pub(crate) fn line_at(bytes: &[u8], number: u64) -> Option<&[u8]> {
     None
 }
 
-// What is wrong, as words.
-fn words_of(alloc: Global, misfit: Option<Misfit>) -> Result<Option<String>, AllocError> {
-    match misfit {
-        Some(misfit) => Ok(Some(misfit.text(alloc)?)),
-        None => Ok(None),
-    }
-}
-
-// Why an object with this name of a turn is none.
-fn named_turn_fault(
-    alloc: Global,
-    name: &str,
-    members: &Map<String, Value>,
-) -> Result<Option<String>, AllocError> {
-    match TurnKind::named(name) {
-        Some(kind) => words_of(alloc, flat_misfit(alloc, Table::Turn(kind), members)?),
-        None => Ok(Some(format!(in alloc; "unknown turn {name:?}")?)),
-    }
-}
-
-// Why an object is no turn.
-fn turn_fault(alloc: Global, members: &Map<String, Value>) -> Result<Option<String>, AllocError> {
-    match members.get("turn") {
-        Some(turn) => match turn.as_str() {
-            Some(name) => named_turn_fault(alloc, name, members),
-            None => Ok(Some(String::from_str(alloc, "\"turn\" is not a text")?)),
-        },
-        None => Ok(Some(String::from_str(alloc, "missing key \"turn\"")?)),
-    }
-}
-
-// Why an object is no plan.
-fn plan_fault(alloc: Global, members: &Map<String, Value>) -> Result<Option<String>, AllocError> {
-    words_of(alloc, plan_misfit(alloc, members)?)
-}
-
-// Why a value isn't what its line is to be.
-fn value_fault(alloc: Global, kind: LineKind, value: &Value) -> Result<Option<String>, AllocError> {
-    let Some(members) = value.as_object() else {
-        return Ok(Some(String::from_str(alloc, "not a JSON object")?));
-    };
-    match kind {
-        LineKind::Plan => plan_fault(alloc, members),
-        LineKind::Turn => turn_fault(alloc, members),
-    }
-}
-
-/// Why a line isn't what it is to be: the first cause that is found, if one is.
-pub(crate) fn line_fault(
+/// What the reader of such lines finds wrong with a line.
+pub(crate) fn misfit_of(
     alloc: Global,
     kind: LineKind,
     line: &[u8],
-) -> Result<Option<String>, AllocError> {
-    if line.is_empty() {
-        return Ok(Some(String::from_str(alloc, "the line is empty")?));
+) -> Result<Option<Misfit>, AllocError> {
+    let misfit = match kind {
+        LineKind::Plan => plan_line_misfit(alloc, line),
+        LineKind::Turn => turn_line_misfit(alloc, line),
+    };
+    match misfit {
+        Ok(misfit) => Ok(misfit),
+        Err(OutOfMemory) => Err(AllocError),
     }
-    match Value::from_slice(alloc, line) {
-        Ok(value) => value_fault(alloc, kind, &value),
-        Err(error) => {
-            let column = error.column();
-            Ok(Some(format!(in alloc; "not JSON at column {column}")?))
+}
+
+/// Whether a line is the front part of what it is to be.
+pub(crate) fn is_unfinished(misfit: &Option<Misfit>) -> bool {
+    match misfit {
+        Some(misfit) => matches!(misfit.wrong, Wrong::Unfinished),
+        None => false,
+    }
+}
+
+// What is wrong with the text of a line, in words.
+fn line_words(alloc: Global, wrong: Wrong) -> Result<String, AllocError> {
+    let words = match wrong {
+        Wrong::NotUtf8 { byte } => return format!(in alloc; "not UTF-8 at byte {byte}"),
+        Wrong::NotJson { byte } => return format!(in alloc; "not JSON at column {byte}"),
+        Wrong::ControlCharacter { byte } => {
+            return format!(in alloc; "a control character at byte {byte}");
         }
+        Wrong::Empty => "the line is empty",
+        Wrong::ByteOrderMark => "it begins with a byte order mark",
+        Wrong::TooDeep => "nested deeper than 127",
+        Wrong::Unfinished => "it ends before its JSON does",
+        _ => "a number is no whole number of 64 bits",
+    };
+    String::from_str(alloc, words)
+}
+
+// What is wrong at a place, in words. A key of the input may have any character, so it is escaped.
+fn place_words(alloc: Global, place: &str, wrong: Wrong) -> Result<String, AllocError> {
+    match wrong {
+        Wrong::UnknownKey => format!(in alloc; "unknown key {place:?}"),
+        Wrong::MissingKey => format!(in alloc; "missing key {place:?}"),
+        Wrong::UnknownTurn => format!(in alloc; "unknown turn {place:?}"),
+        Wrong::Not(wanted) if place.is_empty() => format!(in alloc; "not {wanted}"),
+        Wrong::Not(wanted) => format!(in alloc; "{place:?} is not {wanted}"),
+        Wrong::NotOne(other) => {
+            format!(in alloc; "exactly one of the keys {place:?} and {other:?} is needed")
+        }
+        Wrong::NotExponential => {
+            format!(in alloc; "{place:?} is only for \"backoff\":\"exponential\"")
+        }
+        Wrong::NotSecondVersion => format!(in alloc; "{place:?} needs \"version\":2"),
+        _ => line_words(alloc, wrong),
+    }
+}
+
+/// What is wrong with a line, in words; none where memory was wanting when it was read.
+pub(crate) fn misfit_words(
+    alloc: Global,
+    misfit: &Option<Misfit>,
+) -> Result<Option<String>, AllocError> {
+    let Some(Misfit { place, wrong }) = misfit else {
+        return Ok(None);
+    };
+    match place {
+        Some(place) => Ok(Some(place_words(alloc, place.as_str(), *wrong)?)),
+        None => Ok(None),
     }
 }

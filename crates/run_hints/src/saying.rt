@@ -1,17 +1,10 @@
 // What is said of how the program ended.
-use crate::line_fault::{LineKind, line_at, line_fault};
+use crate::line_fault::{LineKind, is_unfinished, line_at, misfit_of, misfit_words};
+use crate::message::{Message, message_of, plain};
 use crate::replayed::why_stopped;
+use crate::words::{is_live, of_words};
 use serde_json::Value;
 use std::alloc::{AllocError, Global};
-
-const USAGE: &str =
-    "usage: nextest_run live < PLAN, or nextest_run replay < INPUT; nextest_run --help says more";
-
-const WIDTH_HINT: &str =
-    "usage: nextest_run progress WIDTH < INPUT, with a width from 1 to 1000, in digits alone";
-
-const TESTS_HINT: &str =
-    "usage: nextest_run generate TESTS, with a number from 1 to 20000, in digits alone";
 
 const PLAN_HINT: &str =
     "a plan is a JSON object on one line, with \"run_id\" and \"tests\": nextest_run --help has one";
@@ -24,116 +17,47 @@ const NOT_ENABLED_HINT: &str =
 
 const LIVE_HINT: &str = "live takes a plan alone, on one line: jq -c puts a plan on one";
 
-// What is wrong, and what helps.
-#[derive(Drop)]
-struct Message {
-    error: String,
-    hint: String,
-}
+const ONE_LINE_HINT: &str = "a plan stands on one line: jq -c puts it on one";
 
-// What is wrong, where memory is there, and what helps.
-fn message_of(
-    alloc: Global,
-    error: Result<String, AllocError>,
-    hint: &str,
-) -> Result<Message, AllocError> {
-    Ok(Message {
-        error: error?,
-        hint: String::from_str(alloc, hint)?,
-    })
-}
-
-fn plain(alloc: Global, error: &str, hint: &str) -> Result<Message, AllocError> {
-    message_of(alloc, String::from_str(alloc, error), hint)
-}
-
-// Whether a word is one after which none comes.
-fn stands_alone(word: &str) -> bool {
-    matches!(
-        word,
-        "live" | "replay" | "--help" | "-h" | "--version" | "-V"
-    )
-}
-
-// Whether the first word is the command that takes a width.
-fn is_progress(words: &[String]) -> bool {
-    match words {
-        [word, ..] => word.as_str() == "progress",
-        [] => false,
-    }
-}
-
-// Whether the first word is the command that takes a number of tests.
-fn is_generate(words: &[String]) -> bool {
-    match words {
-        [word, ..] => word.as_str() == "generate",
-        [] => false,
-    }
-}
-
-// What helps with words that are no command.
-fn words_hint(words: &[String]) -> &'static str {
-    if is_progress(words) {
-        WIDTH_HINT
-    } else if is_generate(words) {
-        TESTS_HINT
-    } else {
-        USAGE
-    }
-}
-
-// What is wrong with words that are no command. A word may have any character, so it is escaped.
-fn words_fault(alloc: Global, words: &[String]) -> Result<String, AllocError> {
-    match words {
-        [] => String::from_str(alloc, "no command is given"),
-        [_] if is_progress(words) => String::from_str(alloc, "no width is given to \"progress\""),
-        [_, width] if is_progress(words) => format!(in alloc; "{width:?} is no width"),
-        [_, _, word, ..] if is_progress(words) => {
-            format!(in alloc; "unexpected word {word:?} after the width")
-        }
-        [_] if is_generate(words) => {
-            String::from_str(alloc, "no number of tests is given to \"generate\"")
-        }
-        [_, tests] if is_generate(words) => format!(in alloc; "{tests:?} is no number of tests"),
-        [_, _, word, ..] if is_generate(words) => {
-            format!(in alloc; "unexpected word {word:?} after the number of tests")
-        }
-        [command, word, ..] if stands_alone(command.as_str()) => {
-            format!(in alloc; "unexpected word {word:?} after {command:?}")
-        }
-        [word, ..] => format!(in alloc; "unknown command {word:?}"),
-    }
-}
-
-// Of words that are no command; none where one of them is not UTF-8.
-fn of_words(alloc: Global, words: Option<&[String]>) -> Result<Message, AllocError> {
-    match words {
-        Some(words) => message_of(alloc, words_fault(alloc, words), words_hint(words)),
-        None => plain(alloc, "a word is not UTF-8", USAGE),
-    }
-}
-
-// Whether the words are the command that takes a plan line alone.
-fn is_live(words: Option<&[String]>) -> bool {
-    match words {
-        Some([word]) => word.as_str() == "live",
-        _ => false,
-    }
-}
-
-// What is wrong with a line that is not of its kind.
-fn line_text(
+// That a line is not of its kind, and what is wrong with it.
+fn not_text(
     alloc: Global,
     kind: LineKind,
-    input: &[u8],
     number: u64,
+    fault: Option<String>,
 ) -> Result<String, AllocError> {
     let noun = kind.noun();
-    let line = line_at(input, number).unwrap_or(&[]);
-    match line_fault(alloc, kind, line)? {
+    match fault {
         Some(fault) => format!(in alloc; "input line {number} is not a {noun}: {fault}"),
         None => format!(in alloc; "input line {number} is not a {noun}"),
     }
+}
+
+// Of a line that is no plan: also where a plan stands on more lines than one.
+fn of_plan_line(alloc: Global, input: &[u8]) -> Result<Message, AllocError> {
+    let line = line_at(input, 1).unwrap_or(&[]);
+    let misfit = misfit_of(alloc, LineKind::Plan, line)?;
+    if is_unfinished(&misfit) && line_at(input, 2).is_some_and(|next| !next.is_empty()) {
+        return plain(
+            alloc,
+            "input line 1 is not a plan: it goes on on line 2",
+            ONE_LINE_HINT,
+        );
+    }
+    let fault = misfit_words(alloc, &misfit)?;
+    message_of(alloc, not_text(alloc, LineKind::Plan, 1, fault), PLAN_HINT)
+}
+
+// Of a line that is no turn.
+fn of_turn_line(alloc: Global, input: &[u8], number: u64) -> Result<Message, AllocError> {
+    let line = line_at(input, number).unwrap_or(&[]);
+    let misfit = misfit_of(alloc, LineKind::Turn, line)?;
+    let fault = misfit_words(alloc, &misfit)?;
+    message_of(
+        alloc,
+        not_text(alloc, LineKind::Turn, number, fault),
+        TURN_HINT,
+    )
 }
 
 // Of a line that is no plan or no turn.
@@ -146,13 +70,11 @@ fn of_line(
     if input.is_empty() {
         plain(alloc, "the input is empty", PLAN_HINT)
     } else if number <= 1 {
-        let text = line_text(alloc, LineKind::Plan, input, number);
-        message_of(alloc, text, PLAN_HINT)
+        of_plan_line(alloc, input)
     } else if is_live(words) {
         plain(alloc, "input line 2 is one too many", LIVE_HINT)
     } else {
-        let text = line_text(alloc, LineKind::Turn, input, number);
-        message_of(alloc, text, TURN_HINT)
+        of_turn_line(alloc, input, number)
     }
 }
 
@@ -229,8 +151,7 @@ fn turn_words(alloc: Global, turn: &Value) -> Result<String, AllocError> {
 // The same of the line of a number.
 fn turn_text(alloc: Global, input: &[u8], number: u64) -> Result<String, AllocError> {
     let line = line_at(input, number).unwrap_or(&[]);
-    let turn = Value::from_slice(alloc, line).unwrap_or(Value::Null);
-    turn_words(alloc, &turn)
+    turn_words(alloc, &value_of(alloc, line)?)
 }
 
 // Of a turn that wasn't taken.
@@ -264,8 +185,17 @@ fn of_not_enabled(alloc: Global, input: &[u8], fault: &Value) -> Result<Message,
     of_turn(alloc, input, fault, "is not enabled", hint.as_str())
 }
 
+// That nothing was done yet, in the words of a command.
+fn nothing_done(words: Option<&[String]>) -> &'static str {
+    if is_live(words) {
+        "nothing was started"
+    } else {
+        "no turn was taken"
+    }
+}
+
 // Of a fault that says no place.
-fn of_fault(alloc: Global, status: u8) -> Result<Message, AllocError> {
+fn of_fault(alloc: Global, words: Option<&[String]>, status: u8) -> Result<Message, AllocError> {
     let (error, hint) = match status {
         8 => (
             "the run is not over after the last line of the input",
@@ -275,14 +205,14 @@ fn of_fault(alloc: Global, status: u8) -> Result<Message, AllocError> {
             "a write to standard output failed",
             "what was written is not whole",
         ),
-        10 => ("a read of standard input failed", "no turn was taken"),
+        10 => ("a read of standard input failed", nothing_done(words)),
         11 => (
             "memory was wanting",
             "nothing is claimed of what was written",
         ),
         12 => (
             "the input has more than 16777216 bytes",
-            "no turn was taken",
+            nothing_done(words),
         ),
         _ => (
             "the turns that the workers took are not those of the run",
@@ -290,6 +220,22 @@ fn of_fault(alloc: Global, status: u8) -> Result<Message, AllocError> {
         ),
     };
     plain(alloc, error, hint)
+}
+
+// The JSON value of a line; null where it has none.
+fn value_of(alloc: Global, line: &[u8]) -> Result<Value, AllocError> {
+    match Value::from_slice(alloc, line) {
+        Err(error) if error.is_memory() => Err(AllocError),
+        value => Ok(value.unwrap_or(Value::Null)),
+    }
+}
+
+// The value of the last line, where what is said of a status depends on it.
+fn last_value(alloc: Global, status: u8, last: Option<&[u8]>) -> Result<Value, AllocError> {
+    match status {
+        3 | 5 | 6 | 7 | 100 | 105 => value_of(alloc, last.ok_or(AllocError)?),
+        _ => Ok(Value::Null),
+    }
 }
 
 // Of an outcome other than success.
@@ -313,22 +259,27 @@ fn said_of(
     alloc: Global,
     words: Option<&[String]>,
     status: u8,
-    input: &[u8],
+    input: Option<&[u8]>,
     last: &Value,
 ) -> Result<Message, AllocError> {
     match status {
         2 => of_words(alloc, words),
-        3 => of_line(alloc, words, input, number_at(last, "line")),
+        3 => of_line(
+            alloc,
+            words,
+            input.ok_or(AllocError)?,
+            number_at(last, "line"),
+        ),
         5 => of_plan(alloc, last),
-        6 => of_not_enabled(alloc, input, last),
+        6 => of_not_enabled(alloc, input.ok_or(AllocError)?, last),
         7 => of_turn(
             alloc,
-            input,
+            input.ok_or(AllocError)?,
             last,
             "is a third shutdown signal",
             "the first asks the tests that run to end, the second kills them, and no third is taken",
         ),
-        _ => of_fault(alloc, status),
+        _ => of_fault(alloc, words, status),
     }
 }
 
@@ -337,29 +288,37 @@ fn fault_text(
     alloc: Global,
     words: Option<&[String]>,
     status: u8,
-    input: &[u8],
+    input: Option<&[u8]>,
     last: &Value,
 ) -> Result<String, AllocError> {
     let Message { error, hint } = said_of(alloc, words, status, input, last)?;
     format!(in alloc; "nextest_run: error: {error}\nhint: {hint}\n")
 }
 
+/// What was read and written: none of either where memory was wanting for it.
+#[derive(Clone, Copy, Drop)]
+pub struct Seen<'a> {
+    /// The bytes of the input.
+    pub input: Option<&'a [u8]>,
+    /// The last line that was written.
+    pub last: Option<&'a [u8]>,
+}
+
 /// What standard error is to say of a run that these words asked for (none where one of them is not UTF-8) and that
-/// ended with this status, by the bytes of its input and the last line that was written: nothing of a success; of
-/// another outcome one line; of a fault one line that says what is wrong and where, and one that helps.
+/// ended with this status: nothing of a success; of another outcome one line; of a fault one line that says what is
+/// wrong and where, and one that helps. Where memory is wanting for that, there is none.
 pub fn explain(
     alloc: Global,
     words: Option<&[String]>,
     status: u8,
-    input: &[u8],
-    last: &[u8],
+    seen: Seen,
 ) -> Result<String, AllocError> {
     if status == 0 {
         return Ok(String::new(alloc));
     }
-    let last = Value::from_slice(alloc, last).unwrap_or(Value::Null);
+    let last = last_value(alloc, status, seen.last)?;
     match of_outcome(status, &last) {
         Some(error) => format!(in alloc; "nextest_run: error: {error}\n"),
-        None => fault_text(alloc, words, status, input, &last),
+        None => fault_text(alloc, words, status, seen.input, &last),
     }
 }

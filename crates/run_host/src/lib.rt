@@ -1,6 +1,6 @@
 //! Real children, the clock, and words of its low bits: what a run of real children stands on outside. A spawner starts
-//! one process at a time and reads what it writes as it comes; a ticker tells how time goes by. They tell nothing of what
-//! they gave: each counts its failures, and is tested.
+//! one process at a time and reads what it writes as it comes; a ticker tells how time goes by. They tell nothing of
+//! what they gave: each counts its failures, and is tested.
 #![tactic(auto)]
 
 mod clock_ticker;

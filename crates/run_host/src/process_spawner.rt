@@ -141,6 +141,13 @@ fn refused(alloc: Global, role: &str, error: &io::Error) -> Mem<Begun> {
     Ok(Begun::Refused { error })
 }
 
+// A program could not be started. Its name may have any character, so it is escaped.
+fn not_started(alloc: Global, program: &Text, error: &io::Error) -> Mem<Begun> {
+    let program = program.as_str();
+    let role = format!(in alloc; "cannot start {program:?}: ")?;
+    refused(alloc, role.as_str(), error)
+}
+
 // Whether a start was refused.
 fn is_refused(begun: &Mem<Begun>) -> bool {
     matches!(begun, Ok(Begun::Refused { .. }))
@@ -223,7 +230,7 @@ impl<P: Processes + Files + Drop> ProcessSpawner<P> {
         }
         match self.spawn(alloc, program, words, ask) {
             Ok(child) => Ok(self.keep(child, first_step(ask.streams.as_slice()))),
-            Err(error) => refused(alloc, "", &error),
+            Err(error) => not_started(alloc, program, &error),
         }
     }
 

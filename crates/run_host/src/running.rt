@@ -17,7 +17,8 @@ use std::{fs, io};
 /// What is to be said of a child.
 #[derive(Clone, Copy)]
 pub enum Step {
-    /// That its standard error has ended, which isn't read; then what comes of its standard output, where that is captured.
+    /// That its standard error has ended, which isn't read; then what comes of its standard output, where that is
+    /// captured.
     Stderr(Option<Stream>),
     /// The next piece of its standard output, as this stream.
     Output(Stream),
@@ -47,7 +48,8 @@ fn error_text(alloc: Global, error: &io::Error) -> Mem<Text> {
 // How a child ended.
 fn exit_of(status: &ExitStatus) -> ChildExit
     ensures code { IfSome (exit_code status.now) (λ code. result ≡ Code code) }
-    ensures signal { IfNone (exit_code status.now) (IfSome (exit_signal status.now) (λ signal. result ≡ Signal signal)) }
+    ensures signal { IfNone (exit_code status.now)
+        (IfSome (exit_signal status.now) (λ signal. result ≡ Signal signal)) }
 {
     match (status.code(), status.signal()) {
         (Some(code), _) => ChildExit::Code(code),
@@ -142,8 +144,8 @@ impl<C: OpenProcess + Drop> Running<C> {
         })
     }
 
-    /// What the child says next; a script has a path of its environment file. Reading its output and waiting for its end
-    /// take as long as the child does.
+    /// What the child says next; a script has a path of its environment file. Reading its output and waiting for its
+    /// end take as long as the child does.
     pub fn next(
         &mut self,
         files: &impl Files,

@@ -5,8 +5,8 @@ use std::fs::Files;
 use std::process::{OpenProcess, Processes};
 use std::time::{Clock, SystemTime};
 
-/// Makes spawners of processes and tickers by the clock of the machine. Its words are the low 32 bits of the nanoseconds of
-/// the system's clock, and 0 where that can't be read.
+/// Makes spawners of processes and tickers by the clock of the machine. Its words are the low 32 bits of the
+/// nanoseconds of the system's clock, and 0 where that can't be read.
 #[derive(Drop)]
 pub struct StdHost<P: Processes + Files + Clock + Copy + Drop> {
     outside: P,

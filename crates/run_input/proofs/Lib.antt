@@ -1,5 +1,6 @@
 pub mod InputLemmas
 mod LineLemmas
 mod MomentLemmas
+mod SaidLemmas
 mod StressLemmas
 mod ValueLemmas

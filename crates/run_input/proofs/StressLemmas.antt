@@ -8,6 +8,7 @@ use Rattle.std.specs.Char.{digit_value}
 use Rattle.std.specs.List.{list_all}
 use Rattle.std.specs.Str.Parse.{AllDigits, IsNumeral, digits_value, without_leading_plus}
 use Rattle.std.specs.declared.num.NonZeroU32.{NonZeroU32}
+use Rattle.run_capture.proofs.Facts.{and_both, both_true}
 use Rattle.run_commands.specs.StressCount.{IsDecimal, SaysCount, SaysNoCount}
 use Rattle.run_commands.specs.declared.stress_count.StressCount.{StressCount}
 use Rattle.run_commands.specs.declared.stress_count.StressCount.TheVariants as counts
@@ -21,14 +22,6 @@ if_so false x y e = absurd (true≢false (sym e))
 if_not : {A : Type 0} (b : Bool) (x y : A) → b ≡ false → (if b then x else y) ≡ y
 if_not true x y e = absurd (true≢false e)
 if_not false x y e = refl
-
-both_true : (a b : Bool) → a ≡ true → b ≡ true → (a && b) ≡ true
-both_true true b e f = f
-both_true false b e f = e
-
-both_told : (a b : Bool) → (a && b) ≡ true → (a ≡ true) × (b ≡ true)
-both_told true b e = (refl, e)
-both_told false b e = absurd (true≢false (sym e))
 
 -- so many sub-runs, whatever says that they are some
 repeats : (n : ℕ) → 0 < n → Option StressCount
@@ -58,21 +51,21 @@ none_as (suc n) never = by (nat_lt (suc n) (2 ^ 32)) refl
 -- digits are told by their tests
 digits_tell : (ds : List ℕ) → AllDigits 10 ds → list_all (λ c. nat_lt (digit_value c) 10) ds ≡ true
 digits_tell [] all = refl
-digits_tell (c ∷ cs) all = both_true _ _ ((Decides-ltb (digit_value c) 10).1 all.0) (digits_tell cs all.1)
+digits_tell (c ∷ cs) all = and_both _ _ ((Decides-ltb (digit_value c) 10).1 all.0) (digits_tell cs all.1)
 
 digits_told : (ds : List ℕ) → list_all (λ c. nat_lt (digit_value c) 10) ds ≡ true → AllDigits 10 ds
 digits_told [] e = tt
 digits_told (c ∷ cs) e =
-    let both = both_told (nat_lt (digit_value c) 10) (list_all (λ c. nat_lt (digit_value c) 10) cs) e in
+    let both = both_true (nat_lt (digit_value c) 10) (list_all (λ c. nat_lt (digit_value c) 10) cs) e in
     ((Decides-ltb (digit_value c) 10).0 both.0, digits_told cs both.1)
 
 decimals_tell : (ds : List ℕ) → IsNumeral 10 ds → are_decimals ds ≡ true
 decimals_tell ds numeral =
-    both_true _ _ ((Decides-ltb 0 (length ds)).1 numeral.0) (digits_tell ds numeral.1)
+    and_both _ _ ((Decides-ltb 0 (length ds)).1 numeral.0) (digits_tell ds numeral.1)
 
 decimals_told : (ds : List ℕ) → are_decimals ds ≡ true → IsNumeral 10 ds
 decimals_told ds e =
-    let both = both_told (nat_lt 0 (length ds)) (list_all (λ c. nat_lt (digit_value c) 10) ds) e in
+    let both = both_true (nat_lt 0 (length ds)) (list_all (λ c. nat_lt (digit_value c) 10) ds) e in
     ((Decides-ltb 0 (length ds)).0 both.0, digits_told ds both.1)
 
 -- what a text says stays what it says by another name

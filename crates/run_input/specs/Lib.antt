@@ -1,6 +1,7 @@
 pub mod Fields
 pub mod Input
 pub mod Lines
+pub mod Misfits
 pub mod PlanExpected
 pub mod PlanHead
 pub mod PlanInterceptor

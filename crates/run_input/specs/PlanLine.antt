@@ -220,8 +220,8 @@ plan_names =
     ∷ codes "threads" ∷ codes "version" ∷ codes "workspace_root" ∷ []
 
 -- the version of the form of plan lines: the second has the priorities of tests besides
-abbrev pub version_of : Data → Option ℕ
-version_of d = do
+abbrev pub plan_version_of : Data → Option ℕ
+plan_version_of d = do
   version ← u64_of d
   _ ← when (version == 1 || version == 2)
   Some version
@@ -229,7 +229,7 @@ version_of d = do
 -- the plan, without what is set of a runner
 abbrev pub plan_alone_of : Data → Option Plan
 plan_alone_of d = do
-  version ← or_usual 1 version_of (get (codes "version") d)
+  version ← or_usual 1 plan_version_of (get (codes "version") d)
   rules ← rules_from d
   frame ← frame_of d
   lists ← lists_of version d

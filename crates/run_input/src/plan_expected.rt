@@ -1,41 +1,55 @@
 // The tests that a rerun expects, by a plan line.
-ghost use Rattle.std.specs.Prelude.{◌≡◌, option_map};
+ghost use Rattle.std.specs.Prelude.{◌≡◌, codes};
+ghost use Rattle.serde_json.specs.Find.{get};
 ghost use Rattle.serde_json.specs.View.{view, items_view};
 ghost use Rattle.run_input.specs.Fields.{optional};
 ghost use Rattle.run_input.specs.PlanExpected.{expected_of, instance_from, instance_of, instance_with, instances_from};
 ghost use Rattle.run_input.specs.ReadsValue.{ReadsValue};
+ghost use Rattle.run_input.specs.declared.errors.LineError.TheVariants as errors;
 
-use crate::LineError;
 use crate::both::both;
-use crate::fields::text_at;
+use crate::fields::text_from;
+use crate::misfit::Wrong;
+use crate::refusal::Refusal;
 use run_capture::List;
 use run_events::TestInstanceId;
 use serde_json::Value;
 use std::alloc::Global;
 
+const KEY: &str = "expected";
+
+const TESTS: &str = "a list of tests, each as [binary, name]";
+
 /// The expected tests, in the order of their list, where they are given.
 pub fn optional_expected_at(
     alloc: Global,
-    value: Option<&Value>,
-) -> Result<Option<List<TestInstanceId>>, LineError>
-    ensures { ReadsValue result (optional expected_of (option_map (λ v. view v.now) value.entry)) }
+    plan: &Value,
+) -> Result<Option<List<TestInstanceId>>, Refusal>
+    ensures { ReadsValue result (optional expected_of (get (codes "expected") (view plan.now))) }
 {
-    match value {
+    match plan.get("expected") {
         Some(expected) => Ok(Some(expected_from(alloc, expected)?)),
         None => Ok(None),
     }
 }
 
-fn expected_from(alloc: Global, value: &Value) -> Result<List<TestInstanceId>, LineError>
+// That they are no such list.
+fn no_tests(alloc: Global) -> Refusal
+    ensures { result ≡ errors.NotInTable }
+{
+    Refusal::at(alloc, KEY, Wrong::Not(TESTS))
+}
+
+fn expected_from(alloc: Global, value: &Value) -> Result<List<TestInstanceId>, Refusal>
     ensures { ReadsValue result (expected_of (view value.now)) }
 {
     match value.as_array() {
         Some(items) => instances_in(alloc, items.as_slice()),
-        None => Err(LineError::NotInTable),
+        None => Err(no_tests(alloc)),
     }
 }
 
-fn instances_in(alloc: Global, items: &[Value]) -> Result<List<TestInstanceId>, LineError>
+fn instances_in(alloc: Global, items: &[Value]) -> Result<List<TestInstanceId>, Refusal>
     ensures { ReadsValue result (instances_from (items_view items.now)) }
 {
     let mut ids = List::new();
@@ -45,31 +59,31 @@ fn instances_in(alloc: Global, items: &[Value]) -> Result<List<TestInstanceId>, 
     Ok(ids)
 }
 
-fn instance_at(alloc: Global, value: &Value) -> Result<TestInstanceId, LineError>
+fn instance_at(alloc: Global, value: &Value) -> Result<TestInstanceId, Refusal>
     ensures { ReadsValue result (instance_of (view value.now)) }
 {
     match value.as_array() {
         Some(items) => instance_in(alloc, items.as_slice()),
-        None => Err(LineError::NotInTable),
+        None => Err(no_tests(alloc)),
     }
 }
 
 // The test of these items, which are its binary and its name.
-fn instance_in(alloc: Global, items: &[Value]) -> Result<TestInstanceId, LineError>
+fn instance_in(alloc: Global, items: &[Value]) -> Result<TestInstanceId, Refusal>
     ensures { ReadsValue result (instance_from (items_view items.now)) }
 {
     match items {
-        [] => Err(LineError::NotInTable),
-        [_binary] => Err(LineError::NotInTable),
+        [] => Err(no_tests(alloc)),
+        [_binary] => Err(no_tests(alloc)),
         [binary, name] => instance_with(alloc, binary, name),
-        [_binary, _name, _more, ..] => Err(LineError::NotInTable),
+        [_binary, _name, _more, ..] => Err(no_tests(alloc)),
     }
 }
 
-fn instance_with(alloc: Global, binary: &Value, name: &Value) -> Result<TestInstanceId, LineError>
+fn instance_with(alloc: Global, binary: &Value, name: &Value) -> Result<TestInstanceId, Refusal>
     ensures { ReadsValue result (instance_with (view binary.now) (view name.now)) }
 {
-    let binary = text_at(alloc, Some(binary))?;
-    let (binary, name) = both(binary, text_at(alloc, Some(name)))?;
+    let binary = text_from(alloc, binary, KEY, TESTS)?;
+    let (binary, name) = both(binary, text_from(alloc, name, KEY, TESTS))?;
     Ok(TestInstanceId { binary, name })
 }

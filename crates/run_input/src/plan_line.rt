@@ -1,5 +1,7 @@
 // The plan line: the first line of an input.
-ghost use Rattle.std.specs.Prelude.{◌≡◌, [], ◌+◌, length, nat_lt, option_map, option_and_then};
+ghost use Rattle.std.specs.Prelude.{◌≡◌, ◌↔◌, [], ◌+◌, None, codes, length, nat_lt, option_map, option_and_then};
+ghost use Rattle.std.specs.Prelude.{IfOk, IsSome};
+ghost use Rattle.serde_json.specs.Find.{get};
 ghost use Rattle.serde_json.specs.View.{view, items_view};
 ghost use Rattle.run_input.specs.ReadsValue.{ReadsValue};
 ghost use Rattle.run_input.specs.ValueOf.{json_value};
@@ -10,8 +12,9 @@ ghost use Rattle.run_input.specs.Fields.{or_usual, when};
 
 use crate::LineError;
 use crate::both::both;
-use crate::fields::{optional_u32_at, optional_u64_at, text_at, u32_at};
-use crate::objects::has_keys_of;
+use crate::fields::{optional_time_at, optional_u32_at, text_at, u32_at};
+use crate::misfit::{Misfit, Wrong};
+use crate::objects::only_keys;
 use crate::plan_expected::optional_expected_at;
 use crate::plan_head::frame_from;
 use crate::plan_interceptor::interceptor_at;
@@ -20,8 +23,9 @@ use crate::plan_retries::{optional_flaky_at, optional_retries_at};
 use crate::plan_scripts::scripts_at;
 use crate::plan_stress::optional_stress_at;
 use crate::plan_test::test_from;
-use crate::value::read_value;
-use run_capture::{CaptureStrategy, List};
+use crate::refusal::{Refusal, in_item, missing};
+use crate::value::{parse, unless_float};
+use run_capture::{CaptureStrategy, List, Mem};
 use run_commands::{Interceptor, StressCondition, TargetRunner};
 use run_events::{
     FlakyResult, Group, Hearing, MaxFail, Plan, PlanScript, PlanTest, RetryPolicy, RunHead,
@@ -76,21 +80,49 @@ pub struct RunnerKeys {
 pub fn read_plan_line(alloc: Global, line: &[u8]) -> Result<(RunnerKeys, Plan), LineError>
     ensures { ReadsValue result (option_and_then plan_of (json_value line.now)) }
 {
-    match read_value(alloc, line) {
-        Ok(value) => plan_from(alloc, &value),
-        Err(e) => Err(e),
+    match plan_said(alloc, line) {
+        Ok(said) => Ok(said),
+        Err(refusal) => Err(refusal.error()),
     }
+}
+
+/// Why `read_plan_line` refuses a line: what is wrong with it, and where, as the reader found it.
+pub fn plan_line_misfit(alloc: Global, line: &[u8]) -> Mem<Option<Misfit>>
+    ensures { IfOk result (λ misfit. IsSome misfit ↔ (option_and_then plan_of (json_value line.now) ≡ None)) }
+{
+    match plan_said(alloc, line) {
+        Ok(said) => {
+            drop(said);
+            Ok(None)
+        }
+        Err(refusal) => refusal.into_misfit(),
+    }
+}
+
+#[tactic(auto, using(crate::proofs::SaidLemmas::reads_line))]
+fn plan_said(alloc: Global, line: &[u8]) -> Result<(RunnerKeys, Plan), Refusal>
+    ensures { ReadsValue result (option_and_then plan_of (json_value line.now)) }
+{
+    let value = parse(alloc, line)?;
+    let said = plan_from(alloc, &value);
+    unless_float(alloc, &value, said)
 }
 
 /// The most groups that a plan may have, and the most scripts and tests together. No input within its limit has as
 /// many.
 const MOST: usize = 4_294_967_295;
 
-#[tactic(auto, unfolding(crate::specs::PlanLine::plan_of))]
-fn plan_from(alloc: Global, value: &Value) -> Result<(RunnerKeys, Plan), LineError>
+const FEW: &str = "a list of fewer than 4294967296 objects";
+
+const OBJECTS: &str = "a list of objects";
+
+#[tactic(auto, unfolding(crate::specs::PlanLine::plan_of), using(crate::proofs::SaidLemmas::refused_version))]
+fn plan_from(alloc: Global, value: &Value) -> Result<(RunnerKeys, Plan), Refusal>
     ensures { ReadsValue result (plan_of (view value.now)) }
 {
-    if !has_keys_of(
+    version_at(alloc, value)?;
+    only_keys(
+        alloc,
         value,
         &[
             "args",
@@ -120,52 +152,57 @@ fn plan_from(alloc: Global, value: &Value) -> Result<(RunnerKeys, Plan), LineErr
             "version",
             "workspace_root",
         ],
-    ) {
-        return Err(LineError::NotInTable);
-    }
+        "a JSON object",
+    )?;
     let keys = runner_keys(alloc, value)?;
     both(keys, plan_alone(alloc, value))
 }
 
 // The plan, without what is set of a runner.
-fn plan_alone(alloc: Global, value: &Value) -> Result<Plan, LineError>
+fn plan_alone(alloc: Global, value: &Value) -> Result<Plan, Refusal>
     ensures { ReadsValue result (plan_alone_of (view value.now)) }
 {
-    let version = version_at(value.get("version")).ok_or(LineError::NotInTable)?;
-    let rules = rules_from(value).ok_or(LineError::NotInTable)?;
+    let version = version_at(alloc, value)?;
+    let rules = rules_from(alloc, value)?;
     let frame = frame_from(alloc, value)?;
     let (frame, lists) = both(frame, lists_from(alloc, version, value))?;
     Ok(plan_with(rules, frame, lists))
 }
 
 // How output is captured, how many tests run at a time, and after how many failures none starts any more.
-fn limits_from(value: &Value) -> Option<(CaptureStrategy, Option<u32>, MaxFail)>
-    ensures { result ≡ limits_from (view value.now) }
+fn limits_from(
+    alloc: Global,
+    value: &Value,
+) -> Result<(CaptureStrategy, Option<u32>, MaxFail), Refusal>
+    ensures { ReadsValue result (limits_from (view value.now)) }
 {
-    let capture = capture_at(value.get("capture"))?;
-    let threads = optional_u32_at(value.get("threads"))?;
-    let max_fail = max_fail_at(value.get("max_fail"))?;
-    Some((capture, threads, max_fail))
+    let capture = capture_at(alloc, value)?;
+    let threads = optional_u32_at(alloc, value, "threads")?;
+    let max_fail = max_fail_at(alloc, value)?;
+    Ok((capture, threads, max_fail))
 }
 
 // How often each test is tried again, and what a pass counts as then.
-fn retrying_from(value: &Value) -> Option<(Option<RetryPolicy>, Option<FlakyResult>)>
-    ensures { result ≡ retrying_of (view value.now) }
+fn retrying_from(
+    alloc: Global,
+    value: &Value,
+) -> Result<(Option<RetryPolicy>, Option<FlakyResult>), Refusal>
+    ensures { ReadsValue result (retrying_of (view value.now)) }
 {
-    let retries = optional_retries_at(value.get("retries"))?;
-    let flaky_result = optional_flaky_at(value.get("flaky_result"))?;
-    Some((retries, flaky_result))
+    let retries = optional_retries_at(alloc, value)?;
+    let flaky_result = optional_flaky_at(alloc, value)?;
+    Ok((retries, flaky_result))
 }
 
 // What the keys set of a runner.
-fn runner_keys(alloc: Global, value: &Value) -> Result<RunnerKeys, LineError>
+fn runner_keys(alloc: Global, value: &Value) -> Result<RunnerKeys, Refusal>
     ensures { ReadsValue result (keys_of (view value.now)) }
 {
-    let (capture, threads, max_fail) = limits_from(value).ok_or(LineError::NotInTable)?;
-    let (retries, flaky_result) = retrying_from(value).ok_or(LineError::NotInTable)?;
-    let stress = optional_stress_at(value.get("stress")).ok_or(LineError::NotInTable)?;
-    let interceptor = interceptor_at(alloc, value.get("interceptor"))?;
-    let expected = optional_expected_at(alloc, value.get("expected"));
+    let (capture, threads, max_fail) = limits_from(alloc, value)?;
+    let (retries, flaky_result) = retrying_from(alloc, value)?;
+    let stress = optional_stress_at(alloc, value)?;
+    let interceptor = interceptor_at(alloc, value)?;
+    let expected = optional_expected_at(alloc, value);
     let (interceptor, expected) = both(interceptor, expected)?;
     Ok(RunnerKeys {
         capture,
@@ -180,12 +217,12 @@ fn runner_keys(alloc: Global, value: &Value) -> Result<RunnerKeys, LineError>
 }
 
 // What a run hears, and how long it may take.
-fn rules_from(value: &Value) -> Option<(Hearing, Option<u64>)>
-    ensures { result ≡ rules_from (view value.now) }
+fn rules_from(alloc: Global, value: &Value) -> Result<(Hearing, Option<u64>), Refusal>
+    ensures { ReadsValue result (rules_from (view value.now)) }
 {
-    let hearing = hearing_from(value)?;
-    let global_timeout = optional_u64_at(value.get("global_timeout"))?;
-    Some((hearing, global_timeout))
+    let hearing = hearing_from(alloc, value)?;
+    let global_timeout = optional_time_at(alloc, value, "global_timeout")?;
+    Ok((hearing, global_timeout))
 }
 
 // A plan with these rules, of this head and these runners, with these groups, scripts and tests.
@@ -215,28 +252,29 @@ fn lists_from(
     alloc: Global,
     version: u64,
     value: &Value,
-) -> Result<(List<Group>, List<PlanScript>, List<PlanTest>), LineError>
+) -> Result<(List<Group>, List<PlanScript>, List<PlanTest>), Refusal>
     ensures { ReadsValue result (lists_of version (view value.now)) }
 {
-    let groups = groups_of_plan(alloc, value.get("groups"))?;
-    let scripts = scripts_of_plan(alloc, value.get("scripts"))?;
-    let tests = tests_of_plan(alloc, version, value.get("tests"))?;
-    all_lists(groups, scripts, tests)
+    let groups = groups_of_plan(alloc, value)?;
+    let scripts = scripts_of_plan(alloc, value)?;
+    let tests = tests_of_plan(alloc, version, value)?;
+    all_lists(alloc, groups, scripts, tests)
 }
 
 // These lists, where scripts and tests are together fewer than 2^32.
 fn all_lists(
+    alloc: Global,
     groups: List<Group>,
     scripts: List<PlanScript>,
     tests: List<PlanTest>,
-) -> Result<(List<Group>, List<PlanScript>, List<PlanTest>), LineError>
+) -> Result<(List<Group>, List<PlanScript>, List<PlanTest>), Refusal>
     ensures { ReadsValue result (option_map (λ _. (groups, scripts, tests))
         (when (nat_lt (length scripts + length tests) 4294967296))) }
 {
     if are_few(scripts.len(), tests.len()) {
         Ok((groups, scripts, tests))
     } else {
-        Err(LineError::NotInTable)
+        Err(Refusal::at(alloc, "tests", Wrong::Not(FEW)))
     }
 }
 
@@ -248,95 +286,96 @@ fn are_few(scripts: usize, tests: usize) -> bool
 }
 
 // The groups of a plan, which are fewer than 2^32.
-fn groups_of_plan(alloc: Global, value: Option<&Value>) -> Result<List<Group>, LineError>
-    ensures { ReadsValue result (plan_groups_of (option_map (λ v. view v.now) value.entry)) }
+fn groups_of_plan(alloc: Global, plan: &Value) -> Result<List<Group>, Refusal>
+    ensures { ReadsValue result (plan_groups_of (get (codes "groups") (view plan.now))) }
 {
-    let groups = groups_at(alloc, value)?;
+    let groups = groups_at(alloc, plan)?;
     if groups.len() > MOST {
-        Err(LineError::NotInTable)
+        Err(Refusal::at(alloc, "groups", Wrong::Not(FEW)))
     } else {
         Ok(groups)
     }
 }
 
 // The setup scripts of a plan, which are fewer than 2^32.
-fn scripts_of_plan(alloc: Global, value: Option<&Value>) -> Result<List<PlanScript>, LineError>
-    ensures { ReadsValue result (plan_scripts_of (option_map (λ v. view v.now) value.entry)) }
+fn scripts_of_plan(alloc: Global, plan: &Value) -> Result<List<PlanScript>, Refusal>
+    ensures { ReadsValue result (plan_scripts_of (get (codes "scripts") (view plan.now))) }
 {
-    let scripts = scripts_at(alloc, value)?;
+    let scripts = scripts_at(alloc, plan)?;
     if scripts.len() > MOST {
-        Err(LineError::NotInTable)
+        Err(Refusal::at(alloc, "scripts", Wrong::Not(FEW)))
     } else {
         Ok(scripts)
     }
 }
 
 #[tactic(auto, unfolding(crate::specs::PlanLine::group_from))]
-fn group_from(alloc: Global, value: &Value) -> Result<Group, LineError>
+fn group_from(alloc: Global, value: &Value) -> Result<Group, Refusal>
     ensures { ReadsValue result (group_from (view value.now)) }
 {
-    if !has_keys_of(value, &["limit", "name"]) {
-        return Err(LineError::NotInTable);
-    }
-    let limit = u32_at(value.get("limit")).ok_or(LineError::NotInTable)?;
-    let name = text_at(alloc, value.get("name"))?;
+    only_keys(alloc, value, &["limit", "name"], "an object")?;
+    let limit = u32_at(alloc, value, "limit")?;
+    let name = text_at(alloc, value, "name")?;
     Ok(Group { name, limit })
 }
 
-fn groups_in(alloc: Global, items: &[Value]) -> Result<List<Group>, LineError>
+fn groups_in(alloc: Global, items: &[Value]) -> Result<List<Group>, Refusal>
     ensures { ReadsValue result (groups_from (items_view items.now)) }
 {
     let mut groups = List::new();
     for item in items {
-        groups.push(alloc, group_from(alloc, item)?)?;
+        let number = groups.len();
+        let group = in_item(alloc, "groups", number, group_from(alloc, item))?;
+        groups.push(alloc, group)?;
     }
     Ok(groups)
 }
 
 // The groups of a list, and none where there is none.
-fn groups_at(alloc: Global, value: Option<&Value>) -> Result<List<Group>, LineError>
-    ensures { ReadsValue result (or_usual [] groups_of (option_map (λ v. view v.now) value.entry)) }
+fn groups_at(alloc: Global, plan: &Value) -> Result<List<Group>, Refusal>
+    ensures { ReadsValue result (or_usual [] groups_of (get (codes "groups") (view plan.now))) }
 {
-    match value {
+    match plan.get("groups") {
         Some(list) => match list.as_array() {
             Some(items) => groups_in(alloc, items.as_slice()),
-            None => Err(LineError::NotInTable),
+            None => Err(Refusal::at(alloc, "groups", Wrong::Not(OBJECTS))),
         },
         None => Ok(List::new()),
     }
 }
 
-fn tests_in(alloc: Global, version: u64, items: &[Value]) -> Result<List<PlanTest>, LineError>
+fn tests_in(alloc: Global, version: u64, items: &[Value]) -> Result<List<PlanTest>, Refusal>
     ensures { ReadsValue result (tests_from version (items_view items.now)) }
 {
     let mut tests = List::new();
     for item in items {
-        tests.push(alloc, test_from(alloc, version, item)?)?;
+        let number = tests.len();
+        let test = in_item(alloc, "tests", number, test_from(alloc, version, item))?;
+        tests.push(alloc, test)?;
     }
     Ok(tests)
 }
 
 // The tests of a list.
-fn tests_at(alloc: Global, version: u64, value: Option<&Value>) -> Result<List<PlanTest>, LineError>
-    ensures { ReadsValue result (option_and_then (tests_of version) (option_map (λ v. view v.now) value.entry)) }
+fn tests_at(alloc: Global, version: u64, plan: &Value) -> Result<List<PlanTest>, Refusal>
+    ensures { ReadsValue result (option_and_then (tests_of version) (get (codes "tests") (view plan.now))) }
 {
-    match value.and_then(Value::as_array) {
-        Some(items) => tests_in(alloc, version, items.as_slice()),
-        None => Err(LineError::NotInTable),
+    match plan.get("tests") {
+        Some(list) => match list.as_array() {
+            Some(items) => tests_in(alloc, version, items.as_slice()),
+            None => Err(Refusal::at(alloc, "tests", Wrong::Not(OBJECTS))),
+        },
+        None => missing(alloc, "tests"),
     }
 }
 
 // The tests of a plan, which are fewer than 2^32.
-fn tests_of_plan(
-    alloc: Global,
-    version: u64,
-    value: Option<&Value>,
-) -> Result<List<PlanTest>, LineError>
-    ensures { ReadsValue result (plan_tests_of version (option_map (λ v. view v.now) value.entry)) }
+fn tests_of_plan(alloc: Global, version: u64, plan: &Value) -> Result<List<PlanTest>, Refusal>
+    ensures { ReadsValue result (plan_tests_of version (get (codes "tests") (view plan.now))) }
 {
-    let tests = tests_at(alloc, version, value)?;
+    let tests = tests_at(alloc, version, plan)?;
     if tests.len() > MOST {
-        Err(LineError::NotInTable)
+        Err(Refusal::at(alloc, "tests", Wrong::Not(FEW)))
     } else {
         Ok(tests)
     }

@@ -1,49 +1,59 @@
 // The setup scripts of a plan line.
-ghost use Rattle.std.specs.Prelude.{◌≡◌, [], option_map};
+ghost use Rattle.std.specs.Prelude.{◌≡◌, [], codes};
+ghost use Rattle.serde_json.specs.Find.{get};
 ghost use Rattle.serde_json.specs.View.{view, items_view};
 ghost use Rattle.run_input.specs.Fields.{or_usual};
 ghost use Rattle.run_input.specs.PlanScripts.{usual_script_slow, script_times_of, script_captures_of, script_words_of};
 ghost use Rattle.run_input.specs.PlanScripts.{script_of, scripts_from, scripts_listed};
 ghost use Rattle.run_input.specs.ReadsValue.{ReadsValue};
 
-use crate::LineError;
 use crate::fields::{text_at, text_or, texts_at, truth_or};
-use crate::objects::has_keys_of;
+use crate::misfit::Wrong;
+use crate::objects::only_keys;
 use crate::plan_test::{leak_at, slow_or};
+use crate::refusal::{Refusal, in_item};
 use run_capture::{List, Text};
 use run_events::{LeakTimeout, PlanScript, SlowTimeout};
 use serde_json::Value;
 use std::alloc::Global;
 
 /// The setup scripts of a list, and none where there is none.
-pub fn scripts_at(alloc: Global, value: Option<&Value>) -> Result<List<PlanScript>, LineError>
-    ensures { ReadsValue result (or_usual [] scripts_listed (option_map (λ v. view v.now) value.entry)) }
+pub fn scripts_at(alloc: Global, plan: &Value) -> Result<List<PlanScript>, Refusal>
+    ensures { ReadsValue result (or_usual [] scripts_listed (get (codes "scripts") (view plan.now))) }
 {
-    match value {
+    match plan.get("scripts") {
         Some(list) => match list.as_array() {
             Some(items) => scripts_in(alloc, items.as_slice()),
-            None => Err(LineError::NotInTable),
+            None => Err(Refusal::at(alloc, "scripts", Wrong::Not("a list of objects"))),
         },
         None => Ok(List::new()),
     }
 }
 
-fn scripts_in(alloc: Global, items: &[Value]) -> Result<List<PlanScript>, LineError>
+fn scripts_in(alloc: Global, items: &[Value]) -> Result<List<PlanScript>, Refusal>
     ensures { ReadsValue result (scripts_from (items_view items.now)) }
 {
     let mut scripts = List::new();
     for item in items {
-        scripts.push(alloc, script_from(alloc, item)?)?;
+        scripts.push(alloc, script_in(alloc, scripts.len(), item)?)?;
     }
     Ok(scripts)
 }
 
-// A script, by its keys.
-#[tactic(auto, unfolding(crate::specs::PlanScripts::script_of))]
-fn script_from(alloc: Global, value: &Value) -> Result<PlanScript, LineError>
+// The script of this number in its list.
+fn script_in(alloc: Global, number: usize, value: &Value) -> Result<PlanScript, Refusal>
     ensures { ReadsValue result (script_of (view value.now)) }
 {
-    if !has_keys_of(
+    in_item(alloc, "scripts", number, script_from(alloc, value))
+}
+
+// A script, by its keys.
+#[tactic(auto, unfolding(crate::specs::PlanScripts::script_of))]
+fn script_from(alloc: Global, value: &Value) -> Result<PlanScript, Refusal>
+    ensures { ReadsValue result (script_of (view value.now)) }
+{
+    only_keys(
+        alloc,
         value,
         &[
             "capture_stderr",
@@ -54,11 +64,10 @@ fn script_from(alloc: Global, value: &Value) -> Result<PlanScript, LineError>
             "leak",
             "slow",
         ],
-    ) {
-        return Err(LineError::NotInTable);
-    }
-    let (slow, leak) = times_from(value).ok_or(LineError::NotInTable)?;
-    let (capture_stdout, capture_stderr) = captures_from(value).ok_or(LineError::NotInTable)?;
+        "an object",
+    )?;
+    let (slow, leak) = times_from(alloc, value)?;
+    let (capture_stdout, capture_stderr) = captures_from(alloc, value)?;
     let (id, command, env_path) = words_from(alloc, value)?;
     Ok(PlanScript {
         id,
@@ -81,29 +90,29 @@ fn usual_slow() -> SlowTimeout
 }
 
 // The time-outs of a script.
-fn times_from(value: &Value) -> Option<(SlowTimeout, LeakTimeout)>
-    ensures { result ≡ script_times_of (view value.now) }
+fn times_from(alloc: Global, value: &Value) -> Result<(SlowTimeout, LeakTimeout), Refusal>
+    ensures { ReadsValue result (script_times_of (view value.now)) }
 {
-    let slow = slow_or(usual_slow(), value.get("slow"))?;
-    let leak = leak_at(value.get("leak"))?;
-    Some((slow, leak))
+    let slow = slow_or(alloc, usual_slow(), value)?;
+    let leak = leak_at(alloc, value)?;
+    Ok((slow, leak))
 }
 
 // Whether its streams are captured.
-fn captures_from(value: &Value) -> Option<(bool, bool)>
-    ensures { result ≡ script_captures_of (view value.now) }
+fn captures_from(alloc: Global, value: &Value) -> Result<(bool, bool), Refusal>
+    ensures { ReadsValue result (script_captures_of (view value.now)) }
 {
-    let stdout = truth_or(true, value.get("capture_stdout"))?;
-    let stderr = truth_or(true, value.get("capture_stderr"))?;
-    Some((stdout, stderr))
+    let stdout = truth_or(alloc, true, value, "capture_stdout")?;
+    let stderr = truth_or(alloc, true, value, "capture_stderr")?;
+    Ok((stdout, stderr))
 }
 
 // The name of a script, its command, and where it writes its variables.
-fn words_from(alloc: Global, value: &Value) -> Result<(Text, List<Text>, Text), LineError>
+fn words_from(alloc: Global, value: &Value) -> Result<(Text, List<Text>, Text), Refusal>
     ensures { ReadsValue result (script_words_of (view value.now)) }
 {
-    let id = text_at(alloc, value.get("id"))?;
-    let command = texts_at(alloc, value.get("command"))?;
-    let env_path = text_or(alloc, "", value.get("env_path"))?;
+    let id = text_at(alloc, value, "id")?;
+    let command = texts_at(alloc, value, "command")?;
+    let env_path = text_or(alloc, "", value, "env_path")?;
     Ok((id, command, env_path))
 }

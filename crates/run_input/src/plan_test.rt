@@ -1,5 +1,6 @@
 // A test of a plan line.
-ghost use Rattle.std.specs.Prelude.{◌≡◌, option_map, option_and_then};
+ghost use Rattle.std.specs.Prelude.{◌≡◌, codes};
+ghost use Rattle.serde_json.specs.Find.{get};
 ghost use Rattle.serde_json.specs.View.{view};
 ghost use Rattle.run_events.specs.Usual.{usual_leak};
 ghost use Rattle.run_input.specs.ReadsValue.{ReadsValue};
@@ -8,13 +9,14 @@ ghost use Rattle.run_input.specs.PlanTest.{id_of, named_of, platform_of, terms_f
 ghost use Rattle.run_input.specs.PlanTest.{priority_of, priority_said, slow_of, leak_of, timeout_of, leak_result_of};
 ghost use Rattle.run_input.specs.Fields.{u32_of, or_usual};
 
-use crate::LineError;
 use crate::both::both;
 use crate::fields::{
-    numbers_or_none, optional_text_at, optional_u32_at, str_at, text_at, texts_at, u32_at, u64_or,
+    numbers_or_none, optional_text_at, optional_u32_at, text_at, texts_at, time_or, u32_or,
 };
-use crate::objects::has_keys_of;
-use crate::plan_retries::{flaky_at, retries_at};
+use crate::misfit::Wrong;
+use crate::objects::only_keys;
+use crate::plan_retries::{RESULTS, flaky_at, retries_at};
+use crate::refusal::{Refusal, or_not, under};
 use run_capture::{List, Text};
 use run_commands::BuildPlatform;
 use run_events::{
@@ -24,24 +26,26 @@ use run_events::{
 use serde_json::Value;
 use std::alloc::Global;
 
+const PRIORITY: &str = "a whole number from -100 to 100";
+
 /// A test, by its keys, in a plan line of this version.
 #[tactic(auto, unfolding(crate::specs::PlanTest::test_from))]
-pub fn test_from(alloc: Global, version: u64, value: &Value) -> Result<PlanTest, LineError>
+pub fn test_from(alloc: Global, version: u64, value: &Value) -> Result<PlanTest, Refusal>
     ensures { ReadsValue result (test_from version (view value.now)) }
 {
-    if !has_keys_of(
+    only_keys(
+        alloc,
         value,
         &[
             "binary", "command", "flaky", "group", "leak", "name", "platform", "priority",
             "retries", "scripts", "skip", "slow", "weight",
         ],
-    ) {
-        return Err(LineError::NotInTable);
-    }
-    let terms = terms_from(value).ok_or(LineError::NotInTable)?;
-    let trials = trials_from(value).ok_or(LineError::NotInTable)?;
-    let platform = platform_at(value.get("platform")).ok_or(LineError::NotInTable)?;
-    let priority = priority_at(version, value.get("priority")).ok_or(LineError::NotInTable)?;
+        "an object",
+    )?;
+    let terms = terms_from(alloc, value)?;
+    let trials = trials_from(alloc, value)?;
+    let platform = platform_at(alloc, value)?;
+    let priority = priority_at(alloc, version, value)?;
     let ties = ties_from(alloc, value)?;
     let (ties, test) = both(ties, named_from(alloc, value))?;
     Ok(set(test, terms, trials, (platform, priority), ties))
@@ -77,19 +81,19 @@ fn set(
 }
 
 // The platform of a test, and the target's where nothing is said.
-fn platform_at(value: Option<&Value>) -> Option<BuildPlatform>
-    ensures { result ≡ or_usual platforms.Target platform_of (option_map (λ v. view v.now) value.entry) }
+fn platform_at(alloc: Global, test: &Value) -> Result<BuildPlatform, Refusal>
+    ensures { ReadsValue result (or_usual platforms.Target platform_of (get (codes "platform") (view test.now))) }
 {
-    match value {
-        Some(_) => named_platform(value),
-        None => Some(BuildPlatform::Target),
+    match test.get("platform") {
+        Some(value) => or_not(alloc, platform_from(value), "platform", "target or host"),
+        None => Ok(BuildPlatform::Target),
     }
 }
 
-fn named_platform(value: Option<&Value>) -> Option<BuildPlatform>
-    ensures { result ≡ option_and_then platform_of (option_map (λ v. view v.now) value.entry) }
+fn platform_from(value: &Value) -> Option<BuildPlatform>
+    ensures { result ≡ platform_of (view value.now) }
 {
-    match str_at(value)? {
+    match value.as_str()? {
         "target" => Some(BuildPlatform::Target),
         "host" => Some(BuildPlatform::Host),
         _ => None,
@@ -109,95 +113,89 @@ fn priority_from(value: &Value) -> Option<i8>
 }
 
 // The priority of a test in a plan line of this version, and 0 where nothing is said.
-fn priority_at(version: u64, value: Option<&Value>) -> Option<i8>
-    ensures { result ≡ priority_said version (option_map (λ v. view v.now) value.entry) }
+fn priority_at(alloc: Global, version: u64, test: &Value) -> Result<i8, Refusal>
+    ensures { ReadsValue result (priority_said version (get (codes "priority") (view test.now))) }
 {
-    match value {
-        Some(value) if version == 2 => priority_from(value),
-        Some(_) => None,
-        None => Some(0),
+    match test.get("priority") {
+        Some(value) if version == 2 => or_not(alloc, priority_from(value), "priority", PRIORITY),
+        Some(_) => Err(Refusal::at(alloc, "priority", Wrong::NotSecondVersion)),
+        None => Ok(0),
     }
 }
 
 // How often a test is tried again, and what a pass counts as then.
-fn trials_from(value: &Value) -> Option<(RetryPolicy, FlakyResult)>
-    ensures { result ≡ trials_of (view value.now) }
+fn trials_from(alloc: Global, value: &Value) -> Result<(RetryPolicy, FlakyResult), Refusal>
+    ensures { ReadsValue result (trials_of (view value.now)) }
 {
-    let retries = retries_at(value.get("retries"))?;
-    let flaky = flaky_at(value.get("flaky"))?;
-    Some((retries, flaky))
+    let retries = retries_at(alloc, value)?;
+    let flaky = flaky_at(alloc, value)?;
+    Ok((retries, flaky))
 }
 
 // The group of a test, and its setup scripts by number.
-fn ties_from(alloc: Global, value: &Value) -> Result<(Option<Text>, List<u32>), LineError>
+fn ties_from(alloc: Global, value: &Value) -> Result<(Option<Text>, List<u32>), Refusal>
     ensures { ReadsValue result (ties_of (view value.now)) }
 {
-    let group = optional_text_at(alloc, value.get("group"))?;
-    let scripts = numbers_or_none(alloc, value.get("scripts"))?;
+    let group = optional_text_at(alloc, value, "group")?;
+    let scripts = numbers_or_none(alloc, value, "scripts")?;
     Ok((group, scripts))
 }
 
 // The name of a test, its command, and why it is skipped.
-fn named_from(alloc: Global, value: &Value) -> Result<PlanTest, LineError>
+fn named_from(alloc: Global, value: &Value) -> Result<PlanTest, Refusal>
     ensures { ReadsValue result (named_of (view value.now)) }
 {
     let id = id_from(alloc, value)?;
-    let command = texts_at(alloc, value.get("command"))?;
-    let skip = optional_text_at(alloc, value.get("skip"))?;
+    let command = texts_at(alloc, value, "command")?;
+    let skip = optional_text_at(alloc, value, "skip")?;
     Ok(PlanTest::usual(id, command, skip))
 }
 
 // The weight of a test, and its time-outs.
-fn terms_from(value: &Value) -> Option<(u32, SlowTimeout, LeakTimeout)>
-    ensures { result ≡ terms_from (view value.now) }
+fn terms_from(alloc: Global, value: &Value) -> Result<(u32, SlowTimeout, LeakTimeout), Refusal>
+    ensures { ReadsValue result (terms_from (view value.now)) }
 {
-    let weight = weight_at(value.get("weight"))?;
-    let slow = slow_or(SlowTimeout::usual(), value.get("slow"))?;
-    let leak = leak_at(value.get("leak"))?;
-    Some((weight, slow, leak))
-}
-
-// A weight, and 1 where there is none.
-fn weight_at(value: Option<&Value>) -> Option<u32>
-    ensures { result ≡ or_usual 1 u32_of (option_map (λ v. view v.now) value.entry) }
-{
-    match value {
-        Some(_) => u32_at(value),
-        None => Some(1),
-    }
+    let weight = u32_or(alloc, 1, value, "weight")?;
+    let slow = slow_or(alloc, SlowTimeout::usual(), value)?;
+    let leak = leak_at(alloc, value)?;
+    Ok((weight, slow, leak))
 }
 
 // The name of a test.
-fn id_from(alloc: Global, value: &Value) -> Result<TestInstanceId, LineError>
+fn id_from(alloc: Global, value: &Value) -> Result<TestInstanceId, Refusal>
     ensures { ReadsValue result (id_of (view value.now)) }
 {
-    let binary = text_at(alloc, value.get("binary"))?;
-    let name = text_at(alloc, value.get("name"))?;
+    let binary = text_at(alloc, value, "binary")?;
+    let name = text_at(alloc, value, "name")?;
     Ok(TestInstanceId { binary, name })
 }
 
 /// When a test or a script is slow, and as is usual for it where nothing is said.
-pub fn slow_or(usual: SlowTimeout, value: Option<&Value>) -> Option<SlowTimeout>
-    ensures { result ≡ or_usual usual (slow_of usual) (option_map (λ v. view v.now) value.entry) }
+pub fn slow_or(alloc: Global, usual: SlowTimeout, object: &Value) -> Result<SlowTimeout, Refusal>
+    ensures { ReadsValue result (or_usual usual (slow_of usual) (get (codes "slow") (view object.now))) }
 {
-    match value {
-        Some(slow) => slow_from(usual, slow),
-        None => Some(usual),
+    match object.get("slow") {
+        Some(slow) => under(alloc, "slow", slow_from(alloc, usual, slow)),
+        None => Ok(usual),
     }
 }
 
 #[tactic(auto, unfolding(crate::specs::PlanTest::slow_of))]
-fn slow_from(usual: SlowTimeout, value: &Value) -> Option<SlowTimeout>
-    ensures { result ≡ slow_of usual (view value.now) }
+fn slow_from(alloc: Global, usual: SlowTimeout, value: &Value) -> Result<SlowTimeout, Refusal>
+    ensures { ReadsValue result (slow_of usual (view value.now)) }
 {
-    if !has_keys_of(value, &["grace", "on_timeout", "period", "terminate_after"]) {
-        return None;
-    }
-    let period = u64_or(usual.period, value.get("period"))?;
-    let terminate_after = optional_u32_at(value.get("terminate_after"))?;
-    let grace = u64_or(usual.grace, value.get("grace"))?;
-    let on_timeout = timeout_or(usual.on_timeout, value.get("on_timeout"))?;
-    Some(SlowTimeout {
+    let names = ["grace", "on_timeout", "period", "terminate_after"];
+    only_keys(
+        alloc,
+        value,
+        &names,
+        "an object as {\"period\":60000000000}",
+    )?;
+    let period = time_or(alloc, usual.period, value, "period")?;
+    let terminate_after = optional_u32_at(alloc, value, "terminate_after")?;
+    let grace = time_or(alloc, usual.grace, value, "grace")?;
+    let on_timeout = timeout_or(alloc, usual.on_timeout, value)?;
+    Ok(SlowTimeout {
         period,
         terminate_after,
         grace,
@@ -206,19 +204,23 @@ fn slow_from(usual: SlowTimeout, value: &Value) -> Option<SlowTimeout>
 }
 
 // What a time-out counts as, and the usual result where nothing is said.
-fn timeout_or(usual: SlowTimeoutResult, value: Option<&Value>) -> Option<SlowTimeoutResult>
-    ensures { result ≡ or_usual usual timeout_of (option_map (λ v. view v.now) value.entry) }
+fn timeout_or(
+    alloc: Global,
+    usual: SlowTimeoutResult,
+    slow: &Value,
+) -> Result<SlowTimeoutResult, Refusal>
+    ensures { ReadsValue result (or_usual usual timeout_of (get (codes "on_timeout") (view slow.now))) }
 {
-    match value {
-        Some(_) => named_timeout(value),
-        None => Some(usual),
+    match slow.get("on_timeout") {
+        Some(value) => or_not(alloc, timeout_from(value), "on_timeout", RESULTS),
+        None => Ok(usual),
     }
 }
 
-fn named_timeout(value: Option<&Value>) -> Option<SlowTimeoutResult>
-    ensures { result ≡ option_and_then timeout_of (option_map (λ v. view v.now) value.entry) }
+fn timeout_from(value: &Value) -> Option<SlowTimeoutResult>
+    ensures { result ≡ timeout_of (view value.now) }
 {
-    match str_at(value)? {
+    match value.as_str()? {
         "fail" => Some(SlowTimeoutResult::Fail),
         "pass" => Some(SlowTimeoutResult::Pass),
         _ => None,
@@ -226,42 +228,45 @@ fn named_timeout(value: Option<&Value>) -> Option<SlowTimeoutResult>
 }
 
 /// How long open descriptors are waited for, and as usual where nothing is said.
-pub fn leak_at(value: Option<&Value>) -> Option<LeakTimeout>
-    ensures { result ≡ or_usual usual_leak leak_of (option_map (λ v. view v.now) value.entry) }
+pub fn leak_at(alloc: Global, object: &Value) -> Result<LeakTimeout, Refusal>
+    ensures { ReadsValue result (or_usual usual_leak leak_of (get (codes "leak") (view object.now))) }
 {
-    match value {
-        Some(leak) => leak_from(leak),
-        None => Some(LeakTimeout::usual()),
+    match object.get("leak") {
+        Some(leak) => under(alloc, "leak", leak_from(alloc, leak)),
+        None => Ok(LeakTimeout::usual()),
     }
 }
 
 #[tactic(auto, unfolding(crate::specs::PlanTest::leak_of))]
-fn leak_from(value: &Value) -> Option<LeakTimeout>
-    ensures { result ≡ leak_of (view value.now) }
+fn leak_from(alloc: Global, value: &Value) -> Result<LeakTimeout, Refusal>
+    ensures { ReadsValue result (leak_of (view value.now)) }
 {
-    if !has_keys_of(value, &["period", "result"]) {
-        return None;
-    }
+    only_keys(
+        alloc,
+        value,
+        &["period", "result"],
+        "an object as {\"period\":200000000}",
+    )?;
     let usual = LeakTimeout::usual();
-    let period = u64_or(usual.period, value.get("period"))?;
-    let result = leak_result_at(value.get("result"))?;
-    Some(LeakTimeout { period, result })
+    let period = time_or(alloc, usual.period, value, "period")?;
+    let result = leak_result_at(alloc, value)?;
+    Ok(LeakTimeout { period, result })
 }
 
 // What a leak counts as, and as usual where nothing is said.
-fn leak_result_at(value: Option<&Value>) -> Option<LeakTimeoutResult>
-    ensures { result ≡ or_usual usual_leak.result leak_result_of (option_map (λ v. view v.now) value.entry) }
+fn leak_result_at(alloc: Global, leak: &Value) -> Result<LeakTimeoutResult, Refusal>
+    ensures { ReadsValue result (or_usual usual_leak.result leak_result_of (get (codes "result") (view leak.now))) }
 {
-    match value {
-        Some(_) => named_leak_result(value),
-        None => Some(LeakTimeout::usual().result),
+    match leak.get("result") {
+        Some(value) => or_not(alloc, leak_result_from(value), "result", RESULTS),
+        None => Ok(LeakTimeout::usual().result),
     }
 }
 
-fn named_leak_result(value: Option<&Value>) -> Option<LeakTimeoutResult>
-    ensures { result ≡ option_and_then leak_result_of (option_map (λ v. view v.now) value.entry) }
+fn leak_result_from(value: &Value) -> Option<LeakTimeoutResult>
+    ensures { result ≡ leak_result_of (view value.now) }
 {
-    match str_at(value)? {
+    match value.as_str()? {
         "fail" => Some(LeakTimeoutResult::Fail),
         "pass" => Some(LeakTimeoutResult::Pass),
         _ => None,

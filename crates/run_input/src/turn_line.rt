@@ -1,25 +1,27 @@
 // A turn line: each line of an input but the first.
-ghost use Rattle.std.specs.Prelude.{◌≡◌, option_map, option_and_then};
+ghost use Rattle.std.specs.Prelude.{◌≡◌, ◌↔◌, None, IfOk, IsSome, option_and_then};
 ghost use Rattle.serde_json.specs.View.{view};
 ghost use Rattle.run_input.specs.ReadsValue.{ReadsValue};
 ghost use Rattle.run_input.specs.ValueOf.{json_value};
 ghost use Rattle.run_input.specs.TurnLine.{bare_of, started_of, failed_of, start_failed_of, wait_failed_of, exit_from};
 ghost use Rattle.run_input.specs.TurnLine.{piece_of, stream_end_of, read_error_of, env_file_from, decide_of};
-ghost use Rattle.run_input.specs.TurnLine.{due_timer_of};
+ghost use Rattle.run_input.specs.declared.errors.LineError.TheVariants as errors;
 ghost use Rattle.run_input.specs.TurnLine.{due_of, take_from, clock_of, came_of, key_of, turn_by, turn_of};
 
 use crate::LineError;
-use crate::fields::{str_at, text_at, truth_at, u32_at, u64_at};
-use crate::objects::has_keys_of;
-use crate::turn_fields::{
-    child_exit, code_at, env_input, hex_at, signal_at, stream_at, timer_from,
-};
+use crate::fields::{no_text, str_at, text_at, time_at, truth_at, u32_at};
+use crate::misfit::{Misfit, Wrong};
+use crate::objects::only_keys;
+use crate::refusal::Refusal;
+use crate::turn_fields::{child_exit, code_at, due_timer, env_input, hex_at, signal_at, stream_at};
 use crate::turn_name::{TurnName, turn_named};
-use crate::value::read_value;
-use run_capture::Text;
+use crate::value::{parse, unless_float};
+use run_capture::{Mem, Text};
 use run_events::{Key, Turn};
 use serde_json::Value;
 use std::alloc::Global;
+
+const OBJECT: &str = "a JSON object";
 
 /// Reads a turn line.
 ///
@@ -36,104 +38,124 @@ use std::alloc::Global;
 pub fn read_turn_line(alloc: Global, line: &[u8]) -> Result<Turn, LineError>
     ensures { ReadsValue result (option_and_then turn_of (json_value line.now)) }
 {
-    match read_value(alloc, line) {
-        Ok(value) => turn_from(alloc, &value),
-        Err(e) => Err(e),
+    match turn_said(alloc, line) {
+        Ok(turn) => Ok(turn),
+        Err(refusal) => Err(refusal.error()),
     }
 }
 
-#[tactic(auto, unfolding(crate::specs::TurnLine::turn_of))]
-fn turn_from(alloc: Global, value: &Value) -> Result<Turn, LineError>
-    ensures { ReadsValue result (turn_of (view value.now)) }
+/// Why `read_turn_line` refuses a line: what is wrong with it, and where, as the reader found it.
+pub fn turn_line_misfit(alloc: Global, line: &[u8]) -> Mem<Option<Misfit>>
+    ensures { IfOk result (λ misfit. IsSome misfit ↔ (option_and_then turn_of (json_value line.now) ≡ None)) }
 {
-    let name = str_at(value.get("turn")).ok_or(LineError::NotInTable)?;
-    let name = turn_named(name).ok_or(LineError::NotInTable)?;
-    turn_by(alloc, name, value)
+    match turn_said(alloc, line) {
+        Ok(turn) => {
+            drop(turn);
+            Ok(None)
+        }
+        Err(refusal) => refusal.into_misfit(),
+    }
 }
 
-// A turn, or a line that is in no table.
-fn or_refused(turn: Option<Turn>) -> Result<Turn, LineError>
-    ensures { ReadsValue result turn }
+#[tactic(auto, using(crate::proofs::SaidLemmas::reads_line))]
+fn turn_said(alloc: Global, line: &[u8]) -> Result<Turn, Refusal>
+    ensures { ReadsValue result (option_and_then turn_of (json_value line.now)) }
 {
-    match turn {
-        Some(turn) => Ok(turn),
-        None => Err(LineError::NotInTable),
+    let value = parse(alloc, line)?;
+    let turn = turn_from(alloc, &value);
+    unless_float(alloc, &value, turn)
+}
+
+#[tactic(auto, unfolding(crate::specs::TurnLine::turn_of))]
+fn turn_from(alloc: Global, value: &Value) -> Result<Turn, Refusal>
+    ensures { ReadsValue result (turn_of (view value.now)) }
+{
+    let Some(name) = str_at(value, "turn") else {
+        return Err(no_name(alloc, value));
+    };
+    match turn_named(name) {
+        Some(kind) => turn_by(alloc, kind, value),
+        None => Err(Refusal::at(alloc, name, Wrong::UnknownTurn)),
+    }
+}
+
+// Why a value has no name of a turn.
+fn no_name(alloc: Global, value: &Value) -> Refusal
+    ensures { result ≡ errors.NotInTable }
+{
+    match value.as_object() {
+        Some(_) => no_text(alloc, value, "turn"),
+        None => Refusal::of(alloc, Wrong::Not(OBJECT)),
     }
 }
 
 // What an object says as the turn of a name.
-fn turn_by(alloc: Global, name: TurnName, value: &Value) -> Result<Turn, LineError>
+fn turn_by(alloc: Global, name: TurnName, value: &Value) -> Result<Turn, Refusal>
     ensures { ReadsValue result (turn_by name (view value.now)) }
 {
     match name {
-        TurnName::Begin => or_refused(bare(value, Turn::Begin)),
-        TurnName::Admit => or_refused(bare(value, Turn::Admit)),
-        TurnName::Deliver => or_refused(bare(value, Turn::Deliver)),
-        TurnName::Started => or_refused(started(value)),
+        TurnName::Begin => bare(alloc, value, Turn::Begin),
+        TurnName::Admit => bare(alloc, value, Turn::Admit),
+        TurnName::Deliver => bare(alloc, value, Turn::Deliver),
+        TurnName::Started => started(alloc, value),
         TurnName::StartFailed => start_failed(alloc, value),
-        TurnName::Exit => or_refused(exit(value)),
+        TurnName::Exit => exit(alloc, value),
         TurnName::WaitFailed => wait_failed(alloc, value),
         TurnName::Piece => piece(alloc, value),
-        TurnName::StreamEnd => or_refused(stream_end(value)),
+        TurnName::StreamEnd => stream_end(alloc, value),
         TurnName::ReadError => read_error(alloc, value),
         TurnName::Env => env(alloc, value),
-        TurnName::Decide => or_refused(decide(value)),
-        TurnName::Due => or_refused(due(value)),
-        TurnName::Answer => or_refused(bare(value, Turn::Answer)),
-        TurnName::Take => or_refused(take(value)),
-        TurnName::Clock => or_refused(clock(value)),
-        TurnName::Signal => or_refused(signal(value)),
-        TurnName::Key => or_refused(key(value)),
-        TurnName::Tick => or_refused(bare(value, Turn::Tick)),
-        TurnName::ReportCancel => or_refused(bare(value, Turn::ReportCancel)),
-        TurnName::End => or_refused(bare(value, Turn::End)),
+        TurnName::Decide => decide(alloc, value),
+        TurnName::Due => due(alloc, value),
+        TurnName::Answer => bare(alloc, value, Turn::Answer),
+        TurnName::Take => take(alloc, value),
+        TurnName::Clock => clock(alloc, value),
+        TurnName::Signal => signal(alloc, value),
+        TurnName::Key => key(alloc, value),
+        TurnName::Tick => bare(alloc, value, Turn::Tick),
+        TurnName::ReportCancel => bare(alloc, value, Turn::ReportCancel),
+        TurnName::End => bare(alloc, value, Turn::End),
     }
 }
 
 // A turn that has its name alone.
 #[tactic(auto, unfolding(crate::specs::TurnLine::bare_of))]
-fn bare(value: &Value, turn: Turn) -> Option<Turn>
-    ensures { result ≡ bare_of turn (view value.now) }
+fn bare(alloc: Global, value: &Value, turn: Turn) -> Result<Turn, Refusal>
+    ensures { ReadsValue result (bare_of turn (view value.now)) }
 {
-    if !has_keys_of(value, &["turn"]) {
-        return None;
-    }
-    Some(turn)
+    only_keys(alloc, value, &["turn"], OBJECT)?;
+    Ok(turn)
 }
 
 #[tactic(auto, unfolding(crate::specs::TurnLine::started_of))]
-fn started(value: &Value) -> Option<Turn>
-    ensures { result ≡ started_of (view value.now) }
+fn started(alloc: Global, value: &Value) -> Result<Turn, Refusal>
+    ensures { ReadsValue result (started_of (view value.now)) }
 {
-    if !has_keys_of(value, &["pid", "turn", "unit"]) {
-        return None;
-    }
-    let unit = u32_at(value.get("unit"))?;
-    let pid = u32_at(value.get("pid"))?;
-    Some(Turn::Started { unit, pid })
+    only_keys(alloc, value, &["pid", "turn", "unit"], OBJECT)?;
+    let unit = u32_at(alloc, value, "unit")?;
+    let pid = u32_at(alloc, value, "pid")?;
+    Ok(Turn::Started { unit, pid })
 }
 
 // A unit, and the text of the error that came up there.
 #[tactic(auto, unfolding(crate::specs::TurnLine::failed_of))]
-fn failed(alloc: Global, value: &Value) -> Result<(u32, Text), LineError>
+fn failed(alloc: Global, value: &Value) -> Result<(u32, Text), Refusal>
     ensures { ReadsValue result (failed_of (view value.now)) }
 {
-    if !has_keys_of(value, &["text", "turn", "unit"]) {
-        return Err(LineError::NotInTable);
-    }
-    let unit = u32_at(value.get("unit")).ok_or(LineError::NotInTable)?;
-    let error = text_at(alloc, value.get("text"))?;
+    only_keys(alloc, value, &["text", "turn", "unit"], OBJECT)?;
+    let unit = u32_at(alloc, value, "unit")?;
+    let error = text_at(alloc, value, "text")?;
     Ok((unit, error))
 }
 
-fn start_failed(alloc: Global, value: &Value) -> Result<Turn, LineError>
+fn start_failed(alloc: Global, value: &Value) -> Result<Turn, Refusal>
     ensures { ReadsValue result (start_failed_of (view value.now)) }
 {
     let (unit, error) = failed(alloc, value)?;
     Ok(Turn::StartFailed { unit, error })
 }
 
-fn wait_failed(alloc: Global, value: &Value) -> Result<Turn, LineError>
+fn wait_failed(alloc: Global, value: &Value) -> Result<Turn, Refusal>
     ensures { ReadsValue result (wait_failed_of (view value.now)) }
 {
     let (unit, error) = failed(alloc, value)?;
@@ -141,27 +163,23 @@ fn wait_failed(alloc: Global, value: &Value) -> Result<Turn, LineError>
 }
 
 #[tactic(auto, unfolding(crate::specs::TurnLine::exit_from))]
-fn exit(value: &Value) -> Option<Turn>
-    ensures { result ≡ exit_from (view value.now) }
+fn exit(alloc: Global, value: &Value) -> Result<Turn, Refusal>
+    ensures { ReadsValue result (exit_from (view value.now)) }
 {
-    if !has_keys_of(value, &["code", "signal", "turn", "unit"]) {
-        return None;
-    }
-    let unit = u32_at(value.get("unit"))?;
-    let exit = child_exit(value.get("code"), value.get("signal"))?;
-    Some(Turn::Exit { unit, exit })
+    only_keys(alloc, value, &["code", "signal", "turn", "unit"], OBJECT)?;
+    let unit = u32_at(alloc, value, "unit")?;
+    let exit = child_exit(alloc, value)?;
+    Ok(Turn::Exit { unit, exit })
 }
 
 #[tactic(auto, unfolding(crate::specs::TurnLine::piece_of))]
-fn piece(alloc: Global, value: &Value) -> Result<Turn, LineError>
+fn piece(alloc: Global, value: &Value) -> Result<Turn, Refusal>
     ensures { ReadsValue result (piece_of (view value.now)) }
 {
-    if !has_keys_of(value, &["hex", "stream", "turn", "unit"]) {
-        return Err(LineError::NotInTable);
-    }
-    let unit = u32_at(value.get("unit")).ok_or(LineError::NotInTable)?;
-    let stream = stream_at(value.get("stream")).ok_or(LineError::NotInTable)?;
-    let bytes = hex_at(alloc, value.get("hex"))?;
+    only_keys(alloc, value, &["hex", "stream", "turn", "unit"], OBJECT)?;
+    let unit = u32_at(alloc, value, "unit")?;
+    let stream = stream_at(alloc, value)?;
+    let bytes = hex_at(alloc, value)?;
     Ok(Turn::Piece {
         unit,
         stream,
@@ -170,27 +188,23 @@ fn piece(alloc: Global, value: &Value) -> Result<Turn, LineError>
 }
 
 #[tactic(auto, unfolding(crate::specs::TurnLine::stream_end_of))]
-fn stream_end(value: &Value) -> Option<Turn>
-    ensures { result ≡ stream_end_of (view value.now) }
+fn stream_end(alloc: Global, value: &Value) -> Result<Turn, Refusal>
+    ensures { ReadsValue result (stream_end_of (view value.now)) }
 {
-    if !has_keys_of(value, &["stream", "turn", "unit"]) {
-        return None;
-    }
-    let unit = u32_at(value.get("unit"))?;
-    let stream = stream_at(value.get("stream"))?;
-    Some(Turn::StreamEnd { unit, stream })
+    only_keys(alloc, value, &["stream", "turn", "unit"], OBJECT)?;
+    let unit = u32_at(alloc, value, "unit")?;
+    let stream = stream_at(alloc, value)?;
+    Ok(Turn::StreamEnd { unit, stream })
 }
 
 #[tactic(auto, unfolding(crate::specs::TurnLine::read_error_of))]
-fn read_error(alloc: Global, value: &Value) -> Result<Turn, LineError>
+fn read_error(alloc: Global, value: &Value) -> Result<Turn, Refusal>
     ensures { ReadsValue result (read_error_of (view value.now)) }
 {
-    if !has_keys_of(value, &["stream", "text", "turn", "unit"]) {
-        return Err(LineError::NotInTable);
-    }
-    let unit = u32_at(value.get("unit")).ok_or(LineError::NotInTable)?;
-    let stream = stream_at(value.get("stream")).ok_or(LineError::NotInTable)?;
-    let error = text_at(alloc, value.get("text"))?;
+    only_keys(alloc, value, &["stream", "text", "turn", "unit"], OBJECT)?;
+    let unit = u32_at(alloc, value, "unit")?;
+    let stream = stream_at(alloc, value)?;
+    let error = text_at(alloc, value, "text")?;
     Ok(Turn::ReadError {
         unit,
         stream,
@@ -199,98 +213,69 @@ fn read_error(alloc: Global, value: &Value) -> Result<Turn, LineError>
 }
 
 #[tactic(auto, unfolding(crate::specs::TurnLine::env_file_from))]
-fn env(alloc: Global, value: &Value) -> Result<Turn, LineError>
+fn env(alloc: Global, value: &Value) -> Result<Turn, Refusal>
     ensures { ReadsValue result (env_file_from (view value.now)) }
 {
-    if !has_keys_of(value, &["failed", "hex", "turn", "unit"]) {
-        return Err(LineError::NotInTable);
-    }
-    let unit = u32_at(value.get("unit")).ok_or(LineError::NotInTable)?;
-    let input = env_input(alloc, value.get("hex"), value.get("failed"))?;
+    only_keys(alloc, value, &["failed", "hex", "turn", "unit"], OBJECT)?;
+    let unit = u32_at(alloc, value, "unit")?;
+    let input = env_input(alloc, value)?;
     Ok(Turn::Env { unit, input })
 }
 
 #[tactic(auto, unfolding(crate::specs::TurnLine::decide_of))]
-fn decide(value: &Value) -> Option<Turn>
-    ensures { result ≡ decide_of (view value.now) }
+fn decide(alloc: Global, value: &Value) -> Result<Turn, Refusal>
+    ensures { ReadsValue result (decide_of (view value.now)) }
 {
-    if !has_keys_of(value, &["turn", "unit", "word"]) {
-        return None;
-    }
-    let unit = u32_at(value.get("unit"))?;
-    let word = u32_at(value.get("word"))?;
-    Some(Turn::Decide { unit, word })
-}
-
-// The timer that is due: a unit's, or one of the run's own, and not both.
-fn due_timer(unit: Option<&Value>, timer: Option<&Value>) -> Option<Turn>
-    ensures { result ≡ due_timer_of (option_map (λ v. view v.now) unit.entry)
-        (option_map (λ v. view v.now) timer.entry) }
-{
-    match (unit, timer) {
-        (Some(_), None) => {
-            let unit = u32_at(unit)?;
-            Some(Turn::UnitDue { unit })
-        }
-        (None, Some(timer)) => timer_from(timer),
-        _ => None,
-    }
+    only_keys(alloc, value, &["turn", "unit", "word"], OBJECT)?;
+    let unit = u32_at(alloc, value, "unit")?;
+    let word = u32_at(alloc, value, "word")?;
+    Ok(Turn::Decide { unit, word })
 }
 
 #[tactic(auto, unfolding(crate::specs::TurnLine::due_of))]
-fn due(value: &Value) -> Option<Turn>
-    ensures { result ≡ due_of (view value.now) }
+fn due(alloc: Global, value: &Value) -> Result<Turn, Refusal>
+    ensures { ReadsValue result (due_of (view value.now)) }
 {
-    if !has_keys_of(value, &["timer", "turn", "unit"]) {
-        return None;
-    }
-    due_timer(value.get("unit"), value.get("timer"))
+    only_keys(alloc, value, &["timer", "turn", "unit"], OBJECT)?;
+    due_timer(alloc, value)
 }
 
 #[tactic(auto, unfolding(crate::specs::TurnLine::take_from))]
-fn take(value: &Value) -> Option<Turn>
-    ensures { result ≡ take_from (view value.now) }
+fn take(alloc: Global, value: &Value) -> Result<Turn, Refusal>
+    ensures { ReadsValue result (take_from (view value.now)) }
 {
-    if !has_keys_of(value, &["turn", "unit"]) {
-        return None;
-    }
-    let unit = u32_at(value.get("unit"))?;
-    Some(Turn::Take { unit })
+    only_keys(alloc, value, &["turn", "unit"], OBJECT)?;
+    let unit = u32_at(alloc, value, "unit")?;
+    Ok(Turn::Take { unit })
 }
 
 #[tactic(auto, unfolding(crate::specs::TurnLine::clock_of))]
-fn clock(value: &Value) -> Option<Turn>
-    ensures { result ≡ clock_of (view value.now) }
+fn clock(alloc: Global, value: &Value) -> Result<Turn, Refusal>
+    ensures { ReadsValue result (clock_of (view value.now)) }
 {
-    if !has_keys_of(value, &["ns", "turn"]) {
-        return None;
-    }
-    let ns = u64_at(value.get("ns"))?;
-    Some(Turn::Clock { ns })
+    only_keys(alloc, value, &["ns", "turn"], OBJECT)?;
+    let ns = time_at(alloc, value, "ns")?;
+    Ok(Turn::Clock { ns })
 }
 
 #[tactic(auto, unfolding(crate::specs::TurnLine::came_of))]
-fn signal(value: &Value) -> Option<Turn>
-    ensures { result ≡ came_of (view value.now) }
+fn signal(alloc: Global, value: &Value) -> Result<Turn, Refusal>
+    ensures { ReadsValue result (came_of (view value.now)) }
 {
-    if !has_keys_of(value, &["name", "turn"]) {
-        return None;
-    }
-    let signal = signal_at(value.get("name"))?;
-    Some(Turn::Signal { signal })
+    only_keys(alloc, value, &["name", "turn"], OBJECT)?;
+    let signal = signal_at(alloc, value)?;
+    Ok(Turn::Signal { signal })
 }
 
 #[tactic(auto, unfolding(crate::specs::TurnLine::key_of))]
-fn key(value: &Value) -> Option<Turn>
-    ensures { result ≡ key_of (view value.now) }
+fn key(alloc: Global, value: &Value) -> Result<Turn, Refusal>
+    ensures { ReadsValue result (key_of (view value.now)) }
 {
-    if !has_keys_of(value, &["code", "modified", "press", "turn"]) {
-        return None;
-    }
-    let code = code_at(value.get("code"))?;
-    let modified = truth_at(value.get("modified"))?;
-    let press = truth_at(value.get("press"))?;
-    Some(Turn::Key {
+    only_keys(alloc, value, &["code", "modified", "press", "turn"], OBJECT)?;
+    let code = code_at(alloc, value)?;
+    let modified = truth_at(alloc, value, "modified")?;
+    let press = truth_at(alloc, value, "press")?;
+    Ok(Turn::Key {
         key: Key {
             code,
             modified,

@@ -11,7 +11,7 @@ use Rattle.run_model.specs.declared.unit_turn.UnitTurn.{UnitTurn}
 use Rattle.run_model.specs.declared.unit_turn.UnitTurn.TheVariants.{Answered}
 use Rattle.run_model.specs.declared.unit_view.UnitView.{UnitView}
 use Rattle.run_model.specs.Unit.{takes}
-use Rattle.run_model.specs.Words.{clock}
+use Rattle.run_model.specs.Words.{clock, ns_of}
 use Rattle.run_model.specs.declared.happening.Happening.{Happening}
 use Rattle.run_model.specs.Environment.{number}
 use Rattle.run_model.specs.Admission.{units_in, newcomer}
@@ -91,12 +91,8 @@ abbrev pub AllAreTimely : Type 0
 AllAreTimely = (p : Settings) (journal : List Entry) → IsLegal p journal → IsTimelyBoard (board p (past_of p journal))
 
 -- a turn of the clock moves it by its nanoseconds, and no other turn moves it
-abbrev pub moved_by : Turn → ℕ
-moved_by (Clock ns) = ns
-moved_by _ = 0
-
 abbrev pub ClockMoves : Type 0
-ClockMoves = (past : List Happening) (x : Happening) → clock (x ∷ past) ≡ clock past + moved_by x.turn
+ClockMoves = (past : List Happening) (x : Happening) → clock (x ∷ past) ≡ clock past + ns_of x.turn
 
 -- after a legal journal each enabled turn can be taken
 abbrev pub EnabledCan : Type 0

@@ -23,7 +23,7 @@ use Rattle.run_events.specs.declared.result.ScriptEnv.TheVariants.{Unread}
 use Rattle.run_model.specs.declared.entry.Entry.{Entry}
 use Rattle.run_model.specs.declared.happening.Happening.{Happening}
 use Rattle.run_model.specs.declared.unit_view.UnitView.{UnitView}
-use Rattle.run_events.specs.Variables.{Variable}
+use Rattle.run_commands.specs.Pair.{Pair}
 use Rattle.run_model.specs.Environment.{start_ask}
 use Rattle.run_model.specs.Admission.{is_script, scripts_in, global_slot, first_view, runner_words, script_view}
 use Rattle.run_model.specs.Admission.{start_message, variables_of}
@@ -43,18 +43,18 @@ env_said [] = Unread
 env_said (t ∷ before) = unwrap_or (env_in t.turn) (env_said before)
 
 -- the variables that script k gives to tests: those of its environment file, where it passed
-abbrev pub given_by : Settings → ℕ → List Happening → List Variable
+abbrev pub given_by : Settings → ℕ → List Happening → List Pair
 given_by p k run =
     if has_passed (last_status (statuses_of p k run)) then variables_of (env_said (story_of k run)) else []
 
 -- what each of n numbers from k on gives, where it is among these numbers: in order, each once
-abbrev pub given_from : (ℕ → List Variable) → List ℕ → ℕ → ℕ → List Variable
+abbrev pub given_from : (ℕ → List Pair) → List ℕ → ℕ → ℕ → List Pair
 given_from given numbers k zero = []
 given_from given numbers k (suc n) =
     (if list_any (λ i. i == k) numbers then given k else []) ++ given_from given numbers (k + 1) n
 
 -- the variables that the scripts give to a test: those of the scripts that it lists
-abbrev pub given_to : Settings → List Happening → PlanTest → List Variable
+abbrev pub given_to : Settings → List Happening → PlanTest → List Pair
 given_to p run test = given_from (λ k. given_by p k run) test.scripts 0 (scripts_in p)
 
 -- unit k by the plan, as it begins in such a sub-run of a stress run, if it is one: a script, or a test in the slots
@@ -141,12 +141,12 @@ version_names p = map (λ v. v.0) (version_pairs p.plan.head.versions)
 -- a test's child is started with the words of the interceptor, then those of its platform's runner, then its own; a
 -- script's with its own alone. Their variables have these names, a test's last those that its scripts handed on
 pub record StartsHaveWords : Type 0 where
-  pub test : (p : Settings) (index : Option StressIndex) (k : ℕ) (slot : TestSlotAssignment) (handed : List Variable)
+  pub test : (p : Settings) (index : Option StressIndex) (k : ℕ) (slot : TestSlotAssignment) (handed : List Pair)
       (test : PlanTest) (n : ℕ)
       → command_asked (start_at (first_view p index k slot handed test) n)
       ≡ interceptor_words p.interceptor ++ (runner_words (runner_for p.plan.runners test.platform) ++ test.command)
   pub test_variables : (p : Settings) (index : Option StressIndex) (k : ℕ) (slot : TestSlotAssignment)
-      (handed : List Variable) (test : PlanTest) (n : ℕ)
+      (handed : List Pair) (test : PlanTest) (n : ℕ)
       → names_asked (start_at (first_view p index k slot handed test) n)
       ≡ test_names ++ (version_names p ++ map (λ v. v.0) handed)
   pub script : (p : Settings) (index : Option StressIndex) (k : ℕ) (script : PlanScript) (n : ℕ)

@@ -2,7 +2,8 @@
 ghost use Rattle.std.specs.Prelude.{◌≡◌, ◌≢◌, ◌+◌, ◌<◌, ℕ, [], IfOk, IfSome, IsSome, IsNone, IsTrue, ◌↔◌, Some, None};
 ghost use Rattle.std.specs.Prelude.{length};
 ghost use Rattle.std.specs.List.{All, sum_by};
-ghost use Rattle.run_shared.specs.Receipts.{concatenated, receipt_numbers, times, StandsIn};
+ghost use Rattle.run_model.specs.Words.{times};
+ghost use Rattle.run_shared.specs.Receipts.{concatenated, receipt_numbers, StandsIn};
 ghost use Rattle.run_shared.specs.Closed.{IsLeft, Refuses};
 ghost use Rattle.run_live.specs.Own.{IsLive};
 ghost use Rattle.run_live.specs.Work.{IsWholeWork};

@@ -49,10 +49,12 @@ fn add<W: Spawner + Drop, L: Ledger>(
     done: Done<L, W>,
 ) -> Mem<()>
     requires gathered { IsGathered W.has_said all.old.workers.items all.old.receipts
-        (sum_by (λ (s : Share L). s.parts) all.old.shares.items) (sum_by (λ (s : Share L). s.amount) all.old.shares.items) }
+        (sum_by (λ (s : Share L). s.parts) all.old.shares.items)
+        (sum_by (λ (s : Share L). s.amount) all.old.shares.items) }
     requires done { HasWorked W.has_said done }
     ensures gathered { OnOk result (IsGathered W.has_said all.new.workers.items all.new.receipts
-        (sum_by (λ (s : Share L). s.parts) all.new.shares.items) (sum_by (λ (s : Share L). s.amount) all.new.shares.items)) }
+        (sum_by (λ (s : Share L). s.parts) all.new.shares.items)
+        (sum_by (λ (s : Share L). s.amount) all.new.shares.items)) }
     ensures one_more { OnOk result (length all.new.workers.items ≡ length all.old.workers.items + 1) }
 {
     let Some(parts) = take_apart(done) else {
@@ -71,7 +73,8 @@ fn add<W: Spawner + Drop, L: Ledger>(
 // No worker.
 fn nobody<W: Spawner + Drop, L: Ledger>(alloc: Global) -> Gathered<L, W>
     ensures gathered { IsGathered W.has_said result.workers.items result.receipts
-        (sum_by (λ (s : Share L). s.parts) result.shares.items) (sum_by (λ (s : Share L). s.amount) result.shares.items) }
+        (sum_by (λ (s : Share L). s.parts) result.shares.items)
+        (sum_by (λ (s : Share L). s.amount) result.shares.items) }
     ensures none { length result.workers.items ≡ 0 }
 {
     Gathered {
@@ -85,7 +88,8 @@ fn nobody<W: Spawner + Drop, L: Ledger>(alloc: Global) -> Gathered<L, W>
 fn gather<W: Spawner + Drop, L: Ledger>(alloc: Global, done: Vec<Done<L, W>>) -> Mem<Gathered<L, W>>
     requires { All (HasWorked W.has_said) done.items }
     ensures gathered { IfOk result (λ g. IsGathered W.has_said g.workers.items g.receipts
-        (sum_by (λ (s : Share L). s.parts) g.shares.items) (sum_by (λ (s : Share L). s.amount) g.shares.items)) }
+        (sum_by (λ (s : Share L). s.parts) g.shares.items)
+        (sum_by (λ (s : Share L). s.amount) g.shares.items)) }
     ensures count { IfOk result (λ g. length g.workers.items ≡ length done.items) }
 {
     let mut all = nobody(alloc);
@@ -102,10 +106,12 @@ fn add_ticker<W: Spawner + Drop, L: Ledger>(
     ticked: Ticked<L>,
 ) -> Mem<()>
     requires gathered { IsGathered W.has_said all.old.workers.items all.old.receipts
-        (sum_by (λ (s : Share L). s.parts) all.old.shares.items) (sum_by (λ (s : Share L). s.amount) all.old.shares.items) }
+        (sum_by (λ (s : Share L). s.parts) all.old.shares.items)
+        (sum_by (λ (s : Share L). s.amount) all.old.shares.items) }
     requires ticked { IsTicked ticked.share.parts ticked.share.amount ticked.receipts }
     ensures whole { OnOk result (IsWholeWork W.has_said all.new.workers.items all.new.receipts
-        (sum_by (λ (s : Share L). s.parts) all.new.shares.items) (sum_by (λ (s : Share L). s.amount) all.new.shares.items)) }
+        (sum_by (λ (s : Share L). s.parts) all.new.shares.items)
+        (sum_by (λ (s : Share L). s.amount) all.new.shares.items)) }
     ensures workers { all.new.workers ≡ all.old.workers }
 {
     let Ticked { share, receipts } = ticked;
@@ -126,7 +132,8 @@ pub(crate) fn gather_all<W: Spawner + Drop, L: Ledger>(
     requires done { All (HasWorked W.has_said) done.items }
     requires ticked { IsTicked ticked.share.parts ticked.share.amount ticked.receipts }
     ensures whole { IfOk result (λ g. IsWholeWork W.has_said g.workers.items g.receipts
-        (sum_by (λ (s : Share L). s.parts) g.shares.items) (sum_by (λ (s : Share L). s.amount) g.shares.items)) }
+        (sum_by (λ (s : Share L). s.parts) g.shares.items)
+        (sum_by (λ (s : Share L). s.amount) g.shares.items)) }
     ensures count { IfOk result (λ g. length g.workers.items ≡ length done.items) }
 {
     let Ok(mut all) = gather(alloc, done) else {

@@ -1,7 +1,8 @@
 // A run of real children, from its first turn to what it leaves.
 ghost use Rattle.std.specs.Prelude.{◌≡◌, ◌≢◌, ◌+◌, ◌<◌, ℕ, [], IfOk, IfSome, IsSome, IsNone, None, length};
 ghost use Rattle.std.specs.List.{All, sum_by};
-ghost use Rattle.run_shared.specs.Receipts.{concatenated, receipt_numbers, times, StandsIn};
+ghost use Rattle.run_model.specs.Words.{times};
+ghost use Rattle.run_shared.specs.Receipts.{concatenated, receipt_numbers, StandsIn};
 ghost use Rattle.run_shared.specs.Closed.{IsLeft, Refuses};
 ghost use Rattle.run_live.specs.Own.{IsLive};
 ghost use Rattle.run_live.specs.Work.{IsOneEmpty, IsFresh, IsWholeWork, IsWound};

@@ -32,7 +32,10 @@ one_test a b =
 exact_ids : CmpEqualImpliesEq id_order
 exact_ids a b h =
     ap (λ (p : List _ × List _). record { binary = p.0; name = p.1 })
-    (exact_pairs (slice_cmp nat_cmp) (slice_cmp nat_cmp) exact_bytes exact_bytes (a.binary, a.name) (b.binary, b.name) h)
+    (exact_pairs (slice_cmp nat_cmp) (slice_cmp nat_cmp) exact_bytes exact_bytes (a.binary, a.name) (
+      b.binary,
+      b.name,
+    ) h)
 
 is_equal : (o : Ordering) → is_eq o ≡ true → o ≡ Equal
 is_equal Less h = cc
@@ -57,10 +60,12 @@ removed id (x ∷ ids) h =
     ∙ by (is_one_test id x) refl (removed id ids h.1)
   where
     by : (b : Bool) → is_one_test id x ≡ b → remove_key (λ x. is_eq (id_order id x)) ids ≡ without id ids
-        → cond b ids (x ∷ remove_key (λ x. is_eq (id_order id x)) ids) ≡ cond (not b) (x ∷ without id ids) (without id ids)
+        → cond b ids (x ∷ remove_key (λ x. is_eq (id_order id x)) ids) ≡ cond (not b) (x ∷ without id ids) (without
+        id ids)
     by true is rest =
         let same : id ≡ x = exact_ids id x (is_equal (id_order id x) (one_test id x ∙ is)) in
-        sym (others id ids (subst (λ (y : TestInstanceId). AllByRecursion (λ z. id_order y z ≡ Less) ids) (sym same) h.0))
+        sym (others id ids (subst (λ (y : TestInstanceId). AllByRecursion (λ z. id_order y z ≡ Less) ids) (sym same)
+        h.0))
     by false is rest = ap (λ ids. x ∷ ids) rest
 
 all_pass : {X : Type 0} (p : X → Bool) (xs : List X) → ((x : X) → p x ≡ true) → filter p xs ≡ xs
@@ -80,7 +85,8 @@ pub unseen-one : (one : TestInstanceId) (events : List ReporterEvent)
     → option_map (unseen_among events) unseen ≡ option_map (without one) unseen
 unseen-one one events sees_it None = refl
 unseen-one one events sees_it (Some ids) =
-    ap Some (filter_agree (λ id. not (list_any (sees id) events)) (λ id. not (is_one_test one id)) (λ id. ap not (sees_it id)) ids)
+    ap Some (filter_agree (λ id. not (list_any (sees id) events)) (λ id. not (is_one_test one id)) (λ id. ap not
+    (sees_it id)) ids)
 
 -- the first eight of some tests, where eight were taken
 pub first_taken : (first rest ids : List TestInstanceId) → first ++ rest ≡ ids → length first ≡ 8 → first ≡ take 8 ids

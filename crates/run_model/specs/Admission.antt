@@ -20,7 +20,7 @@ use Rattle.run_events.specs.declared.settings.Settings.{Settings}
 use Rattle.run_events.specs.declared.stress.StressIndex.{StressIndex}
 use Rattle.run_events.specs.declared.result.FlakyResult.{FlakyResult}
 use Rattle.run_events.specs.declared.result.ScriptEnv.{ScriptEnv}
-use Rattle.run_events.specs.Variables.{Variable}
+use Rattle.run_commands.specs.Pair.{Pair}
 use Rattle.run_events.specs.declared.result.ScriptEnv.TheVariants.{Unread, Variables}
 use Rattle.run_events.specs.declared.result.SlowTimeoutResult.TheVariants.{Fail}
 use Rattle.run_events.specs.declared.retry_policy.RetryPolicy.{RetryPolicy}
@@ -237,7 +237,7 @@ begun_view role command around terms = record {
 }
 
 -- a test as a unit of this number, as it begins in this slot, where its scripts handed these variables on
-abbrev pub test_role : Settings → Option StressIndex → ℕ → TestSlotAssignment → List Variable → PlanTest → UnitRole
+abbrev pub test_role : Settings → Option StressIndex → ℕ → TestSlotAssignment → List Pair → PlanTest → UnitRole
 test_role p index k slot handed test = roles.Test (record {
   test = record { unit = k; id = test.id; stress_index = index };
   slot = slot;
@@ -245,7 +245,7 @@ test_role p index k slot handed test = roles.Test (record {
   handed = handed;
 })
 
-abbrev pub first_view : Settings → Option StressIndex → ℕ → TestSlotAssignment → List Variable → PlanTest → UnitView
+abbrev pub first_view : Settings → Option StressIndex → ℕ → TestSlotAssignment → List Pair → PlanTest → UnitView
 first_view p index k slot handed test =
     begun_view (test_role p index k slot handed test) (command_of p test) (surroundings_of p) (terms_of p test)
 
@@ -307,16 +307,16 @@ newcomer_skipped p index j test (Some reason) = Some (skipped_newcomer p index (
 newcomer_skipped p index j test None = None
 
 -- the variables that a script handed on: none where it gave none
-abbrev pub variables_of : ScriptEnv → List Variable
+abbrev pub variables_of : ScriptEnv → List Pair
 variables_of (Variables pairs) = pairs
 variables_of _ = []
 
-abbrev pub handed_by : Option UnitView → List Variable
+abbrev pub handed_by : Option UnitView → List Pair
 handed_by None = []
 handed_by (Some u) = variables_of u.env
 
 -- those of the units with these numbers, in the order of the units from this number on, each once
-abbrev pub handed_from : List ℕ → ℕ → List (Option UnitView) → List Variable
+abbrev pub handed_from : List ℕ → ℕ → List (Option UnitView) → List Pair
 handed_from numbers k [] = []
 handed_from numbers k (u ∷ us) =
     (if list_any (λ n. n == k) numbers then handed_by u else []) ++ handed_from numbers (k + 1) us
@@ -326,7 +326,7 @@ abbrev pub scripts_of : Settings → List (Option UnitView) → List (Option Uni
 scripts_of p us = take (scripts_in p) us
 
 -- what the scripts of a test handed on to it: a number that is no script's is passed over
-abbrev pub handed_to : Settings → List (Option UnitView) → PlanTest → List Variable
+abbrev pub handed_to : Settings → List (Option UnitView) → PlanTest → List Pair
 handed_to p us test = handed_from test.scripts 0 (scripts_of p us)
 
 -- what an admission makes of a test of the plan: it is skipped, or starts in its slots

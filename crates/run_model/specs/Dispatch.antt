@@ -134,7 +134,8 @@ takes_signal before None = false
 abbrev pub dispatch_takes : DispatcherView → Facts → ℕ → Turn → Bool
 dispatch_takes d facts now Begin = not d.on && not d.over
 dispatch_takes d facts now Deliver = is_main d && facts.message_waits
-dispatch_takes d facts now (SignalCame signal) = is_main d && takes_signal d.causes.signals (heard_by d.rules.hearing signal)
+dispatch_takes d facts now (SignalCame signal) =
+    is_main d && takes_signal d.causes.signals (heard_by d.rules.hearing signal)
 dispatch_takes d facts now (KeyCame key) = is_main d && is_some (heard_key d.rules.hearing.input key)
 dispatch_takes d facts now Tick = is_main d
 dispatch_takes d facts now GlobalDue = is_main d && fires_now now d.causes.global

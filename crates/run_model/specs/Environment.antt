@@ -2,7 +2,8 @@
 use Rattle.std.specs.Prelude.{ℕ, ◌+◌, List, [], ◌∷◌, ◌++◌, Bool, if◌then◌else◌, Option, Some, None}
 use Rattle.run_capture.specs.declared.test_output.Stream.{Stream}
 use Rattle.run_capture.specs.declared.test_output.Stream.TheVariants as streams
-use Rattle.run_events.specs.Variables.{Variable, script_variables, test_variables}
+use Rattle.run_commands.specs.Pair.{Pair}
+use Rattle.run_events.specs.Variables.{script_variables, test_variables}
 use Rattle.run_events.specs.declared.ask.Ask.{Ask}
 use Rattle.run_events.specs.declared.ask.Ask.TheVariants.{Start as AskStart}
 use Rattle.run_events.specs.declared.message.ScriptStart.{ScriptStart}
@@ -40,7 +41,7 @@ abbrev pub script_start : ScriptRole → UnitView → ScriptStart
 script_start s u = record { script = s.script; command = u.command }
 
 -- the variables of a unit's child
-abbrev pub environment_as : UnitRole → UnitView → List Variable
+abbrev pub environment_as : UnitRole → UnitView → List Pair
 environment_as (roles.Test t) u = test_variables (record {
   run = u.around.run;
   id = t.test.id;

@@ -160,8 +160,8 @@ nothing_done = record {
 }
 
 -- a unit's turn is a row of the unit table
-abbrev pub taken_by : ℕ → ℕ → UnitTurn → Option UnitView → Deed
-taken_by now k turn u = record nothing_done {
+abbrev pub taken_deed : ℕ → ℕ → UnitTurn → Option UnitView → Deed
+taken_deed now k turn u = record nothing_done {
   part = option_map (λ v. Acts k turn) u;
   sent = option_and_then (λ v. (row now turn v).sent) u;
   asked = option_and_then (λ v. (row now turn v).asked) u;
@@ -182,7 +182,7 @@ starting _ = None
 
 -- the answer to a unit
 abbrev pub answer_to : Board → Option ℕ → Option Bool → Deed
-answer_to b (Some k) (Some go) = taken_by b.clock k (Answered go) (unit_in b k)
+answer_to b (Some k) (Some go) = taken_deed b.clock k (Answered go) (unit_in b k)
 answer_to b _ _ = nothing_done
 
 -- the event that a message tells at a moment, and the counts after it
@@ -193,8 +193,8 @@ abbrev pub tally_by : ℕ → DispatcherView → Message → Tally
 tally_by now d m = having_told d.tally (told_by now d m)
 
 -- the delivery of a message, with the answer that its unit is given, and what it does as a cause
-abbrev pub hears : ℕ → DispatcherView → Message → Deed → Deed
-hears now d m answer = record nothing_done {
+abbrev pub message_deed : ℕ → DispatcherView → Message → Deed → Deed
+message_deed now d m answer = record nothing_done {
   part = answer.part;
   sent = answer.sent;
   info = answer.info;
@@ -205,7 +205,8 @@ hears now d m answer = record nothing_done {
 
 abbrev pub delivers : ℕ → DispatcherView → Message → Deed → Deed
 delivers now d m answer =
-    caused (moment_by now d.watch) (tally_by now d m) (cause_of d.rules (tally_by now d m) m) (hears now d m answer)
+    caused (moment_by now d.watch) (tally_by now d m) (cause_of d.rules (tally_by now d m) m)
+    (message_deed now d m answer)
 
 -- a cause that tells nothing else
 abbrev pub cancels_for : ℕ → DispatcherView → Cause → Deed
@@ -213,7 +214,7 @@ cancels_for now d cause = caused (moment_by now d.watch) d.tally (Some cause) no
 
 -- how far a stress run is, after so many of its sub-runs
 abbrev pub progress_of : ℕ → DispatcherView → ℕ → StressCondition → StressProgress
-progress_of now d ended condition = progress_at condition ended (active_by d.watch now)
+progress_of now d end_deed condition = progress_at condition end_deed (active_by d.watch now)
 
 -- a sub-run of a stress run starts, and ends with its statistics
 abbrev pub sub_run_started : ℕ → DispatcherView → StressCondition → ReporterEvent
@@ -340,7 +341,7 @@ abbrev pub tally_with : Board → Option ReporterEvent → Tally
 tally_with b told = having_told b.dispatcher.tally told
 
 abbrev pub delivered_as : Board → Message → Deed → Deed
-delivered_as b m answer = hears b.clock b.dispatcher m answer
+delivered_as b m answer = message_deed b.clock b.dispatcher m answer
 
 abbrev pub delivery_of : Board → Message → Deed → Deed
 delivery_of b m answer = delivers b.clock b.dispatcher m answer
@@ -348,11 +349,11 @@ delivery_of b m answer = delivers b.clock b.dispatcher m answer
 abbrev pub cancelled : Board → Cause → Deed
 cancelled b cause = cancels_for b.clock b.dispatcher cause
 
-abbrev pub begun : Board → Deed
-begun b = begins_at b.clock b.dispatcher
+abbrev pub begin_deed : Board → Deed
+begin_deed b = begins_at b.clock b.dispatcher
 
-abbrev pub ended : Board → Deed
-ended b = ends_at b.clock b.dispatcher
+abbrev pub end_deed : Board → Deed
+end_deed b = ends_at b.clock b.dispatcher
 
 -- the delivery of the oldest message
 abbrev pub delivery : Board → List Message → Deed
@@ -366,7 +367,7 @@ answered_by b (Some response) = answers_at b.clock b.dispatcher response
 
 -- what a turn of the run's own does; the clock does nothing but move
 abbrev pub run_turn : Settings → Board → Turn → Deed
-run_turn p b Begin = begun b
+run_turn p b Begin = begin_deed b
 run_turn p b Admit = admission (newcomer p (index_of b.dispatcher) b.units)
 run_turn p b Deliver = delivery b b.queue
 run_turn p b (Signal signal) = signals_at b.clock (live_in b.units) b.dispatcher signal
@@ -377,13 +378,13 @@ run_turn p b Answer = answered_by b (oldest_of b.answers)
 run_turn p b InfoDue = informs_at b.clock b.dispatcher
 run_turn p b GlobalDue = cancelled b time_is_up
 run_turn p b ReportCancel = cancelled b event_refused
-run_turn p b End = ended b
+run_turn p b End = end_deed b
 run_turn p b _ = nothing_done
 
 -- what a turn does
 abbrev pub done_by : Settings → Board → Turn → Option (ℕ × UnitTurn) → Deed
 done_by p b turn None = run_turn p b turn
-done_by p b turn (Some named) = taken_by b.clock named.0 named.1 (unit_in b named.0)
+done_by p b turn (Some named) = taken_deed b.clock named.0 named.1 (unit_in b named.0)
 
 abbrev pub deed_on : Settings → Board → Turn → Deed
 deed_on p b turn = done_by p b turn (turn_of_unit turn)

@@ -234,6 +234,10 @@ abbrev pub skips : ReporterEvent → Bool
 skips (Test event) = skips_in event.kind
 skips _ = false
 
+-- how often a number is among some
+abbrev pub times : ℕ → List ℕ → ℕ
+times k ns = count_by (λ n. n == k) ns
+
 -- how many tests were told skipped
 abbrev pub skipped : List Happening → ℕ
 skipped past = count_by skips (told past)

@@ -18,6 +18,7 @@ use Rattle.run_commands.specs.declared.errors.SetupScriptOutputError.{SetupScrip
 use Rattle.run_output.specs.Errors.{fault_errors, errors_data}
 use Rattle.run_output.specs.Printer.{data_tokens, each_tokens, or_null}
 use Rattle.run_output.specs.Rows.{members_from}
+use Rattle.run_progress.proofs.SummaryLemmas.{not_zero}
 
 -- a number that may be below 0
 pub signed_tokens : (n : ℤ) (old new : List Token) → new ≡ old ++ token.number (signed_decimal n) ∷ []
@@ -120,15 +121,12 @@ pub map_twice : {X Y Z : Type 0} (f : Y → Z) (g : X → Y) (xs : List X) → m
 map_twice f g [] = refl
 map_twice f g (x ∷ xs) = ap (λ l. f (g x) ∷ l) (map_twice f g xs)
 
-above_zero : (n : ℕ) → (suc n == 0) ≡ false
-above_zero n = grind arith
-
 -- there is none
 pub errors_absent : (errors : List (List ℕ)) (fault : Option SetupScriptOutputError)
     → is_none (errors_data (errors ++ fault_errors fault)) ≡ ((length errors == 0) && is_none fault)
 errors_absent [] None = refl
 errors_absent [] (Some fault) = refl
-errors_absent (error ∷ errors) fault = ap (λ b. b && is_none fault) (sym (above_zero (length errors)))
+errors_absent (error ∷ errors) fault = ap (λ b. b && is_none fault) (sym (not_zero (length errors)))
 
 errors_some : (errors : List (List ℕ)) → is_none (errors_data errors) ≡ false
     → or_null (errors_data errors) ≡ array (items_of (map string errors))
@@ -162,4 +160,4 @@ errors_printed errors faults start opened one two done some begun first second e
 pub nonzero_absent : (n : ℕ) → is_none (nonzero n) ≡ (n == 0)
 unfolding nonzero
 nonzero_absent zero = refl
-nonzero_absent (suc n) = sym (above_zero n)
+nonzero_absent (suc n) = sym (not_zero n)

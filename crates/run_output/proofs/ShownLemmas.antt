@@ -17,6 +17,7 @@ use Rattle.run_progress.specs.declared.seen.Seen.{Seen}
 use Rattle.run_progress.specs.Lines.{tick_of, shown_after, test_lines}
 use Rattle.run_progress.specs.Seen.{seen_of, shows_tests}
 use Rattle.std.proofs.Common.{Bool, true, false, if◌then◌else◌, unwrap_or, slice_get, max}
+use Rattle.run_capture.proofs.Facts.{zip-push}
 use Rattle.run_output.specs.declared.watcher.Watcher.{Watcher}
 use Rattle.run_output.proofs.ToldLemmas.{told_more}
 
@@ -38,13 +39,6 @@ length-lines_in w [] = refl
 length-lines_in w (x ∷ events) = ap (λ n. suc n) (length-lines_in (screen_after w x) events)
 
 -- two lists side by side, and one more item of each
-zip-more : {X Y : Type 0} (xs : List X) (ys : List Y) (x : X) (y : Y) → length xs ≡ length ys
-    → zip (xs ++ x ∷ []) (ys ++ y ∷ []) ≡ zip xs ys ++ (x, y) ∷ []
-zip-more [] [] x y same = refl
-zip-more [] (b ∷ ys) x y same = absurd (omega arith)
-zip-more (a ∷ xs) [] x y same = absurd (omega arith)
-zip-more (a ∷ xs) (b ∷ ys) x y same = ap (λ zs. (a, b) ∷ zs) (zip-more xs ys x y (omega arith))
-
 events-more : {E : Type 0} (answers : List (ReporterEvent × Option E)) (event : ReporterEvent) (error : Option E)
     → events_of (answers ++ (event, error) ∷ []) ≡ events_of answers ++ event ∷ []
 events-more answers event error = map-append (λ answer. answer.0) answers ((event, error) ∷ [])
@@ -61,7 +55,7 @@ lines-more w answers event error =
     (events-more answers event error)
     ∙ ap (λ errors. zip (lines_in w (events_of answers ++ event ∷ [])) errors) (errors-more answers event error)
     ∙ ap (λ lines. zip lines (answer_errors answers ++ error ∷ [])) (lines_in-more w (events_of answers) event)
-    ∙ zip-more (lines_in w (events_of answers)) (answer_errors answers)
+    ∙ zip-push (lines_in w (events_of answers)) (answer_errors answers)
     (line_in (screen_after_all w (events_of answers)) event) error
     (length-lines_in w (events_of answers) ∙ length-map answers (λ answer. answer.0)
     ∙ sym (length-map answers (λ answer. answer.1)))

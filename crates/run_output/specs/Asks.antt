@@ -11,10 +11,10 @@ use Rattle.run_output.specs.Fields.{count, texts, pair, array_of, object_text, l
 use Rattle.run_output.specs.Info.{method_word}
 
 -- a signal for a child by its word
-unfoldable pub signal_word : ChildSignal → List ℕ
-signal_word (End method) = method_word method
-signal_word Tstp = codes "tstp"
-signal_word Cont = codes "cont"
+unfoldable pub child_signal_word : ChildSignal → List ℕ
+child_signal_word (End method) = method_word method
+child_signal_word Tstp = codes "tstp"
+child_signal_word Cont = codes "cont"
 
 -- a child is to be started
 unfoldable pub start_fields : ℕ → StartAsk → List (List ℕ × Option Data)
@@ -34,7 +34,7 @@ unfoldable pub signal_fields : ℕ → SignalAsk → List (List ℕ × Option Da
 signal_fields turn ask =
     (codes "ask", Some (string (codes "signal")))
     ∷ (codes "group", Some (boolean ask.group))
-    ∷ (codes "signal", Some (string (signal_word ask.signal)))
+    ∷ (codes "signal", Some (string (child_signal_word ask.signal)))
     ∷ (codes "turn", Some (count turn))
     ∷ (codes "unit", Some (count ask.unit))
     ∷ []

@@ -19,13 +19,13 @@ error_text (ReadCombined text) = codes "combined: " ++ text
 error_text (Wait text) = codes "wait: " ++ text
 
 -- the fault of a script's environment file
-unfoldable pub fault_text : SetupScriptOutputError → List ℕ
-fault_text EnvFileOpen = codes "env: open"
-fault_text (EnvFileRead line) = codes "env: read"
-fault_text EnvFileTooLong = codes "env: read"
-fault_text OutOfMemory = codes "env: read"
-fault_text (EnvFileParse line) = codes "env: parse"
-fault_text (EnvFileInvalidKey line) = codes "env: key"
+unfoldable pub env_fault_text : SetupScriptOutputError → List ℕ
+env_fault_text EnvFileOpen = codes "env: open"
+env_fault_text (EnvFileRead line) = codes "env: read"
+env_fault_text EnvFileTooLong = codes "env: read"
+env_fault_text OutOfMemory = codes "env: read"
+env_fault_text (EnvFileParse line) = codes "env: parse"
+env_fault_text (EnvFileInvalidKey line) = codes "env: key"
 
 -- the errors of a child, in order; of one that wasn't started, none
 abbrev pub child_errors : ChildExecutionOutput → List (List ℕ)
@@ -35,7 +35,7 @@ child_errors (StartError error) = []
 -- that of its environment file
 abbrev pub fault_errors : Option SetupScriptOutputError → List (List ℕ)
 fault_errors None = []
-fault_errors (Some fault) = fault_text fault ∷ []
+fault_errors (Some fault) = env_fault_text fault ∷ []
 
 -- errors, left out where there is none
 abbrev pub errors_data : List (List ℕ) → Option Data

@@ -23,9 +23,9 @@ method_word Quit = codes "quit"
 method_word Kill = codes "kill"
 
 -- why a child is being ended, by its word
-unfoldable pub reason_word : TerminateReason → List ℕ
-reason_word reasons.Timeout = codes "timeout"
-reason_word (reasons.Signal request) = codes "signal"
+unfoldable pub terminate_word : TerminateReason → List ℕ
+terminate_word reasons.Timeout = codes "timeout"
+terminate_word (reasons.Signal request) = codes "signal"
 
 -- what a unit is doing
 unfoldable pub state_fields : UnitState → List (List ℕ × Option Data)
@@ -39,7 +39,7 @@ state_fields (Terminating pid time reason method waiting) =
     (codes "kind", Some (string (codes "terminating")))
     ∷ (codes "method", Some (string (method_word method)))
     ∷ (codes "pid", Some (count pid))
-    ∷ (codes "reason", Some (string (reason_word reason)))
+    ∷ (codes "reason", Some (string (terminate_word reason)))
     ∷ (codes "remaining", Some (count waiting.remaining))
     ∷ (codes "time", Some (count time))
     ∷ (codes "waiting", Some (count waiting.waiting))

@@ -7,8 +7,8 @@ use Rattle.run_output.specs.Fields.{count}
 use Rattle.run_output.specs.Turns.{turn_data, found_data}
 
 -- its data
-abbrev pub part_data : Part → Option Data
-part_data (Word word) = Some (string word.now)
-part_data (Number number) = Some (count number)
-part_data (Turn turn) = Some (turn_data turn.now)
-part_data (Found found) = Some (found_data found.now)
+abbrev pub receipt_part_data : Part → Option Data
+receipt_part_data (Word word) = Some (string word.now)
+receipt_part_data (Number number) = Some (count number)
+receipt_part_data (Turn turn) = Some (turn_data turn.now)
+receipt_part_data (Found found) = Some (found_data found.now)

@@ -20,8 +20,8 @@ reason_word Interrupt = codes "interrupt"
 reason_word SecondSignal = codes "second-signal"
 
 -- the counts of the run and of its setup scripts
-unfoldable pub script_fields : RunStats → List (List ℕ × Option Data)
-script_fields stats =
+unfoldable pub script_count_fields : RunStats → List (List ℕ × Option Data)
+script_count_fields stats =
     (codes "initial_run_count", nonzero stats.initial_run_count)
     ∷ (codes "finished_count", nonzero stats.finished_count)
     ∷ (codes "setup_scripts_initial_count", nonzero stats.setup_scripts_initial_count)
@@ -51,7 +51,7 @@ test_fields stats =
 
 -- all of them
 abbrev pub stats_fields : RunStats → List (List ℕ × Option Data)
-stats_fields stats = script_fields stats ++ test_fields stats
+stats_fields stats = script_count_fields stats ++ test_fields stats
 
 -- the object
 abbrev pub stats_data : RunStats → Data

@@ -7,7 +7,7 @@ use Rattle.run_output.specs.Fields.{count}
 use Rattle.run_output.specs.Stress.{index_data}
 
 -- its data
-abbrev pub part_data : Part → Option Data
-part_data (Count number) = Some (count number)
-part_data (Word word) = Some (string word.now)
-part_data (Index index) = Some (index_data index)
+abbrev pub stress_part_data : Part → Option Data
+stress_part_data (Count number) = Some (count number)
+stress_part_data (Word word) = Some (string word.now)
+stress_part_data (Index index) = Some (index_data index)

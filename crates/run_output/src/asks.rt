@@ -2,7 +2,7 @@
 ghost use Rattle.std.specs.Prelude.{◌≡◌, IfOk};
 ghost use Rattle.run_output.specs.Fields.{object_text, line_bytes};
 ghost use Rattle.json.specs.Print.{print};
-ghost use Rattle.run_output.specs.Asks.{signal_word, start_fields, signal_fields, stop_self_fields, ask_text};
+ghost use Rattle.run_output.specs.Asks.{child_signal_word, start_fields, signal_fields, stop_self_fields, ask_text};
 
 use crate::info::method_name;
 use crate::leaf::Leaf;
@@ -12,9 +12,9 @@ use run_capture::{Mem, Text};
 use run_events::{Ask, ChildSignal, SignalAsk, StartAsk};
 use std::alloc::Global;
 
-#[tactic(auto, unfolding(crate::specs::Asks::signal_word))]
+#[tactic(auto, unfolding(crate::specs::Asks::child_signal_word))]
 fn signal_name(signal: ChildSignal) -> &'static str
-    ensures { result.now ≡ signal_word signal }
+    ensures { result.now ≡ child_signal_word signal }
 {
     match signal {
         ChildSignal::End(method) => method_name(method),

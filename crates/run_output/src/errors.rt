@@ -2,7 +2,7 @@
 ghost use Rattle.std.specs.Prelude.{◌≡◌, ◌==◌, ◌++◌, map, length, is_none, string_bytes, IfOk};
 ghost use Rattle.serde_json.specs.Data.{string};
 ghost use Rattle.run_output.specs.Printer.{Prints, data_tokens, each_tokens, or_null};
-ghost use Rattle.run_output.specs.Errors.{error_text, fault_text, child_errors, fault_errors, errors_data};
+ghost use Rattle.run_output.specs.Errors.{error_text, env_fault_text, child_errors, fault_errors, errors_data};
 
 use crate::printer::Printer;
 use run_capture::{ChildFdError, Mem, Text};
@@ -54,9 +54,9 @@ fn print_child(alloc: Global, out: &mut Printer, child: &ChildExecutionOutput) -
     }
 }
 
-#[tactic(auto, unfolding(crate::specs::Errors::fault_text))]
+#[tactic(auto, unfolding(crate::specs::Errors::env_fault_text))]
 fn fault_word(fault: SetupScriptOutputError) -> &'static str
-    ensures { result.now ≡ fault_text fault }
+    ensures { result.now ≡ env_fault_text fault }
 {
     match fault {
         SetupScriptOutputError::EnvFileOpen => "env: open",

@@ -4,7 +4,7 @@ ghost use Rattle.run_commands.specs.declared.errors.SetupScriptOutputError.{Setu
 ghost use Rattle.run_events.specs.declared.info.UnitState.TheVariants.{Running, Terminating, Exiting, Exited, Delay};
 ghost use Rattle.serde_json.specs.Data.{string};
 ghost use Rattle.run_output.specs.Fields.{rows, object_of};
-ghost use Rattle.run_output.specs.Info.{state_fields, method_word, reason_word, state_data, output_data, shown_data};
+ghost use Rattle.run_output.specs.Info.{state_fields, method_word, terminate_word, state_data, output_data, shown_data};
 ghost use Rattle.run_output.specs.Leaf.{leaf_data};
 ghost use Rattle.run_output.specs.Printer.{Prints, data_tokens};
 ghost use Rattle.run_output.specs.Texts.{result_text};
@@ -35,9 +35,9 @@ pub(crate) fn method_name(method: TermSignal) -> &'static str
     }
 }
 
-#[tactic(auto, unfolding(crate::specs::Info::reason_word))]
+#[tactic(auto, unfolding(crate::specs::Info::terminate_word))]
 fn reason_name(reason: TerminateReason) -> &'static str
-    ensures { result.now ≡ reason_word reason }
+    ensures { result.now ≡ terminate_word reason }
 {
     match reason {
         TerminateReason::Timeout => "timeout",

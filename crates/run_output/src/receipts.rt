@@ -56,9 +56,9 @@ fn print_found(alloc: Global, out: &mut Printer, found: &Option<Turn>) -> Mem<()
 }
 
 impl Printed for Part<'_> {
-    ghost use Rattle.run_output.specs.ReceiptPart.{part_data};
+    ghost use Rattle.run_output.specs.ReceiptPart.{receipt_part_data};
 
-    ghost printed = { part_data };
+    ghost printed = { receipt_part_data };
 
     fn is_absent(&self) -> bool {
         false

@@ -4,7 +4,7 @@ ghost use Rattle.serde_json.specs.Data.{string};
 ghost use Rattle.run_output.specs.Fields.{rows};
 ghost use Rattle.run_output.specs.Leaf.{leaf_data};
 ghost use Rattle.run_output.specs.Printer.{Prints, data_tokens};
-ghost use Rattle.run_output.specs.Stats.{reason_word, script_fields, test_fields, stats_data};
+ghost use Rattle.run_output.specs.Stats.{reason_word, script_count_fields, test_fields, stats_data};
 
 use crate::leaf::Leaf;
 use crate::object::Object;
@@ -39,9 +39,9 @@ fn reason_leaf(reason: Option<CancelReason>) -> Leaf<'static>
 }
 
 // The counts of the run and of its setup scripts.
-#[tactic(auto, unfolding(crate::specs::Stats::script_fields))]
+#[tactic(auto, unfolding(crate::specs::Stats::script_count_fields))]
 fn script_counts(stats: &RunStats) -> [(&'static str, Leaf<'static>); 8]
-    ensures { rows leaf_data result ≡ script_fields stats.now }
+    ensures { rows leaf_data result ≡ script_count_fields stats.now }
 {
     [
         ("initial_run_count", Leaf::Nonzero(stats.initial_run_count)),

@@ -3,7 +3,7 @@ ghost use Rattle.std.specs.Prelude.{◌≡◌, option_map, IfOk};
 ghost use Rattle.run_output.specs.Fields.{rows};
 ghost use Rattle.run_output.specs.Leaf.{leaf_data};
 ghost use Rattle.run_output.specs.Printer.{Prints, data_tokens};
-ghost use Rattle.run_output.specs.StressPart.{part_data};
+ghost use Rattle.run_output.specs.StressPart.{stress_part_data};
 ghost use Rattle.run_output.specs.Stress.{
   condition_data,
   index_fields,
@@ -100,9 +100,9 @@ enum Part {
 }
 
 impl Printed for Part {
-    ghost use Rattle.run_output.specs.StressPart.{part_data};
+    ghost use Rattle.run_output.specs.StressPart.{stress_part_data};
 
-    ghost printed = { part_data };
+    ghost printed = { stress_part_data };
 
     fn is_absent(&self) -> bool {
         false
@@ -131,7 +131,7 @@ fn last_name(last: FinalRunStats) -> &'static str
 
 #[tactic(auto, unfolding(crate::specs::Stress::ended_fields))]
 fn ended(stats: &StressRunStats) -> [(&'static str, Part); 3]
-    ensures { rows part_data result ≡ ended_fields stats.now }
+    ensures { rows stress_part_data result ≡ ended_fields stats.now }
 {
     [
         ("failed_count", Part::Count(stats.failed_count)),

@@ -1,4 +1,4 @@
 mod TextLemmas
-mod SummaryLemmas
+pub mod SummaryLemmas
 mod DisplayLemmas
 mod StandsLemmas

@@ -25,7 +25,7 @@ with_text there text kinds = if there
     then kinds ++ ((if length kinds == 0 then codes " (" else codes ", ") ++ text) else kinds
 
 -- no successor is 0
-not_zero : (n : ℕ) → (suc n == 0) ≡ false
+pub not_zero : (n : ℕ) → (suc n == 0) ≡ false
 not_zero n = ne_eqb (suc n) 0 (λ e. omega (arith, e))
 
 -- three kinds added one after another, and closed, by which of them are there

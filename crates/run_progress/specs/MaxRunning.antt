@@ -4,6 +4,7 @@ use Rattle.std.specs.Char.{to_ascii_lowercase}
 use Rattle.std.specs.Str.Parse.{IsNumeral, IsParseIntError, digits_value, without_leading_plus}
 use Rattle.std.specs.declared.num.IntErrorKind.{IntErrorKind}
 use Rattle.std.specs.declared.num.IntErrorKind.TheVariants as kinds
+use Rattle.run_commands.specs.StressCount.{IsDecimal}
 use Rattle.run_progress.specs.declared.max_running.MaxProgressRunning.{MaxProgressRunning}
 use Rattle.run_progress.specs.declared.max_running.MaxProgressRunning.TheVariants.{Count, Infinite}
 use Rattle.run_progress.specs.declared.max_running.MaxProgressError.{MaxProgressError}
@@ -18,18 +19,14 @@ max_text Infinite = codes "infinite"
 abbrev pub SaysInfinite : List ℕ → Type 0
 SaysInfinite text = map to_ascii_lowercase text ≡ codes "infinite"
 
--- decimal digits, with an optional `+` before them, whose value is this one
-abbrev pub IsMaximumText : List ℕ → ℕ → Type 0
-IsMaximumText text n = IsNumeral 10 (without_leading_plus text) × (digits_value 10 (without_leading_plus text) ≡ n)
-
 -- what a text that is read says
 abbrev pub SaysMax : List ℕ → MaxProgressRunning → Type 0
 SaysMax text Infinite = SaysInfinite text
-SaysMax text (Count n) = IsMaximumText text n
+SaysMax text (Count n) = IsDecimal text n
 
 -- neither the word nor a number that fits 64 bits
 abbrev pub SaysNoMax : List ℕ → Type 0
-SaysNoMax text = (¬ SaysInfinite text) × ((n : ℕ) → n < 2 ^ 64 → ¬ IsMaximumText text n)
+SaysNoMax text = (¬ SaysInfinite text) × ((n : ℕ) → n < 2 ^ 64 → ¬ IsDecimal text n)
 
 -- std's words for what is wrong with a text that is no number
 abbrev pub error_words : IntErrorKind → List ℕ

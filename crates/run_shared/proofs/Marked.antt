@@ -16,7 +16,8 @@ use Rattle.run_model.specs.declared.entry.Entry.{Entry}
 use Rattle.run_shared.specs.declared.shared.Receipt.{Receipt}
 use Rattle.run_shared.specs.declared.closing.CloseKind.{CloseKind}
 use Rattle.run_shared.specs.declared.closing.CloseKind.TheVariants.{OtherSettings, Mismatch, Repeated, OutOfMemory}
-use Rattle.run_shared.specs.Receipts.{concatenated, receipt_numbers, times, bit, StandsIn, Marks, Looked, IsFault}
+use Rattle.run_model.specs.Words.{times}
+use Rattle.run_shared.specs.Receipts.{concatenated, receipt_numbers, bit, StandsIn, Marks, Looked, IsFault}
 use Rattle.run_shared.specs.Receipts.{HasFault, Closes}
 
 times_append : (k : ℕ) (xs ys : List ℕ) → times k (xs ++ ys) ≡ times k xs + times k ys

@@ -4,6 +4,7 @@ use Rattle.std.specs.Prelude.{option_map, slice_get, slice_index_or, cond}
 use Rattle.std.specs.List.{All, Contains, count_by}
 use Rattle.run_events.specs.declared.turn.Turn.{Turn}
 use Rattle.run_model.specs.declared.entry.Entry.{Entry}
+use Rattle.run_model.specs.Words.{times}
 use Rattle.run_shared.specs.declared.shared.Receipt.{Receipt}
 use Rattle.run_shared.specs.declared.closing.CloseKind.{CloseKind}
 use Rattle.run_shared.specs.declared.closing.CloseKind.TheVariants.{OtherSettings, Mismatch, Repeated, OutOfMemory}
@@ -16,10 +17,6 @@ concatenated (xs ∷ rest) = xs ++ concatenated rest
 -- the numbers of receipts
 abbrev pub receipt_numbers : List Receipt → List ℕ
 receipt_numbers rs = map (λ (r : Receipt). r.number) rs
-
--- how often a number is in a list
-abbrev pub times : ℕ → List ℕ → ℕ
-times k ns = count_by (λ n. n == k) ns
 
 abbrev pub bit : Bool → ℕ
 bit b = cond b 1 0

@@ -26,7 +26,7 @@ use Rattle.run_model.specs.Reruns.{unseen_among}
 use Rattle.run_model.specs.Rounds.{answer_of}
 use Rattle.run_model.specs.Turns.{admission, answer_to, delivered_as, delivers, delivery, delivery_of, event_of}
 use Rattle.run_model.specs.Turns.{nothing_done}
-use Rattle.run_model.specs.Turns.{deed_on, done_by, starting, taken_by, tally_with, turn_of_unit}
+use Rattle.run_model.specs.Turns.{deed_on, done_by, starting, taken_deed, tally_with, turn_of_unit}
 use Rattle.run_model.specs.Unit.{is_live, reached}
 use Rattle.run_model.specs.Words.{ns_of}
 use Rattle.run_laws.proofs.board.Tallies.{with_cause-none}
@@ -261,14 +261,14 @@ answer_seated p old new deed (Err lack) seated none on does = tt
 
 -- a turn that names a unit leaves the clock
 pub unit_stepped : (p : Settings) (b : Board) (turn : Turn) (named : ℕ × UnitTurn) → turn_of_unit turn ≡ Some named
-    → moved b (taken_by b.clock named.0 named.1 (unit_in b named.0)) ≡ step b turn (deed_on p b turn)
+    → moved b (taken_deed b.clock named.0 named.1 (unit_in b named.0)) ≡ step b turn (deed_on p b turn)
 unit_stepped p b turn named names =
     ap (λ now. record (moved b deed) { clock = now })
     (sym (add-zero b.clock) ∙ ap (λ ns. b.clock + ns) (none turn names))
     ∙ ap (λ n. step b turn (done_by p b turn n)) (sym names)
   where
     deed : Deed
-    deed = taken_by b.clock named.0 named.1 (unit_in b named.0)
+    deed = taken_deed b.clock named.0 named.1 (unit_in b named.0)
 
     none : (turn : Turn) → turn_of_unit turn ≡ Some named → 0 ≡ ns_of turn
     none (Clock ns) names = cc

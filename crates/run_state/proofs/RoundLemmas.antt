@@ -33,8 +33,9 @@ use Rattle.run_model.specs.Cancel.{Cause, cause_of, caused, failure_cause, is_ab
 use Rattle.run_model.specs.Dispatch.{Moment, event, is_halted, may_go, moment_by, retried_event, started_event}
 use Rattle.run_model.specs.Dispatch.{with_start}
 use Rattle.run_model.specs.Rounds.{answer_of, closes_round, opens_round, tells_answer}
-use Rattle.run_model.specs.Turns.{answered_by, continues_at, delivers, hears, job_deed, key_deed, signal_deed, stops_at}
-use Rattle.run_model.specs.Turns.{begins_as, begun, ends_as, sub_run_started, tally_by, told_by}
+use Rattle.run_model.specs.Turns.{answered_by, continues_at, delivers, message_deed}
+use Rattle.run_model.specs.Turns.{job_deed, key_deed, signal_deed, stops_at}
+use Rattle.run_model.specs.Turns.{begins_as, begin_deed, ends_as, sub_run_started, tally_by, told_by}
 use Rattle.run_commands.specs.declared.stress_count.StressCondition.{StressCondition}
 use Rattle.run_dispatch.specs.declared.effects.DispatchEffects.{DispatchEffects}
 use Rattle.run_dispatch.specs.Deeds.{Does}
@@ -42,6 +43,7 @@ use Rattle.run_state.specs.declared.effects.Effects.{Effects}
 use Rattle.run_state.specs.Counted.{holders_in}
 use Rattle.run_state.specs.Done.{Done}
 use Rattle.run_state.specs.Held.{Held}
+use Rattle.run_dispatch.proofs.FinishLemmas.{no_round}
 
 -- a deed of the dispatcher alone, which takes no message, tells no answer and closes no round
 pub record IsOwn (deed : Deed) : Type 0 where
@@ -219,7 +221,7 @@ delivery_leaves now d m answer =
     by_rank false request is = refl
 
     by_cause : (cause : Option Cause) → OpensNone cause
-        → LeavesRound (caused (moment_by now d.watch) (tally_by now d m) cause (hears now d m answer))
+        → LeavesRound (caused (moment_by now d.watch) (tally_by now d m) cause (message_deed now d m answer))
     by_cause None opens = record { opens = refl; closes = quiet.closes; tells = quiet.tells; begins = refl }
     by_cause (Some cause) opens = record {
       opens = by_rank (is_above (tally_by now d m).stats.cancel_reason cause.reason) cause.request opens;
@@ -342,12 +344,6 @@ pub end_opens : (now : ℕ) (d : DispatcherView) (stress : Option StressConditio
 end_opens now d None = refl
 end_opens now d (Some condition) = refl
 
--- a cause asks what opens no round, where it asks anything
-pub cause_opens : (above : Bool) (request : Request) → opens_round (Some request) ≡ false
-    → opens_round (if above then Some request else None) ≡ false
-cause_opens true request is = is
-cause_opens false request is = refl
-
 -- a sub-run begins: it tells nothing of a round
 begin_quiet : (now : ℕ) (d : DispatcherView) (stress : Option StressCondition)
     → IsQuiet (option_map (sub_run_started now d) stress)
@@ -370,8 +366,8 @@ begun_board b false =
     (answers_kept None deed [] refl quiet.closes quiet.tells)
 
 pub begun_moved : (b : Board) (us : List (Option UnitView)) (d : DispatcherView) → length us ≡ length b.units
-    → ((k : ℕ) → get_or us k None ≡ None) → d ≡ dispatched b.clock b.dispatcher (begun b)
-    → record b { units = us; queue = []; answers = []; dispatcher = d } ≡ moved b (begun b)
+    → ((k : ℕ) → get_or us k None ≡ None) → d ≡ dispatched b.clock b.dispatcher (begin_deed b)
+    → record b { units = us; queue = []; answers = []; dispatcher = d } ≡ moved b (begin_deed b)
 begun_moved b us d many none after =
     ap₂ (λ us d. record b { units = us; queue = []; answers = []; dispatcher = d }) units after
     ∙ begun_board b (b.dispatcher.sub_runs.ended == 0)

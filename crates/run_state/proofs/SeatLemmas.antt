@@ -29,7 +29,7 @@ use Rattle.run_model.specs.Admission.{slots_of, group_slot, handed_to, unit_of_t
 use Rattle.run_model.specs.Admission.{scripts_over, script_newcomer, script_view}
 use Rattle.run_model.specs.Environment.{number}
 use Rattle.run_model.specs.Board.{units_after}
-use Rattle.run_model.specs.Turns.{taken_by}
+use Rattle.run_model.specs.Turns.{taken_deed}
 use Rattle.run_laws.proofs.board.Newcomers.{becomes}
 use Rattle.run_laws.proofs.units.Rows.{row_keeps}
 use Rattle.run_laws.proofs.board.BoardSeats.{seat_going}
@@ -37,10 +37,11 @@ use Rattle.run_laws.proofs.board.Admitted.{HasFreeSlots, admitted_is}
 use Rattle.run_state.specs.Held.{given_back, units_with}
 use Rattle.run_state.specs.Placed.{is_test}
 use Rattle.run_state.proofs.ScriptLemmas.{open_first}
+use Rattle.run_laws.proofs.board.JoinSeats.{group_slot_is}
 
 -- the units after one took a turn
 pub acted : (now k : ℕ) (turn : UnitTurn) (us : List (Option UnitView)) (u : UnitView) → get_or us k None ≡ Some u
-    → units_after now (taken_by now k turn (get_or us k None)).part us ≡ set us k (Some (row now turn u).next)
+    → units_after now (taken_deed now k turn (get_or us k None)).part us ≡ set us k (Some (row now turn u).next)
 acted now k turn us u at =
     ap (λ v. units_after now (option_map (λ w. Acts k turn) v) us) at
     ∙ ap (λ v. set us k (option_map (λ w. (row now turn w).next) v)) at
@@ -124,13 +125,6 @@ test_in_use p us k u at going role inside le =
     uses (roles.Test t) e = refl
     uses (roles.Script s) e = cc
 
--- a slot within a group is kept with the name of the group
-slot-kept : (slot : Option ℕ) (group : Option (List ℕ)) → (group ≡ None → slot ≡ None)
-    → option_map (λ g. g.slot) (group_slot slot group) ≡ slot
-slot-kept None group none = refl
-slot-kept (Some slot) (Some name) none = refl
-slot-kept (Some slot) None none = let never : Some slot ≡ None = none refl in cc
-
 -- only a test of a group gets a slot within one
 no_slot : (p : Settings) (us : List (Option UnitView)) (j : ℕ) (test : PlanTest) (slot : Option ℕ)
     → slice_get p.plan.tests j ≡ Some test
@@ -188,7 +182,7 @@ limits-seated p index us r new e made =
         record (limits_of p us) { seats = set (map seat_of (drop (scripts_in p) us)) j (InUse global slot) }
         ≡ limits_of p (set us (number n.unit) (Some n.unit))) it
         (at j u (InUse global slot)
-        (ap (InUse global) (slot-kept slot test.group (no_slot p us j test slot planned free.1))))
+        (ap (InUse global) (group_slot_is slot test.group (no_slot p us j test slot planned free.1))))
 
 -- the newcomer where all scripts are over
 newcomer-test : (p : Settings) (index : Option StressIndex) (us : List (Option UnitView)) (r : Admitted)

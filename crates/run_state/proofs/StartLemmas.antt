@@ -7,7 +7,7 @@ use Rattle.std.proofs.lemmas.List.{get_or-drop, length-drop}
 use Rattle.std.specs.List.{list_all}
 use Rattle.run_admission.specs.declared.seat.Seat.{Seat}
 use Rattle.run_admission.specs.declared.seat.Seat.TheVariants.{Waiting, InUse, Gone}
-use Rattle.run_admission.specs.InUse.{Admissions, begun, claim_of, is_waiting}
+use Rattle.run_admission.specs.InUse.{Admissions, new_admissions, claim_of, is_waiting}
 use Rattle.run_events.specs.declared.request.Request.{Request}
 use Rattle.run_events.specs.declared.settings.Settings.{Settings}
 use Rattle.run_model.proofs.RerunLemmas.{unseen-none}
@@ -43,7 +43,8 @@ forgotten (u ∷ us) (suc k) = forgotten us k
 
 -- so the limits as a sub-run begins are those of these units
 pub limits-anew : (p : Settings) (us : List (Option UnitView)) → ((k : ℕ) → get_or us k None ≡ None)
-    → length (drop (scripts_in p) us) ≡ tests_in p → begun p.threads p.plan.groups p.plan.tests ≡ limits_of p us
+    → length (drop (scripts_in p) us) ≡ tests_in p → new_admissions p.threads p.plan.groups p.plan.tests ≡ limits_of
+    p us
 limits-anew p us none long =
     ap (λ seats. record (limits_of p us) { seats = seats }) (waits us (scripts_in p) (tests_in p) none long)
 
@@ -55,7 +56,7 @@ all_waiting (InUse global group ∷ ss) e = cc
 all_waiting (Gone ∷ ss) e = cc
 
 pub limits-untouched : (p : Settings) (us : List (Option UnitView)) (a : Admissions) → a ≡ limits_of p us → HasSeats a
-    → list_all is_waiting a.seats ≡ true → a ≡ begun p.threads p.plan.groups p.plan.tests
+    → list_all is_waiting a.seats ≡ true → a ≡ new_admissions p.threads p.plan.groups p.plan.tests
 limits-untouched p us a is has wait =
     let many : length a.seats ≡ tests_in p =
     has ∙ ap (λ (a : Admissions). length a.claims) is ∙ length-map p.plan.tests (claim_of p.plan.groups) in
@@ -64,12 +65,13 @@ limits-untouched p us a is has wait =
     is ∙ ap (λ seats. record (limits_of p us) { seats = seats }) seats
 
 -- each test has a seat then
-seats-anew : (p : Settings) → HasSeats (begun p.threads p.plan.groups p.plan.tests)
+seats-anew : (p : Settings) → HasSeats (new_admissions p.threads p.plan.groups p.plan.tests)
 seats-anew p = length-replicate (tests_in p) Waiting ∙ sym (length-map p.plan.tests (claim_of p.plan.groups))
 
 -- and none has in its line what an open round asks
 pub fits-anew : (p : Settings) (asks : Option Request) (us : List (Option UnitView)) (a : Admissions)
-    → ((k : ℕ) → get_or us k None ≡ None) → a ≡ begun p.threads p.plan.groups p.plan.tests → FitsUnits asks us 0 a
+    → ((k : ℕ) → get_or us k None ≡ None) → a ≡ new_admissions p.threads p.plan.groups p.plan.tests → FitsUnits asks
+    us 0 a
 fits-anew p asks us a none limits = (
   (λ k u at many. let never : None ≡ Some u = sym (none k) ∙ at in cc),
   absent_held asks us none,
@@ -84,7 +86,7 @@ tests-many p us vs a seated has same =
     ∙ sym (length-map (drop (scripts_in p) us) seat_of) ∙ sym (ap (λ (a : Admissions). length a.seats) seated) ∙ has
     ∙ ap (λ (a : Admissions). length a.claims) seated ∙ length-map p.plan.tests (claim_of p.plan.groups)
 
--- the dispatcher of a run that hasn't begun is that of the empty history
+-- the dispatcher of a run that hasn't new_admissions is that of the empty history
 dispatcher-nil : (p : Settings) → unbegun p ≡ dispatcher_of p []
 dispatcher-nil p =
     ap₂ (λ t rerun. record (unbegun p) { tally = t; rerun = rerun }) (tally-nil p)
@@ -94,7 +96,8 @@ dispatcher-nil p =
 pub state-nil : (p : Settings) (us : List (Option UnitView)) (d : DispatcherView) (s : Held)
     → s.board ≡ record (board p []) { units = us; dispatcher = d }
     → length us ≡ units_in p → ((k : ℕ) → get_or us k None ≡ None) → d ≡ unbegun p
-    → s.kept.limits ≡ begun p.threads p.plan.groups p.plan.tests → s.kept.alike ≡ alike_of p → s ≡ held p (board p [])
+    → s.kept.limits ≡ new_admissions p.threads p.plan.groups p.plan.tests → s.kept.alike ≡ alike_of p → s ≡ held p
+    (board p [])
 state-nil p us d s rests whole none unbegins limits alike =
     ap (λ board. record s { board = board }) rests
     ∙ ap₂ (λ d kept. record h { board = record h.board { units = us; dispatcher = d }; kept = kept })

@@ -3,7 +3,7 @@ use Rattle.std.specs.Prelude.{ℕ, ◌≡◌, ◌≤◌, List, Option, Some, Non
 use Rattle.run_model.specs.declared.unit_turn.UnitTurn.{UnitTurn}
 use Rattle.run_model.specs.declared.unit_view.UnitView.{UnitView}
 use Rattle.run_model.specs.Board.{Deed}
-use Rattle.run_model.specs.Turns.{taken_by}
+use Rattle.run_model.specs.Turns.{taken_deed}
 use Rattle.run_model.specs.Unit.{row, takes}
 
 -- a unit may take a turn at this moment: it was admitted, it takes the turn, and its latest moment isn't after this one
@@ -13,7 +13,7 @@ MayTake now unit turn units =
 
 -- what it does by that
 abbrev pub unit_deed : ℕ → ℕ → UnitTurn → List (Option UnitView) → Deed
-unit_deed now unit turn units = taken_by now unit turn (slice_index_or units unit None)
+unit_deed now unit turn units = taken_deed now unit turn (slice_index_or units unit None)
 
 -- what it is after that
 abbrev pub unit_next : ℕ → ℕ → UnitTurn → List (Option UnitView) → Option UnitView

@@ -1,6 +1,6 @@
 // What a run keeps of its plan beside its units.
 ghost use Rattle.std.specs.Prelude.{ℕ, ◌≡◌, ◌^◌, ◌<◌, IfOk, None, length, slice_index_or};
-ghost use Rattle.run_admission.specs.InUse.{begun};
+ghost use Rattle.run_admission.specs.InUse.{new_admissions};
 ghost use Rattle.run_model.specs.Admission.{units_in};
 ghost use Rattle.run_unit.specs.Alike.{alike_of};
 
@@ -36,7 +36,7 @@ fn new_parts(alloc: Global, settings: &Settings, count: usize) -> Mem<(Units, Ad
     ensures count { IfOk result (λ parts. length parts.0 ≡ count) }
     ensures none { IfOk result (λ parts. (k : ℕ) → slice_index_or parts.0 k None ≡ None) }
     ensures limits { let plan = settings.now.plan in
-        IfOk result (λ parts. parts.1 ≡ begun settings.now.threads plan.groups plan.tests) }
+        IfOk result (λ parts. parts.1 ≡ new_admissions settings.now.threads plan.groups plan.tests) }
 {
     let units = unadmitted(alloc, count)?;
     let groups = settings.plan.groups.as_slice();
@@ -51,7 +51,7 @@ pub fn first_parts(alloc: Global, settings: &Settings) -> Mem<(Units, Kept)>
     ensures whole { IfOk result (λ parts. length parts.0 ≡ units_in settings.now) }
     ensures none { IfOk result (λ parts. (k : ℕ) → slice_index_or parts.0 k None ≡ None) }
     ensures limits { let plan = settings.now.plan in
-        IfOk result (λ parts. parts.1.limits ≡ begun settings.now.threads plan.groups plan.tests) }
+        IfOk result (λ parts. parts.1.limits ≡ new_admissions settings.now.threads plan.groups plan.tests) }
     ensures alike { IfOk result (λ parts. parts.1.alike ≡ alike_of settings.now) }
 {
     let count = settings.plan.scripts.len() + settings.plan.tests.len();

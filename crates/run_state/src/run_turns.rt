@@ -1,11 +1,11 @@
 // The turns of the run that open no round and close none: where a sub-run begins and ends, ticks, and causes.
 ghost use Rattle.std.specs.Prelude.{ℕ, ◌≡◌, ◌≤◌, IfOk, None, OnOk, OnErr, true, false, length, slice_index_or};
-ghost use Rattle.run_admission.specs.InUse.{begun as limits_begun};
+ghost use Rattle.run_admission.specs.InUse.{new_admissions as limits_begun};
 ghost use Rattle.run_dispatch.specs.Stress.{CanCount};
 ghost use Rattle.run_model.specs.Admission.{AreFew, limits_of};
 ghost use Rattle.run_model.specs.Board.{deed_events, moved};
 ghost use Rattle.run_model.specs.Cancel.{time_is_up, event_refused};
-ghost use Rattle.run_model.specs.Turns.{begun, cancelled, ended, ticks};
+ghost use Rattle.run_model.specs.Turns.{begin_deed, cancelled, end_deed, ticks};
 ghost use Rattle.run_state.specs.Done.{Done};
 ghost use Rattle.run_state.specs.Held.{KeepsSeats};
 ghost use Rattle.run_state.specs.Placed.{HasSeats};
@@ -51,10 +51,10 @@ pub fn begin(alloc: Global, settings: &Settings, state: &mut State) -> Mem<Effec
     requires later { state.old.board.dispatcher.latest ≤ state.old.board.clock }
     requires seated { KeepsSeats settings.now state.old }
     requires few { AreFew settings.now }
-    ensures after { OnOk result (state.new.board ≡ moved state.old.board (begun state.old.board)) }
+    ensures after { OnOk result (state.new.board ≡ moved state.old.board (begin_deed state.old.board)) }
     ensures seated { OnOk result (KeepsSeats settings.now state.new) }
-    ensures told { IfOk result (λ effects. effects.events ≡ deed_events (begun state.old.board)) }
-    ensures asked { IfOk result (λ effects. effects.asked ≡ (begun state.old.board).asked) }
+    ensures told { IfOk result (λ effects. effects.events ≡ deed_events (begin_deed state.old.board)) }
+    ensures asked { IfOk result (λ effects. effects.asked ≡ (begin_deed state.old.board).asked) }
 {
     renew(alloc, settings, &mut state.units, &mut state.kept.limits)?;
     state.holders = 0;
@@ -114,7 +114,7 @@ pub fn end(alloc: Global, state: &mut State) -> Mem<Effects>
     requires on { state.old.board.dispatcher.on ≡ true }
     requires count { CanCount state.old.board.dispatcher.sub_runs }
     requires later { state.old.board.dispatcher.latest ≤ state.old.board.clock }
-    ensures { IfOk result (Done state.old (ended state.old.board) state.new) }
+    ensures { IfOk result (Done state.old (end_deed state.old.board) state.new) }
 {
     let now = state.clock;
     let effects = state.dispatcher.end(alloc, now)?;

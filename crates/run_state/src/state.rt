@@ -154,6 +154,13 @@ impl State {
         self.dispatcher.is_over()
     }
 
+    /// The run's clock, in nanoseconds.
+    pub fn now(&self) -> u64
+        ensures { result ≡ self.now.board.clock }
+    {
+        self.clock
+    }
+
     /// The statistics of the newest sub-run so far.
     pub fn stats(&self) -> RunStats
         ensures { result ≡ self.now.board.dispatcher.tally.stats }

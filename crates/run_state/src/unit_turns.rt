@@ -8,7 +8,7 @@ ghost use Rattle.run_model.specs.Board.{unit_in, moved, units_after};
 ghost use Rattle.run_events.specs.declared.request.Request.TheVariants.{GetInfo};
 ghost use Rattle.run_model.specs.Info.{round_of};
 ghost use Rattle.run_model.specs.Rounds.{answer_of};
-ghost use Rattle.run_model.specs.Turns.{taken_by};
+ghost use Rattle.run_model.specs.Turns.{taken_deed};
 ghost use Rattle.run_laws.specs.Ready.{CanTakeTurn};
 ghost use Rattle.run_state.specs.Held.{KeepsSeats, given_back};
 ghost use Rattle.run_state.specs.Placed.{FitsUnits};
@@ -163,10 +163,10 @@ pub fn take_turn(
     requires can { CanTakeTurn state.old.board unit turn }
     requires seated { KeepsSeats settings.now state.old }
     ensures after { OnOk result (state.new.board ≡ moved state.old.board
-        (taken_by state.old.board.clock unit turn (unit_in state.old.board unit))) }
+        (taken_deed state.old.board.clock unit turn (unit_in state.old.board unit))) }
     ensures seated { OnOk result (KeepsSeats settings.now state.new) }
     ensures asked { IfOk result (λ asked. asked
-        ≡ (taken_by state.old.board.clock unit turn (unit_in state.old.board unit)).asked) }
+        ≡ (taken_deed state.old.board.clock unit turn (unit_in state.old.board unit)).asked) }
 {
     let Ok(()) = make_room(&mut state.queue, &mut state.answers) else {
         drop(turn);

@@ -9,10 +9,12 @@ use Rattle.run_model.specs.Info.{rounds_in, answers_to}
 
 -- the answers to the queries of a line are those to its parts
 answers_append : (line rest : List Request) (answer : Option InfoResponse)
-    → answers_to (rounds_in (line ++ rest)) answer ≡ answers_to (rounds_in line) answer ++ answers_to (rounds_in rest) answer
+    → answers_to (rounds_in (line ++ rest)) answer ≡ answers_to (rounds_in line) answer ++ answers_to (rounds_in
+    rest) answer
 answers_append line rest None = refl
 answers_append [] rest (Some answer) = refl
-answers_append (GetInfo round ∷ line) rest (Some answer) = ap (◌∷◌ (round, answer)) (answers_append line rest (Some answer))
+answers_append (GetInfo round ∷ line) rest (Some answer) = ap (◌∷◌ (round, answer)) (answers_append line rest (Some
+    answer))
 answers_append (request ∷ line) rest (Some answer) = answers_append line rest (Some answer)
 
 -- with one more request they are those so far, and then the answer to that one

@@ -105,8 +105,11 @@ settled_current : (now : ℕ) (exit : Option ChildExit) (c : Captured) (u : Unit
     → IsCurrent (settled now exit c u)
 settled_current now exit c u le h =
     elim (u.terms.skips_leak_detection || is_done c) as
-    (λ b. IsCurrent (if b then exited now exit false c u else leaking now exit c u))
-    [ true ↦ exited_current now exit false c u le h | false ↦ leaks_timely u.timers now u.terms.leak.period u.latest le h ]
+    (λ b. IsCurrent (if b then exited now exit false c u else leaking now exit c u)) [
+      | true ↦ exited_current now exit false c u le h
+      | false ↦ leaks_timely u.timers now u.terms.leak.period u.latest
+          le h
+    ]
 
 -- a unit stays current where it hears a turn of a stream after its child ended
 heard_current : (now : ℕ) (c : Captured) (u : UnitView) → now ≤ u.latest → IsCurrent u → IsCurrent (heard_with now c u)

@@ -73,7 +73,8 @@ pub fn hear_after(alloc: Global, view: &mut UnitView, turn: UnitTurn, now: u64) 
     requires early { view.old.timers.stopwatch.latest ≤ now }
     requires heard { hears view.old.capture turn ≡ true }
     requires going { is_last view.old.phase ≡ false }
-    ensures row { IfOk result (IsRow (quiet_row (heard_with now (having_heard view.old.capture turn) view.old)) view.new) }
+    ensures row { IfOk result
+        (IsRow (quiet_row (heard_with now (having_heard view.old.capture turn) view.old)) view.new) }
     ensures err { OnErr result (view.new ≡ view.old) }
 {
     let attempts = make_room(alloc, &mut view.statuses)?;

@@ -130,7 +130,8 @@ fn take_and_heed(alloc: Global, view: &mut UnitView, now: u64) -> UnitEffects
     requires waits { has_request view.old.line ≡ true }
     requires going { is_last view.old.phase ≡ false }
     requires timely { IsTimely view.old.timers now }
-    requires plain { (request : Request) → oldest view.old.line ≡ Some request → is_told view.old.phase request ≡ false }
+    requires plain { (request : Request) → oldest view.old.line ≡ Some request
+        → is_told view.old.phase request ≡ false }
     ensures { IsRow (take_row now view.old.phase view.old.line view.old) view.new result }
 {
     let request = take_oldest(alloc, &mut view.line);

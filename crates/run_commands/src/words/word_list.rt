@@ -1,7 +1,7 @@
 // The words that were read so far.
 ghost use Rattle.std.specs.Prelude.{◌≡◌, ◌++◌, [], ◌∷◌, OnOk, Some, None, option_map, string_bytes, encode_utf8};
 ghost use Rattle.std.specs.Option.{is_none, option_to_list};
-ghost use Rattle.run_commands.specs.Gathered.{begun};
+ghost use Rattle.run_commands.specs.Gathered.{word_so_far};
 
 use run_capture::{List, Mem, Text};
 use std::alloc::Global;
@@ -42,7 +42,7 @@ impl WordList {
 
     /// Begins a word, where none is open.
     pub fn begin(&mut self, alloc: Global)
-        ensures { self.new ≡ record self.old { open_word = Some (begun self.old.open_word) } }
+        ensures { self.new ≡ record self.old { open_word = Some (word_so_far self.old.open_word) } }
     {
         if self.word.is_none() {
             self.word = Some(String::new(alloc));
@@ -52,7 +52,7 @@ impl WordList {
     /// Adds a character to the word that is open; begins one where none is.
     pub fn push(&mut self, alloc: Global, c: char) -> Mem<()>
         ensures { OnOk result (self.new ≡
-            record self.old { open_word = Some (begun self.old.open_word ++ encode_utf8 c) }) }
+            record self.old { open_word = Some (word_so_far self.old.open_word ++ encode_utf8 c) }) }
     {
         self.begin(alloc);
         push_char(&mut self.word, c)

@@ -6,7 +6,7 @@ ghost use Rattle.run_model.specs.Board.{board, unit_in};
 ghost use Rattle.run_model.specs.Dispatch.{is_halted};
 ghost use Rattle.run_model.specs.Journal.{outcome};
 ghost use Rattle.run_model.specs.Turns.{enabled};
-ghost use Rattle.run_model.specs.Words.{is_over, sub_run, stats, running};
+ghost use Rattle.run_model.specs.Words.{clock, is_over, sub_run, stats, running};
 ghost use Rattle.run_state.specs.Due.{is_any_due};
 ghost use Rattle.run_engine.specs.Standing.{IsRunnable};
 ghost use Rattle.run_engine.specs.World.{history_of};
@@ -54,6 +54,17 @@ impl Run {
             return false;
         }
         is_enabled(self.settings.get(), &self.state, turn)
+    }
+
+    /// The moment of the run's clock, in nanoseconds: what its turns of the clock come to; none of a broken run. A turn
+    /// of the clock takes a step from here, and `next_due` answers a moment.
+    pub fn now(&self) -> Option<u64>
+        ensures { result ≡ (if self.now.broken then None else Some (clock (history_of self.now))) }
+    {
+        if self.broken {
+            return None;
+        }
+        Some(self.state.now())
     }
 
     /// The least moment of the run's clock, in nanoseconds, at which a timer is due: with the clock there the turn of

@@ -6,6 +6,7 @@ use Rattle.std.specs.Prelude.{⊤, pos}
 use Rattle.std.specs.Cmp.{first_so}
 use Rattle.std.proofs.lemmas.List.Quantifiers.{position-Some}
 use Rattle.std.proofs.lemmas.Slice.Zip.{length-zip, get_or-zip}
+use Rattle.run_admission.specs.Kept.{nobody}
 use Rattle.run_admission.specs.declared.seat.Claim.{Claim}
 use Rattle.run_admission.specs.declared.seat.Seat.TheVariants.{Gone}
 use Rattle.run_admission.specs.declared.seat.Admitted.{Admitted}
@@ -32,9 +33,6 @@ abbrev pub HasFreeSlots : Admissions → Admitted → Type 0
 HasFreeSlots a (Skip test) = ⊤
 HasFreeSlots a (Run test global slot) =
     (global ≡ free_slot a) × (slot ≡ option_and_then (free_group_slot a) (slice_get a.claims test))
-
-abbrev nobody : Test
-nobody = (record { matched = false; weight = 0; priority = pos 0; group = None }, Gone)
 
 -- the first test that may come next waits
 came : (a : Admissions) (k : ℕ) → position (comes_next a) (tests a) ≡ Some k

@@ -71,7 +71,7 @@ at_part now (Some (Acts j turn)) us k h = by_part (j == k) refl
         ∙ ap (λ j. option_map (λ v. (row now turn v).next) (get_or us j None)) (sym here))
     by_part false e = let apart : k ≢ j = grind arith in rw e (get_or-set_other us j k _ None apart)
 
-length-units_after : (now : ℕ) (part : Option UnitPart) (us : List (Option UnitView))
+pub length-units_after : (now : ℕ) (part : Option UnitPart) (us : List (Option UnitView))
     → length (units_after now part us) ≡ length us
 length-units_after now None us = refl
 length-units_after now (Some (Joins first)) us = length-set us (number first) (Some first)

@@ -44,11 +44,6 @@ use Rattle.run_events.specs.declared.stress.StressIndex.{StressIndex}
 use Rattle.run_model.specs.Admission.{index_of_role}
 use Rattle.run_laws.proofs.board.OnBoard.{index_in}
 
--- what an answer says
-abbrev pub go_in : UnitTurn → Bool
-go_in (Answered go) = go
-go_in _ = false
-
 -- a unit that takes a turn was admitted and takes it, and is let go where no cause stands
 pub record IsTaken (now : ℕ) (run : List Happening) (k : ℕ) (turn : UnitTurn) : Type 0 where
   pub unit : UnitView

@@ -34,6 +34,7 @@ use Rattle.run_model.specs.Backoff.{retry_count}
 use Rattle.run_model.specs.Unit.{takes, takes_at}
 use Rattle.run_laws.proofs.told.Running.{is_finish, runs-account, tried-unfinished, failing-unfinished}
 use Rattle.run_laws.proofs.board.Holds.{Holds, IsOfKind, Way, IsWaiting, IsOnWayIn, IsOnWayAt}
+use Rattle.run_laws.proofs.units.AccountRows.{same_number}
 
 -- a unit that takes a turn wasn't stopped
 pub unstopped : (mm : Bool) (now : ℕ) (u : UnitView) (turn : UnitTurn) (w : Way) → takes now u turn ≡ true
@@ -79,9 +80,6 @@ pub record Waits (p : Settings) (now : ℕ) (run : List Happening) (k : ℕ) : T
   pub below : k < units_in p
   pub untold : account_of k (told run) ≡ []
 
-pub itself : (k : ℕ) → (k == k) ≡ true
-itself k = grind arith
-
 pub start_in : (mm left : Bool) (ph : Phase) (ss : List ExecuteStatus) (t q : List News)
     → HasAccountAt mm left ph ss t (started ∷ q) → (ph ≡ StartSent) × (t ≡ []) × (q ≡ [])
 start_in false left StartSent ss t q (none, (told, waits)) = (refl, told, cc)
@@ -115,10 +113,10 @@ start_of_unit mm left k m (Some u) t rest starts h =
 
 -- what a start, and a finish, tell of their own unit
 pub start_own : (start : TestStart) → pending_in start.test.unit (Start start) ≡ Some started
-start_own start = rw (itself start.test.unit) refl
+start_own start = rw (same_number start.test.unit) refl
 
 pub script_own : (start : ScriptStart) → pending_in start.script.unit (ScriptStarts start) ≡ Some started
-script_own start = rw (itself start.script.unit) refl
+script_own start = rw (same_number start.script.unit) refl
 
 pub start_waits : (p : Settings) (now : ℕ) (run : List Happening) (k : ℕ) (m : Message) (rest : List Message)
     → Holds p now run → queue run ≡ m ∷ rest → pending_in k m ≡ Some started → Waits p now run k
@@ -169,12 +167,12 @@ retry_in true left ph ss n t q h = absurd h
 retry_of_unit : (mm left : Bool) (retry : TestRetry) (v : Option UnitView) (t : List News) (rest : List Message)
     → HasAccount mm left v t (pending_of retry.start.test.unit (Retry retry ∷ rest))
     → (u : UnitView) × (v ≡ Some u) × ((u.phase ≡ RetrySent) × (mm ≡ false) × IsBegun t)
-retry_of_unit mm left retry None t rest h = let never = (rw (itself retry.start.test.unit) at h).1 in cc
+retry_of_unit mm left retry None t rest h = let never = (rw (same_number retry.start.test.unit) at h).1 in cc
 retry_of_unit mm left retry (Some u) t rest h = (
   u,
   refl,
   retry_in mm left u.phase u.statuses retry.attempt t (pending_of retry.start.test.unit rest)
-      (rw (itself retry.start.test.unit) at h),
+      (rw (same_number retry.start.test.unit) at h),
 )
 
 pub retry_waits : (p : Settings) (now : ℕ) (run : List Happening) (retry : TestRetry)
@@ -237,11 +235,11 @@ finish_of_unit mm left k m fs (Some u) t rest ends h =
     (u, refl, finish_in mm left u.phase u.statuses fs t (pending_of k rest) (rw ends at h))
 
 pub finish_own : (finish : TestFinish) → pending_in finish.test.unit (Finish finish) ≡ Some (finished finish.statuses)
-finish_own finish = rw (itself finish.test.unit) refl
+finish_own finish = rw (same_number finish.test.unit) refl
 
 pub script_finish_own : (finish : ScriptFinish)
     → pending_in finish.script.unit (ScriptFinishes finish) ≡ Some (finished (attempt_of finish.status ∷ []))
-script_finish_own finish = rw (itself finish.script.unit) refl
+script_finish_own finish = rw (same_number finish.script.unit) refl
 
 pub finish_follows : (p : Settings) (now : ℕ) (run : List Happening) (k : ℕ) (m : Message)
     (fs : List ExecuteStatus) (rest : List Message)

@@ -83,7 +83,7 @@ seats_set f g n j s inside here others =
         ∙ get_or-map-range_with_len f 0 n k k Gone h (omega arith) ∙ sym (others k apart)
 
 -- a slot within a group is kept beside the group's name, where none is given to a test with no group
-group_slot_is : (slot : Option ℕ) (name : Option (List ℕ)) → (name ≡ None → slot ≡ None)
+pub group_slot_is : (slot : Option ℕ) (name : Option (List ℕ)) → (name ≡ None → slot ≡ None)
     → option_map (λ g. g.slot) (group_slot slot name) ≡ slot
 group_slot_is None name h = refl
 group_slot_is (Some n) None h = sym (h refl)

@@ -56,7 +56,7 @@ kept_now p run o =
     (o.before (length (told run)))
 
 -- where no cause stands after one more, none stood before
-calm_before : (why cause : Option CancelReason) → greater why cause ≡ None → why ≡ None
+pub calm_before : (why cause : Option CancelReason) → greater why cause ≡ None → why ≡ None
 calm_before None cause e = refl
 calm_before (Some r) None e = cc
 calm_before (Some r) (Some s) e = by_rank (nat_lt (rank r) (rank s)) e

@@ -45,7 +45,7 @@ all_at f (x ∷ xs) zero d h l = first_so (f x) (list_all f xs) h
 all_at f (x ∷ xs) (suc k) d h l = all_at f xs k d (second_so (f x) (list_all f xs) h) (omega arith)
 
 -- either of two
-either_false : (a b : Bool) → (a || b) ≡ false → (a ≡ false) × (b ≡ false)
+pub either_false : (a b : Bool) → (a || b) ≡ false → (a ≡ false) × (b ≡ false)
 either_false true b e = cc
 either_false false b e = (refl, e)
 

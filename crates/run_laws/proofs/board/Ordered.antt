@@ -38,6 +38,7 @@ use Rattle.run_laws.proofs.board.Queue.{queue-cons}
 use Rattle.run_laws.proofs.board.OnBoard.{Frame}
 use Rattle.run_events.specs.declared.events.TestEventKind.TheVariants.{StressSubRunStarted}
 use Rattle.run_events.specs.declared.events.TestEventKind.TheVariants.{RunFinished}
+use Rattle.run_laws.proofs.board.Facts.{script_below}
 
 -- each script is over where all on the board are
 pub board_over : (p : Settings) (run : List Happening) → scripts_over p (units p run) ≡ true → AreScriptsOver p run
@@ -93,9 +94,6 @@ scripts_kept p now run e d over fits k within =
     (ap is_done (over_kept p run now k d.part (over k within) fits) ∙ over k within)
 
 -- so it sends nothing once each is over
-pub number_below : (p : Settings) (k : ℕ) → is_script p k ≡ true → k < scripts_in p
-number_below p k is = grind (arith, nat_tests)
-
 sends_none : (p : Settings) (f : Frame) (now : ℕ) (run : List Happening) (part : Option UnitPart) (m : Message)
     → Holds p now run → AreScriptsOver p run → PartFits p now run part → IsSentFor run part (Some m)
     → is_of_script m ≡ true → ⊥
@@ -103,11 +101,11 @@ sends_none p f now run None m h all fits from script = from
 sends_none p f now run (Some (Joins first)) m h all (sent, new) from script =
     let is : is_script p (number first) ≡ true = sym new.role ∙ sym from ∙ script in
     let never : false ≡ true = sym (ap is_done new.unknown) ∙ all (number first)
-    (number_below p (number first) is) in cc
+    (script_below p (number first) is) in cc
 sends_none p f now run (Some (Acts j turn)) m h all taken from script =
     let own : IsSentBy (Some taken.unit) m = subst (λ v. IsSentBy v m) taken.is from in
     let is : is_script p j ≡ true = sym (h.named j taken.unit taken.is).3 ∙ sym own ∙ script in
-    still_on now turn taken.unit taken.takes (sym (ap is_done taken.is) ∙ all j (number_below p j is))
+    still_on now turn taken.unit taken.takes (sym (ap is_done taken.is) ∙ all j (script_below p j is))
 
 -- and a test sends once each is
 test_sends : (p : Settings) (f : Frame) (now : ℕ) (run : List Happening) (part : Option UnitPart) (m : Message)
@@ -121,7 +119,7 @@ test_sends p f now run (Some (Acts j turn)) m h taken from test =
     h.admitted j (sym (h.named j taken.unit taken.is).3 ∙ sym own ∙ test) (ap is_some taken.is)
 
 -- a test is admitted once each is over
-some_reach : (request : Option Request) (v : Option UnitView) → is_some (reach request v) ≡ true → is_some v ≡ true
+pub some_reach : (request : Option Request) (v : Option UnitView) → is_some (reach request v) ≡ true → is_some v ≡ true
 some_reach None v e = e
 some_reach (Some request) None e = e
 some_reach (Some request) (Some u) e = refl

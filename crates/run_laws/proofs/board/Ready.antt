@@ -47,7 +47,7 @@ use Rattle.run_laws.proofs.board.Holds.{Holds}
 use Rattle.run_model.specs.SubRuns.{is_failed, summary_of}
 use Rattle.run_model.specs.Words.{ended_runs}
 use Rattle.run_laws.proofs.told.FewEnded.{few-ended}
-use Rattle.run_laws.specs.Ready.{HasRound, HasSubRun, moved_by, IsTimelyBoard, CanTakeTurn, CanDeliverOldest}
+use Rattle.run_laws.specs.Ready.{HasRound, HasSubRun, IsTimelyBoard, CanTakeTurn, CanDeliverOldest}
 use Rattle.run_laws.specs.Ready.{CanAdvance}
 use Rattle.run_laws.proofs.board.ByTurn.{by_turn}
 use Rattle.run_laws.proofs.board.OnBoard.{event_in, board_of, board_with, units-length, unit_in-is}
@@ -297,7 +297,7 @@ ready p f refused now run turn h few short counts en =
     whole = en
 
 -- a history is as long as its journal, and its newest sub-run is no longer
-history-length : (p : Settings) (backward : List Entry) → length (history p backward) ≡ length backward
+pub history-length : (p : Settings) (backward : List Entry) → length (history p backward) ≡ length backward
 history-length p [] = refl
 history-length p (e ∷ before) = ap (λ n. suc n) (history-length p before)
 
@@ -343,9 +343,5 @@ ready_after p journal turn legal few short en =
     past = past_of p journal
 
 -- the clock moves by its turns
-moved-is : (turn : Turn) → ns_of turn ≡ moved_by turn
-moved-is (Clock ns) = refl
-moved-is turn = refl
-
-pub clock_moves : (past : List Happening) (x : Happening) → clock (x ∷ past) ≡ clock past + moved_by x.turn
-clock_moves past x = ap (λ n. clock past + n) (moved-is x.turn)
+pub clock_moves : (past : List Happening) (x : Happening) → clock (x ∷ past) ≡ clock past + ns_of x.turn
+clock_moves past x = refl

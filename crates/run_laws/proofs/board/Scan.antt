@@ -4,6 +4,7 @@ use Rattle.std.proofs.Common.{ap, ◌∙◌, zero-add, arith}
 use Rattle.std.specs.List.{range_with_len, position_or_len}
 use Rattle.std.proofs.lemmas.List.FromFn.{get_or-range_with_len, length-range_with_len}
 use Rattle.std.proofs.lemmas.List.Sums.{position_or_len_is}
+use Rattle.run_admission.proofs.ListLemmas.{not_below}
 
 -- the first of the numbers below n that passes, or n
 pub first_is : (p : ℕ → Bool) (n i : ℕ) → i ≤ n → ((k : ℕ) → k < i → p k ≡ false) → (i < n → p i ≡ true)
@@ -23,9 +24,6 @@ found_first p n i inside below here =
     let at : position_or_len p (range_with_len 0 n) ≡ i = first_is p n i (omega arith) below (λ h. here) in
     let lt : nat_lt i (length (range_with_len 0 n)) ≡ true = ap (nat_lt i) (length-range_with_len 0 n) ∙ grind arith in
     ap (λ m. cond (nat_lt m (length (range_with_len 0 n))) (Some m) None) at ∙ ap (λ b. cond b (Some i) None) lt
-
-not_below : (n : ℕ) → nat_lt n n ≡ false
-not_below n = grind arith
 
 -- none of them passes
 pub found_none : (p : ℕ → Bool) (n : ℕ) → ((k : ℕ) → k < n → p k ≡ false) → position p (range_with_len 0 n) ≡ None

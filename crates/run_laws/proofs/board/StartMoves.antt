@@ -34,7 +34,7 @@ use Rattle.run_model.specs.Admission.{Newcomer, newcomer}
 use Rattle.run_laws.proofs.board.OnBoard.{moment_in, event_in}
 use Rattle.run_model.specs.Dispatch.{Moment, event, with_start, started_event, retried_event}
 use Rattle.run_model.specs.Board.{Deed}
-use Rattle.run_model.specs.Turns.{unit_takes, taken_by, admission}
+use Rattle.run_model.specs.Turns.{unit_takes, taken_deed, admission}
 use Rattle.run_laws.specs.Limits.{slots_told, seat_in, seat_told}
 use Rattle.run_laws.proofs.board.Holds.{Holds}
 use Rattle.run_laws.proofs.told.Running.{is_start, starts-account}
@@ -94,7 +94,7 @@ admits p now index run (Some new) e = record {
 -- what a unit's own turn does to the seats
 pub unit_moves : (p : Settings) (f : Frame) (now : ℕ) (run : List Happening) (j : ℕ) (turn : UnitTurn)
     (v : Option UnitView) → Holds p now run → unit_of j run ≡ v → unit_takes now v turn ≡ true
-    → is_answer turn ≡ false → MovesSeats p now run (taken_by now j turn v)
+    → is_answer turn ≡ false → MovesSeats p now run (taken_deed now j turn v)
 unit_moves p f now run j turn None h e en other = cc
 unit_moves p f now run j turn (Some u) h e en other = record {
   tells = tells_nothing run;
@@ -169,7 +169,7 @@ goes_on (Some r) some none = none
 pub start_moves : (p : Settings) (f : Frame) (now : ℕ) (run : List Happening) (start : TestStart) (rest : List Message)
     (go : Bool) (w : Option UnitView) → Holds p now run → queue run ≡ Start start ∷ rest
     → go ≡ is_none (reason run) → unit_of start.test.unit run ≡ w
-    → MovesSeats p now run (record (taken_by now start.test.unit (Answered go) w) {
+    → MovesSeats p now run (record (taken_deed now start.test.unit (Answered go) w) {
       taken = true;
       told = option_map (event_in now f) (if go then Some (started_event start (with_start (tally p run))) else None);
     })
@@ -264,7 +264,7 @@ pub script_moves : (p : Settings) (f : Frame) (now : ℕ) (run : List Happening)
     (rest : List Message)
     (go : Bool) (w : Option UnitView) → Holds p now run → queue run ≡ ScriptStarts start ∷ rest
     → go ≡ is_none (reason run) → unit_of start.script.unit run ≡ w
-    → MovesSeats p now run (record (taken_by now start.script.unit (Answered go) w) {
+    → MovesSeats p now run (record (taken_deed now start.script.unit (Answered go) w) {
       taken = true;
       told = option_map (event_in now f) (if go then Some (SetupScriptStarted start) else None);
     })
@@ -307,7 +307,7 @@ retry_told run f now retry t false k = seat_told-nothing k (told run)
 pub retry_moves : (p : Settings) (f : Frame) (now : ℕ) (run : List Happening) (retry : TestRetry) (rest : List Message)
     (go : Bool) (w : Option UnitView) → Holds p now run → queue run ≡ Retry retry ∷ rest
     → go ≡ is_none (reason run) → unit_of retry.start.test.unit run ≡ w
-    → MovesSeats p now run (record (taken_by now retry.start.test.unit (Answered go) w) {
+    → MovesSeats p now run (record (taken_deed now retry.start.test.unit (Answered go) w) {
       taken = true;
       told = option_map (event_in now f) (if go then Some (retried_event retry (tally p run)) else None);
     })
@@ -329,8 +329,8 @@ retry_moves p f now run retry rest go w h eq goes ew = record {
 
     by_go : (go : Bool) (w : Option UnitView) → unit_of unit run ≡ w → go ≡ true
         → {seat : ℕ → Seat} → AreLower seat (board_seat run)
-        → AreLower (at_last seat (option_to_list (taken_by now unit (Answered go) w).sent))
-        (seat_after now (taken_by now unit (Answered go) w).part run)
+        → AreLower (at_last seat (option_to_list (taken_deed now unit (Answered go) w).sent))
+        (seat_after now (taken_deed now unit (Answered go) w).part run)
     by_go false w ew lets below = cc
     by_go true None ew lets below = below
     by_go true (Some u) ew lets below =

@@ -21,13 +21,14 @@ use Rattle.run_model.specs.declared.unit_view.UnitView.{UnitView}
 use Rattle.run_model.specs.Environment.{number}
 use Rattle.run_model.specs.Unit.{at_moment, row, takes, takes_at}
 use Rattle.run_model.specs.declared.phase.Phase.TheVariants.{Over, RetrySent, StartSent}
-use Rattle.run_model.specs.Story.{story_of, line_of, lets_go, deliveries, is_at_retry, stopped_at, was_left}
+use Rattle.run_model.specs.Story.{begins_attempt, deliveries, is_at_retry, lets_go, line_of, story_of}
+use Rattle.run_model.specs.Story.{stopped_at, was_left}
 use Rattle.run_model.specs.Words.{is_on, reason, sent, delivered, queue, told, unit_of, units, unit_after, tally}
 use Rattle.run_model.specs.Admission.{is_script, units_in, unit_terms, start_message, Newcomer, newcomer}
 use Rattle.run_model.specs.Rounds.{tells_answer, is_answer as is_told_answer}
 use Rattle.run_model.specs.Dispatch.{Moment, event, having_told, retried_event}
 use Rattle.run_model.specs.Board.{Deed, deed_events}
-use Rattle.run_model.specs.Turns.{unit_takes, taken_by, admission}
+use Rattle.run_model.specs.Turns.{unit_takes, taken_deed, admission}
 use Rattle.run_model.specs.Accounts.{started, HasAccount, is_mismatched, account_of, news_in, pending_in, pending_of}
 use Rattle.run_laws.proofs.board.Holds.{HasLine, Holds, IsOnWay, IsOnWayAt, IsStill, IsWaiting, is_script_role, way_of}
 use Rattle.run_laws.proofs.units.OneOff.{tried_once, once_later}
@@ -43,9 +44,10 @@ use Rattle.run_laws.specs.Reports.{report_in, report_of_kind, reports_told, repo
 use Rattle.run_laws.proofs.told.Reported.{DoesReport, still_reports, acts_report}
 use Rattle.run_laws.proofs.board.Newcomers.{new_unit, new_index}
 use Rattle.run_laws.proofs.board.OnBoard.{Frame, event_in, index_in, moment_in}
-use Rattle.run_laws.proofs.board.Facts.{delay_number, delivered_once, itself, retry_waits, start_waits, undelivered}
+use Rattle.run_laws.proofs.board.Facts.{delay_number, delivered_once, retry_waits, start_waits, undelivered}
+use Rattle.run_laws.proofs.units.AccountRows.{same_number}
 use Rattle.run_laws.proofs.board.Facts.{unleft, unstopped}
-use Rattle.run_laws.proofs.board.DeedFits.{go_in, ToldFitsIn, ToldFits, Marks, left_with, IsSentFor, IsInOrder, Does}
+use Rattle.run_laws.proofs.board.DeedFits.{ToldFitsIn, ToldFits, Marks, left_with, IsSentFor, IsInOrder, Does}
 
 -- a deed that neither cancels nor begins nor ends
 pub quiet : (p : Settings) (f : Frame) (now : ℕ) (run : List Happening) (d : Deed) → is_on run ≡ true
@@ -145,7 +147,7 @@ takes_none now u turn over en =
 pub unit_does : (p : Settings) (f : Frame) (now : ℕ) (run : List Happening) (j : ℕ) (turn : UnitTurn)
     (v : Option UnitView) → Holds p now run
     → unit_of j run ≡ v → unit_takes now v turn ≡ true → is_answer turn ≡ false
-    → Does p f now run (taken_by now j turn v)
+    → Does p f now run (taken_deed now j turn v)
 unit_does p f now run j turn None h e en other = cc
 unit_does p f now run j turn (Some u) h e en other = record {
   part = record {
@@ -168,8 +170,7 @@ unit_does p f now run j turn (Some u) h e en other = record {
       (way_of k run) en (subst (λ v. IsOnWay (is_mismatched p k) v (way_of k run)) (own k same) (h.on_way k)))
       (once_later now u (tried_once p now run j u h e)) (λ same. delay_number (is_mismatched p k) u (way_of k run)
       (subst (λ v. IsOnWay (is_mismatched p k) v (way_of k run)) (own k same) (h.on_way k))) (h.accounts k)));
-  reported = λ k. acts_reported p f now run j turn u k _ h e en refl refl refl
-      refl;
+  reported = λ k. acts_reported p f now run j turn u k _ h e en refl refl refl refl;
   source = sent_for run j turn u (row now turn u).sent e
       (row_sends_role now u.phase turn (at_moment now u) refl (takes_moment now u.phase u turn en));
   asks = sym (ap (option_and_then (λ v. (row now turn v).asked)) e);
@@ -204,15 +205,15 @@ pub start_does : (p : Settings) (f : Frame) (now : ℕ) (run : List Happening) (
     → (account_of i (told run) ≡ [] → i < units_in p → ToldFitsIn p (told run) kind)
     → (is_some (unit_of i run) ≡ true → IsInOrder p run (event_in now f kind))
     → unit_of i run ≡ w
-    → Does p f now run (record (taken_by now i (Answered go) w) {
+    → Does p f now run (record (taken_deed now i (Answered go) w) {
       taken = true;
       told = option_map (event_in now f) (if go then Some kind else None);
     })
 start_does p f now run i m kind rest go None h on goes eq pends news silent quiet_kind no_answer fits order ew =
-    let waits = start_waits p now run i m rest h eq (pends i ∙ rw (itself i) refl) in
+    let waits = start_waits p now run i m rest h eq (pends i ∙ rw (same_number i) refl) in
     let never : None ≡ Some waits.unit = sym ew ∙ waits.is in cc
 start_does p f now run i m kind rest go (Some u) h on goes eq pends news silent quiet_kind no_answer fits order ew =
-    let waits = start_waits p now run i m rest h eq (pends i ∙ rw (itself i) refl) in
+    let waits = start_waits p now run i m rest h eq (pends i ∙ rw (same_number i) refl) in
     let same : waits.unit ≡ u = cc (sym waits.is ∙ ew) in
     let at : u.phase ≡ StartSent = ap (λ (u : UnitView). u.phase) (sym same) ∙ waits.phase in
     let waiting : takes now u (Answered go) ≡ true = ap (λ ph. takes_at now ph u (Answered go)) at in
@@ -221,7 +222,7 @@ start_does p f now run i m kind rest go (Some u) h on goes eq pends news silent 
         unit = u;
         is = ew;
         takes = waiting;
-        answers = λ answer is. sym (ap go_in is) ∙ goes;
+        answers = λ answer is. sym (ap begins_attempt is) ∙ goes;
       };
       index = tt;
       room = lt-from_queue (delivered run) (sent run) rest _ eq;
@@ -291,7 +292,7 @@ start_does p f now run i m kind rest go (Some u) h on goes eq pends news silent 
     start_reports k true = rw (silent k, quiet_kind k) refl
     start_reports k false = rw (silent k) refl
 
-same_unit : (j k : ℕ) → (j == k) ≡ true → k ≡ j
+pub same_unit : (j k : ℕ) → (j == k) ≡ true → k ≡ j
 same_unit j k e = grind arith
 
 -- what the delivery of a retry does
@@ -299,7 +300,7 @@ pub retry_does : (p : Settings) (f : Frame) (now : ℕ) (run : List Happening) (
     (go : Bool) (w : Option UnitView)
     → Holds p now run → is_on run ≡ true → go ≡ is_none (reason run) → queue run ≡ Retry retry ∷ rest
     → unit_of retry.start.test.unit run ≡ w
-    → Does p f now run (record (taken_by now retry.start.test.unit (Answered go) w) {
+    → Does p f now run (record (taken_deed now retry.start.test.unit (Answered go) w) {
       taken = true;
       told = option_map (event_in now f) (if go then Some (retried_event retry (tally p run)) else None);
     })
@@ -316,7 +317,7 @@ retry_does p f now run retry rest go (Some u) h on goes eq ew =
         unit = u;
         is = ew;
         takes = waiting;
-        answers = λ answer is. sym (ap go_in is) ∙ goes;
+        answers = λ answer is. sym (ap begins_attempt is) ∙ goes;
       };
       index = tt;
       room = lt-from_queue (delivered run) (sent run) rest _ eq;

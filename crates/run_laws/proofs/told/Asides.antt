@@ -28,7 +28,8 @@ use Rattle.run_events.specs.declared.settings.Settings.{Settings}
 use Rattle.run_events.specs.declared.turn.Turn.{Turn}
 use Rattle.run_laws.proofs.board.ByTurn.{by_turn}
 use Rattle.run_laws.proofs.told.Bounds.{begin_cases, end_cases}
-use Rattle.run_model.specs.Turns.{admission, answer_to, deed_on, delivery, done_by, hears, live_in, oldest_of, starting}
+use Rattle.run_model.specs.Turns.{admission, answer_to, deed_on, delivery, done_by}
+use Rattle.run_model.specs.Turns.{message_deed, live_in, oldest_of, starting}
 use Rattle.run_model.specs.Turns.{tally_by, answered_by, asks_at, cancels_for, informs_at, job_deed, job_event}
 use Rattle.run_model.specs.Turns.{key_deed, nothing_done, signal_deed, stops_itself, tells, ticks}
 use Rattle.run_commands.specs.declared.stress_count.StressCondition.{StressCondition}
@@ -217,5 +218,5 @@ stops_alone p b turn =
         let t : Tally = tally_by b.clock b.dispatcher m in
         let never : false ≡ true = sym (by_cause (moment_by b.clock b.dispatcher.watch) t
         (cause_of b.dispatcher.rules t m)
-        (hears b.clock b.dispatcher m (answer_to b (starting m) (go_of b.dispatcher.tally m))) refl) ∙ s in
+        (message_deed b.clock b.dispatcher m (answer_to b (starting m) (go_of b.dispatcher.tally m))) refl) ∙ s in
         cc

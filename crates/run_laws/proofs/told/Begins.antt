@@ -22,11 +22,11 @@ use Rattle.run_laws.proofs.told.Bounds.{end_cases}
 use Rattle.std.proofs.Common.{subst}
 
 -- no other turn begins one
-caused_begins : (now : Moment) (t : Tally) (o : Option Cause) (d : Deed) → (caused now t o d).begins ≡ d.begins
+pub caused_begins : (now : Moment) (t : Tally) (o : Option Cause) (d : Deed) → (caused now t o d).begins ≡ d.begins
 caused_begins now t None d = refl
 caused_begins now t (Some cause) d = refl
 
-delivery_begins : (b : Board) (q : List Message) → (delivery b q).begins ≡ false
+pub delivery_begins : (b : Board) (q : List Message) → (delivery b q).begins ≡ false
 delivery_begins b [] = refl
 delivery_begins b (m ∷ rest) =
     let tells : Option ReporterEvent = event_of b m in
@@ -34,7 +34,7 @@ delivery_begins b (m ∷ rest) =
     (cause_of b.dispatcher.rules (tally_with b tells) m)
     (delivered_as b m (answer_to b (starting m) (go_of b.dispatcher.tally m)))
 
-admission_begins : (o : Option Newcomer) → (admission o).begins ≡ false
+pub admission_begins : (o : Option Newcomer) → (admission o).begins ≡ false
 admission_begins None = refl
 admission_begins (Some new) = refl
 

@@ -254,7 +254,7 @@ event_kills now Interrupt t = refl
 event_kills now SecondSignal t = refl
 
 -- a cause rises where its reason is above
-rises-is : (before : Option CancelReason) (r : CancelReason) → rises before (Some r) ≡ is_above before r
+pub rises-is : (before : Option CancelReason) (r : CancelReason) → rises before (Some r) ≡ is_above before r
 rises-is None r = refl
 rises-is (Some before) r = refl
 
@@ -284,7 +284,7 @@ tells_cause now t (Some r) = by_rank (is_above t.stats.cancel_reason r) refl
     }
 
 -- the counts after a deed's own event have the reason of those before
-reason_kept : (p : Settings) (f : Frame) (now : ℕ) (run : List Happening) (d : Deed) → Does p f now run d
+pub reason_kept : (p : Settings) (f : Frame) (now : ℕ) (run : List Happening) (d : Deed) → Does p f now run d
     → (having_told (tally p run) d.told).stats.cancel_reason ≡ reason run
 reason_kept p f now run d does =
     ap (λ (t : Tally). t.stats.cancel_reason) (sym (counts-more p (reason run) d.told (told run) does.tells))

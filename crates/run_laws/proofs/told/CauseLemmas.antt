@@ -80,7 +80,7 @@ failure_is now t (Count most mode) stats d none = by_count (nat_le most (failed_
     by_count false = none
 
 -- a cause leaves what else is told
-told_is : (now : Moment) (t : Tally) (cause : Option Cause) (d : Deed) → (caused now t cause d).told ≡ d.told
+pub told_is : (now : Moment) (t : Tally) (cause : Option Cause) (d : Deed) → (caused now t cause d).told ≡ d.told
 told_is now t None d = refl
 told_is now t (Some cause) d = refl
 

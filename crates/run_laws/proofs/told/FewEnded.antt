@@ -19,16 +19,13 @@ use Rattle.run_model.specs.Words.{clock, ended_runs, is_over, sub_run}
 use Rattle.run_model.specs.Journal.{history, IsLegalBackward}
 use Rattle.run_laws.proofs.board.OnBoard.{board_of, frame_of}
 use Rattle.run_laws.proofs.board.Kept.{HoldsAfter, does_after, IsOfRun, IsBeforeRuns, where_joins, holds}
+use Rattle.run_laws.proofs.board.Order.{either_false}
 
 last_of_four : (a b c d : Bool) → (a || b || c || d) ≡ false → d ≡ false
 last_of_four true b c d h = cc
 last_of_four false true c d h = cc
 last_of_four false false true d h = cc
 last_of_four false false false d h = h
-
-both_false : (a b : Bool) → (a || b) ≡ false → (a ≡ false) × (b ≡ false)
-both_false true b h = cc
-both_false false b h = (refl, h)
 
 -- a sub-run that ends as the last that a u32 counts ends the run
 greatest_ends : (now : ℕ) (d : DispatcherView) (stress : Option StressCondition)
@@ -65,7 +62,7 @@ pub few-ended : (p : Settings) (backward : List Entry) → IsLegalBackward p bac
 few-ended p [] legal going = omega arith
 few-ended p (e ∷ before) legal going =
     by_end (happening p past e).ends refl
-    (few-ended p before legal.2 (both_false (happening p past e).over (is_over past) going).1)
+    (few-ended p before legal.2 (either_false (happening p past e).over (is_over past) going).1)
   where
     past : List Happening
     past = history p before
@@ -77,5 +74,5 @@ few-ended p (e ∷ before) legal going =
         let rest = ended_runs past in
         let more : length rest + 1 + 1 < 2 ^ 32 = one_more (length rest) few
         (ends_few p past e (holds p before legal.2) legal.0 ends
-        (both_false (happening p past e).over (is_over past) going).0) in
+        (either_false (happening p past e).over (is_over past) going).0) in
         omega arith

@@ -48,7 +48,7 @@ use Rattle.run_laws.proofs.told.Cancels.{IsAfter, IsAfterKind, cancel_is}
 use Rattle.run_laws.proofs.board.OnBoard.{moment_in}
 use Rattle.run_laws.proofs.board.DeedFits.{PartFits, IsInOrder, IsSentAs, Does}
 use Rattle.run_laws.proofs.units.FaceLemmas.{said_in, said_of}
-use Rattle.run_laws.proofs.board.Facts.{itself}
+use Rattle.run_laws.proofs.units.AccountRows.{same_number}
 use Rattle.run_laws.proofs.board.Holds.{Holds}
 use Rattle.run_laws.proofs.board.Kept.{HoldsAfter, does_after, IsOfRun, IsBeforeRuns, where_joins, holds}
 use Rattle.run_laws.proofs.board.Ordered.{done_reach, over_kept}
@@ -207,7 +207,7 @@ sent_over p f now run e d h fits from = by_part d.part d.sent refl fits from
                     ≡ Some (row now turn u).next
                 after = ap (λ k. unit_after now k d.part (unit_of k run)) here
                     ∙ ap (λ part. unit_after now j part (unit_of j run)) is
-                    ∙ own_after (j == j) (itself j)
+                    ∙ own_after (j == j) (same_number j)
                   where
                     own_after : (b : Bool) → b ≡ true
                         → (if b then option_map (λ v. (row now turn v).next) (unit_of j run) else unit_of j run)

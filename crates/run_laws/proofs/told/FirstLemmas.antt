@@ -50,7 +50,7 @@ use Rattle.run_laws.proofs.board.DeedFits.{cancel_told}
 use Rattle.run_laws.proofs.board.Kept.{from_base}
 
 -- a place in events with one more is the new one, or one among them
-split_last : (es before after : List ReporterEvent) (x e : ReporterEvent) → es ++ x ∷ [] ≡ before ++ e ∷ after
+pub split_last : (es before after : List ReporterEvent) (x e : ReporterEvent) → es ++ x ∷ [] ≡ before ++ e ∷ after
     → ((before ≡ es) × (e ≡ x)) ⊎ ((rest : List ReporterEvent) × (es ≡ before ++ e ∷ rest))
 split_last [] [] after x e is = inl (refl, cc)
 split_last (y ∷ es) [] after x e is = inr (es, cc)
@@ -144,7 +144,7 @@ none_pends p k (m ∷ ms) script kinds none =
     later false b e = e
 
 -- one that is over, of which nothing waits and that wasn't left, was told finished where it was told started
-over_finished : (ph : Phase) (ss : List ExecuteStatus) (t : List News) → is_last ph ≡ true
+pub over_finished : (ph : Phase) (ss : List ExecuteStatus) (t : List News) → is_last ph ≡ true
     → HasAccountAt false false ph ss t [] → list_any is_start t ≡ true → list_any is_finish t ≡ true
 over_finished Over [] t last (told, waits) some = let never : false ≡ true =
     sym (ap (list_any is_start) told) ∙ some in cc
@@ -159,7 +159,7 @@ over_finished Over (x ∷ ss) t last (early, (s, (e, inr (told, waits)))) some =
 over_finished ph ss t last h some = cc
 
 -- a script isn't left
-not_left : (ph : Phase) (attempt : ℕ) (ss : List ExecuteStatus) (w : Way) → is_last ph ≡ true
+pub not_left : (ph : Phase) (attempt : ℕ) (ss : List ExecuteStatus) (w : Way) → is_last ph ≡ true
     → IsOnWayIn 0 ph attempt ss w → is_at_retry w.stopped ≡ false
 not_left Over attempt [] w last h = ap is_at_retry h
 not_left Over attempt (s ∷ ss) w last (at, way) = by_stop w.stopped way

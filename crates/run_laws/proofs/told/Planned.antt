@@ -39,7 +39,7 @@ use Rattle.run_laws.proofs.board.OnBoard.{moment_in}
 use Rattle.run_laws.proofs.board.DeedFits.{asked_by, PartFits, IsInOrder, IsSentAs, Does, cancel_told}
 use Rattle.run_laws.proofs.units.FaceLemmas.{face, face_reach, face_row, message_face, starts_in, is_start}
 use Rattle.run_laws.proofs.units.FaceLemmas.{SendsNoStart, row_sends_none, said_in, said_of, handed-to, given-same}
-use Rattle.run_laws.proofs.board.Facts.{itself}
+use Rattle.run_laws.proofs.units.AccountRows.{same_number}
 use Rattle.run_laws.proofs.board.Holds.{Holds}
 use Rattle.run_laws.proofs.board.Newcomers.{IsPlanned}
 use Rattle.run_laws.proofs.board.Order.{AreScriptsOver}
@@ -207,7 +207,7 @@ sent_after p f now run e d fits from = by_sent d.part d.sent refl fits from
       matched = by_first (is_mismatched p (number first)) from.0 new.first;
       is = face_reach d.request (unit_after now (number first) d.part (unit_of (number first) run))
           ∙ ap (λ part. option_map face (unit_after now (number first) part (unit_of (number first) run))) is
-          ∙ joined (number first == number first) (itself (number first));
+          ∙ joined (number first == number first) (same_number (number first));
       sent = sym (message_face first) ∙ sym from.1;
     }
       where

@@ -10,11 +10,7 @@ use Rattle.run_events.specs.declared.events.ReporterEvent.{ReporterEvent}
 use Rattle.run_model.specs.Words.{starts, finishes, is_running}
 use Rattle.run_events.specs.declared.result.ExecuteStatus.{ExecuteStatus}
 use Rattle.run_model.specs.Accounts.{News, started, failed, finished, tried, tried_from, account_of}
-
--- the first of a range, and the rest
-count-cons : (f : ℕ → Bool) (a n : ℕ)
-    → count_by f (range_with_len a (suc n)) ≡ cond (f a) 1 0 + count_by f (range_with_len (a + 1) n)
-count-cons f a n = sum_by-cons (λ x. cond (f x) 1 0) a (range_with_len (a + 1) n)
+use Rattle.run_admission.proofs.FreeLemmas.{count-cons}
 
 -- two tests that agree on a range count alike
 pub count-same : (f g : ℕ → Bool) (n a : ℕ) → ((k : ℕ) → a ≤ k → k < a + n → g k ≡ f k)
@@ -158,7 +154,7 @@ runs-account k es ns told none =
     ) refl
 
 -- what is told of attempts that a further one follows is no finish
-tried_from-unfinished : (n : ℕ) (ss : List ExecuteStatus) → list_any is_finish (tried_from n ss) ≡ false
+pub tried_from-unfinished : (n : ℕ) (ss : List ExecuteStatus) → list_any is_finish (tried_from n ss) ≡ false
 tried_from-unfinished n [] = refl
 tried_from-unfinished n (s ∷ ss) = tried_from-unfinished (n + 1) ss
 

@@ -28,7 +28,7 @@ use Rattle.run_model.specs.declared.unit_view.UnitRole.{UnitRole}
 use Rattle.run_model.specs.declared.unit_view.UnitRole.TheVariants as roles
 use Rattle.run_model.specs.declared.unit_view.AttemptTerms.{AttemptTerms}
 use Rattle.run_model.specs.declared.unit_view.UnitView.{UnitView}
-use Rattle.run_events.specs.Variables.{Variable}
+use Rattle.run_commands.specs.Pair.{Pair}
 use Rattle.run_model.specs.Environment.{number_of, number}
 use Rattle.run_model.specs.Admission.{first_view, global_slot, handed_by, handed_to, is_done, is_last, scripts_in}
 use Rattle.run_model.specs.Admission.{start_message, unit_terms, variables_of}
@@ -47,7 +47,7 @@ use Rattle.run_laws.specs.Starts.{AreStartsPlanned, IsPlannedStart, env_said, gi
 use Rattle.run_laws.specs.Starts.{planned_unit, start_told, start_told_in, starts_asked, starts_by}
 use Rattle.run_laws.proofs.units.AttemptLemmas.{HasPieces, IsMade, IsMadeIf, made_last, made_statuses}
 use Rattle.run_laws.proofs.units.FaceLemmas.{face, given-same, handed-to}
-use Rattle.run_laws.proofs.board.Facts.{itself}
+use Rattle.run_laws.proofs.units.AccountRows.{same_number}
 use Rattle.run_laws.proofs.board.Holds.{Holds}
 use Rattle.run_laws.proofs.board.Kept.{HoldsAfter, does_after, IsOfRun, IsBeforeRuns, where_joins, holds}
 use Rattle.run_laws.proofs.board.Newcomers.{IsPlanned}
@@ -138,7 +138,7 @@ slot_said (Start start) = start.slot
 slot_said _ = global_slot 0
 
 slots_one : (p : Settings) (f : Frame) (now : ℕ) (run : List Happening) (k : ℕ) (index : Option StressIndex)
-    (slot : TestSlotAssignment) (vs : List Variable) (test : PlanTest) (e : ReporterEvent) → Holds p now run
+    (slot : TestSlotAssignment) (vs : List Pair) (test : PlanTest) (e : ReporterEvent) → Holds p now run
     → option_map face (unit_of k run) ≡ Some (first_view p index k slot vs test)
     → IfSome (start_told e) (IsStartOfUnit p run) → starts k e ≡ true → slots_by k e ≡ Some slot
 slots_one p f now run k index slot vs test Tick h is of start = cc
@@ -160,7 +160,7 @@ slots_one p f now run k index slot vs test (Test event) h is of start = by_kind 
         rw start (ap Some (sym (ap slot_said sent)))
     by_kind kind it start = cc
 
-slots_other : (k : ℕ) (e : ReporterEvent) → starts k e ≡ false → slots_by k e ≡ None
+pub slots_other : (k : ℕ) (e : ReporterEvent) → starts k e ≡ false → slots_by k e ≡ None
 slots_other k Tick other = refl
 slots_other k (Test event) other = by_kind event.kind other
   where
@@ -169,7 +169,7 @@ slots_other k (Test event) other = by_kind event.kind other
     by_kind kind other = refl
 
 slots_all : (p : Settings) (f : Frame) (now : ℕ) (run : List Happening) (k : ℕ) (index : Option StressIndex)
-    (slot : TestSlotAssignment) (vs : List Variable) (test : PlanTest) (es : List ReporterEvent) → Holds p now run
+    (slot : TestSlotAssignment) (vs : List Pair) (test : PlanTest) (es : List ReporterEvent) → Holds p now run
     → option_map face (unit_of k run) ≡ Some (first_view p index k slot vs test)
     → All (IsToldOfUnit p run) es → list_any (starts k) es ≡ true
     → slots_told k es ≡ Some slot
@@ -310,9 +310,9 @@ start_begins (Test event) m is = by_kind event.kind is
   where
     by_kind : (kind : TestEventKind) → start_told_in kind ≡ Some m → starts_in (number_said m) kind ≡ true
     by_kind (SetupScriptStarted s) is = ap (λ m. s.script.unit == number_said m)
-        (sym (same_Some _ _ is)) ∙ itself s.script.unit
+        (sym (same_Some _ _ is)) ∙ same_number s.script.unit
     by_kind (TestStarted s) is =
-        ap (λ m. s.start.test.unit == number_said m) (sym (same_Some _ _ is)) ∙ itself s.start.test.unit
+        ap (λ m. s.start.test.unit == number_said m) (sym (same_Some _ _ is)) ∙ same_number s.start.test.unit
     by_kind kind is = cc
 
 told_so : (p : Settings) (f : Frame) (now : ℕ) (index : Option StressIndex) (run : List Happening)

@@ -17,6 +17,7 @@ use Rattle.run_model.specs.Accounts.{account_of}
 use Rattle.run_admission.specs.declared.seat.Seat.TheVariants.{Gone}
 use Rattle.run_laws.specs.Limits.{slots_by, slots_told, seat_in, seat_told}
 use Rattle.run_laws.proofs.told.Running.{is_start, is_finish, starts-account, finishes-account, running-other}
+use Rattle.run_laws.proofs.told.StartLemmas.{slots_other}
 
 -- the slots told by events and later ones are those of the events, else of the later ones
 pub slots_told-append : (k : ℕ) (es fs : List ReporterEvent)
@@ -30,10 +31,6 @@ slots_told-append k (e ∷ es) fs = by_first (slots_by k e) (slots_told-append k
     by_first None rest = rest
     by_first (Some slots) rest = refl
 
--- an event that starts no test tells no slots
-no_slots : (k : ℕ) (e : ReporterEvent) → starts k e ≡ false → slots_by k e ≡ None
-no_slots k e s = grind (arith, common_steps)
-
 -- events of which none starts a test tell no slots of it
 pub none_told : (k : ℕ) (es : List ReporterEvent) → list_any (starts k) es ≡ false → slots_told k es ≡ None
 none_told k [] h = refl
@@ -42,7 +39,7 @@ none_told k (e ∷ es) h = by_first (starts k e) refl (none_told k es) h
     by_first : (b : Bool) → starts k e ≡ b → (list_any (starts k) es ≡ false → slots_told k es ≡ None)
         → (b || list_any (starts k) es) ≡ false → option_or (slots_by k e) (slots_told k es) ≡ None
     by_first true is rest h = cc
-    by_first false is rest h = ap (λ o. option_or o (slots_told k es)) (no_slots k e is) ∙ rest h
+    by_first false is rest h = ap (λ o. option_or o (slots_told k es)) (slots_other k e is) ∙ rest h
 
 -- what tells neither a start nor a finish of a test leaves its seat
 pub seat_told-other : (k : ℕ) (es : List ReporterEvent) (e : ReporterEvent) → starts k e ≡ false
@@ -50,7 +47,7 @@ pub seat_told-other : (k : ℕ) (es : List ReporterEvent) (e : ReporterEvent) �
 seat_told-other k es e s f =
     ap (λ b. if b then seat_in (slots_told k (es ++ e ∷ [])) else Gone) (running-other k es e s f)
     ∙ ap (λ o. if is_running es k then seat_in o else Gone)
-    (slots_told-append k es (e ∷ []) ∙ ap (λ o. option_or (slots_told k es) (option_or o None)) (no_slots k e s)
+    (slots_told-append k es (e ∷ []) ∙ ap (λ o. option_or (slots_told k es) (option_or o None)) (slots_other k e s)
     ∙ with_none (slots_told k es))
   where
     with_none : (o : Option TestSlotAssignment) → option_or o None ≡ o

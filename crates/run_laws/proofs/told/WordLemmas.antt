@@ -8,7 +8,8 @@ use Rattle.run_events.specs.declared.settings.Settings.{Settings}
 use Rattle.run_commands.specs.Interceptor.{interceptor_words}
 use Rattle.run_commands.specs.TargetRunner.{runner_for}
 use Rattle.run_commands.specs.VersionEnvVars.{version_pairs}
-use Rattle.run_events.specs.Variables.{Variable, test_variables, identity_variables, place_variables}
+use Rattle.run_commands.specs.Pair.{Pair}
+use Rattle.run_events.specs.Variables.{test_variables, identity_variables, place_variables}
 use Rattle.run_events.specs.Variables.{script_variables}
 use Rattle.run_model.specs.Environment.{start_ask}
 use Rattle.run_model.specs.Admission.{first_view, runner_words, script_view}
@@ -16,14 +17,14 @@ use Rattle.run_laws.specs.Starts.{command_asked, names_asked, start_at, test_nam
 use Rattle.run_events.specs.declared.stress.StressIndex.{StressIndex}
 
 pub test_words : (p : Settings) (index : Option StressIndex) (k : ℕ) (slot : TestSlotAssignment)
-    (handed : List Variable) (test : PlanTest) (n : ℕ)
+    (handed : List Pair) (test : PlanTest) (n : ℕ)
     → command_asked (start_at (first_view p index k slot handed test) n)
     ≡ interceptor_words p.interceptor ++ (runner_words (runner_for p.plan.runners test.platform) ++ test.command)
 unfolding start_ask
 test_words p index k slot handed test n = refl
 
 pub test_names_are : (p : Settings) (index : Option StressIndex) (k : ℕ) (slot : TestSlotAssignment)
-    (handed : List Variable) (test : PlanTest) (n : ℕ)
+    (handed : List Pair) (test : PlanTest) (n : ℕ)
     → names_asked (start_at (first_view p index k slot handed test) n)
     ≡ test_names ++ (version_names p ++ map (λ v. v.0) handed)
 unfolding start_ask test_variables identity_variables place_variables

@@ -125,7 +125,7 @@ pub waits_still : (k : ℕ) (q : List Message) (m : Message) → pending_of k (m
     → pending_of k (q ++ m ∷ []) ≡ pending_of k q
 waits_still k q m none = waits_more k q m (pending_of k q) [] refl none ∙ append-nil (pending_of k q)
 
-same_number : (n : ℕ) → (n == n) ≡ true
+pub same_number : (n : ℕ) → (n == n) ≡ true
 same_number n = grind arith
 
 -- a slow report tells nothing of the account

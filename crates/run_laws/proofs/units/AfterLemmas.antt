@@ -28,19 +28,15 @@ use Rattle.run_laws.proofs.units.PieceLemmas.{quiet_said}
 use Rattle.run_laws.proofs.units.GoingLemmas.{IsPast, next_status, ended_statuses-past}
 use Rattle.run_laws.proofs.units.MadeLemmas.{IsDelayed, IsAwaited, IsMade}
 use Rattle.run_laws.proofs.units.RowLemmas.{made_at}
+use Rattle.run_laws.proofs.units.AccountRows.{last-append}
 
 -- whether it is tried again is what its last attempt says
-last_of : (ss : List ExecuteStatus) (s : ExecuteStatus) → last_status (ss ++ s ∷ []) ≡ Some s
-last_of [] s = refl
-last_of (x ∷ []) s = refl
-last_of (x ∷ y ∷ ss) s = last_of (y ∷ ss) s
-
 pub retry_as : (u : UnitView) (piece : List OwnTurn) (earlier : List Attempt) → u.attempt ≡ length earlier + 1
     → IsPast u.terms u piece earlier → has_retry u ≡ is_retried u.terms (length earlier + 1) piece
 retry_as u piece earlier a (ends, ss) =
     ap (λ o. not (has_passed o) && nat_le u.attempt (retry_count u.terms.retries))
     (ap last_status (ss ∙ ended_statuses-past u.terms piece earlier ends)
-    ∙ last_of (ended_statuses u.terms earlier) (next_status u.terms piece earlier))
+    ∙ last-append (ended_statuses u.terms earlier) (next_status u.terms piece earlier))
     ∙ ap (λ n. not (is_success (next_status u.terms piece earlier).result) && nat_le n (retry_count u.terms.retries)) a
 
 -- it decides what comes after its attempt
@@ -80,7 +76,8 @@ word_kept t after none =
     ap (λ o. unwrap_or (option_or (first_said (λ t. word_in t.turn) after) o) 0) none
     ∙ ap (λ o. unwrap_or o 0) (quiet_said (first_said (λ t. word_in t.turn) after))
 
-decided_kept : (t : OwnTurn) (after : List OwnTurn) → decides t.turn ≡ false → decided_at (t ∷ after) ≡ decided_at after
+pub decided_kept : (t : OwnTurn) (after : List OwnTurn) → decides t.turn ≡ false → decided_at (t ∷ after) ≡
+    decided_at after
 decided_kept t after none =
     ap (λ b. unwrap_or (option_or (first_said (moment_if decides) after) (if b then Some t.moment else None)) 0) none
     ∙ ap (λ o. unwrap_or o 0) (quiet_said (first_said (moment_if decides) after))
@@ -102,7 +99,7 @@ retried_made t u piece d after earlier a start ((past, again, delay), not_over, 
     ((past, again, delay ∙ sym (delay_kept u.terms.retries t piece (d ∷ after) earlier none)), rw ends refl)
 
 -- the timer of a delay after one more turn, by what that marks
-delay_marked : (retries : RetryPolicy) (t : OwnTurn) (piece : List OwnTurn) (d : OwnTurn) (after : List OwnTurn)
+pub delay_marked : (retries : RetryPolicy) (t : OwnTurn) (piece : List OwnTurn) (d : OwnTurn) (after : List OwnTurn)
     (earlier : List Attempt) (marks : List Mark) → word_in t.turn ≡ None → decides t.turn ≡ false
     → pause_at t.moment t.request ≡ marks
     → delay_timer retries (t ∷ d ∷ after) (cut piece (t ∷ d ∷ after) ∷ earlier)

@@ -27,7 +27,7 @@ use Rattle.run_model.specs.declared.unit_turn.UnitTurn.TheVariants.{Answered}
 use Rattle.run_model.specs.declared.unit_view.UnitRole.{UnitRole}
 use Rattle.run_model.specs.declared.unit_view.UnitRole.TheVariants as roles
 use Rattle.run_model.specs.declared.unit_view.UnitView.{UnitView}
-use Rattle.run_events.specs.Variables.{Variable}
+use Rattle.run_commands.specs.Pair.{Pair}
 use Rattle.run_model.specs.Environment.{number, start_ask, environment_as}
 use Rattle.run_model.specs.Admission.{begun_view, handed_by, handed_from, handed_to, scripts_in, start_message}
 use Rattle.run_model.specs.Admission.{units_in}
@@ -195,7 +195,7 @@ handed-to p run test =
     ∙ handed-from run test.scripts 0 (scripts_in p)
 
 -- what is given is the same where each of the numbers gives the same
-pub given-same : (f g : ℕ → List Variable) (numbers : List ℕ) (k n : ℕ)
+pub given-same : (f g : ℕ → List Pair) (numbers : List ℕ) (k n : ℕ)
     → ((i : ℕ) → i < k + n → f i ≡ g i) → given_from f numbers k n ≡ given_from g numbers k n
 given-same f g numbers k zero same = refl
 given-same f g numbers k (suc n) same =

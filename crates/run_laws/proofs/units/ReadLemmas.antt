@@ -36,6 +36,7 @@ use Rattle.run_model.specs.Requests.{asked_to_end, requested, take_row}
 use Rattle.run_model.specs.Unit.{row_at, takes_at, having_heard, running_row, waited_row, slow_row, slow_again}
 use Rattle.run_model.specs.Unit.{in_grace, out_of_time}
 use Rattle.run_laws.proofs.units.Rows.{decide_cases}
+use Rattle.run_laws.proofs.units.AccountRows.{last-append}
 
 -- whether variables were read
 abbrev pub is_given : ScriptEnv → Bool
@@ -170,17 +171,11 @@ left_so turn u v other none it = record {
   has = unread v.phase v (ap is_given it.env ∙ none) it.ready;
 }
 
--- the last status of some with one more
-pub last_more : (ss : List ExecuteStatus) (s : ExecuteStatus) → last_status (ss ++ s ∷ []) ≡ Some s
-last_more [] s = refl
-last_more (x ∷ []) s = refl
-last_more (x ∷ y ∷ ss) s = last_more (y ∷ ss) s
-
 -- its environment file was read, or could not be
 read_so : (now : ℕ) (env : ScriptEnv) (u : UnitView) → is_success (awaited_result u) ≡ true → is_given env ≡ true
     → has_passed (last_status (u.statuses ++ status_at now (result_with env (awaited_result u))
     (Output u.capture.output u.capture.errors) u ∷ [])) ≡ true
-read_so now (Variables pairs) u ok given = rw (last_more u.statuses _) ok
+read_so now (Variables pairs) u ok given = rw (last-append u.statuses _) ok
 read_so now Unread u ok given = cc
 read_so now (Fault fault) u ok given = cc
 

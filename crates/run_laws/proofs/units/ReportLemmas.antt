@@ -30,7 +30,8 @@ use Rattle.run_laws.proofs.units.MadeLemmas.{HasPieces, IsMade, later_pieces}
 use Rattle.run_laws.proofs.units.OpenRows.{is_open}
 use Rattle.run_laws.proofs.units.Rows.{takes_moment}
 use Rattle.run_laws.proofs.units.AccountRows.{IsTriedOnce}
-use Rattle.run_laws.proofs.units.SaidLemmas.{IsSaid, failure_silent, finish_silent, itself, retry_silent, said_after}
+use Rattle.run_laws.proofs.units.SaidLemmas.{IsSaid, failure_silent, finish_silent, retry_silent, said_after}
+use Rattle.run_laws.proofs.units.AccountRows.{same_number}
 use Rattle.run_laws.proofs.units.SaidLemmas.{said_apart, said_more, said_still}
 use Rattle.run_laws.proofs.units.TakeLemmas.{said_killed, take_said_delay, take_said_grace, take_said_leak}
 use Rattle.run_laws.proofs.units.TakeLemmas.{take_said_running}
@@ -56,8 +57,8 @@ slow_waits n u first = by_role u.role refl
           terminates =
               is_out_of_time u.terms.slow n;
         } ∷ []
-    by_role (roles.Test t) is = rw (itself t.test.unit) refl
-    by_role (roles.Script r) is = rw (itself r.script.unit, first r is) refl
+    by_role (roles.Test t) is = rw (same_number t.test.unit) refl
+    by_role (roles.Script r) is = rw (same_number r.script.unit, first r is) refl
 
 -- it is slow
 said_slow : (now : ℕ) (u : UnitView) (piece : List OwnTurn) (earlier : List Attempt)
@@ -75,7 +76,7 @@ said_slow now u piece earlier waited grace out counted at first =
     count : slow_count u.terms.slow (taken now Due None ∷ piece) ≡ n
     count = count_slow u.terms.slow now piece waited grace out ∙ ap one_more counted
 
-    -- its report, where it is given time to end by itself
+    -- its report, where it is given time to end by same_number
     report : (u.terms.slow.grace == 0) ≡ false
         → option_to_list (report_with u.terms.slow (length earlier + 1) (taken now Due None) piece)
         ≡ reports_waiting (number u) (option_to_list (slow_message n u))
@@ -91,10 +92,10 @@ said_slow now u piece earlier waited grace out counted at first =
         (if o then (if g then out_of_time n u else in_grace now n u) else slow_again now n u)
     by_out true true e g =
         said_more u.terms (number u) (taken now Due None) piece earlier (out_of_time n u) refl refl
-        (rw (waited, grace, out, counted, e, g, itself (number u)) refl) (rw (waited, grace, out, g) refl)
+        (rw (waited, grace, out, counted, e, g, same_number (number u)) refl) (rw (waited, grace, out, g) refl)
     by_out true false e g =
         said_more u.terms (number u) (taken now Due None) piece earlier (in_grace now n u) refl refl
-        (rw (waited, grace, out, counted, e, g, itself (number u)) refl) (report g)
+        (rw (waited, grace, out, counted, e, g, same_number (number u)) refl) (report g)
     by_out false true e g =
         said_more u.terms (number u) (taken now Due None) piece earlier (slow_again now n u) refl refl
         (rw (waited, grace, out, counted, e) refl) (rw (waited, grace, out, g) refl)

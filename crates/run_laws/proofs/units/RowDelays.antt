@@ -27,9 +27,9 @@ use Rattle.run_model.specs.Words.{sent}
 use Rattle.run_laws.specs.Delays.{delays_by, delays_waiting}
 use Rattle.run_laws.proofs.units.AccountRows.{IsTriedOnce}
 use Rattle.run_laws.proofs.units.AttemptLemmas.{HasPieces, more}
-use Rattle.run_laws.proofs.board.Facts.{itself}
+use Rattle.run_laws.proofs.units.AccountRows.{same_number}
 use Rattle.run_laws.proofs.units.GoingLemmas.{next_status, ended_statuses-past}
-use Rattle.run_laws.proofs.units.ReadLemmas.{last_more}
+use Rattle.run_laws.proofs.units.AccountRows.{last-append}
 use Rattle.run_laws.proofs.units.AfterLemmas.{delay_kept, retry_as}
 use Rattle.run_laws.proofs.units.OpenRows.{is_open, IsReport}
 use Rattle.run_laws.proofs.units.Rows.{StaysOrGoes, Takes, answers, opens, decides as decides_now, passes, again}
@@ -158,14 +158,14 @@ decided_adds now u t word (cut piece [] ∷ earlier) is at once past a =
 
     last : last_status u.statuses ≡ Some (next_status u.terms piece earlier)
     last = ap last_status (past.1 ∙ ended_statuses-past u.terms piece earlier past.0)
-        ∙ last_more (ended_statuses u.terms earlier) (next_status u.terms piece earlier)
+        ∙ last-append (ended_statuses u.terms earlier) (next_status u.terms piece earlier)
 
     sends : has_retry u ≡ true
         → delays_sent (number u) (failure_message u.role (next_delay word u) (last_status u.statuses))
         ≡ next_delay word u ∷ []
     sends retry = failure_delay (number u) (next_delay word u) u.role (last_status u.statuses)
         (next_status u.terms piece earlier) last
-        (λ t role. ap (λ n. n == number u) (sym (ap number_of role)) ∙ itself (number u))
+        (λ t role. ap (λ n. n == number u) (sym (ap number_of role)) ∙ same_number (number u))
         (λ r role. let never : false ≡ true = sym ((once r role).done at) ∙ retry in cc)
 
 pub row_adds : (now : ℕ) (ph : Phase) (turn : UnitTurn) (u : UnitView) (t : OwnTurn) (ps : List Attempt) → t.turn ≡ turn

@@ -17,6 +17,7 @@ use Rattle.run_laws.specs.Reports.{job_signal, signal_with, signals_in, signals_
 use Rattle.run_laws.specs.Reports.{signals_for, reports_waiting}
 use Rattle.run_laws.proofs.units.StandingLemmas.{is_in_grace}
 use Rattle.run_laws.proofs.units.AttemptLemmas.{more}
+use Rattle.run_laws.proofs.units.AccountRows.{same_number}
 
 -- what a row asks and sends is what its turn says, after these pieces
 pub record IsSaid (terms : AttemptTerms) (k : ℕ) (t : OwnTurn) (ps : List Attempt) (r : Row) : Type 0 where
@@ -76,9 +77,6 @@ pub said_after : (terms : AttemptTerms) (k : ℕ) (t : OwnTurn) (piece : List Ow
     → reports_waiting k (option_to_list r.sent) ≡ [] → IsSaid terms k t (cut piece [] ∷ earlier) r
 said_after terms k t piece earlier r waited goes undecided asks sends =
     said_more terms k t piece earlier r goes undecided (rw (waited, asks) refl) (rw waited (sym sends))
-
-pub itself : (k : ℕ) → (k == k) ≡ true
-itself k = grind arith
 
 -- a turn that adds nothing to a piece says nothing
 pub said_apart : (terms : AttemptTerms) (k : ℕ) (t : OwnTurn) (ps : List Attempt) (r : Row)

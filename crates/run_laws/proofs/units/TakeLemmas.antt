@@ -26,10 +26,11 @@ use Rattle.run_laws.specs.Reports.{SlowReport, signals_for, reports_waiting}
 use Rattle.run_laws.proofs.units.CaptureLemmas.{taken}
 use Rattle.run_laws.proofs.units.StandingLemmas.{is_in_grace}
 use Rattle.run_laws.proofs.units.TimerLemmas.{ends_time}
-use Rattle.run_laws.proofs.units.SaidLemmas.{IsSaid, itself, retry_silent, said_after, said_apart, said_more}
+use Rattle.run_laws.proofs.units.SaidLemmas.{IsSaid, retry_silent, said_after, said_apart, said_more}
+use Rattle.run_laws.proofs.units.AccountRows.{same_number}
 use Rattle.run_laws.proofs.units.SaidLemmas.{said_still}
 
--- its time to end by itself is over
+-- its time to end by same_number is over
 pub said_killed : (t : OwnTurn) (u : UnitView) (piece : List OwnTurn) (earlier : List Attempt)
     → any_is ends_wait piece ≡ false → is_in_grace u.terms.slow piece ≡ true → begins_attempt t.turn ≡ false
     → decides t.turn ≡ false → ends_time u.terms.slow t ≡ true
@@ -39,11 +40,11 @@ said_killed t u piece earlier waited grace goes undecided over = by_due (is_due_
     by_due : (d : Bool) → is_due_turn t.turn ≡ d → IsSaid u.terms (number u) t (cut piece [] ∷ earlier) (killed u)
     by_due true e =
         said_more u.terms (number u) t piece earlier (killed u) goes undecided
-        (rw (waited, grace, e, itself (number u)) refl) (rw (waited, grace, e) refl)
+        (rw (waited, grace, e, same_number (number u)) refl) (rw (waited, grace, e) refl)
     by_due false e =
         let signal : is_some (signal_of u.terms.slow t.request) ≡ true = rw e at over in
         said_more u.terms (number u) t piece earlier (killed u) goes undecided
-        (rw (waited, grace, e, signal, itself (number u)) refl) (rw (waited, e) refl)
+        (rw (waited, grace, e, signal, same_number (number u)) refl) (rw (waited, e) refl)
 
 -- its child gets the signal of the request that it takes
 asked_signal : (now : ℕ) (reason : TerminateReason) (signal : TermSignal) (u : UnitView)
@@ -72,7 +73,7 @@ said_asked now reason u piece earlier waited grace =
     said_more u.terms (number u) (taken now Take (Some (Shutdown reason))) piece earlier
     (requested now Running (Shutdown reason) u) refl refl
     (rw (waited, grace) (sym (ap (signals_for (number u)) (asked_signal now (Signal reason) signal u)
-    ∙ rw (itself (number u)) refl)))
+    ∙ rw (same_number (number u)) refl)))
     (rw waited (sym (ap sends (sent_none now (Signal reason) signal u))))
   where
     signal : TermSignal
@@ -99,7 +100,7 @@ take_said_delay now [] u piece d after earlier = said_apart _ _ _ _ _ refl refl 
 asks_as : (asks : Bool) (signal : ChildSignal) (u : UnitView)
     → option_to_list (if asks then Some signal else None)
     ≡ signals_for (number u) (if asks then Some (child_ask signal u) else None)
-asks_as true signal u = rw (itself (number u)) refl
+asks_as true signal u = rw (same_number (number u)) refl
 asks_as false signal u = refl
 
 -- it takes the oldest request of its line
@@ -133,10 +134,12 @@ take_said_grace now (Shutdown reason ∷ line) u piece earlier waited grace =
     waited grace refl refl refl
 take_said_grace now (Stop round ∷ line) u piece earlier waited grace =
     said_more u.terms (number u) (taken now Take (Some (Stop round))) piece earlier
-    (take_row now Grace (Stop round ∷ line) u) refl refl (rw (waited, grace, itself (number u)) refl) (rw waited refl)
+    (take_row now Grace (Stop round ∷ line) u) refl refl (rw (waited, grace, same_number (number u)) refl) (rw waited
+    refl)
 take_said_grace now (Continue ∷ line) u piece earlier waited grace =
     said_more u.terms (number u) (taken now Take (Some Continue)) piece earlier
-    (take_row now Grace (Continue ∷ line) u) refl refl (rw (waited, grace, itself (number u)) refl) (rw waited refl)
+    (take_row now Grace (Continue ∷ line) u) refl refl (rw (waited, grace, same_number (number u)) refl) (rw waited
+    refl)
 take_said_grace now (OtherCancel ∷ line) u piece earlier waited grace =
     said_still _ _ _ piece earlier _ refl refl refl refl refl refl refl
 take_said_grace now (GetInfo round ∷ line) u piece earlier waited grace =

@@ -12,4 +12,4 @@ returns-in-Ok-clause-says g c = λ words word.
     let end = c.live_plan.result in
     plan_says g.H.Worker.Spawner.has_said _ c.in-Ok.said.0 c.in-Ok.said.1 end.live end.ending word
     c.in-Ok.ensures.given
-    c.live_plan.ensures
+    c.live_plan.ensures.says

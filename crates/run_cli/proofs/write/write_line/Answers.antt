@@ -1,7 +1,8 @@
 use Rattle.std.proofs.Common.{◌≡◌, subst, ◌∙◌}
 use Rattle.run_output.specs.Fields.{line_bytes}
 use Rattle.run_cli.specs.Call.{TakesFront}
-use Rattle.run_cli.proofs.TextLemmas.{line_some, front_none, front_take, on_err}
+use Rattle.run_cli.proofs.TextLemmas.{line_some, front_none, front_take}
+use Rattle.run_engine.proofs.PartLemmas.{on_err}
 use Rattle.run_cli.proofs.write.write_line.Goals as goal
 
 pub returns-in_err-line-clause-front : goal.returns-in_err-line-clause-front

@@ -1,5 +1,6 @@
 use Rattle.run_output.specs.Fields.{line_bytes}
-use Rattle.run_cli.proofs.TextLemmas.{front_of_first, front_take, front_after, on_err, on_err_then}
+use Rattle.run_cli.proofs.TextLemmas.{front_of_first, front_take, front_after, on_err_then}
+use Rattle.run_engine.proofs.PartLemmas.{on_err}
 use Rattle.run_cli.proofs.write.write_rest.Goals as goal
 
 pub returns-in_err-write_all-clause-front : goal.returns-in_err-write_all-clause-front

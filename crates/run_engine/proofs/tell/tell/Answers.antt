@@ -48,6 +48,7 @@ loop-event-preserved g c =
 pub returns-in_err-error-clause-part : goal.returns-in_err-error-clause-part
 returns-in_err-error-clause-part g c =
     let inv = c.loop-event.invariant in
-    on_err c.from_residual.result _ (some_more g.R.Reporter.told c.args.report.now c.loop-event.report c.tell_marked.new.report _ _ _ c.args.events.now
+    on_err c.from_residual.result _ (some_more g.R.Reporter.told c.args.report.now c.loop-event.report
+    c.tell_marked.new.report _ _ _ c.args.events.now
     c.loop-event.event-index c.loop-event.refused c.loop-event.refusal c.event-item.result c.loop-event-test.true
     inv.answered c.event-item.is inv.told inv.faults c.in_err-error.ensures.part)

@@ -1,7 +1,8 @@
 use Rattle.std.proofs.Common.{◌∙◌, sym, ap, subst, ℕ, ◌≡◌, ◌<◌, length, List}
 use Rattle.run_shared.specs.declared.shared.Receipt.{Receipt}
 use Rattle.run_model.specs.declared.entry.Entry.{Entry}
-use Rattle.run_shared.specs.Receipts.{concatenated, receipt_numbers, times}
+use Rattle.run_model.specs.Words.{times}
+use Rattle.run_shared.specs.Receipts.{concatenated, receipt_numbers}
 use Rattle.run_live.proofs.ending.finish.Goals as goal
 
 pub returns-in-Ok-clause-once : goal.returns-in-Ok-clause-once

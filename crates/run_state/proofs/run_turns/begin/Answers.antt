@@ -1,7 +1,7 @@
 use Rattle.std.proofs.Common.{◌≡◌, ap, ap₂, sym, ◌∙◌}
 use Rattle.run_model.specs.Admission.{limits_of}
 use Rattle.run_model.specs.Board.{Board, deed_events, moved}
-use Rattle.run_model.specs.Turns.{begun}
+use Rattle.run_model.specs.Turns.{begin_deed}
 use Rattle.run_state.specs.declared.effects.Effects.{Effects}
 use Rattle.run_state.specs.declared.kept.Kept.{Kept}
 use Rattle.run_state.specs.Held.{Held, kept_of}
@@ -35,7 +35,7 @@ returns-clause-after c =
     c.truncate.ensures.items c.truncate-2.ensures.items
     ∙ begun_moved b us c.begin.new.self c.in_ok-renew.ensures.count c.in_ok-renew.ensures.none
     c.in_ok-effects.ensures.does.after
-    ∙ ap (λ (h : Held). moved h.board (begun h.board)) c.state.view_is
+    ∙ ap (λ (h : Held). moved h.board (begin_deed h.board)) c.state.view_is
 
 pub returns-clause-seated : goal.returns-clause-seated
 returns-clause-seated c =
@@ -52,9 +52,9 @@ returns-clause-seated c =
 pub returns-clause-told : goal.returns-clause-told
 returns-clause-told c =
     ap (λ (x : Effects). x.events) c.telling.ensures ∙ c.in_ok-effects.ensures.does.told
-    ∙ ap (λ (h : Held). deed_events (begun h.board)) c.state.view_is
+    ∙ ap (λ (h : Held). deed_events (begin_deed h.board)) c.state.view_is
 
 pub returns-clause-asked : goal.returns-clause-asked
 returns-clause-asked c =
     ap (λ (x : Effects). x.asked) c.telling.ensures ∙ c.in_ok-effects.ensures.does.asked
-    ∙ ap (λ (h : Held). (begun h.board).asked) c.state.view_is
+    ∙ ap (λ (h : Held). (begin_deed h.board).asked) c.state.view_is

@@ -4,7 +4,8 @@ use Rattle.run_model.specs.Rounds.{opens_round}
 use Rattle.run_model.specs.Turns.{cancels_for}
 use Rattle.run_state.specs.Done.{Done}
 use Rattle.run_state.specs.Held.{Held}
-use Rattle.run_state.proofs.RoundLemmas.{cause_opens, done_own}
+use Rattle.run_state.proofs.RoundLemmas.{done_own}
+use Rattle.run_dispatch.proofs.FinishLemmas.{no_round}
 use Rattle.run_state.specs.Counted.{holders_in}
 use Rattle.run_state.proofs.PlaceLemmas.{tests-kept}
 use Rattle.run_state.proofs.run_turns.run_out.Goals as goal
@@ -53,5 +54,5 @@ returns c =
     (sym (ap (λ request. if opens_round request then [] else c.state.inside.answers.items)
     c.in_ok-effects.ensures.does.request
     ∙ ap (λ opens. if opens then [] else c.state.inside.answers.items)
-    (cause_opens (is_above old.board.dispatcher.tally.stats.cancel_reason time_is_up.reason) time_is_up.request refl)))
+    (no_round (is_above old.board.dispatcher.tally.stats.cancel_reason time_is_up.reason) time_is_up.request refl)))
     c.in_ok-effects.ensures.does c.telling.ensures)

@@ -1,4 +1,5 @@
-use Rattle.std.proofs.Common.{◌≡◌, ◌<◌, ◌+◌, ℕ, true, get_or, length, None, slice_index_or, refl, sym, subst, ◌∙◌, arith}
+use Rattle.std.proofs.Common.{◌≡◌, ◌<◌, ◌+◌, ℕ, true, get_or, length}
+use Rattle.std.proofs.Common.{None, slice_index_or, refl, sym, subst, ◌∙◌, arith}
 use Rattle.run_model.specs.declared.unit_turn.UnitTurn.TheVariants as own
 use Rattle.run_model.specs.Board.{unit_in}
 use Rattle.run_model.specs.Turns.{unit_takes}

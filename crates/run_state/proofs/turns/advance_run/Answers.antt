@@ -3,7 +3,7 @@ use Rattle.run_events.specs.Hearing.{heard_key}
 use Rattle.run_model.specs.Board.{Board, step}
 use Rattle.run_model.specs.Cancel.{event_refused, time_is_up}
 use Rattle.run_model.specs.Dispatch.{heard_by}
-use Rattle.run_model.specs.Turns.{answered_by, cancelled, ended, informs_at, keys_at, live_in, oldest_of, signals_at}
+use Rattle.run_model.specs.Turns.{answered_by, cancelled, end_deed, informs_at, keys_at, live_in, oldest_of, signals_at}
 use Rattle.run_model.specs.Turns.{run_turn, stops_itself, ticks}
 use Rattle.run_state.specs.Held.{Held, KeepsSeats}
 use Rattle.run_state.proofs.DeedLemmas.{answer_seated, done_seated, nothing_moved}
@@ -71,7 +71,7 @@ pub returns-in-End-clause-seated : goal.returns-in-End-clause-seated
 returns-in-End-clause-seated c =
     let b = c.args.state.now.board in
     let own = end_own b.clock b.dispatcher b.dispatcher.head.stress in
-    answer_seated c.args.settings.now c.args.state.now c.end.new.state (ended b) c.end.result
+    answer_seated c.args.settings.now c.args.state.now c.end.new.state (end_deed b) c.end.result
     c.requires.seated own.part own.begins c.end.ensures
 
 pub returns-in-Clock-clause-seated : goal.returns-in-Clock-clause-seated

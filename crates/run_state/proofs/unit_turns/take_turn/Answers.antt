@@ -1,7 +1,7 @@
 use Rattle.std.proofs.Common.{◌++◌, filter_map, option_to_list, ap, ap₂, subst, ◌∙◌}
 use Rattle.run_model.specs.Board.{Board, moved, unit_in}
 use Rattle.run_model.specs.Rounds.{answer_of}
-use Rattle.run_model.specs.Turns.{taken_by}
+use Rattle.run_model.specs.Turns.{taken_deed}
 use Rattle.run_state.specs.Held.{Held}
 use Rattle.run_state.specs.Placed.{FitsUnits}
 use Rattle.run_state.proofs.DeedLemmas.{unit_moved}
@@ -27,7 +27,7 @@ returns-clause-after c =
       clock = c.state.inside.clock;
       refused = c.state.inside.refused;
     } in
-    let deed = taken_by b.clock c.args.unit c.args.turn (unit_in b c.args.unit) in
+    let deed = taken_deed b.clock c.args.unit c.args.turn (unit_in b c.args.unit) in
     unit_moved b deed.part deed.sent deed.info deed.asked c.act.new.units c.send.new.queue.items
     c.keep_answers.new.answers.items c.in_ok-effects.ensures.after
     (c.send.ensures ∙ ap₂ (λ items sent. items ++ option_to_list sent) c.make_room.ensures.queue
@@ -37,5 +37,5 @@ returns-clause-after c =
     c.make_room.ensures.answers
     ∙ ap₂ (λ asks info. b.answers ++ filter_map (answer_of asks) info) c.round_request-asks.ensures
     c.in_ok-effects.ensures.info)
-    ∙ ap (λ (h : Held). moved h.board (taken_by h.board.clock c.args.unit c.args.turn (unit_in h.board c.args.unit)))
+    ∙ ap (λ (h : Held). moved h.board (taken_deed h.board.clock c.args.unit c.args.turn (unit_in h.board c.args.unit)))
     c.state.view_is

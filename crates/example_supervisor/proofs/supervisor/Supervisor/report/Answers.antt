@@ -5,7 +5,7 @@ use Rattle.run_events.specs.declared.events.ReporterEvent.{ReporterEvent}
 use Rattle.run_model.specs.Words.{told}
 use Rattle.run_engine.specs.World.{World, history_of}
 use Rattle.run_laws.proofs.told.Outcomes.{over_is}
-use Rattle.run_call_laws.specs.Stops.{tells_cancel}
+use Rattle.run_laws_calls.specs.Stops.{tells_cancel}
 use Rattle.example_supervisor.specs.Reported.{ledger_of}
 use Rattle.example_supervisor.proofs.Heard.{results-finishes, told_is}
 use Rattle.example_supervisor.proofs.supervisor.Supervisor.report.Goals as goal

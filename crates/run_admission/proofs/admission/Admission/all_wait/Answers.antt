@@ -8,5 +8,6 @@ pub returns : goal.returns
 returns c =
     let seats = c.self.inside.seats.items in
     let many : c.len.result ≡ length seats = omega arith in
-    ap (nat_eq c.self.inside.waiting) many ∙ ap (λ n. nat_eq n (length seats)) c.self.invariant.kept.waits ∙ all_waiting seats
+    ap (nat_eq c.self.inside.waiting) many ∙ ap (λ n. nat_eq n (length seats)) c.self.invariant.kept.waits ∙
+    all_waiting seats
     ∙ ap (λ (a : Admissions). list_all is_waiting a.seats) c.self.view_is

@@ -10,7 +10,8 @@ use Rattle.run_engine.proofs.run.Run.take_named.Goals as goal
 pub carry_out-requires-clause-stands : goal.carry_out-requires-clause-stands
 carry_out-requires-clause-stands g c =
     let sound : c.self.inside.broken ≡ false = rw (sym c.self.view_is) at c.requires.sound in
-    subst (λ p. c.self.inside.state ≡ held p (board p (past_of p c.self.inside.journal.items))) (sym c.get-settings.ensures)
+    subst (λ p. c.self.inside.state ≡ held p (board p (past_of p c.self.inside.journal.items))) (sym
+    c.get-settings.ensures)
     (c.self.invariant.stands sound)
 
 pub invariant_of-self : goal.invariant_of-self

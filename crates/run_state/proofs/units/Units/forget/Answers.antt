@@ -1,4 +1,5 @@
-use Rattle.std.proofs.Common.{◌≡◌, ◌<◌, ℕ, List, Option, None, map, take, drop, length, get_or, ap, sym, ◌++◌, ◌∙◌, arith}
+use Rattle.std.proofs.Common.{◌≡◌, ◌<◌, ℕ, List, Option, None, map, take}
+use Rattle.std.proofs.Common.{drop, length, get_or, ap, sym, ◌++◌, ◌∙◌, arith}
 use Rattle.std.proofs.lemmas.List.{length-map, take_all, take-append-le}
 use Rattle.run_model.specs.declared.unit_view.UnitView.{UnitView}
 use Rattle.run_state.proofs.CountedLemmas.{absent_left}

@@ -1,5 +1,0 @@
-use Rattle.std.proofs.Common.{length}
-use Rattle.run_base_tests.proofs.clock.+watch_after.Given as goal
-
-abbrev pub decreases-watch_after : goal.decreases-watch_after
-decreases-watch_after l = length l.calls.now

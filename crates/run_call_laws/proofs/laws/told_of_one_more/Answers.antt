@@ -1,5 +1,0 @@
-use Rattle.run_call_laws.proofs.WholeLemmas.{adds_one}
-use Rattle.run_call_laws.proofs.laws.told_of_one_more.Goals as goal
-
-pub returns : goal.returns
-returns c = adds_one

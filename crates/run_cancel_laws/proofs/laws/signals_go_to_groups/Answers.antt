@@ -1,6 +1,0 @@
-use Rattle.std.proofs.Common.{reverse}
-use Rattle.run_cancel_laws.proofs.GroupLemmas.{groups}
-use Rattle.run_cancel_laws.proofs.laws.signals_go_to_groups.Goals as goal
-
-pub returns : goal.returns
-returns c = λ p journal legal. groups p (reverse journal) legal

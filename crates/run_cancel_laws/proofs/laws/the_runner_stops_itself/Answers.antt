@@ -1,5 +1,0 @@
-use Rattle.run_cancel_laws.proofs.GroupLemmas.{runner_asked}
-use Rattle.run_cancel_laws.proofs.laws.the_runner_stops_itself.Goals as goal
-
-pub returns : goal.returns
-returns c = runner_asked

@@ -1,6 +1,0 @@
-use Rattle.std.proofs.Common.{reverse}
-use Rattle.run_count_laws.proofs.WithinLemmas.{plan_limits}
-use Rattle.run_count_laws.proofs.laws.limits_are_of_the_plan.Goals as goal
-
-pub returns : goal.returns
-returns c = λ p journal n legal. plan_limits p (reverse journal) n legal

@@ -1,7 +1,0 @@
-use Rattle.std.proofs.Common.{reverse}
-use Rattle.run_display_laws.proofs.FindLemmas.{finds_test}
-use Rattle.run_display_laws.proofs.laws.events_find_their_tests.Goals as goal
-
-pub returns : goal.returns
-returns c = λ p journal once legal before after event is.
-    finds_test p (reverse journal) once legal before after event is

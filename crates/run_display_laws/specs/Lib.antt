@@ -1,2 +1,0 @@
-pub mod Displays
-pub mod Offsets

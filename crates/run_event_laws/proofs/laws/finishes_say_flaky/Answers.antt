@@ -1,6 +1,0 @@
-use Rattle.std.proofs.Common.{reverse}
-use Rattle.run_event_laws.proofs.PlanMessages.{flaky_told}
-use Rattle.run_event_laws.proofs.laws.finishes_say_flaky.Goals as goal
-
-pub returns : goal.returns
-returns c = λ p journal legal. flaky_told p (reverse journal) legal

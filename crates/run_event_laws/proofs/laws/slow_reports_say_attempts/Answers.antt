@@ -1,6 +1,0 @@
-use Rattle.std.proofs.Common.{reverse}
-use Rattle.run_event_laws.proofs.PlanMessages.{attempts_told}
-use Rattle.run_event_laws.proofs.laws.slow_reports_say_attempts.Goals as goal
-
-pub returns : goal.returns
-returns c = λ p journal legal. attempts_told p (reverse journal) legal

@@ -1,5 +1,0 @@
-use Rattle.run_event_laws.proofs.TestOrder.{tests_in_order}
-use Rattle.run_event_laws.proofs.laws.tests_come_in_order.Goals as goal
-
-pub returns : goal.returns
-returns c = tests_in_order

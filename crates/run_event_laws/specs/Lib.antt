@@ -1,4 +1,0 @@
-pub mod Names
-pub mod Order
-pub mod Retries
-pub mod Slots

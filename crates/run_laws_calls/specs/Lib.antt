@@ -1,0 +1,10 @@
+pub mod Whole
+pub mod Numbers
+pub mod Stops
+pub mod Counts
+pub mod Outcomes
+pub mod Success
+pub mod Endings
+pub mod SubRunEnds
+pub mod Reasons
+pub mod StressStops

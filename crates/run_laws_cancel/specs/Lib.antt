@@ -1,0 +1,12 @@
+pub mod Requests
+pub mod Enabled
+pub mod Pauses
+pub mod Rounds
+pub mod Reach
+pub mod Groups
+pub mod Scripts
+pub mod Keys
+pub mod Stops
+pub mod Ends
+pub mod RunTurns
+pub mod SubRunTime

@@ -1,0 +1,14 @@
+mod SameLemmas
+mod ShownLemmas
+mod CourseLemmas
+mod NewsLemmas
+mod WholeLemmas
+mod RunningLemmas
+mod OffsetLemmas
+mod SlowLemmas
+mod SlowTold
+mod SubRunLemmas
+mod FindLemmas
+mod LastTold
+mod HiddenLemmas
+mod Sameness

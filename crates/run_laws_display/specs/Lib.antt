@@ -1,0 +1,3 @@
+pub mod Displays
+pub mod Offsets
+pub mod Values

@@ -1,0 +1,9 @@
+pub mod Names
+pub mod Order
+pub mod Retries
+pub mod Slots
+pub mod Moments
+pub mod Counts
+pub mod PlanLimits
+pub mod RunStart
+pub mod Idle

@@ -1,0 +1,5 @@
+mod ResultLemmas
+mod StatisticRows
+mod StatisticLemmas
+mod DelayLemmas
+mod NumberLemmas

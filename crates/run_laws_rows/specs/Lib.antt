@@ -1,0 +1,4 @@
+pub mod Results
+pub mod Statistics
+pub mod Delays
+pub mod Numbers

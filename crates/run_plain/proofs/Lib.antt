@@ -1,6 +1,0 @@
-mod Told
-mod Cuts
-mod DelayLemmas
-mod AdmissionLemmas
-mod OutcomeLemmas
-mod StatusLemmas

@@ -1,5 +1,0 @@
-use Rattle.run_round_laws.proofs.rounds.AnswerLaws.{answers_so}
-use Rattle.run_round_laws.proofs.laws.answers_are_own_turns.Goals as goal
-
-pub returns : goal.returns
-returns c = answers_so

@@ -1,5 +1,0 @@
-pub mod Requests
-pub mod Queries
-pub mod Elapsed
-pub mod LiveCounts
-pub mod Answers

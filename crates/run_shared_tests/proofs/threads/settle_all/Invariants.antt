@@ -1,5 +1,0 @@
-use Rattle.std.proofs.Common.{◌≡◌, ◌<◌}
-use Rattle.run_shared_tests.proofs.threads.settle_all.Given as goal
-
-abbrev pub invariant-loop : goal.invariant-loop
-invariant-loop g l = (l.work.share.parts ≡ l.initial.work.share.parts) × (0 < l.work.share.parts)

@@ -1,0 +1,5 @@
+mod Told
+mod Cuts
+mod DelayLemmas
+mod OutcomeLemmas
+mod StatusLemmas
