@@ -130,7 +130,7 @@ same_sum f w claim seat first (t ∷ ts) i a (suc n) many at same =
     )
 
 -- a unit's seat is in use exactly where it holds slots
-used_seat : (v : Option UnitView) → is_in_use (seat_of v) ≡ is_some (slots_held v)
+pub used_seat : (v : Option UnitView) → is_in_use (seat_of v) ≡ is_some (slots_held v)
 used_seat None = refl
 used_seat (Some u) = by_last (is_last u.phase) u.role
   where

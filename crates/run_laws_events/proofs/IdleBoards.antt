@@ -146,7 +146,7 @@ next_test p index run k over all below none =
         ∙ units-at p run k below ∙ none)
 
 -- a sub-run that is on is not over
-on_going : (p : Settings) (backward : List Entry) → IsLegalBackward p backward
+pub on_going : (p : Settings) (backward : List Entry) → IsLegalBackward p backward
     → is_on (sub_run (history p backward)) ≡ true → is_over (history p backward) ≡ false
 on_going p [] legal on = refl
 on_going p (e ∷ before) legal on = by_run (where_joins p past e h legal.0)

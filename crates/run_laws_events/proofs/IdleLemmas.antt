@@ -94,7 +94,7 @@ some_comes f comes (c ∷ cs) (s ∷ ss) (suc j) within waits =
     or_true false b e = e
 
 -- where a test may come, one comes next
-some_next : (a : Admissions) → list_any (may_come a) (tests a) ≡ true → list_any (comes_next a) (tests a) ≡ true
+pub some_next : (a : Admissions) → list_any (may_come a) (tests a) ≡ true → list_any (comes_next a) (tests a) ≡ true
 some_next a some =
     let most = greatest (may_come a) (λ (t : Test). t.0.priority) (tests a) some in
     most.1.among (comes_next a)
@@ -102,7 +102,7 @@ some_next a some =
     ∙ ap not most.1.none_above)
 
 -- the place of the first
-first_within : {X : Type 0} (f : X → Bool) (xs : List X) → list_any f xs ≡ true → position_or_len f xs < length xs
+pub first_within : {X : Type 0} (f : X → Bool) (xs : List X) → list_any f xs ≡ true → position_or_len f xs < length xs
 first_within f [] some = cc
 first_within f (x ∷ xs) some = by_first (f x) some (first_within f xs)
   where
@@ -122,7 +122,7 @@ get_within (x ∷ xs) zero within = (x, refl)
 get_within (x ∷ xs) (suc i) within = get_within xs i (omega arith)
 
 -- what becomes of the test there
-admits_test : (p : Settings) (index : Option StressIndex) (us : List (Option UnitView)) (i : ℕ) (test : PlanTest)
+pub admits_test : (p : Settings) (index : Option StressIndex) (us : List (Option UnitView)) (i : ℕ) (test : PlanTest)
     (skip : Option (List ℕ))
     → slice_get p.plan.tests i ≡ Some test → test.skip ≡ skip
     → candidate (limits_of p us) ≡ Some (if is_none skip then Fits i else Skip i)

@@ -36,3 +36,6 @@ pub mod BeginLemmas
 mod GreatestLemmas
 pub mod IdleLemmas
 pub mod IdleBoards
+mod ThreadRoom
+mod NextUnits
+mod AdmitLemmas

@@ -18,7 +18,7 @@ use Rattle.run_admission.specs.InUse.{free_group_slot, free_slot, may_come, test
 use Rattle.run_model.specs.Admission.{test_of}
 
 -- the place of a test that is admitted is the first of one that comes next
-next_place : (a : Admissions) (r : Admitted) → admitted a ≡ Some r → position (comes_next a) (tests a) ≡ Some
+pub next_place : (a : Admissions) (r : Admitted) → admitted a ≡ Some r → position (comes_next a) (tests a) ≡ Some
     (test_of r)
 next_place a r e = by_place (position (comes_next a) (tests a)) refl e
   where
@@ -65,7 +65,7 @@ pub record IsFirst (a : Admissions) (k : ℕ) (t : Test) : Type 0 where
   pub earlier : (j : ℕ) (u : Test) → slice_get (tests a) j ≡ Some u → u.0.priority ≡ t.0.priority → j < k
       → may_come a u ≡ false
 
-first_at : (a : Admissions) (k : ℕ) → position (comes_next a) (tests a) ≡ Some k
+pub first_at : (a : Admissions) (k : ℕ) → position (comes_next a) (tests a) ≡ Some k
     → IsFirst a k (get_or (tests a) k nobody)
 first_at a k place = record {
   at = slice_get-get_or (tests a) k nobody found.0;

@@ -39,7 +39,7 @@ use Rattle.run_laws_events.proofs.Joined.{joins_new}
 use Rattle.run_laws_events.proofs.NextTest.{IsFirst, admitted_first}
 
 -- the test of the plan that a unit is stands at a place
-test_place : (p : Settings) (k : ℕ) (test : PlanTest) → test_of_unit p k ≡ Some test
+pub test_place : (p : Settings) (k : ℕ) (test : PlanTest) → test_of_unit p k ≡ Some test
     → (j : ℕ) × ((k ≡ unit_of_test p j) × (slice_get p.plan.tests j ≡ Some test))
 test_place p k test is = by_script (is_script p k) refl is
   where
@@ -88,11 +88,11 @@ ruled p index us new e kind = by_kind (newcomer_is p index us new e)
         (slice_get_within p.plan.scripts found.place found.script found.planned) in
         let never : true ≡ false = sym script ∙ ap (is_script p) (sym here) ∙ kind in cc
 
-less_so : (a b : ℤ) → a <ℤ b → int_lt a b ≡ true
+pub less_so : (a b : ℤ) → a <ℤ b → int_lt a b ≡ true
 less_so a b h = grind (arith, ints)
 
 -- that one comes first
-rule_first : (p : Settings) (run : List Happening) (r : Admitted) (test : PlanTest)
+pub rule_first : (p : Settings) (run : List Happening) (r : Admitted) (test : PlanTest)
     → admitted (limits_of p (units p run)) ≡ Some r → slice_get p.plan.tests (test_of r) ≡ Some test
     → unit_of (unit_of_test p (test_of r)) run ≡ None → ComesFirst p run (unit_of_test p (test_of r)) test
 rule_first p run r test e planned unknown = record {

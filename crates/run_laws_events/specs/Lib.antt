@@ -7,3 +7,4 @@ pub mod Counts
 pub mod PlanLimits
 pub mod RunStart
 pub mod Idle
+pub mod Admits

@@ -1,4 +1,5 @@
 // Theorems over every legal journal.
+ghost use Rattle.run_laws_events.specs.Admits.{AdmitsWhatHasRoom};
 ghost use Rattle.run_laws_events.specs.Moments.{EventsSayMoment};
 ghost use Rattle.run_laws_events.specs.Counts.{EventsSayCounts};
 ghost use Rattle.run_laws_events.specs.Idle.{IdleRunsAdmit};
@@ -41,4 +42,13 @@ pub fn limits_are_of_the_plan()
 /// whatever its weight.
 pub fn idle_runs_admit()
     ensures { IdleRunsAdmit }
+{}
+
+/// After a legal journal a script or test can be admitted exactly where its sub-run goes on, and either a script wasn't
+/// admitted in it and each script before that one is over, or each script is over, and the test that comes first, by
+/// the order in which tests are admitted, is to be skipped, or its weight, cut to the number of threads, comes to no
+/// more than that number together with the weights, each cut so, of the tests that hold slots. So tests run side by
+/// side as long as there is room, and no cause, no pause and no open round keeps one out.
+pub fn admits_what_has_room()
+    ensures { AdmitsWhatHasRoom }
 {}

@@ -8,8 +8,8 @@ mod counted;
 mod laws;
 
 pub use counted::{
-    events_say_their_counts, events_say_their_moment, idle_runs_admit, limits_are_of_the_plan,
-    run_starts_with_its_plan,
+    admits_what_has_room, events_say_their_counts, events_say_their_moment, idle_runs_admit,
+    limits_are_of_the_plan, run_starts_with_its_plan,
 };
 pub use laws::{
     events_name_the_plan, finishes_say_flaky, retries_are_numbered_in_accounts,

@@ -3,3 +3,4 @@ mod StatisticRows
 mod StatisticLemmas
 mod DelayLemmas
 mod NumberLemmas
+mod TermLemmas

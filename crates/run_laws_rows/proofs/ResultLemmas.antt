@@ -153,7 +153,7 @@ judge false false out (Some (exits.Signal signal)) false leaked leak =
     record { timeout = refl; exec_fail = refl; pass = refl; leak_is = refl; fail = refl }
 
 -- the plan's terms are those of the unit
-slow_is : (p : Settings) (k : ℕ) → (unit_terms p k).slow ≡ slow_planned p k
+pub slow_is : (p : Settings) (k : ℕ) → (unit_terms p k).slow ≡ slow_planned p k
 slow_is p k = by_kind (nat_lt k (scripts_in p))
   where
     by_script : (o : Option PlanScript) → (script_terms_if p o).slow

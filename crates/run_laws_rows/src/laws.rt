@@ -3,6 +3,8 @@ ghost use Rattle.run_laws_rows.specs.Delays.{DelaysAreWhole};
 ghost use Rattle.run_laws_rows.specs.Numbers.{SlowTimesAreWhole, UsualTestsHaveNumbers};
 ghost use Rattle.run_laws_rows.specs.Results.{PassesAreThree, ResultsAreByChildren, ScriptsFailLate};
 ghost use Rattle.run_laws_rows.specs.Statistics.{StatisticsCountFinishes};
+ghost use Rattle.run_laws_rows.specs.Terms.{ScriptsGoByThemselves, SlowReportsAreOfPeriods};
+ghost use Rattle.run_laws_rows.specs.Terms.{UnitsKeepTheirTerms};
 
 /// Each attempt that a legal journal tells in its newest sub-run, with its failure or with a finish, has a result by
 /// its own turns. It is a time-out exactly where the attempt ran out of time, its start was not refused and its
@@ -43,4 +45,16 @@ pub fn statistics_count_finishes()
 pub fn usual_values_are_numbers()
     ensures tests { UsualTestsHaveNumbers }
     ensures slow { SlowTimesAreWhole }
+{}
+
+/// Each slow report that a legal journal tells of a script or test in its newest sub-run tells a time of whole periods
+/// of the plan's, one at least, and that the attempt has run out of time exactly where those are as many as the plan
+/// gives it, of which 0 is 1. Each script and test that was admitted goes by the terms of its number in the plan. By
+/// those of a script it is tried once, its timers count, the streams of its child are waited for and its environment
+/// file is read; and the interceptor before the tests, and the retries and the flaky result that are set for all tests,
+/// change nothing in them, but whether its child is asked to stop.
+pub fn units_go_by_the_plan()
+    ensures reports { SlowReportsAreOfPeriods }
+    ensures terms { UnitsKeepTheirTerms }
+    ensures scripts { ScriptsGoByThemselves }
 {}

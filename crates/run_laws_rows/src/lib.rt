@@ -7,5 +7,6 @@
 mod laws;
 
 pub use laws::{
-    delays_are_whole, results_are_by_children, statistics_count_finishes, usual_values_are_numbers,
+    delays_are_whole, results_are_by_children, statistics_count_finishes, units_go_by_the_plan,
+    usual_values_are_numbers,
 };

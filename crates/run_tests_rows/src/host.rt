@@ -101,7 +101,7 @@ fn spawner_of(alloc: Global, child: Child) -> Result<MemorySpawner, OutOfMemory>
         begun.push(alloc, Begun::Refused { error })?;
     }
     for number in 0..started(child) {
-        let pid = 100 + number;
+        let pid = number.saturating_add(100);
         begun.push(alloc, Begun::Started { pid })?;
     }
     Ok(MemorySpawner::new(begun, story.said))

@@ -1,0 +1,3 @@
+mod RecordLemmas
+mod ReadingLemmas
+mod WayLemmas

@@ -1,0 +1,3 @@
+pub mod ObjectLemmas
+mod PutLemmas
+pub mod ReadLemmas

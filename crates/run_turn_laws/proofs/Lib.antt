@@ -1,0 +1,3 @@
+mod FieldLemmas
+mod PlainLemmas
+pub mod TurnLemmas

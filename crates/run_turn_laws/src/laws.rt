@@ -1,0 +1,13 @@
+// Theorems on the lines of turns.
+ghost use Rattle.run_turn_laws.specs.TurnLines.{TurnLinesAreRead, TurnLinesDiffer};
+
+/// A reader of turn lines reads the line that a printer makes of a turn as just that turn, if the turn's numbers fit
+/// their types, its texts are UTF-8, its bytes are bytes and the character of its key is one.
+pub fn turn_lines_are_read()
+    ensures { TurnLinesAreRead }
+{}
+
+/// Two such turns that have the same line are the same turn.
+pub fn turn_lines_differ()
+    ensures { TurnLinesDiffer }
+{}
