@@ -1,6 +1,6 @@
 -- What the status of a generated run says, by how the run ended.
 use Rattle.std.proofs.Common.{◌≡◌, ℕ, inl, inr, List, [], ◌∷◌, codes, Option, Some, None, IfSome}
-use Rattle.std.proofs.Common.{Result, Ok, Err, refl, ap, arith}
+use Rattle.std.proofs.Common.{Result, Ok, Err, refl, ap, sym, subst, arith}
 use Rattle.run_events.specs.declared.outcome.RunOutcome.{RunOutcome}
 use Rattle.run_output.specs.declared.fault.Fault.{Fault}
 use Rattle.run_output.specs.declared.fault.Fault.TheVariants.{Words, Line, Plan as BadPlan, NotEnabled, ThirdSignal}
@@ -10,7 +10,9 @@ use Rattle.run_generate.specs.declared.generated.Generated.{Generated}
 use Rattle.run_cli.specs.Call.{Writing}
 use Rattle.run_cli.specs.Commands.{IsGenerateOf, IsNumber}
 use Rattle.run_cli.specs.Ending.{IsFinished}
-use Rattle.run_cli.specs.Generates.{AnswersGenerate, IsGenerateEnd, IsOfTests}
+use Rattle.run_cli.specs.Finish.{EndsAtFault}
+use Rattle.run_cli.specs.Generates.{AnswersGenerate, EndsAtSummary, IsGenerateEnd, IsOfTests}
+use Rattle.run_cli.proofs.ShortLemmas.{short_written}
 use Rattle.run_cli.specs.Text.{ending_status, outcome_status}
 use Rattle.run_cli.proofs.GivenLemmas.{finished}
 use Rattle.run_cli.proofs.StatusLemmas.{apart, no_outcome_above, outcome_is}
@@ -38,18 +40,21 @@ answers_generate tests w (Ok o) h = record {
   };
   sound_sink = λ s. h.2.2;
   report = λ s. absurd (no_outcome_above 9 (apart _ 9 (outcome_is o) s) (omega arith) (omega arith));
+  memory = λ s. absurd (no_outcome_above 11 (apart _ 11 (outcome_is o) s) (omega arith) (omega arith));
   known = inl (outcome_is o);
 }
 answers_generate tests w (Err Report) h = record {
   headline = λ s. absurd (no_outcome_above 9 s (omega arith) (omega arith));
   sound_sink = λ s. absurd (no_outcome_above 9 s (omega arith) (omega arith));
   report = λ s. (h.0, h.1, ends tests h.0 h.1, h.2.2, h.2.1);
+  memory = λ s. absurd (omega arith);
   known = inr (inl refl);
 }
 answers_generate tests w (Err Memory) h = record {
   headline = λ s. absurd (no_outcome_above 11 s (omega arith) (omega arith));
   sound_sink = λ s. absurd (no_outcome_above 11 s (omega arith) (omega arith));
   report = λ s. absurd (omega arith);
+  memory = λ s. h;
   known = inr (inr refl);
 }
 answers_generate tests w (Err Words) h = absurd h.2
@@ -60,3 +65,26 @@ answers_generate tests w (Err (ThirdSignal n)) h = absurd h.2
 answers_generate tests w (Err Unfinished) h = absurd h.2
 answers_generate tests w (Err Read) h = absurd h.2
 answers_generate tests w (Err TooLong) h = absurd h.2
+
+-- how it ends once its run is over
+pub summary_ends : (tests : ℕ) (w : Writing) (g : Generated) (ending : Result RunOutcome Fault) → IsOfTests tests g
+    → EndsAtSummary w tests g ending → IsGenerateEnd tests w ending
+summary_ends tests w g (Ok o) is h = (g, is, h)
+summary_ends tests w g (Err Report) is h = (g, is, h)
+summary_ends tests w g (Err Memory) is h = inr (g, is, h)
+summary_ends tests w g (Err Words) is h = absurd h
+summary_ends tests w g (Err (Line n)) is h = absurd h
+summary_ends tests w g (Err (BadPlan f)) is h = absurd h
+summary_ends tests w g (Err (NotEnabled n)) is h = absurd h
+summary_ends tests w g (Err (ThirdSignal n)) is h = absurd h
+summary_ends tests w g (Err Unfinished) is h = absurd h
+summary_ends tests w g (Err Read) is h = absurd h
+summary_ends tests w g (Err TooLong) is h = absurd h
+
+-- and for want of memory before that
+pub memory_ends : (tests : ℕ) (w : Writing) (ending : Result RunOutcome Fault) → EndsAtFault w [] Memory ending
+    → IsGenerateEnd tests w ending
+memory_ends tests w (Ok o) h = absurd h
+memory_ends tests w (Err e) (inl m) = subst (λ f. IsGenerateEnd tests w (Err f)) (sym m.0) (inl m.1)
+memory_ends tests w (Err e) (inr h) =
+    subst (λ f. IsGenerateEnd tests w (Err f)) (sym h.0) (inl (short_written [] w h.2))

@@ -42,6 +42,7 @@ use Rattle.run_cli.specs.Commands.{IsNamedBy, form_of}
 use Rattle.run_cli.specs.declared.command.Command.{Command}
 use Rattle.run_cli.specs.Given.{SaysInput, IsGivenFault, CountsRead, CountsReadAtEnd}
 use Rattle.run_cli.specs.Ending.{Replays, IsFinished, IsWholeRun, StopsBefore, IsEnding}
+use Rattle.run_cli.proofs.ShortLemmas.{short_written}
 use Rattle.run_cli.specs.Finish.{EndsAtFault, IsReplayed, IsReplayEnding, IsInputEnding}
 
 -- no more lines than bytes
@@ -221,7 +222,17 @@ given_says c command keys plan turns (Err Unfinished) named given (accepted, h) 
 )
 given_says c command keys plan turns (Err (BadPlan f)) named given h =
     ((command, named), record { keys = keys; plan = plan; turns = turns; given = given; refused = h.0 }, h.1)
-given_says c command keys plan turns (Err Memory) named given h = tt
+given_says c command keys plan turns (Err Memory) named given (inl early) = inl early
+given_says c command keys plan turns (Err Memory) named given (inr (accepted, short)) = inr (record {
+  command = command;
+  named = named;
+  keys = keys;
+  plan = plan;
+  turns = turns;
+  given = given;
+  accepted = accepted;
+  short = short;
+})
 given_says c command keys plan turns (Err Words) named given h = absurd h.1
 given_says c command keys plan turns (Err (Line n)) named given h = absurd h.1
 given_says c command keys plan turns (Err Read) named given h = absurd h.1
@@ -238,7 +249,7 @@ accepted_ends command keys plan turns w (Err Report) accepted h = (accepted, h)
 accepted_ends command keys plan turns w (Err (NotEnabled place)) accepted h = (accepted, h)
 accepted_ends command keys plan turns w (Err Unfinished) accepted h = (accepted, h)
 accepted_ends command keys plan turns w (Err (BadPlan f)) accepted h = absurd h
-accepted_ends command keys plan turns w (Err Memory) accepted h = tt
+accepted_ends command keys plan turns w (Err Memory) accepted h = inr (accepted, h)
 accepted_ends command keys plan turns w (Err Words) accepted h = absurd h
 accepted_ends command keys plan turns w (Err (Line n)) accepted h = absurd h
 accepted_ends command keys plan turns w (Err Read) accepted h = absurd h
@@ -255,7 +266,7 @@ refusal_ends command keys plan turns w (build.DuplicateTest k) h writes = ((buil
 refusal_ends command keys plan turns w (build.UnknownGroup k) h writes = ((build.UnknownGroup k, h, refl), writes)
 refusal_ends command keys plan turns w (build.ZeroWeight k) h writes = ((build.ZeroWeight k, h, refl), writes)
 refusal_ends command keys plan turns w (build.TooManyRetries k) h writes = ((build.TooManyRetries k, h, refl), writes)
-refusal_ends command keys plan turns w build.OutOfMemory h writes = tt
+refusal_ends command keys plan turns w build.OutOfMemory h writes = inl (Memory, short_written [] w writes)
 
 pub refused_plan : (command : Command) (keys : RunnerKeys) (plan : Plan) (turns : List Turn) (w : Writing)
     (error : TestRunnerBuildError)
@@ -264,7 +275,7 @@ pub refused_plan : (command : Command) (keys : RunnerKeys) (plan : Plan) (turns 
     → IsInputEnding command keys plan turns w ending
 refused_plan command keys plan turns w error (Ok o) b e = absurd e
 refused_plan command keys plan turns w error (Err d) b (inl m) =
-    subst (λ f. IsInputEnding command keys plan turns w (Err f)) (sym m) tt
+    subst (λ f. IsInputEnding command keys plan turns w (Err f)) (sym m.0) (inl (fault_of_plan error, m.1))
 refused_plan command keys plan turns w error (Err d) b (inr h) =
     subst (λ f. IsInputEnding command keys plan turns w (Err f)) (sym h.0)
     (refusal_ends command keys plan turns w error b h.2)
@@ -277,7 +288,7 @@ fault_says c Read h w = (h.0, h.1, w)
 fault_says c TooLong h w = (h.0, h.1, w)
 fault_says c (Line n) h w = (h.0, h.1, w)
 fault_says c (BadPlan f) h w = absurd h
-fault_says c Memory h w = tt
+fault_says c Memory h w = inl (Memory, short_written [] c.sink w)
 fault_says c (NotEnabled n) h w = absurd h
 fault_says c (ThirdSignal n) h w = absurd h
 fault_says c Unfinished h w = absurd h
@@ -286,7 +297,7 @@ fault_says c Report h w = absurd h
 pub refused_says : (c : Call) (fault : Fault) (ending : Result RunOutcome Fault) → IsGivenFault c.words c.source fault
     → EndsAtFault c.sink [] fault ending → IsEnding c ending
 refused_says c fault (Ok o) h e = absurd e
-refused_says c fault (Err d) h (inl m) = subst (λ f. IsEnding c (Err f)) (sym m) tt
+refused_says c fault (Err d) h (inl m) = subst (λ f. IsEnding c (Err f)) (sym m.0) (inl (fault, m.1))
 refused_says c fault (Err d) h (inr w) = subst (λ f. IsEnding c (Err f)) (sym w.0) (fault_says c fault h w.2)
 
 -- the source's count at the end, where the words or the input were not good
@@ -319,6 +330,6 @@ pub refused_counts : (r : Reading) (w : Writing) (fault : Fault) (ending : Resul
     → CountsRead {T = RunOutcome} r (Err fault) → EndsAtFault w [] fault ending → CountsReadAtEnd r ending
 refused_counts r w fault (Ok o) h e = absurd e
 refused_counts r w fault (Err d) h (inl m) =
-    subst (λ f. CountsReadAtEnd {T = RunOutcome} r (Err f)) (sym m) (fault_later r fault h)
+    subst (λ f. CountsReadAtEnd {T = RunOutcome} r (Err f)) (sym m.0) (fault_later r fault h)
 refused_counts r w fault (Err d) h (inr e) =
     subst (λ f. CountsReadAtEnd {T = RunOutcome} r (Err f)) (sym e.0) (fault_counts r fault h)

@@ -2,6 +2,8 @@ pub mod TextLemmas
 mod WordLemmas
 mod ClockLemmas
 mod QuietLemmas
+pub mod ShortLemmas
+pub mod RunOutLemmas
 pub mod TickLemmas
 pub mod ToldLines
 pub mod EndLemmas

@@ -67,7 +67,7 @@ pub fault_or_memory : {W : Type 0} (said : W → List Heard → Type 0) (p : Set
     → EndsAtFault v (ask_lines asks) fault ending → IsRunEnd said p w (kept_by ending l) (ending_of ending)
 fault_or_memory said p w v l asks fault (Ok o) says h = absurd h
 fault_or_memory said p w v l asks fault (Err e) says (inl m) =
-    subst (λ f. IsRunEnd said p w (kept_by (Err f) l) (ending_of (Err f))) (sym m) refl
+    subst (λ f. IsRunEnd said p w (kept_by (Err f) l) (ending_of (Err f))) (sym m.0) refl
 fault_or_memory said p w v l asks fault (Err e) says (inr h) =
     subst (λ f. IsRunEnd said p w (kept_by (Err f) l) (ending_of (Err f))) (sym h.0) (says h.1 h.2)
 

@@ -11,7 +11,7 @@ use Rattle.run_cli.specs.Call.{Call, Reading, HasReadFault, Writes}
 use Rattle.run_cli.specs.Text.{fault_only, outcome_status, ending_status}
 use Rattle.run_cli.specs.Given.{IsTooLong, IsWithin, CountsReadAtEnd}
 use Rattle.run_cli.specs.Commands.{NamesCommand}
-use Rattle.run_cli.specs.Ending.{IsEnding}
+use Rattle.run_cli.specs.Ending.{IsEnding, WantsMemory}
 use Rattle.run_cli.specs.Status.{IsOutcomeStatus, is_status, Headline, SaysBadLine, SaysBadPlan, SaysNotEnabled}
 use Rattle.run_cli.specs.Status.{SaysThirdSignal, SaysUnfinished, SaysReport, Answers}
 use Rattle.run_cli.proofs.CauseLemmas.{unread_gets, too_much_gets, bad_line_gets, course_gets}
@@ -230,6 +230,21 @@ too_long_says c (Err Memory) h s = absurd (omega arith)
 too_long_says c (Err TooLong) h s = h
 too_long_says c (Err (ThirdSignal n)) h s = absurd (omega arith)
 
+-- 11: want of memory
+pub memory_says : (c : Call) (ending : Result RunOutcome Fault)
+    → IsEnding c ending → ending_status ending ≡ 11 → WantsMemory c
+memory_says c (Ok o) h s = absurd (no_outcome_above 11 (apart _ 11 (outcome_is o) s) (omega arith) (omega arith))
+memory_says c (Err Memory) h s = h
+memory_says c (Err Words) h s = absurd (omega arith)
+memory_says c (Err (Line n)) h s = absurd (omega arith)
+memory_says c (Err (BadPlan f)) h s = absurd (omega arith)
+memory_says c (Err (NotEnabled n)) h s = absurd (omega arith)
+memory_says c (Err Unfinished) h s = absurd (omega arith)
+memory_says c (Err Report) h s = absurd (omega arith)
+memory_says c (Err Read) h s = absurd (omega arith)
+memory_says c (Err TooLong) h s = absurd (omega arith)
+memory_says c (Err (ThirdSignal n)) h s = absurd (omega arith)
+
 -- the source's count rose where the status is 10
 pub read_rose : (r : Reading) (ending : Result RunOutcome Fault) → CountsReadAtEnd r ending → ending_status ending ≡ 10
     → HasReadFault r
@@ -276,6 +291,7 @@ answers c ending h n = record {
   unfinished = unfinished_says c ending h;
   report = report_says c ending h;
   read = λ s. (read_says c ending h s, read_rose c.source ending n s);
+  memory = memory_says c ending h;
   sound_source = read_stayed c.source ending n;
   too_long = too_long_says c ending h;
   known = status_known c ending h;

@@ -157,6 +157,23 @@ unless_with (Err engine.Unfinished) A B f a = f (λ e. cc) a
 unless_with (Err engine.OutOfMemory) A B f a = tt
 
 -- the lines of a run's events with the clocks of all turns are those with the clocks of its ticks
+pub shown_by : (p : Settings) (ts : List Turn) (journal : List Entry) (rest : List Turn) (mode : RunMode)
+    (max : MaxProgressRunning) (width : ℕ) → IsLegal p journal → ts ≡ turns_of journal ++ rest
+    → lines_in (first_screen mode max width (turn_clocks 0 ts)) (told (past_of p journal))
+    ≡ lines_in (first_screen mode max width (tick_clocks (past_of p journal))) (told (past_of p journal))
+shown_by p ts journal rest mode max width legal are =
+    let past : List Happening = past_of p journal in
+    let more : List ℕ = turn_clocks (clock_after_all 0 (turns_of journal)) rest in
+    let there : turns_of (reverse (reverse journal)) ≡ turns_of journal = ap turns_of (reverse-reverse journal) in
+    let clocks : turn_clocks 0 (turns_of journal) ≡ tick_clocks past =
+    ap (turn_clocks 0) (sym there) ∙ (clocks_of p (reverse journal) legal).0 in
+    let all : turn_clocks 0 ts ≡ tick_clocks past ++ more =
+    ap (turn_clocks 0) are ∙ turn_clocks-append 0 (turns_of journal) rest ∙ ap (λ cs. cs ++ more) clocks in
+    let few : 0 + length (ticks_in (told past)) ≤ length (tick_clocks past) = omega (arith, ticks_counted past) in
+    ap (λ cs. lines_in (first_screen mode max width cs) (told past)) all
+    ∙ lines_more (first_screen mode max width []) (tick_clocks past) more (told past) few
+
+-- so are those of a run that was answered
 pub shown_clocks : (p : Settings) (ts : List Turn) (journal : List Entry) (refusal : Option Failed)
     (answer : Result RunOutcome (TestRunnerExecuteErrors Failed)) (mode : RunMode) (max : MaxProgressRunning)
     (width : ℕ)
@@ -164,14 +181,5 @@ pub shown_clocks : (p : Settings) (ts : List Turn) (journal : List Entry) (refus
     → lines_in (first_screen mode max width (turn_clocks 0 ts)) (told (past_of p journal))
     ≡ lines_in (first_screen mode max width (tick_clocks (past_of p journal))) (told (past_of p journal))
 shown_clocks p ts journal refusal answer mode max width some legal h =
-    let past : List Happening = past_of p journal in
     let rest = rest_of p ts journal refusal answer some h in
-    let more : List ℕ = turn_clocks (clock_after_all 0 (turns_of journal)) rest.0 in
-    let there : turns_of (reverse (reverse journal)) ≡ turns_of journal = ap turns_of (reverse-reverse journal) in
-    let clocks : turn_clocks 0 (turns_of journal) ≡ tick_clocks past =
-    ap (turn_clocks 0) (sym there) ∙ (clocks_of p (reverse journal) legal).0 in
-    let all : turn_clocks 0 ts ≡ tick_clocks past ++ more =
-    ap (turn_clocks 0) rest.1 ∙ turn_clocks-append 0 (turns_of journal) rest.0 ∙ ap (λ cs. cs ++ more) clocks in
-    let few : 0 + length (ticks_in (told past)) ≤ length (tick_clocks past) = omega (arith, ticks_counted past) in
-    ap (λ cs. lines_in (first_screen mode max width cs) (told past)) all
-    ∙ lines_more (first_screen mode max width []) (tick_clocks past) more (told past) few
+    shown_by p ts journal rest.0 mode max width legal rest.1

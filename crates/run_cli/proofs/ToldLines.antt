@@ -9,20 +9,23 @@ use Rattle.run_model.specs.declared.entry.Entry.{Entry}
 use Rattle.run_model.specs.declared.happening.Happening.{Happening}
 use Rattle.run_model.specs.Words.{told, asked, answers, events_in}
 use Rattle.run_model.specs.Turns.{happening}
-use Rattle.run_model.specs.Journal.{history, past_of, IsLegalBackward}
+use Rattle.run_model.specs.Journal.{history, past_of, IsLegal, IsLegalBackward}
 use Rattle.run_capture.specs.Faults.{Rose, RoseExactlyIf}
 use Rattle.run_engine.specs.World.{flagged, earlier, first_error}
-use Rattle.run_output.specs.Told.{IsWritten, AreWritten, marks, AreCounted, some_refused, HasTold, event_line}
+use Rattle.run_output.specs.Told.{IsWritten, AreWritten, marks, AreCounted, some_refused, HasTold, TookLines}
+use Rattle.run_output.specs.Told.{event_line}
 use Rattle.run_output.specs.Told.{event_lines}
-use Rattle.run_laws.specs.Course.{none_refused}
+use Rattle.run_laws.specs.Course.{none_refused, turns_of}
 use Rattle.run_cli.specs.Call.{Writing, HasTaken}
 use Rattle.run_cli.specs.Text.{Form, whole_form, joined}
 use Rattle.run_cli.specs.Clocks.{turn_clocks}
 use Rattle.run_cli.specs.Commands.{progress_form, display_of}
-use Rattle.run_cli.proofs.TickLemmas.{shown_clocks}
+use Rattle.run_cli.specs.Short.{TookFirst, told_last}
+use Rattle.run_cli.proofs.TickLemmas.{shown_by, shown_clocks}
 use Rattle.run_engine.specs.declared.errors.TestRunnerExecuteErrors.TheVariants as engine
 use Rattle.run_progress.specs.declared.max_running.MaxProgressRunning.TheVariants.{Count}
-use Rattle.run_output.specs.Shown.{first_screen, lines_in, shown_lines, answer_errors}
+use Rattle.run_output.specs.Shown.{Screen, first_screen, line_in, lines_in, screen_after, screen_after_all}
+use Rattle.run_output.specs.Shown.{shown_lines, answer_errors}
 use Rattle.run_output.proofs.ShownLemmas.{length-lines_in}
 use Rattle.run_cli.specs.Executed.{IsExecuted}
 use Rattle.run_capture.specs.declared.source.Failed.{Failed}
@@ -201,3 +204,80 @@ executed_shown p width turns w refusals answer journal refusal ys some runnable 
     ∙ ap (λ ls. zip ls (answer_errors ys))
     (shown_clocks p turns journal refusal answer p.plan.head.mode (Count 8) width some runnable.legal says)) told)
     flags first
+
+-- lines beside errors of which there are as many as of the first
+zip_front : {E : Type 0} (lines more : List (List ℕ)) (errors : List E) → length errors ≡ length lines
+    → zip (lines ++ more) errors ≡ zip lines errors
+zip_front [] [] [] same = refl
+zip_front [] (line ∷ more) [] same = refl
+zip_front [] more (e ∷ errors) same = absurd (omega arith)
+zip_front (line ∷ lines) more [] same = absurd (omega arith)
+zip_front (line ∷ lines) more (e ∷ errors) same =
+    ap (λ zs. (line, e) ∷ zs) (zip_front lines more errors (omega arith))
+
+-- events whose answers are the first of a journal's are the first that it told
+pub told_first : (p : Settings) (journal : List Entry) (ys : List (ReporterEvent × Option Failed))
+    (left : List (ReporterEvent × Bool)) → IsLegal p journal
+    → map flagged ys ++ left ≡ answers (past_of p journal)
+    → map (λ y. y.0) ys ++ map (λ x. x.0) left ≡ told (past_of p journal)
+told_first p journal ys left legal are =
+    ap (λ es. es ++ map (λ x. x.0) left) (sym (flags_first ys))
+    ∙ sym (map-append (λ x. x.0) (map flagged ys) left)
+    ∙ ap (map (λ x. x.0)) are ∙ answers-told p (reverse journal) legal
+
+-- a sink took the lines of the first events of a journal
+first_from : (form : Form) (past : List Happening) (w : Writing) (refusals : ℕ)
+    (ys : List (ReporterEvent × Option Failed)) (left : List (ReporterEvent × Bool)) (lines more : List (List ℕ))
+    → map flagged ys ++ left ≡ answers past → length left ≤ told_last past → form.lines past ≡ lines ++ more
+    → length lines ≡ length ys
+    → HasTold w.taken w.taken_after w.faults w.faults_after refusals (zip lines (map (λ y. y.1) ys))
+    → TookFirst form past w
+first_from form past w refusals ys left lines more flags few are fits told = record {
+  events = ys;
+  left = left;
+  flags = flags;
+  few = few;
+  took = subst (TookLines w.taken w.taken_after)
+      (sym (zip_front lines more (map (λ y. y.1) ys) (length-map ys (λ y. y.1) ∙ sym fits))
+      ∙ ap (λ ls. zip ls (map (λ y. y.1) ys)) (sym are)) told.took;
+  counted = subst (λ bs. AreCounted bs w.faults w.faults_after) (marks_beside lines ys fits) told.counted;
+}
+
+-- of a reporter of lines
+pub first_whole : (p : Settings) (journal : List Entry) (w : Writing) (refusals : ℕ)
+    (ys : List (ReporterEvent × Option Failed)) (left : List (ReporterEvent × Bool)) → IsLegal p journal
+    → map flagged ys ++ left ≡ answers (past_of p journal) → length left ≤ told_last (past_of p journal)
+    → HasTold w.taken w.taken_after w.faults w.faults_after refusals (event_lines ys)
+    → TookFirst whole_form (past_of p journal) w
+first_whole p journal w refusals ys left legal flags few told =
+    first_from whole_form (past_of p journal) w refusals ys left (map event_line (map (λ y. y.0) ys))
+    (map event_line (map (λ x. x.0) left)) flags few
+    (ap (map event_line) (sym (told_first p journal ys left legal flags))
+    ∙ map-append event_line (map (λ y. y.0) ys) (map (λ x. x.0) left))
+    (length-map (map (λ y. y.0) ys) event_line ∙ length-map ys (λ y. y.0))
+    (subst (HasTold w.taken w.taken_after w.faults w.faults_after refusals) (lines_beside ys) told)
+
+-- the lines of events, and then of more
+lines_in-append : (start : Screen) (xs ys : List ReporterEvent)
+    → lines_in start (xs ++ ys) ≡ lines_in start xs ++ lines_in (screen_after_all start xs) ys
+lines_in-append start [] ys = refl
+lines_in-append start (x ∷ xs) ys =
+    ap (λ lines. line_in start x ∷ lines) (lines_in-append (screen_after start x) xs ys)
+
+-- and of one of progress, of the first turns of these
+pub first_shown : (p : Settings) (width : ℕ) (turns rest : List Turn) (journal : List Entry) (w : Writing)
+    (refusals : ℕ) (ys : List (ReporterEvent × Option Failed)) (left : List (ReporterEvent × Bool))
+    → IsLegal p journal → turns ≡ turns_of journal ++ rest
+    → map flagged ys ++ left ≡ answers (past_of p journal) → length left ≤ told_last (past_of p journal)
+    → HasTold w.taken w.taken_after w.faults w.faults_after refusals
+    (shown_lines (first_screen p.plan.head.mode (Count 8) width (turn_clocks 0 turns)) ys)
+    → TookFirst (progress_form p width) (past_of p journal) w
+first_shown p width turns rest journal w refusals ys left legal are flags few told =
+    let start = first_screen p.plan.head.mode (Count 8) width (turn_clocks 0 turns) in
+    let mine = map (λ y. y.0) ys in
+    let later = map (λ x. x.0) left in
+    first_from (progress_form p width) (past_of p journal) w refusals ys left (lines_in start mine)
+    (lines_in (screen_after_all start mine) later) flags few
+    (sym (shown_by p turns journal rest p.plan.head.mode (Count 8) width legal are)
+    ∙ ap (lines_in start) (sym (told_first p journal ys left legal flags)) ∙ lines_in-append start mine later)
+    (length-lines_in start mine ∙ length-map ys (λ y. y.0)) told

@@ -1,5 +1,5 @@
 -- What each end of the program says, from the bytes that come in to the bytes that go out.
-use Rattle.std.specs.Prelude.{ℕ, ◌≡◌, List, take, slice_get, Bool, false, true, Some, None, Result, Ok, Err, ⊤}
+use Rattle.std.specs.Prelude.{ℕ, ◌≡◌, ◌⊎◌, List, take, slice_get, Bool, false, true, Some, None, Result, Ok, Err}
 use Rattle.std.specs.List.{All, Contains}
 use Rattle.run_input.specs.declared.plan_line.RunnerKeys.{RunnerKeys}
 use Rattle.run_events.specs.declared.plan.Plan.{Plan}
@@ -19,6 +19,7 @@ use Rattle.run_output.specs.declared.fault.Fault.TheVariants.{Unfinished, Report
 use Rattle.run_output.specs.declared.fault.PlanFault.{PlanFault}
 use Rattle.run_cli.specs.Call.{Call, Reading, HasTaken, HasWriteFault, Writes}
 use Rattle.run_cli.specs.Executed.{TookParts, WritesRun, report_ending}
+use Rattle.run_cli.specs.Short.{IsShort, RunsShort}
 use Rattle.run_cli.specs.Plans.{settings_for, plan_refusal, IsPlanFault}
 use Rattle.run_cli.specs.Given.{SaysInput, IsTooLong, IsWithin, HasBadLine}
 use Rattle.run_cli.specs.Text.{Form, fault_only, rest_text, history_text}
@@ -92,6 +93,22 @@ pub record HasBadPlan (source : Reading) (fault : PlanFault) : Type 0 where
   pub given : SaysInput source keys plan turns
   pub refused : IsPlanFault keys plan fault
 
+-- the words are good, the source was read to its end and its lines say a plan that is accepted and turns, and memory
+-- was wanting while these were carried out, or once they were
+pub record RanShort (c : Call) : Type 0 where
+  pub command : Command
+  pub named : IsNamedBy command c.words
+  pub keys : RunnerKeys
+  pub plan : Plan
+  pub turns : List Turn
+  pub given : SaysInput c.source keys plan turns
+  pub accepted : plan_refusal keys plan ≡ None
+  pub short : RunsShort (form_of command (settings_for keys plan)) (settings_for keys plan) turns c.sink
+
+-- memory was wanting: before a run was begun, where of one fault line a front part went out; or so
+abbrev pub WantsMemory : Call → Type 0
+WantsMemory c = ((fault : Fault) × IsShort (fault_only fault) c.sink) ⊎ RanShort c
+
 -- what each end says
 abbrev pub IsEnding : Call → Result RunOutcome Fault → Type 0
 IsEnding c (Ok o) =
@@ -114,4 +131,4 @@ IsEnding c (Err (Line number)) = NamesCommand c.words × HasBadLine c.source num
     × Writes c.sink (fault_only (Line number))
 IsEnding c (Err (BadPlan fault)) = NamesCommand c.words × HasBadPlan c.source fault
     × Writes c.sink (fault_only (BadPlan fault))
-IsEnding c (Err Memory) = ⊤
+IsEnding c (Err Memory) = WantsMemory c

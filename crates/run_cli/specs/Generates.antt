@@ -1,5 +1,5 @@
 -- What `generate` says.
-use Rattle.std.specs.Prelude.{ℕ, ◌≡◌, ◌⊎◌, ◌≤◌, List, Result, Ok, Err, ⊤}
+use Rattle.std.specs.Prelude.{ℕ, ◌≡◌, ◌⊎◌, ◌≤◌, List, Result, Ok, Err}
 use Rattle.run_events.specs.declared.outcome.RunOutcome.{RunOutcome}
 use Rattle.run_output.specs.Fields.{line_bytes}
 use Rattle.run_output.specs.Summaries.{generated_text}
@@ -11,7 +11,8 @@ use Rattle.run_generate.specs.declared.generated.Generated.{Generated}
 use Rattle.run_cli.specs.Call.{Writing, HasTaken, HasTakenFront, HasWriteFault}
 use Rattle.run_cli.specs.Ending.{IsFinished}
 use Rattle.run_cli.specs.Status.{IsOutcomeStatus}
-use Rattle.run_cli.specs.Text.{outcome_status}
+use Rattle.run_cli.specs.Short.{IsShort}
+use Rattle.run_cli.specs.Text.{fault_only, outcome_status}
 
 -- the line of a generated run of so many tests
 abbrev pub generated_line : ℕ → Generated → List ℕ
@@ -27,12 +28,18 @@ EndsAtSummary w tests g (Ok o) =
     (o ≡ g.outcome) × HasTaken w (generated_line tests g) × (w.faults_after ≡ w.faults)
 EndsAtSummary w tests g (Err Report) =
     (w.faults ≤ w.faults_after) × HasWriteFault w × HasTakenFront w (generated_line tests g)
-EndsAtSummary w tests g (Err Memory) = ⊤
+EndsAtSummary w tests g (Err Memory) = IsShort (generated_line tests g) w
 EndsAtSummary w tests g (Err _) = ⊥
+
+-- memory was wanting: before the run's line, where of one fault line a front part went out, or once that was to be
+-- written, of which a front part went out
+abbrev pub GeneratesShort : ℕ → Writing → Type 0
+GeneratesShort tests w = IsShort (fault_only Memory) w
+    ⊎ ((g : Generated) × IsOfTests tests g × IsShort (generated_line tests g) w)
 
 -- how `generate` ends: its run is over, and the line says so, or memory was wanting
 abbrev pub IsGenerateEnd : ℕ → Writing → Result RunOutcome Fault → Type 0
-IsGenerateEnd tests w (Err Memory) = ⊤
+IsGenerateEnd tests w (Err Memory) = GeneratesShort tests w
 IsGenerateEnd tests w ending = (g : Generated) × IsOfTests tests g × EndsAtSummary w tests g ending
 
 -- the run of the generated plan by its generated turns is over, each test has its fate, by its own turns' results, the
@@ -57,4 +64,5 @@ pub record AnswersGenerate (tests : ℕ) (w : Writing) (status : ℕ) : Type 0 w
   pub headline : IsOutcomeStatus status → GenerateHeadline tests w status
   pub sound_sink : IsOutcomeStatus status → w.faults_after ≡ w.faults
   pub report : status ≡ 9 → SaysGenerateReport tests w
+  pub memory : status ≡ 11 → GeneratesShort tests w
   pub known : IsOutcomeStatus status ⊎ ((status ≡ 9) ⊎ (status ≡ 11))

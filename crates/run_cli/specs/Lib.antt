@@ -6,6 +6,7 @@ pub mod Clocks
 pub mod Given
 pub mod Write
 pub mod Executed
+pub mod Short
 pub mod Ending
 pub mod Finish
 pub mod Status

@@ -12,7 +12,7 @@ use Rattle.run_cli.specs.Call.{Call, HasTaken, HasReadFault, HasWriteFault, Writ
 use Rattle.run_cli.specs.Text.{fault_only, history_text, outcome_status}
 use Rattle.run_cli.specs.Executed.{WritesRun}
 use Rattle.run_cli.specs.Given.{IsTooLong, IsWithin, HasBadLine}
-use Rattle.run_cli.specs.Ending.{Replays, IsWholeRun, WritesReport, StopsBefore, IsUnfinished, HasBadPlan}
+use Rattle.run_cli.specs.Ending.{Replays, IsWholeRun, WritesReport, StopsBefore, IsUnfinished, HasBadPlan, WantsMemory}
 use Rattle.run_cli.specs.Ending.{history_in, form_in}
 use Rattle.run_cli.specs.Commands.{IsNamedBy, NamesCommand}
 use Rattle.run_cli.specs.declared.command.Command.{Command}
@@ -84,6 +84,8 @@ pub record Answers (c : Call) (status : ℕ) : Type 0 where
   pub report : status ≡ 9 → SaysReport c
   pub read : status ≡ 10 → (NamesCommand c.words × IsWithin c.source × Writes c.sink (fault_only Read))
       × HasReadFault c.source
+  -- 11: what went out is a front part of what the run writes, or of one fault line, and then of the line that says so
+  pub memory : status ≡ 11 → WantsMemory c
   pub sound_source : (status ≡ 10 → ⊥) → (status ≡ 11 → ⊥) → c.source.faults_after ≡ c.source.faults
   pub too_long : status ≡ 12 → NamesCommand c.words × IsTooLong c.source × Writes c.sink (fault_only TooLong)
   pub known : is_status status ≡ true

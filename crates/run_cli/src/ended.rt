@@ -1,10 +1,12 @@
 // How the program ends: with an outcome or a fault, and its last lines.
-ghost use Rattle.std.specs.Prelude.{◌≡◌, ◌<◌, ◌≤◌, ◌^◌, length, Err};
+ghost use Rattle.std.specs.Prelude.{◌≡◌, ◌<◌, ◌≤◌, ◌^◌, ℕ, List, length, take, Err};
+ghost use Rattle.run_capture.specs.Bytes.{Takes};
 ghost use Rattle.run_output.specs.declared.fault.Fault.TheVariants.{Memory};
 ghost use Rattle.run_cli.specs.Call.{writing_of};
-ghost use Rattle.run_cli.specs.Text.{outcome_status};
+ghost use Rattle.run_cli.specs.Text.{fault_only, outcome_status};
 ghost use Rattle.run_cli.specs.Commands.{form_of};
-ghost use Rattle.run_cli.specs.Finish.{fault_of_error, EndsAtFault, EndsAtOutcome, Finishes, IsReplayEnding};
+ghost use Rattle.run_cli.specs.Finish.{EndsAtFault, EndsAtOutcome, Finishes, IsReplayEnding};
+ghost use Rattle.run_cli.specs.Short.{fault_of_error};
 
 use crate::command::Command;
 use crate::execution::{Executed, execute};
@@ -46,16 +48,19 @@ pub fn status_of_outcome(outcome: RunOutcome) -> u8
 // The line of want of memory, which takes none.
 const MEMORY_LINE: &[u8] = b"{\"fault\":\"memory\",\"status\":11}\n";
 
-/// Says that memory was wanting, where the sink takes that.
-pub fn end_for_memory<K: Sink>(sink: &mut K)
-    ensures { K.faults sink.old ≤ K.faults sink.new }
+// Says that memory was wanting, where the sink takes that.
+fn end_for_memory<K: Sink>(sink: &mut K)
+    ensures said { (n : ℕ) × Takes (K.taken sink.old) (K.taken sink.new) (take n (fault_only Memory)) }
+    ensures later { K.faults sink.old ≤ K.faults sink.new }
 {
     let _ = write_all(sink, MEMORY_LINE);
 }
 
 /// Ends for want of memory, and says so where the sink takes that.
 pub fn end_without_memory<K: Sink>(sink: K) -> Ended<K>
-    ensures { result.ending ≡ Err Memory }
+    ensures ending { result.ending ≡ Err Memory }
+    ensures said { (n : ℕ) × Takes (K.taken sink) (K.taken result.sink) (take n (fault_only Memory)) }
+    ensures later { K.faults sink ≤ K.faults result.sink }
 {
     let mut sink = sink;
     end_for_memory(&mut sink);
@@ -71,15 +76,13 @@ pub fn end_at_fault<K: Sink>(alloc: Global, sink: K, asks: &[u8], fault: Fault) 
         result.ending }
 {
     let mut sink = sink;
-    let ending = match write_fault(alloc, &mut sink, asks, fault) {
-        Ok(()) => Err(fault),
-        Err(WriteError::Failed) => Err(fault),
-        Err(WriteError::OutOfMemory) => {
-            end_for_memory(&mut sink);
-            Err(Fault::Memory)
-        }
-    };
-    Ended { ending, sink }
+    match write_fault(alloc, &mut sink, asks, fault) {
+        Ok(()) | Err(WriteError::Failed) => Ended {
+            ending: Err(fault),
+            sink,
+        },
+        Err(WriteError::OutOfMemory) => end_without_memory(sink),
+    }
 }
 
 /// Writes lines of asks and an outcome. A write that fails makes the outcome a fault.
@@ -89,15 +92,17 @@ pub fn end_at_outcome<K: Sink>(alloc: Global, sink: K, asks: &[u8], outcome: Run
     ensures later { K.faults sink ≤ K.faults result.sink }
 {
     let mut sink = sink;
-    let ending = match write_outcome(alloc, &mut sink, asks, outcome) {
-        Ok(()) => Ok(outcome),
-        Err(WriteError::Failed) => Err(Fault::Report),
-        Err(WriteError::OutOfMemory) => {
-            end_for_memory(&mut sink);
-            Err(Fault::Memory)
-        }
-    };
-    Ended { ending, sink }
+    match write_outcome(alloc, &mut sink, asks, outcome) {
+        Ok(()) => Ended {
+            ending: Ok(outcome),
+            sink,
+        },
+        Err(WriteError::Failed) => Ended {
+            ending: Err(Fault::Report),
+            sink,
+        },
+        Err(WriteError::OutOfMemory) => end_without_memory(sink),
+    }
 }
 
 // The fault that an error of the engine is.

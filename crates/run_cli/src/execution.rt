@@ -1,12 +1,11 @@
 // Carries out the turns of a run, and writes its events to a sink as they are told.
 ghost use Rattle.std.specs.Prelude.{◌≡◌, ◌<◌, ◌^◌, length};
-ghost use Rattle.run_engine.specs.Execution.{UnlessMemory};
 ghost use Rattle.run_output.specs.Shown.{first_screen};
 ghost use Rattle.run_progress.specs.declared.max_running.MaxProgressRunning.TheVariants.{Count};
 ghost use Rattle.run_cli.specs.Call.{writing_of};
 ghost use Rattle.run_cli.specs.Clocks.{turn_clocks};
 ghost use Rattle.run_cli.specs.Commands.{form_of, progress_form};
-ghost use Rattle.run_cli.specs.Executed.{HasExecuted};
+ghost use Rattle.run_cli.specs.Finish.{IsAnswered};
 ghost use Rattle.run_cli.specs.Text.{whole_form};
 
 use crate::clocks::turn_clocks;
@@ -52,9 +51,8 @@ fn execute_at<K: Sink, O: Origin>(
     requires taken { O.taken_before ≡ K.taken sink }
     requires faults { O.faults_before ≡ K.faults sink }
     requires few { length turns.now < 2 ^ 32 }
-    ensures { UnlessMemory result.answer
-        (HasExecuted whole_form runner turns.now (writing_of K.Sink sink result.sink)
-        result.asks result.answer) }
+    ensures { IsAnswered whole_form runner turns.now (writing_of K.Sink sink result.sink)
+        result.asks result.answer }
 {
     let mut reporter = TiedReporter::<K, O>::new(sink);
     let mut asks = AskLines::new(alloc);
@@ -80,9 +78,8 @@ fn show_at<K: Sink, O: Beginning>(
     requires display { O.display ≡ first_screen runner.plan.head.mode (Count 8) width clocks }
     requires clocks { clocks ≡ turn_clocks 0 turns.now }
     requires few { length turns.now < 2 ^ 32 }
-    ensures { UnlessMemory result.answer
-        (HasExecuted (progress_form runner width) runner turns.now
-        (writing_of K.Sink sink result.sink) result.asks result.answer) }
+    ensures { IsAnswered (progress_form runner width) runner turns.now
+        (writing_of K.Sink sink result.sink) result.asks result.answer }
 {
     let plan = &runner.settings().plan;
     let mode = plan.head.mode;
@@ -111,9 +108,8 @@ fn show<K: Sink>(
     sink: K,
 ) -> Executed<K>
     requires { length turns.now < 2 ^ 32 }
-    ensures { UnlessMemory result.answer
-        (HasExecuted (progress_form runner width) runner turns.now
-        (writing_of K.Sink sink result.sink) result.asks result.answer) }
+    ensures { IsAnswered (progress_form runner width) runner turns.now
+        (writing_of K.Sink sink result.sink) result.asks result.answer }
 {
     match turn_clocks(alloc, turns) {
         Ok(clocks) => show_at::<K, Brand>(alloc, runner, width, clocks, turns, sink),
@@ -134,9 +130,8 @@ pub fn execute<K: Sink>(
     sink: K,
 ) -> Executed<K>
     requires { length turns.now < 2 ^ 32 }
-    ensures { UnlessMemory result.answer
-        (HasExecuted (form_of command runner) runner turns.now
-        (writing_of K.Sink sink result.sink) result.asks result.answer) }
+    ensures { IsAnswered (form_of command runner) runner turns.now
+        (writing_of K.Sink sink result.sink) result.asks result.answer }
 {
     match command {
         Command::Replay => execute_at::<K, Brand>(alloc, runner, turns, sink),

@@ -6,7 +6,7 @@ ghost use Rattle.run_cli.specs.Call.{TakesFront, writing_of};
 ghost use Rattle.run_cli.specs.Generates.{EndsAtSummary, IsGenerateEnd, generated_line};
 ghost use Rattle.run_cli.specs.Write.{CountsWrite};
 
-use crate::ended::{Ended, end_at_fault, end_for_memory};
+use crate::ended::{Ended, end_at_fault, end_without_memory};
 use crate::write::{WriteError, write_line};
 use run_capture::Sink;
 use run_generate::{GenerateError, Generated, generate};
@@ -35,15 +35,17 @@ fn end_at_summary<K: Sink>(alloc: Global, sink: K, tests: u32, run: Generated) -
     ensures { EndsAtSummary (writing_of K.Sink sink result.sink) tests run result.ending }
 {
     let mut sink = sink;
-    let ending = match write_summary(alloc, &mut sink, tests, &run) {
-        Ok(()) => Ok(run.outcome),
-        Err(WriteError::Failed) => Err(Fault::Report),
-        Err(WriteError::OutOfMemory) => {
-            end_for_memory(&mut sink);
-            Err(Fault::Memory)
-        }
-    };
-    Ended { ending, sink }
+    match write_summary(alloc, &mut sink, tests, &run) {
+        Ok(()) => Ended {
+            ending: Ok(run.outcome),
+            sink,
+        },
+        Err(WriteError::Failed) => Ended {
+            ending: Err(Fault::Report),
+            sink,
+        },
+        Err(WriteError::OutOfMemory) => end_without_memory(sink),
+    }
 }
 
 /// Carries out a generated run of so many tests, and writes its line.

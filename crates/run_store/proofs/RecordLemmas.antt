@@ -1,5 +1,5 @@
 -- A whole record is split off, whatever follows it; bytes that begin no record go on to begin none.
-use Rattle.std.proofs.Common.{◌≡◌, ◌∙◌, ℕ, zero, suc, ◌+◌, ◌<◌, ◌≤◌, ◌^◌, ◌||◌, List, [], ◌∷◌, ◌++◌, length, take, drop}
+use Rattle.std.proofs.Common.{◌≡◌, ◌∙◌, ℕ, zero, suc, ◌<◌, ◌≤◌, ◌^◌, ◌||◌, List, [], ◌∷◌, ◌++◌, length, take, drop}
 use Rattle.std.proofs.Common.{Some, None, Option, Bool, true, false, if◌then◌else◌, not, nat_lt, refl, sym, ap, ap₂}
 use Rattle.std.proofs.Common.{arith, length-append, true≢false}
 use Rattle.std.specs.Int.{w32, to_be_bytes, from_be_bytes}

@@ -1,8 +1,8 @@
 -- Any bytes are read in exactly one way, and no front part of a store text has a bad record.
 use Rattle.std.proofs.Common.{◌≡◌, ◌∙◌, ℕ, zero, suc, ◌+◌, ◌<◌, ◌≤◌, ◌^◌, ◌==◌, ◌&&◌, ◌||◌, ◌⊎◌, inl, inr, List, []}
-use Rattle.std.proofs.Common.{◌∷◌, ◌++◌, length, drop, Some, None, Option, Bool, true, false, if◌then◌else◌, nat_lt}
-use Rattle.std.proofs.Common.{refl, sym, ap, ap₂, arith, subst, append_assoc, append-nil, true≢false, bytes_eq}
-use Rattle.std.proofs.Common.{ltb-true, eqb-true, length-append}
+use Rattle.std.proofs.Common.{◌∷◌, ◌++◌, length, drop, Some, None, Option, Bool, true, false, nat_lt, refl, sym, ap}
+use Rattle.std.proofs.Common.{ap₂, arith, subst, append_assoc, append-nil, true≢false, bytes_eq, ltb-true, eqb-true}
+use Rattle.std.proofs.Common.{length-append}
 use Rattle.std.specs.Int.{w32, to_be_bytes}
 use Rattle.std.specs.Option.{option_map_or}
 use Rattle.std.proofs.lemmas.Bool.{and_parts, cases_lt}

@@ -46,7 +46,7 @@ IsStoredTurn t = (turn_line_of (turn_text t) ≡ Some t) × (length (turn_text t
 abbrev pub TurnsAreStored : Type 0
 TurnsAreStored = (t : Turn) → IsTurn t → length (turn_text t) ≤ most_bytes → IsStoredTurn t
 
--- each is such a turn
+-- a store can have each of these turns
 abbrev pub AreStored : List Turn → Type 0
 AreStored [] = ⊤
 AreStored (t ∷ turns) = IsStoredTurn t × AreStored turns

@@ -7,22 +7,26 @@ use run_capture::{Blob, Text};
 use run_commands::EnvInput;
 use run_events::{ChildExit, KeyCode, Turn};
 
+// A text is UTF-8.
 fn known_text(text: &Text)
     ensures { IsUtf8 text.now }
 {
     let _text = text.as_str();
 }
 
+// What a slice of bytes holds are bytes.
 fn known_items(bytes: &[u8])
     ensures { IsBytes bytes.now }
 {}
 
+// What a blob holds are bytes.
 fn known_bytes(bytes: &Blob)
     ensures { IsBytes bytes.now }
 {
     known_items(bytes.as_slice());
 }
 
+// A code and a signal are numbers of 32 bits with a sign.
 fn known_exit(exit: ChildExit)
     ensures { IsExit exit }
 {
@@ -32,6 +36,7 @@ fn known_exit(exit: ChildExit)
     }
 }
 
+// What was read of an environment file is bytes.
 fn known_env(input: &EnvInput)
     ensures { IsEnvInput input.now }
 {
@@ -41,6 +46,7 @@ fn known_env(input: &EnvInput)
     }
 }
 
+// A character is one.
 fn known_code(code: KeyCode)
     ensures { IsKeyCode code }
 {
@@ -50,6 +56,7 @@ fn known_code(code: KeyCode)
     }
 }
 
+// A number of 32 bits.
 fn known_unit(unit: u32)
     ensures { IsU32 unit }
 {}

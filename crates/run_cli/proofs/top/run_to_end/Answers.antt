@@ -1,4 +1,4 @@
-use Rattle.run_cli.proofs.GivenLemmas.{given_few, given_says}
+use Rattle.run_cli.proofs.GivenLemmas.{given_few, given_says, refused_says}
 use Rattle.run_cli.proofs.top.run_to_end.Goals as goal
 
 pub replay_input-requires-clause-units : goal.replay_input-requires-clause-units
@@ -15,3 +15,7 @@ returns-in-Ok-clause-says g c =
     given_says _ c.in-Ok.command input.keys input.plan input.turns c.replay_input.result.ending c.in-Ok.ensures.named
     c.in-Ok.ensures.given
     c.replay_input.ensures
+
+pub returns-in-Err-clause-says : goal.returns-in-Err-clause-says
+returns-in-Err-clause-says g c =
+    refused_says _ c.in-Err.fault c.end_at_fault.result.ending c.in-Err.ensures.refused c.end_at_fault.ensures
