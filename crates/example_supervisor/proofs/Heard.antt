@@ -125,6 +125,7 @@ at_first run ledger yard p fresh empty = record {
   asked = tt;
   part = inl (refl, refl);
   whole = λ e. (refl, refl);
+  room = inl (refl, refl);
 }
 
 -- a run that takes a turn by itself, or none, still differs in its journal alone

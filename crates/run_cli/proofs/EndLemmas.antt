@@ -100,7 +100,7 @@ replayed form p turns w v asks answer le x = record {
 }
 
 -- the lines of a run that ends at a fault
-fault_writes : (form : Form) (p : Settings) (turns : List Turn) (w v : Writing) (asks : List (ℕ × Ask))
+pub fault_writes : (form : Form) (p : Settings) (turns : List Turn) (w v : Writing) (asks : List (ℕ × Ask))
     (answer : Result RunOutcome (TestRunnerExecuteErrors Failed)) (fault : Fault) → v.taken ≡ w.taken_after
     → v.faults ≡ w.faults_after → (x : IsExecuted form p turns w asks answer) → v.faults ≤ v.faults_after
     → Writes v (ask_lines asks ++ fault_only fault)
@@ -148,7 +148,7 @@ taken_by p turns journal refusal (Err engine.Unfinished) some h = (length turns,
 taken_by p turns journal refusal (Err engine.OutOfMemory) some h = absurd (some refl)
 
 -- a run that was answered, after whose turns memory was wanting
-short_of : (form : Form) (p : Settings) (turns : List Turn) (w v : Writing) (asks : List (ℕ × Ask))
+pub short_of : (form : Form) (p : Settings) (turns : List Turn) (w v : Writing) (asks : List (ℕ × Ask))
     (answer : Result RunOutcome (TestRunnerExecuteErrors Failed)) → (answer ≡ Err engine.OutOfMemory → ⊥)
     → v.taken ≡ w.taken_after → v.faults ≡ w.faults_after → IsExecuted form p turns w asks answer
     → IsShort (ask_lines asks ++ line_bytes (last_text (ending_by answer))) v
@@ -182,7 +182,7 @@ short_of form p turns w v asks answer some on from x h =
     }
 
 -- one for which memory was wanting
-short_run : (form : Form) (p : Settings) (turns : List Turn) (w v : Writing) (asks : List (ℕ × Ask))
+pub short_run : (form : Form) (p : Settings) (turns : List Turn) (w v : Writing) (asks : List (ℕ × Ask))
     → v.taken ≡ w.taken_after → v.faults ≡ w.faults_after → IsRunOut form p turns w asks
     → IsShort (ask_lines asks ++ fault_only Memory) v → RunsShort form p turns (then_writing w v)
 short_run form p turns w v asks on from x h = record {

@@ -1,5 +1,5 @@
 -- How `live` ends, by what the source gave and how the run of its plan ended.
-use Rattle.std.proofs.Common.{◌≡◌, ◌≤◌, inl, inr, List, [], Option, None, true}
+use Rattle.std.proofs.Common.{◌≡◌, ◌≤◌, ◌⊎◌, inl, inr, List, [], Option, None, true}
 use Rattle.std.proofs.Common.{Err}
 use Rattle.std.proofs.Common.{refl, sym, subst, arith}
 use Rattle.run_input.specs.declared.plan_line.RunnerKeys.{RunnerKeys}
@@ -21,9 +21,12 @@ use Rattle.run_cli.specs.declared.live.LiveEnding.TheVariants as ends
 use Rattle.run_cli.specs.Call.{Call, Reading, Writing}
 use Rattle.run_cli.specs.Given.{SaysInput, CountsRead}
 use Rattle.run_cli.specs.LiveGiven.{IsLiveWord, IsLineFault}
-use Rattle.run_cli.specs.Live.{live_settings, live_refusal, unheard, IsRunEnd, IsPlanEnd, IsLiveEnd}
+use Rattle.run_cli.specs.Live.{live_settings, live_refusal, unheard, HasLivePlan, IsRunEnd, IsPlanEnd, IsLiveEnd}
 use Rattle.run_cli.specs.Live.{CountsLive, is_unbegun, live_status}
-use Rattle.run_cli.specs.Text.{outcome_status}
+use Rattle.run_cli.specs.Short.{IsShort}
+use Rattle.run_cli.specs.Text.{fault_only, outcome_status}
+use Rattle.run_cli.specs.Unclosed.{LivesShort, WantsMemoryAlone}
+use Rattle.run_cli.proofs.ShortLemmas.{short_written}
 use Rattle.run_cli.specs.Lived.{IsFaultEnd}
 use Rattle.run_cli.specs.Plans.{builder_of, fault_of_plan}
 
@@ -35,7 +38,7 @@ accepted_end said keys plan w live (ends.Outcome o) accepted h = (accepted, h)
 accepted_end said keys plan w live ends.Receipt accepted h = (accepted, h)
 accepted_end said keys plan w live (ends.Fault Report) accepted h = (accepted, h)
 accepted_end said keys plan w live (ends.Fault Unfinished) accepted h = (accepted, h)
-accepted_end said keys plan w live (ends.Fault Memory) accepted h = h
+accepted_end said keys plan w live (ends.Fault Memory) accepted h = (h.0, inr (accepted, h.1))
 accepted_end said keys plan w live (ends.Fault Words) accepted h = absurd h
 accepted_end said keys plan w live (ends.Fault (Line n)) accepted h = absurd h
 accepted_end said keys plan w live (ends.Fault (BadPlan f)) accepted h = absurd h
@@ -46,19 +49,20 @@ accepted_end said keys plan w live (ends.Fault TooLong) accepted h = absurd h
 
 -- want of memory is an end of every plan and of every call
 memory_plan : {W : Type 0} (said : W → List Heard → Type 0) (keys : RunnerKeys) (plan : Plan) (w : Writing)
-    (live : Option (Live W)) (ending : LiveEnding) → ending ≡ ends.Fault Memory → live ≡ None
-    → IsPlanEnd said keys plan w live ending
-memory_plan said keys plan w live ending is none =
-    subst (λ e. IsPlanEnd said keys plan w live e) (sym is) none
+    (live : Option (Live W)) (ending : LiveEnding) (fault : Fault) → ending ≡ ends.Fault Memory → live ≡ None
+    → IsShort (fault_only fault) w → IsPlanEnd said keys plan w live ending
+memory_plan said keys plan w live ending fault is none short =
+    subst (λ e. IsPlanEnd said keys plan w live e) (sym is) (none, inl (fault, short))
 
 -- the end of a plan that is refused
 pub refused_end : {W : Type 0} (said : W → List Heard → Type 0) (keys : RunnerKeys) (plan : Plan) (w : Writing)
     (live : Option (Live W)) (ending : LiveEnding) (error : TestRunnerBuildError)
     → IsBuilt (builder_of keys) (unheard plan) (Err error) → IsFaultEnd w (fault_of_plan error) ending → live ≡ None
     → IsPlanEnd said keys plan w live ending
-refused_end said keys plan w live ending error h (inl m) none = memory_plan said keys plan w live ending m none
+refused_end said keys plan w live ending error h (inl m) none =
+    memory_plan said keys plan w live ending (fault_of_plan error) m.0 none m.1
 refused_end said keys plan w live ending build.OutOfMemory h (inr e) none =
-    memory_plan said keys plan w live ending e.0 none
+    memory_plan said keys plan w live ending Memory e.0 none (short_written [] w e.1)
 refused_end said keys plan w live ending (build.ZeroLimit g) h (inr e) none =
     subst (λ e. IsPlanEnd said keys plan w live e) (sym e.0) ((build.ZeroLimit g, h, refl), e.1, none)
 refused_end said keys plan w live ending (build.DuplicateTest k) h (inr e) none =
@@ -84,7 +88,13 @@ plan_says said c keys plan live (ends.Fault Unfinished) word given h =
     (record { word = word; keys = keys; plan = plan; given = given; accepted = h.0 }, h.1)
 plan_says said c keys plan live (ends.Fault (BadPlan f)) word given h =
     (record { keys = keys; plan = plan; given = given; error = h.0.0; refused = h.0.1; says = h.0.2 }, h.1, h.2)
-plan_says said c keys plan live (ends.Fault Memory) word given h = h
+plan_says said c keys plan live (ends.Fault Memory) word given h = (h.0, by_run h.1)
+  where
+    by_run : WantsMemoryAlone c.sink ⊎ ((live_refusal keys plan ≡ None) × LivesShort c.sink)
+        → WantsMemoryAlone c.sink ⊎ (HasLivePlan c × LivesShort c.sink)
+    by_run (inl before) = inl before
+    by_run (inr run) =
+        inr (record { word = word; keys = keys; plan = plan; given = given; accepted = run.0 }, run.1)
 plan_says said c keys plan live (ends.Fault Words) word given h = absurd h.1
 plan_says said c keys plan live (ends.Fault (Line n)) word given h = absurd h.1
 plan_says said c keys plan live (ends.Fault (NotEnabled n)) word given h = absurd h.1
@@ -97,14 +107,15 @@ pub fault_says : {W : Type 0} (said : W → List Heard → Type 0) (c : Call) (f
     (ending : LiveEnding) → IsLineFault c.source fault → CountsRead {T = RunnerKeys × Plan} c.source (Err fault)
     → IsFaultEnd c.sink fault ending → live ≡ None → IsLiveEnd said c live ending
 fault_says said c fault live ending why counted (inl m) none =
-    subst (λ e. IsLiveEnd said c live e) (sym m) none
+    subst (λ e. IsLiveEnd said c live e) (sym m.0) (none, inl (fault, m.1))
 fault_says said c (Line n) live ending why counted (inr e) none =
     subst (λ e. IsLiveEnd said c live e) (sym e.0) (why, e.1, none)
 fault_says said c Read live ending why counted (inr e) none =
     subst (λ e. IsLiveEnd said c live e) (sym e.0) (why, counted.1, e.1, none)
 fault_says said c TooLong live ending why counted (inr e) none =
     subst (λ e. IsLiveEnd said c live e) (sym e.0) (why, e.1, none)
-fault_says said c Memory live ending why counted (inr e) none = subst (λ e. IsLiveEnd said c live e) (sym e.0) none
+fault_says said c Memory live ending why counted (inr e) none =
+    subst (λ e. IsLiveEnd said c live e) (sym e.0) (none, inl (Memory, short_written [] c.sink e.1))
 fault_says said c Words live ending why counted (inr e) none = absurd why
 fault_says said c (BadPlan f) live ending why counted (inr e) none = absurd why
 fault_says said c (NotEnabled n) live ending why counted (inr e) none = absurd why
@@ -132,7 +143,7 @@ plan_counts said keys plan w r live (ends.Fault TooLong) same h = same
 -- and rises where reading failed
 pub fault_counts : (w : Writing) (r : Reading) (fault : Fault) (ending : LiveEnding) → IsLineFault r fault
     → CountsRead {T = RunnerKeys × Plan} r (Err fault) → IsFaultEnd w fault ending → CountsLive r ending
-fault_counts w r fault ending why counted (inl m) = subst (CountsLive r) (sym m) (grown fault counted)
+fault_counts w r fault ending why counted (inl m) = subst (CountsLive r) (sym m.0) (grown fault counted)
   where
     grown : (fault : Fault) → CountsRead {T = RunnerKeys × Plan} r (Err fault) → r.faults ≤ r.faults_after
     grown Read h = h.0

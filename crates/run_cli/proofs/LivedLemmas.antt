@@ -26,11 +26,12 @@ use Rattle.run_output.specs.Told.{HasTold, event_lines, some_refused}
 use Rattle.run_cli.specs.Call.{Writing}
 use Rattle.run_cli.specs.Text.{whole_form}
 use Rattle.run_cli.specs.Executed.{IsExecuted}
-use Rattle.run_shared.specs.Closed.{IsLeft}
+use Rattle.run_shared.specs.Closed.{IsLeft, IsLeftUnclosed}
+use Rattle.run_shared.specs.declared.closing.CloseError.{CloseError}
 use Rattle.run_drive.specs.declared.spawner.Heard.{Heard}
 use Rattle.run_live.specs.declared.lived.Lived.{Lived}
 use Rattle.run_cli.specs.Live.{IsClosed, IsUnclosed}
-use Rattle.run_cli.specs.Lived.{IsOver, IsLeftOver}
+use Rattle.run_cli.specs.Lived.{HasWritten, HasWrittenRefused, IsOver, IsLeftOver}
 use Rattle.run_cli.proofs.ToldLines.{first_refused, executed_whole}
 
 -- marks beside as many events are the marks
@@ -119,8 +120,8 @@ rough_error p w n journal asks o x = by_error (first_error x.events) refl (x.mar
     by_error (Some d) e some = (d, e)
 
 -- what the threads of a run left, where its receipts are borne out
-pub closed_from : {W R : Type 0} (said : W → List Heard → Type 0)
-    (tells : R → List (ReporterEvent × Option Failed) → Type 0) (p : Settings) (l : Lived W R)
+pub closed_from : {W T R : Type 0} (said : W → List Heard → Type 0)
+    (tells : R → List (ReporterEvent × Option Failed) → Type 0) (p : Settings) (l : Lived W T R)
     → IsLeftOver said tells p l → IsNone l.live.error → IsClosed said p l.live
 closed_from said tells p l x none = record {
   legal = (x.left none).legal.legal;
@@ -137,8 +138,8 @@ both_some P Q None p q some = cc
 both_some P Q (Some e) p q some = (p, q)
 
 -- and where they are refused
-pub unclosed_from : {W R : Type 0} (said : W → List Heard → Type 0)
-    (tells : R → List (ReporterEvent × Option Failed) → Type 0) (p : Settings) (l : Lived W R)
+pub unclosed_from : {W T R : Type 0} (said : W → List Heard → Type 0)
+    (tells : R → List (ReporterEvent × Option Failed) → Type 0) (p : Settings) (l : Lived W T R)
     → IsLeftOver said tells p l → is_some l.live.error ≡ true → IsUnclosed said p l.live
 unclosed_from said tells p l x some =
     record { why = both_some _ _ l.live.error x.refused x.kind some; own = x.own; count = x.count }
@@ -162,3 +163,35 @@ over_from tells p w n report journal asks o refused told marked x =
       told = told x.events x.told;
       marked = marked x.events x.told;
     }
+
+-- and where it isn't over
+pub written_from : {R : Type 0} (tells : R → List (ReporterEvent × Option Failed) → Type 0) (p : Settings) (w : Writing)
+    (n : ℕ) (report : R) (journal : List Entry) (asks : List (ℕ × Ask)) (end : Option RunOutcome)
+    → ((ys : List (ReporterEvent × Option Failed)) → tells report ys
+    → HasTold w.taken w.taken_after w.faults w.faults_after n (event_lines ys))
+    → IsLeft tells report asks p journal end → HasWritten p w n journal asks
+written_from tells p w n report journal asks end told x = record {
+  runnable = x.legal;
+  events = x.events;
+  extra = x.extra;
+  sent = x.sent;
+  flags = x.flags;
+  asked = x.asked;
+  part = x.part;
+  room = x.room;
+  told = told x.events x.told;
+}
+
+-- and where its receipts are refused
+pub refused_from : {R : Type 0} (tells : R → List (ReporterEvent × Option Failed) → Type 0) (p : Settings) (w : Writing)
+    (n : ℕ) (report : R) (journal : List Entry) (asks : List (ℕ × Ask)) (error : Option CloseError)
+    → ((ys : List (ReporterEvent × Option Failed)) → tells report ys
+    → HasTold w.taken w.taken_after w.faults w.faults_after n (event_lines ys))
+    → IfSome error (λ e. IsLeftUnclosed tells report asks p journal e.kind)
+    → IfSome error (λ e. HasWrittenRefused p w n journal asks e.kind)
+refused_from tells p w n report journal asks None told x = tt
+refused_from tells p w n report journal asks (Some e) told x = record {
+  settings = x.settings;
+  same = x.same;
+  written = written_from tells x.settings w n report journal asks _ told x.left;
+}

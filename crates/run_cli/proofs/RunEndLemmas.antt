@@ -22,8 +22,12 @@ use Rattle.run_cli.specs.Text.{whole_form, fault_only}
 use Rattle.run_cli.specs.Executed.{IsExecuted}
 use Rattle.run_cli.specs.Finish.{EndsAtFault, EndsAtOutcome}
 use Rattle.run_cli.specs.Live.{IsClosed, IsRunEnd}
-use Rattle.run_cli.specs.Lived.{IsOver, EndsOver, IsOpenFault, ending_of, kept_by}
-use Rattle.run_cli.proofs.EndLemmas.{rose_then, whole_text, took_parts, report_of}
+use Rattle.run_cli.specs.Lived.{HasWritten, IsOver, EndsOver, IsOpenFault, ending_of, kept_by}
+use Rattle.run_cli.specs.Short.{IsShort}
+use Rattle.run_cli.specs.Unclosed.{LivesShort}
+use Rattle.run_cli.proofs.EndLemmas.{rose_then, whole_text, took_parts, report_of, fault_writes, short_of}
+use Rattle.run_cli.proofs.GivenUpLemmas.{executed_full, lives_short, run_out}
+use Rattle.run_cli.proofs.ShortLemmas.{short_written}
 use Rattle.run_cli.proofs.GivenLemmas.{finished}
 use Rattle.run_cli.proofs.ToldLines.{executed_from, executed_whole}
 use Rattle.run_cli.proofs.LivedLemmas.{executed_calm, executed_rough, rough_error}
@@ -49,7 +53,11 @@ calm_ends said p w v n l asks o (Err Report) on from closed x h =
       (closed, (o, finished p l.journal o closed.legal x.over, parts)),
       subst (λ n. Rose n v.faults_after) (from ∙ run.quiet refl) h.1,
     )
-calm_ends said p w v n l asks o (Err Memory) on from closed x h = refl
+calm_ends said p w v n l asks o (Err Memory) on from closed x h =
+    let run : IsExecuted whole_form p (turns_of l.journal) w asks (Ok o) = executed_calm p w n l.journal asks o x in (
+      refl,
+      (p, turns_of l.journal, short_of whole_form p (turns_of l.journal) w v asks (Ok o) (λ e. cc) on from run h),
+    )
 calm_ends said p w v n l asks o (Err Words) on from closed x h = absurd h
 calm_ends said p w v n l asks o (Err (Line k)) on from closed x h = absurd h
 calm_ends said p w v n l asks o (Err (BadPlan f)) on from closed x h = absurd h
@@ -62,13 +70,14 @@ calm_ends said p w v n l asks o (Err TooLong) on from closed x h = absurd h
 -- an end at a fault is this fault or want of memory
 pub fault_or_memory : {W : Type 0} (said : W → List Heard → Type 0) (p : Settings) (w v : Writing) (l : Live W)
     (asks : List (ℕ × Ask)) (fault : Fault) (ending : Result RunOutcome Fault)
+    → (IsShort (ask_lines asks ++ fault_only fault) v → LivesShort w)
     → (v.faults ≤ v.faults_after → Writes v (ask_lines asks ++ fault_only fault)
     → IsRunEnd said p w (kept_by (Err fault) l) (ending_of (Err fault)))
     → EndsAtFault v (ask_lines asks) fault ending → IsRunEnd said p w (kept_by ending l) (ending_of ending)
-fault_or_memory said p w v l asks fault (Ok o) says h = absurd h
-fault_or_memory said p w v l asks fault (Err e) says (inl m) =
-    subst (λ f. IsRunEnd said p w (kept_by (Err f) l) (ending_of (Err f))) (sym m.0) refl
-fault_or_memory said p w v l asks fault (Err e) says (inr h) =
+fault_or_memory said p w v l asks fault (Ok o) short says h = absurd h
+fault_or_memory said p w v l asks fault (Err e) short says (inl m) =
+    subst (λ f. IsRunEnd said p w (kept_by (Err f) l) (ending_of (Err f))) (sym m.0) (refl, short m.1)
+fault_or_memory said p w v l asks fault (Err e) short says (inr h) =
     subst (λ f. IsRunEnd said p w (kept_by (Err f) l) (ending_of (Err f))) (sym h.0) (says h.1 h.2)
 
 -- one that had an event refused, after that fault
@@ -84,6 +93,7 @@ rough_ends said p w v n l asks o ending on from closed x h =
     let run : IsExecuted whole_form p (turns_of l.journal) w asks answer =
     executed_rough p w n l.journal asks o first.0 x first.1 in
     fault_or_memory said p (then_writing w v) v l asks Report ending
+    (λ h. (p, turns_of l.journal, short_of whole_form p (turns_of l.journal) w v asks answer (λ e. cc) on from run h))
     (λ le writes. (
       (
         closed,
@@ -98,18 +108,34 @@ rough_ends said p w v n l asks o ending on from closed x h =
     )) h
 
 -- a run whose journal is full and that isn't over, after that fault; and want of memory
-pub full_ends : {W : Type 0} (said : W → List Heard → Type 0) (p : Settings) (w v : Writing) (l : Live W)
-    (asks : List (ℕ × Ask)) (ending : Result RunOutcome Fault) → IsClosed said p l
-    → length l.journal ≡ 4294967295 → outcome p (past_of p l.journal) ≡ None
-    → EndsAtFault v (ask_lines asks) Unfinished ending → IsRunEnd said p w (kept_by ending l) (ending_of ending)
-full_ends said p w v l asks ending closed full none h =
-    fault_or_memory said p w v l asks Unfinished ending
-    (λ le writes. (closed, full, not_over p l.journal closed.legal none)) h
+full_ends : {W : Type 0} (said : W → List Heard → Type 0) (p : Settings) (w v : Writing) (n : ℕ) (l : Live W)
+    (asks : List (ℕ × Ask)) (ending : Result RunOutcome Fault) → v.taken ≡ w.taken_after → v.faults ≡ w.faults_after
+    → IsClosed said p l → length l.journal ≡ 4294967295 → outcome p (past_of p l.journal) ≡ None
+    → HasWritten p w n l.journal asks → EndsAtFault v (ask_lines asks) Unfinished ending
+    → IsRunEnd said p (then_writing w v) (kept_by ending l) (ending_of ending)
+unfolding executed_full executed_whole executed_from
+full_ends said p w v n l asks ending on from closed full none x h =
+    let turns = turns_of l.journal in
+    let answer = Err engine.Unfinished in
+    let run : IsExecuted whole_form p turns w asks answer = executed_full p w n l.journal asks x full none in
+    fault_or_memory said p (then_writing w v) v l asks Unfinished ending
+    (λ h. (p, turns, short_of whole_form p turns w v asks answer (λ e. cc) on from run h))
+    (λ le writes. (
+      closed,
+      full,
+      not_over p l.journal closed.legal none,
+      fault_writes whole_form p turns w v asks answer Unfinished on from run le writes,
+    )) h
 
-pub memory_ends : {W : Type 0} (said : W → List Heard → Type 0) (p : Settings) (w v : Writing) (l : Live W)
-    (asks : List (ℕ × Ask)) (ending : Result RunOutcome Fault)
-    → EndsAtFault v (ask_lines asks) Memory ending → IsRunEnd said p w (kept_by ending l) (ending_of ending)
-memory_ends said p w v l asks ending h = fault_or_memory said p w v l asks Memory ending (λ le writes. refl) h
+memory_ends : {W : Type 0} (said : W → List Heard → Type 0) (p : Settings) (w v : Writing) (n : ℕ) (l : Live W)
+    (asks : List (ℕ × Ask)) (ending : Result RunOutcome Fault) → v.taken ≡ w.taken_after → v.faults ≡ w.faults_after
+    → HasWritten p w n l.journal asks → EndsAtFault v (ask_lines asks) Memory ending
+    → IsRunEnd said p (then_writing w v) (kept_by ending l) (ending_of ending)
+memory_ends said p w v n l asks ending on from x h =
+    let short = lives_short p w v asks on from
+    (run_out p l.journal w n asks x.events x.extra x.sent x.runnable.legal x.flags x.asked x.part x.told) in
+    fault_or_memory said p (then_writing w v) v l asks Memory ending short
+    (λ le writes. (refl, short (short_written (ask_lines asks) v writes))) h
 
 -- so a run that is over ends, by whether an event was refused
 pub over_ends : {W : Type 0} (said : W → List Heard → Type 0) (p : Settings) (w v : Writing) (n : ℕ) (l : Live W)
@@ -123,12 +149,15 @@ over_ends said p w v n l asks o false ending on from closed x h =
     calm_ends said p w v n l asks o ending on from closed x h
 
 -- and one that isn't over
-pub open_ends : {W : Type 0} (said : W → List Heard → Type 0) (p : Settings) (w v : Writing) (l : Live W)
-    (asks : List (ℕ × Ask)) (fault : Fault) (ending : Result RunOutcome Fault) → IsClosed said p l
-    → outcome p (past_of p l.journal) ≡ None → IsOpenFault (length l.journal) fault
-    → EndsAtFault v (ask_lines asks) fault ending → IsRunEnd said p w (kept_by ending l) (ending_of ending)
-open_ends said p w v l asks fault ending closed none (inl full) h =
-    full_ends said p w v l asks ending closed full.1 none (subst
+pub open_ends : {W : Type 0} (said : W → List Heard → Type 0) (p : Settings) (w v : Writing) (n : ℕ) (l : Live W)
+    (asks : List (ℕ × Ask)) (fault : Fault) (ending : Result RunOutcome Fault) → v.taken ≡ w.taken_after
+    → v.faults ≡ w.faults_after → IsClosed said p l → outcome p (past_of p l.journal) ≡ None
+    → HasWritten p w n l.journal asks → IsOpenFault (length l.journal) fault
+    → EndsAtFault v (ask_lines asks) fault ending
+    → IsRunEnd said p (then_writing w v) (kept_by ending l) (ending_of ending)
+open_ends said p w v n l asks fault ending on from closed none x (inl full) h =
+    full_ends said p w v n l asks ending on from closed full.1 none x (subst
     (λ f. EndsAtFault v (ask_lines asks) f ending) full.0 h)
-open_ends said p w v l asks fault ending closed none (inr memory) h =
-    memory_ends said p w v l asks ending (subst (λ f. EndsAtFault v (ask_lines asks) f ending) memory h)
+open_ends said p w v n l asks fault ending on from closed none x (inr memory) h =
+    memory_ends said p w v n l asks ending on from x
+    (subst (λ f. EndsAtFault v (ask_lines asks) f ending) memory h)

@@ -1,12 +1,13 @@
 -- What a sink took, whole or in part.
-use Rattle.std.proofs.Common.{ℕ, ◌<◌, List, [], ◌∷◌, ◌++◌, length, take, drop, Option, Some, None}
+use Rattle.std.proofs.Common.{ℕ, ◌≡◌, ◌<◌, ◌≤◌, inl, inr, List, [], ◌∷◌, ◌++◌, length, take, drop, Option, Some, None}
 use Rattle.std.proofs.Common.{refl, ap, sym, ◌∙◌, append_assoc, length-append, arith}
-use Rattle.std.proofs.Common.{Result, Ok, Err, OnErr}
+use Rattle.std.proofs.Common.{Result, Ok, Err, OnErr, OnOk}
 use Rattle.std.proofs.lemmas.List.{append-nil, take-append-drop, length-drop}
 use Rattle.run_output.specs.Fields.{line_bytes}
 use Rattle.run_capture.specs.Bytes.{Takes}
 use Rattle.run_capture.proofs.BytesLemmas.{takes_both}
-use Rattle.run_cli.specs.Call.{TakesFront}
+use Rattle.run_capture.specs.Faults.{Rose}
+use Rattle.run_cli.specs.Call.{TakesFront, Writing, HasTaken, HasTakenFront, Writes}
 use Rattle.run_engine.proofs.PartLemmas.{on_err}
 
 -- a line has its line feed at least
@@ -50,3 +51,10 @@ front_after before between after first later one (front, left, some, is, h) = (
 pub on_err_then : {T E : Type 0} (r : Result T E) (P Q : Type 0) → (P → Q) → OnErr r P → OnErr r Q
 on_err_then (Ok x) P Q f h = tt
 on_err_then (Err e) P Q f h = f h
+
+-- bytes that a write took, whole or in front, by whether it failed
+pub writes_either : {T E : Type 0} (r : Result T E) (w : Writing) (text : List ℕ) → OnOk r (HasTaken w text)
+    → OnErr r (HasTakenFront w text) → OnOk r (w.faults_after ≡ w.faults)
+    → OnErr r ((w.faults ≤ w.faults_after) × Rose w.faults w.faults_after) → Writes w text
+writes_either (Ok x) w text ok front stays rose = inl (stays, ok)
+writes_either (Err e) w text ok front stays rose = inr (rose.0, rose.1, front)

@@ -13,6 +13,7 @@ pub mod Status
 pub mod Cause
 pub mod LiveGiven
 pub mod Live
-pub mod Lived
 pub mod Receipts
+pub mod Unclosed
+pub mod Lived
 pub mod Generates

@@ -29,11 +29,12 @@ use Rattle.run_cli.specs.declared.live.LiveEnding.TheVariants as ends
 use Rattle.run_cli.specs.Call.{Call, Reading, Writing, HasTaken, HasReadFault, HasWriteFault, Writes}
 use Rattle.run_cli.specs.Cause.{Gets, HasInput, HasTooMuch}
 use Rattle.run_cli.specs.Ending.{IsFinished}
-use Rattle.run_cli.specs.Executed.{TookParts, report_ending}
+use Rattle.run_cli.specs.Executed.{TookParts, WritesRun, report_ending}
 use Rattle.run_cli.specs.Given.{SaysInput, IsTooLong, IsWithin, CountsReadAtEnd, input_limit}
 use Rattle.run_cli.specs.LiveGiven.{IsLiveWord, HasBadPlanLine}
 use Rattle.run_cli.specs.Plans.{settings_for, plan_refusal, fault_of_plan}
 use Rattle.run_cli.specs.Status.{IsOutcomeStatus}
+use Rattle.run_cli.specs.Unclosed.{WritesRefusal, LivesShort, WantsMemoryAlone}
 use Rattle.run_cli.specs.Text.{whole_form, fault_only, rest_text, history_text, outcome_status}
 use Rattle.run_output.specs.Faults.{fault_status}
 
@@ -52,24 +53,25 @@ live_refusal keys plan = plan_refusal keys (unheard plan)
 abbrev pub workers_in : Settings → ℕ
 workers_in p = max 1 (min p.threads (units_in p))
 
--- a run was closed: each receipt stands in its journal, each place of which has one; what those of each worker tell of
--- children is what its spawner has said
+-- a run was closed: each receipt stands in its journal, each place of which has one; the receipts and the refusals of
+-- each worker are all that its spawner was asked and said, each child heard out
 pub record IsClosed {W : Type 0} (has_said : W → List Heard → Type 0) (p : Settings) (l : Live W) : Type 0 where
   pub legal : IsLegal p l.journal
   pub borne_out : IsNone l.error
   pub stands : All (StandsIn l.journal) (concatenated l.receipts)
   pub once : (k : ℕ) → k < length l.journal → times k (receipt_numbers (concatenated l.receipts)) ≡ 1
-  pub own : IsLive has_said l.workers.items l.receipts
+  pub own : IsLive has_said l.workers.items l.receipts l.refused
   pub count : length l.workers.items ≡ workers_in p
 
 -- the receipts of a run are refused, and why: never for want of memory
 pub record IsUnclosed {W : Type 0} (has_said : W → List Heard → Type 0) (p : Settings) (l : Live W) : Type 0 where
   pub why : IsSomeAnd l.error (λ e. Refuses p l.journal (concatenated l.receipts) e.kind × (e.kind ≢ OutOfMemory))
-  pub own : IsLive has_said l.workers.items l.receipts
+  pub own : IsLive has_said l.workers.items l.receipts l.refused
   pub count : length l.workers.items ≡ workers_in p
 
 -- how a run of real children ends, by what is handed back of it and what the sink took. With an outcome or status 9 it
--- is over; with status 8 its journal is full and it isn't; with status 13 its receipts are refused
+-- is over; with status 8 its journal is full and it isn't; with status 13 its receipts are refused; with 11 memory was
+-- wanting, and nothing of it is handed back
 abbrev pub IsRunEnd : {W : Type 0} → (W → List Heard → Type 0) → Settings → Writing → Option (Live W) → LiveEnding
     → Type 0
 IsRunEnd said p w live (ends.Outcome o) = IsSomeAnd live (λ l. IsClosed said p l × IsFinished p l.journal o
@@ -80,9 +82,11 @@ IsRunEnd said p w live (ends.Fault Report) = IsSomeAnd live (λ l. IsClosed said
     (report_ending l.journal o)) w))
     × HasWriteFault w
 IsRunEnd said p w live (ends.Fault Unfinished) = IsSomeAnd live (λ l. IsClosed said p l
-    × (length l.journal ≡ 4294967295) × (is_over (past_of p l.journal) ≡ false))
-IsRunEnd said p w live ends.Receipt = IsSomeAnd live (IsUnclosed said p)
-IsRunEnd said p w live (ends.Fault Memory) = live ≡ None
+    × (length l.journal ≡ 4294967295) × (is_over (past_of p l.journal) ≡ false)
+    × WritesRun whole_form (past_of p l.journal) (Err Unfinished) w)
+IsRunEnd said p w live ends.Receipt = IsSomeAnd live (λ l. IsUnclosed said p l
+    × IsSomeAnd l.error (λ e. WritesRefusal p l.journal e.kind w))
+IsRunEnd said p w live (ends.Fault Memory) = (live ≡ None) × LivesShort w
 IsRunEnd said p w live (ends.Fault _) = ⊥
 
 -- the one word is `live`, the source was read to its end, and its one line says a plan that is accepted
@@ -99,7 +103,8 @@ abbrev pub IsPlanEnd : {W : Type 0} → (W → List Heard → Type 0) → Runner
 IsPlanEnd said keys plan w live (ends.Fault (BadPlan fault)) =
     ((error : TestRunnerBuildError) × (live_refusal keys plan ≡ Some error) × (fault_of_plan error ≡ BadPlan fault))
     × Writes w (fault_only (BadPlan fault)) × (live ≡ None)
-IsPlanEnd said keys plan w live (ends.Fault Memory) = live ≡ None
+IsPlanEnd said keys plan w live (ends.Fault Memory) =
+    (live ≡ None) × (WantsMemoryAlone w ⊎ ((live_refusal keys plan ≡ None) × LivesShort w))
 IsPlanEnd said keys plan w live (ends.Fault fault) =
     (live_refusal keys plan ≡ None) × IsRunEnd said (live_settings keys plan) w live (ends.Fault fault)
 IsPlanEnd said keys plan w live (ends.Outcome o) =
@@ -125,7 +130,8 @@ IsLiveEnd said c live (ends.Fault (BadPlan fault)) =
 IsLiveEnd said c live (ends.Fault Read) =
     IsWithin c.source × HasReadFault c.source × Writes c.sink (fault_only Read) × (live ≡ None)
 IsLiveEnd said c live (ends.Fault TooLong) = IsTooLong c.source × Writes c.sink (fault_only TooLong) × (live ≡ None)
-IsLiveEnd said c live (ends.Fault Memory) = live ≡ None
+IsLiveEnd said c live (ends.Fault Memory) =
+    (live ≡ None) × (WantsMemoryAlone c.sink ⊎ (HasLivePlan c × LivesShort c.sink))
 IsLiveEnd said c live (ends.Fault Words) = ⊥
 IsLiveEnd said c live (ends.Fault (NotEnabled place)) = ⊥
 IsLiveEnd said c live (ends.Fault (ThirdSignal place)) = ⊥

@@ -118,8 +118,8 @@ fn fault_of(error: TestRunnerExecuteErrors<Failed>) -> Fault
     }
 }
 
-// Writes what is left to write of a run by its answer.
-fn finish<K: Sink>(
+/// Writes what is left to write of a run by its answer: the lines of its asks, and then its outcome or its fault.
+pub fn finish<K: Sink>(
     alloc: Global,
     sink: K,
     asks: &[u8],

@@ -31,8 +31,8 @@ pub fn is_live(words: &[String]) -> bool
     is_word(words, "live")
 }
 
-// The bytes of a source, or why there are none.
-fn read_bytes<S: Source>(alloc: Global, source: &mut S) -> Result<Blob, Fault>
+/// The bytes of a source, or why there are none.
+pub fn read_bytes<S: Source>(alloc: Global, source: &mut S) -> Result<Blob, Fault>
     ensures ok { IfOk result (λ bytes. IsAllOf (reading_of S.Source source.old source.new)
         bytes) }
     ensures refused { IfErr result (IsUnread (reading_of S.Source source.old source.new)) }

@@ -17,6 +17,10 @@ mod tied_progress;
 mod top;
 mod write;
 
+pub use command::Command;
+pub use ended::{Ended, end_at_fault, end_without_memory, finish, replay, status_of_outcome};
+pub use execution::{Executed, execute};
+pub use given::read_bytes;
 pub use live::LiveEnding;
 pub use plan_line::{read_plan_line, runner_of};
 // What a caller of `run` names besides, of the crates below.
@@ -29,4 +33,5 @@ pub use run_live::Live;
 pub use run_output::{
     Fault, LineReporter, ask_line, event_line, fault_line, outcome_line, turn_line,
 };
-pub use top::{Ran, run};
+pub use top::{Ran, fault_of_plan, replay_input, run};
+pub use write::{WriteError, write_line, write_rest};

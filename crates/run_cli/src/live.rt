@@ -1,15 +1,19 @@
 // The command `live`: the run of a plan by workers, and its last lines.
-ghost use Rattle.std.specs.Prelude.{◌≡◌, ℕ, length, None};
+ghost use Rattle.std.specs.Prelude.{◌≡◌, ℕ, length, take, None, IfSome, IsSome};
 ghost use Rattle.run_events.specs.declared.settings.Settings.{Settings};
 ghost use Rattle.run_model.specs.Journal.{past_of, outcome};
 ghost use Rattle.run_cli.specs.Call.{Writing, writing_of, then_writing};
 ghost use Rattle.run_cli.specs.Live.{IsClosed, IsUnclosed, IsRunEnd, live_status, workers_in};
 ghost use Rattle.run_cli.specs.Finish.{EndsAtFault, EndsAtOutcome};
+ghost use Rattle.run_capture.specs.Bytes.{Takes};
 ghost use Rattle.run_output.specs.Asks.{ask_lines};
+ghost use Rattle.run_output.specs.declared.fault.Fault.TheVariants.{Memory};
+ghost use Rattle.run_cli.specs.Text.{fault_only};
 ghost use Rattle.run_cli.specs.Lived.{IsOver, IsLeftOver, IsFaultEnd, EndsOver, IsOpenFault, ending_of, kept_by};
+ghost use Rattle.run_cli.specs.Lived.{HasWritten, HasWrittenRefused, EndsAtReceipt, kept_refused};
 
 use crate::ended::{Ended, end_at_fault, end_at_outcome, end_without_memory, status_of_outcome};
-use crate::receipts::write_receipt;
+use crate::receipts::{refusal_lines, write_refusal};
 use crate::tied::{Origin, TiedReporter};
 use run_capture::{List, Sink};
 use run_drive::{Host, Spawner};
@@ -18,6 +22,7 @@ use run_events::{Ask, AskList, Reporter, RunOutcome};
 use run_live::{Live, Lived, live};
 use run_model::Entry;
 use run_output::{AskLines, Fault};
+use run_shared::CloseKind;
 use std::alloc::Global;
 use std::marker::Brand;
 use std::sync::Wait;
@@ -180,41 +185,76 @@ fn end_open<K: Sink, W: Spawner + Drop>(
     asks: AskList,
     live: Live<W>,
 ) -> LiveEnded<K, W>
-    ensures { (p : Settings) (w : Writing) → IsClosed W.has_said p live
-        → outcome p (past_of p live.journal) ≡ None
-        → IsRunEnd W.has_said p w result.live result.ending }
+    ensures { (p : Settings) (w : Writing) (n : ℕ) → K.taken sink ≡ w.taken_after
+        → K.faults sink ≡ w.faults_after → IsClosed W.has_said p live
+        → outcome p (past_of p live.journal) ≡ None → HasWritten p w n live.journal asks
+        → IsRunEnd W.has_said p (then_writing w (writing_of K.Sink sink result.sink)) result.live result.ending }
 {
     let ended = fault_after(alloc, sink, asks.asks(), open_fault(&live.journal));
     drop(asks);
     with_live(ended, live)
 }
 
-// Ends a run whose receipts are refused: says why, where the sink takes that.
+// Writes the lines of asks and of why receipts are refused.
+fn refusal_after<K: Sink>(
+    alloc: Global,
+    sink: K,
+    asks: &[(u64, Ask)],
+    kind: &CloseKind,
+) -> (LiveEnding, K)
+    ensures { EndsAtReceipt (writing_of K.Sink sink result.1) (ask_lines asks.now) kind.now result.0 }
+{
+    match refusal_lines(alloc, asks, kind) {
+        Ok(lines) => (LiveEnding::Receipt, write_refusal(sink, &lines)),
+        Err(_) => {
+            let Ended { sink, ending: _ } = end_without_memory(sink);
+            (LiveEnding::Fault(Fault::Memory), sink)
+        }
+    }
+}
+
+// What is left of a run whose receipts are refused: nothing where memory was wanting.
+fn kept_unless_short<W: Drop>(ending: LiveEnding, live: Live<W>) -> Option<Live<W>>
+    ensures { result ≡ kept_refused ending live }
+{
+    match ending {
+        LiveEnding::Receipt => Some(live),
+        _ => {
+            drop(live);
+            None
+        }
+    }
+}
+
+// Ends a run whose receipts are refused: its asks, and why.
 fn end_refused<K: Sink, W: Spawner + Drop>(
     alloc: Global,
     sink: K,
     asks: AskList,
     live: Live<W>,
 ) -> LiveEnded<K, W>
-    ensures { (p : Settings) (w : Writing) → IsUnclosed W.has_said p live
-        → IsRunEnd W.has_said p w result.live result.ending }
+    requires { IsSome live.error }
+    ensures { (p : Settings) (w : Writing) (n : ℕ) → K.taken sink ≡ w.taken_after
+        → K.faults sink ≡ w.faults_after → IsUnclosed W.has_said p live
+        → IfSome live.error (λ e. HasWrittenRefused p w n live.journal asks e.kind)
+        → IsRunEnd W.has_said p (then_writing w (writing_of K.Sink sink result.sink)) result.live result.ending }
 {
+    let (ending, sink) = match &live.error {
+        Some(error) => refusal_after(alloc, sink, asks.asks(), error.kind()),
+        None => unreachable!(),
+    };
     drop(asks);
-    let mut sink = sink;
-    if let Some(error) = &live.error {
-        write_receipt(alloc, &mut sink, error.kind());
-    }
     LiveEnded {
-        ending: LiveEnding::Receipt,
+        ending,
         sink,
-        live: Some(live),
+        live: kept_unless_short(ending, live),
     }
 }
 
 // Ends a run whose threads have ended, by what they left.
-fn finish<K: Sink, O: Origin, W: Spawner + Drop>(
+fn finish<K: Sink, O: Origin, W: Spawner + Drop, T: Drop>(
     alloc: Global,
-    lived: Lived<W, TiedReporter<K, O>>,
+    lived: Lived<W, T, TiedReporter<K, O>>,
 ) -> LiveEnded<K, W>
     ensures { (p : Settings) → IsLeftOver W.has_said ⟦<TiedReporter<K, O> as Reporter>⟧.told p lived
         → IsRunEnd W.has_said p (record {
@@ -226,10 +266,12 @@ fn finish<K: Sink, O: Origin, W: Spawner + Drop>(
 {
     let Lived {
         live,
+        ticker,
         asks,
         outcome,
         report,
     } = lived;
+    drop(ticker);
     let refused = report.has_refused();
     let sink = report.into_sink();
     if live.error.is_some() {
@@ -238,6 +280,20 @@ fn finish<K: Sink, O: Origin, W: Spawner + Drop>(
     match outcome {
         Some(outcome) => end_over(alloc, sink, asks, outcome, refused, live),
         None => end_open(alloc, sink, asks, live),
+    }
+}
+
+// Ends a run that was given up, since memory was wanting.
+fn end_given_up<K: Sink, W>(sink: K) -> LiveEnded<K, W>
+    ensures ending { result.ending ≡ LiveEnding.Fault Memory }
+    ensures said { (n : ℕ) × Takes (K.taken sink) (K.taken result.sink) (take n (fault_only Memory)) }
+    ensures live { result.live ≡ None }
+{
+    let Ended { sink, ending: _ } = end_without_memory(sink);
+    LiveEnded {
+        ending: LiveEnding::Fault(Fault::Memory),
+        sink,
+        live: None,
     }
 }
 
@@ -276,7 +332,7 @@ fn run_at<K: Sink + Send, H: Host, O: Origin + Send, X: Threads + Wait + Sync>(
     let report = TiedReporter::<K, O>::new(sink);
     match live(rt, alloc, runner, workers, host, report) {
         Ok(lived) => finish(alloc, lived),
-        Err(report) => end_without_run(alloc, report.into_sink(), Fault::Memory),
+        Err(report) => end_given_up(report.into_sink()),
     }
 }
 

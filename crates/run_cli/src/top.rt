@@ -45,8 +45,8 @@ fn status_of_ending(ending: Result<RunOutcome, Fault>) -> u8
     }
 }
 
-// The fault that a refusal of a plan is.
-fn fault_of_plan(error: TestRunnerBuildError) -> Fault
+/// The fault that a refusal of a plan is.
+pub fn fault_of_plan(error: TestRunnerBuildError) -> Fault
     ensures { result ≡ fault_of_plan error }
 {
     match error {
@@ -65,8 +65,8 @@ fn fault_of_plan(error: TestRunnerBuildError) -> Fault
     }
 }
 
-// Carries out what an input says.
-fn replay_input<K: Sink>(alloc: Global, command: Command, input: Input, sink: K) -> Ended<K>
+/// Carries out what an input says, and writes all that the command writes.
+pub fn replay_input<K: Sink>(alloc: Global, command: Command, input: Input, sink: K) -> Ended<K>
     requires units { length input.plan.scripts + length input.plan.tests < 2 ^ 32 }
     requires turns { length input.turns < 2 ^ 32 }
     ensures { IsInputEnding command input.keys input.plan input.turns

@@ -55,8 +55,8 @@ pub fn write_line<K: Sink>(alloc: Global, sink: &mut K, line: Text) -> Result<()
     Ok(())
 }
 
-// Writes these lines of asks, and then a last line.
-fn write_rest<K: Sink>(
+/// Writes these lines of asks, and then a last line.
+pub fn write_rest<K: Sink>(
     alloc: Global,
     sink: &mut K,
     asks: &[u8],

@@ -15,7 +15,8 @@ use Rattle.run_drive.specs.declared.spawner.Said.{Said}
 use Rattle.run_drive.specs.declared.spawner.Said.TheVariants.{WaitFailed}
 use Rattle.run_drive.specs.declared.spawner.Heard.{Heard}
 use Rattle.run_drive.specs.declared.spawner.Heard.TheVariants.{Asked, Spoke}
-use Rattle.run_drive.specs.InMemory.{WereGiven, IsFed, silent_text, answers_in, words_in}
+use Rattle.run_drive.specs.declared.memory_spawner.MemorySpawner.{MemorySpawner}
+use Rattle.run_drive.specs.InMemory.{WereGiven, IsFed, HandsOut, silent_text, answers_in, words_in}
 
 -- nothing was given out
 given_none : {X : Type 0} (items : List X) (last : X) → WereGiven items last 0 []
@@ -70,6 +71,36 @@ given_past items last at given none g = record {
       (past_of items at last none)) below;
   place = omega (arith, g.place, past_of items at last none, length-append given (last ∷ []));
 }
+
+-- the same of a ticker: it has told nothing, a step of its list, and the step after its list
+pub told_none : (steps : List ℕ) → WereGiven steps 1000000 0 []
+told_none steps = given_none steps 1000000
+
+pub told_step : (steps : List ℕ) (at : ℕ) (given : List ℕ) (step : ℕ) → at < length steps
+    → get_or steps at 1000000 ≡ step → WereGiven steps 1000000 at given
+    → WereGiven steps 1000000 (at + 1) (given ++ step ∷ [])
+told_step steps at given step within is g = record {
+  each = λ k below. given_item steps 1000000 at given step k g is below;
+  place = omega (arith, g.place, within, length-append given (step ∷ []));
+}
+
+pub told_last : (steps : List ℕ) (at : ℕ) (given : List ℕ) → length steps ≤ at → WereGiven steps 1000000 at given
+    → WereGiven steps 1000000 at (given ++ 1000000 ∷ [])
+told_last steps at given past g = record {
+  each = λ k below. given_item steps 1000000 at given 1000000 k g (get_or_past steps at 1000000 past) below;
+  place = omega (arith, g.place, past, length-append given (1000000 ∷ []));
+}
+
+-- the first spawner is handed out, and where none is left one with empty lists
+pub hands_first : (old new : List MemorySpawner) (first out : MemorySpawner) → old ≡ first ∷ new
+    → out.begun.items ≡ first.begun.items → out.said.items ≡ first.said.items → HandsOut old out new
+hands_first old new first out same begun said =
+    subst (λ (ss : List MemorySpawner). HandsOut ss out new) (sym same) (begun, said, refl)
+
+pub hands_none : (old new : List MemorySpawner) (out : MemorySpawner) → length old ≡ 0 → old ≡ new
+    → out.begun.items ≡ [] → out.said.items ≡ [] → HandsOut old out new
+hands_none [] new out none same begun said = (begun, said, sym same)
+hands_none (first ∷ later) new out none same begun said = absurd (omega (arith, none))
 
 -- answers and words of a list with one thing more
 answers_asked : (heard : List Heard) (start : StartAsk) (begun : Begun)

@@ -1,5 +1,5 @@
 -- Kinds of turns.
-use Rattle.std.proofs.Common.{◌≡◌, ℕ, List, [], ◌∷◌, Bool, true, false, cond, ◌&&◌, ◌||◌, refl, sym, subst, inl, inr}
+use Rattle.std.proofs.Common.{◌≡◌, ℕ, List, [], ◌∷◌, Bool, true, false, cond, ◌&&◌, ◌||◌, refl, sym, subst}
 use Rattle.std.specs.List.{All}
 use Rattle.std.proofs.Math.Bool.{or-true}
 use Rattle.std.proofs.lemmas.List.Elements.{All-head, All-tail}
@@ -13,7 +13,7 @@ use Rattle.run_drive.specs.declared.spawner.Said.{Said}
 use Rattle.run_drive.specs.declared.spawner.Said.TheVariants.{Piece, End, ReadError, Exit, WaitFailed, Env}
 use Rattle.run_drive.specs.Heard.{begun_turn, said_turn}
 use Rattle.run_drive.specs.Driven.{is_child_turn, is_clock_turn, OfWorker, OfTicker, child_turns}
-use Rattle.run_drive.specs.Added.{IsSettled, IsOf}
+use Rattle.run_drive.specs.Added.{IsSettled}
 
 -- no turn is both of a child and settled
 apart : (t : Turn) → (is_settled_turn t && is_child_turn t) ≡ false
@@ -72,12 +72,18 @@ or_settled own t settled = subst (λ (b : Bool). (own t || b) ≡ true) (sym set
 pub settled_of_ticker : (r : Receipt) → IsSettled r → OfTicker r
 settled_of_ticker r settled = or_settled is_clock_turn r.turn settled
 
-pub worker_of : (turn : Turn) (r : Receipt) → is_child_turn turn ≡ true → IsOf turn r → OfWorker r
-worker_of turn r child (inl same) =
-    subst (λ (b : Bool). (b || is_settled_turn r.turn) ≡ true)
-    (sym (subst (λ (t : Turn). is_child_turn t ≡ true) (sym same) child)) refl
-worker_of turn r child (inr settled) = or_settled is_child_turn r.turn settled
+pub settled_of_worker : (r : Receipt) → IsSettled r → OfWorker r
+settled_of_worker r settled = or_settled is_child_turn r.turn settled
 
-pub ticker_of : (ns : ℕ) (r : Receipt) → IsOf (turns.Clock ns) r → OfTicker r
-ticker_of ns r (inl same) = subst (λ (t : Turn). (is_clock_turn t || is_settled_turn t) ≡ true) (sym same) refl
-ticker_of ns r (inr settled) = settled_of_ticker r settled
+pub child_of_worker : (r : Receipt) → is_child_turn r.turn ≡ true → OfWorker r
+child_of_worker r child = subst (λ (b : Bool). (b || is_settled_turn r.turn) ≡ true) (sym child) refl
+
+pub step_of_ticker : (ns : ℕ) (r : Receipt) → r.turn ≡ turns.Clock ns → OfTicker r
+step_of_ticker ns r same = subst (λ (t : Turn). (is_clock_turn t || is_settled_turn t) ≡ true) (sym same) refl
+
+-- the receipt of a turn of a child tells that turn
+pub child_first : (r : Receipt) (rest : List Receipt) → is_child_turn r.turn ≡ true
+    → child_turns (r ∷ rest) ≡ r.turn ∷ child_turns rest
+child_first r rest child =
+    subst (λ (b : Bool). cond b (r.turn ∷ child_turns rest) (child_turns rest) ≡ r.turn ∷ child_turns rest)
+    (sym child) refl

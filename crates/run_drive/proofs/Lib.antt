@@ -1,5 +1,7 @@
-mod Sublists
-mod KindLemmas
+pub mod Merges
+pub mod KindLemmas
 mod AddedLemmas
+mod HearingLemmas
 mod WorkedLemmas
+pub mod TickLemmas
 mod InMemoryLemmas

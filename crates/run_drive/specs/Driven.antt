@@ -4,9 +4,12 @@ use Rattle.std.specs.List.{All, filter}
 use Rattle.run_events.specs.declared.turn.Turn.{Turn}
 use Rattle.run_events.specs.declared.turn.Turn.TheVariants as turns
 use Rattle.run_shared.specs.declared.shared.Receipt.{Receipt}
+use Rattle.run_shared.specs.declared.offered.Refusal.{Refusal}
 use Rattle.run_shared.specs.Settled.{is_settled_turn}
 use Rattle.run_drive.specs.declared.spawner.Heard.{Heard}
+use Rattle.run_drive.specs.declared.work.Work.{Work}
 use Rattle.run_drive.specs.Heard.{turns_from}
+use Rattle.run_drive.specs.Hearing.{IsHeardOut}
 
 -- a turn that tells what a child did
 abbrev pub is_child_turn : Turn → Bool
@@ -37,14 +40,21 @@ OfTicker r = (is_clock_turn r.turn || is_settled_turn r.turn) ≡ true
 abbrev pub child_turns : List Receipt → List Turn
 child_turns rs = filter is_child_turn (map (λ (r : Receipt). r.turn) rs)
 
--- the first list is what is left of the second when some items are taken out
-abbrev pub IsSublist : {X : Type 0} → List X → List X → Type 0
-IsSublist [] ys = Unit {0}
-IsSublist (x ∷ xs) [] = ⊥
-IsSublist (x ∷ xs) (y ∷ ys) = ((x ≡ y) × IsSublist xs ys) ⊎ IsSublist (x ∷ xs) ys
+-- the turns of refusals
+abbrev pub refused_turns : List Refusal → List Turn
+refused_turns xs = map (λ (x : Refusal). x.turn) xs
 
--- these are the receipts of a worker whose spawner went from w to v: what they tell of children it said meanwhile
-pub record Drives {W : Type 0} (has_said : W → List Heard → Type 0) (w v : W) (rs : List Receipt) : Type 0 where
-  pub kinds : All OfWorker rs
+-- the third list is the first two put together, each in its order
+abbrev pub IsMerge : {X : Type 0} → List X → List X → List X → Type 0
+IsMerge xs ys [] = (xs ≡ []) × (ys ≡ [])
+IsMerge {X} xs ys (z ∷ zs) = ((rest : List X) × (xs ≡ z ∷ rest) × IsMerge rest ys zs)
+    ⊎ ((rest : List X) × (ys ≡ z ∷ rest) × IsMerge xs rest zs)
+
+-- this is the work of a worker whose spawner went from w to v: each thing that the spawner was asked and said meanwhile
+-- was offered, in that order, and taken or refused; and each child was heard out
+pub record Drives {W : Type 0} (has_said : W → List Heard → Type 0) (w v : W) (work : Work) : Type 0 where
+  pub kinds : All OfWorker work.receipts
   pub heard : (before : List Heard) → has_said w before
-      → (during : List Heard) × has_said v (before ++ during) × IsSublist (child_turns rs) (turns_from 0 during)
+      → (during : List Heard) × has_said v (before ++ during)
+      × IsMerge (child_turns work.receipts) (refused_turns work.refused) (turns_from 0 during)
+      × IsHeardOut during work.refused

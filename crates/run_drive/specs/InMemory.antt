@@ -1,9 +1,11 @@
 -- What a spawner in memory answers and says.
-use Rattle.std.specs.Prelude.{ℕ, ◌≡◌, ◌<◌, List, [], ◌∷◌, length, min, codes, slice_index_or}
+use Rattle.std.specs.Prelude.{ℕ, ◌≡◌, ◌<◌, List, [], ◌∷◌, length, min, codes, slice_index_or, Option, Some, None}
 use Rattle.run_drive.specs.declared.spawner.Begun.{Begun}
 use Rattle.run_drive.specs.declared.spawner.Begun.TheVariants.{Refused}
 use Rattle.run_drive.specs.declared.spawner.Said.{Said}
 use Rattle.run_drive.specs.declared.spawner.Said.TheVariants.{WaitFailed}
+use Rattle.run_drive.specs.declared.memory_spawner.MemorySpawner.{MemorySpawner}
+use Rattle.run_drive.specs.declared.memory_host.MemoryTicker.{MemoryTicker}
 use Rattle.run_drive.specs.declared.spawner.Heard.{Heard}
 use Rattle.run_drive.specs.declared.spawner.Heard.TheVariants.{Asked, Spoke}
 
@@ -33,3 +35,14 @@ pub record IsFed (begun : List Begun) (begun_at : ℕ) (said : List Said) (said_
     (heard : List Heard) : Type 0 where
   pub answers : WereGiven begun (Refused silent_text) begun_at (answers_in heard)
   pub words : WereGiven said (WaitFailed silent_text) said_at (words_in heard)
+
+-- of these spawners one is handed out, and those are left: the lists of the first, or empty ones where none is left
+abbrev pub HandsOut : List MemorySpawner → MemorySpawner → List MemorySpawner → Type 0
+HandsOut [] out rest = (out.begun.items ≡ []) × (out.said.items ≡ []) × (rest ≡ [])
+HandsOut (first ∷ later) out rest =
+    (out.begun.items ≡ first.begun.items) × (out.said.items ≡ first.said.items) × (rest ≡ later)
+
+-- the steps of this ticker are handed out, or none where none is left
+abbrev pub HandsTicker : Option MemoryTicker → MemoryTicker → Type 0
+HandsTicker (Some ticker) out = out.steps ≡ ticker.steps
+HandsTicker None out = out.steps ≡ []

@@ -1,57 +1,56 @@
 // What a worker does.
-ghost use Rattle.std.specs.Prelude.{◌≡◌, ◌<◌, ◌+◌, length, IfOk, OnOk};
+ghost use Rattle.std.specs.Prelude.{◌≡◌, ◌<◌, ◌+◌, length, false, IfOk, OnOk};
 ghost use Rattle.run_drive.specs.Driven.{Drives};
 ghost use Rattle.run_drive.specs.Worked.{Works};
 
-use crate::Spawner;
 use crate::listening::attend;
 use crate::settling::{Access, Steps};
+use crate::{Spawner, Work};
 use run_capture::{List, Mem, OutOfMemory};
 use run_events::Reporter;
-use run_shared::{Receipt, SharedRun};
+use run_shared::SharedRun;
 use std::alloc::Global;
 use std::sync::Wait;
 use std::sync::ledger::{Ledger, Share};
 
-// Takes a start, and attends to it. Answers whether one came.
-#[tactic(auto, using(crate::proofs::WorkedLemmas::works_none))]
+// Takes a start, and attends to it. Answers whether the worker goes on.
+#[tactic(auto, using(crate::proofs::WorkedLemmas::works_none, crate::proofs::WorkedLemmas::works_attended))]
 fn work_on<W: Spawner, X: Wait, L: Ledger, S: Steps<L>>(
     rt: &X,
     run: &S,
     worker: &mut W,
     share: &mut Share<L>,
-    receipts: &mut List<Receipt>,
+    work: &mut Work,
 ) -> Mem<bool>
     requires { 0 < share.old.parts }
-    ensures works { OnOk result (Works W.has_said worker.old worker.new receipts.old receipts.new) }
+    ensures works { IfOk result (λ goes_on. Works W.has_said worker.old worker.new goes_on work.old work.new) }
     ensures counted { OnOk result
-        (share.new.amount + length receipts.old ≡ share.old.amount + length receipts.new) }
+        (share.new.amount + length work.old.receipts ≡ share.old.amount + length work.new.receipts) }
     ensures parts { share.new.parts ≡ share.old.parts }
 {
     let Some(start) = run.next_start() else {
         return Ok(false);
     };
-    attend(rt, run, worker, share, &start, receipts)?;
-    Ok(true)
+    attend(rt, run, worker, share, &start, work)
 }
 
 // Takes starts until none comes any more, and attends to each.
 #[tactic(auto, using(crate::proofs::WorkedLemmas::works_none, crate::proofs::WorkedLemmas::works_more))]
-fn work<W: Spawner, X: Wait, L: Ledger, S: Steps<L>>(
+fn work_all<W: Spawner, X: Wait, L: Ledger, S: Steps<L>>(
     rt: &X,
     run: &S,
     worker: &mut W,
     share: &mut Share<L>,
-    receipts: &mut List<Receipt>,
+    work: &mut Work,
 ) -> Mem<()>
     requires { 0 < share.old.parts }
-    ensures works { OnOk result (Works W.has_said worker.old worker.new receipts.old receipts.new) }
+    ensures works { OnOk result (Works W.has_said worker.old worker.new false work.old work.new) }
     ensures counted { OnOk result
-        (share.new.amount + length receipts.old ≡ share.old.amount + length receipts.new) }
+        (share.new.amount + length work.old.receipts ≡ share.old.amount + length work.new.receipts) }
     ensures parts { share.new.parts ≡ share.old.parts }
 {
     for _ in rt.forever() {
-        match work_on(rt, run, worker, share, receipts) {
+        match work_on(rt, run, worker, share, work) {
             Ok(true) => {}
             Ok(false) => return Ok(()),
             Err(OutOfMemory) => return Err(OutOfMemory),
@@ -60,9 +59,9 @@ fn work<W: Spawner, X: Wait, L: Ledger, S: Steps<L>>(
     unreachable!()
 }
 
-/// Works on a run until no start comes any more: takes a start, asks the spawner for it, steps with each thing that the
-/// spawner says of it, and settles. Units decide with the word. Answers the receipts in their order. Where memory is
-/// wanting it gives the run up.
+/// Works on a run until no start comes any more: takes a start, asks the spawner for it, offers each thing that the
+/// spawner says of it, and settles after each. Units decide with the word. Answers the receipts and the refusals, each
+/// in their order. Where memory is wanting it gives the run up.
 #[tactic(auto, using(crate::proofs::WorkedLemmas::drives_all))]
 pub fn drive<W: Spawner, L: Ledger, R: Reporter>(
     rt: &impl Wait,
@@ -71,10 +70,10 @@ pub fn drive<W: Spawner, L: Ledger, R: Reporter>(
     worker: &mut W,
     share: &mut Share<L>,
     word: u32,
-) -> Mem<List<Receipt>>
+) -> Mem<Work>
     requires { 0 < share.old.parts }
     ensures heard { IfOk result (Drives W.has_said worker.old worker.new) }
-    ensures counted { IfOk result (λ rs. share.new.amount ≡ share.old.amount + length rs) }
+    ensures counted { IfOk result (λ work. share.new.amount ≡ share.old.amount + length work.receipts) }
     ensures parts { share.new.parts ≡ share.old.parts }
 {
     let run = Access {
@@ -84,11 +83,11 @@ pub fn drive<W: Spawner, L: Ledger, R: Reporter>(
         word,
         pauses: false,
     };
-    let mut receipts = List::new();
-    let Ok(()) = work(rt, &run, worker, share, &mut receipts) else {
-        drop(receipts);
+    let mut work = Work::with(List::new());
+    let Ok(()) = work_all(rt, &run, worker, share, &mut work) else {
+        drop(work);
         shared.give_up(rt);
         return Err(OutOfMemory);
     };
-    Ok(receipts)
+    Ok(work)
 }

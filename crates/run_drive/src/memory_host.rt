@@ -1,5 +1,7 @@
 // A host whose spawners and times are given.
-ghost use Rattle.std.specs.Prelude.{◌≡◌, ◌+◌, [], slice_index_or};
+ghost use Rattle.std.specs.Prelude.{◌≡◌, ◌+◌, ℕ, List as Items, [], ◌∷◌, ◌++◌, None, Some, length, slice_index_or};
+ghost use Rattle.std.specs.Vec.Iter.{into_iter_items, into_iter_len};
+ghost use Rattle.run_drive.specs.InMemory.{HandsOut, HandsTicker, IsFed, WereGiven};
 
 use crate::{Host, MemorySpawner, Ticker};
 use run_capture::List;
@@ -26,8 +28,16 @@ impl MemoryTicker {
 }
 
 impl Ticker for MemoryTicker {
+    ghost use Rattle.run_drive.specs.InMemory.{WereGiven};
+
+    ghost has_told = { λ s told. WereGiven s.steps 1000000 s.at told };
+
+    #[tactic(auto, using(crate::proofs::InMemoryLemmas::told_step, crate::proofs::InMemoryLemmas::told_last))]
     fn next(&mut self) -> u64
-        ensures { result ≡ slice_index_or self.old.steps self.old.at 1000000 }
+        ensures told { (ns : Items ℕ) → WereGiven self.old.steps 1000000 self.old.at ns
+            → WereGiven self.new.steps 1000000 self.new.at (ns ++ result ∷ []) }
+        ensures step { result ≡ slice_index_or self.old.steps self.old.at 1000000 }
+        ensures steps { self.new.steps ≡ self.old.steps }
     {
         let steps = self.steps.as_slice();
         if self.at < steps.len() {
@@ -47,6 +57,7 @@ pub struct MemoryHost {
     spawners: IntoIter<MemorySpawner>,
     ticker: Option<MemoryTicker>,
     word: u32,
+    ghost counted: { into_iter_len spawners ≡ length (into_iter_items spawners) },
 }
 
 impl MemoryHost {
@@ -55,7 +66,11 @@ impl MemoryHost {
         spawners: List<MemorySpawner>,
         ticker: MemoryTicker,
         word: u32,
-    ) -> Self {
+    ) -> Self
+        ensures spawners { into_iter_items result.spawners ≡ spawners }
+        ensures ticker { result.ticker ≡ Some ticker }
+        ensures word { result.word ≡ word }
+    {
         MemoryHost {
             spawners: spawners.into_vec(alloc).into_iter(),
             ticker: Some(ticker),
@@ -69,23 +84,36 @@ impl Host for MemoryHost {
 
     type Tick = MemoryTicker;
 
-    #[tactic(auto, using(crate::proofs::InMemoryLemmas::fed_none))]
-    fn spawner(&mut self) -> MemorySpawner {
+    #[tactic(auto, using(crate::proofs::InMemoryLemmas::fed_none, crate::proofs::InMemoryLemmas::hands_first, crate::proofs::InMemoryLemmas::hands_none))]
+    fn spawner(&mut self) -> MemorySpawner
+        ensures silent { IsFed result.begun.items result.begun.at result.said.items result.said.at [] }
+        ensures next { HandsOut (into_iter_items self.old.spawners) result (into_iter_items self.new.spawners) }
+        ensures ticker { self.new.ticker ≡ self.old.ticker }
+        ensures word { self.new.word ≡ self.old.word }
+    {
         match self.spawners.next() {
             Some(spawner) => spawner.again(),
             None => MemorySpawner::new(List::new(), List::new()),
         }
     }
 
-    fn ticker(&mut self) -> MemoryTicker {
+    #[tactic(auto, using(crate::proofs::InMemoryLemmas::told_none))]
+    fn ticker(&mut self) -> MemoryTicker
+        ensures silent { WereGiven result.steps 1000000 result.at [] }
+        ensures next { HandsTicker self.old.ticker result }
+        ensures none { self.new.ticker ≡ None }
+        ensures spawners { self.new.spawners ≡ self.old.spawners }
+        ensures word { self.new.word ≡ self.old.word }
+    {
         match self.ticker.take() {
-            Some(ticker) => ticker,
+            Some(ticker) => MemoryTicker::new(ticker.steps),
             None => MemoryTicker::new(List::new()),
         }
     }
 
     fn word(&mut self) -> u32
-        ensures { result ≡ self.old.word }
+        ensures word { result ≡ self.old.word }
+        ensures same { self.new ≡ self.old }
     {
         self.word
     }

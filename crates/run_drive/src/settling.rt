@@ -1,13 +1,16 @@
 // Turns that are taken, each with those that the run takes by itself after it.
-ghost use Rattle.std.specs.Prelude.{◌≡◌, ◌<◌, ◌+◌, length, IfOk, OnOk};
+ghost use Rattle.std.specs.Prelude.{◌≡◌, ◌<◌, ◌+◌, length, IfOk, OnOk, if◌then◌else◌, Option, Some, None};
 ghost use Rattle.std.specs.List.{All};
+ghost use Rattle.run_shared.specs.Offered.{offered_turn, taken_count};
 ghost use Rattle.run_drive.specs.Driven.{OfTicker};
-ghost use Rattle.run_drive.specs.Added.{SettlesSome, Enters};
+ghost use Rattle.run_drive.specs.Added.{SettlesSome, Enters, IsSettled, is_full, is_full_kind, is_taken, settles_on};
 
+use crate::Work;
+use crate::awaited::Awaited;
 use run_capture::{List, Mem, OutOfMemory};
 use run_engine::StepError;
 use run_events::{Reporter, StartAsk, Turn};
-use run_shared::{Receipt, SharedRun};
+use run_shared::{Offered, Receipt, RefusalKind, SharedRun};
 use std::alloc::Global;
 use std::sync::Wait;
 use std::sync::ledger::{Ledger, Share};
@@ -37,13 +40,11 @@ impl<'a, X: Wait, L: Ledger, R: Reporter> Drop for Access<'a, X, L, R> {
 }
 
 impl<'a, X: Wait, L: Ledger, R: Reporter> Access<'a, X, L, R> {
-    // What a settled turn is answered.
-    fn answer_to(&self, turn: &Turn) -> Answer {
-        if self.pauses && matches!(turn, Turn::End) {
-            Answer::NotEnabled
-        } else {
-            Answer::Taken
-        }
+    // Whether settling goes on after this turn.
+    fn settles_on(&self, turn: &Turn) -> bool
+        ensures { result ≡ settles_on self.now.pauses turn.now }
+    {
+        !(self.pauses && matches!(turn, Turn::End))
     }
 }
 
@@ -51,28 +52,53 @@ impl<'a, X: Wait, L: Ledger, R: Reporter> Access<'a, X, L, R> {
 #[derive(Clone, Copy, Drop)]
 pub(crate) enum Answer {
     Taken,
-    NotEnabled,
-    /// It takes no turn any more.
-    NoMore,
+    Refused { kind: RefusalKind },
+}
+
+// Whether a refusal says that the journal is full.
+fn is_full_kind(kind: RefusalKind) -> bool
+    ensures { result ≡ is_full_kind kind }
+{
+    match kind {
+        RefusalKind::Full => true,
+        RefusalKind::NotEnabled | RefusalKind::ThirdSignal => false,
+    }
 }
 
 impl Answer {
     /// Whether the run took the turn.
-    pub(crate) fn is_taken(self) -> bool {
-        matches!(self, Answer::Taken)
+    pub(crate) fn is_taken(self) -> bool
+        ensures { result ≡ is_taken self }
+    {
+        match self {
+            Answer::Taken => true,
+            Answer::Refused { .. } => false,
+        }
     }
 
-    /// Whether the run may take further turns.
-    pub(crate) fn goes_on(self) -> bool {
-        !matches!(self, Answer::NoMore)
+    // Whether the run takes no turn any more, since its journal is full.
+    fn is_full(self) -> bool
+        ensures { result ≡ is_full self }
+    {
+        match self {
+            Answer::Taken => false,
+            Answer::Refused { kind } => is_full_kind(kind),
+        }
+    }
+
+    /// What a worker waits for, unless the run takes no turn any more.
+    pub(crate) fn unless_full(self, awaited: Awaited) -> Option<Awaited>
+        ensures { result ≡ (if is_full self then None else Some awaited) }
+    {
+        if self.is_full() { None } else { Some(awaited) }
     }
 }
 
 /// What settles turns of a run.
 trait Settles<L: Ledger> {
-    /// Settles one turn, and adds its receipt; none where nothing is ready. Who pauses at the end of a sub-run is
-    /// answered there as where nothing is ready.
-    fn settle(&self, share: &mut Share<L>, receipts: &mut List<Receipt>) -> Mem<Answer>
+    /// Settles one turn, and adds its receipt; none where nothing is ready. Answers whether settling goes on. Who
+    /// pauses at the end of a sub-run is answered there as where nothing is ready.
+    fn settle(&self, share: &mut Share<L>, receipts: &mut List<Receipt>) -> Mem<bool>
         requires { 0 < share.old.parts }
         ensures settles { OnOk result (SettlesSome receipts.old receipts.new) }
         ensures counted { OnOk result
@@ -82,12 +108,12 @@ trait Settles<L: Ledger> {
 
 /// What takes turns of a run. A type parameter of this kind keeps the proofs of all that take turns small.
 pub(crate) trait Steps<L: Ledger> {
-    /// Takes a turn, settles until nothing is ready, and adds the receipts.
-    fn enter(&self, share: &mut Share<L>, turn: Turn, receipts: &mut List<Receipt>) -> Mem<Answer>
+    /// Offers a turn, settles until nothing is ready, and adds the receipts, or the refusal.
+    fn enter(&self, share: &mut Share<L>, turn: Turn, work: &mut Work) -> Mem<Answer>
         requires { 0 < share.old.parts }
-        ensures enters { OnOk result (Enters receipts.old turn receipts.new) }
+        ensures enters { IfOk result (λ answer. Enters work.old turn answer work.new) }
         ensures counted { OnOk result
-            (share.new.amount + length receipts.old ≡ share.old.amount + length receipts.new) }
+            (share.new.amount + length work.old.receipts ≡ share.old.amount + length work.new.receipts) }
         ensures parts { share.new.parts ≡ share.old.parts };
 
     /// Waits for a start, and claims it; none where no start comes any more.
@@ -97,42 +123,10 @@ pub(crate) trait Steps<L: Ledger> {
     fn alloc(&self) -> Global;
 }
 
-// Settles one turn, and adds its receipt; none where nothing is ready.
+// Settles one turn, and adds its receipt; none where nothing is ready. Answers whether settling goes on.
 #[tactic(auto, using(crate::proofs::AddedLemmas::settles_none, crate::proofs::AddedLemmas::settles_one))]
 fn settle_one<X: Wait, L: Ledger, R: Reporter>(
     run: &Access<X, L, R>,
-    share: &mut Share<L>,
-    receipts: &mut List<Receipt>,
-) -> Mem<Answer>
-    requires { 0 < share.old.parts }
-    ensures settles { OnOk result (SettlesSome receipts.old receipts.new) }
-    ensures counted { OnOk result
-        (share.new.amount + length receipts.old ≡ share.old.amount + length receipts.new) }
-    ensures parts { share.new.parts ≡ share.old.parts }
-{
-    match run.shared.settle(run.rt, run.alloc, share, run.word) {
-        Ok(Some(receipt)) => {
-            let answer = run.answer_to(receipt.turn());
-            receipts.push(run.alloc, receipt)?;
-            Ok(answer)
-        }
-        Ok(None) => Ok(Answer::NotEnabled),
-        Err(StepError::OutOfMemory) => Err(OutOfMemory),
-        Err(_) => Ok(Answer::NoMore),
-    }
-}
-
-impl<'a, X: Wait, L: Ledger, R: Reporter> Settles<L> for Access<'a, X, L, R> {
-    fn settle(&self, share: &mut Share<L>, receipts: &mut List<Receipt>) -> Mem<Answer> {
-        settle_one(self, share, receipts)
-    }
-}
-
-// Settles until nothing is ready, and adds the receipts. Answers whether the run may take further turns.
-#[tactic(auto, using(crate::proofs::AddedLemmas::settles_none, crate::proofs::AddedLemmas::settles_more))]
-fn settle_all<X: Wait, L: Ledger, S: Settles<L>>(
-    rt: &X,
-    run: &S,
     share: &mut Share<L>,
     receipts: &mut List<Receipt>,
 ) -> Mem<bool>
@@ -142,50 +136,90 @@ fn settle_all<X: Wait, L: Ledger, S: Settles<L>>(
         (share.new.amount + length receipts.old ≡ share.old.amount + length receipts.new) }
     ensures parts { share.new.parts ≡ share.old.parts }
 {
+    match run.shared.settle(run.rt, run.alloc, share, run.word) {
+        Ok(Some(receipt)) => {
+            let goes_on = run.settles_on(receipt.turn());
+            receipts.push(run.alloc, receipt)?;
+            Ok(goes_on)
+        }
+        Ok(None) => Ok(false),
+        Err(StepError::OutOfMemory) => Err(OutOfMemory),
+        Err(_) => Ok(false),
+    }
+}
+
+impl<'a, X: Wait, L: Ledger, R: Reporter> Settles<L> for Access<'a, X, L, R> {
+    fn settle(&self, share: &mut Share<L>, receipts: &mut List<Receipt>) -> Mem<bool> {
+        settle_one(self, share, receipts)
+    }
+}
+
+// Settles until nothing is ready, and adds the receipts.
+#[tactic(auto, using(crate::proofs::AddedLemmas::settles_none, crate::proofs::AddedLemmas::settles_more))]
+fn settle_all<X: Wait, L: Ledger, S: Settles<L>>(
+    rt: &X,
+    run: &S,
+    share: &mut Share<L>,
+    receipts: &mut List<Receipt>,
+) -> Mem<()>
+    requires { 0 < share.old.parts }
+    ensures settles { OnOk result (SettlesSome receipts.old receipts.new) }
+    ensures counted { OnOk result
+        (share.new.amount + length receipts.old ≡ share.old.amount + length receipts.new) }
+    ensures parts { share.new.parts ≡ share.old.parts }
+{
     for _ in rt.forever() {
         match run.settle(share, receipts) {
-            Ok(Answer::Taken) => {}
-            Ok(answer) => return Ok(answer.goes_on()),
+            Ok(true) => {}
+            Ok(false) => return Ok(()),
             Err(OutOfMemory) => return Err(OutOfMemory),
         }
     }
     unreachable!()
 }
 
-// Takes a turn, and adds its receipt; none where it is refused.
-#[tactic(auto, using(crate::proofs::AddedLemmas::enters_none, crate::proofs::AddedLemmas::enters_one))]
-fn take_turn<X: Wait, L: Ledger, R: Reporter>(
+// Adds what came of a turn.
+#[tactic(auto, using(crate::proofs::AddedLemmas::enters_taken, crate::proofs::AddedLemmas::enters_refused))]
+fn add(alloc: Global, offered: Offered, work: &mut Work) -> Mem<Answer>
+    ensures enters { IfOk result (λ answer. Enters work.old (offered_turn offered) answer work.new) }
+    ensures counted { OnOk result (length work.new.receipts ≡ length work.old.receipts + taken_count offered) }
+{
+    match offered {
+        Offered::Taken { receipt } => {
+            work.receipts.push(alloc, receipt)?;
+            Ok(Answer::Taken)
+        }
+        Offered::Refused { refusal } => {
+            let kind = refusal.kind();
+            work.refused.push(alloc, refusal)?;
+            Ok(Answer::Refused { kind })
+        }
+    }
+}
+
+// Offers a turn, and adds its receipt or its refusal.
+fn offer_turn<X: Wait, L: Ledger, R: Reporter>(
     run: &Access<X, L, R>,
     share: &mut Share<L>,
     turn: Turn,
-    receipts: &mut List<Receipt>,
+    work: &mut Work,
 ) -> Mem<Answer>
     requires { 0 < share.old.parts }
-    ensures enters { OnOk result (Enters receipts.old turn receipts.new) }
+    ensures enters { IfOk result (λ answer. Enters work.old turn answer work.new) }
     ensures counted { OnOk result
-        (share.new.amount + length receipts.old ≡ share.old.amount + length receipts.new) }
+        (share.new.amount + length work.old.receipts ≡ share.old.amount + length work.new.receipts) }
     ensures parts { share.new.parts ≡ share.old.parts }
 {
-    match run.shared.step(run.rt, run.alloc, share, turn) {
-        Ok(receipt) => {
-            receipts.push(run.alloc, receipt)?;
-            Ok(Answer::Taken)
-        }
-        Err(StepError::NotEnabled) => Ok(Answer::NotEnabled),
-        Err(StepError::OutOfMemory) => Err(OutOfMemory),
-        Err(_) => Ok(Answer::NoMore),
-    }
+    let offered = run.shared.offer(run.rt, run.alloc, share, turn)?;
+    add(run.alloc, offered, work)
 }
 
 impl<'a, X: Wait, L: Ledger, R: Reporter> Steps<L> for Access<'a, X, L, R> {
     #[tactic(auto, using(crate::proofs::AddedLemmas::enters_more))]
-    fn enter(&self, share: &mut Share<L>, turn: Turn, receipts: &mut List<Receipt>) -> Mem<Answer> {
-        let answer = take_turn(self, share, turn, receipts)?;
-        if settle_all(self.rt, self, share, receipts)? {
-            Ok(answer)
-        } else {
-            Ok(Answer::NoMore)
-        }
+    fn enter(&self, share: &mut Share<L>, turn: Turn, work: &mut Work) -> Mem<Answer> {
+        let answer = offer_turn(self, share, turn, work)?;
+        settle_all(self.rt, self, share, &mut work.receipts)?;
+        Ok(answer)
     }
 
     fn next_start(&self) -> Option<StartAsk> {
@@ -199,7 +233,7 @@ impl<'a, X: Wait, L: Ledger, R: Reporter> Steps<L> for Access<'a, X, L, R> {
 
 /// Settles until nothing is ready, or a sub-run has ended. Units decide with the word. Where memory is wanting it gives
 /// the run up.
-#[tactic(auto, using(crate::proofs::AddedLemmas::ticks_settled))]
+#[tactic(auto, using(crate::proofs::AddedLemmas::ticks_settled, crate::proofs::AddedLemmas::only_settled))]
 pub fn wind<L: Ledger, R: Reporter>(
     rt: &impl Wait,
     alloc: Global,
@@ -209,6 +243,7 @@ pub fn wind<L: Ledger, R: Reporter>(
 ) -> Mem<List<Receipt>>
     requires { 0 < share.old.parts }
     ensures kinds { IfOk result (λ rs. All OfTicker rs) }
+    ensures settled { IfOk result (λ rs. All IsSettled rs) }
     ensures counted { IfOk result (λ rs. share.new.amount ≡ share.old.amount + length rs) }
     ensures parts { share.new.parts ≡ share.old.parts }
 {
@@ -220,7 +255,7 @@ pub fn wind<L: Ledger, R: Reporter>(
         pauses: true,
     };
     let mut receipts = List::new();
-    let Ok(_) = settle_all(rt, &run, share, &mut receipts) else {
+    let Ok(()) = settle_all(rt, &run, share, &mut receipts) else {
         drop(receipts);
         shared.give_up(rt);
         return Err(OutOfMemory);

@@ -63,7 +63,7 @@ impl Drop for Said {
 
 impl Begun {
     /// The turn of how a unit's start was answered.
-    pub(crate) fn into_turn(self, unit: u32) -> Turn
+    pub fn into_turn(self, unit: u32) -> Turn
         ensures { result ≡ begun_turn unit self }
     {
         match self {
@@ -75,7 +75,7 @@ impl Begun {
 
 impl Said {
     /// The turn of what a unit's child said.
-    pub(crate) fn into_turn(self, unit: u32) -> Turn
+    pub fn into_turn(self, unit: u32) -> Turn
         ensures { result ≡ said_turn unit self }
     {
         match self {

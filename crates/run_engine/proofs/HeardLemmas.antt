@@ -1,5 +1,6 @@
 -- What was told and asked of a run, after one more turn of it.
-use Rattle.std.proofs.Common.{◌≡◌, ℕ, inl, inr, List, [], ◌∷◌, ◌++◌, map, true, false, Option, Result, Ok, Err}
+use Rattle.std.proofs.Common.{◌≡◌, ◌<◌, ℕ, inl, inr, List, [], ◌∷◌, ◌++◌, length, map, true, false, Option, Result}
+use Rattle.std.proofs.Common.{Ok, Err}
 use Rattle.std.proofs.Common.{refl, ap, sym, subst, ◌∙◌}
 use Rattle.std.proofs.lemmas.List.{append-nil, map-append}
 use Rattle.run_events.specs.declared.turn.Turn.{Turn}
@@ -49,16 +50,17 @@ heard_takes tells asks faults r s c d turn old new refusal sound step h =
           (step.asked (asked (history_of old)) asked_before);
       part = inl (refl, refl);
       whole = λ e. (refl, refl);
+      room = inl (refl, refl);
     } in
     subst (IsHeard tells asks s d) (sym step.grown) it
 
 -- a turn was broken off
 pub heard_breaks : {R E C : Type 0} (tells : R → List (ReporterEvent × Option E) → Type 0)
     (asks : C → List (ℕ × Ask) → Type 0) (faults : R → ℕ) (r s : R) (c d : C) (turn : Turn) (old new : World)
-    → old.broken ≡ false → new ≡ record old { broken = true }
+    → old.broken ≡ false → length old.journal < 4294967295 → new ≡ record old { broken = true }
     → BreaksOff tells asks (outside faults r s c d) old.settings old.journal turn → IsHeard tells asks r c old
     → IsHeard tells asks s d new
-heard_breaks tells asks faults r s c d turn old new sound broke off h =
+heard_breaks tells asks faults r s c d turn old new sound room broke off h =
     let none = h.whole sound in
     let more = off.told h.events h.told in
     let so_far : map flagged h.events ≡ answers (history_of old) = ends_at _ _ h.extra h.flags none.0 in
@@ -75,6 +77,7 @@ heard_breaks tells asks faults r s c d turn old new sound broke off h =
       asked = off.adds (asked (history_of old)) asked_before;
       part = inr (turn, off.part);
       whole = λ e. cc;
+      room = inr room;
     } in
     subst (IsHeard tells asks s d) (sym broke) it
 
@@ -92,6 +95,7 @@ heard_broken tells asks r c old new broke h =
       asked = h.asked;
       part = h.part;
       whole = λ e. cc;
+      room = h.room;
     } in
     subst (IsHeard tells asks r c) (sym broke) it
 
@@ -109,17 +113,18 @@ heard_refused tells asks r c old new OutOfMemory same broke h =
 -- an enabled turn was taken or broken off
 pub heard_named : {R E C : Type 0} (tells : R → List (ReporterEvent × Option E) → Type 0)
     (asks : C → List (ℕ × Ask) → Type 0) (faults : R → ℕ) (r s : R) (c d : C) (turn : Turn) (old mid new : World)
-    (result : Result (Option E) StepError) → mid ≡ old → old.broken ≡ false
+    (result : Result (Option E) StepError) → mid ≡ old → old.broken ≡ false → length old.journal < 4294967295
     → IfOk result (TakesTurn tells asks (outside faults r s c d) turn mid new)
     → (IsErrOf result OutOfMemory → Breaks mid new) → IfErr result (λ e. e ≡ OutOfMemory)
     → OnErr result (BreaksOff tells asks (outside faults r s c d) mid.settings mid.journal turn)
     → IsHeard tells asks r c old → IsHeard tells asks s d new
-heard_named tells asks faults r s c d turn old mid new (Ok refusal) same sound takes broke memory off h =
+heard_named tells asks faults r s c d turn old mid new (Ok refusal) same sound room takes broke memory off h =
     heard_takes tells asks faults r s c d turn mid new refusal (subst (λ (w : World). w.broken ≡ false) (sym same)
     sound)
     takes (subst (IsHeard tells asks r c) (sym same) h)
-heard_named tells asks faults r s c d turn old mid new (Err e) same sound takes broke memory off h =
+heard_named tells asks faults r s c d turn old mid new (Err e) same sound room takes broke memory off h =
     heard_breaks tells asks faults r s c d turn mid new (subst (λ (w : World). w.broken ≡ false) (sym same) sound)
+    (subst (λ (w : World). length w.journal < 4294967295) (sym same) room)
     (broke (ap Err memory)).0 off (subst (IsHeard tells asks r c) (sym same) h)
 
 -- so many starts were claimed
@@ -135,4 +140,5 @@ heard_claimed tells asks r c old claimed h = record {
   asked = h.asked;
   part = h.part;
   whole = h.whole;
+  room = h.room;
 }

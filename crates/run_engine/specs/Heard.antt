@@ -1,5 +1,5 @@
 -- What the reporter of a run has told by now, and what its children were asked.
-use Rattle.std.specs.Prelude.{ℕ, ◌≡◌, ◌⊎◌, List, [], ◌++◌, map, Bool, false, Option}
+use Rattle.std.specs.Prelude.{ℕ, ◌≡◌, ◌⊎◌, ◌<◌, List, [], ◌++◌, length, map, Bool, false, Option}
 use Rattle.run_events.specs.declared.settings.Settings.{Settings}
 use Rattle.run_events.specs.declared.turn.Turn.{Turn}
 use Rattle.run_events.specs.declared.ask.Ask.{Ask}
@@ -15,7 +15,7 @@ IsFurther p journal extra sent =
     ((extra ≡ []) × (sent ≡ [])) ⊎ ((turn : Turn) × IsPart p journal turn extra sent)
 
 -- a reporter has told the events of a run's journal, refused as in it, and the children were asked its asks; where the
--- run is broken a part of one further turn's may have gone out as well
+-- run is broken a part of one further turn's may have gone out as well, for which its journal has room
 pub record IsHeard {R E C : Type 0} (tells : R → List (ReporterEvent × Option E) → Type 0)
     (asks : C → List (ℕ × Ask) → Type 0) (r : R) (c : C) (w : World) : Type 0 where
   pub events : List (ReporterEvent × Option E)
@@ -26,3 +26,4 @@ pub record IsHeard {R E C : Type 0} (tells : R → List (ReporterEvent × Option
   pub asked : asks c (asked (history_of w) ++ sent)
   pub part : IsFurther w.settings w.journal extra sent
   pub whole : w.broken ≡ false → (extra ≡ []) × (sent ≡ [])
+  pub room : ((extra ≡ []) × (sent ≡ [])) ⊎ (length w.journal < 4294967295)

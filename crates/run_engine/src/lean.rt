@@ -1,9 +1,10 @@
 // A run that keeps no journal, turn by turn.
-ghost use Rattle.std.specs.Prelude.{◌≡◌, ◌<◌, [], List, IfOk, IfErr, OnErr, IfSome, IsErrOf, IsNone, false, true};
-ghost use Rattle.std.specs.Prelude.{option_map};
+ghost use Rattle.std.specs.Prelude.{◌≡◌, ◌<◌, [], List, IfOk, IfErr, OnOk, OnErr, IfSome, IsErrOf, IsNone, false};
+ghost use Rattle.std.specs.Prelude.{true};
+ghost use Rattle.std.specs.Prelude.{option_map, Some};
 ghost use Rattle.run_model.specs.declared.entry.Entry.{Entry};
 ghost use Rattle.run_model.specs.Admission.{AreFew, is_last};
-ghost use Rattle.run_model.specs.Board.{board, unit_in};
+ghost use Rattle.run_model.specs.Board.{board};
 ghost use Rattle.run_model.specs.Journal.{past_of, outcome};
 ghost use Rattle.run_model.specs.Turns.{enabled_on, turn_of_unit};
 ghost use Rattle.run_model.specs.Words.{stats, sub_run};
@@ -15,7 +16,7 @@ ghost use Rattle.run_engine.specs.Standing.{sound};
 ghost use Rattle.run_engine.specs.Broken.{BreaksOff};
 ghost use Rattle.run_engine.specs.Refused.{IsRefused, IfNotMemory};
 ghost use Rattle.run_engine.specs.Settling.{IsUnsettled};
-ghost use Rattle.run_engine.specs.Lean.{StandsForJournal, TakesOne, IsAsBefore, SettlesOne, settled_next};
+ghost use Rattle.run_engine.specs.Lean.{StandsForJournal, TakesOne, IsAsBefore, SettlesOne, attempt_at, settled_next};
 
 use crate::carry::{carry_unkept, named_if_enabled, named_of};
 use crate::errors::StepError;
@@ -27,21 +28,24 @@ use run_state::{Settled, State, next_settled};
 use std::alloc::Global;
 use std::marker::Model;
 
-/// A run that keeps no journal: its state stands for it. Its calls speak of a run that stands for one: after want of
-/// memory nothing is said of it.
+/// A run that keeps no journal: its state stands for it. Its calls say what holds after each journal that it stands
+/// for, which is one at least until memory was wanting: then it is broken, and takes no turn any more.
 #[derive(Drop)]
 pub struct LeanRun {
     settings: Whole<Settings>,
     state: State,
     turns: u64,
+    broken: bool,
 }
 
 impl Model for LeanRun {
-    ghost use Rattle.run_engine.specs.Lean.{Lean};
+    ghost use Rattle.run_engine.specs.Lean.{Lean, StandsUnlessBroken};
 
     ghost Value = { Lean };
 
-    ghost view = { λ r. record { settings = r.settings; state = r.state; turns = r.turns } };
+    ghost view = { λ r. record { settings = r.settings; state = r.state; turns = r.turns; broken = r.broken } };
+
+    ghost invariant = { λ r. StandsUnlessBroken r.settings r.state r.turns r.broken };
 }
 
 impl LeanRun {
@@ -51,16 +55,18 @@ impl LeanRun {
         requires stands { state ≡ held settings (board settings []) }
         ensures stands { StandsForJournal result [] }
         ensures settings { result.settings ≡ settings }
+        ensures sound { result.broken ≡ false }
     {
         LeanRun {
             settings,
             state,
             turns: 0,
+            broken: false,
         }
     }
 
     /// Takes a turn, as `Run::step` does, after each journal that the run stands for, and answers the error of the
-    /// reporter, where it refused the turn's event.
+    /// reporter, where it refused the turn's event. A run that want of memory broke answers that ever after.
     pub fn step<C: Children, R: Reporter>(
         &mut self,
         alloc: Global,
@@ -68,10 +74,10 @@ impl LeanRun {
         children: &mut C,
         report: &mut R,
     ) -> Result<Option<R::Error>, StepError>
-        requires { (journal : List Entry) × StandsForJournal self.old journal }
         ensures takes { let o = outside R.faults report.old report.new children.old children.new in
             IfOk result (λ refusal. (journal : List Entry) → StandsForJournal self.old journal
             → TakesOne R.told C.asked o self.old self.new journal turn.now refusal) }
+        ensures sound { OnOk result (self.new.broken ≡ false) }
         ensures refused { IfErr result (λ error. (journal : List Entry) → StandsForJournal self.old journal
             → IsRefused (sound self.old.settings journal) turn.now error) }
         ensures unchanged { let o = outside R.faults report.old report.new
@@ -81,12 +87,23 @@ impl LeanRun {
             IsErrOf result StepError.OutOfMemory
             → (journal : List Entry) → StandsForJournal self.old journal
             → BreaksOff R.told C.asked o self.old.settings journal turn.now }
+        ensures broken { IsErrOf result StepError.OutOfMemory → self.new.broken ≡ true }
+        ensures stays_broken { self.old.broken ≡ true → IsErrOf result StepError.OutOfMemory }
+        ensures idle { let o = outside R.faults report.old report.new children.old children.new in
+            self.old.broken ≡ true → IsAsBefore self.old self.new o }
     {
+        if self.broken {
+            return Err(StepError::OutOfMemory);
+        }
         if self.turns >= MOST_TURNS as u64 {
             return Err(StepError::Full);
         }
         match named_if_enabled(alloc, self.settings.get(), &self.state, turn) {
             Ok(named) => self.take(alloc, turn, named, children, report),
+            Err(StepError::OutOfMemory) => {
+                self.broken = true;
+                Err(StepError::OutOfMemory)
+            }
             Err(error) => Err(error),
         }
     }
@@ -100,14 +117,16 @@ impl LeanRun {
         children: &mut C,
         report: &mut R,
     ) -> Result<Option<R::Error>, StepError>
-        requires stands { (journal : List Entry) × StandsForJournal self.old journal }
+        requires sound { self.old.broken ≡ false }
         requires named { named ≡ turn_of_unit turn.now }
         requires enabled { enabled_on self.old.settings self.old.state.board turn.now ≡ true }
         requires room { self.old.turns < 4294967295 }
         ensures takes { let o = outside R.faults report.old report.new children.old children.new in
             IfOk result (λ refusal. (journal : List Entry) → StandsForJournal self.old journal
             → TakesOne R.told C.asked o self.old self.new journal turn.now refusal) }
+        ensures sound { OnOk result (self.new.broken ≡ false) }
         ensures memory { IfErr result (λ error. error ≡ StepError.OutOfMemory) }
+        ensures broken { OnErr result (self.new.broken ≡ true) }
         ensures part { let o = outside R.faults report.old report.new children.old children.new in
             OnErr result ((journal : List Entry) → StandsForJournal self.old journal
             → BreaksOff R.told C.asked o self.old.settings journal turn.now) }
@@ -128,20 +147,24 @@ impl LeanRun {
                 self.turns = place + 1;
                 Ok(refusal)
             }
-            Err(_) => Err(StepError::OutOfMemory),
+            Err(_) => {
+                self.broken = true;
+                Err(StepError::OutOfMemory)
+            }
         }
     }
 
     // The first enabled turn of those that the run takes by itself.
     fn next(&self, word: u32) -> Option<Settled>
-        requires { (journal : List Entry) × StandsForJournal self.now journal }
+        requires { self.now.broken ≡ false }
         ensures { option_map settled_turn result ≡ settled_next self.now word }
     {
         next_settled(self.settings.get(), &self.state, word)
     }
 
     /// Takes the first enabled turn of those that the run takes by itself, as `Run::settle` does, after each journal
-    /// that the run stands for. The answer is the turn, and none where none of them is enabled.
+    /// that the run stands for. The answer is the turn, and none where none of them is enabled. A run that want of
+    /// memory broke answers that ever after.
     pub fn settle<C: Children, R: Reporter>(
         &mut self,
         alloc: Global,
@@ -149,7 +172,6 @@ impl LeanRun {
         children: &mut C,
         report: &mut R,
     ) -> Result<Option<Turn>, StepError>
-        requires { (journal : List Entry) × StandsForJournal self.old journal }
         ensures first { IfOk result (λ turn. turn ≡ settled_next self.old word) }
         ensures settles { let o = outside R.faults report.old report.new children.old children.new
             in
@@ -160,11 +182,19 @@ impl LeanRun {
             children.old children.new in
             IfErr result (λ error. IfNotMemory error (IsAsBefore self.old self.new o)) }
         ensures part { let o = outside R.faults report.old report.new children.old children.new in
-            IsErrOf result StepError.OutOfMemory
+            IsErrOf result StepError.OutOfMemory → self.old.broken ≡ false
             → (turn : Turn) × (settled_next self.old word ≡ Some turn)
             × ((journal : List Entry) → StandsForJournal self.old journal
             → BreaksOff R.told C.asked o self.old.settings journal turn) }
+        ensures sound { OnOk result (self.new.broken ≡ false) }
+        ensures broken { IsErrOf result StepError.OutOfMemory → self.new.broken ≡ true }
+        ensures stays_broken { self.old.broken ≡ true → IsErrOf result StepError.OutOfMemory }
+        ensures idle { let o = outside R.faults report.old report.new children.old children.new in
+            self.old.broken ≡ true → IsAsBefore self.old self.new o }
     {
+        if self.broken {
+            return Err(StepError::OutOfMemory);
+        }
         let settled = match self.next(word) {
             Some(_) if self.turns >= MOST_TURNS as u64 => return Err(StepError::Full),
             Some(settled) => settled,
@@ -181,6 +211,15 @@ impl LeanRun {
                 Err(error)
             }
         }
+    }
+
+    /// Whether want of memory broke it. One that isn't broken stands for a journal.
+    pub fn is_broken(&self) -> bool
+        ensures broken { result ≡ self.now.broken }
+        ensures stands { self.now.broken ≡ false
+            → (journal : List Entry) × StandsForJournal self.now journal }
+    {
+        self.broken
     }
 
     /// How many turns it has taken.
@@ -218,11 +257,16 @@ impl LeanRun {
         self.state.first_in(phase)
     }
 
-    /// Which attempt a script or test is at, from 1: none before its admission. Between two attempts it is the failed
-    /// one.
+    /// Which attempt a script or test is at, from 1: none before its admission, and none once it is over. Between two
+    /// attempts it is the failed one.
     pub fn attempt(&self, unit: u32) -> Option<u32>
-        ensures { result ≡ option_map (λ unit. unit.attempt) (unit_in self.now.state.board unit) }
+        ensures board { result ≡ attempt_at self.now.state.board unit }
+        ensures journal { (journal : List Entry) → StandsForJournal self.now journal
+            → result ≡ attempt_at (board self.now.settings (past_of self.now.settings journal)) unit }
     {
-        self.state.attempt(unit)
+        match self.state.phase(unit) {
+            Some(Phase::Over) | None => None,
+            Some(_) => self.state.attempt(unit),
+        }
     }
 }

@@ -1,5 +1,6 @@
 -- The least unit whose child stands so is the first in its phase.
 use Rattle.std.proofs.Common.{◌≡◌, ℕ, ◌+◌, ◌<◌, ◌^◌, List, get_or, Bool, true, false, Option, Some, None}
+use Rattle.std.proofs.Common.{if◌then◌else◌}
 use Rattle.std.proofs.Common.{option_map, option_and_then, IfSome, IsNone, refl, ap, sym, subst, ◌∙◌, arith}
 use Rattle.std.proofs.lemmas.List.Quantifiers.{position-Some}
 use Rattle.std.proofs.lemmas.Option.{same_Some}
@@ -8,11 +9,11 @@ use Rattle.run_model.specs.declared.entry.Entry.{Entry}
 use Rattle.run_model.specs.declared.phase.Phase.{Phase}
 use Rattle.run_model.specs.declared.phase.Phase.TheVariants.{Starting, Running}
 use Rattle.run_model.specs.declared.unit_view.UnitView.{UnitView}
-use Rattle.run_model.specs.Admission.{is_last, units_in}
+use Rattle.run_model.specs.Admission.{is_done, is_last, units_in}
 use Rattle.run_model.specs.Board.{Board, unit_in}
 use Rattle.run_state.specs.First.{IsFirstIn, NoneIsIn}
 use Rattle.run_state.specs.First.{phase_of as phase_in}
-use Rattle.run_engine.specs.Lean.{StandsForJournal}
+use Rattle.run_engine.specs.Lean.{StandsForJournal, attempt_at}
 use Rattle.run_engine.proofs.UnkeptLemmas.{all_units}
 use Rattle.run_generate.specs.OnWay.{board_of, child_phase}
 use Rattle.run_generate.specs.Turns.{exit_at, exit_turn, first_with, has_child, unit_has}
@@ -72,14 +73,22 @@ first_few g journal child k s is =
     let most : units_in g.run.settings < 2 ^ 32 = s.runnable.few.units in
     omega (arith, within, long, most)
 
+-- a unit whose child runs isn't over
+runs_on : (u : Option UnitView) → unit_has children.Runs u ≡ true → is_done u ≡ false
+runs_on None e = cc
+runs_on (Some u) e = ap is_last (phase_is children.Runs u.phase e)
+
 -- the exit of the least unit whose child runs, by the attempt that it is at
 pub exit_is : (b : Board) (k : ℕ) (attempt : Option ℕ) → Some k ≡ first_with children.Runs b
-    → attempt ≡ option_map (λ (u : UnitView). u.attempt) (unit_in b k)
-    → option_map (λ n. Exit k (exit_at k n)) attempt ≡ exit_turn b
+    → attempt ≡ attempt_at b k → option_map (λ n. Exit k (exit_at k n)) attempt ≡ exit_turn b
 exit_is b k attempt is at =
-    ap (option_map (λ n. Exit k (exit_at k n))) at ∙ at_once (unit_in b k)
+    ap (option_map (λ n. Exit k (exit_at k n))) (at ∙ going) ∙ at_once (unit_in b k)
     ∙ ap (option_and_then (λ k. option_map (λ (u : UnitView). Exit k (exit_at k u.attempt)) (unit_in b k))) is
   where
+    going : attempt_at b k ≡ option_map (λ (u : UnitView). u.attempt) (unit_in b k)
+    going = ap (λ done. if done then None else option_map (λ (u : UnitView). u.attempt) (unit_in b k))
+        (runs_on (unit_in b k) (position-Some (unit_has children.Runs) b.units k None (sym is)).1)
+
     at_once : (o : Option UnitView)
         → option_map (λ n. Exit k (exit_at k n)) (option_map (λ (u : UnitView). u.attempt) o)
         ≡ option_map (λ (u : UnitView). Exit k (exit_at k u.attempt)) o

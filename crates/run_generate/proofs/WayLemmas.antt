@@ -46,6 +46,7 @@ begins run stands = (
       asked = tt;
       part = inl (refl, refl);
       whole = λ e. (refl, refl);
+      room = inl (refl, refl);
     };
     last = refl;
   },

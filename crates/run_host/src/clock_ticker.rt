@@ -43,6 +43,8 @@ fn between(last: Option<Instant>, now: Instant) -> u64 {
 }
 
 impl<C: Clock + Drop> Ticker for ClockTicker<C> {
+    ghost has_told = { λ s told. Unit {0} };
+
     fn next(&mut self) -> u64 {
         thread::sleep(&self.clock, Duration::from_millis(10));
         match Instant::now(&self.clock) {

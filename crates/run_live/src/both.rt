@@ -16,20 +16,42 @@ pub(crate) fn both<A: Drop, B: Drop>(first: Mem<A>, second: Mem<B>) -> Mem<(A, B
 }
 
 // Puts one item behind each list.
-pub(crate) fn push_each<A: Drop, B: Drop, C: Drop>(
+pub(crate) fn push_each<A: Drop, B: Drop, C: Drop, D: Drop>(
     alloc: Global,
     first: &mut Vec<A>,
     second: &mut Vec<B>,
     third: &mut List<C>,
-    items: (A, B, C),
+    fourth: &mut List<D>,
+    items: (A, B, C, D),
 ) -> Mem<()>
     ensures first { OnOk result (first.new.items ≡ first.old.items ++ items.0 ∷ []) }
     ensures second { OnOk result (second.new.items ≡ second.old.items ++ items.1 ∷ []) }
     ensures third { OnOk result (third.new ≡ third.old ++ items.2 ∷ []) }
+    ensures fourth { OnOk result (fourth.new ≡ fourth.old ++ items.3 ∷ []) }
+{
+    let (one, two, three, four) = items;
+    first.push(one)?;
+    second.push(two)?;
+    third.push(alloc, three)?;
+    fourth.push(alloc, four)?;
+    Ok(())
+}
+
+// The same of three lists.
+pub(crate) fn push_three<A: Drop, B: Drop, C: Drop>(
+    alloc: Global,
+    first: &mut Vec<A>,
+    second: &mut List<B>,
+    third: &mut List<C>,
+    items: (A, B, C),
+) -> Mem<()>
+    ensures first { OnOk result (first.new.items ≡ first.old.items ++ items.0 ∷ []) }
+    ensures second { OnOk result (second.new ≡ second.old ++ items.1 ∷ []) }
+    ensures third { OnOk result (third.new ≡ third.old ++ items.2 ∷ []) }
 {
     let (one, two, three) = items;
     first.push(one)?;
-    second.push(two)?;
+    second.push(alloc, two)?;
     third.push(alloc, three)?;
     Ok(())
 }

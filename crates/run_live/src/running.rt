@@ -1,11 +1,12 @@
 // A run of real children, from its first turn to what it leaves.
-ghost use Rattle.std.specs.Prelude.{◌≡◌, ◌≢◌, ◌+◌, ◌<◌, ℕ, [], IfOk, IfSome, IsSome, IsNone, None, length};
+ghost use Rattle.std.specs.Prelude.{◌≡◌, ◌≢◌, ◌+◌, ◌<◌, ℕ, [], IfOk, IfErr, IfSome, IsSome, IsNone, None, length};
 ghost use Rattle.std.specs.List.{All, sum_by};
 ghost use Rattle.run_model.specs.Words.{times};
 ghost use Rattle.run_shared.specs.Receipts.{concatenated, receipt_numbers, StandsIn};
-ghost use Rattle.run_shared.specs.Closed.{IsLeft, Refuses};
-ghost use Rattle.run_live.specs.Own.{IsLive};
-ghost use Rattle.run_live.specs.Work.{IsOneEmpty, IsFresh, IsWholeWork, IsWound};
+ghost use Rattle.run_shared.specs.Closed.{IsLeft, IsLeftUnclosed, Refuses};
+ghost use Rattle.run_live.specs.Left.{HasToldSome};
+ghost use Rattle.run_live.specs.Own.{IsLive, IsTicker};
+ghost use Rattle.run_live.specs.Work.{IsOneEmpty, IsFresh, IsSetOut, IsWholeWork};
 
 use crate::both::both;
 use crate::ending::{finish, report_of};
@@ -38,7 +39,7 @@ fn make_all<H: Host, L: Ledger, R: Reporter>(
     requires share { IsOneEmpty share.parts share.amount }
     ensures count { IfOk result (λ r. length r.0.items ≡ length shares.items) }
     ensures jobs { IfOk result (λ r. All (IsFresh H.Worker.has_said) r.0.items) }
-    ensures clock { IfOk result (λ r. IsWound r.1.share.parts r.1.share.amount r.1.first) }
+    ensures clock { IfOk result (λ r. IsSetOut H.Tick.has_told r.1) }
 {
     let jobs = make_jobs(alloc, host, shares);
     let ticker = host.ticker();
@@ -59,14 +60,17 @@ fn run_jobs<
     shared: &SharedRun<L, R>,
     jobs: Vec<Job<L, W>>,
     clock: TickJob<L, T>,
-) -> Mem<Gathered<L, W>>
+) -> Mem<(Gathered<L, W>, T)>
 where
     R::Error: Send,
     requires jobs { All (IsFresh W.has_said) jobs.items }
-    requires clock { IsWound clock.share.parts clock.share.amount clock.first }
-    ensures count { IfOk result (λ g. length g.workers.items ≡ length jobs.items) }
-    ensures whole { IfOk result (λ g. IsWholeWork W.has_said g.workers.items g.receipts
-        (sum_by (λ (s : Share L). s.parts) g.shares.items) (sum_by (λ (s : Share L). s.amount) g.shares.items)) }
+    requires clock { IsSetOut T.has_told clock }
+    ensures count { IfOk result (λ g. length g.0.workers.items ≡ length jobs.items) }
+    ensures whole { IfOk result (λ g. IsWholeWork W.has_said g.0.workers.items g.0.receipts g.0.refused
+        (sum_by (λ (s : Share L). s.parts) g.0.shares.items)
+        (sum_by (λ (s : Share L). s.amount) g.0.shares.items)) }
+    ensures ticker { IfOk result (λ g. IsTicker T.has_told g.1 (length g.0.workers.items) g.0.receipts
+        g.0.refused) }
 {
     let (done, ticked) = together(rt, alloc, shared, jobs, clock)?;
     gather_all(alloc, done, ticked)
@@ -80,14 +84,17 @@ fn run_threads<H: Host, L: Ledger + Send + Sync, R: Reporter + Send, X: Threads 
     host: &mut H,
     shares: Vec<Share<L>>,
     share: Share<L>,
-) -> Mem<Gathered<L, H::Worker>>
+) -> Mem<(Gathered<L, H::Worker>, H::Tick)>
 where
     R::Error: Send,
     requires each { All (λ (s : Share L). IsOneEmpty s.parts s.amount) shares.items }
     requires share { IsOneEmpty share.parts share.amount }
-    ensures count { IfOk result (λ g. length g.workers.items ≡ length shares.items) }
-    ensures whole { IfOk result (λ g. IsWholeWork H.Worker.has_said g.workers.items g.receipts
-        (sum_by (λ (s : Share L). s.parts) g.shares.items) (sum_by (λ (s : Share L). s.amount) g.shares.items)) }
+    ensures count { IfOk result (λ g. length g.0.workers.items ≡ length shares.items) }
+    ensures whole { IfOk result (λ g. IsWholeWork H.Worker.has_said g.0.workers.items g.0.receipts g.0.refused
+        (sum_by (λ (s : Share L). s.parts) g.0.shares.items)
+        (sum_by (λ (s : Share L). s.amount) g.0.shares.items)) }
+    ensures ticker { IfOk result (λ g. IsTicker H.Tick.has_told g.1 (length g.0.workers.items) g.0.receipts
+        g.0.refused) }
 {
     let (jobs, clock) = make_all(rt, alloc, shared, host, shares, share)?;
     run_jobs(rt, alloc, shared, jobs, clock)
@@ -100,14 +107,17 @@ fn run_shares<H: Host, L: Ledger + Send + Sync, R: Reporter + Send, X: Threads +
     shared: &SharedRun<L, R>,
     host: &mut H,
     shares: Vec<Share<L>>,
-) -> Mem<Gathered<L, H::Worker>>
+) -> Mem<(Gathered<L, H::Worker>, H::Tick)>
 where
     R::Error: Send,
     requires each { All (λ (s : Share L). (s.parts ≡ 1) × (s.amount ≡ 0)) shares.items }
     requires some { 0 < length shares.items }
-    ensures count { IfOk result (λ g. length g.workers.items + 1 ≡ length shares.items) }
-    ensures whole { IfOk result (λ g. IsWholeWork H.Worker.has_said g.workers.items g.receipts
-        (sum_by (λ (s : Share L). s.parts) g.shares.items) (sum_by (λ (s : Share L). s.amount) g.shares.items)) }
+    ensures count { IfOk result (λ g. length g.0.workers.items + 1 ≡ length shares.items) }
+    ensures whole { IfOk result (λ g. IsWholeWork H.Worker.has_said g.0.workers.items g.0.receipts g.0.refused
+        (sum_by (λ (s : Share L). s.parts) g.0.shares.items)
+        (sum_by (λ (s : Share L). s.amount) g.0.shares.items)) }
+    ensures ticker { IfOk result (λ g. IsTicker H.Tick.has_told g.1 (length g.0.workers.items) g.0.receipts
+        g.0.refused) }
 {
     let mut shares = shares;
     match shares.pop() {
@@ -123,7 +133,7 @@ fn live_on<H: Host, L: Ledger + Send + Sync, R: Reporter + Send, X: Threads + Wa
     shared: SharedRun<L, R>,
     host: &mut H,
     shares: Vec<Share<L>>,
-) -> Result<Lived<H::Worker, R>, R>
+) -> Result<Lived<H::Worker, H::Tick, R>, R>
 where
     R::Error: Send,
     requires each { All (λ (s : Share L). (s.parts ≡ 1) × (s.amount ≡ 0)) shares.items }
@@ -139,11 +149,17 @@ where
     ensures refused { IfOk result (λ l. IfSome l.live.error
         (λ e. Refuses shared l.live.journal (concatenated l.live.receipts) e.kind)) }
     ensures kind { IfOk result (λ l. IfSome l.live.error (λ e. e.kind ≢ CloseKind.OutOfMemory)) }
-    ensures nothing { IfOk result (λ l. IsSome l.live.error → (l.asks ≡ []) × (l.outcome ≡ None)) }
-    ensures own { IfOk result (λ l. IsLive H.Worker.has_said l.live.workers.items l.live.receipts) }
+    ensures left_too { IfOk result (λ l. IfSome l.live.error
+        (λ e. IsLeftUnclosed R.told l.report l.asks shared l.live.journal e.kind)) }
+    ensures no_outcome { IfOk result (λ l. IsSome l.live.error → l.outcome ≡ None) }
+    ensures own { IfOk result
+        (λ l. IsLive H.Worker.has_said l.live.workers.items l.live.receipts l.live.refused) }
+    ensures ticker { IfOk result (λ l. IsTicker H.Tick.has_told l.ticker (length l.live.workers.items)
+        l.live.receipts l.live.refused) }
+    ensures given_up { IfErr result (HasToldSome R.told) }
 {
     match run_shares(rt, alloc, &shared, host, shares) {
-        Ok(all) => finish(alloc, shared, all),
+        Ok((all, ticker)) => finish(alloc, shared, all, ticker),
         Err(_) => Err(report_of(alloc, shared)),
     }
 }
@@ -157,7 +173,7 @@ fn live_in<H: Host, L: Ledger + Send + Sync, R: Reporter + Send, X: Threads + Wa
     host: &mut H,
     report: R,
     blank: Blank,
-) -> Result<Lived<H::Worker, R>, R>
+) -> Result<Lived<H::Worker, H::Tick, R>, R>
 where
     R::Error: Send,
     requires report { R.told report [] }
@@ -174,8 +190,14 @@ where
     ensures refused { IfOk result (λ l. IfSome l.live.error
         (λ e. Refuses runner l.live.journal (concatenated l.live.receipts) e.kind)) }
     ensures kind { IfOk result (λ l. IfSome l.live.error (λ e. e.kind ≢ CloseKind.OutOfMemory)) }
-    ensures nothing { IfOk result (λ l. IsSome l.live.error → (l.asks ≡ []) × (l.outcome ≡ None)) }
-    ensures own { IfOk result (λ l. IsLive H.Worker.has_said l.live.workers.items l.live.receipts) }
+    ensures left_too { IfOk result (λ l. IfSome l.live.error
+        (λ e. IsLeftUnclosed R.told l.report l.asks runner l.live.journal e.kind)) }
+    ensures no_outcome { IfOk result (λ l. IsSome l.live.error → l.outcome ≡ None) }
+    ensures own { IfOk result
+        (λ l. IsLive H.Worker.has_said l.live.workers.items l.live.receipts l.live.refused) }
+    ensures ticker { IfOk result (λ l. IsTicker H.Tick.has_told l.ticker (length l.live.workers.items)
+        l.live.receipts l.live.refused) }
+    ensures given_up { IfErr result (HasToldSome R.told) }
 {
     let made = SharedRun::<L, R>::new(alloc, runner, report, u64::from(workers) + 1, blank);
     match made {
@@ -194,7 +216,7 @@ pub fn live<H: Host, R: Reporter + Send, X: Threads + Wait + Sync>(
     workers: u32,
     host: &mut H,
     report: R,
-) -> Result<Lived<H::Worker, R>, R>
+) -> Result<Lived<H::Worker, H::Tick, R>, R>
 where
     R::Error: Send,
     requires { R.told report [] }
@@ -208,8 +230,14 @@ where
     ensures refused { IfOk result (λ l. IfSome l.live.error
         (λ e. Refuses runner l.live.journal (concatenated l.live.receipts) e.kind)) }
     ensures kind { IfOk result (λ l. IfSome l.live.error (λ e. e.kind ≢ CloseKind.OutOfMemory)) }
-    ensures nothing { IfOk result (λ l. IsSome l.live.error → (l.asks ≡ []) × (l.outcome ≡ None)) }
-    ensures own { IfOk result (λ l. IsLive H.Worker.has_said l.live.workers.items l.live.receipts) }
+    ensures left_too { IfOk result (λ l. IfSome l.live.error
+        (λ e. IsLeftUnclosed R.told l.report l.asks runner l.live.journal e.kind)) }
+    ensures no_outcome { IfOk result (λ l. IsSome l.live.error → l.outcome ≡ None) }
+    ensures own { IfOk result
+        (λ l. IsLive H.Worker.has_said l.live.workers.items l.live.receipts l.live.refused) }
+    ensures ticker { IfOk result (λ l. IsTicker H.Tick.has_told l.ticker (length l.live.workers.items)
+        l.live.receipts l.live.refused) }
+    ensures given_up { IfErr result (HasToldSome R.told) }
 {
     let blank = Blank::new(u64::from(workers) + 1);
     live_in::<H, Brand, R, X>(rt, alloc, runner, workers, host, report, blank)

@@ -1,30 +1,31 @@
 // The ticker on a thread of its own.
-ghost use Rattle.std.specs.Prelude.{IfErr, IfOk};
-ghost use Rattle.run_live.specs.Work.{IsOneEmpty, IsWound, IsTicked};
+ghost use Rattle.std.specs.Prelude.{[], IfErr, IfOk};
+ghost use Rattle.run_live.specs.Work.{IsOneEmpty, IsSetOut, HasTicked};
 
 use crate::jobs::TickJob;
-use run_capture::{List, Mem, OutOfMemory};
-use run_drive::{Ticker, tick, wind};
+use run_capture::{Mem, OutOfMemory};
+use run_drive::{Ticker, Work, tick, wind};
 use run_events::Reporter;
-use run_shared::{Receipt, SharedRun};
+use run_shared::SharedRun;
 use std::alloc::Global;
 use std::sync::Wait;
 use std::sync::ledger::{Ledger, Share};
 use std::thread::{Promise, PromisedHandle, Scope, Threads};
 
-// What the ticker's thread leaves: its share, and its receipts, or none where memory was wanting.
+// What the ticker's thread leaves: the ticker, its share, and its work, or none where memory was wanting.
 #[derive(Drop)]
-pub(crate) struct Ticked<L: Ledger> {
+pub(crate) struct Ticked<L: Ledger, T> {
+    pub(crate) ticker: T,
     pub(crate) share: Share<L>,
-    pub(crate) receipts: Option<List<Receipt>>,
+    pub(crate) work: Option<Work>,
 }
 
-// That the receipts are those that the share counts, of time and of what a run settles.
+// That the receipts are those that the share counts, of time that was told and of what a run settles.
 #[derive(Clone, Copy)]
 pub(crate) struct OwnTicks;
 
-impl<L: Ledger> Promise<Ticked<L>> for OwnTicks {
-    ghost kept_by = { λ p d. IsTicked d.share.parts d.share.amount d.receipts };
+impl<L: Ledger, T: Ticker> Promise<Ticked<L, T>> for OwnTicks {
+    ghost kept_by = { λ p d. HasTicked T.has_told d };
 }
 
 // Settles what is ready before any worker starts.
@@ -36,8 +37,9 @@ pub(crate) fn begin<T: Ticker + Drop, L: Ledger, R: Reporter>(
     share: Share<L>,
     word: u32,
 ) -> Mem<TickJob<L, T>>
-    requires { IsOneEmpty share.parts share.amount }
-    ensures { IfOk result (λ job. IsWound job.share.parts job.share.amount job.first) }
+    requires ticker { T.has_told ticker [] }
+    requires share { IsOneEmpty share.parts share.amount }
+    ensures { IfOk result (IsSetOut T.has_told) }
 {
     let mut share = share;
     let Ok(first) = wind(rt, alloc, shared, &mut share, word) else {
@@ -53,15 +55,16 @@ pub(crate) fn begin<T: Ticker + Drop, L: Ledger, R: Reporter>(
     })
 }
 
-// Steps with time until the run takes no step of it.
+// Offers time until the run takes no step of it.
+#[tactic(auto, using(crate::proofs::GatherLemmas::told_of))]
 fn run_ticker<T: Ticker + Drop, L: Ledger, R: Reporter>(
     rt: &impl Wait,
     alloc: Global,
     shared: &SharedRun<L, R>,
     job: TickJob<L, T>,
-) -> Ticked<L>
-    requires { IsWound job.share.parts job.share.amount job.first }
-    ensures { IsTicked result.share.parts result.share.amount result.receipts }
+) -> Ticked<L, T>
+    requires { IsSetOut T.has_told job }
+    ensures { HasTicked T.has_told result }
 {
     let TickJob {
         mut ticker,
@@ -70,13 +73,15 @@ fn run_ticker<T: Ticker + Drop, L: Ledger, R: Reporter>(
         first,
     } = job;
     match tick(rt, alloc, shared, &mut ticker, &mut share, word, first) {
-        Ok(receipts) => Ticked {
+        Ok(work) => Ticked {
+            ticker,
             share,
-            receipts: Some(receipts),
+            work: Some(work),
         },
         Err(_) => Ticked {
+            ticker,
             share,
-            receipts: None,
+            work: None,
         },
     }
 }
@@ -95,15 +100,15 @@ pub(crate) fn start_ticker<
     alloc: Global,
     shared: &'s SharedRun<L, R>,
     job: TickJob<L, T>,
-) -> Result<PromisedHandle<Ticked<L>, OwnTicks>, Ticked<L>>
+) -> Result<PromisedHandle<Ticked<L, T>, OwnTicks>, Ticked<L, T>>
 where
     R::Error: Send,
-    requires { IsWound job.share.parts job.share.amount job.first }
-    ensures { IfErr result (λ d. IsTicked d.share.parts d.share.amount d.receipts) }
+    requires { IsSetOut T.has_told job }
+    ensures { IfErr result (HasTicked T.has_told) }
 {
-    let run = move || -> Ticked<L>
-        requires { IsWound job.share.parts job.share.amount job.first }
-        ensures { IsTicked result.share.parts result.share.amount result.receipts }
+    let run = move || -> Ticked<L, T>
+        requires { IsSetOut T.has_told job }
+        ensures { HasTicked T.has_told result }
     { run_ticker(rt, alloc, shared, job) };
     match scope.spawn_with(OwnTicks, run) {
         Ok(handle) => Ok(handle),
@@ -115,12 +120,12 @@ where
 }
 
 // What the ticker leaves, once its thread has ended.
-pub(crate) fn end_ticker<L: Ledger>(
+pub(crate) fn end_ticker<T: Ticker + Drop, L: Ledger>(
     rt: &impl Threads,
-    running: Result<PromisedHandle<Ticked<L>, OwnTicks>, Ticked<L>>,
-) -> Ticked<L>
-    requires { IfErr running (λ d. IsTicked d.share.parts d.share.amount d.receipts) }
-    ensures { IsTicked result.share.parts result.share.amount result.receipts }
+    running: Result<PromisedHandle<Ticked<L, T>, OwnTicks>, Ticked<L, T>>,
+) -> Ticked<L, T>
+    requires { IfErr running (HasTicked T.has_told) }
+    ensures { HasTicked T.has_told result }
 {
     match running {
         Ok(handle) => handle.join(rt),

@@ -1,7 +1,7 @@
 // The threads of a run, and their end.
 ghost use Rattle.std.specs.Prelude.{◌≡◌, [], IfOk, IfErr, Result, ◌≤◌, vec_len, vec_capacity};
 ghost use Rattle.std.specs.List.{All};
-ghost use Rattle.run_live.specs.Work.{HasWorked, IsFresh, IsTicked, IsWound};
+ghost use Rattle.run_live.specs.Work.{HasTicked, HasWorked, IsFresh, IsSetOut};
 
 use crate::both::both;
 use crate::jobs::{Job, TickJob};
@@ -158,14 +158,14 @@ fn in_scope<
     shared: &'s SharedRun<L, R>,
     jobs: Vec<Job<L, W>>,
     clock: TickJob<L, T>,
-) -> Mem<(Vec<Done<L, W>>, Ticked<L>)>
+) -> Mem<(Vec<Done<L, W>>, Ticked<L, T>)>
 where
     R::Error: Send,
     requires jobs { All (IsFresh W.has_said) jobs.items }
-    requires clock { IsWound clock.share.parts clock.share.amount clock.first }
+    requires clock { IsSetOut T.has_told clock }
     ensures count { IfOk result (λ r. vec_len r.0 ≡ vec_len jobs) }
     ensures each { IfOk result (λ r. All (HasWorked W.has_said) r.0.items) }
-    ensures clock { IfOk result (λ r. IsTicked r.1.share.parts r.1.share.amount r.1.receipts) }
+    ensures clock { IfOk result (λ r. HasTicked T.has_told r.1) }
 {
     let ticking = start_ticker(scope, rt, alloc, shared, clock);
     let done = run_workers(scope, rt, alloc, shared, jobs);
@@ -185,24 +185,24 @@ pub(crate) fn together<
     shared: &SharedRun<L, R>,
     jobs: Vec<Job<L, W>>,
     clock: TickJob<L, T>,
-) -> Mem<(Vec<Done<L, W>>, Ticked<L>)>
+) -> Mem<(Vec<Done<L, W>>, Ticked<L, T>)>
 where
     R::Error: Send,
     requires jobs { All (IsFresh W.has_said) jobs.items }
-    requires clock { IsWound clock.share.parts clock.share.amount clock.first }
+    requires clock { IsSetOut T.has_told clock }
     ensures count { IfOk result (λ r. vec_len r.0 ≡ vec_len jobs) }
     ensures each { IfOk result (λ r. All (HasWorked W.has_said) r.0.items) }
-    ensures clock { IfOk result (λ r. IsTicked r.1.share.parts r.1.share.amount r.1.receipts) }
+    ensures clock { IfOk result (λ r. HasTicked T.has_told r.1) }
 {
     thread::scope(
         thread::scope_env(),
         rt,
-        move |scope| -> Mem<(Vec<Done<L, W>>, Ticked<L>)>
+        move |scope| -> Mem<(Vec<Done<L, W>>, Ticked<L, T>)>
             requires { All (IsFresh W.has_said) jobs.items
-                × IsWound clock.share.parts clock.share.amount clock.first }
+                × IsSetOut T.has_told clock }
             ensures { IfOk result (λ r. vec_len r.0 ≡ vec_len jobs)
                 × IfOk result (λ r. All (HasWorked W.has_said) r.0.items)
-                × IfOk result (λ r. IsTicked r.1.share.parts r.1.share.amount r.1.receipts) }
+                × IfOk result (λ r. HasTicked T.has_told r.1) }
         { in_scope(scope, rt, alloc, shared, jobs, clock) },
     )
 }

@@ -3,24 +3,23 @@ ghost use Rattle.std.specs.Prelude.{[], IfErr};
 ghost use Rattle.run_live.specs.Work.{HasWorked, IsOneEmpty, IsFresh};
 
 use crate::jobs::Job;
-use run_capture::List;
-use run_drive::{Spawner, drive};
+use run_drive::{Spawner, Work, drive};
 use run_events::Reporter;
-use run_shared::{Receipt, SharedRun};
+use run_shared::SharedRun;
 use std::alloc::Global;
 use std::sync::Wait;
 use std::sync::ledger::{Ledger, Share};
 use std::thread::{Promise, PromisedHandle, Scope, Threads};
 
-// What a worker's thread leaves: its spawner, its share, and its receipts, or none where memory was wanting.
+// What a worker's thread leaves: its spawner, its share, and its work, or none where memory was wanting.
 #[derive(Drop)]
 pub(crate) struct Done<L: Ledger, W> {
     pub(crate) worker: W,
     pub(crate) share: Share<L>,
-    pub(crate) receipts: Option<List<Receipt>>,
+    pub(crate) work: Option<Work>,
 }
 
-// That the receipts are those that the share counts, and tell what the spawner said.
+// That the receipts are those that the share counts, and that they and the refusals tell what the spawner said.
 #[derive(Clone, Copy)]
 pub(crate) struct OwnWork;
 
@@ -29,6 +28,7 @@ impl<L: Ledger, W: Spawner> Promise<Done<L, W>> for OwnWork {
 }
 
 // Drives the run until the worker is done.
+#[tactic(auto, using(crate::proofs::GatherLemmas::own_of))]
 fn work<W: Spawner, L: Ledger, R: Reporter>(
     rt: &impl Wait,
     alloc: Global,
@@ -45,15 +45,15 @@ fn work<W: Spawner, L: Ledger, R: Reporter>(
         word,
     } = job;
     match drive(rt, alloc, shared, &mut worker, &mut share, word) {
-        Ok(receipts) => Done {
+        Ok(work) => Done {
             worker,
             share,
-            receipts: Some(receipts),
+            work: Some(work),
         },
         Err(_) => Done {
             worker,
             share,
-            receipts: None,
+            work: None,
         },
     }
 }

@@ -1,5 +1,6 @@
 pub mod Fields
 pub mod Printer
+pub mod Fronts
 pub mod Rows
 pub mod Object
 pub mod Texts

@@ -86,12 +86,14 @@ fn print_ask(alloc: Global, turn: u64, ask: &Ask) -> Mem<Printer>
 pub fn ask_line(alloc: Global, turn: u64, ask: &Ask) -> Mem<Text>
     ensures { IfOk result (λ t. t ≡ ask_text turn ask.now) }
 {
-    Ok(print_ask(alloc, turn, ask)?.into_text())
+    print_ask(alloc, turn, ask)?.into_text(alloc)
 }
 
 /// The bytes of that line, with its line feed.
 pub(crate) fn ask_bytes(alloc: Global, turn: u64, ask: &Ask) -> Mem<Vec<u8>>
     ensures { IfOk result (λ bytes. bytes.items ≡ line_bytes (ask_text turn ask.now)) }
 {
-    print_ask(alloc, turn, ask)?.into_line()
+    let mut bytes = print_ask(alloc, turn, ask)?.into_bytes(alloc)?;
+    bytes.push(b'\n')?;
+    Ok(bytes)
 }

@@ -19,6 +19,7 @@ use crate::events_of_tests::{
 };
 use crate::field::Field;
 use crate::leaf::Leaf;
+use crate::line::Line;
 use crate::object::Object;
 use crate::printer::Printer;
 use run_capture::{Mem, Text};
@@ -135,12 +136,12 @@ fn print_event(alloc: Global, event: &ReporterEvent) -> Mem<Printer>
 pub fn event_line(alloc: Global, event: &ReporterEvent) -> Mem<Text>
     ensures { IfOk result (λ t. t ≡ event_text event.now) }
 {
-    Ok(print_event(alloc, event)?.into_text())
+    print_event(alloc, event)?.into_text(alloc)
 }
 
-/// The bytes of the line of an event, with its line feed.
-pub(crate) fn event_bytes(alloc: Global, event: &ReporterEvent) -> Mem<Vec<u8>>
-    ensures { IfOk result (λ bytes. bytes.items ≡ line_bytes (event_text event.now)) }
+/// The line of an event, with its line feed.
+pub(crate) fn whole_event_line(alloc: Global, event: &ReporterEvent) -> Mem<Line>
+    ensures { IfOk result (λ line. line ≡ line_bytes (event_text event.now)) }
 {
     print_event(alloc, event)?.into_line()
 }

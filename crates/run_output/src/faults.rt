@@ -108,5 +108,5 @@ pub fn fault_line(alloc: Global, fault: Fault) -> Mem<Text>
     ];
     let object = Object::of(alloc, &head)?;
     let object = with_place(object, fault)?;
-    Ok(object.printed(alloc)?.into_text())
+    object.printed(alloc)?.into_text(alloc)
 }

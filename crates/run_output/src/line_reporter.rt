@@ -3,8 +3,8 @@ ghost use Rattle.std.specs.Prelude.{◌≡◌, []};
 ghost use Rattle.run_events.specs.Tell.{answered, Adds};
 ghost use Rattle.run_events.specs.Counts.{CountsRefusal};
 
-use crate::events::event_bytes;
-use run_capture::{Failed, Sink, write_all};
+use crate::events::whole_event_line;
+use run_capture::{Failed, Sink};
 use run_events::{ReportFault, Reporter, ReporterEvent};
 use std::alloc::Global;
 use std::snapshot::Snapshot;
@@ -78,10 +78,10 @@ impl<K: Sink> Reporter for LineReporter<K> {
         // It refuses an event only where the sink failed.
         ensures cause { CountsRefusal (K.faults self.old.sink) (K.faults self.new.sink) result }
     {
-        let Ok(line) = event_bytes(alloc, event) else {
+        let Ok(line) = whole_event_line(alloc, event) else {
             return Err(ReportFault::OutOfMemory);
         };
-        match write_all(&mut self.sink, &line) {
+        match line.write_to(&mut self.sink) {
             Ok(()) => Ok(()),
             Err(failed) => {
                 self.refusals = self.refusals.saturating_add(1);

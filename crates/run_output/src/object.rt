@@ -130,6 +130,6 @@ impl<F: Printed + Copy> Object<F> {
     pub(crate) fn line(alloc: Global, fields: &[(&'static str, F)]) -> Mem<Text>
         ensures { IfOk result (λ t. t ≡ object_text (rows F.printed fields.now)) }
     {
-        Ok(Object::printed_of(alloc, fields)?.into_text())
+        Object::printed_of(alloc, fields)?.into_text(alloc)
     }
 }

@@ -7,16 +7,22 @@ ghost use Rattle.run_output.specs.Printer.{Prints, data_tokens};
 ghost use Rattle.run_output.specs.Texts.{bytes_data, leaked_text, failure_text, result_text, runs_text};
 
 use crate::printer::Printer;
-use run_capture::{Blob, Mem};
+use run_capture::{Blob, Duplicate, Mem};
 use run_commands::StressCount;
 use run_events::{ExecutionResult, FailureStatus, LeakTimeoutResult, SlowTimeoutResult};
 use std::alloc::Global;
 use uuid::Uuid;
 
+/// A longer output stays bytes until its line is written.
+const MOST: usize = 4096;
+
 /// Bytes, in hex with lower case letters.
 pub(crate) fn print_hex(alloc: Global, out: &mut Printer, bytes: &Blob) -> Mem<()>
     ensures { Prints result out.old out.new (data_tokens (bytes_data bytes.now)) }
 {
+    if bytes.len() > MOST {
+        return out.output(alloc, bytes.copy(alloc)?);
+    }
     let text = hex::encode(alloc, bytes.as_slice())?;
     out.text(text.as_str())
 }

@@ -334,5 +334,5 @@ pub fn turn_line(alloc: Global, turn: &Turn) -> Mem<Text>
 {
     let mut out = Printer::new(alloc)?;
     print_turn(alloc, &mut out, turn)?;
-    Ok(out.into_text())
+    out.into_text(alloc)
 }

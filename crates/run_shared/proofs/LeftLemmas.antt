@@ -1,5 +1,5 @@
 -- What a closed run leaves.
-use Rattle.std.proofs.Common.{◌≡◌, ℕ, List, Bool, true, false, Option, None, refl, sym, subst, ◌∙◌, rules}
+use Rattle.std.proofs.Common.{◌≡◌, ℕ, List, [], Bool, true, false, Option, None, refl, sym, subst, ◌∙◌, rules}
 use Rattle.std.proofs.Common.{if◌then◌else◌}
 use Rattle.std.specs.Option.{IsSome}
 use Rattle.run_events.specs.declared.ask.Ask.{Ask}
@@ -12,7 +12,8 @@ use Rattle.run_model.specs.Journal.{outcome}
 use Rattle.run_engine.specs.World.{World, history_of}
 use Rattle.run_engine.specs.Standing.{IsRunnable}
 use Rattle.run_engine.specs.Heard.{IsHeard}
-use Rattle.run_shared.specs.Closed.{IsLeft, IsOther, Refuses}
+use Rattle.run_shared.specs.Closed.{HasSettings, IsLeft, IsOther, Refuses}
+use Rattle.run_shared.specs.Receipts.{IsFault}
 use Rattle.run_events.specs.declared.settings.Settings.{Settings}
 use Rattle.run_shared.specs.declared.shared.Receipt.{Receipt}
 use Rattle.run_shared.specs.declared.closing.CloseKind.{CloseKind}
@@ -43,6 +44,7 @@ left_of tells r c w journal end same legal unfinished ended h =
       part = h.part;
       whole = λ some. h.whole (not_broken w.broken (is_over (history_of w))
           (outcome_in w.settings (ended_runs (history_of w))) end unfinished ended some);
+      room = h.room;
     })
 
 -- settings that differ are reported as such
@@ -53,3 +55,18 @@ other_refused p q journal rs (OtherSettings given kept) apart legal h =
 other_refused p q journal rs (Mismatch number receipt found) apart legal h = absurd h
 other_refused p q journal rs (Repeated number) apart legal h = absurd h
 other_refused p q journal rs OutOfMemory apart legal h = h
+
+-- so the settings are those that the refusal names
+pub other_settings_kept : (p q : Settings) (e : CloseKind) → IsOther p q e → HasSettings p q e
+other_settings_kept p q (OtherSettings given kept) h = sym h.1
+other_settings_kept p q (Mismatch number receipt found) h = absurd h
+other_settings_kept p q (Repeated number) h = absurd h
+other_settings_kept p q OutOfMemory h = tt
+
+-- and they are the same where the receipts are at fault
+pub same_settings_kept : (p q : Settings) (journal : List Entry) (rs : List Receipt) (e : CloseKind) → p ≡ q
+    → IsFault journal [] rs e → HasSettings p q e
+same_settings_kept p q journal rs (OtherSettings given kept) same h = absurd h
+same_settings_kept p q journal rs (Mismatch number receipt found) same h = sym same
+same_settings_kept p q journal rs (Repeated number) same h = sym same
+same_settings_kept p q journal rs OutOfMemory same h = tt

@@ -5,3 +5,4 @@ pub mod Items
 pub mod Leaves
 pub mod Counts
 pub mod SettledLemmas
+pub mod OrderLemmas

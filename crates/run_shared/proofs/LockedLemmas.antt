@@ -29,6 +29,7 @@ heard_at_first tells asks r c p told asked = record {
   asked = asked;
   part = inl (refl, refl);
   whole = λ e. (refl, refl);
+  room = inl (refl, refl);
 }
 
 -- a turn that was taken adds its entry

@@ -20,7 +20,7 @@ use Rattle.run_model.specs.Words.{times}
 use Rattle.run_shared.specs.Receipts.{concatenated, receipt_numbers, bit, StandsIn, Marks, Looked, IsFault}
 use Rattle.run_shared.specs.Receipts.{HasFault, Closes}
 
-times_append : (k : ℕ) (xs ys : List ℕ) → times k (xs ++ ys) ≡ times k xs + times k ys
+pub times_append : (k : ℕ) (xs ys : List ℕ) → times k (xs ++ ys) ≡ times k xs + times k ys
 times_append k xs ys = sum_by-append (λ n. cond (n == k) 1 0) xs ys
 
 -- one flag more
@@ -30,8 +30,8 @@ mark_each : (seen : List Bool) (ns : List ℕ) (n k : ℕ) → n < length seen �
 mark_each seen ns n k below fresh each own =
     grind (arith, common_steps, sum_by_push, get_or-set_same, get_or-set_other)
 
-marks_more : (seen : List Bool) (ns : List ℕ) (n : ℕ) → n < length seen → get_or seen n false ≡ false → Marks seen ns
-    → Marks (set seen n true) (ns ++ n ∷ [])
+pub marks_more : (seen : List Bool) (ns : List ℕ) (n : ℕ) → n < length seen → get_or seen n false ≡ false
+    → Marks seen ns → Marks (set seen n true) (ns ++ n ∷ [])
 marks_more seen ns n below fresh m = record {
   each = λ k. mark_each seen ns n k below fresh (m.each k) (m.each n);
   count = omega (arith, sum_by-set bit seen n true false below, ap bit fresh, m.count, length-append ns (n ∷ []));
@@ -73,7 +73,7 @@ numbers_three rs ss after =
     map-append (λ (r : Receipt). r.number) rs (ss ++ after)
     ∙ ap (λ (ns : List ℕ). receipt_numbers rs ++ ns) (map-append (λ (r : Receipt). r.number) ss after)
 
-repeated_after : (n : ℕ) (ns xs ys zs : List ℕ) → 2 ≤ times n ((ns ++ xs) ++ ys)
+pub repeated_after : (n : ℕ) (ns xs ys zs : List ℕ) → 2 ≤ times n ((ns ++ xs) ++ ys)
     → 2 ≤ times n (ns ++ (xs ++ (ys ++ zs)))
 repeated_after n ns xs ys zs h = omega (
   arith,
@@ -150,7 +150,7 @@ all_true (true ∷ seen) (suc k) all below =
     all_true seen k (omega (arith, all, first)) (omega (arith, below))
 
 -- nothing is flagged at first
-marks_none : (n : ℕ) → Marks (replicate n false) []
+pub marks_none : (n : ℕ) → Marks (replicate n false) []
 marks_none n = record {
   each = λ k. grind (arith, common_steps, get_or-replicate, get_or_past, length-replicate);
   count = sum_by-replicate bit n false ∙ (omega arith);
@@ -163,7 +163,7 @@ once_each journal now rs k len m as_many below =
     m.each k ∙ ap bit (all_true now k (m.count ∙ length-map rs (λ (r : Receipt). r.number) ∙ as_many ∙ sym len)
     (omega (arith, len, below)))
 
-bit_small : (b : Bool) → bit b ≤ 1
+pub bit_small : (b : Bool) → bit b ≤ 1
 bit_small true = omega arith
 bit_small false = omega arith
 

@@ -12,7 +12,8 @@ ghost use Rattle.run_engine.specs.Heard.{IsHeard};
 ghost use Rattle.run_shared.specs.Adds.{AddsTurn, AddsSettled};
 
 use run_engine::{Run, StepError};
-use run_events::{AskList, Reporter, StartAsk, Turn};
+use run_events::{Ask, AskList, Reporter, StartAsk, Turn};
+use run_model::Phase;
 use std::alloc::Global;
 use std::marker::Model;
 use std::sync::ledger::{Book, Ledger, Share};
@@ -142,6 +143,16 @@ impl<L: Ledger, R: Reporter> Locked<L, R> {
     /// Whether who wants a start waits: the run goes on, and each start that was asked is claimed.
     pub fn must_wait(&self) -> bool {
         !self.run.is_done() && !self.run.has_start()
+    }
+
+    /// What was asked, each with its turn, in order.
+    pub(crate) fn asks(&self) -> &[(u64, Ask)] {
+        self.asks.asks()
+    }
+
+    /// The phase of a unit of the current sub-run, if it was admitted; none of a broken run.
+    pub(crate) fn phase(&self, unit: u32) -> Option<Phase> {
+        self.run.phase(unit)
     }
 
     /// Whether the run takes no turn any more.

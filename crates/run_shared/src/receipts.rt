@@ -127,8 +127,8 @@ fn mark_all(
     Ok(())
 }
 
-// A flag for each entry of a journal, none of them set.
-fn no_flags(alloc: Global, len: usize) -> Mem<Vec<bool>>
+// So many flags, none of them set.
+pub(crate) fn no_flags(alloc: Global, len: usize) -> Mem<Vec<bool>>
     ensures { IfOk result (λ v. v.items ≡ replicate len false) }
 {
     Ok(vec![in alloc; false; len]?)

@@ -2,17 +2,20 @@
 ghost use Rattle.std.specs.Prelude.{◌≡◌, ◌<◌, ◌+◌, [], Ok, Err, IfOk, IfErr, OnOk, OnErr, IfSome, IsNone, length};
 ghost use Rattle.std.specs.Prelude.{vec_len, true};
 ghost use Rattle.run_shared.specs.Settled.{is_settled_turn};
+ghost use Rattle.run_shared.specs.Offered.{offered_turn, taken_count};
 ghost use Rattle.std.specs.List.{All, sum_by};
 ghost use Rattle.run_engine.specs.Heard.{IsHeard};
 ghost use Rattle.run_shared.specs.Receipts.{concatenated, Closes};
-ghost use Rattle.run_shared.specs.Closed.{IsLeft, IsOther, Refuses};
+ghost use Rattle.run_shared.specs.Closed.{HasSettings, IsLeft, IsLeftUnclosed, IsOther, Refuses};
+ghost use Rattle.run_model.specs.Journal.{past_of, outcome};
 
 use crate::beginning::{Begun, begin};
 use crate::closing::{CloseError, CloseKind};
 use crate::locked::Locked;
+use crate::offered::{Offered, offered_at, receipt_in};
 use crate::receipts::check;
 use crate::same::Same;
-use run_capture::{Duplicate, List, OutOfMemory, Whole};
+use run_capture::{Duplicate, List, Mem, OutOfMemory, Whole};
 use run_engine::{Run, StepError, TestRunner};
 use run_events::{AskList, Reporter, RunOutcome, Settings, StartAsk, Turn};
 use run_model::Entry;
@@ -55,19 +58,20 @@ pub struct Closed<R: Reporter> {
     pub report: R,
 }
 
-/// A run that wasn't closed: why, with its journal, the receipts as they were given, and its reporter.
+/// A run that wasn't closed: why, with its journal, the receipts as they were given, what it asked, and its reporter.
 #[derive(Drop)]
 pub struct Unclosed<R: Reporter> {
     pub error: CloseError,
     pub journal: List<Entry>,
     pub receipts: List<List<Receipt>>,
+    pub asks: AskList,
     pub report: R,
 }
 
 /// A run that threads share. Contracts see it as the settings that it was given.
 #[derive(Drop)]
 pub struct SharedRun<L: Ledger, R: Reporter> {
-    lock: Mutex<Locked<L, R>>,
+    pub(crate) lock: Mutex<Locked<L, R>>,
     /// Told of each change of the run.
     moved: Condvar,
     settings: Whole<Settings>,
@@ -82,17 +86,11 @@ impl<L: Ledger, R: Reporter> Model for SharedRun<L, R> {
 }
 
 // The receipt of a turn that was taken, at this place.
-fn receipt_at(place: Result<u64, StepError>, turn: Turn) -> Result<Receipt, StepError>
-    ensures ok { IfOk result (λ r. (r.turn ≡ turn) × (place ≡ Ok r.number)) }
-    ensures err { IfErr result (λ e. place ≡ Err e) }
+pub(crate) fn receipt_of(number: u64, turn: Turn) -> Receipt
+    ensures number { result.number ≡ number }
+    ensures turn { result.turn ≡ turn }
 {
-    match place {
-        Ok(number) => Ok(Receipt { number, turn }),
-        Err(error) => {
-            drop(turn);
-            Err(error)
-        }
-    }
+    Receipt { number, turn }
 }
 
 // That a run has other settings than those given, with copies of both.
@@ -110,7 +108,7 @@ fn other_settings(alloc: Global, given: &Settings, kept: &Settings) -> CloseKind
 }
 
 // Whether a run is closed with these receipts: it has the settings that were given, and they are those of its journal.
-#[tactic(auto, using(crate::proofs::LeftLemmas::other_refused))]
+#[tactic(auto, using(crate::proofs::LeftLemmas::other_refused, crate::proofs::LeftLemmas::other_settings_kept, crate::proofs::LeftLemmas::same_settings_kept))]
 fn judge(
     alloc: Global,
     given: &Whole<Settings>,
@@ -120,6 +118,7 @@ fn judge(
     ensures same { OnOk result (given.now ≡ run.now.settings) }
     ensures closes { OnOk result (Closes run.now.journal (concatenated receipts.now)) }
     ensures refused { IfErr result (Refuses given.now run.now.journal (concatenated receipts.now)) }
+    ensures settings { IfErr result (HasSettings given.now run.now.settings) }
 {
     let given = given.get();
     let journal = run.journal();
@@ -164,15 +163,19 @@ fn unclosed_of<R: Reporter>(
     report: R,
     receipts: List<List<Receipt>>,
 ) -> Unclosed<R>
+    ensures left { IsHeard R.told (λ list xs. list ≡ xs) report asks run
+        → IsLeft R.told result.report result.asks run.settings result.journal
+        (outcome run.settings (past_of run.settings result.journal)) }
     ensures kind { result.error.kind ≡ kind }
     ensures journal { result.journal ≡ run.journal }
     ensures back { result.receipts ≡ receipts }
 {
-    drop(asks);
+    let journal = run.into_journal();
     Unclosed {
         error: CloseError::new(kind),
-        journal: run.into_journal(),
+        journal,
         receipts,
+        asks,
         report,
     }
 }
@@ -192,6 +195,7 @@ fn leave<R: Reporter>(
     ensures journal { IfOk result (λ c. c.journal ≡ run.journal) }
     ensures back { IfOk result (λ c. c.receipts ≡ receipts) }
     ensures refused { IfErr result (λ u. Refuses given.now u.journal (concatenated receipts) u.error.kind) }
+    ensures left_too { IfErr result (λ u. IsLeftUnclosed R.told u.report u.asks given.now u.journal u.error.kind) }
     ensures journal_too { IfErr result (λ u. u.journal ≡ run.journal) }
     ensures back_too { IfErr result (λ u. u.receipts ≡ receipts) }
 {
@@ -238,6 +242,41 @@ impl<L: Ledger, R: Reporter> SharedRun<L, R> {
         Ok((shared, shares))
     }
 
+    /// Offers a turn: the run takes it, which the share counts, or refuses it. Where memory is wanting the run is
+    /// broken.
+    pub fn offer(
+        &self,
+        rt: &impl Wait,
+        alloc: Global,
+        share: &mut Share<L>,
+        turn: Turn,
+    ) -> Mem<Offered>
+        requires { 0 < share.old.parts }
+        ensures turn { IfOk result (λ o. offered_turn o ≡ turn) }
+        ensures counted { IfOk result (λ o. share.new.amount ≡ share.old.amount + taken_count o) }
+        ensures kept { OnErr result (share.new.amount ≡ share.old.amount) }
+        ensures parts { share.new.parts ≡ share.old.parts }
+    {
+        let Ok(copy) = self.copy_of(rt, alloc, &turn) else {
+            drop(turn);
+            return Err(OutOfMemory);
+        };
+        let place = self.lock.lock(rt).step(alloc, share, turn);
+        self.moved.notify_all();
+        offered_at(place, copy)
+    }
+
+    // A copy of a turn; where memory is wanting the run is given up.
+    fn copy_of(&self, rt: &impl Wait, alloc: Global, turn: &Turn) -> Mem<Turn>
+        ensures { IfOk result (λ copy. copy ≡ turn.now) }
+    {
+        let Ok(copy) = turn.copy(alloc) else {
+            self.give_up(rt);
+            return Err(OutOfMemory);
+        };
+        Ok(copy)
+    }
+
     /// Takes a turn, which the share counts, and answers its receipt.
     pub fn step(
         &self,
@@ -252,28 +291,10 @@ impl<L: Ledger, R: Reporter> SharedRun<L, R> {
         ensures kept { OnErr result (share.new.amount ≡ share.old.amount) }
         ensures parts { share.new.parts ≡ share.old.parts }
     {
-        match self.copy_of(rt, alloc, &turn) {
-            Ok(copy) => {
-                let place = self.lock.lock(rt).step(alloc, share, turn);
-                self.moved.notify_all();
-                receipt_at(place, copy)
-            }
-            Err(error) => {
-                drop(turn);
-                Err(error)
-            }
+        match self.offer(rt, alloc, share, turn) {
+            Ok(offered) => receipt_in(offered),
+            Err(OutOfMemory) => Err(StepError::OutOfMemory),
         }
-    }
-
-    // A copy of a turn; where memory is wanting the run is given up.
-    fn copy_of(&self, rt: &impl Wait, alloc: Global, turn: &Turn) -> Result<Turn, StepError>
-        ensures { IfOk result (λ copy. copy ≡ turn.now) }
-    {
-        let Ok(copy) = turn.copy(alloc) else {
-            self.give_up(rt);
-            return Err(StepError::OutOfMemory);
-        };
-        Ok(copy)
     }
 
     /// Takes the first enabled turn of those that a run takes by itself, which the share counts, and answers its
@@ -333,6 +354,7 @@ impl<L: Ledger, R: Reporter> SharedRun<L, R> {
             → sum_by (λ (s : Share L). s.amount) shares.items ≡ length c.journal) }
         ensures back { IfOk result (λ c. c.receipts ≡ receipts) }
         ensures refused { IfErr result (λ u. Refuses self u.journal (concatenated receipts) u.error.kind) }
+        ensures left_too { IfErr result (λ u. IsLeftUnclosed R.told u.report u.asks self u.journal u.error.kind) }
         ensures counted_too { IfErr result (λ u. sum_by (λ (s : Share L). s.parts) shares.items ≡ L.parts
             → sum_by (λ (s : Share L). s.amount) shares.items ≡ length u.journal) }
         ensures back_too { IfErr result (λ u. u.receipts ≡ receipts) }

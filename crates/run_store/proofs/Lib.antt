@@ -1,3 +1,3 @@
-mod RecordLemmas
-mod ReadingLemmas
-mod WayLemmas
+pub mod RecordLemmas
+pub mod ReadingLemmas
+pub mod WayLemmas

@@ -56,16 +56,16 @@ pub stop_at-cut : (n : ℕ) (rest : List ℕ) → is_bad (after_turns n) rest �
 stop_at-cut n rest e none = rw (e, none) refl
 
 -- bytes are equal to themselves
-same_bytes : (bytes : List ℕ) → bytes_eq bytes bytes ≡ true
+pub same_bytes : (bytes : List ℕ) → bytes_eq bytes bytes ≡ true
 same_bytes bytes = (bytes_eq-Decides bytes bytes).1 refl
 
 -- the last record isn't bad after its number of turns
-end_good : (n : ℕ) (more : List ℕ) → is_bad (after_turns n) (end_record n ++ more) ≡ false
+pub end_good : (n : ℕ) (more : List ℕ) → is_bad (after_turns n) (end_record n ++ more) ≡ false
 end_good n more =
     framed_good (after_turns n) 3 (to_be_bytes w32 n) more (omega arith) refl refl (same_bytes (to_be_bytes w32 n))
 
 -- the payload of the last record is the number of turns
-end_payload : (n : ℕ) (more : List ℕ) → payload_in (end_record n ++ more) ≡ Some (to_be_bytes w32 n)
+pub end_payload : (n : ℕ) (more : List ℕ) → payload_in (end_record n ++ more) ≡ Some (to_be_bytes w32 n)
 end_payload n more = payload_in-framed 3 (to_be_bytes w32 n) more (omega arith)
 
 -- bytes stop at the last record
@@ -79,7 +79,7 @@ stop_at-end n more =
     right (is_bad (after_turns n) rest) (end_good n more) (payload_in rest) (end_payload n more)
 
 -- the line of a stored turn is a right payload
-turn_right : (t : Turn) → IsStoredTurn t → is_turn_payload (turn_text t) ≡ true
+pub turn_right : (t : Turn) → IsStoredTurn t → is_turn_payload (turn_text t) ≡ true
 turn_right t h = rw (h.0) (same_bytes (turn_text t))
 
 -- the record of a stored turn isn't bad
@@ -146,7 +146,7 @@ same_turns n (t ∷ ts) (u ∷ us) x y a b h k few low e f g =
 -- ---- readings that get past the plan line
 
 -- a plan line that a store can have isn't too long
-plan_short : (plan : List ℕ) → is_plan_payload plan ≡ true → length plan ≤ most_bytes
+pub plan_short : (plan : List ℕ) → is_plan_payload plan ≡ true → length plan ≤ most_bytes
 plan_short plan e = grind (arith, nat_tests, e)
 
 -- bytes have this plan line, and stop after turns

@@ -11,7 +11,7 @@ use Rattle.run_store.specs.Records.{most_bytes, framed, first_bytes, length_in, 
 use Rattle.run_store.specs.Records.{is_bad_of, is_bad}
 
 -- a number isn't below one that is at most it
-enough : (n m : ℕ) → m ≤ n → nat_lt n m ≡ false
+pub enough : (n m : ℕ) → m ≤ n → nat_lt n m ≡ false
 enough n m h = grind (arith, nat_tests, h)
 
 -- as many bytes as the payload has are the payload
@@ -158,13 +158,13 @@ first_no true y e = absurd (true≢false e)
 first_no false y e = refl
 
 -- so many bytes at the front are so many
-take_length : (n : ℕ) (xs : List ℕ) → n ≤ length xs → length (take n xs) ≡ n
+pub take_length : (n : ℕ) (xs : List ℕ) → n ≤ length xs → length (take n xs) ≡ n
 take_length zero xs h = refl
 take_length (suc n) [] h = absurd (omega arith)
 take_length (suc n) (x ∷ xs) h = ap suc (take_length n xs (omega arith))
 
 -- the front and what follows it are all
-take_drop : (n : ℕ) (xs : List ℕ) → take n xs ++ drop n xs ≡ xs
+pub take_drop : (n : ℕ) (xs : List ℕ) → take n xs ++ drop n xs ≡ xs
 take_drop zero xs = refl
 take_drop (suc n) [] = refl
 take_drop (suc n) (x ∷ xs) = ap (λ (l : List ℕ). x ∷ l) (take_drop n xs)

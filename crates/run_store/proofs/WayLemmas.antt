@@ -71,17 +71,17 @@ abbrev IsReadSome : List ℕ → Type 0
 IsReadSome bytes = (r : StoreReading) × IsReading bytes r
 
 -- what follows bytes in a list of bytes are bytes
-bytes_after : (xs ys : List ℕ) → IsBytes (xs ++ ys) → IsBytes ys
+pub bytes_after : (xs ys : List ℕ) → IsBytes (xs ++ ys) → IsBytes ys
 bytes_after [] ys h = h
 bytes_after (x ∷ xs) ys h = bytes_after xs ys (λ i. h (suc i))
 
 -- stored turns with one more are stored
-stored_more : (turns : List Turn) (t : Turn) → AreStored turns → IsStoredTurn t → AreStored (turns ++ t ∷ [])
+pub stored_more : (turns : List Turn) (t : Turn) → AreStored turns → IsStoredTurn t → AreStored (turns ++ t ∷ [])
 stored_more [] t h k = (k, tt)
 stored_more (u ∷ turns) t h k = (h.0, stored_more turns t h.1 k)
 
 -- the record of one more turn follows those of the turns
-records_more : (turns : List Turn) (t : Turn) (rest : List ℕ)
+pub records_more : (turns : List Turn) (t : Turn) (rest : List ℕ)
     → turn_records (turns ++ t ∷ []) ++ rest ≡ turn_records turns ++ (framed 2 (turn_text t) ++ rest)
 records_more [] t rest = append_assoc (framed 2 (turn_text t)) [] rest
 records_more (u ∷ turns) t rest =
@@ -90,7 +90,7 @@ records_more (u ∷ turns) t rest =
     ∙ sym (append_assoc (framed 2 (turn_text u)) (turn_records turns) (framed 2 (turn_text t) ++ rest))
 
 -- the record of one more turn follows the front
-front_more : (plan : List ℕ) (turns : List Turn) (t : Turn) (rest : List ℕ)
+pub front_more : (plan : List ℕ) (turns : List Turn) (t : Turn) (rest : List ℕ)
     → front plan (turns ++ t ∷ []) ++ rest ≡ front plan turns ++ (framed 2 (turn_text t) ++ rest)
 front_more plan turns t rest =
     front_then plan (turns ++ t ∷ []) rest
@@ -98,14 +98,14 @@ front_more plan turns t rest =
     ∙ sym (front_then plan turns (framed 2 (turn_text t) ++ rest))
 
 -- a right payload is the line of a turn
-turn_of_payload : (payload : List ℕ) (o : Option Turn) → turn_line_of payload ≡ o
+pub turn_of_payload : (payload : List ℕ) (o : Option Turn) → turn_line_of payload ≡ o
     → option_map_or (λ t. bytes_eq (turn_text t) payload) o false ≡ true
     → (t : Turn) × (turn_line_of payload ≡ Some t) × (turn_text t ≡ payload)
 turn_of_payload payload None is e = absurd (true≢false (sym e))
 turn_of_payload payload (Some t) is e = (t, is, (bytes_eq-Decides (turn_text t) payload).0 e)
 
 -- which record it is that may stand after turns
-kind_of : (n kind : ℕ) (b : Bool) → (kind == 2) ≡ b → ((b && nat_lt (n + 1) (2 ^ 32)) || kind == 3) ≡ true
+pub kind_of : (n kind : ℕ) (b : Bool) → (kind == 2) ≡ b → ((b && nat_lt (n + 1) (2 ^ 32)) || kind == 3) ≡ true
     → ((kind ≡ 2) × (n + 1 < 2 ^ 32)) ⊎ (kind ≡ 3)
 kind_of n kind true is e = room (nat_lt (n + 1) (2 ^ 32)) refl e
   where
@@ -211,7 +211,7 @@ read_on (suc room) plan turns rest low h fit =
     refl refl
 
 -- bytes that agree with a text no longer than they begin with it
-headed : (bytes text : List ℕ) → agrees bytes text ≡ true → length text ≤ length bytes
+pub headed : (bytes text : List ℕ) → agrees bytes text ≡ true → length text ≤ length bytes
     → bytes ≡ text ++ drop (length text) bytes
 headed bytes [] e long = refl
 headed [] (c ∷ text) e long = absurd (omega arith)
@@ -220,7 +220,7 @@ headed (b ∷ bytes) (c ∷ text) e long =
     ap₂ (λ (x : ℕ) (l : List ℕ). x ∷ l) (eqb-true b c parts.0) (headed bytes text parts.1 (omega (arith, long)))
 
 -- too few bytes leave nothing
-drop_none : (n : ℕ) (xs : List ℕ) → length xs < n → drop n xs ≡ []
+pub drop_none : (n : ℕ) (xs : List ℕ) → length xs < n → drop n xs ≡ []
 drop_none zero xs h = absurd (omega arith)
 drop_none (suc n) [] h = refl
 drop_none (suc n) (x ∷ xs) h = drop_none n xs (omega arith)

@@ -57,7 +57,7 @@ fn turns_print_their_keys(rt: HostRuntime) {
     is_turn(&rt, alloc, start_failed(&rt, alloc), failed);
 }
 
-fn script(rt: &impl Abort, alloc: Global) -> ScriptUnit {
+pub fn script(rt: &impl Abort, alloc: Global) -> ScriptUnit {
     ScriptUnit {
         unit: 1,
         id: text(rt, alloc, "db"),
@@ -82,12 +82,13 @@ const KILLED: UnitState = UnitState::Terminating {
     },
 };
 
-fn answer(script: ScriptUnit) -> ReporterEvent {
+// The answer of a script that is killed after some time, and has written this.
+pub fn answer(script: ScriptUnit, output: ChildOutput) -> ReporterEvent {
     let response = InfoResponse {
         subject: InfoSubject::Script(script),
         state: KILLED,
         output: ChildExecutionOutput::Output {
-            output: ChildOutput::uncaptured(),
+            output,
             errors: List::new(),
         },
     };
@@ -112,7 +113,8 @@ fn lines_that_no_row_has(rt: HostRuntime) {
     let alloc = rt.alloc();
     let memory = fault_line(alloc, Fault::Memory).expect(&rt, MEMORY);
     is_line(&rt, memory, r#"{"fault":"memory","status":11}"#);
-    let killed = event_text(&rt, alloc, answer(script(&rt, alloc)));
+    let killed = answer(script(&rt, alloc), ChildOutput::uncaptured());
+    let killed = event_text(&rt, alloc, killed);
     is_line(
         &rt,
         killed,

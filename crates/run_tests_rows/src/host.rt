@@ -115,6 +115,8 @@ pub struct StillTicker<C> {
 }
 
 impl<C: Clock> Ticker for StillTicker<C> {
+    ghost has_told = { λ s told. Unit {0} };
+
     fn next(&mut self) -> u64 {
         thread::sleep(&self.clock, self.wait);
         0

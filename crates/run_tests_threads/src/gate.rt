@@ -90,6 +90,8 @@ pub(crate) struct Milliseconds<C> {
 }
 
 impl<C: Clock> Ticker for Milliseconds<C> {
+    ghost has_told = { λ s told. Unit {0} };
+
     fn next(&mut self) -> u64 {
         thread::sleep(&self.clock, Duration::from_millis(1));
         1_000_000

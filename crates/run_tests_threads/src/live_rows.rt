@@ -36,7 +36,7 @@ fn runner(rt: &impl Abort, alloc: Global, tests: u32, stress: &str) -> TestRunne
 }
 
 // How a run ended that has a list of receipts for each of two workers and one for the ticker, none of them refused.
-fn ending<W>(lived: &Lived<W, EventLog>) -> &'static str {
+fn ending<W, T>(lived: &Lived<W, T, EventLog>) -> &'static str {
     if lived.live.error.is_some() || lived.live.receipts.len() != 3 {
         return "not whole";
     }
@@ -49,7 +49,7 @@ fn ending<W>(lived: &Lived<W, EventLog>) -> &'static str {
 }
 
 // How many sub-runs a run began.
-fn sub_runs<W>(lived: &Lived<W, EventLog>) -> usize {
+fn sub_runs<W, T>(lived: &Lived<W, T, EventLog>) -> usize {
     lived
         .live
         .journal

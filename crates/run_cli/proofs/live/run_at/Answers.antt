@@ -1,4 +1,7 @@
-use Rattle.std.proofs.Common.{◌∙◌}
+use Rattle.std.proofs.Common.{◌∙◌, refl, sym, subst}
+use Rattle.run_cli.specs.Call.{Writing, then_writing, writing_of}
+use Rattle.run_cli.specs.Live.{IsRunEnd}
+use Rattle.run_cli.proofs.GivenUpLemmas.{given_up}
 use Rattle.run_cli.proofs.live.run_at.Goals as goal
 
 pub returns-in-Ok : goal.returns-in-Ok
@@ -7,9 +10,26 @@ returns-in-Ok g c =
     rw c.requires.taken at (rw c.requires.faults at (c.finish.ensures c.args.runner (record {
       count = left.workers ∙ c.workers_of-workers.ensures;
       left = left.left;
+      left_too = left.left_too;
       stands = left.stands;
       once = left.once;
       refused = left.refused;
       kind = left.kind;
       own = left.own;
     })))
+
+pub returns-in-Err : goal.returns-in-Err
+returns-in-Err g c =
+    let end = c.end_given_up in
+    let w : Writing = record {
+      taken = g.O.Origin.taken_before;
+      taken_after = g.K.Sink.taken c.into_sink.result;
+      faults = g.O.Origin.faults_before;
+      faults_after = g.K.Sink.faults c.into_sink.result;
+    } in
+    let v = writing_of g.K.Sink c.into_sink.result end.result.sink in
+    let short = given_up _ c.in-Err.report w v c.in-Err.report.lines.refusals end.ensures.said.0 refl refl
+    (λ ys told. c.into_sink.ensures.told ys told) c.in-Err.ensures.given_up end.ensures.said.1 in
+    rw c.requires.taken at (rw c.requires.faults at
+    (subst (λ e. IsRunEnd g.H.Worker.Spawner.has_said c.args.runner (then_writing w v) end.result.live e)
+    (sym end.ensures.ending) (end.ensures.live, short)))

@@ -1,11 +1,11 @@
-use Rattle.std.proofs.Common.{◌≡◌, ◌+◌, length}
-use Rattle.std.specs.List.{All}
-use Rattle.run_drive.specs.Driven.{OfTicker}
+use Rattle.std.proofs.Common.{◌≡◌, ◌+◌, length, true}
+use Rattle.run_drive.specs.Ticked.{TicksOn}
 use Rattle.run_drive.proofs.ticking.tick_all.Given as goal
 
 abbrev pub invariant-loop : goal.invariant-loop
 invariant-loop g l = record {
-  kinds : All OfTicker l.initial.receipts → All OfTicker l.receipts;
-  counted : l.share.amount + length l.initial.receipts ≡ l.initial.share.amount + length l.receipts;
+  ticks : TicksOn g.T.Ticker.has_told l.initial.ticker l.ticker true l.initial.work l.work;
+  counted : l.share.amount + length l.initial.work.receipts
+      ≡ l.initial.share.amount + length l.work.receipts;
   parts : l.share.parts ≡ l.initial.share.parts;
 }

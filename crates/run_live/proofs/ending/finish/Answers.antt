@@ -1,8 +1,11 @@
 use Rattle.std.proofs.Common.{◌∙◌, sym, ap, subst, ℕ, ◌≡◌, ◌<◌, length, List}
+use Rattle.std.proofs.lemmas.Result.{IfOk-weaker, IfErr-weaker}
 use Rattle.run_shared.specs.declared.shared.Receipt.{Receipt}
 use Rattle.run_model.specs.declared.entry.Entry.{Entry}
 use Rattle.run_model.specs.Words.{times}
 use Rattle.run_shared.specs.Receipts.{concatenated, receipt_numbers}
+use Rattle.run_live.specs.Left.{HasToldSome}
+use Rattle.run_live.proofs.LeftLemmas.{told_unclosed}
 use Rattle.run_live.proofs.ending.finish.Goals as goal
 
 pub returns-in-Ok-clause-once : goal.returns-in-Ok-clause-once
@@ -17,3 +20,21 @@ pub returns-in-Ok-clause-stands : goal.returns-in-Ok-clause-stands
 returns-in-Ok-clause-stands g c = λ none.
     let same : c.left.result.live.receipts ≡ c.args.all.receipts = c.left.ensures.receipts ∙ c.in-Ok.ensures.back in
     rw (c.left.ensures.journal, same) c.in-Ok.ensures.receipts.stands
+
+pub returns-in-Ok-clause-ticker : goal.returns-in-Ok-clause-ticker
+returns-in-Ok-clause-ticker g c =
+    let e = c.left.ensures in
+    let same : c.left.result.live.receipts ≡ c.args.all.receipts = e.receipts ∙ c.in-Ok.ensures.back in
+    rw (e.ticker, e.workers, same, e.refused) c.requires.ticker
+
+pub returns-in-Err-clause-ticker : goal.returns-in-Err-clause-ticker
+returns-in-Err-clause-ticker g c =
+    IfOk-weaker c.refused.result _ _ (λ l e. rw (e.2, e.0, e.3 ∙ c.in-Err.ensures.back_too, e.1) c.requires.ticker)
+    c.refused.ensures.threads
+
+pub returns-in-Err-clause-given_up : goal.returns-in-Err-clause-given_up
+returns-in-Err-clause-given_up g c =
+    let told = told_unclosed g.R.Reporter.told c.in-Err.unclosed.report c.in-Err.unclosed.asks c.args.shared
+    c.in-Err.unclosed.journal c.in-Err.unclosed.error.kind c.in-Err.ensures.left_too in
+    IfErr-weaker c.refused.result _ _ (λ report same. subst (HasToldSome g.R.Reporter.told) (sym same) told)
+    c.refused.ensures.given_up

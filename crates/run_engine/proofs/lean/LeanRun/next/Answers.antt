@@ -5,28 +5,16 @@ use Rattle.run_engine.proofs.LeanLemmas.{fields_stand}
 use Rattle.run_engine.proofs.UnkeptLemmas.{all_units, is_timely, keeps_seats}
 use Rattle.run_engine.proofs.lean.LeanRun.next.Goals as goal
 
-pub next_settled-requires-clause-whole : goal.next_settled-requires-clause-whole
-next_settled-requires-clause-whole c =
-    all_units c.get.result.now c.self.inside.state c.self.inside.turns c.requires.0
-    (fields_stand c.get.result.now c.args.self.now c.self.inside.settings c.self.inside.state c.self.inside.turns
-    c.requires.0 c.self.view_is c.get.ensures c.requires.1)
-
-pub next_settled-requires-clause-few : goal.next_settled-requires-clause-few
-next_settled-requires-clause-few c =
-    (fields_stand c.get.result.now c.args.self.now c.self.inside.settings c.self.inside.state c.self.inside.turns
-    c.requires.0 c.self.view_is c.get.ensures c.requires.1).runnable.few.units
-
-pub next_settled-requires-clause-seated : goal.next_settled-requires-clause-seated
-next_settled-requires-clause-seated c =
-    keeps_seats c.get.result.now c.self.inside.state c.self.inside.turns c.requires.0
-    (fields_stand c.get.result.now c.args.self.now c.self.inside.settings c.self.inside.state c.self.inside.turns
-    c.requires.0 c.self.view_is c.get.ensures c.requires.1)
-
-pub next_settled-requires-clause-timely : goal.next_settled-requires-clause-timely
-next_settled-requires-clause-timely c =
-    is_timely c.get.result.now c.self.inside.state c.self.inside.turns c.requires.0
-    (fields_stand c.get.result.now c.args.self.now c.self.inside.settings c.self.inside.state c.self.inside.turns
-    c.requires.0 c.self.view_is c.get.ensures c.requires.1)
+pub next_settled-requires : goal.next_settled-requires
+next_settled-requires c =
+    let s = fields_stand c.get.result.now c.args.self.now c.self.inside.settings c.self.inside.state
+    c.self.inside.turns c.self.inside.broken c.self.view_is c.get.ensures c.requires c.self.invariant in
+    record {
+      whole = all_units c.get.result.now c.self.inside.state c.self.inside.turns s.0 s.1;
+      few = s.1.runnable.few.units;
+      seated = keeps_seats c.get.result.now c.self.inside.state c.self.inside.turns s.0 s.1;
+      timely = is_timely c.get.result.now c.self.inside.state c.self.inside.turns s.0 s.1;
+    }
 
 pub returns : goal.returns
 returns c =

@@ -23,7 +23,7 @@ pub returns-in-Ok-clause-settles : goal.returns-in-Ok-clause-settles
 returns-in-Ok-clause-settles g c = λ journal stands. (c.in-Ok.refusal, c.in-Ok.ensures.takes journal stands)
 
 pub returns-in-Err-clause-part : goal.returns-in-Err-clause-part
-returns-in-Err-clause-part g c = λ e. (
+returns-in-Err-clause-part g c = λ e sound. (
   c.turn-turn.result,
   sym c.in-Some.ensures ∙ ap Some (sym c.turn-turn.ensures),
   c.in-Err.ensures.part,

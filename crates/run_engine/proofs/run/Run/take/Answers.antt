@@ -16,5 +16,5 @@ pub returns-in-Ok-clause-heard : goal.returns-in-Ok-clause-heard
 returns-in-Ok-clause-heard g c =
     heard_named g.R.Reporter.told g.C.Children.asked g.R.Reporter.faults c.args.report.now c.take_named.new.report
     c.args.children.now c.take_named.new.children c.args.turn c.args.self.now c.admit.new.self c.take_named.new.self
-    c.take_named.result c.in-Ok.ensures.same c.in-Ok.ensures.sound c.take_named.ensures.takes
+    c.take_named.result c.in-Ok.ensures.same c.in-Ok.ensures.sound c.in-Ok.ensures.room c.take_named.ensures.takes
     c.take_named.ensures.broken c.take_named.ensures.memory c.take_named.ensures.part

@@ -7,9 +7,6 @@ use Rattle.run_generate.proofs.ShortLemmas.{unsettled_short}
 use Rattle.run_generate.proofs.WayLemmas.{next_settled, same_error, same_way, settled_none, settled_some, takes_next}
 use Rattle.run_generate.proofs.on_way.OnWay.go_on.Goals as goal
 
-pub settle-requires : goal.settle-requires
-settle-requires c = (c.requires.way.0, c.requires.way.1.stands)
-
 pub returns-in-Ok-Some-clause-advances : goal.returns-in-Ok-Some-clause-advances
 returns-in-Ok-Some-clause-advances c =
     let took = settled_some _ _ _ _ _ _ c.in-Ok-Some.turn c.in-Ok-Some.field-0-is c.in-Ok-Some.ensures.settles

@@ -4,9 +4,6 @@ use Rattle.run_generate.proofs.ShortLemmas.{stops_short}
 use Rattle.run_generate.proofs.WayLemmas.{same_error, takes_next}
 use Rattle.run_generate.proofs.on_way.OnWay.take.Goals as goal
 
-pub step-requires : goal.step-requires
-step-requires c = (c.requires.way.0, c.requires.way.1.stands)
-
 pub returns-in-Ok-clause-advances : goal.returns-in-Ok-clause-advances
 returns-in-Ok-clause-advances c =
     takes_next c.args.self.now c.step.new.self c.step.new.report c.step.new.children c.of-self.result c.in-Some.turn

@@ -22,3 +22,9 @@ returns-clause-counted_too g c =
     IfErr-weaker c.leave.result (λ unclosed. unclosed.journal ≡ run.journal) _ (λ unclosed same all.
     c.into_parts-run.ensures.counted all ∙ ap (λ (w : World). length w.journal) (sym c.into_parts-run.ensures.run)
     ∙ sym (ap length same)) c.leave.ensures.journal_too
+
+pub returns-clause-left : goal.returns-clause-left
+returns-clause-left g c = rw c.self.view_is at c.leave.ensures.left
+
+pub returns-clause-left_too : goal.returns-clause-left_too
+returns-clause-left_too g c = rw c.self.view_is at c.leave.ensures.left_too

@@ -1,0 +1,9 @@
+pub mod MindLemmas
+pub mod EnterLemmas
+pub mod HandLemmas
+pub mod SayLemmas
+pub mod KeepLemmas
+pub mod ListenLemmas
+pub mod HaltLemmas
+pub mod RoundLemmas
+pub mod HostLemmas

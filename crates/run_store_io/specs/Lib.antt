@@ -1,0 +1,9 @@
+pub mod Awaits
+pub mod Found
+pub mod Payloads
+pub mod Steps
+pub mod Reads
+pub mod Taken
+pub mod Written
+pub mod Recorded
+pub mod FaultLines
