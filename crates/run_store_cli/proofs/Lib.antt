@@ -1,0 +1,4 @@
+mod RecordLemmas
+mod WordLemmas
+mod TornLemmas
+mod PlayLemmas

@@ -1,0 +1,5 @@
+pub mod Ends
+pub mod Records
+pub mod Torn
+pub mod Plays
+pub mod Words
