@@ -1,24 +1,32 @@
 //! The program: runs a plan with real children, or carries out the run that its standard input tells, and writes the
-//! lines of it, by the top call of the library below. It answers `--help` and `--version` itself, and says on standard
-//! error what a fault means.
+//! lines of it, by the top calls of the libraries below. It answers `--help` and `--version` itself, and says on
+//! standard error what a fault means.
 #![tactic(auto)]
 
+mod delivering;
+
+use delivering::{Delivered, run_and_deliver};
 use run_cli::{Ran, StdSink, StdSource, run};
 use run_hints::{KeptSource, LastLine, Seen, explain};
 use run_host::StdHost;
 use std::process::ExitCode;
+use std::sync::Wait;
+use std::thread::Threads;
 use std::{env, io};
 
 const VERSION: &str = "nextest_run 0.0.0";
 
 const HELP: &str = "The execution engine of a test runner
 
-Usage: nextest_run live < PLAN
+Usage: nextest_run run < PLAN
+       nextest_run live < PLAN
        nextest_run replay < INPUT
        nextest_run progress WIDTH < INPUT
        nextest_run generate TESTS
 
-  live             runs the tests of PLAN, each as a process of its own
+  run              runs the tests of PLAN, each as a process of its own, and ends those that take too long; each line
+                   after PLAN is a signal or a key that it hears, as {\"turn\":\"signal\",\"name\":\"int\"}
+  live             the same, but it sends no signal, hears none, and waits for each test
   replay           carries out the run that INPUT tells
   progress WIDTH   the same, and shows its progress on a terminal of WIDTH columns, from 1 to 1000
   generate TESTS   carries out the run of a plan of TESTS tests, from 1 to 20000, that it makes up, and sums it up
@@ -64,7 +72,7 @@ Exit status:
    10   a read failed
    11   memory was wanting
    12   the input is too long
-   13   the receipts of the workers are not those of the run
+   13   what the workers say is not what the run says
   100   a test failed, or the run was cancelled
   105   a setup script failed, or ended the run
 
@@ -120,7 +128,7 @@ fn words_given(rt: &HostRuntime) -> io::Result<Vec<String>> {
 
 // Whether a command is asked what it does.
 fn asks_of(command: &str, word: &str) -> bool {
-    let is_command = matches!(command, "live" | "replay" | "progress" | "generate");
+    let is_command = matches!(command, "run" | "live" | "replay" | "progress" | "generate");
     is_command && matches!(word, "--help" | "-h")
 }
 
@@ -146,9 +154,41 @@ fn given(words: &Option<Vec<String>>) -> Option<&[String]> {
     }
 }
 
-// Words of which one is not UTF-8 are run as no words are.
-fn main(rt: HostRuntime) -> ExitCode {
+// Whether the words are the command whose signals are delivered.
+fn delivers(words: &[String]) -> bool {
+    matches!(words, [word] if word.as_str() == "run")
+}
+
+// Does what the words say, and answers the status. Words of which one is not UTF-8 are run as no words are.
+fn run_words<X: Threads + Wait + Sync>(
+    threads: &X,
+    rt: HostRuntime,
+    words: Option<&[String]>,
+) -> u8 {
     let alloc = rt.alloc();
+    let mut source = KeptSource::new(alloc, StdSource::new(rt.stdin()));
+    let sink = LastLine::new(alloc, StdSink::new(rt.stdout()));
+    let mut host = StdHost::new(rt);
+    let run_words = words.unwrap_or(&[]);
+    let (ran, live) = run(threads, alloc, run_words, &mut source, sink, &mut host);
+    drop(live);
+    let Ran { status, sink } = ran;
+    let (input, last) = (source.bytes(), sink.line());
+    say(&rt, words, status, Seen { input, last });
+    status
+}
+
+// Runs a plan and delivers its signals, and answers the status.
+fn run_delivered<X: Threads + Wait + Sync>(threads: &X, rt: HostRuntime, words: &[String]) -> u8 {
+    let sink = LastLine::new(rt.alloc(), StdSink::new(rt.stdout()));
+    let Delivered { line, ran } = run_and_deliver(threads, rt, sink);
+    let Ran { status, sink } = ran;
+    let (input, last) = (Some(line.as_slice()), sink.line());
+    say(&rt, Some(words), status, Seen { input, last });
+    status
+}
+
+fn main(rt: HostRuntime) -> ExitCode {
     let words = match request_of(&rt) {
         Request::Help => return ExitCode::from(print(&rt, HELP)),
         Request::Version => return ExitCode::from(print(&rt, VERSION)),
@@ -156,15 +196,9 @@ fn main(rt: HostRuntime) -> ExitCode {
         Request::Run(words) => Some(words),
         Request::NoText => None,
     };
-    let words = given(&words);
-    let mut source = KeptSource::new(alloc, StdSource::new(rt.stdin()));
-    let sink = LastLine::new(alloc, StdSink::new(rt.stdout()));
-    let mut host = StdHost::new(rt);
-    let run_words = words.unwrap_or(&[]);
-    let (ran, live) = run(&rt, alloc, run_words, &mut source, sink, &mut host);
-    drop(live);
-    let Ran { status, sink } = ran;
-    let (input, last) = (source.bytes(), sink.line());
-    say(&rt, words, status, Seen { input, last });
+    let status = match given(&words) {
+        Some(words) if delivers(words) => run_delivered(&rt, rt, words),
+        words => run_words(&rt, rt, words),
+    };
     ExitCode::from(status)
 }

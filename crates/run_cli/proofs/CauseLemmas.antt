@@ -59,7 +59,7 @@ given_within left (Some rest) held bytes told given =
     omega (arith, length-append bytes rest)
 
 -- lines say one plan and one list of turns
-one_input : (lines : List (List ℕ)) (c d : RunnerKeys) (p q : Plan) (ts us : List Turn) → IsInput lines c p ts
+pub one_input : (lines : List (List ℕ)) (c d : RunnerKeys) (p q : Plan) (ts us : List Turn) → IsInput lines c p ts
     → IsInput lines d q us
     → (d ≡ c) × (q ≡ p) × (us ≡ ts)
 one_input [] c d p q ts us i j = absurd i
@@ -97,14 +97,14 @@ pub never_refused : {X E : Type 0} (o : Option E) (e : E) → o ≡ None → o �
 never_refused o e none some = let both : None ≡ Some e = sym none ∙ some in cc
 
 -- a journal in which nothing was refused has the answers of a reporter that refuses nothing
-false_at : (marks : List Bool) (n : ℕ) → list_all not marks ≡ true → slice_index_or marks n false ≡ false
+pub false_at : (marks : List Bool) (n : ℕ) → list_all not marks ≡ true → slice_index_or marks n false ≡ false
 false_at [] n none = refl
 false_at (true ∷ marks) n none = cc
 false_at (false ∷ marks) zero none = refl
 false_at (false ∷ marks) (suc n) none = false_at marks n none
 
 -- want of memory is the status of any cause
-memory_gets : (k : Command) (c : RunnerKeys) (p : Plan) (ts : List Turn) (w : Writing) → GetsByCourse k c p ts w 11
+pub memory_gets : (k : Command) (c : RunnerKeys) (p : Plan) (ts : List Turn) (w : Writing) → GetsByCourse k c p ts w 11
 memory_gets k c p ts w = record {
   refuses = refuses_none;
   tied = λ calm n. refl;
@@ -117,7 +117,7 @@ memory_gets k c p ts w = record {
 }
 
 -- a legal journal of some turns is one with the answers in it
-journal_of : (p : Settings) (ts : List Turn) (journal : List Entry) → IsLegal p journal → turns_of journal ≡ ts
+pub journal_of : (p : Settings) (ts : List Turn) (journal : List Entry) → IsLegal p journal → turns_of journal ≡ ts
     → IsJournalOf p ts (refuses_as_in journal) journal
 journal_of p ts journal legal takes = record { legal = legal; takes = takes; answers = λ n below. refl }
 
@@ -226,7 +226,8 @@ unfinished_gets c r still parts =
       unreported = λ a u e lt. absurd (one.unfinished_or_end u goes e);
     }
 
-refused_gets : (k : Command) (c : RunnerKeys) (p : Plan) (ts : List Turn) (w : Writing) (error : TestRunnerBuildError)
+pub refused_gets : (k : Command) (c : RunnerKeys) (p : Plan) (ts : List Turn) (w : Writing)
+    (error : TestRunnerBuildError)
     → plan_refusal c p ≡ Some error → GetsByCourse k c p ts w 5
 refused_gets k c p ts w error refused = record {
   refuses = refuses_none;

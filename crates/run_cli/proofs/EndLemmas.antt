@@ -74,7 +74,7 @@ took_parts form p turns w v asks answer last on from x writes = record {
 }
 
 -- bytes that went out are whole where the sink's count didn't rise
-whole_of : (v : Writing) (text : List ℕ) → Writes v text → ¬ HasWriteFault v → HasTaken v text
+pub whole_of : (v : Writing) (text : List ℕ) → Writes v text → ¬ HasWriteFault v → HasTaken v text
 whole_of v text (inl whole) calm = whole.1
 whole_of v text (inr front) calm = absurd (calm front.1)
 
@@ -130,14 +130,14 @@ report_of form p turns w v asks answer x o b is parts =
     (sym is ∙ x.marked) parts
 
 -- what went out where the run's lines ended
-begun_there : (v w : Writing) (text : List ℕ) → v.taken ≡ w.taken_after → v.faults ≡ w.faults_after → IsShort text v
+pub begun_there : (v w : Writing) (text : List ℕ) → v.taken ≡ w.taken_after → v.faults ≡ w.faults_after → IsShort text v
     → IsShort text (record v { taken = w.taken_after; faults = w.faults_after })
 begun_there v w text on from h =
     subst (λ n. IsShort text (record v { taken = w.taken_after; faults = n })) from
     (subst (λ t. IsShort text (record v { taken = t })) on h)
 
 -- the turns of a journal are the first of those that were given
-taken_by : (p : Settings) (turns : List Turn) (journal : List Entry) (refusal : Option Failed)
+pub taken_by : (p : Settings) (turns : List Turn) (journal : List Entry) (refusal : Option Failed)
     (answer : Result RunOutcome (TestRunnerExecuteErrors Failed)) → (answer ≡ Err engine.OutOfMemory → ⊥)
     → IsAnswerOf p turns journal refusal answer → (n : ℕ) × (turns_of journal ≡ take n turns)
 taken_by p turns journal refusal (Ok o) some h = (length turns, h.0 ∙ sym (take-whole turns))
@@ -148,7 +148,7 @@ taken_by p turns journal refusal (Err engine.Unfinished) some h = (length turns,
 taken_by p turns journal refusal (Err engine.OutOfMemory) some h = absurd (some refl)
 
 -- a run that was answered, after whose turns memory was wanting
-pub short_of : (form : Form) (p : Settings) (turns : List Turn) (w v : Writing) (asks : List (ℕ × Ask))
+unfoldable pub short_of : (form : Form) (p : Settings) (turns : List Turn) (w v : Writing) (asks : List (ℕ × Ask))
     (answer : Result RunOutcome (TestRunnerExecuteErrors Failed)) → (answer ≡ Err engine.OutOfMemory → ⊥)
     → v.taken ≡ w.taken_after → v.faults ≡ w.faults_after → IsExecuted form p turns w asks answer
     → IsShort (ask_lines asks ++ line_bytes (last_text (ending_by answer))) v
@@ -182,7 +182,7 @@ short_of form p turns w v asks answer some on from x h =
     }
 
 -- one for which memory was wanting
-pub short_run : (form : Form) (p : Settings) (turns : List Turn) (w v : Writing) (asks : List (ℕ × Ask))
+unfoldable pub short_run : (form : Form) (p : Settings) (turns : List Turn) (w v : Writing) (asks : List (ℕ × Ask))
     → v.taken ≡ w.taken_after → v.faults ≡ w.faults_after → IsRunOut form p turns w asks
     → IsShort (ask_lines asks ++ fault_only Memory) v → RunsShort form p turns (then_writing w v)
 short_run form p turns w v asks on from x h = record {

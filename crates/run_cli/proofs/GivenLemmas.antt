@@ -24,7 +24,7 @@ use Rattle.run_engine.specs.declared.errors.TestRunnerBuildError.{TestRunnerBuil
 use Rattle.run_engine.specs.declared.errors.TestRunnerBuildError.TheVariants as build
 use Rattle.std.proofs.lemmas.Option.{same_Some}
 use Rattle.run_input.specs.Lines.{lines_of, at_front}
-use Rattle.run_input.specs.Input.{IsInput, turns_said, turn_line_of}
+use Rattle.run_input.specs.Input.{IsInput, plan_line_of, turns_said, turn_line_of}
 use Rattle.run_input.specs.PlanHead.{frame_of}
 use Rattle.run_input.specs.PlanLine.{keys_of, rules_from, plan_scripts_of, plan_tests_of, plan_groups_of, lists_of}
 use Rattle.run_input.specs.PlanLine.{plan_names, plan_with, plan_alone_of, plan_of, plan_version_of}
@@ -140,6 +140,11 @@ few_line d keys plan e =
     let pair : (k.0, p.0) ≡ (keys, plan) = same_Some (k.0, p.0) (keys, plan) p.2 in
     few_as k.0 keys p.0 plan pair (few_alone d p.0 p.1)
 
+-- of a line too
+pub line_few : (line : List ℕ) (keys : RunnerKeys) (plan : Plan) → plan_line_of line ≡ Some (keys, plan) → IsFew plan
+line_few line keys plan e =
+    let read = then_some (json_value line) plan_of (keys, plan) e in few_line read.0 keys plan read.2
+
 -- an input has few units and few turns
 pub given_few : (r : Reading) (keys : RunnerKeys) (plan : Plan) (turns : List Turn)
     → SaysInput r keys plan turns
@@ -150,8 +155,7 @@ given_few r keys plan turns g = by_lines (lines_of g.bytes) refl g.says
         → IsFew plan × (length turns < 2 ^ 32)
     by_lines [] e i = absurd i
     by_lines (first ∷ others) e i =
-        let read = then_some (json_value first) plan_of (keys, plan) i.0 in
-        let few : IsFew plan = few_line read.0 keys plan read.2 in
+        let few : IsFew plan = line_few first keys plan i.0 in
         let many : length turns ≡ length others = turns_length others turns i.1 in
         let same : length (lines_of g.bytes) ≡ length (first ∷ others) = ap length e in
         (few, omega (arith, lines_length g.bytes, g.within))

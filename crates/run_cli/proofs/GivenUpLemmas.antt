@@ -138,18 +138,19 @@ executed_full p w n journal asks x full none =
     no_more e = ap (λ s. asked (past_of p journal) ++ s) e ∙ append-nil (asked (past_of p journal))
 
 -- lines are refused as their events are
-marks_lines : {E : Type 0} (ys : List (ReporterEvent × Option E)) → marks (event_lines ys) ≡ marks ys
+pub marks_lines : {E : Type 0} (ys : List (ReporterEvent × Option E)) → marks (event_lines ys) ≡ marks ys
 marks_lines [] = refl
 marks_lines (y ∷ ys) = ap (λ bs. is_some y.1 ∷ bs) (marks_lines ys)
 
 -- a run whose receipts are refused, after its last lines
-writes_refusal : (p : Settings) (w v : Writing) (n : ℕ) (journal : List Entry) (asks : List (ℕ × Ask))
+pub writes_refusal : (p : Settings) (w v : Writing) (n : ℕ) (journal : List Entry) (asks : List (ℕ × Ask))
     (kind : CloseKind) → v.taken ≡ w.taken_after → v.faults ≡ w.faults_after
     → HasWrittenRefused p w n journal asks kind → Writes v (ask_lines asks ++ line_bytes (receipt_text kind))
     → WritesRefusal p journal kind (then_writing w v)
 writes_refusal p w v n journal asks kind on from x h = record {
   settings = x.settings;
   same = x.same;
+  legal = x.written.runnable.legal;
   events = x.written.events;
   extra = x.written.extra;
   sent = x.written.sent;

@@ -12,7 +12,7 @@ pub mod StatusLemmas
 pub mod GenerateLemmas
 pub mod CauseLemmas
 pub mod LivedLemmas
-mod GivenUpLemmas
+pub mod GivenUpLemmas
 pub mod RunEndLemmas
 pub mod LiveLemmas
 pub mod LiveCauses

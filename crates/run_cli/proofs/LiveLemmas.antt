@@ -172,7 +172,7 @@ fault_counts w r fault ending why counted (inr e) = subst (CountsLive r) (sym e.
     own Report why h = absurd why
 
 -- a run that was begun has none of the statuses of one that wasn't
-outcome_begun : (o : RunOutcome) → is_unbegun (outcome_status o) ≡ true → ⊥
+pub outcome_begun : (o : RunOutcome) → is_unbegun (outcome_status o) ≡ true → ⊥
 outcome_begun outcomes.Success h = cc
 outcome_begun outcomes.NoTestsRun h = cc
 outcome_begun (outcomes.Failed steps.Test) h = cc

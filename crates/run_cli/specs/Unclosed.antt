@@ -7,7 +7,7 @@ use Rattle.run_events.specs.declared.ask.Ask.{Ask}
 use Rattle.run_events.specs.declared.events.ReporterEvent.{ReporterEvent}
 use Rattle.run_model.specs.declared.entry.Entry.{Entry}
 use Rattle.run_model.specs.Words.{answers, asked}
-use Rattle.run_model.specs.Journal.{past_of}
+use Rattle.run_model.specs.Journal.{past_of, IsLegal}
 use Rattle.run_engine.specs.Heard.{IsFurther}
 use Rattle.run_engine.specs.World.{flagged}
 use Rattle.run_shared.specs.Closed.{HasSettings}
@@ -21,13 +21,14 @@ use Rattle.run_cli.specs.Receipts.{receipt_text}
 use Rattle.run_cli.specs.Short.{IsShort, RunsShort}
 use Rattle.run_cli.specs.Text.{fault_only, whole_form}
 
--- of a run with this journal, whose receipts are refused, the sink took the lines of its events, and of a part of one
--- further turn's at most: each whole, or of one that was refused a front part; and its count of faults rose at each
--- that was, and at no other. Then it took the lines of its asks, and that of the refusal: whole, or where it failed
--- there a front part, and not all; and nothing else
+-- of a run with this journal, which is legal, and whose receipts are refused, the sink took the lines of its events,
+-- and of a part of one further turn's at most: each whole, or of one that was refused a front part; and its count of
+-- faults rose at each that was, and at no other. Then it took the lines of its asks, and that of the refusal: whole, or
+-- where it failed there a front part, and not all; and nothing else
 pub record WritesRefusal (p : Settings) (journal : List Entry) (kind : CloseKind) (w : Writing) : Type 0 where
   pub settings : Settings
   pub same : HasSettings p settings kind
+  pub legal : IsLegal settings journal
   pub events : List (ReporterEvent × Option Failed)
   pub extra : List (ReporterEvent × Bool)
   pub sent : List (ℕ × Ask)

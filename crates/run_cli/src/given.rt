@@ -9,9 +9,10 @@ use crate::command::{Command, command_of};
 use run_capture::{Blob, Source};
 use run_events::Plan;
 use run_input::{
-    Input, InputError, ReadAllError, RunnerKeys, read_all, read_input, read_plan_alone,
+    Input, InputError, ReadAllError, RunnerKeys, read_all, read_input_by, read_plan_alone,
 };
 use run_output::Fault;
+use run_turn_reader::TurnLines;
 use std::alloc::Global;
 
 // Whether the words are this one.
@@ -69,7 +70,7 @@ pub fn read_given<S: Source>(
         Ok(bytes) => bytes,
         Err(fault) => return Err(fault),
     };
-    match read_input(alloc, bytes.as_slice()) {
+    match read_input_by(alloc, bytes.as_slice(), &TurnLines) {
         Ok(input) => Ok((command, input)),
         Err(InputError::Line { line }) => Err(Fault::Line { line }),
         Err(InputError::OutOfMemory) => Err(Fault::Memory),

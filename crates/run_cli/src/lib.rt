@@ -21,8 +21,10 @@ pub use command::Command;
 pub use ended::{Ended, end_at_fault, end_without_memory, finish, replay, status_of_outcome};
 pub use execution::{Executed, execute};
 pub use given::read_bytes;
-pub use live::LiveEnding;
+pub use live::{LiveEnding, fault_after, last_lines, open_fault, refusal_after, workers_of};
 pub use plan_line::{read_plan_line, runner_of};
+pub use receipts::{RefusalLines, write_refusal};
+pub use tied::{Origin, TiedReporter};
 // What a caller of `run` names besides, of the crates below.
 pub use run_capture::{StdSink, StdSource};
 pub use run_drive::{

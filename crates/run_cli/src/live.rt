@@ -62,8 +62,8 @@ pub struct LiveEnded<K, W> {
 // The greatest length of a journal.
 const MOST: usize = 4_294_967_295;
 
-// How many workers run the plan of a runner.
-fn workers_of(runner: &TestRunner) -> u32
+/// How many workers run the plan of a runner.
+pub fn workers_of(runner: &TestRunner) -> u32
     ensures { result ≡ workers_in runner.now }
 {
     let settings = runner.settings();
@@ -102,8 +102,8 @@ fn with_live<K, W: Drop>(ended: Ended<K>, live: Live<W>) -> LiveEnded<K, W>
     }
 }
 
-// Writes the lines of asks and of a fault.
-fn fault_after<K: Sink>(alloc: Global, sink: K, asks: &[(u64, Ask)], fault: Fault) -> Ended<K>
+/// Writes the lines of asks and of a fault.
+pub fn fault_after<K: Sink>(alloc: Global, sink: K, asks: &[(u64, Ask)], fault: Fault) -> Ended<K>
     ensures { EndsAtFault (writing_of K.Sink sink result.sink) (ask_lines asks.now) fault
         result.ending }
 {
@@ -129,8 +129,8 @@ fn outcome_after<K: Sink>(
     }
 }
 
-// Writes the last lines of a run that is over: its asks, and then its outcome, or that an event was refused.
-fn last_lines<K: Sink>(
+/// Writes the last lines of a run that is over: its asks, and then its outcome, or that an event was refused.
+pub fn last_lines<K: Sink>(
     alloc: Global,
     sink: K,
     asks: &[(u64, Ask)],
@@ -167,8 +167,8 @@ fn end_over<K: Sink, W: Spawner + Drop>(
     with_live(ended, live)
 }
 
-// Why a run of this journal isn't over: the journal is full, or memory was wanting.
-fn open_fault(journal: &List<Entry>) -> Fault
+/// Why a run of this journal isn't over: the journal is full, or memory was wanting.
+pub fn open_fault(journal: &List<Entry>) -> Fault
     ensures { IsOpenFault (length journal.now) result }
 {
     if journal.len() == MOST {
@@ -195,8 +195,8 @@ fn end_open<K: Sink, W: Spawner + Drop>(
     with_live(ended, live)
 }
 
-// Writes the lines of asks and of why receipts are refused.
-fn refusal_after<K: Sink>(
+/// Writes the lines of asks and of why receipts are refused.
+pub fn refusal_after<K: Sink>(
     alloc: Global,
     sink: K,
     asks: &[(u64, Ask)],

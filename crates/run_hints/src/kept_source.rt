@@ -1,8 +1,13 @@
 // A source that remembers what it gave.
+ghost use Rattle.std.specs.Prelude.{◌≡◌};
+
 use run_capture::{Failed, Source};
 use std::alloc::Global;
 
-/// A source that gives what another one gives, and remembers it while there is memory for that.
+// So many bytes are remembered at most: a longer input stands in memory once, and less is said of it.
+const MOST: usize = 4_194_304;
+
+/// A source that gives what another one gives, and remembers it while it is short and there is memory for that.
 #[derive(Drop)]
 pub struct KeptSource<S> {
     source: S,
@@ -19,13 +24,21 @@ impl<S: Source> KeptSource<S> {
         }
     }
 
-    /// What was given; none where memory was wanting.
+    /// What was given; none where it is long, or memory was wanting.
     pub fn bytes(&self) -> Option<&[u8]> {
         if self.is_whole {
             Some(self.bytes.as_slice())
         } else {
             None
         }
+    }
+
+    // Remembers bytes.
+    fn keep(&mut self, bytes: &[u8])
+        ensures { self.new.source ≡ self.old.source }
+    {
+        let is_short = self.is_whole && bytes.len() <= MOST - self.bytes.len().min(MOST);
+        self.is_whole = is_short && self.bytes.extend_from_slice(bytes).is_ok();
     }
 }
 
@@ -36,9 +49,7 @@ impl<S: Source> Source for KeptSource<S> {
 
     fn read(&mut self, buf: &mut [u8]) -> Result<usize, Failed> {
         let count = self.source.read(buf)?;
-        if self.bytes.extend_from_slice(&buf[..count]).is_err() {
-            self.is_whole = false;
-        }
+        self.keep(&buf[..count]);
         Ok(count)
     }
 }

@@ -2,7 +2,7 @@
 use crate::line_fault::{LineKind, is_unfinished, line_at, misfit_of, misfit_words};
 use crate::message::{Message, message_of, plain};
 use crate::replayed::why_stopped;
-use crate::words::{is_live, of_words};
+use crate::words::{is_live, of_words, starts_children};
 use serde_json::Value;
 use std::alloc::{AllocError, Global};
 
@@ -187,7 +187,7 @@ fn of_not_enabled(alloc: Global, input: &[u8], fault: &Value) -> Result<Message,
 
 // That nothing was done yet, in the words of a command.
 fn nothing_done(words: Option<&[String]>) -> &'static str {
-    if is_live(words) {
+    if starts_children(words) {
         "nothing was started"
     } else {
         "no turn was taken"

@@ -3,7 +3,7 @@ use crate::message::{Message, message_of, plain};
 use std::alloc::{AllocError, Global};
 
 const USAGE: &str =
-    "usage: nextest_run live < PLAN, or nextest_run replay < INPUT; nextest_run --help says more";
+    "usage: nextest_run run < PLAN, or nextest_run replay < INPUT; nextest_run --help says more";
 
 const WIDTH_HINT: &str =
     "usage: nextest_run progress WIDTH < INPUT, with a width from 1 to 1000, in digits alone";
@@ -15,7 +15,7 @@ const TESTS_HINT: &str =
 fn stands_alone(word: &str) -> bool {
     matches!(
         word,
-        "live" | "replay" | "help" | "--help" | "-h" | "--version" | "-V"
+        "run" | "live" | "replay" | "help" | "--help" | "-h" | "--version" | "-V"
     )
 }
 
@@ -81,6 +81,14 @@ pub(crate) fn of_words(alloc: Global, words: Option<&[String]>) -> Result<Messag
 pub(crate) fn is_live(words: Option<&[String]>) -> bool {
     match words {
         Some([word]) => word.as_str() == "live",
+        _ => false,
+    }
+}
+
+/// Whether the words are a command that starts what a plan says.
+pub(crate) fn starts_children(words: Option<&[String]>) -> bool {
+    match words {
+        Some([word]) => matches!(word.as_str(), "run" | "live"),
         _ => false,
     }
 }

@@ -6,8 +6,14 @@
 mod clock_ticker;
 mod process_spawner;
 mod running;
+mod starting;
 mod std_host;
+mod telling;
 
 pub use clock_ticker::ClockTicker;
 pub use process_spawner::ProcessSpawner;
+pub use starting::{
+    add_arguments, add_variables, clear_env_file, is_refused, no_command, not_started, refused,
+};
 pub use std_host::StdHost;
+pub use telling::{env_input, error_text, exit_of, piece, unread, unwaited};

@@ -2,13 +2,16 @@
 ghost use Rattle.std.specs.Prelude.{◌≡◌};
 
 use crate::running::{Running, Step, nothing_more};
-use run_capture::{Duplicate, Mem, OutOfMemory, Stream, Text};
+use crate::starting::{
+    add_arguments, add_variables, clear_env_file, is_refused, no_command, not_started, refused,
+};
+use run_capture::{Duplicate, Mem, Stream, Text};
 use run_drive::{Begun, Said, Spawner};
-use run_events::{StartAsk, Variables};
+use run_events::StartAsk;
 use std::alloc::{AllocError, Global};
 use std::fs::Files;
+use std::io;
 use std::process::{Child, Command, Processes, Stdio};
-use std::{fs, io};
 
 /// Starts processes, one at a time: in the program's own folder, with the asked variables beside the program's own, an
 /// empty standard input, and no process group. Its standard output is read where it is captured, as the combined stream
@@ -75,29 +78,6 @@ fn stdout_of(streams: &[Stream]) -> Stdio {
     }
 }
 
-// Gives a command its arguments.
-fn add_arguments(command: &mut Command, words: &[Text]) -> Result<(), AllocError> {
-    for word in words {
-        command.arg(word.as_str())?;
-    }
-    Ok(())
-}
-
-// Gives a command its variables.
-fn add_variables(
-    alloc: Global,
-    command: &mut Command,
-    variables: &Variables,
-) -> Result<(), AllocError> {
-    let Ok(list) = variables.to_list(alloc) else {
-        return Err(AllocError);
-    };
-    for (key, value) in list.as_slice() {
-        command.env(key.as_str(), value.as_str())?;
-    }
-    Ok(())
-}
-
 // Gives a command its streams.
 fn add_streams(command: &mut Command, streams: &[Stream]) {
     command.stdin(Stdio::null());
@@ -116,41 +96,6 @@ fn prepare(
     add_variables(alloc, command, &ask.env)?;
     add_streams(command, ask.streams.as_slice());
     Ok(())
-}
-
-// Makes a script's environment file empty, where it has one.
-fn clear(files: &impl Files, path: &Option<Text>) -> io::Result<()> {
-    match path {
-        Some(path) if !path.is_empty() => fs::write(files, path.as_str(), ""),
-        _ => Ok(()),
-    }
-}
-
-// There is no command to start.
-fn no_command(alloc: Global) -> Mem<Begun> {
-    let error = Text::from_str(alloc, "there is no command")?;
-    Ok(Begun::Refused { error })
-}
-
-// A start failed, and is refused with these words before the error's text. Want of memory is no refusal.
-fn refused(alloc: Global, role: &str, error: &io::Error) -> Mem<Begun> {
-    if error.kind() == io::ErrorKind::OutOfMemory {
-        return Err(OutOfMemory);
-    }
-    let error = Text::from_string(format!(in alloc; "{role}{error}")?);
-    Ok(Begun::Refused { error })
-}
-
-// A program could not be started. Its name may have any character, so it is escaped.
-fn not_started(alloc: Global, program: &Text, error: &io::Error) -> Mem<Begun> {
-    let program = program.as_str();
-    let role = format!(in alloc; "cannot start {program:?}: ")?;
-    refused(alloc, role.as_str(), error)
-}
-
-// Whether a start was refused.
-fn is_refused(begun: &Mem<Begun>) -> bool {
-    matches!(begun, Ok(Begun::Refused { .. }))
 }
 
 // Whether a child could not be read or waited for.
@@ -225,12 +170,12 @@ impl<P: Processes + Files + Drop> ProcessSpawner<P> {
         let Some((program, words)) = ask.command.as_slice().split_first() else {
             return no_command(alloc);
         };
-        if let Err(error) = clear(&self.outside, &ask.env_path) {
+        if let Err(error) = clear_env_file(&self.outside, &ask.env_path) {
             return refused(alloc, "environment file: ", &error);
         }
         match self.spawn(alloc, program, words, ask) {
             Ok(child) => Ok(self.keep(child, first_step(ask.streams.as_slice()))),
-            Err(error) => not_started(alloc, program, &error),
+            Err(error) => not_started(alloc, program.as_str(), &error),
         }
     }
 

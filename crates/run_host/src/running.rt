@@ -1,18 +1,12 @@
 // A child that runs, and what it says next.
-ghost use Rattle.std.specs.Prelude.{◌≡◌, IfSome, IfNone};
-ghost use Rattle.std.specs.Process.{exit_code, exit_signal};
-ghost use Rattle.run_events.specs.declared.result.ChildExit.TheVariants.{Code, Signal};
-
-use run_capture::{Blob, Mem, OutOfMemory, ReadError, StdSource, Stream, Text, read_to_end};
-use run_commands::EnvInput;
+use crate::telling::{env_input, exit_of, piece, unread, unwaited};
+use run_capture::{Mem, Stream, Text};
 use run_drive::Said;
-use run_events::ChildExit;
 use std::alloc::Global;
 use std::fs::Files;
+use std::io;
 use std::io::Read;
-use std::os::unix::process::ExitStatusExt;
-use std::process::{Child, ExitStatus, OpenProcess};
-use std::{fs, io};
+use std::process::{Child, OpenProcess};
 
 /// What is to be said of a child.
 #[derive(Clone, Copy)]
@@ -39,42 +33,6 @@ pub struct Running<C: OpenProcess + Drop> {
 
 // How many bytes one read moves at most.
 const PIECE: usize = 8192;
-
-// The text of an error.
-fn error_text(alloc: Global, error: &io::Error) -> Mem<Text> {
-    Ok(Text::from_string(format!(in alloc; "{error}")?))
-}
-
-// How a child ended.
-fn exit_of(status: &ExitStatus) -> ChildExit
-    ensures code { IfSome (exit_code status.now) (λ code. result ≡ Code code) }
-    ensures signal { IfNone (exit_code status.now)
-        (IfSome (exit_signal status.now) (λ signal. result ≡ Signal signal)) }
-{
-    match (status.code(), status.signal()) {
-        (Some(code), _) => ChildExit::Code(code),
-        (None, Some(signal)) => ChildExit::Signal(signal),
-        (None, None) => ChildExit::Code(-1),
-    }
-}
-
-// A piece of output.
-fn piece(alloc: Global, stream: Stream, bytes: &[u8]) -> Mem<Said> {
-    let bytes = Blob::from_slice(alloc, bytes)?;
-    Ok(Said::Piece { stream, bytes })
-}
-
-// Reading a stream failed.
-fn unread(alloc: Global, stream: Stream, error: &io::Error) -> Mem<Said> {
-    let error = error_text(alloc, error)?;
-    Ok(Said::ReadError { stream, error })
-}
-
-// The wait for a child failed.
-fn unwaited(alloc: Global, error: &io::Error) -> Mem<Said> {
-    let error = error_text(alloc, error)?;
-    Ok(Said::WaitFailed { error })
-}
 
 /// There is nothing more to say.
 pub fn nothing_more(alloc: Global) -> Mem<Said> {
@@ -162,26 +120,6 @@ impl<C: OpenProcess + Drop> Running<C> {
             }
             Step::Done => nothing_more(alloc),
         }
-    }
-}
-
-// What stands in a file.
-fn file_input<F: Read + Drop>(alloc: Global, file: F) -> Mem<EnvInput> {
-    match read_to_end(alloc, &mut StdSource::new(file), usize::MAX) {
-        Ok(bytes) => Ok(EnvInput::Bytes(bytes)),
-        Err(ReadError::OutOfMemory) => Err(OutOfMemory),
-        Err(_) => Ok(EnvInput::ReadFailed),
-    }
-}
-
-// What stands in an environment file, with no bytes where the path is empty.
-fn env_input(files: &impl Files, alloc: Global, path: &Option<Text>) -> Mem<EnvInput> {
-    match path {
-        Some(path) if !path.is_empty() => match fs::open(files, path.as_str()) {
-            Ok(file) => file_input(alloc, file),
-            Err(_) => Ok(EnvInput::OpenFailed),
-        },
-        _ => Ok(EnvInput::Bytes(Blob::new(alloc))),
     }
 }
 

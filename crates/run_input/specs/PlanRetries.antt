@@ -20,24 +20,27 @@ grows_named name =
 abbrev pub grows_of : Data → Option Bool
 grows_of d = option_and_then grows_named (as_str d)
 
--- retries after the same delay each time, and after delays that grow, up to a limit where there is one: with no delay
--- and no jitter where nothing is said
-unfoldable pub fixed_of : Data → Option RetryPolicy
-fixed_of d = do
-  _ ← when (is_object_of (codes "backoff" ∷ codes "count" ∷ codes "delay" ∷ codes "jitter" ∷ []) d)
+-- how often, after which delay, and whether with a jitter: with no delay and no jitter where nothing is said
+abbrev pub trials_said : Data → Option (ℕ × ℕ × Bool)
+trials_said d = do
   count ← option_and_then u32_of (get (codes "count") d)
   delay ← or_usual 0 u64_of (get (codes "delay") d)
   jitter ← or_usual false truth_of (get (codes "jitter") d)
-  Some (Fixed count delay jitter)
+  Some (count, delay, jitter)
+
+-- retries after the same delay each time, and after delays that grow, up to a limit where there is one
+unfoldable pub fixed_of : Data → Option RetryPolicy
+fixed_of d = do
+  _ ← when (is_object_of (codes "backoff" ∷ codes "count" ∷ codes "delay" ∷ codes "jitter" ∷ []) d)
+  said ← trials_said d
+  Some (Fixed said.0 said.1 said.2)
 
 unfoldable pub exponential_of : Data → Option RetryPolicy
 exponential_of d = do
   _ ← when (is_object_of (codes "backoff" ∷ codes "count" ∷ codes "delay" ∷ codes "jitter" ∷ codes "max_delay" ∷ []) d)
-  count ← option_and_then u32_of (get (codes "count") d)
-  delay ← or_usual 0 u64_of (get (codes "delay") d)
-  jitter ← or_usual false truth_of (get (codes "jitter") d)
+  said ← trials_said d
   max_delay ← optional u64_of (get (codes "max_delay") d)
-  Some (Exponential count delay jitter max_delay)
+  Some (Exponential said.0 said.1 said.2 max_delay)
 
 -- how often a test is tried again, and after which delays: they don't grow where nothing is said
 abbrev pub retries_from : Data → Option RetryPolicy

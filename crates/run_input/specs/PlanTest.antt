@@ -116,17 +116,27 @@ abbrev pub priority_said : ℕ → Option Data → Option ℤ
 priority_said version None = Some (pos 0)
 priority_said version (Some d) = if version == 2 then priority_of d else None
 
+-- the keys that a test may have
+abbrev pub keys_of_test : List (List ℕ)
+keys_of_test =
+    codes "binary" ∷ codes "command" ∷ codes "flaky" ∷ codes "group" ∷ codes "leak" ∷ codes "name" ∷ codes "platform"
+    ∷ codes "priority" ∷ codes "retries" ∷ codes "scripts" ∷ codes "skip" ∷ codes "slow" ∷ codes "weight" ∷ []
+
+-- the platform and the priority of a test, in a plan line of this version
+abbrev pub rank_of : ℕ → Data → Option (BuildPlatform × ℤ)
+rank_of version d = do
+  platform ← or_usual platforms.Target platform_of (get (codes "platform") d)
+  priority ← priority_said version (get (codes "priority") d)
+  Some (platform, priority)
+
 -- a test in its group, for its platform, with its weight, its priority, its time-outs, its retries and its scripts, in
 -- a plan line of this version
 unfoldable pub test_from : ℕ → Data → Option PlanTest
 test_from version d = do
-  _ ← when (is_object_of (codes "binary" ∷ codes "command" ∷ codes "flaky" ∷ codes "group" ∷ codes "leak"
-      ∷ codes "name" ∷ codes "platform" ∷ codes "priority" ∷ codes "retries" ∷ codes "scripts" ∷ codes "skip"
-      ∷ codes "slow" ∷ codes "weight" ∷ []) d)
+  _ ← when (is_object_of keys_of_test d)
   terms ← terms_from d
   trials ← trials_of d
-  platform ← or_usual platforms.Target platform_of (get (codes "platform") d)
-  priority ← priority_said version (get (codes "priority") d)
+  rank ← rank_of version d
   ties ← ties_of d
   test ← named_of d
   Some (record test {
@@ -137,6 +147,6 @@ test_from version d = do
     flaky = trials.1;
     group = ties.0;
     scripts = ties.1;
-    platform = platform;
-    priority = priority;
+    platform = rank.0;
+    priority = rank.1;
   })

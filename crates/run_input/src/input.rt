@@ -1,7 +1,8 @@
 // A whole input: a plan line, and a turn line for each turn.
 ghost use Rattle.std.specs.Prelude.{◌≡◌, [], Some, IfOk, IfErr};
 ghost use Rattle.run_input.specs.Lines.{lines_of};
-ghost use Rattle.run_input.specs.Input.{turns_said, IsInput, IsFirstBadTurn};
+ghost use Rattle.run_input.specs.Input.{turn_line_of, turns_said, IsInput, IsFirstBadTurn};
+ghost use Rattle.run_input.specs.ReadsValue.{ReadsValue};
 ghost use Rattle.run_input.specs.Refused.{error_at, IsRefusedInput, IsRefusedTurns, IsRefusedAlone};
 
 use crate::both::both;
@@ -20,6 +21,23 @@ pub struct Input {
     pub turns: List<Turn>,
 }
 
+/// Who reads turn lines.
+pub trait ReadTurn {
+    /// The turn that a line says. It is refused exactly where it says none, or for want of memory.
+    fn read_turn(&self, alloc: Global, line: &[u8]) -> Result<Turn, LineError>
+        ensures { ReadsValue result (turn_line_of line.now) };
+}
+
+/// Reads each turn line as a JSON value.
+#[derive(Clone, Copy, Drop)]
+pub struct JsonTurns;
+
+impl ReadTurn for JsonTurns {
+    fn read_turn(&self, alloc: Global, line: &[u8]) -> Result<Turn, LineError> {
+        read_turn_line(alloc, line)
+    }
+}
+
 // A line's error with the line's number.
 fn at_line(number: u64, error: LineError) -> InputError
     ensures { result ≡ error_at number error }
@@ -31,7 +49,11 @@ fn at_line(number: u64, error: LineError) -> InputError
 }
 
 // Reads the lines after the first, whose numbers start at 2.
-fn read_turns(alloc: Global, bytes: &[u8]) -> Result<List<Turn>, InputError>
+fn read_turns<R: ReadTurn>(
+    alloc: Global,
+    bytes: &[u8],
+    reader: &R,
+) -> Result<List<Turn>, InputError>
     ensures ok { IfOk result (λ turns. turns_said (lines_of bytes.now) ≡ Some turns) }
     ensures refused { IfErr result (IsRefusedTurns (lines_of bytes.now)) }
 {
@@ -40,7 +62,7 @@ fn read_turns(alloc: Global, bytes: &[u8]) -> Result<List<Turn>, InputError>
     let mut number = 2;
     'lines: while !rest.is_empty() {
         let (line, after) = split_line(rest);
-        let turn = match read_turn_line(alloc, line) {
+        let turn = match reader.read_turn(alloc, line) {
             Ok(turn) => turn,
             Err(e) => return Err(at_line(number, e)),
         };
@@ -79,6 +101,18 @@ pub fn read_input(alloc: Global, bytes: &[u8]) -> Result<Input, InputError>
     ensures ok { IfOk result (λ i. IsInput (lines_of bytes.now) i.keys i.plan i.turns) }
     ensures refused { IfErr result (IsRefusedInput (lines_of bytes.now)) }
 {
+    read_input_by(alloc, bytes, &JsonTurns)
+}
+
+/// Reads an input as `read_input` does, its turn lines by this reader.
+pub fn read_input_by<R: ReadTurn>(
+    alloc: Global,
+    bytes: &[u8],
+    reader: &R,
+) -> Result<Input, InputError>
+    ensures ok { IfOk result (λ i. IsInput (lines_of bytes.now) i.keys i.plan i.turns) }
+    ensures refused { IfErr result (IsRefusedInput (lines_of bytes.now)) }
+{
     if bytes.is_empty() {
         return Err(InputError::Line { line: 1 });
     }
@@ -87,6 +121,6 @@ pub fn read_input(alloc: Global, bytes: &[u8]) -> Result<Input, InputError>
         Ok(first) => first,
         Err(e) => return Err(at_line(1, e)),
     };
-    let ((keys, plan), turns) = both(first, read_turns(alloc, after))?;
+    let ((keys, plan), turns) = both(first, read_turns(alloc, after, reader))?;
     Ok(Input { keys, plan, turns })
 }

@@ -36,8 +36,9 @@ pub use fields::{
     no_text, optional_text_at, optional_u32_at, str_at, text_at, text_or, texts_at, texts_or_none,
     time_at, truth_at, truth_or, u32_at, u32_or, u64_at,
 };
-pub use input::{Input, read_input, read_plan_alone};
+pub use input::{Input, JsonTurns, ReadTurn, read_input, read_input_by, read_plan_alone};
 pub use laws::an_input_has_no_bad_line;
+pub use lines::split_line;
 pub use misfit::{Misfit, Wrong};
 pub use objects::{has_keys_of, only_keys};
 pub use plan_line::{RunnerKeys, plan_line_misfit, read_plan_line};

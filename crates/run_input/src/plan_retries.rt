@@ -5,7 +5,8 @@ ghost use Rattle.serde_json.specs.View.{view};
 ghost use Rattle.run_events.specs.Usual.{no_retries};
 ghost use Rattle.run_events.specs.declared.result.FlakyResult.TheVariants.{Pass};
 ghost use Rattle.run_input.specs.Fields.{is_object_of, optional, or_usual, when};
-ghost use Rattle.run_input.specs.PlanRetries.{grows_of, fixed_of, exponential_of, retries_from, flaky_from};
+ghost use Rattle.run_input.specs.PlanRetries.{exponential_of, fixed_of, flaky_from, grows_of, retries_from};
+ghost use Rattle.run_input.specs.PlanRetries.{trials_said};
 ghost use Rattle.run_input.specs.ReadsValue.{ReadsValue};
 
 use crate::fields::{optional_time_at, time_or, truth_or, u32_at};
@@ -68,14 +69,22 @@ fn only_fixed_keys(alloc: Global, value: &Value) -> Result<(), Refusal>
     }
 }
 
+// How often, after which delay in nanoseconds, and whether with a jitter.
+fn trials_at(alloc: Global, value: &Value) -> Result<(u32, u64, bool), Refusal>
+    ensures { ReadsValue result (trials_said (view value.now)) }
+{
+    let count = u32_at(alloc, value, "count")?;
+    let delay = time_or(alloc, 0, value, "delay")?;
+    let jitter = truth_or(alloc, false, value, "jitter")?;
+    Ok((count, delay, jitter))
+}
+
 #[tactic(auto, unfolding(crate::specs::PlanRetries::fixed_of))]
 fn fixed_from(alloc: Global, value: &Value) -> Result<RetryPolicy, Refusal>
     ensures { ReadsValue result (fixed_of (view value.now)) }
 {
     only_fixed_keys(alloc, value)?;
-    let count = u32_at(alloc, value, "count")?;
-    let delay = time_or(alloc, 0, value, "delay")?;
-    let jitter = truth_or(alloc, false, value, "jitter")?;
+    let (count, delay, jitter) = trials_at(alloc, value)?;
     Ok(RetryPolicy::Fixed {
         count,
         delay,
@@ -89,9 +98,7 @@ fn exponential_from(alloc: Global, value: &Value) -> Result<RetryPolicy, Refusal
 {
     let names = ["backoff", "count", "delay", "jitter", "max_delay"];
     only_keys(alloc, value, &names, RETRIES)?;
-    let count = u32_at(alloc, value, "count")?;
-    let delay = time_or(alloc, 0, value, "delay")?;
-    let jitter = truth_or(alloc, false, value, "jitter")?;
+    let (count, delay, jitter) = trials_at(alloc, value)?;
     let max_delay = optional_time_at(alloc, value, "max_delay")?;
     Ok(RetryPolicy::Exponential {
         count,

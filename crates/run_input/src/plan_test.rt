@@ -6,8 +6,9 @@ ghost use Rattle.run_events.specs.Usual.{usual_leak};
 ghost use Rattle.run_input.specs.ReadsValue.{ReadsValue};
 ghost use Rattle.run_commands.specs.declared.target_runner.BuildPlatform.TheVariants as platforms;
 ghost use Rattle.run_input.specs.PlanTest.{id_of, named_of, platform_of, terms_from, test_from, ties_of, trials_of};
-ghost use Rattle.run_input.specs.PlanTest.{priority_of, priority_said, slow_of, leak_of, timeout_of, leak_result_of};
-ghost use Rattle.run_input.specs.Fields.{u32_of, or_usual};
+ghost use Rattle.run_input.specs.PlanTest.{priority_of, priority_said, rank_of, keys_of_test, slow_of, leak_of};
+ghost use Rattle.run_input.specs.PlanTest.{timeout_of, leak_result_of};
+ghost use Rattle.run_input.specs.Fields.{is_object_of, or_usual, u32_of, when};
 
 use crate::both::both;
 use crate::fields::{
@@ -28,27 +29,29 @@ use std::alloc::Global;
 
 const PRIORITY: &str = "a whole number from -100 to 100";
 
+// Refuses what is no object, and a key that a test doesn't have.
+fn only_test_keys(alloc: Global, value: &Value) -> Result<(), Refusal>
+    ensures { ReadsValue result (when (is_object_of keys_of_test (view value.now))) }
+{
+    let names = [
+        "binary", "command", "flaky", "group", "leak", "name", "platform", "priority", "retries",
+        "scripts", "skip", "slow", "weight",
+    ];
+    only_keys(alloc, value, &names, "an object")
+}
+
 /// A test, by its keys, in a plan line of this version.
 #[tactic(auto, unfolding(crate::specs::PlanTest::test_from))]
 pub fn test_from(alloc: Global, version: u64, value: &Value) -> Result<PlanTest, Refusal>
     ensures { ReadsValue result (test_from version (view value.now)) }
 {
-    only_keys(
-        alloc,
-        value,
-        &[
-            "binary", "command", "flaky", "group", "leak", "name", "platform", "priority",
-            "retries", "scripts", "skip", "slow", "weight",
-        ],
-        "an object",
-    )?;
+    only_test_keys(alloc, value)?;
     let terms = terms_from(alloc, value)?;
     let trials = trials_from(alloc, value)?;
-    let platform = platform_at(alloc, value)?;
-    let priority = priority_at(alloc, version, value)?;
+    let rank = rank_from(alloc, version, value)?;
     let ties = ties_from(alloc, value)?;
     let (ties, test) = both(ties, named_from(alloc, value))?;
-    Ok(set(test, terms, trials, (platform, priority), ties))
+    Ok(set(test, terms, trials, rank, ties))
 }
 
 // A test of this weight and priority, with these time-outs and retries, for this platform, in this group, with these
@@ -121,6 +124,15 @@ fn priority_at(alloc: Global, version: u64, test: &Value) -> Result<i8, Refusal>
         Some(_) => Err(Refusal::at(alloc, "priority", Wrong::NotSecondVersion)),
         None => Ok(0),
     }
+}
+
+// The platform of a test, and its priority in a plan line of this version.
+fn rank_from(alloc: Global, version: u64, value: &Value) -> Result<(BuildPlatform, i8), Refusal>
+    ensures { ReadsValue result (rank_of version (view value.now)) }
+{
+    let platform = platform_at(alloc, value)?;
+    let priority = priority_at(alloc, version, value)?;
+    Ok((platform, priority))
 }
 
 // How often a test is tried again, and what a pass counts as then.

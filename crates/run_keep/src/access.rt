@@ -1,12 +1,12 @@
 // How a thread reaches a shared run.
-ghost use Rattle.std.specs.Prelude.{◌≡◌, ◌<◌, ◌+◌, ◌++◌, length, IfOk, OnOk};
+ghost use Rattle.std.specs.Prelude.{◌≡◌, ◌<◌, ◌+◌, ◌++◌, length, IfOk, Ok, OnOk};
 ghost use Rattle.run_shared.specs.Offered.{offered_turn, taken_count};
 ghost use Rattle.run_drive.specs.Added.{SettlesSome};
 ghost use Rattle.run_keep.specs.Entered.{EntersTurn};
 
 use crate::Beats;
 use crate::turns::Turns;
-use run_capture::{List, Mem};
+use run_capture::{List, Mem, OutOfMemory};
 use run_drive::wind;
 use run_events::{Reporter, StartAsk, Turn};
 use run_model::Phase;
@@ -101,6 +101,17 @@ fn settle<X: Wait, L: Ledger, R: Reporter>(
     Ok(())
 }
 
+// This value, unless memory was wanting. It is one piece here, which keeps the proof of the caller small.
+fn if_done<T: Drop>(value: T, done: Mem<()>) -> Mem<T>
+    ensures value { IfOk result (λ v. v ≡ value) }
+    ensures done { IfOk result (λ v. done ≡ Ok tt) }
+{
+    match done {
+        Ok(()) => Ok(value),
+        Err(OutOfMemory) => Err(OutOfMemory),
+    }
+}
+
 impl<'a, X: Wait, L: Ledger, R: Reporter> Turns<L> for Access<'a, X, L, R> {
     #[tactic(auto, using(crate::proofs::EnterLemmas::enters_more))]
     fn enter(
@@ -110,8 +121,9 @@ impl<'a, X: Wait, L: Ledger, R: Reporter> Turns<L> for Access<'a, X, L, R> {
         receipts: &mut List<Receipt>,
     ) -> Mem<Option<Refusal>> {
         let refusal = offer(self, share, turn, receipts)?;
-        settle(self, share, receipts)?;
-        Ok(refusal)
+        let done = settle(self, share, receipts);
+        let answer = if_done(refusal, done)?;
+        Ok(answer)
     }
 
     fn next_start(&self) -> Option<StartAsk> {

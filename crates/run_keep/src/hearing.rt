@@ -179,24 +179,24 @@ fn beat<O: Outside, H: Halter, L: Ledger, T: Turns<L>>(
     outside: &mut O,
     halter: &mut H,
     share: &mut Share<L>,
-    hand: Hand,
+    hand: &mut Hand,
     stops: &mut Stops,
     work: &mut Listened,
-) -> Mem<Hand>
+) -> Mem<()>
     requires { 0 < share.old.parts }
-    ensures listens { IfOk result (λ next. HearsOn O.has_come outside.old outside.new hearing.now hand.held next.held
+    ensures listens { OnOk result (HearsOn O.has_come outside.old outside.new hearing.now hand.old.held hand.new.held
         work.old work.new) }
     ensures halts { OnOk result (Halts H.has_halted halter.old halter.new stops.old.halts stops.new.halts) }
     ensures counted { OnOk result
         (share.new.amount + length work.old.receipts ≡ share.old.amount + length work.new.receipts) }
     ensures parts { share.new.parts ≡ share.old.parts }
 {
-    let next = hear_next(run, hearing, outside, share, hand, work)?;
+    *hand = hear_next(run, hearing, outside, share, *hand, work)?;
     halt_next(run, halter, stops)?;
-    Ok(next)
+    Ok(())
 }
 
-// The same until the run takes no turn any more. Answers what is still held.
+// The same until the run takes no turn any more.
 #[tactic(auto, using(crate::proofs::ListenLemmas::listens_none, crate::proofs::ListenLemmas::listens_more, crate::proofs::HaltLemmas::halts_none, crate::proofs::HaltLemmas::halts_more))]
 fn hear_on<O: Outside, H: Halter, X: Wait, L: Ledger, T: Turns<L>>(
     rt: &X,
@@ -205,27 +205,24 @@ fn hear_on<O: Outside, H: Halter, X: Wait, L: Ledger, T: Turns<L>>(
     outside: &mut O,
     halter: &mut H,
     share: &mut Share<L>,
+    hand: &mut Hand,
     stops: &mut Stops,
     work: &mut Listened,
-) -> Mem<Option<Came>>
+) -> Mem<()>
     requires { 0 < share.old.parts }
-    ensures listens { IfOk result (λ held. HearsOn O.has_come outside.old outside.new hearing.now None held
+    ensures listens { OnOk result (HearsOn O.has_come outside.old outside.new hearing.now hand.old.held hand.new.held
         work.old work.new) }
     ensures halts { OnOk result (Halts H.has_halted halter.old halter.new stops.old.halts stops.new.halts) }
     ensures counted { OnOk result
         (share.new.amount + length work.old.receipts ≡ share.old.amount + length work.new.receipts) }
     ensures parts { share.new.parts ≡ share.old.parts }
 {
-    let mut hand = Hand {
-        held: None,
-        ticks: 0,
-    };
     for _ in rt.forever() {
         if run.is_done() {
-            return Ok(hand.held);
+            return Ok(());
         }
         match beat(run, hearing, outside, halter, share, hand, stops, work) {
-            Ok(next) => hand = next,
+            Ok(()) => {}
             Err(OutOfMemory) => return Err(OutOfMemory),
         }
     }
@@ -277,7 +274,13 @@ pub(crate) fn hear_all<O: Outside, H: Halter, X: Wait, L: Ledger, T: Turns<L>>(
         (share.new.amount + length work.old.receipts ≡ share.old.amount + length work.new.receipts) }
     ensures parts { share.new.parts ≡ share.old.parts }
 {
-    let held = hear_on(rt, run, hearing, outside, halter, share, stops, work)?;
-    hear_rest(rt, run, hearing, halter, share, held, stops, work)?;
+    let mut hand = Hand {
+        held: None,
+        ticks: 0,
+    };
+    hear_on(
+        rt, run, hearing, outside, halter, share, &mut hand, stops, work,
+    )?;
+    hear_rest(rt, run, hearing, halter, share, hand.held, stops, work)?;
     Ok(())
 }

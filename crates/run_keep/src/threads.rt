@@ -32,7 +32,10 @@ fn keep_on<K: Keeper, L: Ledger, R: Reporter, X: Wait>(
     ensures parts { share.new.parts ≡ share.old.parts }
 {
     let mut work = Kept::new();
-    work_all(run.rt, run, keeper, share, &mut work)?;
+    let Ok(()) = work_all(run.rt, run, keeper, share, &mut work) else {
+        drop(work);
+        return Err(OutOfMemory);
+    };
     Ok(work)
 }
 
@@ -91,9 +94,14 @@ fn hear_out<O: Outside, H: Halter, L: Ledger, R: Reporter, X: Wait>(
 {
     let mut work = Listened::new();
     let mut stops = Stops::new();
-    hear_all(
+    let done = hear_all(
         run.rt, run, hearing, outside, halter, share, &mut stops, &mut work,
-    )?;
+    );
+    let Ok(()) = done else {
+        drop(work);
+        drop(stops);
+        return Err(OutOfMemory);
+    };
     let Stops { halts, .. } = stops;
     Ok((work, halts))
 }

@@ -19,12 +19,13 @@ use Rattle.run_live.specs.Own.{IsOwn, IsLive, IsTold, IsTicker}
 use Rattle.run_live.specs.Work.{IsGathered, IsWholeWork}
 
 -- one list of receipts more
-joined_push : (rss : List (List Receipt)) (rs : List Receipt) → concatenated (rss ++ rs ∷ []) ≡ concatenated rss ++ rs
+pub joined_push : (rss : List (List Receipt)) (rs : List Receipt)
+    → concatenated (rss ++ rs ∷ []) ≡ concatenated rss ++ rs
 joined_push [] rs = append-nil rs
 joined_push (first ∷ rest) rs = ap (λ xs. first ++ xs) (joined_push rest rs)
     ∙ sym (append_assoc first (concatenated rest) rs)
 
-length-joined_push : (rss : List (List Receipt)) (rs : List Receipt)
+pub length-joined_push : (rss : List (List Receipt)) (rs : List Receipt)
     → length (concatenated (rss ++ rs ∷ [])) ≡ length (concatenated rss) + length rs
 length-joined_push rss rs = ap length (joined_push rss rs) ∙ length-append (concatenated rss) rs
 
@@ -58,11 +59,11 @@ gathered_none has_said = record {
 }
 
 -- the item at a place of a list with one more
-at_front : {X : Type 0} (xs : List X) (x d : X) (k n : ℕ) → length xs ≡ n → k < n
+pub at_front : {X : Type 0} (xs : List X) (x d : X) (k n : ℕ) → length xs ≡ n → k < n
     → slice_index_or (xs ++ x ∷ []) k d ≡ slice_index_or xs k d
 at_front xs x d k n long below = get_or_append_left xs (x ∷ []) d k (omega (arith, long, below))
 
-at_end : {X : Type 0} (xs : List X) (x d : X) (k n : ℕ) → length xs ≡ n → k ≡ n
+pub at_end : {X : Type 0} (xs : List X) (x d : X) (k n : ℕ) → length xs ≡ n → k ≡ n
     → slice_index_or (xs ++ x ∷ []) k d ≡ x
 at_end xs x d k n long at =
     ap (λ i. slice_index_or (xs ++ x ∷ []) i d) (at ∙ sym long) ∙ get_or-append_seam xs x [] d
@@ -89,7 +90,7 @@ own_push has_said ws rss xss v new lost k w rs xs same too before here (inr at) 
       at_end xss lost xs k (length ws) too at,
     ) here
 
-last_or : (k n : ℕ) → k < n + 1 → (k < n) ⊎ (k ≡ n)
+pub last_or : (k n : ℕ) → k < n + 1 → (k < n) ⊎ (k ≡ n)
 last_or k n below = cases (cases_lt k n)
   where
     cases : (k < n) ⊎ (n ≤ k) → (k < n) ⊎ (k ≡ n)

@@ -1,2 +1,2 @@
-mod LeftLemmas
-mod GatherLemmas
+pub mod LeftLemmas
+pub mod GatherLemmas

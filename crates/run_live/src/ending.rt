@@ -19,8 +19,8 @@ use run_shared::{CloseError, CloseKind, Closed, Refusal, SharedRun, Unclosed};
 use std::alloc::Global;
 use std::sync::ledger::{Ledger, Share};
 
-// Whether memory was wanting.
-fn is_memory(error: &CloseError) -> bool
+/// Whether memory was wanting.
+pub fn is_memory(error: &CloseError) -> bool
     ensures { IsTrue result ↔ (error.now.kind ≡ CloseKind.OutOfMemory) }
 {
     match error.kind() {
@@ -77,8 +77,8 @@ fn left<W: Drop, T: Drop, R: Reporter>(threads: Threaded<W, T>, closed: Closed<R
     }
 }
 
-// The reporter of a run that wasn't closed.
-fn report_left<R: Reporter>(unclosed: Unclosed<R>) -> R
+/// The reporter of a run that wasn't closed.
+pub fn report_left<R: Reporter>(unclosed: Unclosed<R>) -> R
     ensures { result ≡ unclosed.report }
 {
     let Unclosed {
@@ -226,8 +226,8 @@ fn report_closed<R: Reporter>(closed: Closed<R>) -> R
     report
 }
 
-// The reporter of a run that is thrown away.
-pub(crate) fn report_of<L: Ledger, R: Reporter>(alloc: Global, shared: SharedRun<L, R>) -> R
+/// The reporter of a run that is thrown away.
+pub fn report_of<L: Ledger, R: Reporter>(alloc: Global, shared: SharedRun<L, R>) -> R
     ensures { HasToldSome R.told result }
 {
     match shared.close(alloc, Vec::new(alloc), List::new()) {

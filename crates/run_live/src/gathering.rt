@@ -4,7 +4,7 @@ ghost use Rattle.std.specs.List.{All, sum_by};
 ghost use Rattle.run_live.specs.Own.{IsOwn, IsTicker};
 ghost use Rattle.run_live.specs.Work.{HasTicked, HasWorked, IsGathered, IsWholeWork};
 
-use crate::both::{push_each, push_three};
+use crate::pieces::{push_each, push_three};
 use crate::ticker_thread::Ticked;
 use crate::worker_thread::Done;
 use run_capture::{List, Mem, OutOfMemory};

@@ -17,13 +17,13 @@ pub(crate) struct Job<L: Ledger, W> {
     pub(crate) word: u32,
 }
 
-// What the ticker's thread begins with, and the receipts that its share has counted already.
+/// What the ticker's thread begins with, and the receipts that its share has counted already.
 #[derive(Drop)]
-pub(crate) struct TickJob<L: Ledger, T> {
-    pub(crate) ticker: T,
-    pub(crate) share: Share<L>,
-    pub(crate) word: u32,
-    pub(crate) first: List<Receipt>,
+pub struct TickJob<L: Ledger, T> {
+    pub ticker: T,
+    pub share: Share<L>,
+    pub word: u32,
+    pub first: List<Receipt>,
 }
 
 // A job for each share.

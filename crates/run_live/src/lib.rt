@@ -4,15 +4,19 @@
 //! makes (spawners, tickers, random words) is known by the traits of the layer below alone.
 #![tactic(auto)]
 
-mod both;
 mod ending;
 mod gathering;
 mod jobs;
 mod lived;
+mod pieces;
 mod running;
 mod ticker_thread;
 mod together;
 mod worker_thread;
 
+pub use ending::{is_memory, report_left, report_of};
+pub use jobs::TickJob;
 pub use lived::{Live, Lived};
+pub use pieces::{both, push_each};
 pub use running::live;
+pub use ticker_thread::begin;

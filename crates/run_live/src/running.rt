@@ -8,11 +8,11 @@ ghost use Rattle.run_live.specs.Left.{HasToldSome};
 ghost use Rattle.run_live.specs.Own.{IsLive, IsTicker};
 ghost use Rattle.run_live.specs.Work.{IsOneEmpty, IsFresh, IsSetOut, IsWholeWork};
 
-use crate::both::both;
 use crate::ending::{finish, report_of};
 use crate::gathering::{Gathered, gather_all};
 use crate::jobs::{Job, TickJob, make_jobs};
 use crate::lived::Lived;
+use crate::pieces::both;
 use crate::ticker_thread::begin;
 use crate::together::together;
 use run_capture::Mem;

@@ -28,8 +28,8 @@ impl<L: Ledger, T: Ticker> Promise<Ticked<L, T>> for OwnTicks {
     ghost kept_by = { λ p d. HasTicked T.has_told d };
 }
 
-// Settles what is ready before any worker starts.
-pub(crate) fn begin<T: Ticker + Drop, L: Ledger, R: Reporter>(
+/// Settles what is ready before any worker starts.
+pub fn begin<T: Ticker + Drop, L: Ledger, R: Reporter>(
     rt: &impl Wait,
     alloc: Global,
     shared: &SharedRun<L, R>,

@@ -3,8 +3,8 @@ ghost use Rattle.std.specs.Prelude.{◌≡◌, [], IfOk, IfErr, Result, ◌≤�
 ghost use Rattle.std.specs.List.{All};
 ghost use Rattle.run_live.specs.Work.{HasTicked, HasWorked, IsFresh, IsSetOut};
 
-use crate::both::both;
 use crate::jobs::{Job, TickJob};
+use crate::pieces::both;
 use crate::ticker_thread::{Ticked, end_ticker, start_ticker};
 use crate::worker_thread::{Done, OwnWork, start};
 use run_capture::{Mem, OutOfMemory};

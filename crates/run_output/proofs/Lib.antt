@@ -1,6 +1,6 @@
 mod AskLemmas
 mod FieldLemmas
-mod FrontsLemmas
+pub mod FrontsLemmas
 mod PrintLemmas
 mod RowLemmas
 mod WrittenLemmas

@@ -1,8 +1,7 @@
 -- Flags of orders.
-use Rattle.std.proofs.Common.{◌≡◌, ◌≢◌, ℕ, ◌+◌, ◌<◌, ◌≤◌, ◌==◌, if◌then◌else◌, List, [], ◌∷◌, ◌++◌, length, map}
+use Rattle.std.proofs.Common.{◌≡◌, ℕ, ◌+◌, ◌<◌, ◌≤◌, ◌==◌, if◌then◌else◌, List, [], ◌∷◌, ◌++◌, length, map}
 use Rattle.std.proofs.Common.{Bool, true, false, refl}
-use Rattle.std.proofs.Common.{Option, Some, None, ap, sym, ◌∙◌, arith, rules, length-append, get_or, set, subst}
-use Rattle.std.proofs.Common.{replicate, take, drop}
+use Rattle.std.proofs.Common.{Option, Some, None, ap, sym, ◌∙◌, arith, rules, get_or, set, subst, replicate, take, drop}
 use Rattle.std.proofs.lemmas.List.{append_assoc, map-append, append-nil, take_more, take-append-drop}
 use Rattle.std.proofs.lemmas.List.Sums.{sum_by_push}
 use Rattle.std.proofs.lemmas.List.Elements.{All-append, Contains-append_left, Contains-append_right}
@@ -19,8 +18,7 @@ use Rattle.run_shared.specs.declared.orders.Halt.{Halt}
 use Rattle.run_shared.specs.declared.order_check.OrderFault.{OrderFault}
 use Rattle.run_shared.specs.declared.order_check.OrderFault.TheVariants.{Unasked, Repeated, Lost, OutOfMemory}
 use Rattle.run_shared.specs.Receipts.{bit, concatenated, Marks}
-use Rattle.run_shared.specs.Orders.{errand_at, ordered, halted, places_handed, WasAsked, Delivers, IsUnasked}
-use Rattle.run_shared.specs.Orders.{IsOrderFault}
+use Rattle.run_shared.specs.Orders.{errand_at, ordered, halted, errand_places, WasAsked, Delivers, IsOrderFault}
 use Rattle.run_shared.specs.Orders.{IsFaultAfter, HasFaultAfter, Flags, IsNextOrder, signal_to}
 use Rattle.run_shared.proofs.Marked.{bit_small, cut_joined, marks_more, marks_none, next_joined}
 use Rattle.run_shared.proofs.Marked.{repeated_after}
@@ -47,39 +45,41 @@ unasked_one asked seen place e not = λ ns m. (e, search rules, not)
 pub flags_none : (asked : List (ℕ × Ask)) (seen : List Bool) → Flags asked seen seen []
 flags_none asked seen = record { each = (search rules); marked = λ ns m. rw append-nil m }
 
-pub places_handed-append : (xs ys : List (ℕ × Errand)) → places_handed (xs ++ ys) ≡ places_handed xs ++ places_handed ys
-places_handed-append xs ys = map-append (λ (x : ℕ × Errand). x.0) xs ys
+pub errand_places-append : (xs ys : List (ℕ × Errand))
+    → errand_places (xs ++ ys) ≡ errand_places xs ++ errand_places ys
+errand_places-append xs ys = map-append (λ (x : ℕ × Errand). x.0) xs ys
 
 pub flags_more : (asked : List (ℕ × Ask)) (seen now after : List Bool) (xs ys : List (ℕ × Errand))
     → Flags asked seen now xs → Flags asked now after ys → Flags asked seen after (xs ++ ys)
 flags_more asked seen now after xs ys a b = record {
   each = All-append (WasAsked asked) xs ys a.each b.each;
-  marked = λ ns m. rw (places_handed-append xs ys, ← append_assoc ns (places_handed xs) (places_handed ys))
-      (b.marked (ns ++ places_handed xs) (a.marked ns m));
+  marked = λ ns m. rw (errand_places-append xs ys, ← append_assoc ns (errand_places xs) (errand_places ys))
+      (b.marked (ns ++ errand_places xs) (a.marked ns m));
 }
 
 -- what is wrong after what was asked is wrong with all of it
 places_three : (xs ys zs : List (ℕ × Errand))
-    → places_handed (xs ++ (ys ++ zs)) ≡ places_handed xs ++ (places_handed ys ++ places_handed zs)
+    → errand_places (xs ++ (ys ++ zs)) ≡ errand_places xs ++ (errand_places ys ++ errand_places zs)
 places_three xs ys zs =
-    places_handed-append xs (ys ++ zs) ∙ ap (λ (ns : List ℕ). places_handed xs ++ ns) (places_handed-append ys zs)
+    errand_places-append xs (ys ++ zs)
+    ∙ ap (λ (ns : List ℕ). errand_places xs ++ ns) (errand_places-append ys zs)
 
 fault_later : (asked : List (ℕ × Ask)) (ns : List ℕ) (xs ys zs : List (ℕ × Errand)) (e : OrderFault)
-    → IsFaultAfter asked (ns ++ places_handed xs) ys e → IsFaultAfter asked ns (xs ++ (ys ++ zs)) e
+    → IsFaultAfter asked (ns ++ errand_places xs) ys e → IsFaultAfter asked ns (xs ++ (ys ++ zs)) e
 fault_later asked ns xs ys zs (Unasked place) h = (
   h.0,
   Contains-append_right xs (ys ++ zs) _ (Contains-append_left ys zs _ h.1),
   h.2,
 )
 fault_later asked ns xs ys zs (Repeated place) h =
-    rw (places_three xs ys zs) (repeated_after place ns (places_handed xs) (places_handed ys) (places_handed zs) h)
+    rw (places_three xs ys zs) (repeated_after place ns (errand_places xs) (errand_places ys) (errand_places zs) h)
 fault_later asked ns xs ys zs (Lost place) h = absurd h
 fault_later asked ns xs ys zs OutOfMemory h = absurd h
 
 pub fault_after : (asked : List (ℕ × Ask)) (seen now : List Bool) (xs ys zs : List (ℕ × Errand)) (e : OrderFault)
     → Flags asked seen now xs → HasFaultAfter asked now ys e → HasFaultAfter asked seen (xs ++ (ys ++ zs)) e
 fault_after asked seen now xs ys zs e flags h =
-    λ ns m. fault_later asked ns xs ys zs e (h (ns ++ places_handed xs) (flags.marked ns m))
+    λ ns m. fault_later asked ns xs ys zs e (h (ns ++ errand_places xs) (flags.marked ns m))
 
 -- the same with nothing before, and with nothing behind
 pub fault_first : (asked : List (ℕ × Ask)) (seen : List Bool) (xs ys : List (ℕ × Errand)) (e : OrderFault)
@@ -153,7 +153,7 @@ delivers_of asked n now xs flags all =
     let m = flags.marked [] (marks_none n) in record {
       each = flags.each;
       apart = λ k. rw (m.each k) (bit_small (get_or now k false));
-      once = λ k there. flagged_once asked now (places_handed xs) k m (all k there);
+      once = λ k there. flagged_once asked now (errand_places xs) k m (all k there);
     }
 
 pub lost_of : (asked : List (ℕ × Ask)) (n : ℕ) (now : List Bool) (xs : List (ℕ × Errand)) (place : ℕ)

@@ -1,7 +1,6 @@
 -- Orders of a run: what it means that each thing asked was handed on once, and what is wrong with them.
-use Rattle.std.specs.Prelude.{ℕ, ◌≡◌, ◌≢◌, ◌+◌, ◌<◌, ◌≤◌, ◌==◌, List, [], ◌∷◌, ◌++◌, map, Bool, true, false}
-use Rattle.std.specs.Prelude.{if◌then◌else◌}
-use Rattle.std.specs.Prelude.{Option, Some, None, option_map, slice_get, slice_index_or, count_by}
+use Rattle.std.specs.Prelude.{ℕ, ◌≡◌, ◌≢◌, ◌+◌, ◌<◌, ◌≤◌, ◌==◌, List, ◌++◌, map, Bool, true, false, if◌then◌else◌}
+use Rattle.std.specs.Prelude.{Option, Some, None, slice_get, slice_index_or, count_by}
 use Rattle.std.specs.Option.{IsSome}
 use Rattle.std.specs.List.{All, Contains}
 use Rattle.run_events.specs.declared.ask.Ask.{Ask}
@@ -74,8 +73,8 @@ abbrev pub halted : List Halt → List (ℕ × Errand)
 halted hs = map (λ (h : Halt). (h.place, errands.Stop)) hs
 
 -- the places of what was handed on
-abbrev pub places_handed : List (ℕ × Errand) → List ℕ
-places_handed xs = map (λ (x : ℕ × Errand). x.0) xs
+abbrev pub errand_places : List (ℕ × Errand) → List ℕ
+errand_places xs = map (λ (x : ℕ × Errand). x.0) xs
 
 -- what was handed on was asked at its place
 abbrev pub WasAsked : List (ℕ × Ask) → ℕ × Errand → Type 0
@@ -84,8 +83,8 @@ WasAsked asked x = errand_at asked x.0 ≡ Some x.1
 -- each signal and each stop that was asked was handed on exactly once, and nothing else was
 pub record Delivers (asked : List (ℕ × Ask)) (xs : List (ℕ × Errand)) : Type 0 where
   pub each : All (WasAsked asked) xs
-  pub apart : (k : ℕ) → times k (places_handed xs) ≤ 1
-  pub once : (k : ℕ) → IsSome (errand_at asked k) → times k (places_handed xs) ≡ 1
+  pub apart : (k : ℕ) → times k (errand_places xs) ≤ 1
+  pub once : (k : ℕ) → IsSome (errand_at asked k) → times k (errand_places xs) ≡ 1
 
 -- something was handed on under a place at which it wasn't asked
 abbrev pub IsUnasked : List (ℕ × Ask) → List (ℕ × Errand) → ℕ → Type 0
@@ -94,14 +93,14 @@ IsUnasked asked xs place = (e : Errand) × Contains xs (place, e) × (errand_at 
 -- what is wrong with what was handed on
 abbrev pub IsOrderFault : List (ℕ × Ask) → List (ℕ × Errand) → OrderFault → Type 0
 IsOrderFault asked xs (Unasked place) = IsUnasked asked xs place
-IsOrderFault asked xs (Repeated place) = 2 ≤ times place (places_handed xs)
-IsOrderFault asked xs (Lost place) = IsSome (errand_at asked place) × (times place (places_handed xs) ≡ 0)
+IsOrderFault asked xs (Repeated place) = 2 ≤ times place (errand_places xs)
+IsOrderFault asked xs (Lost place) = IsSome (errand_at asked place) × (times place (errand_places xs) ≡ 0)
 IsOrderFault asked xs OutOfMemory = Unit {0}
 
 -- the same so far, where these places were looked at before
 abbrev pub IsFaultAfter : List (ℕ × Ask) → List ℕ → List (ℕ × Errand) → OrderFault → Type 0
 IsFaultAfter asked before xs (Unasked place) = IsUnasked asked xs place
-IsFaultAfter asked before xs (Repeated place) = 2 ≤ times place (before ++ places_handed xs)
+IsFaultAfter asked before xs (Repeated place) = 2 ≤ times place (before ++ errand_places xs)
 IsFaultAfter asked before xs (Lost place) = ⊥
 IsFaultAfter asked before xs OutOfMemory = ⊥
 
@@ -112,7 +111,7 @@ HasFaultAfter asked seen xs e = (ns : List ℕ) → Marks seen ns → IsFaultAft
 -- all of this was asked, and its places were flagged
 pub record Flags (asked : List (ℕ × Ask)) (seen now : List Bool) (xs : List (ℕ × Errand)) : Type 0 where
   pub each : All (WasAsked asked) xs
-  pub marked : (ns : List ℕ) → Marks seen ns → Marks now (ns ++ places_handed xs)
+  pub marked : (ns : List ℕ) → Marks seen ns → Marks now (ns ++ errand_places xs)
 
 -- no flag stands at a place at which something was asked
 abbrev pub IsUnflagged : List (ℕ × Ask) → List Bool → ℕ → Type 0

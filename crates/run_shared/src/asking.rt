@@ -3,12 +3,19 @@ ghost use Rattle.std.specs.Prelude.{◌≡◌, ◌+◌, ◌≤◌, IfSome};
 
 use crate::orders::{Halt, Order, next_halt, next_order};
 use crate::shared::SharedRun;
-use run_events::Reporter;
+use run_events::{Reporter, Settings};
 use run_model::Phase;
 use std::sync::Wait;
 use std::sync::ledger::Ledger;
 
 impl<L: Ledger, R: Reporter> SharedRun<L, R> {
+    /// The settings that it was given.
+    pub fn settings(&self) -> &Settings
+        ensures { result.now ≡ self.now }
+    {
+        self.settings.get()
+    }
+
     /// How many things were asked: who looks from there on is handed what is asked later.
     pub fn asked_count(&self, rt: &impl Wait) -> u64 {
         self.lock.lock(rt).asks().len() as u64

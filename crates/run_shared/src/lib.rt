@@ -21,7 +21,7 @@ pub use closing::{CloseError, CloseKind};
 pub use locked::Locked;
 pub use offered::{Offered, Refusal, RefusalKind};
 pub use order_check::{OrderFault, check_orders};
-pub use orders::{Halt, Order};
+pub use orders::{Errand, Halt, Order};
 pub use receipts::check;
 pub use same::Same;
 pub use shared::{Closed, Receipt, SharedRun, Unclosed};

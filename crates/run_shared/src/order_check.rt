@@ -13,7 +13,7 @@ use run_events::{Ask, AskList, ChildSignal, SignalAsk, TermSignal};
 use std::alloc::Global;
 
 /// What is wrong with orders and halts.
-#[derive(Clone, Copy, Debug, Drop)]
+#[derive(Clone, Copy, Drop)]
 pub enum OrderFault {
     /// One has this place, and the run asked something else there, or nothing.
     Unasked { place: u64 },

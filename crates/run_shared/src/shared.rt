@@ -74,7 +74,7 @@ pub struct SharedRun<L: Ledger, R: Reporter> {
     pub(crate) lock: Mutex<Locked<L, R>>,
     /// Told of each change of the run.
     moved: Condvar,
-    settings: Whole<Settings>,
+    pub(crate) settings: Whole<Settings>,
 }
 
 impl<L: Ledger, R: Reporter> Model for SharedRun<L, R> {

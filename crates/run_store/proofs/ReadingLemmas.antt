@@ -6,6 +6,7 @@ use Rattle.std.specs.Int.{w32, to_be_bytes}
 use Rattle.std.specs.Option.{option_map_or}
 use Rattle.std.proofs.lemmas.Slice.Eq.{bytes_eq-Decides}
 use Rattle.std.proofs.lemmas.Bool.Decides.{nat_tests}
+use Rattle.std.proofs.lemmas.Option.{same_Some}
 use Rattle.run_events.specs.declared.turn.Turn.{Turn}
 use Rattle.run_input.specs.Input.{turn_line_of}
 use Rattle.run_output.specs.Turns.{turn_text}
@@ -106,13 +107,9 @@ stop_at-turn n t more h few =
 no_stop : {A : Type 0} (o : Option Stop) (a : Stop) → o ≡ None → o ≡ Some a → A
 no_stop o a none e = cc (sym none ∙ e)
 
--- there is one turn in a `Some`
-some_turn : (t u : Turn) → Some t ≡ Some u → t ≡ u
-some_turn t u e = cc e
-
 -- stored turns with the same line are the same
 same_turn : (t u : Turn) → IsStoredTurn t → IsStoredTurn u → turn_text t ≡ turn_text u → t ≡ u
-same_turn t u h k e = some_turn t u (sym h.0 ∙ ap turn_line_of e ∙ k.0)
+same_turn t u h k e = same_Some t u (sym h.0 ∙ ap turn_line_of e ∙ k.0)
 
 -- the turns before a stop, and the rest after them, are those of the bytes
 pub same_turns : (n : ℕ) (ts us : List Turn) (x y : List ℕ) (a b : Stop) → AreStored ts → AreStored us

@@ -7,6 +7,7 @@ use Rattle.std.specs.Option.{option_map_or}
 use Rattle.std.proofs.lemmas.Bool.Decides.{nat_tests}
 use Rattle.std.proofs.lemmas.Nat.{from_be_bytes-to_be_bytes_4, be_bytes_4}
 use Rattle.hex.specs.Hex.{IsBytes}
+use Rattle.std.proofs.lemmas.Option.{same_Some}
 use Rattle.run_store.specs.Records.{most_bytes, framed, first_bytes, length_in, payload_in, Awaited, is_bad_length}
 use Rattle.run_store.specs.Records.{is_bad_of, is_bad}
 
@@ -42,16 +43,12 @@ payload_in-framed kind payload rest small =
     ap (λ (n : ℕ). first_bytes n (payload ++ rest)) (from_be_bytes-to_be_bytes_4 (length payload) small)
     ∙ first_whole payload rest
 
--- there is one list in a `Some`
-some_same : (p q : List ℕ) → Some p ≡ Some q → p ≡ q
-some_same p q e = cc e
-
 -- records that begin the same bytes have one payload, and the same follows them
 pub one_record : (kind other : ℕ) (p q x y : List ℕ) → length p < 2 ^ 32 → length q < 2 ^ 32
     → framed kind p ++ x ≡ framed other q ++ y → (p ≡ q) × (x ≡ y)
 one_record kind other p q x y small few e =
     let same : p ≡ q =
-    some_same p q (sym (payload_in-framed kind p x small) ∙ ap payload_in e ∙ payload_in-framed other q y few) in
+    same_Some p q (sym (payload_in-framed kind p x small) ∙ ap payload_in e ∙ payload_in-framed other q y few) in
     let rest : p ++ x ≡ q ++ y = ap (drop 5) e in (
       same,
       sym (drops_all p x) ∙ ap (drop (length p)) rest
@@ -179,7 +176,7 @@ good_at true awaited kind w x y z bytes payload fit is e good = cc e
 good_at false awaited kind w x y z bytes payload fit is e good =
     let n : ℕ = from_be_bytes w32 (w ∷ x ∷ y ∷ z ∷ []) in
     let there : n ≤ length bytes = grind (arith, nat_tests, is) in
-    let same : take n bytes ≡ payload = some_same (take n bytes) payload e in
+    let same : take n bytes ≡ payload = same_Some (take n bytes) payload e in
     let said : length payload ≡ n = ap length (sym same) ∙ take_length n bytes there in
     let four : to_be_bytes w32 (length payload) ≡ w ∷ x ∷ y ∷ z ∷ [] =
     be_bytes_4 (w ∷ x ∷ y ∷ z ∷ []) (length payload) refl fit said in

@@ -1,4 +1,9 @@
 mod RecordLemmas
-mod WordLemmas
+mod RecordCauses
 mod TornLemmas
 mod PlayLemmas
+mod PlayCauses
+mod TornCauses
+mod PlayedCauses
+mod RecordedLemmas
+mod WordLemmas

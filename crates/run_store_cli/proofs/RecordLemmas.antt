@@ -6,14 +6,16 @@ use Rattle.run_input.specs.Input.{IsFirstBad}
 use Rattle.run_output.specs.declared.fault.Fault.{Fault}
 use Rattle.run_output.specs.declared.fault.Fault.TheVariants as faults
 use Rattle.run_output.specs.Faults.{fault_status}
-use Rattle.run_store_io.specs.Recorded.{HasRecorded, HasRecordedPart}
+use Rattle.run_store_io.specs.Recorded.{HasRecorded, HasRecordedPart, IsRecordError}
 use Rattle.run_store_io.specs.declared.error.StoreError.{StoreError}
 use Rattle.run_store_io.specs.declared.error.StoreError.TheVariants as errors
+use Rattle.run_store_io.specs.declared.recording.RecordError.TheVariants.{Store}
 use Rattle.run_cli.specs.Call.{Reading, Writing, HasReadFault, HasWriteFault}
 use Rattle.run_cli.specs.Finish.{EndsAtFault}
 use Rattle.run_cli.specs.Given.{IsAllOf, IsWithin, IsTooLong}
 use Rattle.run_store_cli.specs.Ends.{EndsSo}
-use Rattle.run_store_cli.specs.Records.{recorded, bad_line, unwritten, unread, too_much, no_memory, RecordsSo}
+use Rattle.run_store_cli.specs.Records.{recorded, bad_line, unwritten, unread, too_much, unstorable, no_memory}
+use Rattle.run_store_cli.specs.Records.{RecordsSo}
 
 -- a fault that was written, or memory's, ends so
 pub ended_so : (w : Writing) (fault e : Fault) → EndsAtFault w [] fault (Err e) → EndsSo w fault (fault_status e)
@@ -125,13 +127,29 @@ unwritten_end r w bytes all quiet h later rose = record {
   sound = λ e. quiet;
 }
 
--- the store wasn't written whole for another cause
-pub short_end : (r : Reading) (w : Writing) (bytes : List ℕ) → IsAllOf r bytes → r.faults_after ≡ r.faults
-    → (w.taken_after ≡ w.taken) ⊎ ((e : StoreError) × HasRecordedPart bytes w.taken w.taken_after e)
-    → RecordsSo r w 11
-short_end r w bytes all quiet h = record {
+-- no store can have the turns
+pub unstorable_end : (r : Reading) (w : Writing) (bytes : List ℕ) → IsAllOf r bytes → r.faults_after ≡ r.faults
+    → HasRecordedPart bytes w.taken w.taken_after errors.TooLong → w.faults_after ≡ w.faults → RecordsSo r w 12
+unstorable_end r w bytes all quiet h still = record {
+  end = unstorable;
+  status_is = refl;
+  says = (bytes, all, h, still);
+  sound = λ e. quiet;
+}
+
+-- the store wasn't written whole for another cause, which is want of memory
+pub short_end : (r : Reading) (w : Writing) (bytes : List ℕ) (e : StoreError) → IsAllOf r bytes
+    → r.faults_after ≡ r.faults → (e ≡ errors.Write → ⊥) → (e ≡ errors.TooLong → ⊥)
+    → IsRecordError bytes w.taken w.taken_after (Store e) → RecordsSo r w 11
+short_end r w bytes errors.OutOfMemory all quiet some more h = record {
   end = no_memory;
   status_is = refl;
   says = inr (inr (bytes, all, h));
   sound = λ e. quiet;
 }
+short_end r w bytes errors.Write all quiet some more h = absurd (some refl)
+short_end r w bytes errors.TooLong all quiet some more h = absurd (more refl)
+short_end r w bytes errors.Closed all quiet some more h = absurd h.cause
+short_end r w bytes errors.Read all quiet some more h = absurd h.cause
+short_end r w bytes (errors.Bad place) all quiet some more h = absurd h.cause
+short_end r w bytes errors.NoPlan all quiet some more h = absurd h.cause

@@ -18,22 +18,19 @@ use Rattle.run_engine.specs.declared.errors.TestRunnerExecuteErrors.TheVariants 
 use Rattle.run_output.specs.Asks.{ask_lines}
 use Rattle.run_output.specs.declared.fault.Fault.{Fault}
 use Rattle.run_output.specs.declared.fault.Fault.TheVariants.{NotEnabled, ThirdSignal, Memory}
+use Rattle.run_output.specs.Faults.{fault_status}
 use Rattle.run_store_io.specs.declared.fault_lines.StoreFault.TheVariants.{Torn}
 use Rattle.run_cli.specs.Call.{Writing, then_writing, HasTaken, HasWriteFault, Writes}
 use Rattle.run_cli.specs.Executed.{IsExecuted}
-use Rattle.run_cli.specs.Finish.{EndsAtFault, IsAnswered, IsReplayEnding}
+use Rattle.run_cli.specs.Finish.{EndsAtFault, IsAnswered}
 use Rattle.run_cli.specs.Plans.{builder_of, fault_of_plan}
 use Rattle.run_cli.specs.Short.{IsShort, fault_of_error}
-use Rattle.run_cli.specs.Text.{whole_form, ending_status}
-use Rattle.run_cli.proofs.EndLemmas.{rose_then, some_is, whole_text, took_parts, error_ends}
+use Rattle.run_cli.specs.Text.{whole_form, fault_only, ending_status}
+use Rattle.run_cli.proofs.EndLemmas.{rose_then, some_is, whole_text, took_parts, error_ends, short_of, short_run}
+use Rattle.run_cli.proofs.EndLemmas.{whole_of, begun_there}
 use Rattle.run_cli.proofs.ShortLemmas.{short_written}
 use Rattle.run_store_cli.specs.Ends.{EndsAtStore, EndsSo, store_fault_only}
-use Rattle.run_store_cli.specs.Torn.{WritesTorn, TornShort, stop_of, stops_play, IsTornEnd, IsTornInput}
-
--- bytes that went out are whole where the sink's count didn't rise
-whole_of : (v : Writing) (text : List ℕ) → Writes v text → ¬ HasWriteFault v → HasTaken v text
-whole_of v text (inl whole) calm = whole.1
-whole_of v text (inr front) calm = absurd (calm front.1)
+use Rattle.run_store_cli.specs.Torn.{WritesTorn, TornShort, stop_of, stops_play, StopsForMemory, IsTornEnd, IsTornInput}
 
 -- where the sink failed neither in the run nor after it, no event was refused
 calm_run : (p : Settings) (turns : List Turn) (w v : Writing) (asks : List (ℕ × Ask))
@@ -69,13 +66,6 @@ torn_writes p turns w v asks answer on from x all le writes =
           (λ rose. calm (subst (λ n. Rose n v.faults_after) stayed rose)));
       parts = took_parts whole_form p turns w v asks answer line on from x writes;
     }
-
--- what went out where the run's lines ended
-begun_there : (v w : Writing) (text : List ℕ) → v.taken ≡ w.taken_after → v.faults ≡ w.faults_after → IsShort text v
-    → IsShort text (record v { taken = w.taken_after; faults = w.faults_after })
-begun_there v w text on from h =
-    subst (λ n. IsShort text (record v { taken = w.taken_after; faults = n })) from
-    (subst (λ t. IsShort text (record v { taken = t })) on h)
 
 -- all turns were taken, and memory was wanting for the rest
 torn_short : (p : Settings) (turns : List Turn) (w v : Writing) (asks : List (ℕ × Ask))
@@ -134,15 +124,71 @@ torn_after p turns w v lines (Err (engine.NotEnabled i)) n status e on from is x
 torn_after p turns w v lines (Err (engine.ThirdSignal i)) n status e on from is x h = cc
 torn_after p turns w v lines (Err engine.OutOfMemory) n status e on from is x h = cc
 
--- the end that a fault makes is that fault, or want of memory
-stop_ends : (p : Settings) (turns : List Turn) (w v : Writing) (lines : List ℕ) (fault : Fault)
-    (ending : Result RunOutcome Fault) (status : ℕ) → stops_play fault ≡ true → status ≡ ending_status ending
-    → IsReplayEnding whole_form p turns w ending → EndsAtFault v lines fault ending → IsTornEnd p turns w status
-stop_ends p turns w v lines fault (Ok o) status stop is h end = absurd end
-stop_ends p turns w v lines fault (Err e) status stop is h (inl (same, _)) =
-    inr (inl (e, ap stops_play same, is, h))
-stop_ends p turns w v lines fault (Err e) status stop is h (inr (same, _, _)) =
-    inr (inl (e, ap stops_play same ∙ stop, is, h))
+-- turns that stop at one that isn't enabled: that was said, or memory was wanting for it
+named_stop : (p : Settings) (turns : List Turn) (w v : Writing) (lines : List ℕ)
+    (error : TestRunnerExecuteErrors Failed) (ending : Result RunOutcome Fault) (status : ℕ)
+    → stops_play (fault_of_error error) ≡ true → status ≡ ending_status ending → v.taken ≡ w.taken_after
+    → v.faults ≡ w.faults_after → IsAnswered whole_form p turns w lines (Err error)
+    → (IsShort (lines ++ fault_only (fault_of_error error)) v → StopsForMemory p turns (then_writing w v))
+    → EndsAtFault v lines (fault_of_error error) ending → IsTornEnd p turns (then_writing w v) status
+named_stop p turns w v lines error (Ok o) status stop is on from x short end = absurd end
+named_stop p turns w v lines error (Err e) status stop is on from x short (inl (same, front)) =
+    inr (inl (inr (is ∙ ap fault_status same, short front)))
+named_stop p turns w v lines error (Err e) status stop is on from x short (inr (same, le, writes)) =
+    inr (inl (inl (
+      e,
+      ap stops_play same ∙ stop,
+      is,
+      error_ends whole_form p turns w v lines error (Err e) on from x (inr (same, le, writes)),
+    )))
+
+-- memory was wanting for the lines that say where turns stop
+short_not_enabled : (p : Settings) (turns : List Turn) (w v : Writing) (lines : List ℕ) (place : ℕ)
+    → v.taken ≡ w.taken_after → v.faults ≡ w.faults_after
+    → IsAnswered whole_form p turns w lines (Err (engine.NotEnabled place))
+    → IsShort (lines ++ fault_only (NotEnabled place)) v → StopsForMemory p turns (then_writing w v)
+unfolding short_of
+short_not_enabled p turns w v lines place on from ((asks, is, x), _) h = (
+  short_of whole_form p turns w v asks (Err (engine.NotEnabled place)) (λ e. cc) on from x
+      (subst (λ lines. IsShort (lines ++ fault_only (NotEnabled place)) v) is h),
+  refl,
+)
+
+short_third : (p : Settings) (turns : List Turn) (w v : Writing) (lines : List ℕ) (place : ℕ)
+    → v.taken ≡ w.taken_after → v.faults ≡ w.faults_after
+    → IsAnswered whole_form p turns w lines (Err (engine.ThirdSignal place))
+    → IsShort (lines ++ fault_only (ThirdSignal place)) v → StopsForMemory p turns (then_writing w v)
+unfolding short_of
+short_third p turns w v lines place on from ((asks, is, x), _) h = (
+  short_of whole_form p turns w v asks (Err (engine.ThirdSignal place)) (λ e. cc) on from x
+      (subst (λ lines. IsShort (lines ++ fault_only (ThirdSignal place)) v) is h),
+  refl,
+)
+
+-- memory was wanting while turns were taken
+short_taken : (p : Settings) (turns : List Turn) (w v : Writing) (lines : List ℕ) → v.taken ≡ w.taken_after
+    → v.faults ≡ w.faults_after → IsAnswered whole_form p turns w lines (Err engine.OutOfMemory)
+    → IsShort (lines ++ fault_only Memory) v → StopsForMemory p turns (then_writing w v)
+unfolding short_run
+short_taken p turns w v lines on from (_, out) h =
+    let x = out refl in (
+      short_run whole_form p turns w v x.0 on from x.2
+          (subst (λ lines. IsShort (lines ++ fault_only Memory) v) x.1 h),
+      refl,
+    )
+
+memory_stop : (p : Settings) (turns : List Turn) (w v : Writing) (lines : List ℕ)
+    (ending : Result RunOutcome Fault) (status : ℕ) → status ≡ ending_status ending → v.taken ≡ w.taken_after
+    → v.faults ≡ w.faults_after → IsAnswered whole_form p turns w lines (Err engine.OutOfMemory)
+    → EndsAtFault v lines Memory ending → IsTornEnd p turns (then_writing w v) status
+memory_stop p turns w v lines (Ok o) status is on from x end = absurd end
+memory_stop p turns w v lines (Err e) status is on from x (inl (same, front)) =
+    inr (inl (inr (is ∙ ap fault_status same, short_taken p turns w v lines on from x front)))
+memory_stop p turns w v lines (Err e) status is on from x (inr (same, le, writes)) =
+    inr (inl (inr (
+      is ∙ ap fault_status same,
+      short_taken p turns w v lines on from x (short_written lines v writes),
+    )))
 
 -- after an answer with a fault of its turns
 pub stopped_after : (p : Settings) (turns : List Turn) (w v : Writing) (lines : List ℕ)
@@ -150,27 +196,20 @@ pub stopped_after : (p : Settings) (turns : List Turn) (w v : Writing) (lines : 
     (status : ℕ) → stop_of answer ≡ Some fault → v.taken ≡ w.taken_after → v.faults ≡ w.faults_after
     → IsAnswered whole_form p turns w lines answer → EndsAtFault v lines fault ending
     → status ≡ ending_status ending → IsTornEnd p turns (then_writing w v) status
-stopped_after p turns w v lines answer fault ending status e on from x end is =
-    by_answer answer e x
-  where
-    said : (error : TestRunnerExecuteErrors Failed) → fault_of_error error ≡ fault → stops_play fault ≡ true
-        → IsAnswered whole_form p turns w lines (Err error) → IsTornEnd p turns (then_writing w v) status
-    said error same stop x =
-        stop_ends p turns (then_writing w v) v lines fault ending status stop is
-        (error_ends whole_form p turns w v lines error ending on from x
-        (subst (λ f. EndsAtFault v lines f ending) (sym same) end)) end
-
-    by_answer : (answer : Result RunOutcome (TestRunnerExecuteErrors Failed)) → stop_of answer ≡ Some fault
-        → IsAnswered whole_form p turns w lines answer → IsTornEnd p turns (then_writing w v) status
-    by_answer (Ok o) e x = cc
-    by_answer (Err (engine.Report d)) e x = cc
-    by_answer (Err engine.Unfinished) e x = cc
-    by_answer (Err (engine.NotEnabled i)) e x =
-        let same : NotEnabled i ≡ fault = cc in said (engine.NotEnabled i) same (ap stops_play (sym same)) x
-    by_answer (Err (engine.ThirdSignal i)) e x =
-        let same : ThirdSignal i ≡ fault = cc in said (engine.ThirdSignal i) same (ap stops_play (sym same)) x
-    by_answer (Err engine.OutOfMemory) e x =
-        let same : Memory ≡ fault = cc in said engine.OutOfMemory same (ap stops_play (sym same)) x
+stopped_after p turns w v lines (Ok o) fault ending status e on from x end is = cc
+stopped_after p turns w v lines (Err (engine.Report d)) fault ending status e on from x end is = cc
+stopped_after p turns w v lines (Err engine.Unfinished) fault ending status e on from x end is = cc
+stopped_after p turns w v lines (Err (engine.NotEnabled i)) fault ending status e on from x end is =
+    let same : fault ≡ NotEnabled i = cc in
+    named_stop p turns w v lines (engine.NotEnabled i) ending status refl is on from x
+    (short_not_enabled p turns w v lines i on from x) (subst (λ f. EndsAtFault v lines f ending) same end)
+stopped_after p turns w v lines (Err (engine.ThirdSignal i)) fault ending status e on from x end is =
+    let same : fault ≡ ThirdSignal i = cc in
+    named_stop p turns w v lines (engine.ThirdSignal i) ending status refl is on from x
+    (short_third p turns w v lines i on from x) (subst (λ f. EndsAtFault v lines f ending) same end)
+stopped_after p turns w v lines (Err engine.OutOfMemory) fault ending status e on from x end is =
+    let same : fault ≡ Memory = cc in
+    memory_stop p turns w v lines ending status is on from x (subst (λ f. EndsAtFault v lines f ending) same end)
 
 -- a plan that is refused
 pub refused_torn : (keys : RunnerKeys) (plan : Plan) (turns : List Turn) (w : Writing) (error : TestRunnerBuildError)

@@ -3,3 +3,5 @@ pub mod Records
 pub mod Torn
 pub mod Plays
 pub mod Words
+pub mod Causes
+pub mod Recorded

@@ -3,8 +3,7 @@ use Rattle.std.specs.Prelude.{ℕ, ◌≡◌, ◌⊎◌, ◌≤◌, List, Bool, 
 use Rattle.run_output.specs.declared.fault.Fault.{Fault}
 use Rattle.run_output.specs.declared.fault.Fault.TheVariants.{Line, Read, TooLong, Memory}
 use Rattle.run_store_io.specs.Recorded.{HasRecorded, HasRecordedPart}
-use Rattle.run_store_io.specs.declared.error.StoreError.{StoreError}
-use Rattle.run_store_io.specs.declared.error.StoreError.TheVariants.{Write}
+use Rattle.run_store_io.specs.declared.error.StoreError.TheVariants.{Write, OutOfMemory, TooLong as TooManyBytes}
 use Rattle.run_cli.specs.Call.{Reading, Writing, HasReadFault, HasWriteFault, Writes}
 use Rattle.run_cli.specs.Given.{IsAllOf, IsWithin, IsTooLong, HasBadLine}
 use Rattle.run_cli.specs.Short.{IsShort}
@@ -18,6 +17,7 @@ pub data RecordEnd : Type 0 where
   unwritten : RecordEnd
   unread : RecordEnd
   too_much : RecordEnd
+  unstorable : RecordEnd
   no_memory : RecordEnd
 
 -- the status of each end
@@ -27,6 +27,7 @@ record_status (bad_line number) = 3
 record_status unwritten = 9
 record_status unread = 10
 record_status too_much = 12
+record_status unstorable = 12
 record_status no_memory = 11
 
 -- where memory was wanting: a front part of a fault's line went out, and then of memory's, or that alone; or, of the
@@ -36,7 +37,7 @@ RecordsShort r w =
     ((fault : Fault) × IsShort (fault_only fault) w)
     ⊎ (Writes w (fault_only Memory)
     ⊎ ((bytes : List ℕ) × IsAllOf r bytes × ((w.taken_after ≡ w.taken)
-    ⊎ ((e : StoreError) × HasRecordedPart bytes w.taken w.taken_after e))))
+    ⊎ HasRecordedPart bytes w.taken w.taken_after OutOfMemory)))
 
 -- what each end says of what was read and written
 abbrev pub IsRecordEnd : Reading → Writing → RecordEnd → Type 0
@@ -48,6 +49,9 @@ IsRecordEnd r w unwritten =
     × (w.faults ≤ w.faults_after) × HasWriteFault w
 IsRecordEnd r w unread = IsWithin r × HasReadFault r × Writes w (fault_only Read)
 IsRecordEnd r w too_much = IsTooLong r × Writes w (fault_only TooLong)
+IsRecordEnd r w unstorable =
+    (bytes : List ℕ) × IsAllOf r bytes × HasRecordedPart bytes w.taken w.taken_after TooManyBytes
+    × (w.faults_after ≡ w.faults)
 IsRecordEnd r w no_memory = RecordsShort r w
 
 -- whether the source failed in no end of this kind

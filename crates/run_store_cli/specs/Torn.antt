@@ -1,5 +1,6 @@
 -- How the turns of a torn store end.
-use Rattle.std.specs.Prelude.{ℕ, ◌≡◌, ◌⊎◌, List, ◌++◌, length, Option, Some, None, Bool, true, false, Result, Ok, Err}
+use Rattle.std.specs.Prelude.{ℕ, ◌≡◌, ◌⊎◌, List, ◌++◌, length, Option, Some, None, IsSome, Bool, true, false, Result}
+use Rattle.std.specs.Prelude.{Ok, Err}
 use Rattle.run_capture.specs.declared.source.Failed.{Failed}
 use Rattle.run_events.specs.declared.plan.Plan.{Plan}
 use Rattle.run_events.specs.declared.settings.Settings.{Settings}
@@ -23,7 +24,7 @@ use Rattle.run_cli.specs.Call.{Writing, then_writing, HasTaken, HasWriteFault, W
 use Rattle.run_cli.specs.Executed.{TookEvents, TookParts}
 use Rattle.run_cli.specs.Finish.{IsAnswered, IsReplayed, IsReplayEnding}
 use Rattle.run_cli.specs.Plans.{settings_for, plan_refusal, IsPlanFault}
-use Rattle.run_cli.specs.Short.{IsShort}
+use Rattle.run_cli.specs.Short.{IsShort, RunsShort}
 use Rattle.run_cli.specs.Text.{joined, whole_form, fault_only}
 use Rattle.run_store_cli.specs.Ends.{store_fault_only}
 
@@ -60,18 +61,23 @@ stop_of (Err (engine.NotEnabled place)) = Some (NotEnabled place)
 stop_of (Err (engine.ThirdSignal place)) = Some (ThirdSignal place)
 stop_of (Err engine.OutOfMemory) = Some Memory
 
--- whether a fault stops the turns of a run
+-- whether a fault says where turns stop: at one that isn't enabled
 abbrev pub stops_play : Fault → Bool
 stops_play (NotEnabled place) = true
 stops_play (ThirdSignal place) = true
-stops_play Memory = true
 stops_play _ = false
+
+-- memory was wanting for turns that stop: while they were taken, or for the lines that say where they stop. So what was
+-- left to write ends with no outcome
+abbrev pub StopsForMemory : Settings → List Turn → Writing → Type 0
+StopsForMemory p turns w = (short : RunsShort whole_form p turns w) × IsSome (stop_of short.answer)
 
 -- turns stop as those of a replay do: at one that isn't enabled, or for want of memory
 abbrev pub StopsSo : Settings → List Turn → Writing → ℕ → Type 0
 StopsSo p turns w status =
-    (fault : Fault) × (stops_play fault ≡ true) × (status ≡ fault_status fault)
-    × IsReplayEnding whole_form p turns w (Err fault)
+    ((fault : Fault) × (stops_play fault ≡ true) × (status ≡ fault_status fault)
+    × IsReplayEnding whole_form p turns w (Err fault))
+    ⊎ ((status ≡ 11) × StopsForMemory p turns w)
 
 -- the turns of a torn store end so: all were taken, with status 14 in place of an outcome's and of 8 and 9; or they
 -- stop; or memory was wanting after all

@@ -4,11 +4,13 @@
 #![tactic(auto)]
 
 mod ends;
+mod laws;
 mod played;
 mod recorded;
 mod top;
 mod torn;
 
+pub use laws::records_play_as_replays;
 pub use played::play;
 pub use recorded::record;
 pub use top::run;

@@ -2,6 +2,7 @@
 ghost use Rattle.std.specs.Prelude.{◌≡◌, ◌+◌, ◌<◌, ◌^◌, length, true};
 ghost use Rattle.run_store.specs.Stores.{is_plan_payload};
 ghost use Rattle.run_cli.specs.Call.{Reading, reading_of, writing_of};
+ghost use Rattle.run_store_cli.specs.Causes.{GetsPlayed};
 ghost use Rattle.run_store_cli.specs.Plays.{GivesStore, PlaysInput, PlaysRead, PlaysSo};
 
 use crate::ends::{end_at, end_at_store, status_of};
@@ -41,13 +42,8 @@ fn play_stored<K: Sink>(alloc: Global, stored: Stored, sink: K) -> Ran<K>
     }
 }
 
-/// Reads a store, and writes what `replay` writes of its plan line and turns, with the same status.
-///
-/// Where the store is torn, status 14 is in place of an outcome's and of 8 and 9, and the last line says how many turns
-/// are there. Where the bytes have no plan, only that line is written. Where a record is bad, nothing is run: status
-/// 15, and the line has the number of the record. Statuses 10, 11 and 12 are those of a replay, but for the limit,
-/// which is that of a store.
-pub fn play<S: Source, K: Sink>(alloc: Global, source: &mut S, sink: K) -> Ran<K>
+// Reads a store, and plays it.
+fn play_source<S: Source, K: Sink>(alloc: Global, source: &mut S, sink: K) -> Ran<K>
     ensures { PlaysSo (reading_of S.Source source.old source.new)
         (writing_of K.Sink sink result.sink) result.status }
 {
@@ -61,4 +57,19 @@ pub fn play<S: Source, K: Sink>(alloc: Global, source: &mut S, sink: K) -> Ran<K
         Err(StoreError::TooLong) => end_at(alloc, sink, Fault::TooLong),
         Err(_) => end_at(alloc, sink, Fault::Memory),
     }
+}
+
+/// Reads a store, and writes what `replay` writes of its plan line and turns, with the same status.
+///
+/// Where the store is torn, status 14 is in place of an outcome's and of 8 and 9, and the last line says how many turns
+/// are there. Where the bytes have no plan, only that line is written. Where a record is bad, nothing is run: status
+/// 15, and the line has the number of the record. Statuses 10, 11 and 12 are those of a replay, but for the limit,
+/// which is that of a store.
+pub fn play<S: Source, K: Sink>(alloc: Global, source: &mut S, sink: K) -> Ran<K>
+    ensures says { PlaysSo (reading_of S.Source source.old source.new)
+        (writing_of K.Sink sink result.sink) result.status }
+    ensures causes { GetsPlayed (reading_of S.Source source.old source.new)
+        (writing_of K.Sink sink result.sink) result.status }
+{
+    play_source(alloc, source, sink)
 }

@@ -2,6 +2,7 @@
 ghost use Rattle.std.specs.Prelude.{◌≡◌, ◌≤◌, ◌^◌, length};
 ghost use Rattle.run_cli.specs.Call.{Reading, reading_of, writing_of};
 ghost use Rattle.run_cli.specs.Given.{IsAllOf};
+ghost use Rattle.run_store_cli.specs.Causes.{GetsRecorded};
 ghost use Rattle.run_store_cli.specs.Records.{RecordsSo};
 
 use crate::ends::end_at;
@@ -22,15 +23,13 @@ fn record_bytes<K: Sink>(alloc: Global, bytes: &[u8], sink: K) -> Ran<K>
         Ok(sink) => Ran { status: 0, sink },
         Err((RecordError::Line { line }, sink)) => end_at(alloc, sink, Fault::Line { line }),
         Err((RecordError::Store(StoreError::Write), sink)) => Ran { status: 9, sink },
+        Err((RecordError::Store(StoreError::TooLong), sink)) => Ran { status: 12, sink },
         Err((RecordError::Store(_), sink)) => Ran { status: 11, sink },
     }
 }
 
-/// Reads the input of a replay, and writes its store: status 0. Nothing is run, and the plan isn't looked at.
-///
-/// Statuses 3, 9, 10, 11 and 12 are those of a replay. After 9 and 11 the sink may have taken a front part of the
-/// store, which is read as a torn one.
-pub fn record<S: Source, K: Sink>(alloc: Global, source: &mut S, sink: K) -> Ran<K>
+// Reads the input of a replay, and writes its store.
+fn record_source<S: Source, K: Sink>(alloc: Global, source: &mut S, sink: K) -> Ran<K>
     ensures { RecordsSo (reading_of S.Source source.old source.new)
         (writing_of K.Sink sink result.sink) result.status }
 {
@@ -40,4 +39,17 @@ pub fn record<S: Source, K: Sink>(alloc: Global, source: &mut S, sink: K) -> Ran
         Err(ReadAllError::TooLong) => end_at(alloc, sink, Fault::TooLong),
         Err(ReadAllError::OutOfMemory) => end_at(alloc, sink, Fault::Memory),
     }
+}
+
+/// Reads the input of a replay, and writes its store: status 0. Nothing is run, and the plan isn't looked at.
+///
+/// Statuses 3, 9, 10, 11 and 12 are those of a replay. 12 is also that of turns that no store can have. After 9, 11 and
+/// this 12 the sink may have taken a front part of the store, which is read as a torn one.
+pub fn record<S: Source, K: Sink>(alloc: Global, source: &mut S, sink: K) -> Ran<K>
+    ensures says { RecordsSo (reading_of S.Source source.old source.new)
+        (writing_of K.Sink sink result.sink) result.status }
+    ensures causes { GetsRecorded (reading_of S.Source source.old source.new)
+        (writing_of K.Sink sink result.sink) result.status }
+{
+    record_source(alloc, source, sink)
 }

@@ -2,6 +2,7 @@
 ghost use Rattle.std.specs.Prelude.{◌≡◌, ◌↔◌, ◌∷◌, [], map, IsTrue, string_bytes};
 ghost use Rattle.run_output.specs.declared.fault.Fault.TheVariants.{Words};
 ghost use Rattle.run_cli.specs.Call.{reading_of, writing_of};
+ghost use Rattle.run_store_cli.specs.Causes.{GetsPlayed, GetsRecorded};
 ghost use Rattle.run_store_cli.specs.Ends.{EndsSo};
 ghost use Rattle.run_store_cli.specs.Plays.{PlaysSo};
 ghost use Rattle.run_store_cli.specs.Records.{RecordsSo};
@@ -33,6 +34,12 @@ pub fn run<S: Source, K: Sink>(alloc: Global, words: &[String], source: &mut S, 
         (writing_of K.Sink sink result.sink) result.status }
     ensures play { IsPlayWord (map (λ w. string_bytes w) words.now)
         → PlaysSo (reading_of S.Source source.old source.new)
+        (writing_of K.Sink sink result.sink) result.status }
+    ensures record_causes { IsRecordWord (map (λ w. string_bytes w) words.now)
+        → GetsRecorded (reading_of S.Source source.old source.new)
+        (writing_of K.Sink sink result.sink) result.status }
+    ensures play_causes { IsPlayWord (map (λ w. string_bytes w) words.now)
+        → GetsPlayed (reading_of S.Source source.old source.new)
         (writing_of K.Sink sink result.sink) result.status }
     ensures words { let said = map (λ w. string_bytes w) words.now in
         ¬ IsRecordWord said → ¬ IsPlayWord said

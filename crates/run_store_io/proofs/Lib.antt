@@ -4,5 +4,5 @@ mod StepLemmas
 mod ReadLemmas
 mod WriteLemmas
 mod StoreLemmas
-mod LineLemmas
+pub mod LineLemmas
 mod RecordedLemmas

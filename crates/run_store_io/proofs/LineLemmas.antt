@@ -1,7 +1,6 @@
 -- The first line of an input.
-use Rattle.std.proofs.Common.{◌≡◌, ◌≢◌, ◌∙◌, ℕ, zero, suc, ◌<◌, ◌≤◌, ◌^◌, ◌==◌, ◌&&◌, List, [], ◌∷◌, length, take}
-use Rattle.std.proofs.Common.{get_or}
-use Rattle.std.proofs.Common.{Some, None, Option, Bool, true, false, if◌then◌else◌, not, refl, sym, ap, subst, arith}
+use Rattle.std.proofs.Common.{◌≡◌, ◌∙◌, ℕ, suc, ◌<◌, ◌≤◌, ◌^◌, ◌==◌, ◌&&◌, List, [], ◌∷◌, length}
+use Rattle.std.proofs.Common.{Some, Bool, true, false, if◌then◌else◌, not, refl, sym, ap, subst, arith}
 use Rattle.std.proofs.Common.{is_some, nat_le, ap₂}
 use Rattle.std.specs.List.{list_all}
 use Rattle.std.proofs.lemmas.Bool.Decides.{nat_tests}
@@ -12,36 +11,6 @@ use Rattle.run_input.specs.Lines.{lines_of, at_front}
 use Rattle.run_input.specs.Input.{plan_line_of, IsInput}
 use Rattle.run_store.specs.Records.{most_bytes}
 use Rattle.run_store.specs.Stores.{is_plan_payload}
-
--- lines that begin with this one
-abbrev Begins : List (List ℕ) → List ℕ → Type 0
-Begins lines line = (others : List (List ℕ)) × (lines ≡ line ∷ others)
-
--- a byte other than LF goes to the front of the line after it
-other_front : (b : ℕ) (bytes : List ℕ) → b ≢ 10 → lines_of (b ∷ bytes) ≡ at_front b (lines_of bytes)
-other_front b bytes other = let e : (b == 10) ≡ false = grind (arith, nat_tests) in rw e refl
-
--- a line goes on at the front
-front_begins : (b : ℕ) (lines : List (List ℕ)) (line : List ℕ) → Begins lines line
-    → Begins (at_front b lines) (b ∷ line)
-front_begins b lines line (others, e) = (others, ap (at_front b) e)
-
--- the bytes up to the first LF, or all, are the first line
-pub first_begins : (bytes : List ℕ) (n : ℕ) → 0 < length bytes → n ≤ length bytes
-    → ((k : ℕ) → k < n → get_or bytes k 0 ≢ 10) → (n < length bytes → get_or bytes n 0 ≡ 10)
-    → Begins (lines_of bytes) (take n bytes)
-first_begins [] n some within before found = absurd (omega arith)
-first_begins (b ∷ bytes) zero some within before found =
-    let feed : b ≡ 10 = found (omega arith) in (lines_of bytes, rw feed refl)
-first_begins (b ∷ []) (suc zero) some within before found =
-    let e = other_front b [] (before 0 (omega arith)) in ([], e)
-first_begins (b ∷ []) (suc (suc n)) some within before found = absurd (omega arith)
-first_begins (b ∷ c ∷ bytes) (suc n) some within before found =
-    let rest = first_begins (c ∷ bytes) n (omega arith) (omega arith) (λ k h. before (suc k) (omega arith))
-    (λ h. found (omega arith)) in
-    subst (λ (lines : List (List ℕ)). Begins lines (b ∷ take n (c ∷ bytes)))
-    (sym (other_front b (c ∷ bytes) (before 0 (omega arith))))
-    (front_begins b (lines_of (c ∷ bytes)) (take n (c ∷ bytes)) rest)
 
 -- a line that has no line feed, and at most so many bytes
 abbrev IsShortLine : ℕ → List ℕ → Type 0
@@ -75,7 +44,7 @@ first_short (b ∷ bytes) line rest e =
     short_front b (b == 10) (length bytes) (lines_of bytes) refl (first_short bytes) line rest e
 
 -- the first line of an input says a plan
-plan_first : (lines : List (List ℕ)) (line : List ℕ) (others : List (List ℕ)) (keys : RunnerKeys) (plan : Plan)
+pub plan_first : (lines : List (List ℕ)) (line : List ℕ) (others : List (List ℕ)) (keys : RunnerKeys) (plan : Plan)
     (turns : List Turn) → lines ≡ line ∷ others → IsInput lines keys plan turns
     → plan_line_of line ≡ Some (keys, plan)
 plan_first [] line others keys plan turns e h = absurd h

@@ -1,5 +1,6 @@
 -- The store of an input.
 use Rattle.std.proofs.Common.{◌≡◌, ℕ, inr, List, ◌∷◌, Option, Some, sym, subst}
+use Rattle.std.proofs.lemmas.Option.{same_Some}
 use Rattle.run_events.specs.declared.plan.Plan.{Plan}
 use Rattle.run_events.specs.declared.turn.Turn.{Turn}
 use Rattle.run_input.specs.declared.plan_line.RunnerKeys.{RunnerKeys}
@@ -35,13 +36,9 @@ record_error bytes before after (errors.Bad place) h = h
 record_error bytes before after errors.NoPlan h = h
 record_error bytes before after errors.OutOfMemory h = inr h
 
--- there is one list in a `Some`
-same_list : (x y : List ℕ) → Some x ≡ Some y → x ≡ y
-same_list x y e = cc e
-
 -- what was recorded is read so, and in no other way
 pub recorded_read : RecordedStoresAreRead
 recorded_read bytes store h =
-    let is : store ≡ store_text h.line h.turns = same_list store (store_text h.line h.turns) h.took in
+    let is : store ≡ store_text h.line h.turns = same_Some store (store_text h.line h.turns) h.took in
     let text : IsReading store (whole h.line h.turns) = record { storable = h.storable; is = is } in
     (h.line, h.turns, h.said, text, λ r k. one_reading store (whole h.line h.turns) r text k)

@@ -115,12 +115,17 @@ one_more records rest after turns t n h e k = record {
   split = h.split ∙ ap (λ (l : List ℕ). turn_records turns ++ l) k.2 ∙ sym (records_more turns t after);
 }
 
+-- bytes after a record are fewer
+pub framed_shorter : (kind : ℕ) (payload after bytes : List ℕ) → bytes ≡ framed kind payload ++ after
+    → length after < length bytes
+framed_shorter kind payload after bytes split =
+    let long : length bytes ≡ length (framed kind payload ++ after) = ap length split in
+    omega (arith, long, length-append payload after)
+
 -- the rest gets shorter
 pub shorter_after : (n : ℕ) (rest after : List ℕ) (t : Turn)
     → IsStoredTurn t × (n + 1 < 2 ^ 32) × (rest ≡ framed 2 (turn_text t) ++ after) → length after < length rest
-shorter_after n rest after t k =
-    let long : length rest ≡ length (framed 2 (turn_text t) ++ after) = ap length k.2 in
-    omega (arith, long, length-append (turn_text t) after)
+shorter_after n rest after t k = framed_shorter 2 (turn_text t) after rest k.2
 
 -- what stops a reader of records is so of all of them
 pub stopped : (records rest : List ℕ) (turns : List Turn) (e : StoreError) → HasTurns records turns rest

@@ -7,7 +7,6 @@
 mod awaiting;
 mod error;
 mod fault_lines;
-mod first_line;
 mod laws;
 mod payloads;
 mod reader;

@@ -1,14 +1,13 @@
 // Recording an input.
-ghost use Rattle.std.specs.Prelude.{◌≤◌, ◌^◌, length, IfOk, IfErr};
+ghost use Rattle.std.specs.Prelude.{◌≡◌, ◌<◌, ◌≤◌, ◌^◌, ◌∷◌, ℕ, List, length, IfOk, IfErr};
 ghost use Rattle.run_capture.specs.Faults.{RoseExactlyIf};
 ghost use Rattle.run_input.specs.Lines.{lines_of};
 ghost use Rattle.run_input.specs.Input.{IsInput};
 ghost use Rattle.run_store_io.specs.Recorded.{HasRecorded, IsRecordError, is_record_write, recorded_faults};
 
-use crate::first_line::first_line;
 use crate::{StoreError, write_store};
 use run_capture::Sink;
-use run_input::{Input, InputError, read_input};
+use run_input::{Input, InputError, read_input, split_line};
 use std::alloc::Global;
 
 /// Why an input was not recorded.
@@ -18,6 +17,14 @@ pub enum RecordError {
     Line { line: u64 },
     /// The store was not written.
     Store(StoreError),
+}
+
+// The first line of some bytes, without its end.
+fn first_line(bytes: &[u8]) -> &[u8]
+    requires { 0 < length bytes.now }
+    ensures { (others : List (List ℕ)) × (lines_of bytes.now ≡ result.now ∷ others) }
+{
+    split_line(bytes).0
 }
 
 // Writes the store of what an input says.

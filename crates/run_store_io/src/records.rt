@@ -1,4 +1,5 @@
 // The records after a plan line.
+ghost use Rattle.std.specs.Prelude.{◌<◌, length, IfSome};
 ghost use Rattle.run_store_io.specs.Steps.{IsStep, IsTurnStep, IsEndStep, AreRecords};
 
 use crate::StoreError;
@@ -80,11 +81,42 @@ fn next_step(alloc: Global, rest: &[u8], turns: u32) -> Result<Step<'_>, StoreEr
     }
 }
 
+// The bytes after the record at the front, if it is a turn's by its kind and its length.
+fn after_turn(bytes: &[u8]) -> Option<&[u8]>
+    ensures { IfSome result (λ after. length after.now < length bytes.now) }
+{
+    match record_in(bytes, Awaiting::After { turns: 0 }) {
+        Found::Whole {
+            kind: TURN,
+            after,
+            ..
+        } => Some(after),
+        _ => None,
+    }
+}
+
+// How many records of turns come first, by their kinds and lengths. So a list of them is made with its room, and never
+// moved.
+fn count_turns(records: &[u8]) -> usize {
+    let mut rest = records;
+    let mut count = 0usize;
+    'turns: while !rest.is_empty() {
+        match after_turn(rest) {
+            Some(after) => {
+                count = count.saturating_add(1);
+                rest = after;
+            }
+            None => return count,
+        }
+    }
+    count
+}
+
 /// The turns of the records after a plan line, and whether the last record is there.
 pub fn read_records(alloc: Global, records: &[u8]) -> Result<(List<Turn>, bool), StoreError>
     ensures { AreRecords records.now result }
 {
-    let mut turns = List::new();
+    let mut turns = List::with_capacity(alloc, count_turns(records))?;
     let mut rest = records;
     'records: while !rest.is_empty() {
         match next_step(alloc, rest, turns.len() as u32) {

@@ -3,7 +3,7 @@ use Rattle.run_input.proofs.InputLemmas.{ReadSoFar}
 use Rattle.run_input.proofs.input.read_turns.Given as goal
 
 abbrev pub invariant-lines : goal.invariant-lines
-invariant-lines l = ReadSoFar l.bytes l.rest l.turns l.number
+invariant-lines o l = ReadSoFar l.bytes l.rest l.turns l.number
 
 abbrev pub decreases-lines : goal.decreases-lines
-decreases-lines l = length l.rest
+decreases-lines o l = length l.rest

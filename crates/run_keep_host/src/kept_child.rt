@@ -1,0 +1,151 @@
+// A child that is looked at, and not waited for.
+use crate::streams::Streams;
+use crate::target::Target;
+use crate::waiting::pause;
+use run_capture::Mem;
+use run_drive::Said;
+use run_host::{exit_of, unwaited};
+use std::alloc::Global;
+use std::process::{Child, OpenProcess};
+
+/// A child, with its streams.
+pub(crate) struct KeptChild<C: OpenProcess + Drop> {
+    child: Child<C>,
+    streams: Streams,
+    /// Whether it was waited for, or can't be.
+    is_over: bool,
+    /// How many looks in a row found nothing.
+    quiet: u32,
+    /// How many things in a row came of its streams.
+    pieces: u32,
+}
+
+// A call of its own, which keeps the proofs of all that hold one small.
+impl<C: OpenProcess + Drop> Drop for KeptChild<C> {
+    fn drop(self) {
+        let KeptChild {
+            child: _,
+            streams: _,
+            is_over: _,
+            quiet: _,
+            pieces: _,
+        } = self;
+    }
+}
+
+// After so many things of its streams in a row its end is looked for; more than its pipes hold once it has ended.
+const MOST_PIECES: u32 = 32;
+
+impl<C: OpenProcess + Drop> KeptChild<C> {
+    /// A child that was just started.
+    pub fn new(child: Child<C>, streams: Streams) -> Self {
+        KeptChild {
+            child,
+            streams,
+            is_over: false,
+            quiet: 0,
+            pieces: 0,
+        }
+    }
+
+    /// Its process id.
+    pub fn pid(&self) -> u32 {
+        self.child.id()
+    }
+
+    /// Whether it was waited for, or can't be: then nothing is sent to it.
+    pub fn is_over(&self) -> bool {
+        self.is_over
+    }
+
+    /// The child, or its group.
+    pub fn target(&self, group: bool) -> Target {
+        Target {
+            pid: self.pid(),
+            group,
+        }
+    }
+
+    /// Something is about to come: it is looked at more often for a while.
+    pub fn rouse(&mut self) {
+        self.quiet = 0;
+    }
+
+    /// Kills it alone. Answers whether it was sent.
+    pub fn kill(&mut self) -> bool {
+        !self.is_over && self.child.kill().is_ok()
+    }
+
+    // How many milliseconds a look waits: few at first, 10 at most.
+    fn patience(&self) -> u16 {
+        if self.quiet < 10 {
+            1
+        } else if self.quiet < 30 {
+            3
+        } else {
+            10
+        }
+    }
+
+    /// What it does next, if it does something within 10 ms. Its streams are read only with `reads`.
+    pub fn look(&mut self, alloc: Global, reads: bool) -> Mem<Option<Said>> {
+        if self.is_end_due() {
+            if let Some(said) = self.look_for_end(alloc)? {
+                return Ok(Some(said));
+            }
+        }
+        if let Some(said) = self.read(alloc, reads)? {
+            return Ok(Some(said));
+        }
+        self.look_for_end(alloc)
+    }
+
+    // Whether its end is to be looked for first: where its streams have just ended, and among much that it writes.
+    fn is_end_due(&self) -> bool {
+        self.pieces >= MOST_PIECES || (self.quiet == 0 && self.streams.is_over())
+    }
+
+    // What comes of its streams.
+    fn read(&mut self, alloc: Global, reads: bool) -> Mem<Option<Said>> {
+        let most = self.patience();
+        let mut said = None;
+        if reads {
+            said = self.streams.next(alloc, most)?;
+        } else {
+            pause(most);
+        }
+        self.count(said.is_some());
+        Ok(said)
+    }
+
+    // Counts what a look found.
+    fn count(&mut self, came: bool) {
+        if came {
+            self.quiet = 0;
+            self.pieces = self.pieces.saturating_add(1);
+        } else {
+            self.quiet = self.quiet.saturating_add(1);
+            self.pieces = 0;
+        }
+    }
+
+    // How it ended, once it has. That is told once.
+    fn look_for_end(&mut self, alloc: Global) -> Mem<Option<Said>> {
+        self.pieces = 0;
+        if self.is_over {
+            return Ok(None);
+        }
+        match self.child.try_wait() {
+            Ok(None) => Ok(None),
+            Ok(Some(status)) => {
+                self.is_over = true;
+                let exit = exit_of(&status);
+                Ok(Some(Said::Exit { exit }))
+            }
+            Err(error) => {
+                self.is_over = true;
+                Ok(Some(unwaited(alloc, &error)?))
+            }
+        }
+    }
+}

@@ -1,0 +1,94 @@
+//! Worked rows of the program of stores: whole inputs and stores that the top call records and plays from memory into
+//! memory. The folder `data/` has the table of the rows, their inputs, and of each the whole of what is to be written.
+//! One store is also played with each of its front parts and with each of its bytes changed, and of a longer one the
+//! fronts at the ends of its records. Each byte and each status is compared, and a line is printed for each row; where
+//! a row differs, what was written follows.
+#![tactic(auto)]
+
+mod carried;
+mod damaged;
+mod table;
+
+use carried::{Answer, answer_of, input_of, words_of};
+use damaged::{changes, cuts, fronts};
+use std::fs::Files;
+use std::io::Write;
+use std::process::ExitCode;
+use std::{fs, io};
+use table::{Row, row_of};
+
+// Whether a text is what is wanted under a name. Prints that, and a text that isn't.
+fn is_wanted<X: AllocGlobal + Files + Print>(rt: &X, name: &str, text: &[u8]) -> io::Result<bool> {
+    let wanted = fs::read(rt, format!(in rt.alloc(); "{name}.out")?)?;
+    if text == wanted.as_slice() {
+        println!(rt; "{name}: ok")?;
+        return Ok(true);
+    }
+    println!(rt; "{name}: DIFFERS, and this was written:")?;
+    io::writer(rt).write_all(text)?;
+    println!(rt; "")?;
+    Ok(false)
+}
+
+// Whether a row was answered as it is to be.
+fn is_met<X: AllocGlobal + Files + Print>(rt: &X, row: &Row) -> io::Result<bool> {
+    let wanted = fs::read(rt, format!(in rt.alloc(); "{}.out", row.name)?)?;
+    let Answer { status, written } = answer_of(rt, row, wanted.len())?;
+    if status != row.status {
+        println!(rt; "{}: status {status} for {}", row.name, row.status)?;
+    }
+    Ok(is_wanted(rt, row.name, written.as_slice())? && status == row.status)
+}
+
+// Whether a line of the table is met: a row, or one that says nothing.
+fn is_line_met<X: AllocGlobal + Files + Print>(rt: &X, line: &str) -> io::Result<bool> {
+    if line.is_empty() || line.starts_with('#') {
+        return Ok(true);
+    }
+    match row_of(line) {
+        Some(row) => is_met(rt, &row),
+        None => {
+            println!(rt; "no row: {line}")?;
+            Ok(false)
+        }
+    }
+}
+
+// How many lines of the table aren't met.
+fn unmet<X: AllocGlobal + Files + Print>(rt: &X, table: &str) -> io::Result<u64> {
+    let mut count = 0u64;
+    for line in table.lines() {
+        if !is_line_met(rt, line)? {
+            count = count.saturating_add(1);
+        }
+    }
+    Ok(count)
+}
+
+// Whether damaged stores are played as they are to be.
+fn are_damaged_met<X: AllocGlobal + Files + Print>(rt: &X) -> io::Result<bool> {
+    let alloc = rt.alloc();
+    let words = words_of(alloc, "play")?;
+    let store = fs::read(rt, "recorded.out")?;
+    let cut = cuts(alloc, words.as_slice(), store.as_slice())?;
+    let are_cuts = is_wanted(rt, "cuts", cut.as_slice())?;
+    let changed = changes(alloc, words.as_slice(), store.as_slice())?;
+    let are_changes = is_wanted(rt, "changes", changed.as_slice())?;
+    let longer = input_of(rt, "plays_as_replayed")?;
+    let lengths = fs::read_to_string(rt, "fronts.txt")?;
+    let front = fronts(alloc, words.as_slice(), longer.as_slice(), lengths.as_str())?;
+    let are_fronts = is_wanted(rt, "fronts", front.as_slice())?;
+    Ok(are_cuts && are_changes && are_fronts)
+}
+
+fn main(rt: HostRuntime) -> io::Result<ExitCode> {
+    let table = fs::read_to_string(&rt, "rows.txt")?;
+    let count = unmet(&rt, table.as_str())?;
+    let are_met = are_damaged_met(&rt)?;
+    println!(rt; "{count} rows differ")?;
+    Ok(if count == 0 && are_met {
+        ExitCode::SUCCESS
+    } else {
+        ExitCode::FAILURE
+    })
+}

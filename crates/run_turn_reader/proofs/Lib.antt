@@ -1,0 +1,3 @@
+mod ShapeLemmas
+mod HexLemmas
+mod PieceLemmas

@@ -1,0 +1,129 @@
+// The close of a run.
+ghost use Rattle.std.specs.Prelude.{◌≡◌, ◌≢◌, ◌<◌, ℕ, IfOk, IfErr, IfSome, IsSome, IsNone, None, length};
+ghost use Rattle.std.specs.List.{All, sum_by};
+ghost use Rattle.run_model.specs.Words.{times};
+ghost use Rattle.run_shared.specs.Receipts.{concatenated, receipt_numbers, StandsIn};
+ghost use Rattle.run_shared.specs.Closed.{IsLeft, IsLeftUnclosed, Refuses};
+ghost use Rattle.run_live.specs.Left.{HasToldSome};
+
+use run_capture::List;
+use run_events::{AskList, Reporter, RunOutcome};
+use run_live::{is_memory, report_left};
+use run_model::Entry;
+use run_shared::{CloseError, CloseKind, Closed, Receipt, SharedRun, Unclosed};
+use std::alloc::Global;
+use std::sync::ledger::{Ledger, Share};
+
+/// A run that was taken out of its lock: its journal, the receipts, what was asked, the outcome if the run is over, and
+/// the reporter. Where the receipts were refused there is no outcome.
+#[derive(Drop)]
+pub struct Ran<R> {
+    pub journal: List<Entry>,
+    pub receipts: List<List<Receipt>>,
+    pub asks: AskList,
+    pub outcome: Option<RunOutcome>,
+    pub report: R,
+}
+
+// A run that was closed.
+fn ran_closed<R: Reporter>(closed: Closed<R>) -> Ran<R>
+    ensures journal { result.journal ≡ closed.journal }
+    ensures receipts { result.receipts ≡ closed.receipts }
+    ensures asks { result.asks ≡ closed.asks }
+    ensures outcome { result.outcome ≡ closed.outcome }
+    ensures report { result.report ≡ closed.report }
+{
+    let Closed {
+        journal,
+        receipts,
+        asks,
+        outcome,
+        report,
+    } = closed;
+    Ran {
+        journal,
+        receipts,
+        asks,
+        outcome,
+        report,
+    }
+}
+
+// A run whose receipts were refused, and why.
+fn ran_with<R: Reporter>(unclosed: Unclosed<R>) -> (Ran<R>, CloseError)
+    ensures journal { result.0.journal ≡ unclosed.journal }
+    ensures receipts { result.0.receipts ≡ unclosed.receipts }
+    ensures asks { result.0.asks ≡ unclosed.asks }
+    ensures outcome { result.0.outcome ≡ None }
+    ensures report { result.0.report ≡ unclosed.report }
+    ensures error { result.1 ≡ unclosed.error }
+{
+    let Unclosed {
+        error,
+        journal,
+        receipts,
+        asks,
+        report,
+    } = unclosed;
+    let run = Ran {
+        journal,
+        receipts,
+        asks,
+        outcome: None,
+        report,
+    };
+    (run, error)
+}
+
+// The reporter of a run.
+pub(crate) fn report_ran<R: Reporter>(run: Ran<R>) -> R
+    ensures { result ≡ run.report }
+{
+    let Ran {
+        journal,
+        receipts,
+        asks,
+        report,
+        ..
+    } = run;
+    drop(journal);
+    drop(receipts);
+    drop(asks);
+    report
+}
+
+// Closes a run, and looks whether the receipts are those of its journal; the reporter alone where memory was wanting.
+pub(crate) fn close_run<L: Ledger, R: Reporter>(
+    alloc: Global,
+    shared: SharedRun<L, R>,
+    shares: Vec<Share<L>>,
+    receipts: List<List<Receipt>>,
+) -> Result<(Ran<R>, Option<CloseError>), R>
+    requires parts { sum_by (λ (s : Share L). s.parts) shares.items ≡ L.parts }
+    requires amounts { sum_by (λ (s : Share L). s.amount) shares.items ≡ length (concatenated receipts) }
+    ensures back { IfOk result (λ r. r.0.receipts ≡ receipts) }
+    ensures left { IfOk result (λ r. IsNone r.1
+        → IsLeft R.told r.0.report r.0.asks shared r.0.journal r.0.outcome) }
+    ensures once { IfOk result (λ r. IsNone r.1 → (k : ℕ) → k < length r.0.journal
+        → times k (receipt_numbers (concatenated r.0.receipts)) ≡ 1) }
+    ensures stands { IfOk result (λ r. IsNone r.1 → All (StandsIn r.0.journal) (concatenated r.0.receipts)) }
+    ensures refused { IfOk result (λ r. IfSome r.1
+        (λ e. Refuses shared r.0.journal (concatenated r.0.receipts) e.kind)) }
+    ensures kind { IfOk result (λ r. IfSome r.1 (λ e. e.kind ≢ CloseKind.OutOfMemory)) }
+    ensures left_too { IfOk result (λ r. IfSome r.1
+        (λ e. IsLeftUnclosed R.told r.0.report r.0.asks shared r.0.journal e.kind)) }
+    ensures no_outcome { IfOk result (λ r. IsSome r.1 → r.0.outcome ≡ None) }
+    ensures told { IfOk result (λ r. HasToldSome R.told r.0.report) }
+    ensures given_up { IfErr result (HasToldSome R.told) }
+{
+    match shared.close(alloc, shares, receipts) {
+        Ok(closed) => Ok((ran_closed(closed), None)),
+        Err(unclosed) => {
+            if is_memory(&unclosed.error) {
+                return Err(report_left(unclosed));
+            }
+            let (run, error) = ran_with(unclosed);
+            Ok((run, Some(error)))
+        }
+    }
+}

@@ -1,0 +1,3 @@
+mod LeftLemmas
+mod EndLemmas
+mod AnswerLemmas

@@ -1,0 +1,28 @@
+use Rattle.run_cli.specs.Call.{writing_of}
+use Rattle.run_whole_cli.specs.Relations.{relations}
+use Rattle.run_whole_cli.proofs.AnswerLemmas.{accepted_end, fault_end, whole_begun}
+use Rattle.run_whole_cli.proofs.top.run_line.Goals as goal
+
+pub returns-in-Ok-clause-says : goal.returns-in-Ok-clause-says
+returns-in-Ok-clause-says g c =
+    let end = c.run_runner in
+    let k = relations g.H.Worker.Keeper.has_heard g.H.Tick.Ticker.has_told g.O.Outside.has_come
+    g.S.Halter.has_halted in
+    accepted_end k c.args.line.now (writing_of g.K.Sink c.args.sink end.result.sink) end.result.left end.result.ending
+    c.in-Ok.runner c.in-Ok.ensures.ok end.ensures
+
+pub returns-in-Ok-clause-unused : goal.returns-in-Ok-clause-unused
+returns-in-Ok-clause-unused g c = λ unbegun.
+    let end = c.run_runner in
+    let k = relations g.H.Worker.Keeper.has_heard g.H.Tick.Ticker.has_told g.O.Outside.has_come
+    g.S.Halter.has_halted in
+    absurd (whole_begun k c.in-Ok.runner (writing_of g.K.Sink c.args.sink end.result.sink) end.result.left
+    end.result.ending end.ensures unbegun)
+
+pub returns-in-Err-clause-says : goal.returns-in-Err-clause-says
+returns-in-Err-clause-says g c =
+    let end = c.end_without_run in
+    let k = relations g.H.Worker.Keeper.has_heard g.H.Tick.Ticker.has_told g.O.Outside.has_come
+    g.S.Halter.has_halted in
+    fault_end k c.args.line.now (writing_of g.K.Sink c.args.sink end.result.sink) end.result.left c.in-Err.fault
+    end.result.ending c.in-Err.ensures.err end.ensures.ending end.ensures.left

@@ -1,0 +1,20 @@
+use Rattle.std.proofs.Common.{◌∙◌, ap, sym, subst}
+use Rattle.run_cli.specs.Call.{writing_of}
+use Rattle.run_cli.specs.Live.{is_unbegun}
+use Rattle.run_whole_cli.specs.Relations.{relations}
+use Rattle.run_whole_cli.specs.Answers.{AnswersWhole}
+use Rattle.run_whole_cli.proofs.AnswerLemmas.{answers_whole}
+use Rattle.run_whole_cli.proofs.top.run_plan.Goals as goal
+
+pub returns-clause-says : goal.returns-clause-says
+returns-clause-says g c =
+    let end = c.run_line-ending in
+    let k = relations g.H.Worker.Keeper.has_heard g.H.Tick.Ticker.has_told g.O.Outside.has_come
+    g.S.Halter.has_halted in
+    let w = writing_of g.K.Sink c.args.sink end.result.sink in
+    subst (AnswersWhole k c.args.line.now w end.result.left) (sym c.status.ensures)
+    (answers_whole k c.args.line.now w end.result.left end.result.ending end.ensures.says)
+
+pub returns-clause-unused : goal.returns-clause-unused
+returns-clause-unused g c = λ unbegun.
+    c.run_line-ending.ensures.unused (ap is_unbegun (sym c.status.ensures) ∙ unbegun)

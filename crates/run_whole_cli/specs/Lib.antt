@@ -1,0 +1,6 @@
+pub mod OrderText
+pub mod Relations
+pub mod Given
+pub mod Ends
+pub mod Last
+pub mod Answers

@@ -1,0 +1,84 @@
+// The top call: the run of a plan line, with what is left of it.
+ghost use Rattle.std.specs.Prelude.{◌≡◌, [], true};
+ghost use Rattle.run_cli.specs.Call.{writing_of};
+ghost use Rattle.run_cli.specs.Live.{is_unbegun};
+ghost use Rattle.run_whole_cli.specs.Relations.{relations};
+ghost use Rattle.run_whole_cli.specs.Ends.{whole_status};
+ghost use Rattle.run_whole_cli.specs.Answers.{IsWholeEnd, AnswersWhole};
+
+use crate::left::{WholeEnded, WholeRun};
+use crate::lines::end_without_run;
+use crate::plan::runner_in;
+use crate::running::run_runner;
+use run_capture::Sink;
+use run_cli::Ran;
+use run_keep::{Halter, KeeperHost, Outside};
+use run_whole::Around;
+use std::alloc::Global;
+use std::sync::Wait;
+use std::thread::Threads;
+
+// Runs the plan that a line says, and answers how it ended.
+fn run_line<
+    K: Sink + Send,
+    H: KeeperHost,
+    O: Outside + Send + Drop,
+    S: Halter + Send + Drop,
+    X: Threads + Wait + Sync,
+>(
+    rt: &X,
+    alloc: Global,
+    line: &[u8],
+    sink: K,
+    host: &mut H,
+    around: Around<O, S>,
+) -> WholeEnded<K, WholeRun<H::Worker, H::Tick, O, S>>
+    requires quiet { O.has_come around.outside [] }
+    requires runs { S.has_halted around.halter 0 }
+    ensures says { IsWholeEnd (relations H.Worker.has_heard H.Tick.has_told O.has_come S.has_halted) line.now
+        (writing_of K.Sink sink result.sink) result.left result.ending }
+    ensures unused { is_unbegun (whole_status result.ending) ≡ true → host.new ≡ host.old }
+{
+    match runner_in(alloc, line) {
+        Ok(runner) => run_runner(rt, alloc, runner, sink, host, around),
+        Err(fault) => {
+            drop(around);
+            end_without_run(alloc, sink, fault)
+        }
+    }
+}
+
+/// Runs the plan that a line says, which has no line feed, by workers, and delivers the signals that it asks: to the
+/// children, and to the program itself. Lines go to the sink as events are told, then the asks, then the outcome or the
+/// fault. It answers the status and the sink with what is left of the run, but where none was made or memory was
+/// wanting. What each status says and what status each cause gives stands in `AnswersWhole`: where the status is that
+/// of an outcome, each setup script and each test of the plan has its fate, and each signal and each stop that was
+/// asked was handed on exactly once. Want of memory may come at any point, and is status 11.
+pub fn run_plan<
+    K: Sink + Send,
+    H: KeeperHost,
+    O: Outside + Send + Drop,
+    S: Halter + Send + Drop,
+    X: Threads + Wait + Sync,
+>(
+    rt: &X,
+    alloc: Global,
+    line: &[u8],
+    sink: K,
+    host: &mut H,
+    around: Around<O, S>,
+) -> (Ran<K>, Option<WholeRun<H::Worker, H::Tick, O, S>>)
+    requires quiet { O.has_come around.outside [] }
+    requires runs { S.has_halted around.halter 0 }
+    ensures says { AnswersWhole (relations H.Worker.has_heard H.Tick.has_told O.has_come S.has_halted) line.now
+        (writing_of K.Sink sink result.0.sink) result.1 result.0.status }
+    // The host is asked for nothing before there is a plan that is accepted.
+    ensures unused { is_unbegun result.0.status ≡ true → host.new ≡ host.old }
+{
+    let WholeEnded { ending, sink, left } = run_line(rt, alloc, line, sink, host, around);
+    let ran = Ran {
+        status: ending.status(),
+        sink,
+    };
+    (ran, left)
+}
