@@ -1,12 +1,13 @@
 -- How recording an input ends.
-use Rattle.std.proofs.Common.{◌≡◌, ℕ, ◌≤◌, ◌⊎◌, inl, inr, List, [], Option, refl, sym, ap}
+use Rattle.std.proofs.Common.{◌≡◌, ℕ, ◌≤◌, inl, inr, List, [], Option, refl, sym, ap}
 use Rattle.std.proofs.Common.{subst, Err, true≢false}
 use Rattle.run_input.specs.Lines.{lines_of}
 use Rattle.run_input.specs.Input.{IsFirstBad}
 use Rattle.run_output.specs.declared.fault.Fault.{Fault}
 use Rattle.run_output.specs.declared.fault.Fault.TheVariants as faults
 use Rattle.run_output.specs.Faults.{fault_status}
-use Rattle.run_store_io.specs.Recorded.{HasRecorded, HasRecordedPart, IsRecordError}
+use Rattle.run_capture.specs.Faults.{RoseExactlyIf}
+use Rattle.run_store_io.specs.Recorded.{HasRecorded, HasRecordedPart, IsRecordError, is_record_write_error}
 use Rattle.run_store_io.specs.declared.error.StoreError.{StoreError}
 use Rattle.run_store_io.specs.declared.error.StoreError.TheVariants as errors
 use Rattle.run_store_io.specs.declared.recording.RecordError.TheVariants.{Store}
@@ -15,7 +16,7 @@ use Rattle.run_cli.specs.Finish.{EndsAtFault}
 use Rattle.run_cli.specs.Given.{IsAllOf, IsWithin, IsTooLong}
 use Rattle.run_store_cli.specs.Ends.{EndsSo}
 use Rattle.run_store_cli.specs.Records.{recorded, bad_line, unwritten, unread, too_much, unstorable, no_memory}
-use Rattle.run_store_cli.specs.Records.{RecordsSo}
+use Rattle.run_store_cli.specs.Records.{RecordsSo, store_error_status}
 
 -- a fault that was written, or memory's, ends so
 pub ended_so : (w : Writing) (fault e : Fault) → EndsAtFault w [] fault (Err e) → EndsSo w fault (fault_status e)
@@ -137,19 +138,19 @@ unstorable_end r w bytes all quiet h still = record {
   sound = λ e. quiet;
 }
 
--- the store wasn't written whole for another cause, which is want of memory
-pub short_end : (r : Reading) (w : Writing) (bytes : List ℕ) (e : StoreError) → IsAllOf r bytes
-    → r.faults_after ≡ r.faults → (e ≡ errors.Write → ⊥) → (e ≡ errors.TooLong → ⊥)
-    → IsRecordError bytes w.taken w.taken_after (Store e) → RecordsSo r w 11
-short_end r w bytes errors.OutOfMemory all quiet some more h = record {
+-- the store wasn't written whole
+pub store_end : (r : Reading) (w : Writing) (bytes : List ℕ) (e : StoreError) → IsAllOf r bytes
+    → r.faults_after ≡ r.faults → IsRecordError bytes w.taken w.taken_after (Store e)
+    → RoseExactlyIf (is_record_write_error (Store e)) w.faults w.faults_after → RecordsSo r w (store_error_status e)
+store_end r w bytes errors.Write all quiet h rose = unwritten_end r w bytes all quiet h rose.0 rose.1
+store_end r w bytes errors.TooLong all quiet h still = unstorable_end r w bytes all quiet h still
+store_end r w bytes errors.OutOfMemory all quiet h still = record {
   end = no_memory;
   status_is = refl;
   says = inr (inr (bytes, all, h));
   sound = λ e. quiet;
 }
-short_end r w bytes errors.Write all quiet some more h = absurd (some refl)
-short_end r w bytes errors.TooLong all quiet some more h = absurd (more refl)
-short_end r w bytes errors.Closed all quiet some more h = absurd h.cause
-short_end r w bytes errors.Read all quiet some more h = absurd h.cause
-short_end r w bytes (errors.Bad place) all quiet some more h = absurd h.cause
-short_end r w bytes errors.NoPlan all quiet some more h = absurd h.cause
+store_end r w bytes errors.Closed all quiet h still = absurd h.cause
+store_end r w bytes errors.Read all quiet h still = absurd h.cause
+store_end r w bytes (errors.Bad place) all quiet h still = absurd h.cause
+store_end r w bytes errors.NoPlan all quiet h still = absurd h.cause

@@ -3,6 +3,7 @@ use Rattle.std.specs.Prelude.{ℕ, ◌≡◌, ◌⊎◌, ◌≤◌, List, Bool, 
 use Rattle.run_output.specs.declared.fault.Fault.{Fault}
 use Rattle.run_output.specs.declared.fault.Fault.TheVariants.{Line, Read, TooLong, Memory}
 use Rattle.run_store_io.specs.Recorded.{HasRecorded, HasRecordedPart}
+use Rattle.run_store_io.specs.declared.error.StoreError.{StoreError}
 use Rattle.run_store_io.specs.declared.error.StoreError.TheVariants.{Write, OutOfMemory, TooLong as TooManyBytes}
 use Rattle.run_cli.specs.Call.{Reading, Writing, HasReadFault, HasWriteFault, Writes}
 use Rattle.run_cli.specs.Given.{IsAllOf, IsWithin, IsTooLong, HasBadLine}
@@ -29,6 +30,12 @@ record_status unread = 10
 record_status too_much = 12
 record_status unstorable = 12
 record_status no_memory = 11
+
+-- the status of a store that wasn't written whole
+abbrev pub store_error_status : StoreError → ℕ
+store_error_status Write = 9
+store_error_status TooManyBytes = 12
+store_error_status _ = 11
 
 -- where memory was wanting: a front part of a fault's line went out, and then of memory's, or that alone; or, of the
 -- store text of the input, nothing or a front part, and not all

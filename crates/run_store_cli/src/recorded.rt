@@ -3,7 +3,7 @@ ghost use Rattle.std.specs.Prelude.{◌≡◌, ◌≤◌, ◌^◌, length};
 ghost use Rattle.run_cli.specs.Call.{Reading, reading_of, writing_of};
 ghost use Rattle.run_cli.specs.Given.{IsAllOf};
 ghost use Rattle.run_store_cli.specs.Causes.{GetsRecorded};
-ghost use Rattle.run_store_cli.specs.Records.{RecordsSo};
+ghost use Rattle.run_store_cli.specs.Records.{RecordsSo, store_error_status};
 
 use crate::ends::end_at;
 use run_capture::{Sink, Source};
@@ -12,6 +12,17 @@ use run_input::{ReadAllError, read_all};
 use run_output::Fault;
 use run_store_io::{RecordError, StoreError, record_input};
 use std::alloc::Global;
+
+// The status of a store that wasn't written whole.
+fn status_of_error(error: StoreError) -> u8
+    ensures { result ≡ store_error_status error }
+{
+    match error {
+        StoreError::Write => 9,
+        StoreError::TooLong => 12,
+        _ => 11,
+    }
+}
 
 // Writes the store of an input.
 fn record_bytes<K: Sink>(alloc: Global, bytes: &[u8], sink: K) -> Ran<K>
@@ -22,9 +33,10 @@ fn record_bytes<K: Sink>(alloc: Global, bytes: &[u8], sink: K) -> Ran<K>
     match record_input(alloc, bytes, sink) {
         Ok(sink) => Ran { status: 0, sink },
         Err((RecordError::Line { line }, sink)) => end_at(alloc, sink, Fault::Line { line }),
-        Err((RecordError::Store(StoreError::Write), sink)) => Ran { status: 9, sink },
-        Err((RecordError::Store(StoreError::TooLong), sink)) => Ran { status: 12, sink },
-        Err((RecordError::Store(_), sink)) => Ran { status: 11, sink },
+        Err((RecordError::Store(error), sink)) => Ran {
+            status: status_of_error(error),
+            sink,
+        },
     }
 }
 

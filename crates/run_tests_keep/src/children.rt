@@ -50,7 +50,7 @@ const ROWS: [(&str, &str, &str, &str, ChildExit, u32); 8] = [
         2,
     ),
     (
-        "trap 'echo done; exit 3' TERM; echo up; sleep 100 & wait",
+        "sleep 100 & trap 'echo done; exit 3' TERM; echo up; wait",
         "pSTqCe",
         "up\ndone\n",
         "",

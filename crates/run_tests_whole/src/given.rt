@@ -1,4 +1,6 @@
 // Plans and children made by hand.
+ghost use Rattle.std.specs.Prelude.{◌≡◌, ◌+◌, ◌<◌, ◌^◌, length};
+
 use crate::gate::{Count, CountingKeeper};
 use run_capture::{CaptureStrategy, List, Stream, Text};
 use run_commands::EnvInput;
@@ -35,7 +37,9 @@ fn text(rt: &impl Abort, alloc: Global, text: &str) -> Text {
     Text::from_str(alloc, text).expect(rt, MEMORY)
 }
 
-fn one<T: Drop>(rt: &impl Abort, alloc: Global, item: T) -> List<T> {
+fn one<T: Drop>(rt: &impl Abort, alloc: Global, item: T) -> List<T>
+    ensures { length result ≡ 1 }
+{
     let mut list = List::new();
     list.push(alloc, item).expect(rt, MEMORY);
     list
@@ -58,10 +62,17 @@ fn test(rt: &impl Abort, alloc: Global, act: &Act) -> PlanTest {
     test
 }
 
+// A plan of one test.
+fn plan(rt: &impl Abort, alloc: Global, act: &Act) -> Plan
+    ensures { length result.scripts + length result.tests < 2 ^ 32 }
+{
+    let tests = one(rt, alloc, test(rt, alloc, act));
+    Plan::usual(alloc, Uuid::nil(), tests).expect(rt, MEMORY)
+}
+
 /// A runner of one test.
 pub fn runner(rt: &impl Abort, alloc: Global, act: &Act) -> TestRunner {
-    let tests = one(rt, alloc, test(rt, alloc, act));
-    let plan = Plan::usual(alloc, Uuid::nil(), tests).expect(rt, MEMORY);
+    let plan = plan(rt, alloc, act);
     let mut builder = TestRunnerBuilder::default();
     builder.set_capture_strategy(CaptureStrategy::Split);
     builder.build(alloc, plan).expect(rt, MEMORY)
