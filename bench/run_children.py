@@ -244,7 +244,7 @@ def row_third_signal(at, faults):
     time.sleep(0.2)
     run.write('{"turn":"signal","name":"int"}\n' * 3)
     status = run.ends()
-    faults.expect(f"status {status} is one of 7, 11 and 100", status in (7, 11, 100), True)
+    faults.expect(f"status {status} is 7 or 100", status in (7, 100), True)
     faults.expect("left", run.remains(), [])
     run.clean()
 

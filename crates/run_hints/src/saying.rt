@@ -272,6 +272,11 @@ fn said_of(
         ),
         5 => of_plan(alloc, last),
         6 => of_not_enabled(alloc, input.ok_or(AllocError)?, last),
+        7 if starts_children(words) => plain(
+            alloc,
+            "a third shutdown signal came, and the run was given up",
+            "the first asks the tests that run to end, the second kills them, and a third ends the run",
+        ),
         7 => of_turn(
             alloc,
             input.ok_or(AllocError)?,

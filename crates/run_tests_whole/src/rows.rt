@@ -101,7 +101,7 @@ fn holds<X: Abort + Threads + Wait + Sync + Clock + Copy + Send + Drop>(
                 && left.threads.ear.around.halter.halts() == halts
                 && ending(&left) == wanted
         }
-        Err(_) => false,
+        Err(given_up) => wanted == "cut off" && given_up.cut_off.is_some(),
     }
 }
 
@@ -127,8 +127,8 @@ const HANGS: Act = Act {
 
 // What is done, the signals that the keeper is told, how often the program is stopped, and how the run ends: a child
 // ends by itself; its streams stay open; it hangs, and is told TERM and KILL; it ends by TERM; no signal can be sent to
-// it; an interrupt comes, and another; a stop comes, and a continue.
-const ROWS: [(Act, &str, u64, &str); 7] = [
+// it; an interrupt comes, and another; and a third; a stop comes, and a continue.
+const ROWS: [(Act, &str, u64, &str); 8] = [
     (QUIET, "", 0, "success"),
     (
         Act {
@@ -168,6 +168,17 @@ const ROWS: [(Act, &str, u64, &str); 7] = [
         "IK",
         0,
         "cancelled",
+    ),
+    (
+        Act {
+            period: None,
+            signals: 9,
+            outside: "III",
+            ..HANGS
+        },
+        "",
+        0,
+        "cut off",
     ),
     (
         Act {

@@ -5,12 +5,14 @@ ghost use Rattle.run_model.specs.Words.{times};
 ghost use Rattle.run_shared.specs.Receipts.{concatenated, receipt_numbers, StandsIn};
 ghost use Rattle.run_shared.specs.Closed.{IsLeft, IsLeftUnclosed, Refuses};
 ghost use Rattle.run_live.specs.Left.{HasToldSome};
+ghost use Rattle.run_whole.specs.Whole.{IsThird};
 
+use crate::left::{CutOff, GivenUp};
 use run_capture::List;
 use run_events::{AskList, Reporter, RunOutcome};
 use run_live::{is_memory, report_left};
 use run_model::Entry;
-use run_shared::{CloseError, CloseKind, Closed, Receipt, SharedRun, Unclosed};
+use run_shared::{CloseError, CloseKind, Closed, Receipt, Refusal, SharedRun, Unclosed};
 use std::alloc::Global;
 use std::sync::ledger::{Ledger, Share};
 
@@ -124,6 +126,65 @@ pub(crate) fn close_run<L: Ledger, R: Reporter>(
             }
             let (run, error) = ran_with(unclosed);
             Ok((run, Some(error)))
+        }
+    }
+}
+
+// A run that was closed with this outcome and given up, at a third signal if there is such a refusal and it isn't over.
+fn cut_off_closed<R: Reporter>(closed: Closed<R>, third: Option<Refusal>) -> GivenUp<R>
+    requires { IfSome third IsThird }
+    ensures report { result.report ≡ closed.report }
+    ensures same { IfSome result.cut_off (λ c. (c.journal ≡ closed.journal) × (c.asks ≡ closed.asks)
+        × (closed.outcome ≡ None)) }
+    ensures third { IfSome result.cut_off (λ c. IsThird c.refusal) }
+{
+    let Closed {
+        journal,
+        receipts,
+        asks,
+        outcome,
+        report,
+    } = closed;
+    drop(receipts);
+    match (third, outcome) {
+        (Some(refusal), None) => GivenUp {
+            report,
+            cut_off: Some(CutOff {
+                journal,
+                asks,
+                refusal,
+            }),
+        },
+        _ => {
+            drop(journal);
+            drop(asks);
+            GivenUp {
+                report,
+                cut_off: None,
+            }
+        }
+    }
+}
+
+// What is left of a run that was given up, at a third signal if there is such a refusal.
+pub(crate) fn give_back<L: Ledger, R: Reporter>(
+    alloc: Global,
+    shared: SharedRun<L, R>,
+    third: Option<Refusal>,
+) -> GivenUp<R>
+    requires { IfSome third IsThird }
+    ensures told { HasToldSome R.told result.report }
+    ensures left { IfSome result.cut_off (λ c. IsLeft R.told result.report c.asks shared c.journal None) }
+    ensures third { IfSome result.cut_off (λ c. IsThird c.refusal) }
+{
+    match shared.close(alloc, Vec::new(alloc), List::new()) {
+        Ok(closed) => cut_off_closed(closed, third),
+        Err(unclosed) => {
+            drop(third);
+            GivenUp {
+                report: report_left(unclosed),
+                cut_off: None,
+            }
         }
     }
 }

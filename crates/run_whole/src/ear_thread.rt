@@ -1,12 +1,13 @@
 // Who hears the outside and stops the program, on a thread of its own.
-ghost use Rattle.std.specs.Prelude.{◌≡◌, IfErr, IfOk};
+ghost use Rattle.std.specs.Prelude.{◌≡◌, IfErr, IfOk, IfSome};
+ghost use Rattle.run_whole.specs.Whole.{IsThird};
 ghost use Rattle.run_whole.specs.Work.{HasListened, IsEarReady};
 
 use crate::left::Around;
 use run_capture::List;
 use run_events::{Hearing, Reporter};
-use run_keep::{Beats, Halter, Listened, Outside, hear};
-use run_shared::{Halt, SharedRun};
+use run_keep::{Beats, Dropped, Halter, Listened, Outside, hear};
+use run_shared::{Halt, Refusal, RefusalKind, SharedRun};
 use std::alloc::Global;
 use std::sync::Wait;
 use std::sync::ledger::{Ledger, Share};
@@ -136,5 +137,54 @@ pub(crate) fn end_ear<O: Outside + Drop, S: Halter + Drop, L: Ledger>(
     match running {
         Ok(handle) => handle.join(rt),
         Err(ended) => ended,
+    }
+}
+
+// The refusal, if it is that of a third shutdown signal.
+fn if_third(refusal: Refusal) -> Option<Refusal>
+    ensures { IfSome result IsThird }
+{
+    match refusal.kind() {
+        RefusalKind::ThirdSignal => Some(refusal),
+        _ => {
+            drop(refusal);
+            None
+        }
+    }
+}
+
+// The refusal of a third shutdown signal, if that was dropped last: none comes after it, since the run is given up.
+fn last_third(dropped: Vec<Dropped>) -> Option<Refusal>
+    ensures { IfSome result IsThird }
+{
+    let mut dropped = dropped;
+    match dropped.pop() {
+        Some(Dropped::Refused { refusal }) => if_third(refusal),
+        _ => None,
+    }
+}
+
+// The refusal of a third shutdown signal, if the listener gave the run up at one.
+pub(crate) fn third_of<O: Drop, S: Drop, L: Ledger>(
+    alloc: Global,
+    heard: Listening<L, O, S>,
+) -> Option<Refusal>
+    ensures { IfSome result IsThird }
+{
+    let Listening {
+        around,
+        share,
+        work,
+    } = heard;
+    drop(around);
+    drop(share);
+    match work {
+        Some((work, halts)) => {
+            drop(halts);
+            let Listened { receipts, dropped } = work;
+            drop(receipts);
+            last_third(dropped.into_vec(alloc))
+        }
+        None => None,
     }
 }

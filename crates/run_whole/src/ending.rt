@@ -10,7 +10,7 @@ ghost use Rattle.run_whole.specs.Whole.{handed, order_fault, receipts_error};
 
 use crate::closing::{Ran, close_run, report_ran};
 use crate::delivering::judge;
-use crate::left::{Ended, Whole};
+use crate::left::{Ended, GivenUp, Whole};
 use run_capture::List;
 use run_events::Reporter;
 use run_shared::{CloseError, CloseKind, OrderFault, Receipt, SharedRun};
@@ -23,7 +23,7 @@ fn settle<W: Drop, T: Drop, O: Drop, S: Drop, R: Reporter>(
     threads: Ended<W, T, O, S>,
     run: Ran<R>,
     error: Option<CloseError>,
-) -> Result<Whole<W, T, O, S, R>, R>
+) -> Result<Whole<W, T, O, S, R>, GivenUp<R>>
     requires { HasToldSome R.told run.report }
     ensures same { IfOk result
         (λ w. (w.threads ≡ threads) × (w.run ≡ run) × (receipts_error w.error ≡ error)) }
@@ -32,7 +32,8 @@ fn settle<W: Drop, T: Drop, O: Drop, S: Drop, R: Reporter>(
     ensures undelivered { IfOk result (λ w. IfSome (order_fault w.error)
         (IsOrderFault w.run.asks (handed w.threads.workers.orders w.threads.ear.halts))) }
     ensures fault_kind { IfOk result (λ w. IfSome (order_fault w.error) (λ f. f ≢ OrderFault.OutOfMemory)) }
-    ensures given_up { IfErr result (HasToldSome R.told) }
+    ensures given_up { IfErr result (λ g. HasToldSome R.told g.report) }
+    ensures not_cut_off { IfErr result (λ g. g.cut_off ≡ None) }
 {
     let orders = &threads.workers.orders;
     match judge(alloc, &run.asks, orders, &threads.ear.halts, error) {
@@ -43,7 +44,10 @@ fn settle<W: Drop, T: Drop, O: Drop, S: Drop, R: Reporter>(
         }),
         Err(_) => {
             drop(threads);
-            Err(report_ran(run))
+            Err(GivenUp {
+                report: report_ran(run),
+                cut_off: None,
+            })
         }
     }
 }
@@ -56,7 +60,7 @@ pub(crate) fn finish<W: Drop, T: Drop, O: Drop, S: Drop, L: Ledger, R: Reporter>
     threads: Ended<W, T, O, S>,
     shares: Vec<Share<L>>,
     receipts: List<List<Receipt>>,
-) -> Result<Whole<W, T, O, S, R>, R>
+) -> Result<Whole<W, T, O, S, R>, GivenUp<R>>
     requires parts { sum_by (λ (s : Share L). s.parts) shares.items ≡ L.parts }
     requires amounts { sum_by (λ (s : Share L). s.amount) shares.items ≡ length (concatenated receipts) }
     ensures same { IfOk result (λ w. (w.threads ≡ threads) × (w.run.receipts ≡ receipts)) }
@@ -77,13 +81,17 @@ pub(crate) fn finish<W: Drop, T: Drop, O: Drop, S: Drop, L: Ledger, R: Reporter>
     ensures left_too { IfOk result (λ w. IfSome (receipts_error w.error)
         (λ e. IsLeftUnclosed R.told w.run.report w.run.asks shared w.run.journal e.kind)) }
     ensures no_outcome { IfOk result (λ w. IsSome (receipts_error w.error) → w.run.outcome ≡ None) }
-    ensures given_up { IfErr result (HasToldSome R.told) }
+    ensures given_up { IfErr result (λ g. HasToldSome R.told g.report) }
+    ensures not_cut_off { IfErr result (λ g. g.cut_off ≡ None) }
 {
     match close_run(alloc, shared, shares, receipts) {
         Ok((run, error)) => settle(alloc, threads, run, error),
         Err(report) => {
             drop(threads);
-            Err(report)
+            Err(GivenUp {
+                report,
+                cut_off: None,
+            })
         }
     }
 }

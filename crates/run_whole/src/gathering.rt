@@ -1,12 +1,13 @@
 // What all threads leave, put together.
-ghost use Rattle.std.specs.Prelude.{◌≡◌, ◌+◌, ◌<◌, ◌++◌, ◌∷◌, [], ℕ, IfOk, OnOk, IfSome, length, slice_index_or};
+ghost use Rattle.std.specs.Prelude.{◌≡◌, ◌+◌, ◌<◌, ◌++◌, ◌∷◌, [], ℕ, IfOk, IfErr, OnOk, IfSome, length, slice_index_or};
+ghost use Rattle.run_whole.specs.Whole.{IsThird};
 ghost use Rattle.std.specs.List.{All, sum_by};
 ghost use Rattle.run_shared.specs.declared.shared.Receipt.{Receipt};
 ghost use Rattle.std.specs.Prelude.{List};
 ghost use Rattle.run_whole.specs.Own.{HasHeardAll, IsListenerWork, IsKeeperWork, IsTickerWork, HasToldSteps};
 ghost use Rattle.run_whole.specs.Work.{HasListened, HasTimed, HasKept, IsCollected};
 
-use crate::ear_thread::Listening;
+use crate::ear_thread::{Listening, third_of};
 use crate::left::{Ear, Ended, Rounds, Workers};
 use crate::ticker_thread::Timed;
 use crate::together::AllDone;
@@ -276,14 +277,15 @@ fn add_ear<W: Keeper + Drop, O: Outside + Drop, S: Halter + Drop, L: Ledger>(
     Ok(ear)
 }
 
-// Puts what the ticker and the listener leave behind what the workers left.
+// Puts what the ticker and the listener leave behind what the workers left. Where memory was wanting it answers the
+// refusal of a third signal, if that was the cause.
 fn add_beside<W: Keeper + Drop, T: Ticker + Drop, O: Outside + Drop, S: Halter + Drop, L: Ledger>(
     alloc: Global,
     all: &mut Gathered<L, W>,
     timed: Timed<L, T>,
     heard: Listening<L, O, S>,
     hearing: Hearing,
-) -> Mem<(Rounds<T>, Ear<O, S>)>
+) -> Result<(Rounds<T>, Ear<O, S>), Option<Refusal>>
     requires gathered { IsCollected W.has_heard all.old.workers.keepers.items all.old.receipts
         all.old.workers.lost all.old.workers.orders 0
         (sum_by (λ (s : Share L). s.parts) all.old.shares.items)
@@ -299,20 +301,21 @@ fn add_beside<W: Keeper + Drop, T: Ticker + Drop, O: Outside + Drop, S: Halter +
     ensures ear { IfOk result (λ r. IsListenerWork O.has_come hearing r.1.around.outside
         (length all.new.workers.keepers.items + 1) all.new.receipts r.1.dropped) }
     ensures halts { IfOk result (λ r. S.has_halted r.1.around.halter (length r.1.halts)) }
+    ensures third { IfErr result (λ e. IfSome e IsThird) }
     ensures workers { all.new.workers ≡ all.old.workers }
 {
     let Ok(rounds) = add_ticker(alloc, all, timed) else {
-        drop(heard);
-        return Err(OutOfMemory);
+        return Err(third_of(alloc, heard));
     };
     let Ok(ear) = add_ear(alloc, all, heard, hearing) else {
         drop(rounds);
-        return Err(OutOfMemory);
+        return Err(None);
     };
     Ok((rounds, ear))
 }
 
-// What all threads leave: what stands beside the receipts, the shares, and the receipts.
+// What all threads leave: what stands beside the receipts, the shares, and the receipts; or the refusal of a third
+// signal where the run was given up at one.
 pub(crate) fn gather_all<
     W: Keeper + Drop,
     T: Ticker + Drop,
@@ -323,7 +326,7 @@ pub(crate) fn gather_all<
     alloc: Global,
     all: AllDone<L, W, T, O, S>,
     hearing: Hearing,
-) -> Mem<(Ended<W, T, O, S>, Vec<Share<L>>, List<List<Receipt>>)>
+) -> Result<(Ended<W, T, O, S>, Vec<Share<L>>, List<List<Receipt>>), Option<Refusal>>
     requires done { All (HasKept W.has_heard) all.0.0.items }
     requires timed { HasTimed T.has_told all.0.1 }
     requires heard { HasListened O.has_come S.has_halted hearing all.1 }
@@ -336,16 +339,19 @@ pub(crate) fn gather_all<
         (length r.0.workers.keepers.items + 1) r.2 r.0.ear.dropped) }
     ensures halts { IfOk result (λ r. S.has_halted r.0.ear.around.halter (length r.0.ear.halts)) }
     ensures count { IfOk result (λ r. length r.0.workers.keepers.items ≡ length all.0.0.items) }
+    ensures third { IfErr result (λ e. IfSome e IsThird) }
 {
     let ((done, timed), heard) = all;
     let Ok(mut all) = gather(alloc, done) else {
         drop(timed);
-        drop(heard);
-        return Err(OutOfMemory);
+        return Err(third_of(alloc, heard));
     };
-    let Ok((rounds, ear)) = add_beside(alloc, &mut all, timed, heard, hearing) else {
-        drop(all);
-        return Err(OutOfMemory);
+    let (rounds, ear) = match add_beside(alloc, &mut all, timed, heard, hearing) {
+        Ok(beside) => beside,
+        Err(third) => {
+            drop(all);
+            return Err(third);
+        }
     };
     let Gathered {
         workers,

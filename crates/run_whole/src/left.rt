@@ -1,7 +1,9 @@
 // What a run leaves whose asked signals are delivered.
 use crate::Ran;
 use run_capture::List;
+use run_events::AskList;
 use run_keep::Dropped;
+use run_model::Entry;
 use run_shared::{CloseError, Halt, Order, OrderFault, Refusal};
 
 /// What stands around the program: the outside, and who stops the program.
@@ -98,4 +100,20 @@ pub struct Whole<W, T, O, S, R> {
     pub threads: Ended<W, T, O, S>,
     pub run: Ran<R>,
     pub error: Option<WholeError>,
+}
+
+/// A run that was given up at a third shutdown signal, and isn't over: its journal, what it asked, and the refusal of
+/// that signal.
+#[derive(Drop)]
+pub struct CutOff {
+    pub journal: List<Entry>,
+    pub asks: AskList,
+    pub refusal: Refusal,
+}
+
+/// A run that was given up: its reporter, and what is left besides where a third shutdown signal was the cause.
+#[derive(Drop)]
+pub struct GivenUp<R> {
+    pub report: R,
+    pub cut_off: Option<CutOff>,
 }

@@ -20,5 +20,5 @@ mod together;
 mod worker_thread;
 
 pub use closing::Ran;
-pub use left::{Around, Ear, Ended, Rounds, Whole, WholeError, Workers};
+pub use left::{Around, CutOff, Ear, Ended, GivenUp, Rounds, Whole, WholeError, Workers};
 pub use running::whole;

@@ -7,15 +7,15 @@ ghost use Rattle.run_shared.specs.Closed.{IsLeft, IsLeftUnclosed, Refuses};
 ghost use Rattle.run_shared.specs.Orders.{Delivers, IsOrderFault};
 ghost use Rattle.run_live.specs.Left.{HasToldSome};
 ghost use Rattle.run_whole.specs.Own.{IsListenerWork, IsTickerWork, AreAllKept};
-ghost use Rattle.run_whole.specs.Whole.{handed, order_fault, receipts_error};
+ghost use Rattle.run_whole.specs.Whole.{IsThird, handed, order_fault, receipts_error};
 
+use crate::closing::give_back;
 use crate::ending::finish;
-use crate::left::{Around, Whole};
+use crate::left::{Around, GivenUp, Whole};
 use crate::threads::{Heeded, run_shares};
 use run_engine::TestRunner;
 use run_events::Reporter;
 use run_keep::{Halter, KeeperHost, Outside};
-use run_live::report_of;
 use run_shared::{CloseKind, OrderFault, SharedRun};
 use std::alloc::Global;
 use std::marker::Brand;
@@ -38,7 +38,7 @@ fn whole_on<
     host: &mut H,
     shares: Vec<Share<L>>,
     heeded: Heeded<O, S>,
-) -> Result<Whole<H::Worker, H::Tick, O, S, R>, R>
+) -> Result<Whole<H::Worker, H::Tick, O, S, R>, GivenUp<R>>
 where
     R::Error: Send,
     requires each { All (λ (s : Share L). (s.parts ≡ 1) × (s.amount ≡ 0)) shares.items }
@@ -72,11 +72,14 @@ where
         (length w.threads.workers.keepers.items + 1) w.run.receipts w.threads.ear.dropped) }
     ensures halts { IfOk result
         (λ w. S.has_halted w.threads.ear.around.halter (length w.threads.ear.halts)) }
-    ensures given_up { IfErr result (HasToldSome R.told) }
+    ensures given_up { IfErr result (λ g. HasToldSome R.told g.report) }
+    ensures cut_off { IfErr result (λ g. IfSome g.cut_off
+        (λ c. IsLeft R.told g.report c.asks shared c.journal None)) }
+    ensures third { IfErr result (λ g. IfSome g.cut_off (λ c. IsThird c.refusal)) }
 {
     match run_shares(rt, alloc, &shared, host, shares, heeded) {
         Ok((threads, shares, receipts)) => finish(alloc, shared, threads, shares, receipts),
-        Err(_) => Err(report_of(alloc, shared)),
+        Err(third) => Err(give_back(alloc, shared, third)),
     }
 }
 
@@ -97,7 +100,7 @@ fn whole_in<
     around: Around<O, S>,
     report: R,
     blank: Blank,
-) -> Result<Whole<H::Worker, H::Tick, O, S, R>, R>
+) -> Result<Whole<H::Worker, H::Tick, O, S, R>, GivenUp<R>>
 where
     R::Error: Send,
     requires quiet { O.has_come around.outside [] }
@@ -132,7 +135,10 @@ where
         (length w.threads.workers.keepers.items + 1) w.run.receipts w.threads.ear.dropped) }
     ensures halts { IfOk result
         (λ w. S.has_halted w.threads.ear.around.halter (length w.threads.ear.halts)) }
-    ensures given_up { IfErr result (HasToldSome R.told) }
+    ensures given_up { IfErr result (λ g. HasToldSome R.told g.report) }
+    ensures cut_off { IfErr result (λ g. IfSome g.cut_off
+        (λ c. IsLeft R.told g.report c.asks runner c.journal None)) }
+    ensures third { IfErr result (λ g. IfSome g.cut_off (λ c. IsThird c.refusal)) }
 {
     let hearing = runner.settings().plan.hearing;
     let made = SharedRun::<L, R>::new(alloc, runner, report, u64::from(workers) + 2, blank);
@@ -142,15 +148,19 @@ where
         }
         Err((_, report)) => {
             drop(around);
-            Err(report)
+            Err(GivenUp {
+                report,
+                cut_off: None,
+            })
         }
     }
 }
 
 /// Runs a plan, and delivers the signals that it asks: the host makes a keeper for each worker and a ticker, each runs
 /// on a thread of its own, and so does who hears the outside and stops the program. Once all have ended the receipts
-/// are compared with the journal, and what was handed on with what was asked. Without a worker no child starts. Where
-/// memory was wanting the reporter alone comes back, and no thread is left.
+/// are compared with the journal, and what was handed on with what was asked. Without a worker no child starts. A run
+/// that was given up gives its reporter back, and no thread is left: at a third shutdown signal with its journal, what
+/// it asked and that refusal, unless it is over; and else for want of memory.
 pub fn whole<
     H: KeeperHost,
     O: Outside + Send + Drop,
@@ -165,7 +175,7 @@ pub fn whole<
     host: &mut H,
     around: Around<O, S>,
     report: R,
-) -> Result<Whole<H::Worker, H::Tick, O, S, R>, R>
+) -> Result<Whole<H::Worker, H::Tick, O, S, R>, GivenUp<R>>
 where
     R::Error: Send,
     requires quiet { O.has_come around.outside [] }
@@ -197,7 +207,10 @@ where
         (length w.threads.workers.keepers.items + 1) w.run.receipts w.threads.ear.dropped) }
     ensures halts { IfOk result
         (λ w. S.has_halted w.threads.ear.around.halter (length w.threads.ear.halts)) }
-    ensures given_up { IfErr result (HasToldSome R.told) }
+    ensures given_up { IfErr result (λ g. HasToldSome R.told g.report) }
+    ensures cut_off { IfErr result (λ g. IfSome g.cut_off
+        (λ c. IsLeft R.told g.report c.asks runner c.journal None)) }
+    ensures third { IfErr result (λ g. IfSome g.cut_off (λ c. IsThird c.refusal)) }
 {
     let blank = Blank::new(u64::from(workers) + 2);
     whole_in::<H, O, S, Brand, R, X>(rt, alloc, runner, workers, host, around, report, blank)

@@ -1,5 +1,6 @@
 // What the threads of a run do: what each begins with, and what all leave.
-ghost use Rattle.std.specs.Prelude.{◌≡◌, ◌+◌, ◌<◌, [], IfOk, length};
+ghost use Rattle.std.specs.Prelude.{◌≡◌, ◌+◌, ◌<◌, [], IfOk, IfErr, IfSome, length};
+ghost use Rattle.run_whole.specs.Whole.{IsThird};
 ghost use Rattle.std.specs.List.{All, sum_by};
 ghost use Rattle.run_live.specs.Work.{IsOneEmpty, IsSetOut};
 ghost use Rattle.run_whole.specs.Own.{IsListenerWork, IsTickerWork};
@@ -15,14 +16,18 @@ use run_drive::Ticker;
 use run_events::{Hearing, Reporter};
 use run_keep::{Beats, Halter, Keeper, KeeperHost, Outside};
 use run_live::{TickJob, begin, both};
-use run_shared::{Receipt, SharedRun};
+use run_shared::{Receipt, Refusal, SharedRun};
 use std::alloc::Global;
 use std::sync::Wait;
 use std::sync::ledger::{Ledger, Share};
 use std::thread::Threads;
 
-// What all threads leave: what stands beside the receipts, the shares, and the receipts.
-pub(crate) type Outcome<W, T, O, S, L> = (Ended<W, T, O, S>, Vec<Share<L>>, List<List<Receipt>>);
+// What all threads leave: what stands beside the receipts, the shares, and the receipts; or, of a run that was given
+// up, the refusal of a third signal, if that was the cause.
+pub(crate) type Outcome<W, T, O, S, L> = Result<
+    (Ended<W, T, O, S>, Vec<Share<L>>, List<List<Receipt>>),
+    Option<Refusal>,
+>;
 
 // What stands around the program, and what the plan hears of it.
 #[derive(Drop)]
@@ -67,7 +72,7 @@ fn run_jobs<
     shared: &SharedRun<L, R>,
     jobs: Vec<Job<L, W>>,
     beside: Beside<L, T, O, S>,
-) -> Mem<Outcome<W, T, O, S, L>>
+) -> Outcome<W, T, O, S, L>
 where
     R::Error: Send,
     requires jobs { All (IsJobReady W.has_heard) jobs.items }
@@ -82,11 +87,14 @@ where
     ensures ear { IfOk result (λ r. IsListenerWork O.has_come beside.ear.hearing r.0.ear.around.outside
         (length r.0.workers.keepers.items + 1) r.2 r.0.ear.dropped) }
     ensures halts { IfOk result (λ r. S.has_halted r.0.ear.around.halter (length r.0.ear.halts)) }
+    ensures third { IfErr result (λ e. IfSome e IsThird) }
 {
     let hearing = beside.ear.hearing;
     let beats = Beats::new();
-    let all = together(rt, alloc, shared, &beats, jobs, beside)?;
-    gather_all(alloc, all, hearing)
+    match together(rt, alloc, shared, &beats, jobs, beside) {
+        Ok(all) => gather_all(alloc, all, hearing),
+        Err(OutOfMemory) => Err(None),
+    }
 }
 
 // Runs the threads of a run: a worker for each share of the list, the ticker and the listener with theirs. Answers what
@@ -106,7 +114,7 @@ fn run_threads<
     shares: Vec<Share<L>>,
     share: Share<L>,
     ear: EarJob<L, O, S>,
-) -> Mem<Outcome<H::Worker, H::Tick, O, S, L>>
+) -> Outcome<H::Worker, H::Tick, O, S, L>
 where
     R::Error: Send,
     requires each { All (λ (s : Share L). IsOneEmpty s.parts s.amount) shares.items }
@@ -121,10 +129,11 @@ where
     ensures ear { IfOk result (λ r. IsListenerWork O.has_come ear.hearing r.0.ear.around.outside
         (length r.0.workers.keepers.items + 1) r.2 r.0.ear.dropped) }
     ensures halts { IfOk result (λ r. S.has_halted r.0.ear.around.halter (length r.0.ear.halts)) }
+    ensures third { IfErr result (λ e. IfSome e IsThird) }
 {
     let Ok((jobs, clock)) = make_all(rt, alloc, shared, host, shares, share) else {
         drop(ear);
-        return Err(OutOfMemory);
+        return Err(None);
     };
     run_jobs(rt, alloc, shared, jobs, Beside { clock, ear })
 }
@@ -178,7 +187,7 @@ pub(crate) fn run_shares<
     host: &mut H,
     shares: Vec<Share<L>>,
     heeded: Heeded<O, S>,
-) -> Mem<Outcome<H::Worker, H::Tick, O, S, L>>
+) -> Outcome<H::Worker, H::Tick, O, S, L>
 where
     R::Error: Send,
     requires each { All (λ (s : Share L). (s.parts ≡ 1) × (s.amount ≡ 0)) shares.items }
@@ -194,6 +203,7 @@ where
     ensures ear { IfOk result (λ r. IsListenerWork O.has_come heeded.hearing r.0.ear.around.outside
         (length r.0.workers.keepers.items + 1) r.2 r.0.ear.dropped) }
     ensures halts { IfOk result (λ r. S.has_halted r.0.ear.around.halter (length r.0.ear.halts)) }
+    ensures third { IfErr result (λ e. IfSome e IsThird) }
 {
     let (shares, share, last) = last_two(shares);
     let ear = make_ear(heeded, last, host.word());

@@ -1,5 +1,5 @@
 -- What the run of a plan line says, and that each cause gives its status.
-use Rattle.std.proofs.Common.{◌≡◌, ◌<◌, ℕ, inl, inr, List, [], length, Option, Some, None, true}
+use Rattle.std.proofs.Common.{◌≡◌, ◌⊎◌, ◌<◌, ℕ, inl, inr, List, [], length, Option, Some, None, true}
 use Rattle.std.proofs.Common.{Result, Ok, Err, refl, ap, sym, subst, ◌∙◌, arith}
 use Rattle.std.specs.Prelude.{IfOk, IfErr}
 use Rattle.std.proofs.lemmas.Option.{same_Some}
@@ -29,7 +29,7 @@ use Rattle.run_whole_cli.specs.Last.{EndsWithout}
 use Rattle.run_whole_cli.specs.Answers.{IsWholeEnd, AnswersWhole}
 use Rattle.run_whole_cli.specs.declared.left.WholeEnding.{WholeEnding}
 use Rattle.run_whole_cli.specs.declared.left.WholeEnding.TheVariants as ends
-use Rattle.run_whole_cli.specs.declared.left.WholeRun.{WholeRun}
+use Rattle.run_whole_cli.specs.declared.left.WholeLeft.{WholeLeft}
 
 -- why a plan gives no runner
 pub built_for : (keys : RunnerKeys) (plan : Plan) (error : TestRunnerBuildError)
@@ -71,7 +71,7 @@ runner_refused line keys plan (Err fault) said (inr (error, refused, is)) =
 
 -- the end of a plan that is accepted is that of its run
 pub accepted_end : {W T O S : Type 0} (k : Relations W T O S) (line : List ℕ) (w : Writing)
-    (left : Option (WholeRun W T O S)) (ending : WholeEnding) (p : Settings) → GivesRunner line p
+    (left : Option (WholeLeft W T O S)) (ending : WholeEnding) (p : Settings) → GivesRunner line p
     → IsWholeRunEnd k p w left ending → IsWholeEnd k line w left ending
 accepted_end k line w left (ends.Outcome o) p (x, is) h =
     (x, subst (λ p. IsWholeRunEnd k p w left (ends.Outcome o)) is h)
@@ -86,13 +86,14 @@ accepted_end k line w left (ends.Fault Words) p (x, is) h = absurd h
 accepted_end k line w left (ends.Fault (Line n)) p (x, is) h = absurd h
 accepted_end k line w left (ends.Fault (BadPlan f)) p (x, is) h = absurd h
 accepted_end k line w left (ends.Fault (NotEnabled n)) p (x, is) h = absurd h
-accepted_end k line w left (ends.Fault (ThirdSignal n)) p (x, is) h = absurd h
+accepted_end k line w left (ends.Fault (ThirdSignal n)) p (x, is) h =
+    (x, subst (λ p. IsWholeRunEnd k p w left (ends.Fault (ThirdSignal n))) is h)
 accepted_end k line w left (ends.Fault Read) p (x, is) h = absurd h
 accepted_end k line w left (ends.Fault TooLong) p (x, is) h = absurd h
 
 -- a run that was begun has none of the statuses of one that wasn't
 pub whole_begun : {W T O S : Type 0} (k : Relations W T O S) (p : Settings) (w : Writing)
-    (left : Option (WholeRun W T O S)) (ending : WholeEnding) → IsWholeRunEnd k p w left ending
+    (left : Option (WholeLeft W T O S)) (ending : WholeEnding) → IsWholeRunEnd k p w left ending
     → is_unbegun (whole_status ending) ≡ true → ⊥
 whole_begun k p w left (ends.Outcome o) h unbegun = outcome_begun o unbegun
 whole_begun k p w left ends.Receipt h unbegun = cc
@@ -104,13 +105,13 @@ whole_begun k p w left (ends.Fault Words) h unbegun = absurd h
 whole_begun k p w left (ends.Fault (Line n)) h unbegun = absurd h
 whole_begun k p w left (ends.Fault (BadPlan f)) h unbegun = absurd h
 whole_begun k p w left (ends.Fault (NotEnabled n)) h unbegun = absurd h
-whole_begun k p w left (ends.Fault (ThirdSignal n)) h unbegun = absurd h
+whole_begun k p w left (ends.Fault (ThirdSignal n)) h unbegun = cc
 whole_begun k p w left (ends.Fault Read) h unbegun = absurd h
 whole_begun k p w left (ends.Fault TooLong) h unbegun = absurd h
 
 -- where the line gives no run, its fault was written
 pub fault_end : {W T O S : Type 0} (k : Relations W T O S) (line : List ℕ) (w : Writing)
-    (left : Option (WholeRun W T O S)) (fault : Fault) (ending : WholeEnding) → IsUnrunnable line fault
+    (left : Option (WholeLeft W T O S)) (fault : Fault) (ending : WholeEnding) → IsUnrunnable line fault
     → EndsWithout w fault ending → left ≡ None → IsWholeEnd k line w left ending
 fault_end k line w left fault ending why (inl m) none =
     subst (λ e. IsWholeEnd k line w left e) (sym m.0) (none, inl (fault, m.1))
@@ -131,7 +132,7 @@ fault_end k line w left Read ending why (inr e) none = absurd why
 
 -- 12
 whole_too_long : {W T O S : Type 0} (k : Relations W T O S) (line : List ℕ) (w : Writing)
-    (left : Option (WholeRun W T O S)) (ending : WholeEnding) → IsWholeEnd k line w left ending
+    (left : Option (WholeLeft W T O S)) (ending : WholeEnding) → IsWholeEnd k line w left ending
     → input_limit < length line → Gets (whole_status ending) 12
 whole_too_long k line w left (ends.Outcome o) h long = absurd (omega (arith, long, h.0.said.within))
 whole_too_long k line w left ends.Receipt h long = absurd (omega (arith, long, h.0.said.within))
@@ -144,7 +145,7 @@ whole_too_long k line w left (ends.Fault TooLong) h long = inl refl
 whole_too_long k line w left (ends.Fault Memory) h long = inr refl
 whole_too_long k line w left (ends.Fault Words) h long = absurd h
 whole_too_long k line w left (ends.Fault (NotEnabled n)) h long = absurd h
-whole_too_long k line w left (ends.Fault (ThirdSignal n)) h long = absurd h
+whole_too_long k line w left (ends.Fault (ThirdSignal n)) h long = absurd (omega (arith, long, h.0.said.within))
 whole_too_long k line w left (ends.Fault Read) h long = absurd h
 
 -- a line that says a plan is a plan line
@@ -154,7 +155,7 @@ is_plan line keys plan bad said =
 
 -- 3
 whole_bad_line : {W T O S : Type 0} (k : Relations W T O S) (line : List ℕ) (w : Writing)
-    (left : Option (WholeRun W T O S)) (ending : WholeEnding) → IsWholeEnd k line w left ending
+    (left : Option (WholeLeft W T O S)) (ending : WholeEnding) → IsWholeEnd k line w left ending
     → HasNoPlan line → Gets (whole_status ending) 3
 whole_bad_line k line w left (ends.Outcome o) h bad = is_plan line _ _ bad h.0.said
 whole_bad_line k line w left ends.Receipt h bad = is_plan line _ _ bad h.0.said
@@ -167,7 +168,7 @@ whole_bad_line k line w left (ends.Fault TooLong) h bad = absurd (omega (arith, 
 whole_bad_line k line w left (ends.Fault Memory) h bad = inr refl
 whole_bad_line k line w left (ends.Fault Words) h bad = absurd h
 whole_bad_line k line w left (ends.Fault (NotEnabled n)) h bad = absurd h
-whole_bad_line k line w left (ends.Fault (ThirdSignal n)) h bad = absurd h
+whole_bad_line k line w left (ends.Fault (ThirdSignal n)) h bad = is_plan line _ _ bad h.0.said
 whole_bad_line k line w left (ends.Fault Read) h bad = absurd h
 
 -- a line says one plan
@@ -179,7 +180,7 @@ same_refusal line k l p q one other =
 
 -- 5
 whole_refused : {W T O S : Type 0} (k : Relations W T O S) (line : List ℕ) (w : Writing)
-    (left : Option (WholeRun W T O S)) (ending : WholeEnding) → IsWholeEnd k line w left ending
+    (left : Option (WholeLeft W T O S)) (ending : WholeEnding) → IsWholeEnd k line w left ending
     → (keys : RunnerKeys) (plan : Plan) (error : TestRunnerBuildError) → SaysPlan line keys plan
     → plan_refusal keys plan ≡ Some error → Gets (whole_status ending) 5
 whole_refused k line w left (ends.Outcome o) h l q e said refused =
@@ -203,20 +204,22 @@ whole_refused k line w left (ends.Fault TooLong) h l q e said refused = absurd (
 whole_refused k line w left (ends.Fault Memory) h l q e said refused = inr refl
 whole_refused k line w left (ends.Fault Words) h l q e said refused = absurd h
 whole_refused k line w left (ends.Fault (NotEnabled n)) h l q e said refused = absurd h
-whole_refused k line w left (ends.Fault (ThirdSignal n)) h l q e said refused = absurd h
+whole_refused k line w left (ends.Fault (ThirdSignal n)) h l q e said refused =
+    let same = same_refusal line l h.0.keys q h.0.plan said h.0.said in
+    never_refused (plan_refusal l q) e (sym same ∙ h.0.accepted) refused
 whole_refused k line w left (ends.Fault Read) h l q e said refused = absurd h
 
--- an outcome's status, 8, 9, 11 or 13
+-- an outcome's status, 7, 8, 9, 11 or 13
 whole_accepted : {W T O S : Type 0} (k : Relations W T O S) (line : List ℕ) (w : Writing)
-    (left : Option (WholeRun W T O S)) (ending : WholeEnding) → IsWholeEnd k line w left ending
+    (left : Option (WholeLeft W T O S)) (ending : WholeEnding) → IsWholeEnd k line w left ending
     → (keys : RunnerKeys) (plan : Plan) → SaysPlan line keys plan → plan_refusal keys plan ≡ None
-    → IsRunStatus (whole_status ending)
-whole_accepted k line w left (ends.Outcome o) h l q said accepted = inl (outcome_is o)
-whole_accepted k line w left (ends.Fault Unfinished) h l q said accepted = inr (inl refl)
-whole_accepted k line w left (ends.Fault Report) h l q said accepted = inr (inr (inl refl))
-whole_accepted k line w left (ends.Fault Memory) h l q said accepted = inr (inr (inr (inl refl)))
-whole_accepted k line w left ends.Receipt h l q said accepted = inr (inr (inr (inr refl)))
-whole_accepted k line w left ends.Order h l q said accepted = inr (inr (inr (inr refl)))
+    → (whole_status ending ≡ 7) ⊎ IsRunStatus (whole_status ending)
+whole_accepted k line w left (ends.Outcome o) h l q said accepted = inr (inl (outcome_is o))
+whole_accepted k line w left (ends.Fault Unfinished) h l q said accepted = inr (inr (inl refl))
+whole_accepted k line w left (ends.Fault Report) h l q said accepted = inr (inr (inr (inl refl)))
+whole_accepted k line w left (ends.Fault Memory) h l q said accepted = inr (inr (inr (inr (inl refl))))
+whole_accepted k line w left ends.Receipt h l q said accepted = inr (inr (inr (inr (inr refl))))
+whole_accepted k line w left ends.Order h l q said accepted = inr (inr (inr (inr (inr refl))))
 whole_accepted k line w left (ends.Fault (BadPlan f)) h l q said accepted =
     let same = same_refusal line l h.0.keys q h.0.plan said h.0.said in
     never_refused (plan_refusal l q) h.0.error accepted (sym same ∙ h.0.refused)
@@ -224,12 +227,12 @@ whole_accepted k line w left (ends.Fault (Line n)) h l q said accepted = is_plan
 whole_accepted k line w left (ends.Fault TooLong) h l q said accepted = absurd (omega (arith, said.within, h.0))
 whole_accepted k line w left (ends.Fault Words) h l q said accepted = absurd h
 whole_accepted k line w left (ends.Fault (NotEnabled n)) h l q said accepted = absurd h
-whole_accepted k line w left (ends.Fault (ThirdSignal n)) h l q said accepted = absurd h
+whole_accepted k line w left (ends.Fault (ThirdSignal n)) h l q said accepted = inl refl
 whole_accepted k line w left (ends.Fault Read) h l q said accepted = absurd h
 
 -- so each end has its answer
 pub answers_whole : {W T O S : Type 0} (k : Relations W T O S) (line : List ℕ) (w : Writing)
-    (left : Option (WholeRun W T O S)) (ending : WholeEnding) → IsWholeEnd k line w left ending
+    (left : Option (WholeLeft W T O S)) (ending : WholeEnding) → IsWholeEnd k line w left ending
     → AnswersWhole k line w left (whole_status ending)
 answers_whole k line w left ending h = record {
   ending = ending;

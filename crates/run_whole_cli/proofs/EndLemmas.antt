@@ -49,13 +49,14 @@ use Rattle.run_whole_cli.specs.Last.{EndsAtOrder, EndsPlain, EndsUndelivered, En
 use Rattle.run_whole_cli.specs.Last.{end_by, left_by, so_ended}
 use Rattle.run_whole_cli.specs.declared.left.WholeEnding.{WholeEnding}
 use Rattle.run_whole_cli.specs.declared.left.WholeEnding.TheVariants as ends
+use Rattle.run_whole_cli.specs.declared.left.WholeLeft.TheVariants as lefts
 use Rattle.run_whole_cli.specs.declared.left.WholeRun.{WholeRun}
 use Rattle.run_whole_cli.proofs.LeftLemmas.{asks_are, borne_out, delivered, flags_are, left_of, stopped_of, took_all}
 
 -- an end by what the sink took, of a run with nothing wrong
 plain_end : {W T O S : Type 0} (k : Relations W T O S) (p : Settings) (w : Writing) (l : WholeRun W T O S)
     (end : Result RunOutcome Fault) → (HasStopped p l.journal → IsDelivered k p l) → WritesEnd p l.journal w end
-    → IsWholeRunEnd k p w (left_by (end_by end) l) (end_by end)
+    → IsWholeRunEnd k p w (left_by (end_by end) (lefts.Run l)) (end_by end)
 plain_end k p w l (Ok o) d h = ((d (inl (o, h.0.over)), h.0, h.1), h.2)
 plain_end k p w l (Err Report) d h = ((d (inl (h.0.0, h.0.1.over)), h.0), h.1)
 plain_end k p w l (Err Unfinished) d h = (d (inr h.0), h.0, h.1, h.2)
@@ -78,7 +79,7 @@ plain_ends : {W T O S R : Type 0} (k : Relations W T O S)
     → ((ys : List (ReporterEvent × Option Failed)) → tells x.run.report ys → refused ≡ some_refused ys)
     → IsLeftWhole k tells p x → x.error ≡ None
     → EndsPlain v (ask_lines x.run.asks) (length x.run.journal) x.run.outcome refused end
-    → IsWholeRunEnd k p (then_writing w v) (left_by (end_by end) (left_of x)) (end_by end)
+    → IsWholeRunEnd k p (then_writing w v) (left_by (end_by end) (lefts.Run (left_of x))) (end_by end)
 plain_ends k tells p w v n x refused end on from told marked h none wrote =
     plain_end k p (then_writing w v) (left_of x) end (delivered k tells p x h none)
     (by_outcome x.run.outcome refl wrote)
@@ -115,7 +116,7 @@ order_writes p w v journal asks fault on from took asked_is h = record {
 }
 
 -- where memory was wanting for the last lines, a front part of its own line went out
-no_memory : (p : Settings) (w v : Writing) (n m : ℕ) (journal : List Entry) (asks : List (ℕ × Ask))
+pub no_memory : (p : Settings) (w v : Writing) (n m : ℕ) (journal : List Entry) (asks : List (ℕ × Ask))
     → v.taken ≡ w.taken_after → v.faults ≡ w.faults_after → HasWritten p w n journal asks
     → HasTaken v (take m (fault_only Memory)) → LivesShort (then_writing w v)
 no_memory p w v n m journal asks on from x h =
@@ -133,7 +134,7 @@ order_ends : {W T O S R : Type 0} (k : Relations W T O S)
     → IsLeftWhole k tells p x → x.error ≡ Some (Orders fault)
     → IsLeft tells x.run.report x.run.asks p x.run.journal x.run.outcome → HasStopped p x.run.journal
     → EndsAtOrder v (ask_lines x.run.asks) fault ending
-    → IsWholeRunEnd k p (then_writing w v) (left_by ending (left_of x)) ending
+    → IsWholeRunEnd k p (then_writing w v) (left_by ending (lefts.Run (left_of x))) ending
 order_ends k tells p w v n x fault ends.Order on from told h is left stopped wrote =
     let asks = asks_are tells x.run.report x.run.asks p x.run.journal x.run.outcome left stopped in
     let flags = flags_are tells x.run.report x.run.asks p x.run.journal x.run.outcome left stopped in
@@ -183,13 +184,13 @@ given_up_ends : {W T O S R : Type 0} (k : Relations W T O S)
     → HasTold w.taken w.taken_after w.faults w.faults_after n (event_lines ys))
     → IsLeft tells x.run.report x.run.asks p x.run.journal x.run.outcome → ending ≡ end_by end
     → EndsAtFault v (ask_lines x.run.asks) Memory end
-    → IsWholeRunEnd k p (then_writing w v) (left_by ending (left_of x)) ending
+    → IsWholeRunEnd k p (then_writing w v) (left_by ending (lefts.Run (left_of x))) ending
 given_up_ends k tells p w v n x ending end on from told left is wrote =
     let memory : end ≡ Err Memory = at_memory v (ask_lines x.run.asks) end wrote in
     let written = written_from tells p w n x.run.report x.run.journal x.run.asks x.run.outcome told left in
     let short : LivesShort (then_writing w v) = subst (WritesEnd p x.run.journal (then_writing w v)) memory
     (memory_written p w v n x.run.journal x.run.asks end on from written wrote) in
-    subst (λ e. IsWholeRunEnd k p (then_writing w v) (left_by e (left_of x)) e)
+    subst (λ e. IsWholeRunEnd k p (then_writing w v) (left_by e (lefts.Run (left_of x))) e)
     (sym (is ∙ ap end_by memory)) (refl, short)
 
 -- by whether it takes no turn any more
@@ -201,7 +202,7 @@ undelivered_ends : {W T O S R : Type 0} (k : Relations W T O S)
     → HasTold w.taken w.taken_after w.faults w.faults_after n (event_lines ys))
     → IsLeftWhole k tells p x → x.error ≡ Some (Orders fault)
     → EndsUndelivered v (ask_lines x.run.asks) fault (is_stopped (length x.run.journal) x.run.outcome) ending
-    → IsWholeRunEnd k p (then_writing w v) (left_by ending (left_of x)) ending
+    → IsWholeRunEnd k p (then_writing w v) (left_by ending (lefts.Run (left_of x))) ending
 undelivered_ends k tells p w v n x fault ending on from told h is wrote =
     by_stop (is_stopped (length x.run.journal) x.run.outcome) refl wrote
   where
@@ -210,7 +211,7 @@ undelivered_ends k tells p w v n x fault ending on from told h is wrote =
 
     by_stop : (b : Bool) → is_stopped (length x.run.journal) x.run.outcome ≡ b
         → EndsUndelivered v (ask_lines x.run.asks) fault b ending
-        → IsWholeRunEnd k p (then_writing w v) (left_by ending (left_of x)) ending
+        → IsWholeRunEnd k p (then_writing w v) (left_by ending (lefts.Run (left_of x))) ending
     by_stop true stop wrote =
         order_ends k tells p w v n x fault ending on from told h is left
         (stopped_of tells x.run.report x.run.asks p x.run.journal x.run.outcome left stop) wrote
@@ -226,7 +227,7 @@ disowned_ends : {W T O S R : Type 0} (k : Relations W T O S)
     → IsLeftWhole k tells p x → x.error ≡ Some (Receipts error)
     → HasWrittenRefused p w n x.run.journal x.run.asks error.kind
     → EndsAtReceipt v (ask_lines x.run.asks) error.kind end
-    → IsWholeRunEnd k p (then_writing w v) (left_by (so_ended end) (left_of x)) (so_ended end)
+    → IsWholeRunEnd k p (then_writing w v) (left_by (so_ended end) (lefts.Run (left_of x))) (so_ended end)
 disowned_ends k tells p w v n x error lives.Receipt on from told h is written wrote =
     let refuses : Refuses p x.run.journal (concatenated x.run.receipts) error.kind =
     subst (λ e. IfSome (receipts_error e) (λ e. Refuses p x.run.journal (concatenated x.run.receipts) e.kind)) is
@@ -266,14 +267,14 @@ pub whole_ends : {W T O S R : Type 0} (k : Relations W T O S)
     → ((ys : List (ReporterEvent × Option Failed)) → tells x.run.report ys → refused ≡ some_refused ys)
     → IsLeftWhole k tells p x
     → EndsWhole v (ask_lines x.run.asks) x.error (length x.run.journal) x.run.outcome refused ending
-    → IsWholeRunEnd k p (then_writing w v) (left_by ending (left_of x)) ending
+    → IsWholeRunEnd k p (then_writing w v) (left_by ending (lefts.Run (left_of x))) ending
 whole_ends k tells p w v n x refused ending on from told marked h wrote = by_error x.error refl wrote
   where
     by_error : (error : Option WholeError) → x.error ≡ error
         → EndsWhole v (ask_lines x.run.asks) error (length x.run.journal) x.run.outcome refused ending
-        → IsWholeRunEnd k p (then_writing w v) (left_by ending (left_of x)) ending
+        → IsWholeRunEnd k p (then_writing w v) (left_by ending (lefts.Run (left_of x))) ending
     by_error None is wrote =
-        subst (λ e. IsWholeRunEnd k p (then_writing w v) (left_by e (left_of x)) e) (sym wrote.1)
+        subst (λ e. IsWholeRunEnd k p (then_writing w v) (left_by e (lefts.Run (left_of x))) e) (sym wrote.1)
         (plain_ends k tells p w v n x refused wrote.0 on from told marked h is wrote.2)
     by_error (Some (Orders fault)) is wrote =
         undelivered_ends k tells p w v n x fault ending on from told h is wrote
@@ -281,5 +282,5 @@ whole_ends k tells p w v n x refused ending on from told marked h wrote = by_err
         let written = subst (λ e. IfSome (receipts_error e)
         (λ e. HasWrittenRefused p w n x.run.journal x.run.asks e.kind)) is
         (refused_from tells p w n x.run.report x.run.journal x.run.asks (receipts_error x.error) told h.left_too) in
-        subst (λ e. IsWholeRunEnd k p (then_writing w v) (left_by e (left_of x)) e) (sym wrote.1)
+        subst (λ e. IsWholeRunEnd k p (then_writing w v) (left_by e (lefts.Run (left_of x))) e) (sym wrote.1)
         (disowned_ends k tells p w v n x error wrote.0 on from told h is written wrote.2)

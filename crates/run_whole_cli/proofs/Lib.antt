@@ -1,3 +1,4 @@
 mod LeftLemmas
 mod EndLemmas
+mod ThirdLemmas
 mod AnswerLemmas

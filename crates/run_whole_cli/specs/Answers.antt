@@ -17,10 +17,10 @@ use Rattle.run_whole_cli.specs.Given.{SaysPlan, HasPlan, RefusesPlan, HasNoPlan}
 use Rattle.run_whole_cli.specs.Ends.{IsWholeRunEnd, whole_status}
 use Rattle.run_whole_cli.specs.declared.left.WholeEnding.{WholeEnding}
 use Rattle.run_whole_cli.specs.declared.left.WholeEnding.TheVariants as ends
-use Rattle.run_whole_cli.specs.declared.left.WholeRun.{WholeRun}
+use Rattle.run_whole_cli.specs.declared.left.WholeLeft.{WholeLeft}
 
 -- what each end says; where the run wasn't made, or memory was wanting, nothing of it is handed back
-abbrev pub IsWholeEnd : {W T O S : Type 0} → Relations W T O S → List ℕ → Writing → Option (WholeRun W T O S)
+abbrev pub IsWholeEnd : {W T O S : Type 0} → Relations W T O S → List ℕ → Writing → Option (WholeLeft W T O S)
     → WholeEnding → Type 0
 IsWholeEnd k line w left (ends.Fault (Line number)) =
     ((number ≡ 1) × HasNoPlan line) × Writes w (fault_only (Line number)) × (left ≡ None)
@@ -32,7 +32,8 @@ IsWholeEnd k line w left (ends.Fault Memory) =
     (left ≡ None) × (WantsMemoryAlone w ⊎ (HasPlan line × LivesShort w))
 IsWholeEnd k line w left (ends.Fault Words) = ⊥
 IsWholeEnd k line w left (ends.Fault (NotEnabled place)) = ⊥
-IsWholeEnd k line w left (ends.Fault (ThirdSignal place)) = ⊥
+IsWholeEnd k line w left (ends.Fault (ThirdSignal place)) =
+    (x : HasPlan line) × IsWholeRunEnd k (settings_for x.keys x.plan) w left (ends.Fault (ThirdSignal place))
 IsWholeEnd k line w left (ends.Fault Read) = ⊥
 IsWholeEnd k line w left (ends.Fault Unfinished) =
     (x : HasPlan line) × IsWholeRunEnd k (settings_for x.keys x.plan) w left (ends.Fault Unfinished)
@@ -52,11 +53,11 @@ pub record GetsWhole (line : List ℕ) (status : ℕ) : Type 0 where
   pub refused : (keys : RunnerKeys) (plan : Plan) (error : TestRunnerBuildError) → SaysPlan line keys plan
       → plan_refusal keys plan ≡ Some error → Gets status 5
   pub accepted : (keys : RunnerKeys) (plan : Plan) → SaysPlan line keys plan → plan_refusal keys plan ≡ None
-      → IsRunStatus status
+      → (status ≡ 7) ⊎ IsRunStatus status
 
 -- what the run of a plan line says: one of its ends with this status, and what status each cause gives
 pub record AnswersWhole {W T O S : Type 0} (k : Relations W T O S) (line : List ℕ) (w : Writing)
-    (left : Option (WholeRun W T O S)) (status : ℕ) : Type 0 where
+    (left : Option (WholeLeft W T O S)) (status : ℕ) : Type 0 where
   pub ending : WholeEnding
   pub status_is : status ≡ whole_status ending
   pub says : IsWholeEnd k line w left ending

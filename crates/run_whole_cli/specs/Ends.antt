@@ -1,12 +1,17 @@
 -- How the run of a plan ends whose asked signals are delivered: what is left of it, and what it wrote.
-use Rattle.std.specs.Prelude.{ℕ, ◌≡◌, ◌≢◌, ◌⊎◌, ◌+◌, ◌<◌, ◌++◌, List, length, false, Option, Some, None}
+use Rattle.std.specs.Prelude.{ℕ, ◌≡◌, ◌≢◌, ◌⊎◌, ◌+◌, ◌<◌, ◌++◌, List, length, map, Bool, false, Option, Some, None}
 use Rattle.std.specs.Prelude.{IsSomeAnd, Ok, Err}
 use Rattle.std.specs.Option.{IsNone}
 use Rattle.std.specs.List.{All}
 use Rattle.run_events.specs.declared.settings.Settings.{Settings}
 use Rattle.run_events.specs.declared.outcome.RunOutcome.{RunOutcome}
+use Rattle.run_events.specs.declared.ask.Ask.{Ask}
+use Rattle.run_events.specs.declared.events.ReporterEvent.{ReporterEvent}
+use Rattle.run_capture.specs.declared.source.Failed.{Failed}
+use Rattle.run_engine.specs.Heard.{IsFurther}
+use Rattle.run_engine.specs.World.{flagged}
 use Rattle.run_model.specs.declared.entry.Entry.{Entry}
-use Rattle.run_model.specs.Words.{asked, is_over, times}
+use Rattle.run_model.specs.Words.{answers, asked, is_over, times}
 use Rattle.run_model.specs.Journal.{past_of, outcome, IsLegal}
 use Rattle.run_shared.specs.declared.shared.Receipt.{Receipt}
 use Rattle.run_shared.specs.declared.closing.CloseKind.TheVariants.{OutOfMemory as CloseMemory}
@@ -17,13 +22,15 @@ use Rattle.run_shared.specs.Closed.{Refuses}
 use Rattle.run_shared.specs.Orders.{Delivers, IsOrderFault}
 use Rattle.run_shared.specs.Receipts.{concatenated, receipt_numbers, StandsIn}
 use Rattle.run_output.specs.Asks.{ask_lines}
-use Rattle.run_output.specs.Faults.{fault_status}
 use Rattle.run_output.specs.Fields.{line_bytes}
-use Rattle.run_output.specs.declared.fault.Fault.TheVariants.{Unfinished, Report, Memory}
+use Rattle.run_output.specs.Faults.{fault_status, fault_text}
+use Rattle.run_output.specs.Told.{TookLines, AreCounted, event_lines, marks}
+use Rattle.run_output.specs.declared.fault.Fault.TheVariants.{Unfinished, Report, Memory, ThirdSignal}
 use Rattle.run_whole.specs.declared.left.Ended.{Ended}
 use Rattle.run_whole.specs.Own.{IsListenerWork, IsTickerWork, AreAllKept}
-use Rattle.run_whole.specs.Whole.{handed, order_fault, receipts_error}
-use Rattle.run_cli.specs.Call.{Writing, HasTaken, HasWriteFault}
+use Rattle.run_whole.specs.declared.left.CutOff.{CutOff}
+use Rattle.run_whole.specs.Whole.{IsThird, handed, order_fault, receipts_error}
+use Rattle.run_cli.specs.Call.{Writing, HasTaken, HasWriteFault, Writes}
 use Rattle.run_cli.specs.Ending.{IsFinished}
 use Rattle.run_cli.specs.Executed.{TookParts, WritesRun, report_ending}
 use Rattle.run_cli.specs.Live.{workers_in}
@@ -34,6 +41,8 @@ use Rattle.run_whole_cli.specs.Relations.{Relations}
 use Rattle.run_whole_cli.specs.declared.left.WholeEnding.{WholeEnding}
 use Rattle.run_whole_cli.specs.declared.left.WholeEnding.TheVariants as ends
 use Rattle.run_whole_cli.specs.declared.left.WholeRun.{WholeRun}
+use Rattle.run_whole_cli.specs.declared.left.WholeLeft.{WholeLeft}
+use Rattle.run_whole_cli.specs.declared.left.WholeLeft.TheVariants as lefts
 
 -- what the threads of a run handed on, each with its place
 abbrev pub handed_in : {W T O S : Type 0} → Ended W T O S → List (ℕ × Errand)
@@ -92,25 +101,63 @@ WritesOrder p journal fault w =
     TookParts whole_form (past_of p journal)
     (ask_lines (asked (past_of p journal)) ++ line_bytes (order_text fault)) w
 
+-- a run was cut off: its journal is legal, it isn't over, and it refused a third shutdown signal
+pub record IsCutOff (p : Settings) (c : CutOff) : Type 0 where
+  pub legal : IsLegal p c.journal
+  pub going : is_over (past_of p c.journal) ≡ false
+  pub third : IsThird c.refusal
+
+-- of a run that was cut off the sink took the lines of its events, and of a part of one further turn's at most: each
+-- whole, or of one that was refused a front part; and its count of faults rose at each that was, and at no other. Then
+-- it took the lines of its asks, and that of the third signal: whole, or where it failed there a front part, and not
+-- all; and nothing else
+pub record WritesThird (p : Settings) (journal : List Entry) (asks : List (ℕ × Ask)) (w : Writing) : Type 0 where
+  pub events : List (ReporterEvent × Option Failed)
+  pub extra : List (ReporterEvent × Bool)
+  pub sent : List (ℕ × Ask)
+  pub flags : map flagged events ≡ answers (past_of p journal) ++ extra
+  pub asked : asks ≡ asked (past_of p journal) ++ sent
+  pub part : IsFurther p journal extra sent
+  pub between : Option (List ℕ)
+  pub count : ℕ
+  pub took : TookLines w.taken between (event_lines events)
+  pub counted : AreCounted (marks events) w.faults count
+  pub last : Writes (record w { taken = between; faults = count })
+      (ask_lines asks ++ line_bytes (fault_text (ThirdSignal (length journal))))
+
+-- what is left of a run all of whose threads have ended, and of one that was cut off
+abbrev pub run_in : {W T O S : Type 0} → Option (WholeLeft W T O S) → Option (WholeRun W T O S)
+run_in None = None
+run_in (Some (lefts.Run l)) = Some l
+run_in (Some (lefts.CutOff c)) = None
+
+abbrev pub cut_in : {W T O S : Type 0} → Option (WholeLeft W T O S) → Option CutOff
+cut_in None = None
+cut_in (Some (lefts.Run l)) = None
+cut_in (Some (lefts.CutOff c)) = Some c
+
 -- how the run of a plan ends, by what is left of it and what the sink took. With an outcome or status 9 it is over;
 -- with status 8 its journal is full and it isn't; with status 13 its receipts are refused, or what was handed on isn't
--- what it asked; with 11 memory was wanting, and nothing of it is handed back
-abbrev pub IsWholeRunEnd : {W T O S : Type 0} → Relations W T O S → Settings → Writing → Option (WholeRun W T O S)
+-- what it asked; with 7 it was cut off by a third shutdown signal, whose turn would be the next of its journal; with 11
+-- memory was wanting, and nothing of it is handed back
+abbrev pub IsWholeRunEnd : {W T O S : Type 0} → Relations W T O S → Settings → Writing → Option (WholeLeft W T O S)
     → WholeEnding → Type 0
-IsWholeRunEnd k p w left (ends.Outcome o) = IsSomeAnd left (λ l. IsDelivered k p l × IsFinished p l.journal o
+IsWholeRunEnd k p w left (ends.Outcome o) = IsSomeAnd (run_in left) (λ l. IsDelivered k p l × IsFinished p l.journal o
     × HasTaken w (history_text whole_form (past_of p l.journal) (Ok o))) × (w.faults_after ≡ w.faults)
-IsWholeRunEnd k p w left (ends.Fault Report) = IsSomeAnd left (λ l. IsDelivered k p l
+IsWholeRunEnd k p w left (ends.Fault Report) = IsSomeAnd (run_in left) (λ l. IsDelivered k p l
     × ((o : RunOutcome) × IsFinished p l.journal o
     × TookParts whole_form (past_of p l.journal) (rest_text whole_form (past_of p l.journal)
     (report_ending l.journal o)) w))
     × HasWriteFault w
-IsWholeRunEnd k p w left (ends.Fault Unfinished) = IsSomeAnd left (λ l. IsDelivered k p l
+IsWholeRunEnd k p w left (ends.Fault Unfinished) = IsSomeAnd (run_in left) (λ l. IsDelivered k p l
     × (length l.journal ≡ 4294967295) × (is_over (past_of p l.journal) ≡ false)
     × WritesRun whole_form (past_of p l.journal) (Err Unfinished) w)
-IsWholeRunEnd k p w left ends.Receipt = IsSomeAnd left (λ l. IsDisowned k p l
+IsWholeRunEnd k p w left ends.Receipt = IsSomeAnd (run_in left) (λ l. IsDisowned k p l
     × IsSomeAnd (receipts_error l.error) (λ e. WritesRefusal p l.journal e.kind w))
-IsWholeRunEnd k p w left ends.Order = IsSomeAnd left (λ l. IsSomeAnd (order_fault l.error)
+IsWholeRunEnd k p w left ends.Order = IsSomeAnd (run_in left) (λ l. IsSomeAnd (order_fault l.error)
     (λ fault. IsMisdelivered k p l fault × WritesOrder p l.journal fault w))
+IsWholeRunEnd k p w left (ends.Fault (ThirdSignal place)) = IsSomeAnd (cut_in left) (λ c. IsCutOff p c
+    × (place ≡ length c.journal) × WritesThird p c.journal c.asks w)
 IsWholeRunEnd k p w left (ends.Fault Memory) = (left ≡ None) × LivesShort w
 IsWholeRunEnd k p w left (ends.Fault _) = ⊥
 

@@ -16,7 +16,8 @@ use Rattle.run_shared.specs.Orders.{Delivers, IsOrderFault}
 use Rattle.run_shared.specs.Receipts.{concatenated, receipt_numbers, StandsIn}
 use Rattle.run_output.specs.Fields.{line_bytes}
 use Rattle.run_output.specs.declared.fault.Fault.{Fault}
-use Rattle.run_output.specs.declared.fault.Fault.TheVariants.{Memory}
+use Rattle.run_output.specs.Faults.{fault_text}
+use Rattle.run_output.specs.declared.fault.Fault.TheVariants.{Memory, ThirdSignal}
 use Rattle.run_whole.specs.declared.left.Whole.{Whole}
 use Rattle.run_whole.specs.declared.left.WholeError.{WholeError}
 use Rattle.run_whole.specs.declared.left.WholeError.TheVariants.{Receipts, Orders}
@@ -78,6 +79,14 @@ abbrev pub EndsAtOrder : Writing → List ℕ → OrderFault → WholeEnding →
 EndsAtOrder w asks fault ends.Order = Writes w (asks ++ line_bytes (order_text fault))
 EndsAtOrder w asks fault (ends.Fault Memory) = (n : ℕ) × HasTaken w (take n (fault_only Memory))
 EndsAtOrder w asks fault _ = ⊥
+
+-- the lines of asks and of a third signal were written, where the sink failed a front part of them; or memory was
+-- wanting, and none of them was
+abbrev pub EndsAtThird : Writing → List ℕ → ℕ → WholeEnding → Type 0
+EndsAtThird w asks place (ends.Fault (ThirdSignal at)) =
+    (at ≡ place) × Writes w (asks ++ line_bytes (fault_text (ThirdSignal place)))
+EndsAtThird w asks place (ends.Fault Memory) = (n : ℕ) × HasTaken w (take n (fault_only Memory))
+EndsAtThird w asks place _ = ⊥
 
 -- whether a run with a journal of this length and with this outcome, if it has one, takes no turn any more
 abbrev pub is_stopped : ℕ → Option RunOutcome → Bool

@@ -9,7 +9,7 @@ use run_events::RunOutcome;
 use run_model::Entry;
 use run_output::Fault;
 use run_shared::Receipt;
-use run_whole::{Ended, WholeError};
+use run_whole::{CutOff, Ended, WholeError};
 
 /// How a run ended.
 #[derive(Clone, Copy, Drop)]
@@ -45,6 +45,15 @@ pub struct WholeRun<W, T, O, S> {
     pub journal: List<Entry>,
     pub receipts: List<List<Receipt>>,
     pub error: Option<WholeError>,
+}
+
+/// What is left of a run beside its reporter.
+#[derive(Drop)]
+pub enum WholeLeft<W, T, O, S> {
+    /// All its threads have ended.
+    Run(WholeRun<W, T, O, S>),
+    /// It was given up at a third shutdown signal.
+    CutOff(CutOff),
 }
 
 // How a run ended, its sink, and what is left of it.

@@ -12,9 +12,9 @@ mod plan;
 mod running;
 mod top;
 
-pub use left::{WholeEnding, WholeRun};
+pub use left::{WholeEnding, WholeLeft, WholeRun};
 pub use order_fault::order_line;
 // What a caller of `run_plan` names besides, of the crates below.
 pub use run_cli::Ran;
-pub use run_whole::{Around, Ear, Ended, Rounds, WholeError, Workers};
+pub use run_whole::{Around, CutOff, Ear, Ended, Rounds, WholeError, Workers};
 pub use top::run_plan;

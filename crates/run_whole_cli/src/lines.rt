@@ -3,14 +3,15 @@ ghost use Rattle.std.specs.Prelude.{◌≡◌, ℕ, length, take, None, IfOk};
 ghost use Rattle.run_capture.specs.Bytes.{Takes};
 ghost use Rattle.run_output.specs.Asks.{ask_lines};
 ghost use Rattle.run_output.specs.Fields.{line_bytes};
-ghost use Rattle.run_output.specs.declared.fault.Fault.TheVariants.{Memory};
+ghost use Rattle.run_output.specs.Faults.{fault_text};
+ghost use Rattle.run_output.specs.declared.fault.Fault.TheVariants.{Memory, ThirdSignal};
 ghost use Rattle.run_cli.specs.Call.{writing_of};
 ghost use Rattle.run_cli.specs.Text.{fault_only};
 ghost use Rattle.run_whole_cli.specs.OrderText.{order_text};
 ghost use Rattle.run_whole_cli.specs.Last.{EndsAtOrder, EndsPlain, EndsUndelivered};
-ghost use Rattle.run_whole_cli.specs.Last.{EndsWhole, EndsWithout, is_stopped};
+ghost use Rattle.run_whole_cli.specs.Last.{EndsAtThird, EndsWhole, EndsWithout, is_stopped, left_by};
 
-use crate::left::{WholeEnded, WholeEnding, end_by, so_ended};
+use crate::left::{WholeEnded, WholeEnding, WholeLeft, end_by, left_by, so_ended};
 use crate::order_fault::order_line;
 use run_capture::{List, Mem, Sink};
 use run_cli::{
@@ -19,9 +20,9 @@ use run_cli::{
 };
 use run_events::{Ask, RunOutcome};
 use run_model::Entry;
-use run_output::{AskLines, Fault, with_line_feed};
+use run_output::{AskLines, Fault, fault_line, with_line_feed};
 use run_shared::OrderFault;
-use run_whole::WholeError;
+use run_whole::{CutOff, WholeError};
 use std::alloc::Global;
 
 // The greatest length of a journal.
@@ -126,6 +127,52 @@ pub(crate) fn write_end<K: Sink>(
             let Ended { ending, sink } = plain_after(alloc, sink, asks, journal, outcome, refused);
             (end_by(ending), sink)
         }
+    }
+}
+
+// The lines of asks, and that of a third shutdown signal.
+fn third_lines(alloc: Global, asks: &[(u64, Ask)], turn: u64) -> Mem<RefusalLines>
+    ensures asks { IfOk result (λ r. r.asks ≡ ask_lines asks.now) }
+    ensures last { IfOk result (λ r. r.last ≡ line_bytes (fault_text (ThirdSignal turn))) }
+{
+    let line = fault_line(alloc, Fault::ThirdSignal { turn })?;
+    let last = with_line_feed(alloc, line)?;
+    let asks = AskLines::of(alloc, asks)?;
+    Ok(RefusalLines { asks, last })
+}
+
+// Writes the lines of asks and of a third shutdown signal, whose turn would be the next.
+fn third_after<K: Sink>(alloc: Global, sink: K, asks: &[(u64, Ask)], turn: u64) -> (WholeEnding, K)
+    ensures { EndsAtThird (writing_of K.Sink sink result.1) (ask_lines asks.now) turn result.0 }
+{
+    match third_lines(alloc, asks, turn) {
+        Ok(lines) => (
+            WholeEnding::Fault(Fault::ThirdSignal { turn }),
+            write_refusal(sink, &lines),
+        ),
+        Err(_) => {
+            let Ended { sink, ending: _ } = end_without_memory(sink);
+            (WholeEnding::Fault(Fault::Memory), sink)
+        }
+    }
+}
+
+// Ends a run that was given up at a third shutdown signal.
+pub(crate) fn end_cut_off<K: Sink, W: Drop, T: Drop, O: Drop, S: Drop>(
+    alloc: Global,
+    sink: K,
+    cut_off: CutOff,
+) -> WholeEnded<K, WholeLeft<W, T, O, S>>
+    ensures ending { EndsAtThird (writing_of K.Sink sink result.sink) (ask_lines cut_off.asks)
+        (length cut_off.journal) result.ending }
+    ensures left { result.left ≡ left_by result.ending (WholeLeft.CutOff cut_off) }
+{
+    let turn = cut_off.journal.len() as u64;
+    let (ending, sink) = third_after(alloc, sink, cut_off.asks.asks(), turn);
+    WholeEnded {
+        ending,
+        sink,
+        left: left_by(ending, WholeLeft::CutOff(cut_off)),
     }
 }
 

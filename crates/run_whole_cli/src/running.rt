@@ -1,20 +1,23 @@
 // The run of a plan with all its lines.
-ghost use Rattle.std.specs.Prelude.{◌≡◌, []};
+ghost use Rattle.std.specs.Prelude.{◌≡◌, [], IfSome, None};
 ghost use Rattle.run_events.specs.declared.settings.Settings.{Settings};
+ghost use Rattle.run_shared.specs.Closed.{IsLeft};
+ghost use Rattle.run_live.specs.Left.{HasToldSome};
+ghost use Rattle.run_whole.specs.Whole.{IsThird};
 ghost use Rattle.run_cli.specs.Call.{writing_of};
 ghost use Rattle.run_whole_cli.specs.Relations.{relations};
 ghost use Rattle.run_whole_cli.specs.Ends.{IsWholeRunEnd};
 ghost use Rattle.run_whole_cli.specs.Last.{IsLeftWhole};
 
-use crate::left::{WholeEnded, WholeRun, left_by};
-use crate::lines::{end_given_up, write_end};
+use crate::left::{WholeEnded, WholeLeft, WholeRun, left_by};
+use crate::lines::{end_cut_off, end_given_up, write_end};
 use run_capture::Sink;
 use run_cli::{Origin, TiedReporter, workers_of};
 use run_drive::Ticker;
 use run_engine::TestRunner;
 use run_events::Reporter;
 use run_keep::{Halter, Keeper, KeeperHost, Outside};
-use run_whole::{Around, Ran as RanWhole, Whole, whole};
+use run_whole::{Around, GivenUp, Ran as RanWhole, Whole, whole};
 use std::alloc::Global;
 use std::marker::Brand;
 use std::sync::Wait;
@@ -31,7 +34,7 @@ fn finish<
 >(
     alloc: Global,
     whole: Whole<W, T, O, S, TiedReporter<K, G>>,
-) -> WholeEnded<K, WholeRun<W, T, O, S>>
+) -> WholeEnded<K, WholeLeft<W, T, O, S>>
     ensures { (p : Settings) → IsLeftWhole (relations W.has_heard T.has_told O.has_come S.has_halted)
         ⟦<TiedReporter<K, G> as Reporter>⟧.told p whole
         → IsWholeRunEnd (relations W.has_heard T.has_told O.has_come S.has_halted) p (record {
@@ -67,7 +70,35 @@ fn finish<
     WholeEnded {
         ending,
         sink,
-        left: left_by(ending, left),
+        left: left_by(ending, WholeLeft::Run(left)),
+    }
+}
+
+// Ends a run that was given up: at a third signal where it was cut off so, and else for want of memory.
+fn finish_given_up<
+    K: Sink,
+    G: Origin,
+    W: Keeper + Drop,
+    T: Ticker + Drop,
+    O: Outside + Drop,
+    S: Halter + Drop,
+>(alloc: Global, given_up: GivenUp<TiedReporter<K, G>>) -> WholeEnded<K, WholeLeft<W, T, O, S>>
+    requires told { HasToldSome ⟦<TiedReporter<K, G> as Reporter>⟧.told given_up.report }
+    requires third { IfSome given_up.cut_off (λ c. IsThird c.refusal) }
+    ensures { (p : Settings) → IfSome given_up.cut_off
+        (λ c. IsLeft ⟦<TiedReporter<K, G> as Reporter>⟧.told given_up.report c.asks p c.journal None)
+        → IsWholeRunEnd (relations W.has_heard T.has_told O.has_come S.has_halted) p (record {
+          taken = G.taken_before;
+          taken_after = K.taken result.sink;
+          faults = G.faults_before;
+          faults_after = K.faults result.sink;
+        }) result.left result.ending }
+{
+    let GivenUp { report, cut_off } = given_up;
+    let sink = report.into_sink();
+    match cut_off {
+        Some(cut_off) => end_cut_off(alloc, sink, cut_off),
+        None => end_given_up(sink),
     }
 }
 
@@ -86,7 +117,7 @@ fn run_at<
     sink: K,
     host: &mut H,
     around: Around<O, S>,
-) -> WholeEnded<K, WholeRun<H::Worker, H::Tick, O, S>>
+) -> WholeEnded<K, WholeLeft<H::Worker, H::Tick, O, S>>
     requires quiet { O.has_come around.outside [] }
     requires runs { S.has_halted around.halter 0 }
     requires taken { G.taken_before ≡ K.taken sink }
@@ -98,7 +129,7 @@ fn run_at<
     let report = TiedReporter::<K, G>::new(sink);
     match whole(rt, alloc, runner, workers, host, around, report) {
         Ok(all) => finish(alloc, all),
-        Err(report) => end_given_up(report.into_sink()),
+        Err(given_up) => finish_given_up(alloc, given_up),
     }
 }
 
@@ -116,7 +147,7 @@ pub(crate) fn run_runner<
     sink: K,
     host: &mut H,
     around: Around<O, S>,
-) -> WholeEnded<K, WholeRun<H::Worker, H::Tick, O, S>>
+) -> WholeEnded<K, WholeLeft<H::Worker, H::Tick, O, S>>
     requires quiet { O.has_come around.outside [] }
     requires runs { S.has_halted around.halter 0 }
     ensures { IsWholeRunEnd (relations H.Worker.has_heard H.Tick.has_told O.has_come S.has_halted) runner

@@ -6,7 +6,7 @@ ghost use Rattle.run_whole_cli.specs.Relations.{relations};
 ghost use Rattle.run_whole_cli.specs.Ends.{whole_status};
 ghost use Rattle.run_whole_cli.specs.Answers.{IsWholeEnd, AnswersWhole};
 
-use crate::left::{WholeEnded, WholeRun};
+use crate::left::{WholeEnded, WholeLeft};
 use crate::lines::end_without_run;
 use crate::plan::runner_in;
 use crate::running::run_runner;
@@ -32,7 +32,7 @@ fn run_line<
     sink: K,
     host: &mut H,
     around: Around<O, S>,
-) -> WholeEnded<K, WholeRun<H::Worker, H::Tick, O, S>>
+) -> WholeEnded<K, WholeLeft<H::Worker, H::Tick, O, S>>
     requires quiet { O.has_come around.outside [] }
     requires runs { S.has_halted around.halter 0 }
     ensures says { IsWholeEnd (relations H.Worker.has_heard H.Tick.has_told O.has_come S.has_halted) line.now
@@ -53,7 +53,8 @@ fn run_line<
 /// fault. It answers the status and the sink with what is left of the run, but where none was made or memory was
 /// wanting. What each status says and what status each cause gives stands in `AnswersWhole`: where the status is that
 /// of an outcome, each setup script and each test of the plan has its fate, and each signal and each stop that was
-/// asked was handed on exactly once. Want of memory may come at any point, and is status 11.
+/// asked was handed on exactly once. A third shutdown signal gives the run up, with status 7 unless it was over. Want
+/// of memory may come at any point, and is status 11.
 pub fn run_plan<
     K: Sink + Send,
     H: KeeperHost,
@@ -67,7 +68,7 @@ pub fn run_plan<
     sink: K,
     host: &mut H,
     around: Around<O, S>,
-) -> (Ran<K>, Option<WholeRun<H::Worker, H::Tick, O, S>>)
+) -> (Ran<K>, Option<WholeLeft<H::Worker, H::Tick, O, S>>)
     requires quiet { O.has_come around.outside [] }
     requires runs { S.has_halted around.halter 0 }
     ensures says { AnswersWhole (relations H.Worker.has_heard H.Tick.has_told O.has_come S.has_halted) line.now
