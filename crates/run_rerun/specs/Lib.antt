@@ -1,0 +1,5 @@
+pub mod Outstanding
+pub mod Ledgers
+pub mod Runs
+pub mod Taken
+pub mod Made
