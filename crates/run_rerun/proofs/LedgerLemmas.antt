@@ -21,7 +21,7 @@ use Rattle.run_events.specs.declared.result.ExecutionResult.TheVariants.{ExecFai
 use Rattle.run_model.specs.Words.{last_slow}
 use Rattle.run_rerun.specs.declared.ledger.Ledger.{Ledger}
 use Rattle.run_rerun.specs.Ledgers.{IsLedgerOf, is_marked, mark_of, next_mark}
-use Rattle.run_rerun.specs.Outstanding.{adds_pass, are_passes, finish_told, finishes_of, did_pass}
+use Rattle.run_rerun.specs.Outstanding.{adds_pass, are_passes, finish_told, finishes_of, is_told_passed}
 
 last_or_map : {X Y : Type 0} (f : X → Y) (x : X) (ys : List X) → last_or (f x) (map f ys) ≡ f (last_or x ys)
 last_or_map f x [] = refl
@@ -126,7 +126,7 @@ heard_nothing ledger empty k = ap (lookup (is_at (nat_cmp k))) empty
 
 -- a unit passed where it is marked so
 pub marked_passed : (ledger : Ledger) (events : List ReporterEvent) → IsLedgerOf ledger events → (k : ℕ)
-    → is_marked ledger k ≡ did_pass events k
+    → is_marked ledger k ≡ is_told_passed events k
 marked_passed ledger events is k = ap (λ o. unwrap_or o false) (is k) ∙ by_finishes (finishes_of k events)
   where
     by_finishes : (fs : List TestFinish) → unwrap_or (mark_of fs) false ≡ are_passes fs

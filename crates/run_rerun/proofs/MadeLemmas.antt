@@ -17,7 +17,7 @@ use Rattle.run_input.specs.PlanTest.{id_of}
 use Rattle.run_output.specs.Fields.{array_of}
 use Rattle.run_output.specs.Texts.{test_data}
 use Rattle.run_rerun.specs.Made.{is_to_skip, made, made_items, made_test, made_tests, with_member}
-use Rattle.run_rerun.specs.Outstanding.{is_listed}
+use Rattle.run_rerun.specs.Outstanding.{has_id}
 use Rattle.run_rerun.proofs.MemberLemmas.{put-put}
 
 -- what stands for null
@@ -40,13 +40,13 @@ was_entry old name key was named is =
     ap (option_map view) is ∙ view-lookup (string_bytes name) old.entries
     ∙ ap (λ k. get_member k (members_view old.entries)) named
 
-skip_same : (some ids : List TestInstanceId) → ((q : TestInstanceId) → is_listed some q ≡ is_listed ids q)
+skip_same : (some ids : List TestInstanceId) → ((q : TestInstanceId) → has_id some q ≡ has_id ids q)
     → (id : Option TestInstanceId) (skip : Option Data) → is_to_skip some id skip ≡ is_to_skip ids id skip
 skip_same some ids same (Some id) None = ap not (same id)
 skip_same some ids same (Some id) (Some skip) = refl
 skip_same some ids same None skip = refl
 
-items_same : (some ids : List TestInstanceId) → ((q : TestInstanceId) → is_listed some q ≡ is_listed ids q)
+items_same : (some ids : List TestInstanceId) → ((q : TestInstanceId) → has_id some q ≡ has_id ids q)
     → (ds : Items) → made_items some ds ≡ made_items ids ds
 items_same some ids same no_items = refl
 items_same some ids same (item d ds) =
@@ -54,7 +54,7 @@ items_same some ids same (item d ds) =
     (skip_same some ids same (id_of d) (get (codes "skip") d))
     ∙ ap (item (made_test ids d)) (items_same some ids same ds)
 
-tests_same : (some ids : List TestInstanceId) → ((q : TestInstanceId) → is_listed some q ≡ is_listed ids q)
+tests_same : (some ids : List TestInstanceId) → ((q : TestInstanceId) → has_id some q ≡ has_id ids q)
     → (d : Data) → made_tests some d ≡ made_tests ids d
 tests_same some ids same null = refl
 tests_same some ids same (boolean b) = refl
@@ -64,7 +64,7 @@ tests_same some ids same (array ds) = ap array (items_same some ids same ds)
 tests_same some ids same (object ms) = refl
 
 -- the members of a plan line, with its tests taken out, made anew and put back, and with those that are expected
-pub members_made : (some ids : List TestInstanceId) → ((q : TestInstanceId) → is_listed some q ≡ is_listed ids q)
+pub members_made : (some ids : List TestInstanceId) → ((q : TestInstanceId) → has_id some q ≡ has_id ids q)
     → (first taken back last : Members) (was tests expected : Data) → taken ≡ put (codes "tests") null first
     → was ≡ unwrap_or (get_member (codes "tests") first) null → tests ≡ made_tests some was
     → back ≡ put (codes "tests") tests taken → expected ≡ array_of test_data ids
@@ -73,8 +73,8 @@ members_made some ids same first taken back last was tests expected taken_is was
     last_is =
     let all : tests ≡ made_tests ids (unwrap_or (get_member (codes "tests") first) null) =
     tests_is ∙ tests_same some ids same was ∙ ap (made_tests ids) was_is in
-    let put_back : back ≡ put (codes "tests") (made_tests ids (unwrap_or (get_member (codes "tests") first) null))
-    first =
+    let put_back :
+    back ≡ put (codes "tests") (made_tests ids (unwrap_or (get_member (codes "tests") first) null)) first =
     back_is ∙ ap (put (codes "tests") tests) taken_is ∙ put-put (codes "tests") null tests first
     ∙ ap (λ t. put (codes "tests") t first) all in
     ap object (last_is ∙ ap (λ e. put (codes "expected") e back) expected_is
@@ -89,12 +89,12 @@ or_null (Some v) found is value none = ap (λ o. unwrap_or o null) is
 -- whether a test is to be skipped, by what was found of its skip
 pub skips : {V : Type 0} (f : V → Data) (set : List TestInstanceId) (i : Option TestInstanceId) (s : Option Data)
     (id : TestInstanceId) (found : Option V) (none result : Bool) → i ≡ Some id → option_map f found ≡ s
-    → is_some found ≡ not none → none ≡ true → result ≡ not (is_listed set id) → result ≡ is_to_skip set i s
+    → is_some found ≡ not none → none ≡ true → result ≡ not (has_id set id) → result ≡ is_to_skip set i s
 skips f set i s id found none result id_is found_is some_is missing is =
     is ∙ by found found_is (some_is ∙ ap not missing) ∙ ap (λ i. is_to_skip set i s) (sym id_is)
   where
     by : (found : Option _) → option_map f found ≡ s → is_some found ≡ false
-        → not (is_listed set id) ≡ is_to_skip set (Some id) s
+        → not (has_id set id) ≡ is_to_skip set (Some id) s
     by None e lacks = ap (λ s. is_to_skip set (Some id) s) e
     by (Some v) e lacks = absurd (true≢false lacks)
 

@@ -18,10 +18,10 @@ use Rattle.run_events.specs.declared.plan.TestInstanceId.{TestInstanceId}
 use Rattle.run_model.specs.Reruns.{id_order, is_one_test}
 use Rattle.run_model.proofs.RerunLemmas.{one_test}
 use Rattle.run_rerun.specs.declared.answers.RunTests.{RunTests}
-use Rattle.run_rerun.specs.Outstanding.{is_listed, is_outstanding, latest}
+use Rattle.run_rerun.specs.Outstanding.{has_id, is_outstanding, latest}
 
 -- a set has what is among its keys
-pub has-among : (set : BTreeSet TestInstanceId) (q : TestInstanceId) → contains id_order set q ≡ is_listed set.keys q
+pub has-among : (set : BTreeSet TestInstanceId) (q : TestInstanceId) → contains id_order set q ≡ has_id set.keys q
 has-among set q = in_all set.keys
   where
     in_all : (ids : List TestInstanceId) → list_any (is_at (id_order q)) ids ≡ list_any (is_one_test q) ids
@@ -63,17 +63,17 @@ turned a b = ap is_eq (ids_total.antisymm a b) ∙ reversed (id_order b a) ∙ o
 -- a set with one more test, or one less
 pub set_with : (old new : BTreeSet TestInstanceId) (id q : TestInstanceId) (b : Bool)
     → contains id_order new q ≡ cond (is_at (id_order id) q) b (contains id_order old q)
-    → is_listed new.keys q ≡ cond (is_one_test q id) b (is_listed old.keys q)
+    → has_id new.keys q ≡ cond (is_one_test q id) b (has_id old.keys q)
 set_with old new id q b updated =
     sym (has-among new q) ∙ updated ∙ ap (λ t. cond t b (contains id_order old q)) (turned id q)
     ∙ ap (λ r. cond (is_one_test q id) b r) (has-among old q)
 
 -- among one more
 pub among_more : (ids : List TestInstanceId) (id q : TestInstanceId)
-    → is_listed (ids ++ id ∷ []) q ≡ (is_listed ids q || is_one_test q id)
+    → has_id (ids ++ id ∷ []) q ≡ (has_id ids q || is_one_test q id)
 among_more ids id q =
     list_any-append (is_one_test q) ids (id ∷ [])
-    ∙ ap (λ b. is_listed ids q || b) (alone (is_one_test q id))
+    ∙ ap (λ b. has_id ids q || b) (alone (is_one_test q id))
   where
     alone : (b : Bool) → (b || false) ≡ b
     alone true = refl
@@ -81,39 +81,39 @@ among_more ids id q =
 
 -- the latest run that has a test, with one more run
 latest_more : (chain : List RunTests) (run : RunTests) (id : TestInstanceId)
-    → latest id (chain ++ run ∷ []) ≡ (cond (is_listed run.has id) (Some run) (latest id chain))
+    → latest id (chain ++ run ∷ []) ≡ (cond (has_id run.has id) (Some run) (latest id chain))
 latest_more [] run id = refl
 latest_more (first ∷ chain) run id =
-    ap (λ o. option_or o (cond (is_listed first.has id) (Some first) None)) (latest_more chain run id)
-    ∙ by (is_listed run.has id)
+    ap (λ o. option_or o (cond (has_id first.has id) (Some first) None)) (latest_more chain run id)
+    ∙ by (has_id run.has id)
   where
-    by : (b : Bool) → option_or (cond b (Some run) (latest id chain)) (cond (is_listed first.has id) (Some first) None)
-        ≡ cond b (Some run) (option_or (latest id chain) (cond (is_listed first.has id) (Some first) None))
+    by : (b : Bool) → option_or (cond b (Some run) (latest id chain)) (cond (has_id first.has id) (Some first) None)
+        ≡ cond b (Some run) (option_or (latest id chain) (cond (has_id first.has id) (Some first) None))
     by true = refl
     by false = refl
 
 -- what a chain leaves outstanding, with one more run
 pub outstanding_more : (chain : List RunTests) (run : RunTests) (id : TestInstanceId)
     → is_outstanding (chain ++ run ∷ []) id
-    ≡ cond (is_listed run.has id) (not (is_listed run.passed id)) (is_outstanding chain id)
+    ≡ cond (has_id run.has id) (not (has_id run.passed id)) (is_outstanding chain id)
 outstanding_more chain run id =
-    ap (λ o. option_map_or (λ (run : RunTests). not (is_listed run.passed id)) o false) (latest_more chain run id)
-    ∙ by (is_listed run.has id)
+    ap (λ o. option_map_or (λ (run : RunTests). not (has_id run.passed id)) o false) (latest_more chain run id)
+    ∙ by (has_id run.has id)
   where
-    by : (b : Bool) → option_map_or (λ (run : RunTests). not (is_listed run.passed id)) (cond b (Some run)
-        (latest id chain)) false ≡ cond b (not (is_listed run.passed id)) (is_outstanding chain id)
+    by : (b : Bool) → option_map_or (λ (run : RunTests). not (has_id run.passed id)) (cond b (Some run)
+        (latest id chain)) false ≡ cond b (not (has_id run.passed id)) (is_outstanding chain id)
     by true = refl
     by false = refl
 
 -- a set of the first of some tests, with the next of them
 pub set_more : (ids : List TestInstanceId) (i : ℕ) (id q : TestInstanceId) (old new : BTreeSet TestInstanceId)
-    → i < length ids → id ≡ get_or ids i id → is_listed old.keys q ≡ is_listed (take i ids) q
+    → i < length ids → id ≡ get_or ids i id → has_id old.keys q ≡ has_id (take i ids) q
     → contains id_order new q ≡ cond (is_at (id_order id) q) true (contains id_order old q)
-    → is_listed new.keys q ≡ is_listed (take (i + 1) ids) q
+    → has_id new.keys q ≡ has_id (take (i + 1) ids) q
 set_more ids i id q old new within is before updated =
     set_with old new id q true updated ∙ ap (λ r. cond (is_one_test q id) true r) before
-    ∙ either (is_one_test q id) (is_listed (take i ids) q) ∙ sym (among_more (take i ids) id q)
-    ∙ ap (λ e. is_listed (take i ids ++ e ∷ []) q) is ∙ ap (λ ids. is_listed ids q) (sym (take_more ids i id within))
+    ∙ either (is_one_test q id) (has_id (take i ids) q) ∙ sym (among_more (take i ids) id q)
+    ∙ ap (λ e. has_id (take i ids ++ e ∷ []) q) is ∙ ap (λ ids. has_id ids q) (sym (take_more ids i id within))
   where
     either : (a b : Bool) → cond a true b ≡ (b || a)
     either true true = refl
@@ -124,14 +124,14 @@ set_more ids i id q old new within is before updated =
 -- what is open after the first tests of a run, with the next of them
 pub open_more : (has passed : List TestInstanceId) (start : Bool) (i : ℕ) (id q : TestInstanceId) (old new : Bool)
     → i < length has → id ≡ get_or has i id
-    → old ≡ cond (is_listed (take i has) q) (not (is_listed passed q)) start
-    → new ≡ cond (is_one_test q id) (not (is_listed passed id)) old
-    → new ≡ cond (is_listed (take (i + 1) has) q) (not (is_listed passed q)) start
+    → old ≡ cond (has_id (take i has) q) (not (has_id passed q)) start
+    → new ≡ cond (is_one_test q id) (not (has_id passed id)) old
+    → new ≡ cond (has_id (take (i + 1) has) q) (not (has_id passed q)) start
 open_more has passed start i id q old new within is before after =
-    after ∙ ap (λ r. cond (is_one_test q id) (not (is_listed passed id)) r) before
+    after ∙ ap (λ r. cond (is_one_test q id) (not (has_id passed id)) r) before
     ∙ by (is_one_test q id) refl
-    ∙ ap (λ b. cond b (not (is_listed passed q)) start) (sym (among_more (take i has) id q)
-    ∙ ap (λ e. is_listed (take i has ++ e ∷ []) q) is ∙ ap (λ ids. is_listed ids q) (sym (take_more has i id within)))
+    ∙ ap (λ b. cond b (not (has_id passed q)) start) (sym (among_more (take i has) id q)
+    ∙ ap (λ e. has_id (take i has ++ e ∷ []) q) is ∙ ap (λ ids. has_id ids q) (sym (take_more has i id within)))
   where
     or_true : (b : Bool) → (b || true) ≡ true
     or_true true = refl
@@ -142,9 +142,9 @@ open_more has passed start i id q old new within is before after =
     or_false false = refl
 
     by : (b : Bool) → is_one_test q id ≡ b
-        → cond b (not (is_listed passed id)) (cond (is_listed (take i has) q) (not (is_listed passed q)) start)
-        ≡ cond (is_listed (take i has) q || b) (not (is_listed passed q)) start
+        → cond b (not (has_id passed id)) (cond (has_id (take i has) q) (not (has_id passed q)) start)
+        ≡ cond (has_id (take i has) q || b) (not (has_id passed q)) start
     by true one =
-        ap (λ e. not (is_listed passed e)) (sym (same_test q id one))
-        ∙ ap (λ b. cond b (not (is_listed passed q)) start) (sym (or_true (is_listed (take i has) q)))
-    by false one = ap (λ b. cond b (not (is_listed passed q)) start) (sym (or_false (is_listed (take i has) q)))
+        ap (λ e. not (has_id passed e)) (sym (same_test q id one))
+        ∙ ap (λ b. cond b (not (has_id passed q)) start) (sym (or_true (has_id (take i has) q)))
+    by false one = ap (λ b. cond b (not (has_id passed q)) start) (sym (or_false (has_id (take i has) q)))

@@ -222,6 +222,13 @@ lists_by gs ss ts = do
   _ ← when (nat_lt (length scripts + length tests) 4294967296)
   Some (groups, scripts, tests)
 
+-- the lists of a plan, where they are few
+abbrev few_by : List Group → List PlanScript → List PlanTest → Bool
+    → Option (List Group × List PlanScript × List PlanTest)
+few_by gs ss ts few = do
+  _ ← when few
+  Some (gs, ss, ts)
+
 -- the lists of a plan with other tests, as many
 lists_with : (gs : Option (List Group)) (ss : Option (List PlanScript)) (ts : Option (List PlanTest))
     (f : PlanTest → PlanTest) (lists : List Group × List PlanScript × List PlanTest) → lists_by gs ss ts ≡ Some lists
@@ -233,15 +240,12 @@ lists_with (Some gs) (Some ss) None f lists h = absurd (let bad : None ≡ Some 
 lists_with (Some gs) (Some ss) (Some ts) f lists h = (
   ts,
   refl,
-  ap (λ n. option_and_then {U = List Group × List PlanScript × List PlanTest} (λ u. Some (gs, ss, map f ts))
-      (when (nat_lt (length ss + n) 4294967296)))
+  ap (λ n. few_by gs ss (map f ts) (nat_lt (length ss + n) 4294967296))
       (length-map ts f) ∙ by (nat_lt (length ss + length ts) 4294967296) h,
 )
   where
-    by : (b : Bool) → option_and_then {U = List Group × List PlanScript × List PlanTest}
-        (λ u. Some (gs, ss, ts)) (when b) ≡ Some lists
-        → option_and_then {U = List Group × List PlanScript × List PlanTest} (λ u. Some (gs, ss, map f ts))
-        (when b) ≡ Some (lists.0, lists.1, map f lists.2)
+    by : (b : Bool) → few_by gs ss ts b ≡ Some lists
+        → few_by gs ss (map f ts) b ≡ Some (lists.0, lists.1, map f lists.2)
     by true h = ap (λ (l : List Group × List PlanScript × List PlanTest). Some (l.0, l.1, map f l.2))
         (same_Some (gs, ss, ts) lists h)
     by false h = cc

@@ -34,7 +34,7 @@ use Rattle.run_rerun.specs.declared.answers.RerunError.TheVariants.{Plan as Refu
 use Rattle.run_rerun.specs.declared.answers.RerunError.TheVariants.{OutOfMemory}
 use Rattle.run_rerun.specs.declared.ledger.Ledger.{Ledger}
 use Rattle.run_rerun.specs.Ledgers.{IsLedgerOf, is_marked}
-use Rattle.run_rerun.specs.Outstanding.{tests_had, did_pass}
+use Rattle.run_rerun.specs.Outstanding.{tests_had, is_told_passed}
 use Rattle.run_rerun.specs.Runs.{AreTestsOf, GetsTests, SaysStored, SaysTests, stop_error}
 use Rattle.run_rerun.specs.Taken.{GetsTaken, HasHeard, SaysTaken, as_rerun}
 use Rattle.run_rerun.proofs.TestLemmas.{marked_ids}
@@ -189,7 +189,7 @@ says_tests p turns ledger tests had heard is has passes =
       took = heard.1;
       had = has ∙ ap (map (λ t. t.1)) is;
       passes = passes ∙ ap (map (λ t. t.1)) (marked_ids ledger events heard.2 had)
-          ∙ ap (λ ts. map (λ t. t.1) (filter (λ t. did_pass events t.0) ts)) is;
+          ∙ ap (λ ts. map (λ t. t.1) (filter (λ t. is_told_passed events t.0) ts)) is;
     }
 
 -- what a run that was taken is answered, and one that wasn't

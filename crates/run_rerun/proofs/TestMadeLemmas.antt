@@ -24,7 +24,7 @@ use Rattle.run_input.specs.PlanTest.{id_of, keys_of_test, leak_of, named_of, pla
 use Rattle.run_input.specs.PlanTest.{slow_of}
 use Rattle.run_input.specs.PlanTest.{terms_from, test_from, ties_of, trials_of}
 use Rattle.run_rerun.specs.Made.{is_to_skip, made_items, made_test, made_tests, skipped_unless, with_member}
-use Rattle.run_rerun.specs.Outstanding.{is_listed}
+use Rattle.run_rerun.specs.Outstanding.{has_id}
 use Rattle.run_rerun.proofs.MemberLemmas.{apart, get-other, get-put, object-with}
 use Rattle.run_rerun.proofs.PlanLemmas.{Keeps, three, two}
 
@@ -190,23 +190,23 @@ reason_put version d test reason h = by_object (is_object_of keys_of_test d) ref
 
 -- whether a test is to be skipped, by what its line says
 to_skip : (ids : List TestInstanceId) (test : PlanTest) (s : Option Data) → optional as_str s ≡ Some test.skip
-    → is_to_skip ids (Some test.id) s ≡ (is_none test.skip && not (is_listed ids test.id))
-to_skip ids test None h = ap (λ o. is_none o && not (is_listed ids test.id)) (same_Some None test.skip h)
+    → is_to_skip ids (Some test.id) s ≡ (is_none test.skip && not (has_id ids test.id))
+to_skip ids test None h = ap (λ o. is_none o && not (has_id ids test.id)) (same_Some None test.skip h)
 to_skip ids test (Some s) h = by (as_str s) h
   where
     by : (o : Option (List ℕ)) → option_map Some o ≡ Some test.skip
-        → false ≡ (is_none test.skip && not (is_listed ids test.id))
+        → false ≡ (is_none test.skip && not (has_id ids test.id))
     by None h = cc
-    by (Some text) h = ap (λ o. is_none o && not (is_listed ids test.id)) (same_Some (Some text) test.skip h)
+    by (Some text) h = ap (λ o. is_none o && not (has_id ids test.id)) (same_Some (Some text) test.skip h)
 
 test_made : (version : ℕ) (ids : List TestInstanceId) (d : Data) (test : PlanTest) → test_from version d ≡ Some test
     → test_from version (made_test ids d) ≡ Some (skipped_unless ids test)
 test_made version ids d test h =
     let r = reason_put version d test (codes "rerun") h in
     let e : Data = with_member (codes "skip") (string (codes "rerun")) d in
-    let same : is_to_skip ids (id_of d) (get (codes "skip") d) ≡ (is_none test.skip && not (is_listed ids test.id)) =
+    let same : is_to_skip ids (id_of d) (get (codes "skip") d) ≡ (is_none test.skip && not (has_id ids test.id)) =
     ap (λ i. is_to_skip ids i (get (codes "skip") d)) r.0 ∙ to_skip ids test (get (codes "skip") d) r.1 in
-    ap (λ b. test_from version (cond b e d)) same ∙ by r.2 (is_none test.skip && not (is_listed ids test.id))
+    ap (λ b. test_from version (cond b e d)) same ∙ by r.2 (is_none test.skip && not (has_id ids test.id))
   where
     by : test_from version (with_member (codes "skip") (string (codes "rerun")) d)
         ≡ Some (record test { skip = Some (codes "rerun") }) → (b : Bool)

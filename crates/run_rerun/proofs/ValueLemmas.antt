@@ -1,6 +1,6 @@
 -- The value of the plan line of a rerun is no deeper than that of the one that it is made of, and has no float.
-use Rattle.std.proofs.Common.{◌≡◌, ◌∙◌, ℕ, suc, ◌≤◌, ◌||◌, List, [], ◌∷◌, map, Bool, true, false, refl, sym, ap}
-use Rattle.std.proofs.Common.{subst, arith}
+use Rattle.std.proofs.Common.{◌≡◌, ◌∙◌, ℕ, suc, ◌≤◌, ◌||◌, List, [], ◌∷◌, map, Bool, true, false, refl, sym, ap, subst}
+use Rattle.std.proofs.Common.{arith}
 use Rattle.std.proofs.Common.{true≢false, codes, cond, Some, None, unwrap_or, IsSome, nat_cmp}
 use Rattle.std.specs.Option.{option_and_then}
 use Rattle.std.specs.Ordering.{match_ordering}

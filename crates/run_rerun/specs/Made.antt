@@ -10,7 +10,7 @@ use Rattle.run_input.specs.declared.plan_line.RunnerKeys.{RunnerKeys}
 use Rattle.run_model.specs.Admission.{is_matched}
 use Rattle.run_output.specs.Fields.{array_of}
 use Rattle.run_output.specs.Texts.{test_data}
-use Rattle.run_rerun.specs.Outstanding.{is_listed}
+use Rattle.run_rerun.specs.Outstanding.{has_id}
 
 -- a value with another one at a key, if it is an object
 abbrev pub with_member : List ℕ → Data → Data → Data
@@ -23,7 +23,7 @@ with_member key value (object members) = object (put key value members)
 
 -- whether a test with this id and this skip is to be skipped: it matches, and isn't one of these
 abbrev pub is_to_skip : List TestInstanceId → Option TestInstanceId → Option Data → Bool
-is_to_skip ids (Some id) None = not (is_listed ids id)
+is_to_skip ids (Some id) None = not (has_id ids id)
 is_to_skip ids (Some id) (Some skip) = false
 is_to_skip ids None skip = false
 
@@ -54,7 +54,7 @@ made ids d =
 -- the same of what the line says: a test that matches and isn't one of these is skipped, and these are expected
 abbrev pub skipped_unless : List TestInstanceId → PlanTest → PlanTest
 skipped_unless ids test =
-    if is_matched test && not (is_listed ids test.id) then record test { skip = Some (codes "rerun") } else test
+    if is_matched test && not (has_id ids test.id) then record test { skip = Some (codes "rerun") } else test
 
 abbrev pub made_plan : List TestInstanceId → Plan → Plan
 made_plan ids plan = record plan { tests = map (skipped_unless ids) plan.tests }

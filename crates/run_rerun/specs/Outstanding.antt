@@ -51,30 +51,30 @@ are_passes [] = false
 are_passes (finish ∷ finishes) = list_all adds_pass (finish ∷ finishes)
 
 -- whether the test with this unit passed, by the events told
-abbrev pub did_pass : List ReporterEvent → ℕ → Bool
-did_pass events unit = are_passes (finishes_of unit events)
+abbrev pub is_told_passed : List ReporterEvent → ℕ → Bool
+is_told_passed events unit = are_passes (finishes_of unit events)
 
 -- the tests that a run of a plan has, and those of them that passed by the events told
 abbrev pub ids_had : Plan → List TestInstanceId
 ids_had plan = map (λ t. t.1) (tests_had plan)
 
 abbrev pub ids_passed : Plan → List ReporterEvent → List TestInstanceId
-ids_passed plan events = map (λ t. t.1) (filter (λ t. did_pass events t.0) (tests_had plan))
+ids_passed plan events = map (λ t. t.1) (filter (λ t. is_told_passed events t.0) (tests_had plan))
 
 -- whether a test is among some
-abbrev pub is_listed : List TestInstanceId → TestInstanceId → Bool
-is_listed ids id = list_any (is_one_test id) ids
+abbrev pub has_id : List TestInstanceId → TestInstanceId → Bool
+has_id ids id = list_any (is_one_test id) ids
 
 -- the latest run of a chain, oldest first, that has a test
 abbrev pub latest : TestInstanceId → List RunTests → Option RunTests
 latest id [] = None
-latest id (run ∷ later) = option_or (latest id later) (if is_listed run.has id then Some run else None)
+latest id (run ∷ later) = option_or (latest id later) (if has_id run.has id then Some run else None)
 
 -- whether a chain leaves a test outstanding: a run has it, and it didn't pass in the latest of those
 abbrev pub is_outstanding : List RunTests → TestInstanceId → Bool
-is_outstanding chain id = option_map_or (λ run. not (is_listed run.passed id)) (latest id chain) false
+is_outstanding chain id = option_map_or (λ run. not (has_id run.passed id)) (latest id chain) false
 
 -- these are the outstanding tests of a chain, in ascending order, each of them once
 pub record AreOutstanding (chain : List RunTests) (ids : List TestInstanceId) : Type 0 where
   pub ascending : IsStrictlySortedBy id_order ids
-  pub exactly : (id : TestInstanceId) → is_listed ids id ≡ is_outstanding chain id
+  pub exactly : (id : TestInstanceId) → has_id ids id ≡ is_outstanding chain id

@@ -3,7 +3,7 @@ ghost use Rattle.std.specs.Prelude.{◌≡◌, IfOk, OnOk, if◌then◌else◌, 
 ghost use Rattle.std.specs.List.Sorted.{IsStrictlySortedBy};
 ghost use Rattle.run_events.specs.declared.plan.TestInstanceId.{TestInstanceId};
 ghost use Rattle.run_model.specs.Reruns.{id_order, is_one_test};
-ghost use Rattle.run_rerun.specs.Outstanding.{AreOutstanding, is_listed};
+ghost use Rattle.run_rerun.specs.Outstanding.{AreOutstanding, has_id};
 
 use crate::answers::RunTests;
 use run_capture::{Duplicate, List, Mem};
@@ -13,7 +13,7 @@ use std::collections::BTreeSet;
 
 /// The set of some tests.
 pub fn set_of(alloc: Global, ids: &[TestInstanceId]) -> Mem<BTreeSet<TestInstanceId>>
-    ensures { IfOk result (λ set. (q : TestInstanceId) → is_listed set.keys q ≡ is_listed ids.now q) }
+    ensures { IfOk result (λ set. (q : TestInstanceId) → has_id set.keys q ≡ has_id ids.now q) }
 {
     let mut set = BTreeSet::new(alloc);
     for id in ids {
@@ -25,29 +25,29 @@ pub fn set_of(alloc: Global, ids: &[TestInstanceId]) -> Mem<BTreeSet<TestInstanc
 // Opens a test, or, if it passed, closes it.
 fn set_open(
     alloc: Global,
-    open: &mut BTreeSet<TestInstanceId>,
+    left: &mut BTreeSet<TestInstanceId>,
     id: &TestInstanceId,
     passed: bool,
 ) -> Mem<()>
-    ensures { OnOk result ((q : TestInstanceId) → is_listed open.new.keys q
-        ≡ (if is_one_test q id.now then not passed else is_listed open.old.keys q)) }
+    ensures { OnOk result ((q : TestInstanceId) → has_id left.new.keys q
+        ≡ (if is_one_test q id.now then not passed else has_id left.old.keys q)) }
 {
     if passed {
-        open.remove(id);
+        left.remove(id);
     } else {
-        open.insert(id.copy(alloc)?)?;
+        left.insert(id.copy(alloc)?)?;
     }
     Ok(())
 }
 
 // Takes one more run of a chain: of the tests that it has, those that passed are open no more, and the others are.
-fn take_run(alloc: Global, open: &mut BTreeSet<TestInstanceId>, run: &RunTests) -> Mem<()>
-    ensures { OnOk result ((q : TestInstanceId) → is_listed open.new.keys q
-        ≡ (if is_listed run.now.has q then not (is_listed run.now.passed q) else is_listed open.old.keys q)) }
+fn take_run(alloc: Global, left: &mut BTreeSet<TestInstanceId>, run: &RunTests) -> Mem<()>
+    ensures { OnOk result ((q : TestInstanceId) → has_id left.new.keys q
+        ≡ (if has_id run.now.has q then not (has_id run.now.passed q) else has_id left.old.keys q)) }
 {
     let passed = set_of(alloc, run.passed.as_slice())?;
     for id in run.has.as_slice() {
-        set_open(alloc, open, id, passed.contains(id))?;
+        set_open(alloc, left, id, passed.contains(id))?;
     }
     Ok(())
 }
@@ -69,9 +69,9 @@ fn list_of(alloc: Global, ids: BTreeSet<TestInstanceId>) -> Mem<List<TestInstanc
 pub fn outstanding(alloc: Global, chain: &[RunTests]) -> Mem<List<TestInstanceId>>
     ensures { IfOk result (AreOutstanding chain.now) }
 {
-    let mut open = BTreeSet::new(alloc);
+    let mut left = BTreeSet::new(alloc);
     for run in chain {
-        take_run(alloc, &mut open, run)?;
+        take_run(alloc, &mut left, run)?;
     }
-    list_of(alloc, open)
+    list_of(alloc, left)
 }

@@ -8,7 +8,7 @@ ghost use Rattle.run_input.specs.PlanTest.{id_of};
 ghost use Rattle.run_output.specs.Fields.{array_of};
 ghost use Rattle.run_output.specs.Texts.{test_data};
 ghost use Rattle.run_rerun.specs.Made.{is_to_skip, made, made_items, made_test, made_tests, with_member};
-ghost use Rattle.run_rerun.specs.Outstanding.{is_listed};
+ghost use Rattle.run_rerun.specs.Outstanding.{has_id};
 
 use crate::chain::set_of;
 use run_capture::{Mem, Text};
@@ -131,7 +131,7 @@ fn set_members(
     set: &BTreeSet<TestInstanceId>,
     members: &mut Map<String, Value>,
 ) -> Mem<()>
-    requires { (q : TestInstanceId) → is_listed set.now.keys q ≡ is_listed ids.now q }
+    requires { (q : TestInstanceId) → has_id set.now.keys q ≡ has_id ids.now q }
     ensures { OnOk result (object (members_view members.new.entries)
         ≡ made ids.now (object (members_view members.old.entries))) }
 {

@@ -30,8 +30,7 @@ fn text_of(alloc: Global, value: &Value) -> Mem<Text>
 }
 
 /// The plan line of a rerun, made of the latest plan line: it expects these tests, each matched test that isn't one of
-/// them is skipped with the reason `rerun`, and nothing else changes. It has no space, and its keys stand in byte
-/// order.
+/// them is skipped with the reason `rerun`, and nothing else changes. It has no space, and its keys are in byte order.
 pub fn rerun_plan(alloc: Global, line: &[u8], ids: &[TestInstanceId]) -> Mem<Text>
     requires { IsSome (plan_line_of line.now) }
     ensures text { IfOk result

@@ -1,7 +1,7 @@
 use Rattle.std.proofs.Common.{◌≡◌, take}
 use Rattle.run_events.specs.declared.plan.TestInstanceId.{TestInstanceId}
-use Rattle.run_rerun.specs.Outstanding.{is_listed}
+use Rattle.run_rerun.specs.Outstanding.{has_id}
 use Rattle.run_rerun.proofs.chain.set_of.Given as goal
 
 abbrev pub invariant-loop-id : goal.invariant-loop-id
-invariant-loop-id l = (q : TestInstanceId) → is_listed l.set.keys q ≡ is_listed (take l.id-index l.ids) q
+invariant-loop-id l = (q : TestInstanceId) → has_id l.set.keys q ≡ has_id (take l.id-index l.ids) q
