@@ -32,6 +32,21 @@ impl<C: Clock + Drop> ClockTicker<C> {
     {
         self.faults
     }
+
+    /// The nanoseconds since the answer before; 0 where the clock can't be read, which is counted.
+    pub fn elapsed(&mut self) -> u64 {
+        match Instant::now(&self.clock) {
+            Ok(now) => {
+                let ns = between(self.last, now);
+                self.last = Some(now);
+                ns
+            }
+            Err(_) => {
+                self.faults = self.faults.saturating_add(1);
+                0
+            }
+        }
+    }
 }
 
 // The nanoseconds between two moments; 0 where there is no first.
@@ -47,16 +62,6 @@ impl<C: Clock + Drop> Ticker for ClockTicker<C> {
 
     fn next(&mut self) -> u64 {
         thread::sleep(&self.clock, Duration::from_millis(10));
-        match Instant::now(&self.clock) {
-            Ok(now) => {
-                let ns = between(self.last, now);
-                self.last = Some(now);
-                ns
-            }
-            Err(_) => {
-                self.faults = self.faults.saturating_add(1);
-                0
-            }
-        }
+        self.elapsed()
     }
 }

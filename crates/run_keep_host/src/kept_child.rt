@@ -14,6 +14,8 @@ pub(crate) struct KeptChild<C: OpenProcess + Drop> {
     streams: Streams,
     /// Whether it was waited for, or can't be.
     is_over: bool,
+    /// How it ended, until that is said.
+    end: Option<Said>,
     /// How many looks in a row found nothing.
     quiet: u32,
     /// How many things in a row came of its streams.
@@ -27,13 +29,15 @@ impl<C: OpenProcess + Drop> Drop for KeptChild<C> {
             child: _,
             streams: _,
             is_over: _,
+            end: _,
             quiet: _,
             pieces: _,
         } = self;
     }
 }
 
-// After so many things of its streams in a row its end is looked for; more than its pipes hold once it has ended.
+// After so many things of its streams in a row its end is looked for, and is said once it has ended; more than its
+// pipes hold then.
 const MOST_PIECES: u32 = 32;
 
 impl<C: OpenProcess + Drop> KeptChild<C> {
@@ -43,6 +47,7 @@ impl<C: OpenProcess + Drop> KeptChild<C> {
             child,
             streams,
             is_over: false,
+            end: None,
             quiet: 0,
             pieces: 0,
         }
@@ -87,17 +92,31 @@ impl<C: OpenProcess + Drop> KeptChild<C> {
         }
     }
 
-    /// What it does next, if it does something within 10 ms. Its streams are read only with `reads`.
+    /// What it does next, if it does something within 10 ms. Its streams are read only with `reads`. Once it has ended,
+    /// what its streams still hold comes before its end: so a stream that ended with it is never taken for one that
+    /// another process holds.
     pub fn look(&mut self, alloc: Global, reads: bool) -> Mem<Option<Said>> {
-        if self.is_end_due() {
-            if let Some(said) = self.look_for_end(alloc)? {
+        if self.end.is_none() {
+            if let Some(said) = self.look_on(alloc, reads)? {
                 return Ok(Some(said));
+            }
+        }
+        self.close(alloc, reads)
+    }
+
+    // What comes of its streams, and where nothing does whether it has ended.
+    fn look_on(&mut self, alloc: Global, reads: bool) -> Mem<Option<Said>> {
+        if self.is_end_due() {
+            self.look_for_end(alloc)?;
+            if self.end.is_some() {
+                return Ok(None);
             }
         }
         if let Some(said) = self.read(alloc, reads)? {
             return Ok(Some(said));
         }
-        self.look_for_end(alloc)
+        self.look_for_end(alloc)?;
+        Ok(None)
     }
 
     // Whether its end is to be looked for first: where its streams have just ended, and among much that it writes.
@@ -129,23 +148,36 @@ impl<C: OpenProcess + Drop> KeptChild<C> {
         }
     }
 
-    // How it ended, once it has. That is told once.
-    fn look_for_end(&mut self, alloc: Global) -> Mem<Option<Said>> {
+    // Looks whether it has ended, until it has.
+    fn look_for_end(&mut self, alloc: Global) -> Mem<()> {
         self.pieces = 0;
         if self.is_over {
-            return Ok(None);
+            return Ok(());
         }
         match self.child.try_wait() {
-            Ok(None) => Ok(None),
+            Ok(None) => {}
             Ok(Some(status)) => {
                 self.is_over = true;
                 let exit = exit_of(&status);
-                Ok(Some(Said::Exit { exit }))
+                self.end = Some(Said::Exit { exit });
             }
             Err(error) => {
                 self.is_over = true;
-                Ok(Some(unwaited(alloc, &error)?))
+                self.end = Some(unwaited(alloc, &error)?);
             }
         }
+        Ok(())
+    }
+
+    // Of a child that has just ended: what its streams hold, if they are read, and then its end, which is said once.
+    // Another process may write on: its words are counted, and the end comes after so many.
+    fn close(&mut self, alloc: Global, reads: bool) -> Mem<Option<Said>> {
+        if reads && self.end.is_some() && self.pieces < MOST_PIECES {
+            self.pieces += 1;
+            if let Some(said) = self.streams.next(alloc, 0)? {
+                return Ok(Some(said));
+            }
+        }
+        Ok(self.end.take())
     }
 }

@@ -3,12 +3,13 @@ ghost use Rattle.std.specs.Prelude.{◌≡◌, IfOk, IfSome, Some};
 ghost use Rattle.run_keep_host.specs.Offered.{offered};
 
 use crate::kept_child::KeptChild;
+use crate::pace::Pace;
 use crate::sender::Sender;
 use crate::starting::{start_child, starter, unready};
 use crate::target::{Target, name_of};
 use crate::waiting::pause;
 use crate::words::{Words, is_end};
-use run_capture::{Duplicate, Mem, Text};
+use run_capture::{Duplicate, Mem, Shared, Text};
 use run_commands::EnvInput;
 use run_drive::{Begun, Said};
 use run_events::{ChildSignal, SignalAsk, StartAsk, TermSignal};
@@ -17,6 +18,8 @@ use run_keep::{Keeper, Sent};
 use std::alloc::Global;
 use std::fs::Files;
 use std::process::Processes;
+use std::sync::Wait;
+use std::time::Clock;
 
 /// Starts processes, one at a time: in the program's own folder, with the asked variables beside the program's own, an
 /// empty standard input and, where that is asked, a session and group of their own, by `setsid`. Each captured stream
@@ -26,13 +29,17 @@ use std::process::Processes;
 /// A signal is sent by a shell of the keeper's own (where that is gone by one that is started for it), and only while
 /// the child wasn't waited for. At the end of the program, whatever it is, that shell kills the child that runs, with
 /// its group.
+///
+/// Before a start and before an end is told, it asks its host's ticker, if it has one, to tell the time.
 #[derive(Drop)]
-pub struct ProcessKeeper<P: Processes + Files + Eprint + Drop> {
+pub struct ProcessKeeper<P: Processes + Files + Eprint + Drop, X: Wait + Clock + Drop> {
     outside: P,
+    rt: X,
     sender: Sender<P::Started>,
     kept: Option<KeptChild<P::Started>>,
     words: Words,
     env_path: Option<Text>,
+    pace: Option<Shared<Pace>>,
     faults: u64,
 }
 
@@ -54,18 +61,34 @@ fn say(outside: &impl Eprint, error: &Text) {
     let _ = eprintln!(outside; "nextest_run: {}", error.as_str());
 }
 
-impl<P: Processes + Files + Eprint + Drop> ProcessKeeper<P> {
-    /// A keeper that has started nothing.
-    pub fn new(outside: P) -> Self
+impl<P: Processes + Files + Eprint + Drop, X: Wait + Clock + Drop> ProcessKeeper<P, X> {
+    /// A keeper that has started nothing, and asks no ticker.
+    pub fn new(outside: P, rt: X) -> Self
+        ensures { result.faults ≡ 0 }
+    {
+        ProcessKeeper::paced(outside, rt, None)
+    }
+
+    /// A keeper that has started nothing, and asks the ticker with which it shares this.
+    pub(crate) fn paced(outside: P, rt: X, pace: Option<Shared<Pace>>) -> Self
         ensures { result.faults ≡ 0 }
     {
         ProcessKeeper {
             outside,
+            rt,
             sender: Sender::new(),
             kept: None,
             words: Words::new(),
             env_path: None,
+            pace,
             faults: 0,
+        }
+    }
+
+    // Waits until the run was told the time.
+    fn refresh(&self) {
+        if let Some(pace) = &self.pace {
+            pace.get().refresh(&self.rt);
         }
     }
 
@@ -161,22 +184,24 @@ impl<P: Processes + Files + Eprint + Drop> ProcessKeeper<P> {
         }
     }
 
-    // What the child does next, if it does something.
+    // What the child does next, if it does something. Once it was waited for, the shell lets it go.
     fn look(&mut self, alloc: Global, reads: bool) -> Mem<Option<Said>> {
-        match &mut self.kept {
+        let was_running = self.is_running();
+        let said = match &mut self.kept {
             Some(kept) => kept.look(alloc, reads),
             None => {
                 pause(BEAT);
                 Ok(None)
             }
-        }
-    }
-
-    // Notes what a child said: once it was waited for, the shell lets it go.
-    fn note(&mut self, said: &Said) {
-        if is_end(said) {
+        };
+        if was_running && !self.is_running() {
             self.sender.let_go();
         }
+        said
+    }
+
+    // Notes what a child said.
+    fn note(&mut self, said: &Said) {
         if is_fault(said) {
             self.count();
         }
@@ -195,7 +220,12 @@ impl<P: Processes + Files + Eprint + Drop> ProcessKeeper<P> {
         ensures { IfOk result (λ o. IfSome o (λ said. offered self.new.words ≡ Some said)) }
     {
         match self.look(alloc, reads)? {
-            Some(said) => self.offer_new(alloc, said),
+            Some(said) => {
+                if is_end(&said) {
+                    self.refresh();
+                }
+                self.offer_new(alloc, said)
+            }
             None => Ok(None),
         }
     }
@@ -252,7 +282,7 @@ impl<P: Processes + Files + Eprint + Drop> ProcessKeeper<P> {
     }
 }
 
-impl<P: Processes + Files + Eprint + Drop> Keeper for ProcessKeeper<P> {
+impl<P: Processes + Files + Eprint + Drop, X: Wait + Clock + Drop> Keeper for ProcessKeeper<P, X> {
     ghost has_heard = { λ _ _. Unit {0} };
 
     ghost offers = { λ s said. offered s.words ≡ Some said };
@@ -260,6 +290,7 @@ impl<P: Processes + Files + Eprint + Drop> Keeper for ProcessKeeper<P> {
     fn start(&mut self, alloc: Global, ask: &StartAsk) -> Mem<Begun> {
         self.forget();
         self.note_path(alloc, &ask.env_path)?;
+        self.refresh();
         let begun = self.launch(alloc, ask);
         if is_refused(&begun) {
             self.count();

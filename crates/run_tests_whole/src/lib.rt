@@ -1,10 +1,7 @@
-//! Tests of a run on threads whose asked signals are delivered, with keepers, an outside and who stops the program in
-//! memory: that signals come to a child in their order, and what becomes of the run.
+//! Tests of runs whose signals are delivered: of keepers with real children (`keep`), and of runs in memory (`whole`).
 #![tactic(auto)]
 
 #[cfg(test)]
-mod gate;
+mod keep;
 #[cfg(test)]
-mod given;
-#[cfg(test)]
-mod rows;
+mod whole;

@@ -1,6 +1,6 @@
 // Runs of one test under one worker.
-use crate::gate::{CountingHost, CountingKeeper, WaitingOutside};
-use crate::given::{Act, keepers, nothing, runner, signals};
+use crate::whole::gate::{CountingHost, CountingKeeper, WaitingOutside};
+use crate::whole::given::{Act, keepers, nothing, runner, signals};
 use run_capture::List;
 use run_events::{ChildExit, ChildSignal, EventLog, RunOutcome, TermSignal};
 use run_keep::{Heard, MemoryHalter, Sent};
@@ -15,7 +15,7 @@ use std::time::Clock;
 // What a run leaves.
 type Left<C> = Whole<
     CountingKeeper,
-    crate::gate::Milliseconds<C>,
+    crate::whole::gate::Milliseconds<C>,
     WaitingOutside,
     MemoryHalter,
     EventLog,

@@ -1,7 +1,7 @@
 // Plans and children made by hand.
 ghost use Rattle.std.specs.Prelude.{◌≡◌, ◌+◌, ◌<◌, ◌^◌, length};
 
-use crate::gate::{Count, CountingKeeper};
+use crate::whole::gate::{Count, CountingKeeper};
 use run_capture::{CaptureStrategy, List, Stream, Text};
 use run_commands::EnvInput;
 use run_drive::{Begun, Said};

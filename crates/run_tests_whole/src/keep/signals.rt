@@ -1,10 +1,12 @@
 // Who is left of a child's group, and other ways of a signal.
-use crate::given::{BOTH, Given, act, listen, start};
+use crate::keep::given::{BOTH, Given, act, listen, start};
 use run_keep::{Halter, Keeper};
 use run_keep_host::{ProcessKeeper, StopHalter};
 use std::alloc::Global;
 use std::fs::Files;
 use std::process::{Abort, Command, Processes, Stdio};
+use std::sync::Wait;
+use std::time::Clock;
 
 const MEMORY: &str = "memory";
 
@@ -29,8 +31,12 @@ const IS_GONE: &str = "for look in 1 2 3 4 5 6 7 8 9 10 11 12 13 14 15 16 17 18 
 done
 exit 1";
 
-// The process is stopped.
-const IS_STOPPED: &str = "read -r pid name state rest </proc/$1/stat && [ \"$state\" = T ]";
+// The process is stopped, soon at least.
+const IS_STOPPED: &str = "for look in 1 2 3 4 5 6 7 8 9 10 11 12 13 14 15 16 17 18 19 20; do
+  read -r pid name state rest </proc/$1/stat && [ \"$state\" = T ] && exit 0
+  sleep 0.05
+done
+exit 1";
 
 // Kills each shell that this process started, but for the one that its argument names.
 const KILL_SHELLS: &str = "for stat in /proc/[0-9]*/stat; do
@@ -55,8 +61,11 @@ fn grandchild(rt: &impl Abort, alloc: Global, keeper: &mut impl Keeper) -> Strin
 }
 
 // The keeper's own shell is gone: the signal is sent by another.
-fn is_sent_anew<R: Abort + Processes + Files + Eprint + Copy + Drop>(rt: R, alloc: Global) -> bool {
-    let mut keeper = ProcessKeeper::new(rt);
+fn is_sent_anew<R: Abort + Processes + Files + Wait + Clock + Eprint + Copy + Drop>(
+    rt: R,
+    alloc: Global,
+) -> bool {
+    let mut keeper = ProcessKeeper::new(rt, rt);
     let pid = start(&rt, alloc, &mut keeper, "sleep 100 & wait", &BOTH);
     let pid = format!(in alloc; "{pid}").expect(&rt, MEMORY);
     let mut given = Given::new(alloc);
@@ -73,12 +82,12 @@ fn a_signal_is_sent_by_another_shell(rt: HostRuntime) {
 }
 
 // The end of a keeper, or its drop as where the program dies, kills the group.
-fn leaves_none<R: Abort + Processes + Files + Eprint + Copy + Drop>(
+fn leaves_none<R: Abort + Processes + Files + Wait + Clock + Eprint + Copy + Drop>(
     rt: R,
     alloc: Global,
     ends: bool,
 ) -> bool {
-    let mut keeper = ProcessKeeper::new(rt);
+    let mut keeper = ProcessKeeper::new(rt, rt);
     let pid = grandchild(&rt, alloc, &mut keeper);
     let is_there = !holds(&rt, alloc, "[ ! -d /proc/$1 ]", pid.as_str());
     if ends {

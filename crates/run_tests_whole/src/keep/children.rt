@@ -1,5 +1,5 @@
 // Children that are looked at and sent signals: one row for each.
-use crate::given::{BOTH, Given, act, ask, begin, listen, start};
+use crate::keep::given::{BOTH, Given, act, ask, begin, listen, start};
 use run_capture::{Stream, Text};
 use run_commands::EnvInput;
 use run_drive::Said;
@@ -10,19 +10,30 @@ use std::alloc::Global;
 use std::fs;
 use std::fs::Files;
 use std::process::{Abort, Processes};
+use std::sync::Wait;
+use std::time::Clock;
 
 // A script, what is done (see `act`), what it writes to each stream, how it ends, and how many of its streams end.
-// Their standard input is empty. A child that hangs ends by TERM, as its own child does, which holds both streams. A
-// group that ignores TERM ends by KILL, which is sent at once where there is no grace. A child that is stopped hears
-// TERM once it goes on. The exit is told at once though another process holds both streams: what that writes comes
-// after the exit, and where it writes nothing both stay open.
-const ROWS: [(&str, &str, &str, &str, ChildExit, u32); 8] = [
+// Their standard input is empty. What a child wrote and the ends of its streams are told before its exit. A child that
+// hangs ends by TERM, as its own child does, which holds both streams. A group that ignores TERM ends by KILL, which is
+// sent at once where there is no grace. A child that is stopped hears TERM once it goes on. The exit is told though
+// another process holds both streams: what that writes comes after it, where it writes nothing both stay open, and
+// where it writes without an end the exit isn't waited for.
+const ROWS: [(&str, &str, &str, &str, ChildExit, u32); 9] = [
     (
         "cat; echo out; echo err >&2",
         "eg",
         "out\n",
         "err\n",
         ChildExit::Code(0),
+        2,
+    ),
+    (
+        "echo out; echo err >&2; exit 5",
+        "x",
+        "out\n",
+        "err\n",
+        ChildExit::Code(5),
         2,
     ),
     (
@@ -102,14 +113,14 @@ fn play(
 }
 
 // The same of a keeper that has no failure.
-fn played<R: Abort + Processes + Files + Eprint + Copy + Drop>(
+fn played<R: Abort + Processes + Files + Wait + Clock + Eprint + Copy + Drop>(
     rt: R,
     alloc: Global,
     script: &str,
     acts: &str,
     captured: &[Stream],
 ) -> (bool, Given) {
-    let mut keeper = ProcessKeeper::new(rt);
+    let mut keeper = ProcessKeeper::new(rt, rt);
     let (is_well, given) = play(&rt, alloc, &mut keeper, script, acts, captured);
     (is_well && keeper.faults() == 0, given)
 }
@@ -138,6 +149,13 @@ fn long_output_is_read_whole(rt: HostRuntime) {
     assert!(rt; is_well && given.output.len() == 1_000_000 && given.errors.len() == 1_000_000);
 }
 
+// Another process writes on after the child's end.
+#[test]
+fn an_exit_is_told_among_output(rt: HostRuntime) {
+    let (is_well, given) = played(rt, rt.alloc(), "yes & exit 6", "xg", &BOTH);
+    assert!(rt; is_well && given.ended(ChildExit::Code(6)));
+}
+
 // Whether a piece that isn't accepted is kept, and the exit is offered beside it.
 fn keeps_a_piece(rt: &impl Abort, alloc: Global, keeper: &mut impl Keeper) -> bool {
     let mut is_piece = false;
@@ -155,7 +173,7 @@ fn keeps_a_piece(rt: &impl Abort, alloc: Global, keeper: &mut impl Keeper) -> bo
 #[test]
 fn a_piece_is_kept(rt: HostRuntime) {
     let alloc = rt.alloc();
-    let mut keeper = ProcessKeeper::new(rt);
+    let mut keeper = ProcessKeeper::new(rt, rt);
     start(&rt, alloc, &mut keeper, "echo out; sleep .3", &BOTH);
     let is_kept = keeps_a_piece(&rt, alloc, &mut keeper);
     let mut given = Given::new(alloc);
@@ -173,7 +191,7 @@ fn starts_none(rt: &impl Abort, alloc: Global, keeper: &mut impl Keeper) -> bool
 
 #[test]
 fn what_is_no_program_is_refused(rt: HostRuntime) {
-    let mut keeper = ProcessKeeper::new(rt);
+    let mut keeper = ProcessKeeper::new(rt, rt);
     let is_refused = starts_none(&rt, rt.alloc(), &mut keeper);
     assert!(rt; is_refused && keeper.faults() == 2);
 }
@@ -206,7 +224,7 @@ fn hands_on(
 #[test]
 fn a_script_hands_on_its_variables(rt: HostRuntime) {
     let alloc = rt.alloc();
-    let mut keeper = ProcessKeeper::new(rt);
+    let mut keeper = ProcessKeeper::new(rt, rt);
     let is_written = fs::write(&rt, "keep.tmp", "B=2\n").is_ok();
     let ask = script_ask(&rt, alloc, "printf 'A=1\\n' >> keep.tmp", "keep.tmp");
     let is_handed = hands_on(&rt, alloc, &mut keeper, &ask, b"A=1\n");
@@ -219,7 +237,7 @@ fn send_away<T: Send + Drop>(_value: T) {}
 
 #[test]
 fn threads_may_have_them(rt: HostRuntime) {
-    send_away(ProcessKeeper::new(rt));
+    send_away(ProcessKeeper::new(rt, rt));
     send_away(LineOutside::new(rt, rt.alloc(), rt.stdin()));
     send_away(StopHalter::new(rt, 1));
 }
