@@ -4,6 +4,7 @@
 #![tactic(auto)]
 
 mod delivering;
+mod recording;
 
 use delivering::{Delivered, run_and_deliver};
 use run_cli::{Ran, StdSink, StdSource, run};
@@ -12,13 +13,14 @@ use run_host::StdHost;
 use std::process::ExitCode;
 use std::sync::Wait;
 use std::thread::Threads;
+use std::time::Clock;
 use std::{env, io};
 
 const VERSION: &str = "nextest_run 0.0.0";
 
 const HELP: &str = "The execution engine of a test runner
 
-Usage: nextest_run run < PLAN
+Usage: nextest_run run [--record FILE] < PLAN
        nextest_run live < PLAN
        nextest_run replay < INPUT
        nextest_run progress WIDTH < INPUT
@@ -26,6 +28,7 @@ Usage: nextest_run run < PLAN
 
   run              runs the tests of PLAN, each as a process of its own, and ends those that take too long; each line
                    after PLAN is a signal or a key that it hears, as {\"turn\":\"signal\",\"name\":\"int\"}
+  --record FILE    records the run in a new file, a store that nextest_store plays
   live             the same, but it sends no signal, hears none, and waits for each test
   replay           carries out the run that INPUT tells
   progress WIDTH   the same, and shows its progress on a terminal of WIDTH columns, from 1 to 1000
@@ -154,9 +157,28 @@ fn given(words: &Option<Vec<String>>) -> Option<&[String]> {
     }
 }
 
-// Whether the words are the command whose signals are delivered.
-fn delivers(words: &[String]) -> bool {
-    matches!(words, [word] if word.as_str() == "run")
+// The command whose signals are delivered.
+enum Delivery<'a> {
+    Unrecorded,
+    /// With the file of its record.
+    Recorded(&'a str),
+}
+
+// The same with one more word.
+fn delivery_with(option: &str) -> Option<Delivery<'_>> {
+    Some(Delivery::Recorded(option.strip_prefix("--record=")?))
+}
+
+// What the words say of that command, if they are it.
+fn delivery_of(words: &[String]) -> Option<Delivery<'_>> {
+    match words {
+        [run] if run.as_str() == "run" => Some(Delivery::Unrecorded),
+        [run, option] if run.as_str() == "run" => delivery_with(option.as_str()),
+        [run, option, name] if run.as_str() == "run" && option.as_str() == "--record" => {
+            Some(Delivery::Recorded(name.as_str()))
+        }
+        _ => None,
+    }
 }
 
 // Does what the words say, and answers the status. Words of which one is not UTF-8 are run as no words are.
@@ -179,13 +201,38 @@ fn run_words<X: Threads + Wait + Sync>(
 }
 
 // Runs a plan and delivers its signals, and answers the status.
-fn run_delivered<X: Threads + Wait + Sync>(threads: &X, rt: HostRuntime, words: &[String]) -> u8 {
+fn run_delivered<X: Threads + Wait + Clock + Sync + Send + Copy + Drop>(
+    threads: &X,
+    rt: HostRuntime,
+    command: &[String],
+    record: Option<&str>,
+) -> u8 {
     let sink = LastLine::new(rt.alloc(), StdSink::new(rt.stdout()));
-    let Delivered { line, ran } = run_and_deliver(threads, rt, sink);
+    let Delivered { line, ran } = run_and_deliver(threads, rt, sink, record);
     let Ran { status, sink } = ran;
     let (input, last) = (Some(line.as_slice()), sink.line());
-    say(&rt, Some(words), status, Seen { input, last });
+    if status != 2 {
+        say(&rt, Some(command), status, Seen { input, last });
+    }
     status
+}
+
+// Does what the words say, and answers the status.
+fn run_given<X: Threads + Wait + Clock + Sync + Send + Copy + Drop>(
+    threads: &X,
+    rt: HostRuntime,
+    words: &[String],
+) -> u8 {
+    match delivery_of(words) {
+        Some(Delivery::Unrecorded) => run_delivered(threads, rt, words, None),
+        Some(Delivery::Recorded(name)) => run_delivered(
+            threads,
+            rt,
+            &words[..words.len().min(1)],
+            Some(name),
+        ),
+        None => run_words(threads, rt, Some(words)),
+    }
 }
 
 fn main(rt: HostRuntime) -> ExitCode {
@@ -197,8 +244,8 @@ fn main(rt: HostRuntime) -> ExitCode {
         Request::NoText => None,
     };
     let status = match given(&words) {
-        Some(words) if delivers(words) => run_delivered(&rt, rt, words),
-        words => run_words(&rt, rt, words),
+        Some(words) => run_given(&rt, rt, words),
+        None => run_words(&rt, rt, None),
     };
     ExitCode::from(status)
 }

@@ -3,6 +3,6 @@ mod FoundLemmas
 mod StepLemmas
 mod ReadLemmas
 mod WriteLemmas
-mod StoreLemmas
+pub mod StoreLemmas
 pub mod LineLemmas
 mod RecordedLemmas

@@ -1,0 +1,10 @@
+//! The recorded run of a plan: the run of the layer below, of which a second sink takes the store. It stands on that
+//! run, and on the writer of stores.
+#![tactic(auto)]
+
+mod filling;
+mod outcome;
+mod top;
+
+pub use outcome::RecordOutcome;
+pub use top::{Recorded, run_recorded};

@@ -1,0 +1,86 @@
+// The top call: the run of a plan line, and its record.
+ghost use Rattle.std.specs.Prelude.{◌≡◌, [], true};
+ghost use Rattle.run_laws.specs.Course.{turns_of};
+ghost use Rattle.run_cli.specs.Call.{writing_of};
+ghost use Rattle.run_cli.specs.Live.{is_unbegun};
+ghost use Rattle.run_whole_cli.specs.Relations.{relations};
+ghost use Rattle.run_record.specs.Recorded.{AnswersRecorded, turns_left};
+
+use crate::RecordOutcome;
+use crate::filling::{begin, finish};
+use crate::outcome::is_over;
+use run_capture::Sink;
+use run_drive::Ticker;
+use run_keep::{Halter, Keeper, KeeperHost, Outside};
+use run_model::Entry;
+use run_whole_cli::{Around, Ran, WholeLeft, run_plan};
+use std::alloc::Global;
+use std::sync::Wait;
+use std::thread::Threads;
+
+/// How a recorded run ended: the status with the sink of its lines, the status that the run itself has, what became of
+/// its record with the sink of that, and what is left of the run.
+pub struct Recorded<K, F, L> {
+    pub ran: Ran<K>,
+    pub own: u8,
+    pub outcome: RecordOutcome,
+    pub store: F,
+    pub left: Option<L>,
+}
+
+// The journal of what is left of a run.
+fn journal_of<W: Keeper + Drop, T: Ticker + Drop, O: Outside + Drop, S: Halter + Drop>(
+    left: &Option<WholeLeft<W, T, O, S>>,
+) -> &[Entry]
+    ensures { turns_of result.now ≡ turns_left left.now }
+{
+    match left {
+        Some(WholeLeft::Run(run)) => run.journal.as_slice(),
+        Some(WholeLeft::CutOff(cut_off)) => cut_off.journal.as_slice(),
+        None => &[],
+    }
+}
+
+/// Runs the plan that a line says, as `run_plan` does, and records it: a second sink takes the store of the plan line
+/// before anything runs, and once the run has ended the turns that it took, and the store's end where it is over. What
+/// each status says stands in `AnswersRecorded`: a run with an outcome that could not be recorded ends with 9 where the
+/// second sink failed, with 12 where a turn's line is longer than 16,777,216 bytes, and with 11 where memory was
+/// wanting; what was recorded is a front part of the store then. Any other run ends as without a record.
+pub fn run_recorded<
+    K: Sink + Send,
+    F: Sink,
+    H: KeeperHost,
+    O: Outside + Send + Drop,
+    S: Halter + Send + Drop,
+    X: Threads + Wait + Sync,
+>(
+    rt: &X,
+    alloc: Global,
+    line: &[u8],
+    sink: K,
+    store: F,
+    host: &mut H,
+    around: Around<O, S>,
+) -> Recorded<K, F, WholeLeft<H::Worker, H::Tick, O, S>>
+    requires quiet { O.has_come around.outside [] }
+    requires runs { S.has_halted around.halter 0 }
+    ensures says { AnswersRecorded (relations H.Worker.has_heard H.Tick.has_told O.has_come S.has_halted) line.now
+        (writing_of K.Sink sink result.ran.sink) (writing_of F.Sink store result.store) result.left
+        result.own result.outcome result.ran.status }
+    ensures unused { is_unbegun result.own ≡ true → host.new ≡ host.old }
+{
+    let begun = begin(alloc, line, store);
+    let (Ran { status: own, sink }, left) = run_plan(rt, alloc, line, sink, host, around);
+    let (outcome, store) = finish(alloc, begun, journal_of(&left), is_over(own));
+    let ran = Ran {
+        status: outcome.status(own),
+        sink,
+    };
+    Recorded {
+        ran,
+        own,
+        outcome,
+        store,
+        left,
+    }
+}
