@@ -14,8 +14,8 @@ pub struct Answer {
     pub written: Vec<u8>,
 }
 
-// Memory was wanting.
-fn wanting(_: OutOfMemory) -> io::Error {
+/// Memory was wanting.
+pub fn wanting(_: OutOfMemory) -> io::Error {
     io::Error::from(AllocError)
 }
 
@@ -38,8 +38,8 @@ pub fn input_of<X: AllocGlobal + Files>(rt: &X, name: &str) -> io::Result<Vec<u8
     fs::read(rt, format!(in rt.alloc(); "{name}.in")?)
 }
 
-// The list of a number, or of none for 0.
-fn numbers(alloc: Global, number: u64) -> Result<List<u64>, OutOfMemory> {
+/// The list of a number, or of none for 0.
+pub fn numbers(alloc: Global, number: u64) -> Result<List<u64>, OutOfMemory> {
     let mut list = List::new();
     if number > 0 {
         list.push(alloc, number)?;
@@ -47,15 +47,21 @@ fn numbers(alloc: Global, number: u64) -> Result<List<u64>, OutOfMemory> {
     Ok(list)
 }
 
-fn source_of(alloc: Global, bytes: &[u8], streams: Streams) -> Result<MemorySource, OutOfMemory> {
-    let failing = numbers(alloc, streams.failing_read)?;
+/// Bytes, and zeros after them until they are so many.
+pub fn filled(alloc: Global, bytes: &[u8], count: usize) -> Result<Blob, OutOfMemory> {
     let mut input = Blob::new(alloc);
     input.extend_from_slice(alloc, bytes)?;
     let zeros = [0u8; 4096];
-    'zeros: while input.len() < streams.filled {
-        let room = streams.filled.saturating_sub(input.len());
+    'zeros: while input.len() < count {
+        let room = count.saturating_sub(input.len());
         input.extend_from_slice(alloc, &zeros[..room.min(4096)])?;
     }
+    Ok(input)
+}
+
+fn source_of(alloc: Global, bytes: &[u8], streams: Streams) -> Result<MemorySource, OutOfMemory> {
+    let failing = numbers(alloc, streams.failing_read)?;
+    let input = filled(alloc, bytes, streams.filled)?;
     Ok(MemorySource::new(input, streams.most.max(1), failing))
 }
 

@@ -1,16 +1,19 @@
-//! Worked rows of the program of stores: whole inputs and stores that the top call records and plays from memory into
-//! memory. The folder `data/` has the table of the rows, their inputs, and of each the whole of what is to be written.
-//! One store is also played with each of its front parts and with each of its bytes changed, and of a longer one the
-//! fronts at the ends of its records. Each byte and each status is compared, and a line is printed for each row; where
-//! a row differs, what was written follows.
+//! Worked rows of the programs of stores and of reruns: whole inputs, stores and chains of stores that the top calls
+//! carry out from memory into memory. The folder `data/` has the tables of the rows, their inputs, and of each the
+//! whole of what is to be written. One store is also played with each of its front parts and with each of its bytes
+//! changed, and of a longer one the fronts at the ends of its records. Each byte and each status is compared, and how
+//! many stores of a chain are opened and given back. A line is printed for each row; where a row differs, what was
+//! written follows.
 #![tactic(auto)]
 
 mod carried;
 mod damaged;
+mod reruns;
 mod table;
 
 use carried::{Answer, answer_of, input_of, words_of};
 use damaged::{changes, cuts, fronts};
+use reruns::{Rerun, rerun_answer, rerun_of};
 use std::fs::Files;
 use std::io::Write;
 use std::process::ExitCode;
@@ -65,6 +68,43 @@ fn unmet<X: AllocGlobal + Files + Print>(rt: &X, table: &str) -> io::Result<u64>
     Ok(count)
 }
 
+// Whether a row of reruns was answered as it is to be, and each store that was opened was given back.
+fn is_rerun_met<X: AllocGlobal + Files + Print>(rt: &X, row: &Rerun) -> io::Result<bool> {
+    let wanted = fs::read(rt, format!(in rt.alloc(); "{}.out", row.name)?)?;
+    let (answer, opened) = rerun_answer(rt, row, wanted.len())?;
+    let Answer { status, written } = answer;
+    let is_opened = opened == Some(row.opened);
+    if status != row.status || !is_opened {
+        println!(rt; "{}: status {status}, opened {opened:?}", row.name)?;
+    }
+    Ok(is_wanted(rt, row.name, written.as_slice())? && status == row.status && is_opened)
+}
+
+// Whether a line of the table of reruns is met: a row, or one that says nothing.
+fn is_rerun_line_met<X: AllocGlobal + Files + Print>(rt: &X, line: &str) -> io::Result<bool> {
+    if line.is_empty() || line.starts_with('#') {
+        return Ok(true);
+    }
+    match rerun_of(line) {
+        Some(row) => is_rerun_met(rt, &row),
+        None => {
+            println!(rt; "no row: {line}")?;
+            Ok(false)
+        }
+    }
+}
+
+// How many lines of the table of reruns aren't met.
+fn unmet_reruns<X: AllocGlobal + Files + Print>(rt: &X, table: &str) -> io::Result<u64> {
+    let mut count = 0u64;
+    for line in table.lines() {
+        if !is_rerun_line_met(rt, line)? {
+            count = count.saturating_add(1);
+        }
+    }
+    Ok(count)
+}
+
 // Whether damaged stores are played as they are to be.
 fn are_damaged_met<X: AllocGlobal + Files + Print>(rt: &X) -> io::Result<bool> {
     let alloc = rt.alloc();
@@ -85,8 +125,10 @@ fn main(rt: HostRuntime) -> io::Result<ExitCode> {
     let table = fs::read_to_string(&rt, "rows.txt")?;
     let count = unmet(&rt, table.as_str())?;
     let are_met = are_damaged_met(&rt)?;
-    println!(rt; "{count} rows differ")?;
-    Ok(if count == 0 && are_met {
+    let reruns = fs::read_to_string(&rt, "reruns.txt")?;
+    let rerun_count = unmet_reruns(&rt, reruns.as_str())?;
+    println!(rt; "{count} rows of stores differ, {rerun_count} of reruns")?;
+    Ok(if count == 0 && rerun_count == 0 && are_met {
         ExitCode::SUCCESS
     } else {
         ExitCode::FAILURE

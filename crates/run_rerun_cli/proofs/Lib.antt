@@ -1,0 +1,8 @@
+mod CountLemmas
+mod LineLemmas
+mod FoundLemmas
+mod ChainLemmas
+mod VerdictLemmas
+mod WordLemmas
+mod OneLemmas
+mod CauseLemmas

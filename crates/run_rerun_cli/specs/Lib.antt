@@ -1,0 +1,15 @@
+pub mod Visits
+pub mod Shelves
+pub mod RerunFaults
+pub mod Found
+pub mod Finds
+pub mod Chains
+pub mod Reads
+pub mod LineEnds
+pub mod Verdicts
+pub mod Comes
+pub mod RerunCauses
+pub mod PlanWords
+pub mod Counted
+pub mod InMemory
+pub mod InFiles
