@@ -1,0 +1,14 @@
+mod FaultLemmas
+mod LevelLemmas
+mod PlaceLemmas
+mod StateLemmas
+mod LedgerLemmas
+mod SettleLemmas
+mod TestLemmas
+mod AcceptLemmas
+mod RunLemmas
+mod WaveLemmas
+mod OneLemmas
+mod ComesLemmas
+mod NextLemmas
+mod OnceLemmas

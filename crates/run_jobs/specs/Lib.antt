@@ -1,0 +1,11 @@
+pub mod Jobs
+pub mod Levels
+pub mod Kept
+pub mod States
+pub mod Settled
+pub mod Ledgers
+pub mod Heard
+pub mod WavePlan
+pub mod Waves
+pub mod Next
+pub mod Once
