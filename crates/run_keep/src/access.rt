@@ -21,7 +21,7 @@ pub(crate) struct Access<'a, X: Wait, L: Ledger, R: Reporter> {
     pub alloc: Global,
     pub shared: &'a SharedRun<L, R>,
     pub beats: &'a Beats,
-    /// By which units decide.
+    /// From which the words come by which units decide.
     pub word: u32,
 }
 
@@ -83,6 +83,15 @@ fn offer<X: Wait, L: Ledger, R: Reporter>(
     add_offered(run.alloc, offered, receipts)
 }
 
+// Another word for each number of receipts, so that a worker's delays differ: a step of a sequence that comes to each
+// word, with its bits mixed.
+fn word_after(word: u32, receipts: usize) -> u32 {
+    let steps = (receipts as u64 & 0xffff_ffff) as u32;
+    let next = word.wrapping_add(steps.wrapping_mul(0x9e37_79b9));
+    let mixed = (next ^ (next >> 16)).wrapping_mul(0x85eb_ca6b);
+    mixed ^ (mixed >> 13)
+}
+
 // Settles until nothing is ready or a sub-run has ended, and adds the receipts.
 #[tactic(auto, using(crate::proofs::EnterLemmas::settles_these))]
 fn settle<X: Wait, L: Ledger, R: Reporter>(
@@ -96,7 +105,8 @@ fn settle<X: Wait, L: Ledger, R: Reporter>(
         (share.new.amount + length receipts.old ≡ share.old.amount + length receipts.new) }
     ensures parts { share.new.parts ≡ share.old.parts }
 {
-    let settled = wind(run.rt, run.alloc, run.shared, share, run.word)?;
+    let word = word_after(run.word, receipts.len());
+    let settled = wind(run.rt, run.alloc, run.shared, share, word)?;
     append(run.alloc, receipts, settled)?;
     Ok(())
 }
