@@ -1,9 +1,9 @@
 -- What all threads leave, put together.
 use Rattle.std.proofs.Common.{◌≡◌, ℕ, ◌+◌, ◌<◌, ◌⊎◌, inl, inr, List, [], ◌∷◌, ◌++◌, length, slice_index_or}
-use Rattle.std.proofs.Common.{refl, sym, subst, arith}
+use Rattle.std.proofs.Common.{false, refl, sym, subst, arith}
 use Rattle.std.proofs.lemmas.List.{length_push}
 use Rattle.std.proofs.lemmas.List.Sums.{sum_by_push}
-use Rattle.std.specs.List.{sum_by}
+use Rattle.std.specs.List.{list_any, sum_by}
 use Rattle.run_events.specs.declared.plan.Hearing.{Hearing}
 use Rattle.run_shared.specs.declared.shared.Receipt.{Receipt}
 use Rattle.run_shared.specs.declared.offered.Refusal.{Refusal}
@@ -14,6 +14,7 @@ use Rattle.run_keep.specs.declared.listened.Dropped.{Dropped}
 use Rattle.run_keep.specs.declared.outside.Came.{Came}
 use Rattle.run_live.proofs.GatherLemmas.{length-joined_push, at_front, at_end, last_or}
 use Rattle.run_whole.specs.Own.{IsKeeperWork, HasToldSteps, HasHeardAll, IsTickerWork, IsListenerWork, AreAllKept}
+use Rattle.run_whole.specs.Own.{is_third_dropped}
 use Rattle.run_whole.specs.Work.{IsCollected}
 
 pub gathered_none : {W : Type 0} (has_heard : W → List Heard → Type 0) → IsCollected has_heard [] [] [] [] 0 0 0
@@ -116,9 +117,12 @@ ticker_of has_told t place rss rs x same told = λ ys. rw (at_end rss rs ys plac
 -- the listener's receipts stand behind those of the ticker
 pub listener_of : {O : Type 0} (has_come : O → List Came → Type 0) (hearing : Hearing) (o : O) (place : ℕ)
     (rss : List (List Receipt)) (rs : List Receipt) (xs : List Dropped) → length rss ≡ place
-    → HasHeardAll has_come hearing o rs xs → IsListenerWork has_come hearing o place (rss ++ rs ∷ []) xs
-listener_of has_come hearing o place rss rs xs same heard =
-    λ ys. rw (at_end rss rs ys place place same refl) heard
+    → HasHeardAll has_come hearing o rs xs → list_any is_third_dropped xs ≡ false
+    → IsListenerWork has_come hearing o place (rss ++ rs ∷ []) xs
+listener_of has_come hearing o place rss rs xs same heard calm = record {
+  calm = calm;
+  heard = λ ys. rw (at_end rss rs ys place place same refl) heard;
+}
 
 -- what was gathered of all threads is whole
 pub whole_of : {W : Type 0} (has_heard : W → List Heard → Type 0) (ws : List W) (rss : List (List Receipt))

@@ -1,10 +1,13 @@
 -- What the receipts of a run's workers, of its ticker and of its listener say.
-use Rattle.std.specs.Prelude.{ℕ, ◌≡◌, ◌+◌, ◌<◌, List, [], ◌∷◌, ◌++◌, length, slice_index_or, Bool, Option, None}
-use Rattle.std.specs.List.{All}
+use Rattle.std.specs.Prelude.{ℕ, ◌≡◌, ◌+◌, ◌<◌, List, [], ◌∷◌, ◌++◌, length, slice_index_or, Bool, true, false}
+use Rattle.std.specs.Prelude.{Option, None}
+use Rattle.std.specs.List.{All, list_any}
 use Rattle.run_events.specs.declared.plan.Hearing.{Hearing}
 use Rattle.run_events.specs.declared.turn.Turn.TheVariants as turns
 use Rattle.run_shared.specs.declared.shared.Receipt.{Receipt}
 use Rattle.run_shared.specs.declared.offered.Refusal.{Refusal}
+use Rattle.run_shared.specs.declared.offered.RefusalKind.{RefusalKind}
+use Rattle.run_shared.specs.declared.offered.RefusalKind.TheVariants.{ThirdSignal}
 use Rattle.run_shared.specs.declared.orders.Order.{Order}
 use Rattle.run_drive.specs.Driven.{OfWorker, child_turns, refused_turns, IsMerge}
 use Rattle.run_drive.specs.Ticked.{steps_in}
@@ -12,6 +15,7 @@ use Rattle.run_keep.specs.declared.keeper.Heard.{Heard}
 use Rattle.run_keep.specs.declared.listened.Dropped.{Dropped}
 use Rattle.run_keep.specs.declared.outside.Came.{Came}
 use Rattle.run_keep.specs.Minded.{IsUnwritten, Minds, Rises, turns_heard, signals_ordered, signals_told}
+use Rattle.run_keep.specs.declared.listened.Dropped.TheVariants.{Unheard, Refused}
 use Rattle.run_keep.specs.Rounds.{OfRounds}
 use Rattle.run_keep.specs.Listened.{OfListener, IsDropped, outside_turns, dropped_turns, turns_come}
 
@@ -64,8 +68,17 @@ pub record HasHeardAll {O : Type 0} (has_come : O → List Came → Type 0) (hea
 abbrev pub IsTickerWork : {T : Type 0} → (T → List ℕ → Type 0) → T → ℕ → List (List Receipt) → Refusal → Type 0
 IsTickerWork has_told t place rss x = (rs : List Receipt) → HasToldSteps has_told t (slice_index_or rss place rs) x
 
--- the receipts of the listener stand at this place
-abbrev pub IsListenerWork : {O : Type 0} → (O → List Came → Type 0) → Hearing → O → ℕ → List (List Receipt)
-    → List Dropped → Type 0
-IsListenerWork has_come hearing o place rss xs = (rs : List Receipt)
-    → HasHeardAll has_come hearing o (slice_index_or rss place rs) xs
+-- whether what was dropped is a third shutdown signal that the run refused
+abbrev pub is_third_kind : RefusalKind → Bool
+is_third_kind ThirdSignal = true
+is_third_kind _ = false
+
+abbrev pub is_third_dropped : Dropped → Bool
+is_third_dropped (Unheard what) = false
+is_third_dropped (Refused refusal) = is_third_kind refusal.kind
+
+-- the receipts of the listener stand at this place, and the run refused no third shutdown signal
+pub record IsListenerWork {O : Type 0} (has_come : O → List Came → Type 0) (hearing : Hearing) (o : O) (place : ℕ)
+    (rss : List (List Receipt)) (xs : List Dropped) : Type 0 where
+  pub calm : list_any is_third_dropped xs ≡ false
+  pub heard : (rs : List Receipt) → HasHeardAll has_come hearing o (slice_index_or rss place rs) xs

@@ -1,5 +1,7 @@
 // Who hears the outside and stops the program, on a thread of its own.
-ghost use Rattle.std.specs.Prelude.{◌≡◌, IfErr, IfOk, IfSome};
+ghost use Rattle.std.specs.Prelude.{◌≡◌, IfErr, IfOk, IfSome, false};
+ghost use Rattle.std.specs.List.{list_any};
+ghost use Rattle.run_whole.specs.Own.{is_third_dropped};
 ghost use Rattle.run_whole.specs.Whole.{IsThird};
 ghost use Rattle.run_whole.specs.Work.{HasListened, IsEarReady};
 
@@ -149,6 +151,35 @@ fn if_third(refusal: Refusal) -> Option<Refusal>
         _ => {
             drop(refusal);
             None
+        }
+    }
+}
+
+// Whether what was dropped is a third shutdown signal that the run refused.
+fn is_third(dropped: &Dropped) -> bool
+    ensures { result ≡ is_third_dropped dropped.now }
+{
+    match dropped {
+        Dropped::Refused { refusal } => matches!(refusal.kind(), RefusalKind::ThirdSignal),
+        Dropped::Unheard { .. } => false,
+    }
+}
+
+// Whether one of what was dropped is one.
+fn has_third(dropped: &[Dropped]) -> bool
+    ensures { result ≡ list_any is_third_dropped dropped.now }
+{
+    dropped.iter().any(|one| is_third(one))
+}
+
+impl<L: Ledger, O, S> Listening<L, O, S> {
+    // Whether a third shutdown signal that came from outside was refused.
+    pub(crate) fn is_cut_off(&self) -> bool
+        ensures { result ≡ false → IfSome self.now.work (λ w. list_any is_third_dropped w.0.dropped ≡ false) }
+    {
+        match &self.work {
+            Some((work, _)) => has_third(work.dropped.as_slice()),
+            None => false,
         }
     }
 }

@@ -1,10 +1,12 @@
 // What all threads leave, put together.
 ghost use Rattle.std.specs.Prelude.{◌≡◌, ◌+◌, ◌<◌, ◌++◌, ◌∷◌, [], ℕ, IfOk, IfErr, OnOk, IfSome, length, slice_index_or};
+ghost use Rattle.std.specs.Prelude.{false};
 ghost use Rattle.run_whole.specs.Whole.{IsThird};
-ghost use Rattle.std.specs.List.{All, sum_by};
+ghost use Rattle.std.specs.List.{All, list_any, sum_by};
 ghost use Rattle.run_shared.specs.declared.shared.Receipt.{Receipt};
 ghost use Rattle.std.specs.Prelude.{List};
 ghost use Rattle.run_whole.specs.Own.{HasHeardAll, IsListenerWork, IsKeeperWork, IsTickerWork, HasToldSteps};
+ghost use Rattle.run_whole.specs.Own.{is_third_dropped};
 ghost use Rattle.run_whole.specs.Work.{HasListened, HasTimed, HasKept, IsCollected};
 
 use crate::ear_thread::{Listening, third_of};
@@ -196,7 +198,9 @@ fn ear_of<O: Outside + Drop, S: Halter + Drop, L: Ledger>(
     heard: Listening<L, O, S>,
     hearing: Hearing,
 ) -> Option<(Ear<O, S>, Share<L>, List<Receipt>)>
-    requires { HasListened O.has_come S.has_halted hearing heard }
+    requires heard { HasListened O.has_come S.has_halted hearing heard }
+    requires calm { IfSome heard.work (λ w. list_any is_third_dropped w.0.dropped ≡ false) }
+    ensures calm { IfSome result (λ r. list_any is_third_dropped r.0.dropped ≡ false) }
     ensures part { IfSome result (λ r. r.1.parts ≡ 1) }
     ensures rose { IfSome result (λ r. r.1.amount ≡ length r.2) }
     ensures heard { IfSome result (λ r. HasHeardAll O.has_come hearing r.0.around.outside r.2 r.0.dropped) }
@@ -259,6 +263,7 @@ fn add_ear<W: Keeper + Drop, O: Outside + Drop, S: Halter + Drop, L: Ledger>(
         (sum_by (λ (s : Share L). s.parts) all.old.shares.items)
         (sum_by (λ (s : Share L). s.amount) all.old.shares.items) }
     requires heard { HasListened O.has_come S.has_halted hearing heard }
+    requires calm { IfSome heard.work (λ w. list_any is_third_dropped w.0.dropped ≡ false) }
     ensures gathered { OnOk result (IsCollected W.has_heard all.new.workers.keepers.items all.new.receipts
         all.new.workers.lost all.new.workers.orders 2
         (sum_by (λ (s : Share L). s.parts) all.new.shares.items)
@@ -277,8 +282,8 @@ fn add_ear<W: Keeper + Drop, O: Outside + Drop, S: Halter + Drop, L: Ledger>(
     Ok(ear)
 }
 
-// Puts what the ticker and the listener leave behind what the workers left. Where memory was wanting it answers the
-// refusal of a third signal, if that was the cause.
+// Puts what the ticker and the listener leave behind what the workers left. Where memory was wanting, and where the
+// run refused a third signal, it answers the refusal of that signal, if there was one.
 fn add_beside<W: Keeper + Drop, T: Ticker + Drop, O: Outside + Drop, S: Halter + Drop, L: Ledger>(
     alloc: Global,
     all: &mut Gathered<L, W>,
@@ -307,6 +312,10 @@ fn add_beside<W: Keeper + Drop, T: Ticker + Drop, O: Outside + Drop, S: Halter +
     let Ok(rounds) = add_ticker(alloc, all, timed) else {
         return Err(third_of(alloc, heard));
     };
+    if heard.is_cut_off() {
+        drop(rounds);
+        return Err(third_of(alloc, heard));
+    }
     let Ok(ear) = add_ear(alloc, all, heard, hearing) else {
         drop(rounds);
         return Err(None);

@@ -50,8 +50,8 @@ handed_in t = handed t.workers.orders t.ear.halts
 
 -- there are as many workers as may run at a time, or as there are units where they are fewer. The receipts, refusals
 -- and orders of each are all that its keeper was asked, was told and said; behind them stand the ticker's receipts, and
--- those of what came from outside, of which only what the plan doesn't hear or the run refused was dropped; and the
--- program was stopped once for each halt
+-- those of what came from outside, of which only what the plan doesn't hear or the run refused was dropped, and no
+-- third shutdown signal; and the program was stopped once for each halt
 pub record HaveReceipts {W T O S : Type 0} (k : Relations W T O S) (p : Settings) (t : Ended W T O S)
     (receipts : List (List Receipt)) : Type 0 where
   pub count : length t.workers.keepers.items ≡ workers_in p

@@ -12,7 +12,7 @@ returns-clause-ear g c =
     rw (c.in_ok-add_more.ensures.workers, c.in_ok-add_more.ensures.receipts)
     (listener_of g.O.Outside.has_come c.args.hearing c.in-Some.ear.around.outside
     (length all.workers.keepers.items + 1) all.receipts c.in-Some.receipts c.in-Some.ear.dropped
-    c.requires.gathered.lists c.in-Some.ensures.heard)
+    c.requires.gathered.lists c.in-Some.ensures.heard c.in-Some.ensures.calm)
 
 pub returns-clause-before : goal.returns-clause-before
 returns-clause-before g c = λ k rs below.
