@@ -4,6 +4,7 @@ use crate::target::Target;
 use crate::waiting::pause;
 use run_capture::Mem;
 use run_drive::Said;
+use run_events::ChildSignal;
 use run_host::{exit_of, unwaited};
 use std::alloc::Global;
 use std::process::{Child, OpenProcess};
@@ -20,6 +21,8 @@ pub(crate) struct KeptChild<C: OpenProcess + Drop> {
     quiet: u32,
     /// How many things in a row came of its streams.
     pieces: u32,
+    /// Its group, while that is stopped.
+    stopped: Option<Target>,
 }
 
 // A call of its own, which keeps the proofs of all that hold one small.
@@ -32,6 +35,7 @@ impl<C: OpenProcess + Drop> Drop for KeptChild<C> {
             end: _,
             quiet: _,
             pieces: _,
+            stopped: _,
         } = self;
     }
 }
@@ -50,6 +54,7 @@ impl<C: OpenProcess + Drop> KeptChild<C> {
             end: None,
             quiet: 0,
             pieces: 0,
+            stopped: None,
         }
     }
 
@@ -74,6 +79,20 @@ impl<C: OpenProcess + Drop> KeptChild<C> {
     /// Something is about to come: it is looked at more often for a while.
     pub fn rouse(&mut self) {
         self.quiet = 0;
+    }
+
+    /// Notes that it was sent a signal, or its group.
+    pub fn note_sent(&mut self, signal: ChildSignal, target: Target) {
+        match signal {
+            ChildSignal::Tstp if target.group => self.stopped = Some(target),
+            ChildSignal::Cont => self.stopped = None,
+            _ => {}
+        }
+    }
+
+    /// Its group, where that is stopped.
+    pub fn stopped(&self) -> Option<Target> {
+        self.stopped
     }
 
     /// Kills it alone. Answers whether it was sent.

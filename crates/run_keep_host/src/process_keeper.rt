@@ -27,8 +27,8 @@ use std::time::Clock;
 /// program. A script's environment file is made empty before its start.
 ///
 /// A signal is sent by a shell of the keeper's own (where that is gone by one that is started for it), and only while
-/// the child wasn't waited for. At the end of the program, whatever it is, that shell kills the child that runs, with
-/// its group.
+/// the child wasn't waited for. Where it ended while its group was stopped, the group is sent a continue: nobody else
+/// would. At the end of the program, whatever it is, that shell kills the child that runs, with its group.
 ///
 /// Before a start and before an end is told, it asks its host's ticker, if it has one, to tell the time.
 #[derive(Drop)]
@@ -184,7 +184,21 @@ impl<P: Processes + Files + Eprint + Drop, X: Wait + Clock + Drop> ProcessKeeper
         }
     }
 
-    // What the child does next, if it does something. Once it was waited for, the shell lets it go.
+    // A child was waited for: the shell lets it go, and continues its group where that is stopped.
+    fn let_go(&mut self, alloc: Global) {
+        let stopped = match &self.kept {
+            Some(kept) => kept.stopped(),
+            None => None,
+        };
+        if let Some(target) = stopped {
+            let _ = self
+                .sender
+                .send(&self.outside, alloc, name_of(ChildSignal::Cont), target);
+        }
+        self.sender.let_go();
+    }
+
+    // What the child does next, if it does something. Once it was waited for, it is let go.
     fn look(&mut self, alloc: Global, reads: bool) -> Mem<Option<Said>> {
         let was_running = self.is_running();
         let said = match &mut self.kept {
@@ -195,7 +209,7 @@ impl<P: Processes + Files + Eprint + Drop, X: Wait + Clock + Drop> ProcessKeeper
             }
         };
         if was_running && !self.is_running() {
-            self.sender.let_go();
+            self.let_go(alloc);
         }
         said
     }
@@ -257,6 +271,13 @@ impl<P: Processes + Files + Eprint + Drop, X: Wait + Clock + Drop> ProcessKeeper
         Ok(sent || (is_kill(signal) && self.kill()))
     }
 
+    // Notes that the child was sent a signal.
+    fn note_sent(&mut self, signal: ChildSignal, target: Target) {
+        if let Some(kept) = &mut self.kept {
+            kept.note_sent(signal, target);
+        }
+    }
+
     // A signal could not be sent.
     fn fail(&mut self, alloc: Global, signal: ChildSignal, target: Target) -> Mem<Sent> {
         self.count();
@@ -268,6 +289,7 @@ impl<P: Processes + Files + Eprint + Drop, X: Wait + Clock + Drop> ProcessKeeper
     // Sends a signal, and says where that fails.
     fn send_to(&mut self, alloc: Global, signal: ChildSignal, target: Target) -> Mem<Sent> {
         if self.is_sent(alloc, signal, target)? {
+            self.note_sent(signal, target);
             Ok(Sent::Sent)
         } else {
             self.fail(alloc, signal, target)

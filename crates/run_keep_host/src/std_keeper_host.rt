@@ -1,10 +1,12 @@
 // The host of real children that are sent signals.
+ghost use Rattle.std.specs.Prelude.{◌≡◌};
+
 use crate::pace::Pace;
-use crate::{PacedTicker, ProcessKeeper};
+use crate::{PacedOutside, PacedTicker, ProcessKeeper};
 use run_capture::Shared;
 use run_drive::Host;
 use run_host::StdHost;
-use run_keep::KeeperHost;
+use run_keep::{KeeperHost, Outside};
 use std::alloc::Global;
 use std::fs::Files;
 use std::process::{OpenProcess, Processes};
@@ -35,6 +37,13 @@ impl<
             host: StdHost::new(outside),
             pace: Shared::new(alloc, Pace::new()).ok(),
         }
+    }
+
+    /// An outside that asks the host's tickers for the time before it says that something came.
+    pub fn paced<O: Outside + Drop>(&self, outside: O) -> PacedOutside<O, X>
+        ensures { result.outside ≡ outside }
+    {
+        PacedOutside::new(self.rt, outside, self.pace())
     }
 
     // What its keepers and tickers share, if they share something.

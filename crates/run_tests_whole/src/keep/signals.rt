@@ -81,6 +81,26 @@ fn a_signal_is_sent_by_another_shell(rt: HostRuntime) {
     assert!(rt; is_sent);
 }
 
+// A grandchild is stopped when the child itself has ended, and goes on once that is seen.
+fn goes_on<R: Abort + Processes + Files + Wait + Clock + Eprint + Copy + Drop>(
+    rt: R,
+    alloc: Global,
+) -> bool {
+    let mut keeper = ProcessKeeper::new(rt, rt);
+    let mut given = Given::new(alloc);
+    start(&rt, alloc, &mut keeper, "(sleep 0.3; printf late) &", &BOTH);
+    holds(&rt, alloc, "sleep 0.1", "")
+        && act(&rt, alloc, &mut keeper, &mut given, 'S')
+        && act(&rt, alloc, &mut keeper, &mut given, 'e')
+        && given.wrote("late", "")
+}
+
+#[test]
+fn a_stopped_grandchild_goes_on(rt: HostRuntime) {
+    let goes_on = goes_on(rt, rt.alloc());
+    assert!(rt; goes_on);
+}
+
 // The end of a keeper, or its drop as where the program dies, kills the group.
 fn leaves_none<R: Abort + Processes + Files + Wait + Clock + Eprint + Copy + Drop>(
     rt: R,
