@@ -14,10 +14,11 @@ use std::sync::Wait;
 use std::thread::Threads;
 use std::time::Clock;
 
-/// The line of the plan, and how its run ended.
+/// The line of the plan, how its run ended, and whether standard error has said why already.
 pub struct Delivered<K> {
     pub line: Blob,
     pub ran: Ran<K>,
+    pub said: bool,
 }
 
 // The fault that there is no line.
@@ -48,6 +49,7 @@ fn run_line<
     sink: K,
 ) -> Ran<K> {
     let mut host = StdKeeperHost::new(rt, *threads, rt.alloc());
+    let outside = host.paced(outside);
     let (ran, left) = run_plan(
         threads,
         rt.alloc(),
@@ -60,7 +62,7 @@ fn run_line<
     ran
 }
 
-// Runs the plan of a line, and records it in a new file.
+// Runs the plan of a line, and records it in a new file. Answers also whether it was said that there is no file.
 fn run_line_recorded<
     K: Sink + Send,
     I: Read + Send + Drop,
@@ -72,12 +74,16 @@ fn run_line_recorded<
     outside: LineOutside<I, HostRuntime>,
     sink: K,
     name: &str,
-) -> Ran<K> {
+) -> (Ran<K>, bool) {
     let file = match create(&rt, name) {
         Ok(file) => file,
-        Err(error) => return end_without_record(&rt, rt.alloc(), sink, name, &error),
+        Err(error) => {
+            let ran = end_without_record(&rt, rt.alloc(), sink, name, &error);
+            return (ran, true);
+        }
     };
     let mut host = StdKeeperHost::new(rt, *threads, rt.alloc());
+    let outside = host.paced(outside);
     let Recorded {
         ran,
         own,
@@ -96,7 +102,7 @@ fn run_line_recorded<
     drop(left);
     drop(store);
     close(&rt, name, outcome, own);
-    ran
+    (ran, false)
 }
 
 /// Reads the plan line from standard input, and runs its plan: each later line is a signal or a key that it hears. With
@@ -111,15 +117,16 @@ pub fn run_and_deliver<K: Sink + Send, X: Threads + Wait + Clock + Sync + Send +
     let mut outside = LineOutside::new(rt, alloc, rt.stdin());
     match outside.first_line(alloc) {
         Ok(line) => {
-            let ran = match record {
+            let (ran, said) = match record {
                 Some(name) => run_line_recorded(threads, rt, &line, outside, sink, name),
-                None => run_line(threads, rt, &line, outside, sink),
+                None => (run_line(threads, rt, &line, outside, sink), false),
             };
-            Delivered { line, ran }
+            Delivered { line, ran, said }
         }
         Err(error) => Delivered {
             line: Blob::new(alloc),
             ran: end_with(alloc, sink, fault_of(error)),
+            said: false,
         },
     }
 }

@@ -10,13 +10,15 @@ use delivering::{Delivered, run_and_deliver};
 use run_cli::{Ran, StdSink, StdSource, run};
 use run_hints::{KeptSource, LastLine, Seen, explain};
 use run_host::StdHost;
+use run_program::{Request, print, print_memory, request_of};
 use std::process::ExitCode;
 use std::sync::Wait;
 use std::thread::Threads;
 use std::time::Clock;
-use std::{env, io};
 
 const VERSION: &str = "nextest_run 0.0.0";
+
+const COMMANDS: [&str; 5] = ["run", "live", "replay", "progress", "generate"];
 
 const HELP: &str = "The execution engine of a test runner
 
@@ -81,8 +83,6 @@ Exit status:
 
 docs/FORMATS.md of the repository has the formats of all lines.";
 
-const MEMORY_LINE: &str = "{\"fault\":\"memory\",\"status\":11}";
-
 const NO_MEMORY: &str = "nextest_run: error: memory was wanting";
 
 // Says on standard error how the program ended, but of success: nothing where memory is wanting for that.
@@ -94,59 +94,10 @@ fn say(rt: &HostRuntime, words: Option<&[String]>, status: u8, seen: Seen) {
     };
 }
 
-// Prints a text, and answers the status of that.
-fn print(rt: &HostRuntime, text: &str) -> u8 {
-    match println!(rt; "{text}") {
-        Ok(()) => 0,
-        Err(_) => 9,
-    }
-}
-
 // Says that memory was wanting before the words were known, and answers the status of that.
 fn no_memory(rt: &HostRuntime) -> u8 {
-    let _ = println!(rt; "{MEMORY_LINE}");
     let _ = eprintln!(rt; "{NO_MEMORY}");
-    11
-}
-
-// What the program is asked for.
-enum Request {
-    Help,
-    Version,
-    Run(Vec<String>),
-    /// A word is not UTF-8.
-    NoText,
-    /// The words could not be copied for want of memory.
-    NoMemory,
-}
-
-// The words after the program's name.
-fn words_given(rt: &HostRuntime) -> io::Result<Vec<String>> {
-    let mut words = Vec::new(rt.alloc());
-    for word in env::args(rt)?.skip(1) {
-        words.push(word)?;
-    }
-    Ok(words)
-}
-
-// Whether a command is asked what it does.
-fn asks_of(command: &str, word: &str) -> bool {
-    let is_command = matches!(command, "run" | "live" | "replay" | "progress" | "generate");
-    is_command && matches!(word, "--help" | "-h")
-}
-
-// What the words ask for.
-fn request_of(rt: &HostRuntime) -> Request {
-    match words_given(rt) {
-        Ok(words) => match words.as_slice() {
-            [word] if matches!(word.as_str(), "--help" | "-h" | "help") => Request::Help,
-            [word] if matches!(word.as_str(), "--version" | "-V") => Request::Version,
-            [command, word] if asks_of(command.as_str(), word.as_str()) => Request::Help,
-            _ => Request::Run(words),
-        },
-        Err(error) if error.kind() == io::ErrorKind::OutOfMemory => Request::NoMemory,
-        Err(_) => Request::NoText,
-    }
+    print_memory(rt)
 }
 
 // The words that were given; none where one of them is not UTF-8.
@@ -208,10 +159,10 @@ fn run_delivered<X: Threads + Wait + Clock + Sync + Send + Copy + Drop>(
     record: Option<&str>,
 ) -> u8 {
     let sink = LastLine::new(rt.alloc(), StdSink::new(rt.stdout()));
-    let Delivered { line, ran } = run_and_deliver(threads, rt, sink, record);
+    let Delivered { line, ran, said } = run_and_deliver(threads, rt, sink, record);
     let Ran { status, sink } = ran;
     let (input, last) = (Some(line.as_slice()), sink.line());
-    if status != 2 {
+    if !said {
         say(&rt, Some(command), status, Seen { input, last });
     }
     status
@@ -236,7 +187,7 @@ fn run_given<X: Threads + Wait + Clock + Sync + Send + Copy + Drop>(
 }
 
 fn main(rt: HostRuntime) -> ExitCode {
-    let words = match request_of(&rt) {
+    let words = match request_of(&rt, &COMMANDS) {
         Request::Help => return ExitCode::from(print(&rt, HELP)),
         Request::Version => return ExitCode::from(print(&rt, VERSION)),
         Request::NoMemory => return ExitCode::from(no_memory(&rt)),

@@ -3,11 +3,15 @@
 #![tactic(auto)]
 
 use run_cli::{Ran, StdSink, StdSource};
+use run_program::{Request, print, print_memory, request_of, say_error};
 use run_store_cli::run;
 use std::process::ExitCode;
-use std::{env, io};
+
+const NAME: &str = "nextest_store";
 
 const VERSION: &str = "nextest_store 0.0.0";
+
+const COMMANDS: [&str; 2] = ["record", "play"];
 
 const HELP: &str = "Stores of recorded runs
 
@@ -29,8 +33,6 @@ Exit status, besides those of nextest_run replay:
 
 docs/FORMATS.md of the repository has the formats of lines and stores.";
 
-const MEMORY_LINE: &str = "{\"fault\":\"memory\",\"status\":11}";
-
 // What a status means, where it is that of no outcome.
 fn meaning(status: u8) -> Option<&'static str> {
     match status {
@@ -50,66 +52,6 @@ fn meaning(status: u8) -> Option<&'static str> {
     }
 }
 
-// Says on standard error what the status means.
-fn say(rt: &HostRuntime, status: u8) {
-    if let Some(text) = meaning(status) {
-        let _ = eprintln!(rt; "nextest_store: error: {text}");
-    }
-}
-
-// Prints a text, and answers the status of that.
-fn print(rt: &HostRuntime, text: &str) -> u8 {
-    match println!(rt; "{text}") {
-        Ok(()) => 0,
-        Err(_) => 9,
-    }
-}
-
-// Says that memory was wanting before the words were known, and answers the status of that.
-fn print_memory(rt: &HostRuntime) -> u8 {
-    let _ = println!(rt; "{MEMORY_LINE}");
-    11
-}
-
-// What the program is asked for.
-enum Request {
-    Help,
-    Version,
-    Run(Vec<String>),
-    /// A word is not UTF-8.
-    NoText,
-    /// The words could not be copied for want of memory.
-    NoMemory,
-}
-
-// The words after the program's name.
-fn words_given(rt: &HostRuntime) -> io::Result<Vec<String>> {
-    let mut words = Vec::new(rt.alloc());
-    for word in env::args(rt)?.skip(1) {
-        words.push(word)?;
-    }
-    Ok(words)
-}
-
-// Whether a command is asked what it does.
-fn asks_of(command: &str, word: &str) -> bool {
-    matches!(command, "record" | "play") && matches!(word, "--help" | "-h")
-}
-
-// What the words ask for.
-fn request_of(rt: &HostRuntime) -> Request {
-    match words_given(rt) {
-        Ok(words) => match words.as_slice() {
-            [word] if matches!(word.as_str(), "--help" | "-h" | "help") => Request::Help,
-            [word] if matches!(word.as_str(), "--version" | "-V") => Request::Version,
-            [command, word] if asks_of(command.as_str(), word.as_str()) => Request::Help,
-            _ => Request::Run(words),
-        },
-        Err(error) if error.kind() == io::ErrorKind::OutOfMemory => Request::NoMemory,
-        Err(_) => Request::NoText,
-    }
-}
-
 // Runs the words, and answers the status.
 fn run_words(rt: &HostRuntime, words: &[String]) -> u8 {
     let mut source = StdSource::new(rt.stdin());
@@ -121,13 +63,13 @@ fn run_words(rt: &HostRuntime, words: &[String]) -> u8 {
 
 // Words of which one is not UTF-8 are run as no words are.
 fn main(rt: HostRuntime) -> ExitCode {
-    let status = match request_of(&rt) {
+    let status = match request_of(&rt, &COMMANDS) {
         Request::Help => return ExitCode::from(print(&rt, HELP)),
         Request::Version => return ExitCode::from(print(&rt, VERSION)),
         Request::NoMemory => print_memory(&rt),
         Request::Run(words) => run_words(&rt, words.as_slice()),
         Request::NoText => run_words(&rt, &[]),
     };
-    say(&rt, status);
+    say_error(&rt, NAME, meaning(status));
     ExitCode::from(status)
 }
