@@ -1,11 +1,11 @@
 -- The plan of a wave is never refused.
-use Rattle.std.proofs.Common.{◌≡◌, ◌∙◌, ℕ, zero, suc, ◌+◌, ◌<◌, ◌≤◌, ◌^◌, ◌==◌, List, [], ◌∷◌, ◌++◌, map, length}
+use Rattle.std.proofs.Common.{◌≡◌, ◌∙◌, ℕ, zero, suc, ◌+◌, ◌<◌, ◌≤◌, ◌==◌, List, [], ◌∷◌, map, length}
 use Rattle.std.proofs.Common.{take, filter, get_or}
-use Rattle.std.proofs.Common.{Bool, true, false, cond, ◌&&◌, Option, Some, None, is_some, slice_get, refl, sym, ap}
-use Rattle.std.proofs.Common.{subst, arith, max, option_map}
-use Rattle.std.proofs.Common.{length-take, get_or-take, option_and_then, codes, nat_eq}
+use Rattle.std.proofs.Common.{Bool, true, false, cond, Option, Some, None, is_some, slice_get, refl, sym, ap}
+use Rattle.std.proofs.Common.{arith, max, option_map}
+use Rattle.std.proofs.Common.{length-take, get_or-take, option_and_then, nat_eq}
 use Rattle.std.specs.Prelude.{⊤}
-use Rattle.std.specs.List.{All, cons_option, filter_map, list_any}
+use Rattle.std.specs.List.{All, cons_option, filter_map}
 use Rattle.std.specs.Option.{option_or}
 use Rattle.std.proofs.lemmas.List.{length-take-le}
 use Rattle.std.proofs.lemmas.List.Elements.{All-filter, All-from_get_or, All-head, All-tail, All-weaker}

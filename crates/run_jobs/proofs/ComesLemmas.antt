@@ -1,15 +1,14 @@
 -- What was answered is what lists of turns come to.
-use Rattle.std.proofs.Common.{◌≡◌, ◌∙◌, ℕ, ◌⊎◌, inl, inr, List, length, take, Bool, true, false, Option, Some, None}
+use Rattle.std.proofs.Common.{◌≡◌, ◌∙◌, ℕ, ◌⊎◌, inl, inr, List, take, Bool, true, false, Option, Some, None}
 use Rattle.std.proofs.Common.{is_none}
-use Rattle.std.proofs.Common.{Result, Ok, Err, slice_get, refl, sym, ap, subst, arith}
+use Rattle.std.proofs.Common.{Result, Ok, Err, refl, sym, ap, subst}
 use Rattle.run_capture.specs.Faults.{Rose}
 use Rattle.run_events.specs.declared.ask.Ask.{Ask}
 use Rattle.run_events.specs.declared.events.ReporterEvent.{ReporterEvent}
 use Rattle.run_events.specs.declared.outcome.RunOutcome.{RunOutcome}
 use Rattle.run_events.specs.declared.settings.Settings.{Settings}
 use Rattle.run_events.specs.declared.turn.Turn.{Turn}
-use Rattle.run_model.specs.declared.entry.Entry.{Entry}
-use Rattle.run_laws.specs.Course.{AreAnswersOf, IsJournalOf, none_refused, refuses_none, turns_of}
+use Rattle.run_laws.specs.Course.{IsJournalOf, refuses_none, turns_of}
 use Rattle.run_laws.proofs.board.Courses.{unrefused}
 use Rattle.run_engine.specs.Execution.{Carries, Executes, UnlessMemory}
 use Rattle.run_engine.specs.World.{CountsErrors, Outside}

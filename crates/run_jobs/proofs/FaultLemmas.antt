@@ -1,17 +1,16 @@
 -- What is wrong with jobs, job by job.
 use Rattle.std.proofs.Common.{◌≡◌, ◌∙◌, ℕ, zero, suc, ◌+◌, ◌<◌, ◌≤◌, List, [], ◌∷◌, ◌++◌, length, take, drop, get_or}
-use Rattle.std.proofs.Common.{Bool, true, false, not, cond, ◌||◌, ◌==◌, Option, Some, None, is_some, option_map}
-use Rattle.std.proofs.Common.{slice_get, nat_lt, nat_eq}
-use Rattle.std.proofs.Common.{refl, sym, ap, arith, length-take, length-append, drop-cons, add-one}
-use Rattle.std.specs.List.{All, list_any}
+use Rattle.std.proofs.Common.{Bool, true, false, not, cond, ◌||◌, Option, Some, None, is_some, option_map}
+use Rattle.std.proofs.Common.{slice_get, nat_lt}
+use Rattle.std.proofs.Common.{refl, sym, ap, arith, drop-cons, add-one}
+use Rattle.std.specs.List.{All}
 use Rattle.std.specs.Option.{option_or, option_map_or}
 use Rattle.std.proofs.lemmas.List.{take_more, length-take-le}
 use Rattle.std.proofs.lemmas.List.Elements.{All-nil, All-cons}
 use Rattle.std.proofs.lemmas.Option.{get_or_from_slice_get}
 use Rattle.run_jobs.specs.declared.job.Job.{Job}
-use Rattle.run_jobs.specs.declared.job.JobsError.{JobsError}
 use Rattle.run_jobs.specs.declared.job.JobsError.TheVariants.{BadAfter}
-use Rattle.run_jobs.specs.Jobs.{after_of, fault_here, first_fault, first_not_below, has_job, job_fault, jobs_fault}
+use Rattle.run_jobs.specs.Jobs.{fault_here, first_fault, first_not_below, has_job}
 use Rattle.run_jobs.specs.Levels.{AreOrdered}
 
 -- the first of two, where it is there, and else the second

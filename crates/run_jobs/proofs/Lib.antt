@@ -10,5 +10,6 @@ mod RunLemmas
 mod WaveLemmas
 mod OneLemmas
 mod ComesLemmas
+mod DueLemmas
 mod NextLemmas
 mod OnceLemmas

@@ -1,7 +1,7 @@
 -- The waves that are due, up to the last one.
-use Rattle.std.proofs.Common.{◌≡◌, ◌∙◌, ℕ, zero, suc, ◌+◌, ◌<◌, ◌≤◌, ◌⊎◌, inl, inr, List, [], ◌∷◌, ◌++◌, map, length}
+use Rattle.std.proofs.Common.{◌≡◌, ◌∙◌, ℕ, zero, suc, ◌+◌, ◌<◌, ◌≤◌, List, [], ◌∷◌, length}
 use Rattle.std.proofs.Common.{take}
-use Rattle.std.proofs.Common.{Bool, true, false, not, filter, ◌&&◌, nat_lt, max, get_or, Option, Some, None, IsSome}
+use Rattle.std.proofs.Common.{Bool, true, false, not, filter, ◌&&◌, nat_lt, get_or, Option, Some, None, IsSome}
 use Rattle.std.proofs.Common.{Result, Ok, Err}
 use Rattle.std.proofs.Common.{slice_get, refl, sym, ap, subst, arith, length-take-le}
 use Rattle.std.specs.List.{All, list_any}
@@ -32,7 +32,7 @@ use Rattle.run_jobs.proofs.FaultLemmas.{none_there, there_within}
 use Rattle.run_jobs.proofs.AcceptLemmas.{few_places}
 use Rattle.run_jobs.proofs.LevelLemmas.{length-levels, small_more}
 use Rattle.run_jobs.proofs.PlaceLemmas.{places_all}
-use Rattle.run_jobs.proofs.StateLemmas.{length-states, level_is, ready_known}
+use Rattle.run_jobs.proofs.StateLemmas.{length-states, ready_known}
 use Rattle.run_jobs.proofs.WaveLemmas.{AreAfter, AreAt, is_above}
 
 -- the level of a job is its number at most
@@ -222,7 +222,7 @@ pub next_stops : {R E C : Type 0} (tells : R → List (ReporterEvent × Option E
     (lists : List (List Turn)) (states : List (Option JobState)) (w : ℕ) (error : WavesError E)
     → AreOrdered batch.jobs → AreAt tells asks (outside faults r s c d) batch lists states w
     → AnswersNext tells asks (outside faults s t d e) batch (ready_jobs batch.jobs states w) lists w (Err error)
-    → AnswersWaves tells asks (outside faults r t c e) batch lists (Err error)
+    → AnswersDue tells asks (outside faults r t c e) batch lists states (Err error)
 next_stops tells asks faults r s t c d e batch lists states w (errors.Wave n x) ordered at next =
     let same = next_is tells asks (outside faults r s c d) batch lists states w ordered at in (
       at.waves,
@@ -245,10 +245,21 @@ next_stops tells asks faults r s t c d e batch lists states w (errors.Missing n)
       some_due batch at.waves at.going (subst (λ ks. 0 < length ks) same next.1),
       next.0 ∙ sym at.count,
       omega (arith, no_item lists w next.2, enough batch lists at.waves at.have, at.count, next.0),
+      subst (AreKnown batch.jobs at.waves states) (sym next.0) at.known,
       quiet_at tells asks faults r s t c d e at.waves at.ran next.3,
     )
 next_stops tells asks faults r s t c d e batch lists states w (errors.Extra g u) ordered at next = absurd next
 next_stops tells asks faults r s t c d e batch lists states w errors.OutOfMemory ordered at next = tt
+
+-- an error of running the waves that are due is that of running all
+pub due_error : {R E C : Type 0} (tells : R → List (ReporterEvent × Option E) → Type 0)
+    (asks : C → List (ℕ × Ask) → Type 0) (o : Outside R C) (batch : Batch) (lists : List (List Turn))
+    (states : List (Option JobState)) (error : WavesError E) → AnswersDue tells asks o batch lists states (Err error)
+    → AnswersWaves tells asks o batch lists (Err error)
+due_error tells asks o batch lists states (errors.Wave n x) due = due
+due_error tells asks o batch lists states (errors.Missing n) due = (due.0, due.1, due.2, due.3, due.4, due.6)
+due_error tells asks o batch lists states (errors.Extra g u) due = due
+due_error tells asks o batch lists states errors.OutOfMemory due = due
 
 -- what is answered once all waves that were due have run
 pub finished : {R E C : Type 0} (tells : R → List (ReporterEvent × Option E) → Type 0)

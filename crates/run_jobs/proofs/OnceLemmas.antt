@@ -1,14 +1,12 @@
 -- How often each job of a wave is told started and finished.
-use Rattle.std.proofs.Common.{◌≡◌, ◌∙◌, ℕ, List, [], ◌∷◌, Bool, true, false, ◌&&◌, not, cond, refl, sym, ap, subst}
+use Rattle.std.proofs.Common.{◌≡◌, ◌∙◌, ℕ, List, [], ◌∷◌, true, ◌&&◌, not, cond, sym, ap, subst}
 use Rattle.std.specs.List.{All}
 use Rattle.std.proofs.lemmas.List.Elements.{All-head}
 use Rattle.run_events.specs.Stats.{one_if}
 use Rattle.run_events.specs.declared.settings.Settings.{Settings}
-use Rattle.run_events.specs.declared.outcome.RunOutcome.{RunOutcome}
 use Rattle.run_model.specs.declared.happening.Happening.{Happening}
-use Rattle.run_model.specs.Journal.{outcome}
 use Rattle.run_model.specs.Story.{never_started, was_left}
-use Rattle.run_model.specs.Words.{ended_runs, is_over, sub_run, told}
+use Rattle.run_model.specs.Words.{ended_runs, is_over, sub_run}
 use Rattle.run_laws_calls.specs.Counts.{AreToldByFate, IsToldByItsFate, finishes_told, is_to_run, skips_told}
 use Rattle.run_laws_calls.specs.Counts.{starts_told}
 use Rattle.run_laws_calls.specs.Whole.{IsOneRun}

@@ -1,11 +1,11 @@
 -- The jobs of a level, in order.
 use Rattle.std.proofs.Common.{◌≡◌, ◌∙◌, ℕ, zero, suc, ◌+◌, ◌-◌, ◌<◌, ◌≤◌, List, [], ◌∷◌, ◌++◌, length, take, drop}
 use Rattle.std.proofs.Common.{get_or}
-use Rattle.std.proofs.Common.{Bool, true, false, cond, ◌==◌, refl, sym, ap, subst, arith, length-append, add-one}
+use Rattle.std.proofs.Common.{Bool, true, false, cond, ◌==◌, refl, sym, ap, arith}
 use Rattle.std.proofs.Common.{drop-cons}
 use Rattle.std.specs.List.{All}
 use Rattle.std.proofs.Common.{get_or-take}
-use Rattle.std.proofs.lemmas.List.{take_more, length-take-le, take-append-drop}
+use Rattle.std.proofs.lemmas.List.{length-take-le, take-append-drop}
 use Rattle.std.proofs.lemmas.List.Elements.{All-nil, All-cons, All-get_or, All-weaker}
 use Rattle.run_jobs.specs.declared.job.Job.{Job}
 use Rattle.run_jobs.specs.Levels.{at_level, job_level, levels_of}

@@ -1,12 +1,11 @@
 -- What an answer to the turns of one wave says.
-use Rattle.std.proofs.Common.{◌≡◌, ◌∙◌, ℕ, ◌<◌, ◌≤◌, ◌⊎◌, inl, inr, List, [], ◌∷◌, ◌++◌, map, zip, reverse, length}
-use Rattle.std.proofs.Common.{Bool, true}
-use Rattle.std.proofs.Common.{false, Option, Some, None, is_none, slice_get, Result, Ok, Err, refl, sym, ap, subst}
+use Rattle.std.proofs.Common.{◌≡◌, ◌∙◌, ℕ, ◌<◌, List, [], ◌∷◌, ◌++◌, map, zip, reverse, length}
+use Rattle.std.proofs.Common.{Bool}
+use Rattle.std.proofs.Common.{Option, Some, None, is_none, slice_get, Result, Ok, Err, refl, sym, ap, subst}
 use Rattle.std.proofs.Common.{arith}
 use Rattle.std.specs.declared.convert.Infallible.{Infallible}
 use Rattle.std.proofs.lemmas.List.{map-append}
 use Rattle.std.proofs.lemmas.Slice.Zip.{firsts-zip}
-use Rattle.run_capture.specs.Faults.{Rose}
 use Rattle.run_events.specs.Tell.{Adds}
 use Rattle.run_events.specs.declared.ask.Ask.{Ask}
 use Rattle.run_events.specs.declared.events.ReporterEvent.{ReporterEvent}
@@ -19,11 +18,11 @@ use Rattle.run_model.specs.declared.happening.Happening.{Happening}
 use Rattle.run_model.specs.Journal.{IsLegalBackward, history, past_of}
 use Rattle.run_model.specs.Turns.{happening}
 use Rattle.run_model.specs.Words.{answers, events_in, told}
-use Rattle.run_laws.specs.Course.{AreAnswersOf, IsJournalOf, none_refused, refuses_none, turns_of}
+use Rattle.run_laws.specs.Course.{refuses_none}
 use Rattle.run_laws.proofs.board.Courses.{one_course, unrefused}
 use Rattle.run_engine.specs.Builder.{Builder}
 use Rattle.run_engine.specs.Execution.{Carries, Executes, UnlessMemory}
-use Rattle.run_engine.specs.World.{CountsErrors, Outside, earlier, first_error, flagged}
+use Rattle.run_engine.specs.World.{CountsErrors, Outside, first_error, flagged}
 use Rattle.run_engine.specs.declared.errors.TestRunnerExecuteErrors.{TestRunnerExecuteErrors}
 use Rattle.run_jobs.specs.declared.ledger.Results.{Results}
 use Rattle.run_jobs.specs.Heard.{HasResults}

@@ -1,22 +1,20 @@
 -- The jobs of a level are set one by one.
-use Rattle.std.proofs.Common.{◌≡◌, ◌∙◌, ℕ, zero, suc, ◌+◌, ◌<◌, ◌≤◌, List, [], ◌∷◌, ◌++◌, length, take, drop, set}
+use Rattle.std.proofs.Common.{◌≡◌, ◌∙◌, ℕ, zero, suc, ◌+◌, ◌<◌, List, [], ◌∷◌, ◌++◌, length, take, drop, set}
 use Rattle.std.proofs.Common.{get_or}
-use Rattle.std.proofs.Common.{filter, Bool, true, false, cond, ◌==◌, Option, Some, None, is_none, slice_get, refl}
+use Rattle.std.proofs.Common.{filter, Bool, true, false, cond, Option, Some, None, is_none, slice_get, refl}
 use Rattle.std.proofs.Common.{sym, ap, subst}
-use Rattle.std.proofs.Common.{arith, ◌⊎◌, inl, inr, add-one, length-append}
-use Rattle.std.specs.List.{All}
-use Rattle.std.proofs.lemmas.List.{take_more, length-take-le, length-set}
-use Rattle.std.proofs.lemmas.List.Elements.{All-get_or, filter-append}
+use Rattle.std.proofs.Common.{arith, ◌⊎◌, inl, inr, length-append}
+use Rattle.std.proofs.lemmas.List.{take_more, length-set}
+use Rattle.std.proofs.lemmas.List.Elements.{filter-append}
 use Rattle.run_jobs.specs.declared.job.Job.{Job}
 use Rattle.run_jobs.specs.declared.job.JobState.{JobState}
 use Rattle.run_jobs.specs.declared.ledger.Results.{Results}
 use Rattle.run_jobs.specs.Jobs.{after_of}
 use Rattle.run_jobs.specs.Levels.{AreOrdered, at_level, job_level, levels_of}
-use Rattle.run_jobs.specs.Settled.{AreKnown, GivesResults, ready_kept, state_kept_with}
+use Rattle.run_jobs.specs.Settled.{AreKnown, GivesResults, state_kept_with}
 use Rattle.run_jobs.specs.States.{Wave, first_unpassed, has_state_passed, is_job_ready, job_passed, job_state}
-use Rattle.run_jobs.specs.States.{ready_state}
 use Rattle.run_jobs.specs.States.{state_with, states_after, wave_unit}
-use Rattle.run_jobs.proofs.PlaceLemmas.{ascends, place_of_job, places_all}
+use Rattle.run_jobs.proofs.PlaceLemmas.{ascends, place_of_job}
 use Rattle.run_jobs.proofs.StateLemmas.{both_hold, levels_below, state_known, unpassed_same, below_or_at}
 
 -- what stands in a list after a write

@@ -1,18 +1,15 @@
 -- The tests of a wave, one by one.
-use Rattle.std.proofs.Common.{◌≡◌, ◌∙◌, ℕ, zero, suc, ◌+◌, ◌<◌, ◌≤◌, List, [], ◌∷◌, ◌++◌, map, length, take, filter}
+use Rattle.std.proofs.Common.{◌≡◌, ◌∙◌, ℕ, suc, ◌+◌, ◌<◌, List, [], ◌∷◌, ◌++◌, map, length, take, filter}
 use Rattle.std.proofs.Common.{get_or}
 use Rattle.std.proofs.Common.{Bool, true, false, cond, Option, Some, None, is_none, is_some, not, slice_get, refl}
-use Rattle.std.proofs.Common.{sym, ap, subst, arith}
+use Rattle.std.proofs.Common.{sym, ap, arith}
 use Rattle.std.specs.List.{All, cons_option, filter_map}
 use Rattle.std.specs.Option.{option_map_or}
 use Rattle.std.proofs.lemmas.List.{map-append, take_more}
 use Rattle.std.proofs.lemmas.List.Elements.{All-head, All-tail, filter-append, filter_map-append}
-use Rattle.run_events.specs.declared.plan.Plan.{Plan}
-use Rattle.run_events.specs.declared.plan.PlanTest.{PlanTest}
-use Rattle.run_engine.specs.Builder.{Builder}
 use Rattle.run_jobs.specs.declared.job.Job.{Job}
 use Rattle.run_jobs.specs.declared.job.JobState.{JobState}
-use Rattle.run_jobs.specs.Jobs.{Batch, after_of}
+use Rattle.run_jobs.specs.Jobs.{Batch}
 use Rattle.run_jobs.specs.States.{first_unpassed, is_job_ready}
 use Rattle.run_jobs.specs.WavePlan.{plan_of_jobs, test_of_job, tests_of_jobs, wave_builder, wave_with}
 use Rattle.run_jobs.proofs.FaultLemmas.{none_there}

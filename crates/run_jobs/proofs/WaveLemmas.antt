@@ -1,17 +1,15 @@
 -- Waves, one after the other.
-use Rattle.std.proofs.Common.{◌≡◌, ◌∙◌, ℕ, zero, suc, ◌+◌, ◌<◌, ◌≤◌, ◌⊎◌, inl, inr, List, [], ◌∷◌, ◌++◌, map, length}
+use Rattle.std.proofs.Common.{◌≡◌, ◌∙◌, ℕ, suc, ◌+◌, ◌<◌, ◌⊎◌, inl, inr, List, [], ◌∷◌, ◌++◌, map, length}
 use Rattle.std.proofs.Common.{take}
-use Rattle.std.proofs.Common.{Bool, true, false, not, cond, ◌||◌, ◌&&◌, nat_lt, Option, Some, None, slice_get, refl}
+use Rattle.std.proofs.Common.{Bool, true, false, not, ◌||◌, ◌&&◌, nat_lt, Option, Some, None, slice_get, refl}
 use Rattle.std.proofs.Common.{sym, ap, subst}
-use Rattle.std.proofs.Common.{arith, length-append, filter}
-use Rattle.std.specs.List.{All, flat_map, list_any}
+use Rattle.std.proofs.Common.{arith, length-append}
+use Rattle.std.specs.List.{flat_map, list_any}
 use Rattle.std.proofs.lemmas.List.{append-nil, append_assoc, map-append, take-append-le}
 use Rattle.std.proofs.lemmas.List.Folds.{list_any-append}
 use Rattle.run_events.specs.Tell.{Adds}
 use Rattle.run_events.specs.declared.ask.Ask.{Ask}
 use Rattle.run_events.specs.declared.events.ReporterEvent.{ReporterEvent}
-use Rattle.run_events.specs.declared.outcome.RunOutcome.{RunOutcome}
-use Rattle.run_events.specs.declared.settings.Settings.{Settings}
 use Rattle.run_events.specs.declared.turn.Turn.{Turn}
 use Rattle.run_laws.specs.Course.{IsJournalOf, refuses_none}
 use Rattle.run_model.specs.Journal.{outcome, past_of}
@@ -21,14 +19,13 @@ use Rattle.run_jobs.specs.declared.job.Job.{Job}
 use Rattle.run_jobs.specs.declared.job.JobState.{JobState}
 use Rattle.run_jobs.specs.declared.ledger.Results.{Results}
 use Rattle.run_jobs.specs.Jobs.{Batch}
-use Rattle.run_jobs.specs.Levels.{AreOrdered, job_level}
-use Rattle.run_jobs.specs.Next.{RunsToEnd, RunsWave}
+use Rattle.run_jobs.specs.Levels.{AreOrdered}
+use Rattle.run_jobs.specs.Next.{RunsWave}
 use Rattle.run_jobs.specs.Settled.{AreKnown, GivesResults}
-use Rattle.run_jobs.specs.States.{Wave, last_result, ready_jobs, ready_state, state_told, states_after}
+use Rattle.run_jobs.specs.States.{Wave, ready_jobs, ready_state, state_told, states_after}
 use Rattle.run_jobs.specs.WavePlan.{wave_settings}
 use Rattle.run_jobs.specs.Waves.{HasRun, HaveRun, TellsWaves, all_asked, all_told, ended_cancelled, is_next_due}
 use Rattle.run_jobs.specs.Waves.{next_jobs}
-use Rattle.run_jobs.specs.Waves.{next_settings}
 use Rattle.run_jobs.proofs.FaultLemmas.{there_within}
 use Rattle.run_jobs.proofs.StateLemmas.{below_or_at, read_before, read_next, ready_known, states_below}
 

@@ -9,3 +9,4 @@ pub mod WavePlan
 pub mod Waves
 pub mod Next
 pub mod Once
+pub mod Due

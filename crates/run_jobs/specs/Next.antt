@@ -1,5 +1,5 @@
 -- What running one wave comes to.
-use Rattle.std.specs.Prelude.{ℕ, ◌≡◌, ◌≤◌, ◌<◌, List, [], ◌∷◌, map, length, slice_get, Bool, false, Option, Some}
+use Rattle.std.specs.Prelude.{ℕ, ◌≡◌, ◌≤◌, ◌<◌, List, [], ◌∷◌, map, length, slice_get, Bool, true, false, Option, Some}
 use Rattle.std.specs.Prelude.{None, Result, Ok, Err, ⊤}
 use Rattle.run_events.specs.Tell.{Adds}
 use Rattle.run_events.specs.declared.ask.Ask.{Ask}
@@ -20,7 +20,7 @@ use Rattle.run_jobs.specs.declared.waves_error.WavesError.TheVariants as errors
 use Rattle.run_jobs.specs.Jobs.{Batch}
 use Rattle.run_jobs.specs.Ledgers.{IsResultsOf}
 use Rattle.run_jobs.specs.Settled.{AreKnown}
-use Rattle.run_jobs.specs.States.{Wave, ready_jobs, states_after}
+use Rattle.run_jobs.specs.States.{Wave, states_after}
 use Rattle.run_jobs.specs.WavePlan.{wave_settings}
 use Rattle.run_jobs.specs.Waves.{AnswersWaves, HaveRun, TellsWaves, ended_cancelled, is_next_due}
 
@@ -81,13 +81,17 @@ AnswersNext tells asks o batch ks lists w (Err (errors.Missing n)) =
 AnswersNext tells asks o batch ks lists w (Err (errors.Extra given due)) = ⊥
 AnswersNext tells asks o batch ks lists w (Err errors.OutOfMemory) = ⊤
 
--- what each answer of running all waves that are due says: how many ran, and what is known then of the jobs
+-- what each answer of running all waves that are due says: how many ran, and what is known then of the jobs; that is
+-- known too where the next one is due and has no list
 abbrev pub AnswersDue : {R E C : Type 0} → (R → List (ReporterEvent × Option E) → Type 0)
     → (C → List (ℕ × Ask) → Type 0) → Outside R C → Batch → List (List Turn) → List (Option JobState)
     → Result ℕ (WavesError E) → Type 0
 AnswersDue tells asks o batch lists states (Ok n) =
     (waves : List Wave) × HaveRun batch lists waves × (is_next_due batch waves ≡ false) × (n ≡ length waves)
     × AreKnown batch.jobs waves states n × TellsWaves tells asks o waves
+AnswersDue tells asks o batch lists states (Err (errors.Missing n)) =
+    (waves : List Wave) × HaveRun batch lists waves × (is_next_due batch waves ≡ true) × (n ≡ length waves)
+    × (length lists ≡ n) × AreKnown batch.jobs waves states n × TellsWaves tells asks o waves
 AnswersDue tells asks o batch lists states (Err error) = AnswersWaves tells asks o batch lists (Err error)
 
 -- what is answered once all waves that are due have run, where so many lists were given

@@ -1,7 +1,7 @@
 -- What comes of each job, by what was told in the waves that ran.
-use Rattle.std.specs.Prelude.{ℕ, zero, suc, ◌==◌, List, [], ◌∷◌, ◌++◌, map, length, take, filter, slice_get, Bool}
+use Rattle.std.specs.Prelude.{ℕ, zero, suc, ◌==◌, List, [], ◌∷◌, ◌++◌, length, take, filter, slice_get, Bool}
 use Rattle.std.specs.Prelude.{true}
-use Rattle.std.specs.Prelude.{false, if◌then◌else◌, Option, Some, None, option_and_then, is_none}
+use Rattle.std.specs.Prelude.{false, if◌then◌else◌, Option, Some, None, is_none}
 use Rattle.std.specs.Option.{option_or, option_map_or}
 use Rattle.run_events.specs.declared.ask.Ask.{Ask}
 use Rattle.run_events.specs.declared.events.ReporterEvent.{ReporterEvent}

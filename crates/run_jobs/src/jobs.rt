@@ -96,6 +96,13 @@ impl Jobs {
         }
     }
 
+    /// How many of them may run at a time.
+    pub fn threads(&self) -> u32
+        ensures { result ≡ self.now.threads }
+    {
+        self.threads
+    }
+
     /// The jobs in order.
     pub fn list(&self) -> &[Job]
         ensures jobs { result.now ≡ self.now.jobs }

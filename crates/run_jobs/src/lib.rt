@@ -3,6 +3,7 @@
 //! turns, and writes their states.
 #![tactic(auto)]
 
+mod due;
 mod faults;
 mod hear;
 mod idle;
@@ -18,6 +19,7 @@ mod wave_plan;
 mod waves;
 mod waves_error;
 
+pub use due::NextPlan;
 pub use job::{Job, JobState, JobsError};
 pub use jobs::Jobs;
 pub use laws::jobs_are_told_once;

@@ -19,8 +19,8 @@ use run_capture::{List, Mem};
 use run_events::{Children, Reporter, Turn};
 use std::alloc::Global;
 
-// States of which none is known.
-fn unknown(alloc: Global, count: usize) -> Mem<Vec<Option<JobState>>>
+/// States of which none is known.
+pub fn unknown(alloc: Global, count: usize) -> Mem<Vec<Option<JobState>>>
     ensures { IfOk result (λ states. length states.items ≡ count) }
 {
     let mut states = Vec::with_capacity(alloc, count)?;
@@ -45,8 +45,8 @@ fn known(alloc: Global, states: &[Option<JobState>]) -> Mem<List<JobState>>
     Ok(known)
 }
 
-// Runs the waves that are due, and answers how many they were.
-fn run_due<C: Children, R: Reporter>(
+/// Runs the waves that are due, and answers how many they were.
+pub fn run_due<C: Children, R: Reporter>(
     alloc: Global,
     jobs: &Jobs,
     turns: &[List<Turn>],

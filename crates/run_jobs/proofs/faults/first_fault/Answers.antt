@@ -1,7 +1,6 @@
-use Rattle.std.proofs.Common.{◌≡◌, ◌∙◌, ◌<◌, ◌+◌, ◌||◌, [], length, take, drop, get_or, Bool, true, false, not, sym}
+use Rattle.std.proofs.Common.{◌≡◌, ◌∙◌, ◌<◌, ◌+◌, ◌||◌, length, take, drop, not, sym}
 use Rattle.std.proofs.Common.{ap, arith}
 use Rattle.std.proofs.Common.{nat_eq}
-use Rattle.std.specs.List.{list_any}
 use Rattle.std.specs.Option.{option_or}
 use Rattle.std.proofs.lemmas.List.Folds.{list_any_more}
 use lib.Pointwise.{pointwise}

@@ -1,4 +1,4 @@
-use Rattle.std.proofs.Common.{◌≡◌, ℕ, [], take, drop}
+use Rattle.std.proofs.Common.{◌≡◌, [], take, drop}
 use Rattle.std.specs.HashSet.{contains}
 use Rattle.run_jobs.specs.Jobs.{first_fault, has_job}
 use Rattle.run_jobs.proofs.faults.first_fault.Given as goal

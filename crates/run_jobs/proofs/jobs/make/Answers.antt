@@ -1,5 +1,4 @@
-use Rattle.std.proofs.Common.{◌≡◌, ◌∙◌, ◌<◌, ◌^◌, [], None, length, sym, ap, subst, arith}
-use Rattle.run_jobs.specs.Jobs.{first_fault}
+use Rattle.std.proofs.Common.{◌≡◌, ◌∙◌, ◌<◌, ◌^◌, length, sym, ap, subst}
 use Rattle.run_jobs.specs.Levels.{AreOrdered}
 use Rattle.run_jobs.proofs.FaultLemmas.{in_order}
 use Rattle.run_jobs.proofs.LevelLemmas.{count_levels}

@@ -1,4 +1,4 @@
-use Rattle.std.proofs.Common.{◌≡◌, ◌∙◌, ◌<◌, ◌≤◌, ◌^◌, ◌+◌, suc, [], ◌∷◌, ◌++◌, length, get_or, Some, sym, ap, subst}
+use Rattle.std.proofs.Common.{◌≡◌, ◌∙◌, ◌<◌, ◌≤◌, ◌^◌, [], ◌∷◌, ◌++◌, length, sym, ap, subst}
 use Rattle.std.proofs.Common.{arith, add-one}
 use Rattle.std.specs.List.{All}
 use Rattle.std.specs.Option.{option_map_or}

@@ -1,4 +1,4 @@
-use Rattle.std.proofs.Common.{◌≡◌, ◌∙◌, Some, refl, sym, ap}
+use Rattle.std.proofs.Common.{◌≡◌, ◌∙◌, Some, refl, sym}
 use Rattle.run_jobs.specs.Next.{settings_where}
 use Rattle.run_jobs.specs.States.{ready_jobs}
 use Rattle.run_jobs.proofs.RunLemmas.{list_error, settings_there}

@@ -1,4 +1,4 @@
-use Rattle.std.proofs.Common.{◌≡◌, ◌∙◌, ◌≤◌, ◌<◌, ◌+◌, ◌^◌, length, None, Some, sym, ap, subst, arith}
+use Rattle.std.proofs.Common.{◌≡◌, ◌∙◌, ◌<◌, ◌+◌, ◌^◌, length, Some, sym, ap, subst, arith}
 use Rattle.run_events.specs.declared.plan.Plan.{Plan}
 use Rattle.run_engine.specs.Builder.{refusal_of}
 use Rattle.run_jobs.specs.States.{ready_jobs}

@@ -1,4 +1,4 @@
-use Rattle.std.proofs.Common.{◌≡◌, ◌∙◌, ◌<◌, ◌++◌, [], ◌∷◌, filter, length, get_or, sym, ap}
+use Rattle.std.proofs.Common.{◌∙◌, ◌<◌, ◌++◌, [], ◌∷◌, filter, length, get_or, sym, ap}
 use Rattle.run_jobs.specs.States.{is_job_ready}
 use Rattle.run_jobs.specs.WavePlan.{tests_of_jobs}
 use Rattle.run_jobs.proofs.TestLemmas.{tests_more}

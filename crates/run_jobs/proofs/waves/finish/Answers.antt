@@ -1,5 +1,4 @@
-use Rattle.std.proofs.Common.{◌≡◌, ◌∙◌, ◌≤◌, length, map, Some, sym, ap, arith}
-use Rattle.run_jobs.specs.States.{states_after}
+use Rattle.std.proofs.Common.{◌∙◌, ◌≤◌, arith}
 use Rattle.run_jobs.proofs.AcceptLemmas.{sound_jobs}
 use Rattle.run_jobs.proofs.FaultLemmas.{in_order}
 use Rattle.run_jobs.proofs.NextLemmas.{known_all, known_some}

@@ -1,9 +1,8 @@
-use Rattle.std.proofs.Common.{◌≡◌, ◌∙◌, ◌≤◌, ◌<◌, ◌+◌, ◌^◌, length, Bool, true, false, Some, None, Ok, Err, sym, ap}
-use Rattle.std.proofs.Common.{subst, arith, refl}
+use Rattle.std.proofs.Common.{◌≡◌, ◌∙◌, ◌≤◌, ◌<◌, ◌^◌, length, Some, Ok}
+use Rattle.std.proofs.Common.{subst, arith}
 use Rattle.run_engine.specs.World.{outside}
-use Rattle.run_jobs.specs.Levels.{AreOrdered, at_level, levels_of}
+use Rattle.run_jobs.specs.Levels.{AreOrdered}
 use Rattle.run_jobs.specs.Next.{AnswersDue, AnswersNext}
-use Rattle.run_jobs.specs.Settled.{AreKnown}
 use Rattle.run_jobs.specs.States.{ready_jobs}
 use Rattle.run_jobs.proofs.AcceptLemmas.{sound_jobs}
 use Rattle.run_jobs.proofs.FaultLemmas.{in_order}

@@ -1,6 +1,4 @@
-use Rattle.std.proofs.Common.{◌≡◌, ◌∙◌, ◌≤◌, ◌<◌, ◌+◌, ◌^◌, length, None, sym, ap, subst, arith}
-use Rattle.run_jobs.specs.Levels.{AreOrdered, at_level, levels_of}
-use Rattle.run_jobs.specs.Settled.{AreKnown}
+use Rattle.std.proofs.Common.{◌∙◌, ◌≤◌, ◌<◌, ◌^◌, length, None, arith}
 use Rattle.run_jobs.proofs.AcceptLemmas.{sound_jobs}
 use Rattle.run_jobs.proofs.FaultLemmas.{in_order}
 use Rattle.run_jobs.proofs.NextLemmas.{level_few, level_jobs, no_wave, settled_known}

@@ -1,6 +1,6 @@
-use Rattle.std.proofs.Common.{◌≡◌, ◌∙◌, ◌<◌, length, get_or, sym, ap, subst, arith}
+use Rattle.std.proofs.Common.{◌∙◌, ◌<◌, length, get_or, sym, ap, subst, arith}
 use Rattle.run_jobs.specs.Jobs.{Batch}
-use Rattle.run_jobs.specs.Levels.{job_level, levels_of}
+use Rattle.run_jobs.specs.Levels.{job_level}
 use Rattle.run_jobs.proofs.LevelLemmas.{count_levels, level_read}
 use Rattle.run_jobs.proofs.jobs.Jobs.level.Goals as goal
 

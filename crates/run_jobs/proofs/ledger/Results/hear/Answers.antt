@@ -1,6 +1,6 @@
 use Rattle.std.proofs.Common.{◌∙◌, sym}
 use Rattle.std.proofs.lemmas.Result.{on_ok_weaker}
-use Rattle.run_jobs.proofs.LedgerLemmas.{heard_nothing, heard_result, unheard_result}
+use Rattle.run_jobs.proofs.LedgerLemmas.{heard_nothing, heard_result}
 use Rattle.run_jobs.proofs.ledger.Results.hear.Goals as goal
 
 pub returns-in-Some-clause-ok : goal.returns-in-Some-clause-ok
