@@ -1,0 +1,8 @@
+//! The plan line of a wave of jobs: of a plan of tests that say a name and a command and nothing else, whose output is
+//! captured combined, and that hears no key. A reader of plan lines reads it as that plan.
+#![tactic(auto)]
+
+mod line;
+mod values;
+
+pub use line::wave_line;
