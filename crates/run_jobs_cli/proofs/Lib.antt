@@ -1,0 +1,9 @@
+mod FieldLemmas
+mod ListLemmas
+mod EndLemmas
+mod ToldLemmas
+mod RunLemmas
+mod SaidLemmas
+mod CauseLemmas
+mod WordLemmas
+mod NextLemmas

@@ -1,0 +1,13 @@
+pub mod JobsLine
+pub mod Lines
+pub mod WaveLines
+pub mod Refused
+pub mod Objects
+pub mod Faults
+pub mod StateLines
+pub mod Lists
+pub mod JobsEnds
+pub mod RunsJobs
+pub mod JobsGiven
+pub mod JobsCauses
+pub mod NextWaves
