@@ -1,0 +1,98 @@
+// What the top calls answer.
+use crate::table::{Row, Streams};
+use run_capture::{Blob, List, MemorySink, MemorySource, OutOfMemory};
+use run_cli::Ran;
+use run_jobs_cli::{next_wave, run};
+use std::alloc::{AllocError, Global};
+use std::fs::Files;
+use std::{fs, io};
+
+/// A status, and what was written.
+#[derive(Drop)]
+pub struct Answer {
+    pub status: u8,
+    pub written: Vec<u8>,
+}
+
+// Memory was wanting.
+fn wanting(_: OutOfMemory) -> io::Error {
+    io::Error::from(AllocError)
+}
+
+/// The words that a text has between its commas; none for `-`.
+pub fn words_of(alloc: Global, text: &str) -> Result<Vec<String>, AllocError> {
+    let mut words = Vec::new(alloc);
+    if text != "-" {
+        for word in text.split(',') {
+            words.push(String::from_str(alloc, word)?)?;
+        }
+    }
+    Ok(words)
+}
+
+/// The bytes of an input.
+pub fn input_of<X: AllocGlobal + Files>(rt: &X, name: &str) -> io::Result<Vec<u8>> {
+    if name == "-" {
+        return Ok(Vec::new(rt.alloc()));
+    }
+    fs::read(rt, format!(in rt.alloc(); "{name}.in")?)
+}
+
+// The list of a number, or of none for 0.
+fn numbers(alloc: Global, number: u64) -> Result<List<u64>, OutOfMemory> {
+    let mut list = List::new();
+    if number > 0 {
+        list.push(alloc, number)?;
+    }
+    Ok(list)
+}
+
+fn source_of(alloc: Global, bytes: &[u8], streams: Streams) -> Result<MemorySource, OutOfMemory> {
+    let failing = numbers(alloc, streams.failing_read)?;
+    let mut input = Blob::new(alloc);
+    input.extend_from_slice(alloc, bytes)?;
+    let zeros = [0u8; 4096];
+    'zeros: while input.len() < streams.filled {
+        let room = streams.filled.saturating_sub(input.len());
+        input.extend_from_slice(alloc, &zeros[..room.min(4096)])?;
+    }
+    Ok(MemorySource::new(input, streams.most.max(1), failing))
+}
+
+// Whether the words ask for the next wave.
+fn asks_next(words: &[String]) -> bool {
+    match words {
+        [word] => word.as_str() == "next",
+        _ => false,
+    }
+}
+
+/// What the top calls answer to words and an input, with room for so many bytes.
+pub fn answer_to(
+    alloc: Global,
+    words: &[String],
+    input: &[u8],
+    streams: Streams,
+    room: usize,
+) -> io::Result<Answer> {
+    let mut source = source_of(alloc, input, streams).map_err(wanting)?;
+    let failing = numbers(alloc, streams.failing_write).map_err(wanting)?;
+    let sink = MemorySink::new(alloc, room, streams.most.max(1), failing).map_err(wanting)?;
+    let Ran { status, sink } = if asks_next(words) {
+        next_wave(alloc, &mut source, sink)
+    } else {
+        run(alloc, words, &mut source, sink)
+    };
+    let mut written = Vec::new(alloc);
+    written.extend_from_slice(sink.bytes())?;
+    Ok(Answer { status, written })
+}
+
+/// What the top call answers to a row, with room for somewhat more than the bytes that are wanted.
+pub fn answer_of<X: AllocGlobal + Files>(rt: &X, row: &Row, wanted: usize) -> io::Result<Answer> {
+    let alloc = rt.alloc();
+    let input = input_of(rt, row.input)?;
+    let words = words_of(alloc, row.words)?;
+    let room = wanted.saturating_add(4096);
+    answer_to(alloc, words.as_slice(), input.as_slice(), row.streams, room)
+}
