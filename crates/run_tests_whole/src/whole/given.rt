@@ -45,7 +45,8 @@ fn one<T: Drop>(rt: &impl Abort, alloc: Global, item: T) -> List<T>
     list
 }
 
-// The test, which is killed three milliseconds after it is out of time, and whose streams are waited for as long.
+// The test, which is killed 60 ms after it is out of time, so that a busy machine is in time, and whose streams are
+// waited for 3 ms.
 fn test(rt: &impl Abort, alloc: Global, act: &Act) -> PlanTest {
     let id = TestInstanceId {
         binary: text(rt, alloc, "b"),
@@ -56,7 +57,7 @@ fn test(rt: &impl Abort, alloc: Global, act: &Act) -> PlanTest {
     if let Some(period) = act.period {
         test.slow.period = period.saturating_mul(MILLISECOND);
         test.slow.terminate_after = Some(1);
-        test.slow.grace = 3 * MILLISECOND;
+        test.slow.grace = 60 * MILLISECOND;
     }
     test.leak.period = 3 * MILLISECOND;
     test
