@@ -69,6 +69,7 @@ settled_of r settled =
 outside_came : (c : Came) → is_outside_turn (came_turn c) ≡ true
 outside_came (came.Signal signal) = refl
 outside_came (came.Key key) = refl
+outside_came came.Tick = refl
 
 outside_of : (r : Receipt) → is_outside_turn r.turn ≡ true → OfListener r
 outside_of r outside = subst (λ (b : Bool). (b || is_settled_turn r.turn) ≡ true) (sym outside) refl

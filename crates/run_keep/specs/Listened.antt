@@ -20,6 +20,7 @@ use Rattle.run_keep.specs.Outside.{came_turn}
 abbrev pub is_outside_turn : Turn → Bool
 is_outside_turn (turns.Signal signal) = true
 is_outside_turn (turns.Key key) = true
+is_outside_turn turns.Tick = true
 is_outside_turn _ = false
 
 -- the receipt of a turn that a listener takes
@@ -34,6 +35,7 @@ outside_turns rs = filter is_outside_turn (map (λ (r : Receipt). r.turn) rs)
 abbrev pub hears_came : Hearing → Came → Bool
 hears_came h (came.Signal signal) = is_some (heard_signal h.signals h.quit_is_info signal)
 hears_came h (came.Key key) = is_some (heard_key h.input key)
+hears_came h came.Tick = true
 
 -- what was dropped, and that it was for good: the run doesn't hear it, or refused it
 abbrev pub dropped_turn : Dropped → Turn

@@ -8,3 +8,4 @@ use Rattle.run_keep.specs.declared.outside.Came.TheVariants as came
 abbrev pub came_turn : Came → Turn
 came_turn (came.Signal signal) = turns.Signal signal
 came_turn (came.Key key) = turns.Key key
+came_turn came.Tick = turns.Tick

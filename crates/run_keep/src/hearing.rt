@@ -36,6 +36,7 @@ fn hears_came(hearing: &Hearing, came: Came) -> bool
             hears_signal(hearing.signals, hearing.quit_is_info, signal).is_some()
         }
         Came::Key { key } => hears_key(hearing.input, key).is_some(),
+        Came::Tick => true,
     }
 }
 
@@ -56,12 +57,12 @@ fn take_in<O: Outside>(alloc: Global, outside: &mut O, held: Option<Came>) -> Me
     }
 }
 
-// Whether a turn that was refused may be taken later.
-fn may_wait(refusal: &Refusal) -> bool {
-    matches!(refusal.kind(), RefusalKind::NotEnabled)
+// Whether what came and was refused may be taken later. Nothing waits for a display.
+fn may_wait(came: Came, refusal: &Refusal) -> bool {
+    !matches!(came, Came::Tick) && matches!(refusal.kind(), RefusalKind::NotEnabled)
 }
 
-// Drops what was refused; no run goes on after a third signal.
+// Drops what was refused for good; no run goes on after a third signal.
 fn drop_refused<L: Ledger, T: Turns<L>>(run: &T, refusal: Refusal, work: &mut Listened) -> Mem<()>
     ensures dropped { OnOk result (work.new.dropped ≡ work.old.dropped ++ Dropped.Refused refusal ∷ []) }
     ensures receipts { work.new.receipts ≡ work.old.receipts }
@@ -94,7 +95,7 @@ fn offer_heard<L: Ledger, T: Turns<L>>(
     let Some(refusal) = run.enter(share, came.turn(), &mut work.receipts)? else {
         return Ok(None);
     };
-    if !is_last && may_wait(&refusal) {
+    if !is_last && may_wait(came, &refusal) {
         drop(refusal);
         return Ok(Some(came));
     }

@@ -10,7 +10,7 @@ use run_shared::{Receipt, Refusal};
 pub enum Dropped {
     /// The plan says that the run doesn't hear it.
     Unheard { came: Came },
-    /// The run refused it, and takes no turn any more.
+    /// The run refused it, and takes no turn any more, or it was a tick.
     Refused { refusal: Refusal },
 }
 

@@ -11,6 +11,8 @@ use std::alloc::Global;
 pub enum Came {
     Signal { signal: Signal },
     Key { key: Key },
+    /// A display wants to draw anew.
+    Tick,
 }
 
 impl Came {
@@ -21,6 +23,7 @@ impl Came {
         match self {
             Came::Signal { signal } => Turn::Signal { signal },
             Came::Key { key } => Turn::Key { key },
+            Came::Tick => Turn::Tick,
         }
     }
 }

@@ -21,6 +21,7 @@ mod std_keeper_host;
 mod stop_halter;
 mod streams;
 mod target;
+mod ticking_outside;
 mod waiting;
 mod words;
 
@@ -32,3 +33,4 @@ pub use paced_ticker::PacedTicker;
 pub use process_keeper::ProcessKeeper;
 pub use std_keeper_host::StdKeeperHost;
 pub use stop_halter::StopHalter;
+pub use ticking_outside::TickingOutside;

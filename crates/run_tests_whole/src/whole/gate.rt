@@ -66,11 +66,14 @@ impl Keeper for CountingKeeper {
     }
 }
 
-/// An outside of given signals. The first comes once a keeper was asked something, each other once one more was.
+/// An outside of given signals and ticks. The first signal comes once a keeper was asked something, each other once one
+/// more was; a tick comes behind what is before it.
 #[derive(Drop)]
 pub(crate) struct WaitingOutside {
     pub(crate) signals: List<Came>,
-    pub(crate) at: u64,
+    pub(crate) at: usize,
+    /// So many were asked of a keeper before the last signal came.
+    pub(crate) asked: u64,
     pub(crate) count: Count,
 }
 
@@ -79,12 +82,15 @@ impl Outside for WaitingOutside {
 
     fn next(&mut self, _alloc: Global) -> Mem<Option<Came>> {
         thread::yield_now();
-        if self.count.load(Ordering::SeqCst) <= self.at {
+        if self.count.load(Ordering::SeqCst) <= self.asked {
             return Ok(None);
         }
-        let came = self.signals.get(self.at as usize).copied();
+        let came = self.signals.get(self.at).copied();
         if came.is_some() {
             self.at = self.at.saturating_add(1);
+        }
+        if let Some(Came::Signal { .. }) = came {
+            self.asked = self.asked.saturating_add(1);
         }
         Ok(came)
     }

@@ -128,22 +128,21 @@ pub fn keepers(rt: &impl Abort, alloc: Global, act: &Act, count: &Count) -> Vec<
     keepers
 }
 
-fn signal_of(letter: char) -> Signal {
-    match letter {
+fn came_of(letter: char) -> Came {
+    let signal = match letter {
+        'T' => return Came::Tick,
         'S' => Signal::Tstp,
         'C' => Signal::Cont,
         _ => Signal::Int,
-    }
+    };
+    Came::Signal { signal }
 }
 
 /// What comes from outside.
 pub fn signals(rt: &impl Abort, alloc: Global, letters: &str) -> List<Came> {
-    let mut signals = List::new();
+    let mut came = List::new();
     for letter in letters.chars() {
-        let signal = signal_of(letter);
-        signals
-            .push(alloc, Came::Signal { signal })
-            .expect(rt, MEMORY);
+        came.push(alloc, came_of(letter)).expect(rt, MEMORY);
     }
-    signals
+    came
 }

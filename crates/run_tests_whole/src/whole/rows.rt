@@ -89,6 +89,7 @@ fn holds<X: Abort + Threads + Wait + Sync + Clock + Copy + Send + Drop>(
     let outside = WaitingOutside {
         signals: signals(&rt, alloc, act.outside),
         at: 0,
+        asked: 0,
         count,
     };
     let halter = MemoryHalter::new();
@@ -127,7 +128,8 @@ const HANGS: Act = Act {
 
 // What is done, the signals that the keeper is told, how often the program is stopped, and how the run ends: a child
 // ends by itself; its streams stay open; it hangs, and is told TERM and KILL; it ends by TERM; no signal can be sent to
-// it; an interrupt comes, and another; and a third; a stop comes, and a continue.
+// it; an interrupt comes, and another; and a third; a stop comes, and a continue, and a tick before
+// each.
 const ROWS: [(Act, &str, u64, &str); 8] = [
     (QUIET, "", 0, "success"),
     (
@@ -183,7 +185,7 @@ const ROWS: [(Act, &str, u64, &str); 8] = [
     (
         Act {
             signals: 2,
-            outside: "SC",
+            outside: "TSTC",
             ..QUIET
         },
         "SC",
