@@ -1,0 +1,15 @@
+mod AnswerLemmas
+mod BarLemmas
+mod BothLemmas
+mod EscapeLemmas
+mod HeardLemmas
+mod IndentLemmas
+mod KeptLemmas
+mod LawLemmas
+mod OnceLemmas
+mod PieceLemmas
+mod ShownLemmas
+mod SpanLemmas
+mod SpeaksLemmas
+mod TextLemmas
+mod TookLemmas

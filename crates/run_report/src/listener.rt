@@ -1,0 +1,30 @@
+// Who hears the events of a run, and refuses none.
+ghost use Rattle.std.specs.Prelude.{◌∷◌, []};
+ghost use Rattle.run_events.specs.Tell.{Adds};
+
+use run_capture::Failed;
+use run_events::ReporterEvent;
+use std::alloc::Global;
+
+/// Who hears the events of a run. It needn't store them: that it has heard a list is a relation.
+pub trait Listener {
+    ghost use Rattle.std.specs.Prelude.{List};
+    ghost use Rattle.run_events.specs.declared.events.ReporterEvent.{ReporterEvent};
+
+    /// It has heard this list.
+    ghost heard: { Self → List ReporterEvent → Type 0 };
+
+    /// Hears an event.
+    fn hear(&mut self, alloc: Global, event: &ReporterEvent)
+        ensures heard { Adds heard self.old self.new (event.now ∷ []) };
+}
+
+/// Who writes what it hears, and can show a text at its end until it writes more.
+pub trait Board: Listener {
+    ghost use Rattle.std.specs.Prelude.{List};
+    ghost use Rattle.run_events.specs.declared.events.ReporterEvent.{ReporterEvent};
+
+    /// Shows a text at the end. It is no part of what was written.
+    fn draw(&mut self, text: &str) -> Result<(), Failed>
+        ensures { (events : List ReporterEvent) → Self.heard self.old events → Self.heard self.new events };
+}
