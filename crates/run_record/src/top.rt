@@ -1,8 +1,9 @@
 // The top call: the run of a plan line, and its record.
-ghost use Rattle.std.specs.Prelude.{◌≡◌, [], true};
+ghost use Rattle.std.specs.Prelude.{◌≡◌, [], IfSome, true};
 ghost use Rattle.run_laws.specs.Course.{turns_of};
 ghost use Rattle.run_cli.specs.Call.{writing_of};
 ghost use Rattle.run_cli.specs.Live.{is_unbegun};
+ghost use Rattle.run_whole_cli.specs.Hears.{HasHeardPlan};
 ghost use Rattle.run_whole_cli.specs.Relations.{relations};
 ghost use Rattle.run_record.specs.Recorded.{AnswersRecorded, turns_left};
 
@@ -13,19 +14,21 @@ use run_capture::Sink;
 use run_drive::Ticker;
 use run_keep::{Halter, Keeper, KeeperHost, Outside};
 use run_model::Entry;
+use run_report::Listener;
 use run_whole_cli::{Around, Ran, WholeLeft, run_plan};
 use std::alloc::Global;
 use std::sync::Wait;
 use std::thread::Threads;
 
 /// How a recorded run ended: the status with the sink of its lines, the status that the run itself has, what became of
-/// its record with the sink of that, and what is left of the run.
-pub struct Recorded<K, F, L> {
+/// its record with the sink of that, what is left of the run, and who listened to it.
+pub struct Recorded<K, F, L, B> {
     pub ran: Ran<K>,
     pub own: u8,
     pub outcome: RecordOutcome,
     pub store: F,
     pub left: Option<L>,
+    pub report: B,
 }
 
 // The journal of what is left of a run.
@@ -49,6 +52,7 @@ fn journal_of<W: Keeper + Drop, T: Ticker + Drop, O: Outside + Drop, S: Halter +
 pub fn run_recorded<
     K: Sink + Send,
     F: Sink,
+    B: Listener + Send,
     H: KeeperHost,
     O: Outside + Send + Drop,
     S: Halter + Send + Drop,
@@ -59,18 +63,23 @@ pub fn run_recorded<
     line: &[u8],
     sink: K,
     store: F,
+    report: B,
     host: &mut H,
     around: Around<O, S>,
-) -> Recorded<K, F, WholeLeft<H::Worker, H::Tick, O, S>>
+) -> Recorded<K, F, WholeLeft<H::Worker, H::Tick, O, S>, B>
     requires quiet { O.has_come around.outside [] }
     requires runs { S.has_halted around.halter 0 }
+    requires unheard { B.heard report [] }
     ensures says { AnswersRecorded (relations H.Worker.has_heard H.Tick.has_told O.has_come S.has_halted) line.now
         (writing_of K.Sink sink result.ran.sink) (writing_of F.Sink store result.store) result.left
         result.own result.outcome result.ran.status }
+    ensures heard { IfSome result.left (HasHeardPlan B.heard result.report line.now) }
     ensures unused { is_unbegun result.own ≡ true → host.new ≡ host.old }
 {
     let begun = begin(alloc, line, store);
-    let (Ran { status: own, sink }, left) = run_plan(rt, alloc, line, sink, host, around);
+    let (Ran { status: own, sink }, left, report) = run_plan(
+        rt, alloc, line, sink, report, host, around,
+    );
     let (outcome, store) = finish(alloc, begun, journal_of(&left), is_over(own));
     let ran = Ran {
         status: outcome.status(own),
@@ -82,5 +91,6 @@ pub fn run_recorded<
         outcome,
         store,
         left,
+        report,
     }
 }

@@ -2,3 +2,4 @@ mod LeftLemmas
 mod EndLemmas
 mod ThirdLemmas
 mod AnswerLemmas
+mod HearsLemmas

@@ -3,4 +3,5 @@ pub mod Relations
 pub mod Given
 pub mod Ends
 pub mod Last
+pub mod Hears
 pub mod Answers

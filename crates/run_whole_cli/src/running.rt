@@ -1,4 +1,4 @@
-// The run of a plan with all its lines.
+// The run of a plan with all its lines, and with who listens beside them.
 ghost use Rattle.std.specs.Prelude.{◌≡◌, [], IfSome, None};
 ghost use Rattle.run_events.specs.declared.settings.Settings.{Settings};
 ghost use Rattle.run_shared.specs.Closed.{IsLeft};
@@ -7,6 +7,7 @@ ghost use Rattle.run_whole.specs.Whole.{IsThird};
 ghost use Rattle.run_cli.specs.Call.{writing_of};
 ghost use Rattle.run_whole_cli.specs.Relations.{relations};
 ghost use Rattle.run_whole_cli.specs.Ends.{IsWholeRunEnd};
+ghost use Rattle.run_whole_cli.specs.Hears.{HasHeardLeft};
 ghost use Rattle.run_whole_cli.specs.Last.{IsLeftWhole};
 
 use crate::left::{WholeEnded, WholeLeft, WholeRun, left_by};
@@ -17,6 +18,7 @@ use run_drive::Ticker;
 use run_engine::TestRunner;
 use run_events::Reporter;
 use run_keep::{Halter, Keeper, KeeperHost, Outside};
+use run_report::{Both, Listener};
 use run_whole::{Around, GivenUp, Ran as RanWhole, Whole, whole};
 use std::alloc::Global;
 use std::marker::Brand;
@@ -26,6 +28,7 @@ use std::thread::Threads;
 // Ends a run whose threads have ended, by what they left.
 fn finish<
     K: Sink,
+    B: Listener,
     G: Origin,
     W: Keeper + Drop,
     T: Ticker + Drop,
@@ -33,16 +36,19 @@ fn finish<
     S: Halter + Drop,
 >(
     alloc: Global,
-    whole: Whole<W, T, O, S, TiedReporter<K, G>>,
-) -> WholeEnded<K, WholeLeft<W, T, O, S>>
-    ensures { (p : Settings) → IsLeftWhole (relations W.has_heard T.has_told O.has_come S.has_halted)
-        ⟦<TiedReporter<K, G> as Reporter>⟧.told p whole
+    whole: Whole<W, T, O, S, Both<TiedReporter<K, G>, B>>,
+) -> (WholeEnded<K, WholeLeft<W, T, O, S>>, B)
+    ensures says { (p : Settings) → IsLeftWhole (relations W.has_heard T.has_told O.has_come S.has_halted)
+        ⟦<Both<TiedReporter<K, G>, B> as Reporter>⟧.told p whole
         → IsWholeRunEnd (relations W.has_heard T.has_told O.has_come S.has_halted) p (record {
           taken = G.taken_before;
-          taken_after = K.taken result.sink;
+          taken_after = K.taken result.0.sink;
           faults = G.faults_before;
-          faults_after = K.faults result.sink;
-        }) result.left result.ending }
+          faults_after = K.faults result.0.sink;
+        }) result.0.left result.0.ending }
+    ensures heard { (p : Settings) → IsLeftWhole (relations W.has_heard T.has_told O.has_come S.has_halted)
+        ⟦<Both<TiedReporter<K, G>, B> as Reporter>⟧.told p whole
+        → IfSome result.0.left (HasHeardLeft B.heard result.1 p) }
 {
     let Whole {
         threads,
@@ -56,8 +62,9 @@ fn finish<
         outcome,
         report,
     } = run;
-    let refused = report.has_refused();
-    let sink = report.into_sink();
+    let (lines, report) = report.into_parts();
+    let refused = lines.has_refused();
+    let sink = lines.into_sink();
     let told = asks.asks();
     let (ending, sink) = write_end(alloc, sink, told, &error, &journal, outcome, refused);
     drop(asks);
@@ -67,44 +74,54 @@ fn finish<
         receipts,
         error,
     };
-    WholeEnded {
+    let ended = WholeEnded {
         ending,
         sink,
         left: left_by(ending, WholeLeft::Run(left)),
-    }
+    };
+    (ended, report)
 }
 
 // Ends a run that was given up: at a third signal where it was cut off so, and else for want of memory.
 fn finish_given_up<
     K: Sink,
+    B: Listener,
     G: Origin,
     W: Keeper + Drop,
     T: Ticker + Drop,
     O: Outside + Drop,
     S: Halter + Drop,
->(alloc: Global, given_up: GivenUp<TiedReporter<K, G>>) -> WholeEnded<K, WholeLeft<W, T, O, S>>
-    requires told { HasToldSome ⟦<TiedReporter<K, G> as Reporter>⟧.told given_up.report }
+>(
+    alloc: Global,
+    given_up: GivenUp<Both<TiedReporter<K, G>, B>>,
+) -> (WholeEnded<K, WholeLeft<W, T, O, S>>, B)
+    requires told { HasToldSome ⟦<Both<TiedReporter<K, G>, B> as Reporter>⟧.told given_up.report }
     requires third { IfSome given_up.cut_off (λ c. IsThird c.refusal) }
-    ensures { (p : Settings) → IfSome given_up.cut_off
-        (λ c. IsLeft ⟦<TiedReporter<K, G> as Reporter>⟧.told given_up.report c.asks p c.journal None)
+    ensures says { (p : Settings) → IfSome given_up.cut_off
+        (λ c. IsLeft ⟦<Both<TiedReporter<K, G>, B> as Reporter>⟧.told given_up.report c.asks p c.journal None)
         → IsWholeRunEnd (relations W.has_heard T.has_told O.has_come S.has_halted) p (record {
           taken = G.taken_before;
-          taken_after = K.taken result.sink;
+          taken_after = K.taken result.0.sink;
           faults = G.faults_before;
-          faults_after = K.faults result.sink;
-        }) result.left result.ending }
+          faults_after = K.faults result.0.sink;
+        }) result.0.left result.0.ending }
+    ensures heard { (p : Settings) → IfSome given_up.cut_off
+        (λ c. IsLeft ⟦<Both<TiedReporter<K, G>, B> as Reporter>⟧.told given_up.report c.asks p c.journal None)
+        → IfSome result.0.left (HasHeardLeft B.heard result.1 p) }
 {
     let GivenUp { report, cut_off } = given_up;
-    let sink = report.into_sink();
+    let (lines, report) = report.into_parts();
+    let sink = lines.into_sink();
     match cut_off {
-        Some(cut_off) => end_cut_off(alloc, sink, cut_off),
-        None => end_given_up(sink),
+        Some(cut_off) => (end_cut_off(alloc, sink, cut_off), report),
+        None => (end_given_up(sink), report),
     }
 }
 
 // Runs the plan of a runner, with the sink's state at the beginning as the type's.
 fn run_at<
     K: Sink + Send,
+    B: Listener + Send,
     H: KeeperHost,
     O: Outside + Send + Drop,
     S: Halter + Send + Drop,
@@ -115,27 +132,32 @@ fn run_at<
     alloc: Global,
     runner: TestRunner,
     sink: K,
+    report: B,
     host: &mut H,
     around: Around<O, S>,
-) -> WholeEnded<K, WholeLeft<H::Worker, H::Tick, O, S>>
+) -> (WholeEnded<K, WholeLeft<H::Worker, H::Tick, O, S>>, B)
     requires quiet { O.has_come around.outside [] }
     requires runs { S.has_halted around.halter 0 }
+    requires unheard { B.heard report [] }
     requires taken { G.taken_before ≡ K.taken sink }
     requires faults { G.faults_before ≡ K.faults sink }
-    ensures { IsWholeRunEnd (relations H.Worker.has_heard H.Tick.has_told O.has_come S.has_halted) runner
-        (writing_of K.Sink sink result.sink) result.left result.ending }
+    ensures says { IsWholeRunEnd (relations H.Worker.has_heard H.Tick.has_told O.has_come S.has_halted) runner
+        (writing_of K.Sink sink result.0.sink) result.0.left result.0.ending }
+    ensures heard { IfSome result.0.left (HasHeardLeft B.heard result.1 runner) }
 {
     let workers = workers_of(&runner);
-    let report = TiedReporter::<K, G>::new(sink);
-    match whole(rt, alloc, runner, workers, host, around, report) {
+    let both = Both::new(TiedReporter::<K, G>::new(sink), report);
+    match whole(rt, alloc, runner, workers, host, around, both) {
         Ok(all) => finish(alloc, all),
         Err(given_up) => finish_given_up(alloc, given_up),
     }
 }
 
-// Runs the plan of a runner by workers, delivers the signals that it asks, and writes all its lines.
+// Runs the plan of a runner by workers, delivers the signals that it asks, and writes all its lines. Who listens hears
+// the events that the sink of the lines took.
 pub(crate) fn run_runner<
     K: Sink + Send,
+    B: Listener + Send,
     H: KeeperHost,
     O: Outside + Send + Drop,
     S: Halter + Send + Drop,
@@ -145,13 +167,16 @@ pub(crate) fn run_runner<
     alloc: Global,
     runner: TestRunner,
     sink: K,
+    report: B,
     host: &mut H,
     around: Around<O, S>,
-) -> WholeEnded<K, WholeLeft<H::Worker, H::Tick, O, S>>
+) -> (WholeEnded<K, WholeLeft<H::Worker, H::Tick, O, S>>, B)
     requires quiet { O.has_come around.outside [] }
     requires runs { S.has_halted around.halter 0 }
-    ensures { IsWholeRunEnd (relations H.Worker.has_heard H.Tick.has_told O.has_come S.has_halted) runner
-        (writing_of K.Sink sink result.sink) result.left result.ending }
+    requires unheard { B.heard report [] }
+    ensures says { IsWholeRunEnd (relations H.Worker.has_heard H.Tick.has_told O.has_come S.has_halted) runner
+        (writing_of K.Sink sink result.0.sink) result.0.left result.0.ending }
+    ensures heard { IfSome result.0.left (HasHeardLeft B.heard result.1 runner) }
 {
-    run_at::<K, H, O, S, Brand, X>(rt, alloc, runner, sink, host, around)
+    run_at::<K, B, H, O, S, Brand, X>(rt, alloc, runner, sink, report, host, around)
 }

@@ -1,10 +1,11 @@
 // The top call: the run of a plan line, with what is left of it.
-ghost use Rattle.std.specs.Prelude.{◌≡◌, [], true};
+ghost use Rattle.std.specs.Prelude.{◌≡◌, [], IfSome, true};
 ghost use Rattle.run_cli.specs.Call.{writing_of};
 ghost use Rattle.run_cli.specs.Live.{is_unbegun};
 ghost use Rattle.run_whole_cli.specs.Relations.{relations};
 ghost use Rattle.run_whole_cli.specs.Ends.{whole_status};
 ghost use Rattle.run_whole_cli.specs.Answers.{IsWholeEnd, AnswersWhole};
+ghost use Rattle.run_whole_cli.specs.Hears.{HasHeardPlan};
 
 use crate::left::{WholeEnded, WholeLeft};
 use crate::lines::end_without_run;
@@ -13,6 +14,7 @@ use crate::running::run_runner;
 use run_capture::Sink;
 use run_cli::Ran;
 use run_keep::{Halter, KeeperHost, Outside};
+use run_report::Listener;
 use run_whole::Around;
 use std::alloc::Global;
 use std::sync::Wait;
@@ -21,6 +23,7 @@ use std::thread::Threads;
 // Runs the plan that a line says, and answers how it ended.
 fn run_line<
     K: Sink + Send,
+    B: Listener + Send,
     H: KeeperHost,
     O: Outside + Send + Drop,
     S: Halter + Send + Drop,
@@ -30,20 +33,23 @@ fn run_line<
     alloc: Global,
     line: &[u8],
     sink: K,
+    report: B,
     host: &mut H,
     around: Around<O, S>,
-) -> WholeEnded<K, WholeLeft<H::Worker, H::Tick, O, S>>
+) -> (WholeEnded<K, WholeLeft<H::Worker, H::Tick, O, S>>, B)
     requires quiet { O.has_come around.outside [] }
     requires runs { S.has_halted around.halter 0 }
+    requires unheard { B.heard report [] }
     ensures says { IsWholeEnd (relations H.Worker.has_heard H.Tick.has_told O.has_come S.has_halted) line.now
-        (writing_of K.Sink sink result.sink) result.left result.ending }
-    ensures unused { is_unbegun (whole_status result.ending) ≡ true → host.new ≡ host.old }
+        (writing_of K.Sink sink result.0.sink) result.0.left result.0.ending }
+    ensures heard { IfSome result.0.left (HasHeardPlan B.heard result.1 line.now) }
+    ensures unused { is_unbegun (whole_status result.0.ending) ≡ true → host.new ≡ host.old }
 {
     match runner_in(alloc, line) {
-        Ok(runner) => run_runner(rt, alloc, runner, sink, host, around),
+        Ok(runner) => run_runner(rt, alloc, runner, sink, report, host, around),
         Err(fault) => {
             drop(around);
-            end_without_run(alloc, sink, fault)
+            (end_without_run(alloc, sink, fault), report)
         }
     }
 }
@@ -54,9 +60,11 @@ fn run_line<
 /// wanting. What each status says and what status each cause gives stands in `AnswersWhole`: where the status is that
 /// of an outcome, each setup script and each test of the plan has its fate, and each signal and each stop that was
 /// asked was handed on exactly once. A third shutdown signal gives the run up, with status 7 unless it was over. Want
-/// of memory may come at any point, and is status 11.
+/// of memory may come at any point, and is status 11. Who listens beside hears each event that the sink took, after it
+/// did, and is handed back.
 pub fn run_plan<
     K: Sink + Send,
+    B: Listener + Send,
     H: KeeperHost,
     O: Outside + Send + Drop,
     S: Halter + Send + Drop,
@@ -66,20 +74,24 @@ pub fn run_plan<
     alloc: Global,
     line: &[u8],
     sink: K,
+    report: B,
     host: &mut H,
     around: Around<O, S>,
-) -> (Ran<K>, Option<WholeLeft<H::Worker, H::Tick, O, S>>)
+) -> (Ran<K>, Option<WholeLeft<H::Worker, H::Tick, O, S>>, B)
     requires quiet { O.has_come around.outside [] }
     requires runs { S.has_halted around.halter 0 }
+    requires unheard { B.heard report [] }
     ensures says { AnswersWhole (relations H.Worker.has_heard H.Tick.has_told O.has_come S.has_halted) line.now
         (writing_of K.Sink sink result.0.sink) result.1 result.0.status }
+    ensures heard { IfSome result.1 (HasHeardPlan B.heard result.2 line.now) }
     // The host is asked for nothing before there is a plan that is accepted.
     ensures unused { is_unbegun result.0.status ≡ true → host.new ≡ host.old }
 {
-    let WholeEnded { ending, sink, left } = run_line(rt, alloc, line, sink, host, around);
+    let (ended, report) = run_line(rt, alloc, line, sink, report, host, around);
+    let WholeEnded { ending, sink, left } = ended;
     let ran = Ran {
         status: ending.status(),
         sink,
     };
-    (ran, left)
+    (ran, left, report)
 }

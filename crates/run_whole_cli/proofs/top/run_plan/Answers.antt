@@ -8,13 +8,13 @@ use Rattle.run_whole_cli.proofs.top.run_plan.Goals as goal
 
 pub returns-clause-says : goal.returns-clause-says
 returns-clause-says g c =
-    let end = c.run_line-ending in
+    let end = c.run_line-ended in
     let k = relations g.H.Worker.Keeper.has_heard g.H.Tick.Ticker.has_told g.O.Outside.has_come
     g.S.Halter.has_halted in
-    let w = writing_of g.K.Sink c.args.sink end.result.sink in
-    subst (AnswersWhole k c.args.line.now w end.result.left) (sym c.status.ensures)
-    (answers_whole k c.args.line.now w end.result.left end.result.ending end.ensures.says)
+    let w = writing_of g.K.Sink c.args.sink end.result.0.sink in
+    subst (AnswersWhole k c.args.line.now w end.result.0.left) (sym c.status.ensures)
+    (answers_whole k c.args.line.now w end.result.0.left end.result.0.ending end.ensures.says)
 
 pub returns-clause-unused : goal.returns-clause-unused
 returns-clause-unused g c = λ unbegun.
-    c.run_line-ending.ensures.unused (ap is_unbegun (sym c.status.ensures) ∙ unbegun)
+    c.run_line-ended.ensures.unused (ap is_unbegun (sym c.status.ensures) ∙ unbegun)
