@@ -1,18 +1,25 @@
-// The command `run`: a plan whose signals are delivered, on real children and the lines of standard input.
+// The command `run`: a plan whose signals are delivered, on real children and the lines of standard input, and told
+// to a person.
+ghost use Rattle.std.specs.Prelude.{◌≡◌, []};
+
 use crate::recording::{close, create, end_with, end_without_record};
 use run_capture::{Blob, Sink};
 use run_cli::Ran;
-use run_keep_host::{FirstLineError, LineOutside, StdKeeperHost, StopHalter};
+use run_keep::Outside;
+use run_keep_host::{FirstLineError, LineOutside, StdKeeperHost, StopHalter, TickingOutside};
 use run_output::Fault;
 use run_record::{Recorded, run_recorded};
+use run_report::{BarReport, Board, Listener};
 use run_whole::Around;
 use run_whole_cli::run_plan;
 use std::alloc::Global;
-use std::io::Read;
 use std::process;
 use std::sync::Wait;
 use std::thread::Threads;
 use std::time::Clock;
+
+/// After so many nanoseconds a bar is drawn anew.
+const TICK: u64 = 100_000_000;
 
 /// The line of the plan, how its run ended, and whether standard error has said why already.
 pub struct Delivered<K> {
@@ -31,7 +38,9 @@ fn fault_of(error: FirstLineError) -> Fault {
 }
 
 // Who stops the program beside its outside.
-fn around<O>(rt: HostRuntime, outside: O) -> Around<O, StopHalter<HostRuntime>> {
+fn around<O>(rt: HostRuntime, outside: O) -> Around<O, StopHalter<HostRuntime>>
+    ensures { result.outside ≡ outside }
+{
     let halter = StopHalter::new(rt, process::id(rt.process()));
     Around { outside, halter }
 }
@@ -39,47 +48,51 @@ fn around<O>(rt: HostRuntime, outside: O) -> Around<O, StopHalter<HostRuntime>> 
 // Runs the plan of a line.
 fn run_line<
     K: Sink + Send,
-    I: Read + Send + Drop,
+    B: Listener + Send,
+    O: Outside + Send + Drop,
     X: Threads + Wait + Clock + Sync + Send + Copy + Drop,
->(
-    threads: &X,
-    rt: HostRuntime,
-    line: &Blob,
-    outside: LineOutside<I, HostRuntime>,
-    sink: K,
-) -> Ran<K> {
+>(threads: &X, rt: HostRuntime, line: &Blob, outside: O, sink: K, report: B) -> (Ran<K>, B)
+    requires unheard { B.heard report [] }
+    requires quiet { O.has_come outside [] }
+{
     let mut host = StdKeeperHost::new(rt, *threads, rt.alloc());
     let outside = host.paced(outside);
-    let (ran, left) = run_plan(
+    let (ran, left, report) = run_plan(
         threads,
         rt.alloc(),
         line.as_slice(),
         sink,
+        report,
         &mut host,
         around(rt, outside),
     );
     drop(left);
-    ran
+    (ran, report)
 }
 
 // Runs the plan of a line, and records it in a new file. Answers also whether it was said that there is no file.
 fn run_line_recorded<
     K: Sink + Send,
-    I: Read + Send + Drop,
+    B: Listener + Send,
+    O: Outside + Send + Drop,
     X: Threads + Wait + Clock + Sync + Send + Copy + Drop,
 >(
     threads: &X,
     rt: HostRuntime,
     line: &Blob,
-    outside: LineOutside<I, HostRuntime>,
+    outside: O,
     sink: K,
+    report: B,
     name: &str,
-) -> (Ran<K>, bool) {
+) -> (Ran<K>, bool, B)
+    requires unheard { B.heard report [] }
+    requires quiet { O.has_come outside [] }
+{
     let file = match create(&rt, name) {
         Ok(file) => file,
         Err(error) => {
             let ran = end_without_record(&rt, rt.alloc(), sink, name, &error);
-            return (ran, true);
+            return (ran, true, report);
         }
     };
     let mut host = StdKeeperHost::new(rt, *threads, rt.alloc());
@@ -90,43 +103,89 @@ fn run_line_recorded<
         outcome,
         store,
         left,
+        report,
     } = run_recorded(
         threads,
         rt.alloc(),
         line.as_slice(),
         sink,
         file,
+        report,
         &mut host,
         around(rt, outside),
     );
     drop(left);
     drop(store);
     close(&rt, name, outcome, own);
-    (ran, false)
+    (ran, false, report)
+}
+
+// Runs the plan of a line; with the name of a record it is recorded. Answers also whether it was said that there is no
+// file.
+fn run_plan_line<
+    K: Sink + Send,
+    B: Listener + Send,
+    O: Outside + Send + Drop,
+    X: Threads + Wait + Clock + Sync + Send + Copy + Drop,
+>(
+    threads: &X,
+    rt: HostRuntime,
+    line: &Blob,
+    outside: O,
+    sink: K,
+    report: B,
+    record: Option<&str>,
+) -> (Ran<K>, bool, B)
+    requires unheard { B.heard report [] }
+    requires quiet { O.has_come outside [] }
+{
+    match record {
+        Some(name) => run_line_recorded(threads, rt, line, outside, sink, report, name),
+        None => {
+            let (ran, report) = run_line(threads, rt, line, outside, sink, report);
+            (ran, false, report)
+        }
+    }
+}
+
+// After how many nanoseconds a tick comes, where there is a bar.
+fn ticks(bar: Option<u32>) -> Option<u64> {
+    match bar {
+        Some(_) => Some(TICK),
+        None => None,
+    }
 }
 
 /// Reads the plan line from standard input, and runs its plan: each later line is a signal or a key that it hears. With
-/// the name of a record it is recorded in a new file of that name.
-pub fn run_and_deliver<K: Sink + Send, X: Threads + Wait + Clock + Sync + Send + Copy + Drop>(
+/// the name of a record it is recorded in a new file of that name. The report hears its events, with a bar for a
+/// terminal of this width, if one is wanted, and is handed back.
+pub fn run_and_deliver<
+    K: Sink + Send,
+    A: Board + Send,
+    X: Threads + Wait + Clock + Sync + Send + Copy + Drop,
+>(
     threads: &X,
     rt: HostRuntime,
     sink: K,
+    report: A,
+    bar: Option<u32>,
     record: Option<&str>,
-) -> Delivered<K> {
+) -> (Delivered<K>, A)
+    requires { A.heard report [] }
+{
     let alloc = rt.alloc();
-    let mut outside = LineOutside::new(rt, alloc, rt.stdin());
-    match outside.first_line(alloc) {
-        Ok(line) => {
-            let (ran, said) = match record {
-                Some(name) => run_line_recorded(threads, rt, &line, outside, sink, name),
-                None => (run_line(threads, rt, &line, outside, sink), false),
-            };
-            Delivered { line, ran, said }
+    let mut lines = LineOutside::new(rt, alloc, rt.stdin());
+    let line = match lines.first_line(alloc) {
+        Ok(line) => line,
+        Err(error) => {
+            let line = Blob::new(alloc);
+            let ran = end_with(alloc, sink, fault_of(error));
+            let said = false;
+            return (Delivered { line, ran, said }, report);
         }
-        Err(error) => Delivered {
-            line: Blob::new(alloc),
-            ran: end_with(alloc, sink, fault_of(error)),
-            said: false,
-        },
-    }
+    };
+    let report = BarReport::new(report, *threads, bar);
+    let outside = TickingOutside::new(lines, *threads, ticks(bar));
+    let (ran, said, report) = run_plan_line(threads, rt, &line, outside, sink, report, record);
+    (Delivered { line, ran, said }, report.into_report())
 }

@@ -1,20 +1,28 @@
 //! The program: runs a plan with real children, or carries out the run that its standard input tells, and writes the
 //! lines of it, by the top calls of the libraries below. It answers `--help` and `--version` itself, and says on
-//! standard error what a fault means.
+//! standard error what a fault means; a run reports there as it goes.
 #![tactic(auto)]
+
+ghost use Rattle.std.specs.Prelude.{[]};
 
 mod delivering;
 mod recording;
+mod words;
 
 use delivering::{Delivered, run_and_deliver};
+use recording::end_with;
 use run_cli::{Ran, StdSink, StdSource, run};
 use run_hints::{KeptSource, LastLine, Seen, explain};
 use run_host::StdHost;
+use run_output::Fault;
 use run_program::{Request, print, print_memory, request_of};
+use run_report::{BarSink, Listener, RunReport};
+use std::env;
+use std::io::{IsTerminal, Stderr, Stdout};
 use std::process::ExitCode;
 use std::sync::Wait;
 use std::thread::Threads;
-use std::time::Clock;
+use words::{Color, Progress, RunWords, run_words_of};
 
 const VERSION: &str = "nextest_run 0.0.0";
 
@@ -22,21 +30,36 @@ const COMMANDS: [&str; 5] = ["run", "live", "replay", "progress", "generate"];
 
 const HELP: &str = "The execution engine of a test runner
 
-Usage: nextest_run run [--record FILE] < PLAN
+Usage: nextest_run run [OPTIONS] < PLAN
        nextest_run live < PLAN
        nextest_run replay < INPUT
        nextest_run progress WIDTH < INPUT
        nextest_run generate TESTS
 
   run              runs the tests of PLAN, each as a process of its own, and ends those that take too long; each line
-                   after PLAN is a signal or a key that it hears, as {\"turn\":\"signal\",\"name\":\"int\"}
-  --record FILE    records the run in a new file, a store that nextest_store plays
+                   after PLAN is a signal or a key that it hears, as {\"turn\":\"signal\",\"name\":\"int\"};
+                   standard error tells a person of the run as it goes
   live             the same, but it sends no signal, hears none, and waits for each test
   replay           carries out the run that INPUT tells
   progress WIDTH   the same, and shows its progress on a terminal of WIDTH columns, from 1 to 1000
   generate TESTS   carries out the run of a plan of TESTS tests, from 1 to 20000, that it makes up, and sums it up
   -h, --help       prints this, also after a command
   -V, --version    prints the version
+
+OPTIONS of run, each at most once, with its value behind a blank or =, and what stands where it isn't given:
+
+  --record FILE                  records the run in a new file, a store that nextest_store plays
+  --status-level LEVEL           none, fail, retry, slow, leak, pass, skip or all: down to what a line is shown as
+                                 the run goes on (pass)
+  --final-status-level LEVEL     none, fail, flaky, slow, skip, leak, pass or all: down to what a finished test is
+                                 shown again at the end (fail)
+  --failure-output WHEN          immediate, immediate-final, final or never: when the output of a test that failed
+                                 is shown (immediate)
+  --success-output WHEN          the same of a test that passed (never)
+  --color WHEN                   auto, always or never; auto: where standard error is a terminal, and the environment
+                                 has no NO_COLOR (auto)
+  --show-progress WHAT           bar, none or auto: a bar of what runs, drawn ten times a second; auto: where standard
+                                 error is a terminal, and standard output is none (auto); COLUMNS is its width (80)
 
 PLAN is one line, a JSON object: each of its tests has a command. So many run side by side as its \"threads\" say.
 Two tests, of which the second fails:
@@ -108,30 +131,6 @@ fn given(words: &Option<Vec<String>>) -> Option<&[String]> {
     }
 }
 
-// The command whose signals are delivered.
-enum Delivery<'a> {
-    Unrecorded,
-    /// With the file of its record.
-    Recorded(&'a str),
-}
-
-// The same with one more word.
-fn delivery_with(option: &str) -> Option<Delivery<'_>> {
-    Some(Delivery::Recorded(option.strip_prefix("--record=")?))
-}
-
-// What the words say of that command, if they are it.
-fn delivery_of(words: &[String]) -> Option<Delivery<'_>> {
-    match words {
-        [run] if run.as_str() == "run" => Some(Delivery::Unrecorded),
-        [run, option] if run.as_str() == "run" => delivery_with(option.as_str()),
-        [run, option, name] if run.as_str() == "run" && option.as_str() == "--record" => {
-            Some(Delivery::Recorded(name.as_str()))
-        }
-        _ => None,
-    }
-}
-
 // Does what the words say, and answers the status. Words of which one is not UTF-8 are run as no words are.
 fn run_words<X: Threads + Wait + Sync>(
     threads: &X,
@@ -151,38 +150,88 @@ fn run_words<X: Threads + Wait + Sync>(
     status
 }
 
-// Runs a plan and delivers its signals, and answers the status.
-fn run_delivered<X: Threads + Wait + Clock + Sync + Send + Copy + Drop>(
-    threads: &X,
-    rt: HostRuntime,
-    command: &[String],
-    record: Option<&str>,
+// Whether the environment asks for no colours.
+fn asks_no_color(rt: &HostRuntime) -> bool {
+    match env::var(rt, "NO_COLOR") {
+        Ok(value) => !value.is_empty(),
+        Err(_) => false,
+    }
+}
+
+// Whether the report has colours.
+fn has_color(rt: &HostRuntime, color: Color) -> bool {
+    match color {
+        Color::Auto => rt.stderr().is_terminal() && !asks_no_color(rt),
+        Color::Always => true,
+        Color::Never => false,
+    }
+}
+
+// How wide the terminal is, as the environment says; 80 columns where it doesn't.
+fn columns(rt: &HostRuntime) -> u32 {
+    match env::var(rt, "COLUMNS") {
+        Ok(value) => match value.parse::<u32>() {
+            Ok(columns) if columns > 0 => columns.min(1000),
+            _ => 80,
+        },
+        Err(_) => 80,
+    }
+}
+
+// The width of the bar, if there is one: not where the lines would stand in it.
+fn bar_of(rt: &HostRuntime, progress: Progress) -> Option<u32> {
+    let is_shown = match progress {
+        Progress::Auto => rt.stderr().is_terminal() && !rt.stdout().is_terminal(),
+        Progress::Bar => true,
+        Progress::None => false,
+    };
+    if is_shown { Some(columns(rt)) } else { None }
+}
+
+// The sink of the lines for programs.
+fn lines_of(rt: HostRuntime) -> LastLine<StdSink<Stdout>> {
+    LastLine::new(rt.alloc(), StdSink::new(rt.stdout()))
+}
+
+// The report to a person, as the words of `run` ask.
+fn report_of(rt: HostRuntime, asked: &RunWords<'_>) -> RunReport<BarSink<StdSink<Stderr>>>
+    ensures { ⟦<RunReport<BarSink<StdSink<Stderr>>> as Listener>⟧.heard result [] }
+{
+    let settings = asked.settings(has_color(&rt, asked.color.unwrap_or(Color::Auto)));
+    RunReport::new(BarSink::new(StdSink::new(rt.stderr())), settings)
+}
+
+// Says how a run of these words ended whose signals were delivered, and answers the status.
+fn end_delivered(
+    rt: &HostRuntime,
+    words: &[String],
+    delivered: Delivered<LastLine<StdSink<Stdout>>>,
 ) -> u8 {
-    let sink = LastLine::new(rt.alloc(), StdSink::new(rt.stdout()));
-    let Delivered { line, ran, said } = run_and_deliver(threads, rt, sink, record);
+    let Delivered { line, ran, said } = delivered;
     let Ran { status, sink } = ran;
     let (input, last) = (Some(line.as_slice()), sink.line());
     if !said {
-        say(&rt, Some(command), status, Seen { input, last });
+        let command = &words[..words.len().min(1)];
+        say(rt, Some(command), status, Seen { input, last });
     }
     status
 }
 
-// Does what the words say, and answers the status.
-fn run_given<X: Threads + Wait + Clock + Sync + Send + Copy + Drop>(
-    threads: &X,
-    rt: HostRuntime,
-    words: &[String],
-) -> u8 {
-    match delivery_of(words) {
-        Some(Delivery::Unrecorded) => run_delivered(threads, rt, words, None),
-        Some(Delivery::Recorded(name)) => run_delivered(
-            threads,
-            rt,
-            &words[..words.len().min(1)],
-            Some(name),
-        ),
-        None => run_words(threads, rt, Some(words)),
+// Says which word of `run` is wrong, and answers the status of that.
+fn refuse(rt: &HostRuntime, word: &str) -> u8 {
+    let _ = eprintln!(rt;
+        "nextest_run: error: unexpected word {word:?} after \"run\"\nnextest_run --help has the words of run"
+    );
+    let Ran { status, sink } = end_with(rt.alloc(), StdSink::new(rt.stdout()), Fault::Words);
+    drop(sink);
+    status
+}
+
+// What the words of `run` ask for, or which is wrong; none of another command.
+fn asked_of(words: Option<&[String]>) -> Option<Result<RunWords<'_>, &str>> {
+    match words {
+        Some([command, options @ ..]) if command.as_str() == "run" => Some(run_words_of(options)),
+        _ => None,
     }
 }
 
@@ -194,9 +243,24 @@ fn main(rt: HostRuntime) -> ExitCode {
         Request::Run(words) => Some(words),
         Request::NoText => None,
     };
-    let status = match given(&words) {
-        Some(words) => run_given(&rt, rt, words),
-        None => run_words(&rt, rt, None),
+    let words = given(&words);
+    let status = match asked_of(words) {
+        Some(Ok(asked)) => {
+            let bar = bar_of(&rt, asked.progress.unwrap_or(Progress::Auto));
+            let report = report_of(rt, &asked);
+            let (delivered, report) = run_and_deliver(
+                &rt,
+                rt,
+                lines_of(rt),
+                report,
+                bar,
+                asked.record,
+            );
+            drop(report.into_sink().into_sink());
+            end_delivered(&rt, words.unwrap_or(&[]), delivered)
+        }
+        Some(Err(word)) => refuse(&rt, word),
+        None => run_words(&rt, rt, words),
     };
     ExitCode::from(status)
 }
