@@ -1,0 +1,86 @@
+//! Worked rows: whole inputs of which a report is made in memory, in five settings. The folder `data/` has the names of
+//! the rows, their inputs, and of each the whole text in each of the settings. Each byte is compared, and a line is
+//! printed for each row; where a row differs, what was written follows. Each run is made once more with a sink that
+//! fails, which changes nothing of the run.
+#![tactic(auto)]
+
+mod made;
+mod settings;
+
+use made::{Made, report_of};
+use std::fs::Files;
+use std::io::Write;
+use std::process::ExitCode;
+use std::{fs, io};
+
+// Whether the report of a row is the one that is wanted in a setting. Prints it where it isn't.
+fn is_made<X: AllocGlobal + Files + Print + Copy>(
+    rt: &X,
+    name: &str,
+    input: &[u8],
+    variant: u32,
+) -> io::Result<bool> {
+    let wanted = fs::read(rt, format!(in rt.alloc(); "{name}.{variant}.report")?)?;
+    let Some(Made { report, .. }) = report_of(rt.alloc(), input, variant, None) else {
+        println!(rt; "{name} {variant}: no report")?;
+        return Ok(false);
+    };
+    if report.as_slice() == wanted.as_slice() {
+        return Ok(true);
+    }
+    println!(rt; "{name} {variant}: DIFFERS, and this was written:")?;
+    io::writer(rt).write_all(report.as_slice())?;
+    Ok(false)
+}
+
+// Whether a report whose sink fails is cut there and changes nothing of its run.
+fn is_cut<X: AllocGlobal + Files + Print + Copy>(
+    rt: &X,
+    name: &str,
+    input: &[u8],
+) -> io::Result<bool> {
+    let whole = report_of(rt.alloc(), input, 0, None);
+    let cut = report_of(rt.alloc(), input, 0, Some(2));
+    let (Some(whole), Some(cut)) = (whole, cut) else {
+        println!(rt; "{name}: no report")?;
+        return Ok(false);
+    };
+    let is_front = whole.report.as_slice().starts_with(cut.report.as_slice());
+    let is_silent = cut.is_silent && !whole.is_silent && cut.report.len() < whole.report.len();
+    if is_front && is_silent && cut.lines.as_slice() == whole.lines.as_slice() {
+        return Ok(true);
+    }
+    println!(rt; "{name}: NOT CUT at a failed write")?;
+    Ok(false)
+}
+
+// Whether a row is as it is to be.
+fn is_met<X: AllocGlobal + Files + Print + Copy>(rt: &X, name: &str) -> io::Result<bool> {
+    let input = fs::read(rt, format!(in rt.alloc(); "{name}.in")?)?;
+    let mut is_right = is_cut(rt, name, input.as_slice())?;
+    for variant in 0..5u32 {
+        if !is_made(rt, name, input.as_slice(), variant)? {
+            is_right = false;
+        }
+    }
+    if is_right {
+        println!(rt; "{name}: ok")?;
+    }
+    Ok(is_right)
+}
+
+fn main(rt: HostRuntime) -> io::Result<ExitCode> {
+    let names = fs::read_to_string(&rt, "rows.txt")?;
+    let mut unmet = 0u64;
+    for name in names.lines() {
+        if !is_met(&rt, name)? {
+            unmet = unmet.saturating_add(1);
+        }
+    }
+    println!(rt; "{unmet} rows differ")?;
+    Ok(if unmet == 0 {
+        ExitCode::SUCCESS
+    } else {
+        ExitCode::FAILURE
+    })
+}
