@@ -1,5 +1,5 @@
 // Stores that are cut short or damaged, and what playing each of them answers, as one text.
-use crate::carried::{Answer, answer_to};
+use crate::carried::{Answer, Program, answer_to};
 use crate::table::Streams;
 use std::alloc::{AllocError, Global};
 use std::io;
@@ -9,7 +9,7 @@ const ROOM: usize = 65536;
 
 // What playing a store answers.
 fn played(alloc: Global, words: &[String], store: &[u8]) -> io::Result<Answer> {
-    answer_to(alloc, words, store, Streams::sound(), ROOM)
+    answer_to(alloc, Program::Stores, words, store, Streams::sound(), ROOM)
 }
 
 /// Of each front part of a store, from the empty one to the whole: its length, the status, and all that is written.

@@ -1,9 +1,9 @@
-//! Worked rows of the programs of stores and of reruns: whole inputs, stores and chains of stores that the top calls
-//! carry out from memory into memory. The folder `data/` has the tables of the rows, their inputs, and of each the
-//! whole of what is to be written. One store is also played with each of its front parts and with each of its bytes
-//! changed, and of a longer one the fronts at the ends of its records. Each byte and each status is compared, and how
-//! many stores of a chain are opened and given back. A line is printed for each row; where a row differs, what was
-//! written follows.
+//! Worked rows of the programs of stores, of reruns and of jobs: whole inputs, stores and chains of stores that the
+//! top calls carry out from memory into memory. The folder `data/` has the tables of the rows, their inputs, and of
+//! each the whole of what is to be written. One store is also played with each of its front parts and with each of
+//! its bytes changed, and of a longer one the fronts at the ends of its records. Each byte and each status is
+//! compared, and how many stores of a chain are opened and given back. A line is printed for each row; where a row
+//! differs, what was written follows.
 #![tactic(auto)]
 
 mod carried;
@@ -11,7 +11,7 @@ mod damaged;
 mod reruns;
 mod table;
 
-use carried::{Answer, answer_of, input_of, words_of};
+use carried::{Answer, Program, answer_of, input_of, words_of};
 use damaged::{changes, cuts, fronts};
 use reruns::{Rerun, rerun_answer, rerun_of};
 use std::fs::Files;
@@ -33,39 +33,21 @@ fn is_wanted<X: AllocGlobal + Files + Print>(rt: &X, name: &str, text: &[u8]) ->
     Ok(false)
 }
 
+// What the rows of a table are of.
+#[derive(Clone, Copy)]
+enum Rows {
+    Of(Program),
+    Reruns,
+}
+
 // Whether a row was answered as it is to be.
-fn is_met<X: AllocGlobal + Files + Print>(rt: &X, row: &Row) -> io::Result<bool> {
+fn is_met<X: AllocGlobal + Files + Print>(rt: &X, program: Program, row: &Row) -> io::Result<bool> {
     let wanted = fs::read(rt, format!(in rt.alloc(); "{}.out", row.name)?)?;
-    let Answer { status, written } = answer_of(rt, row, wanted.len())?;
+    let Answer { status, written } = answer_of(rt, program, row, wanted.len())?;
     if status != row.status {
         println!(rt; "{}: status {status} for {}", row.name, row.status)?;
     }
     Ok(is_wanted(rt, row.name, written.as_slice())? && status == row.status)
-}
-
-// Whether a line of the table is met: a row, or one that says nothing.
-fn is_line_met<X: AllocGlobal + Files + Print>(rt: &X, line: &str) -> io::Result<bool> {
-    if line.is_empty() || line.starts_with('#') {
-        return Ok(true);
-    }
-    match row_of(line) {
-        Some(row) => is_met(rt, &row),
-        None => {
-            println!(rt; "no row: {line}")?;
-            Ok(false)
-        }
-    }
-}
-
-// How many lines of the table aren't met.
-fn unmet<X: AllocGlobal + Files + Print>(rt: &X, table: &str) -> io::Result<u64> {
-    let mut count = 0u64;
-    for line in table.lines() {
-        if !is_line_met(rt, line)? {
-            count = count.saturating_add(1);
-        }
-    }
-    Ok(count)
 }
 
 // Whether a row of reruns was answered as it is to be, and each store that was opened was given back.
@@ -80,13 +62,31 @@ fn is_rerun_met<X: AllocGlobal + Files + Print>(rt: &X, row: &Rerun) -> io::Resu
     Ok(is_wanted(rt, row.name, written.as_slice())? && status == row.status && is_opened)
 }
 
-// Whether a line of the table of reruns is met: a row, or one that says nothing.
-fn is_rerun_line_met<X: AllocGlobal + Files + Print>(rt: &X, line: &str) -> io::Result<bool> {
+// Whether the row that a line says is met, if it says one.
+fn is_row_met<X: AllocGlobal + Files + Print>(
+    rt: &X,
+    rows: Rows,
+    line: &str,
+) -> io::Result<Option<bool>> {
+    match rows {
+        Rows::Of(program) => match row_of(line) {
+            Some(row) => Ok(Some(is_met(rt, program, &row)?)),
+            None => Ok(None),
+        },
+        Rows::Reruns => match rerun_of(line) {
+            Some(row) => Ok(Some(is_rerun_met(rt, &row)?)),
+            None => Ok(None),
+        },
+    }
+}
+
+// Whether a line of a table is met: a row, or one that says nothing.
+fn is_line_met<X: AllocGlobal + Files + Print>(rt: &X, rows: Rows, line: &str) -> io::Result<bool> {
     if line.is_empty() || line.starts_with('#') {
         return Ok(true);
     }
-    match rerun_of(line) {
-        Some(row) => is_rerun_met(rt, &row),
+    match is_row_met(rt, rows, line)? {
+        Some(is_met) => Ok(is_met),
         None => {
             println!(rt; "no row: {line}")?;
             Ok(false)
@@ -94,11 +94,12 @@ fn is_rerun_line_met<X: AllocGlobal + Files + Print>(rt: &X, line: &str) -> io::
     }
 }
 
-// How many lines of the table of reruns aren't met.
-fn unmet_reruns<X: AllocGlobal + Files + Print>(rt: &X, table: &str) -> io::Result<u64> {
+// How many lines of the table of this name aren't met.
+fn unmet<X: AllocGlobal + Files + Print>(rt: &X, rows: Rows, name: &str) -> io::Result<u64> {
+    let text = fs::read_to_string(rt, name)?;
     let mut count = 0u64;
-    for line in table.lines() {
-        if !is_rerun_line_met(rt, line)? {
+    for line in text.lines() {
+        if !is_line_met(rt, rows, line)? {
             count = count.saturating_add(1);
         }
     }
@@ -122,13 +123,12 @@ fn are_damaged_met<X: AllocGlobal + Files + Print>(rt: &X) -> io::Result<bool> {
 }
 
 fn main(rt: HostRuntime) -> io::Result<ExitCode> {
-    let table = fs::read_to_string(&rt, "rows.txt")?;
-    let count = unmet(&rt, table.as_str())?;
+    let stores = unmet(&rt, Rows::Of(Program::Stores), "rows.txt")?;
     let are_met = are_damaged_met(&rt)?;
-    let reruns = fs::read_to_string(&rt, "reruns.txt")?;
-    let rerun_count = unmet_reruns(&rt, reruns.as_str())?;
-    println!(rt; "{count} rows of stores differ, {rerun_count} of reruns")?;
-    Ok(if count == 0 && rerun_count == 0 && are_met {
+    let reruns = unmet(&rt, Rows::Reruns, "reruns.txt")?;
+    let jobs = unmet(&rt, Rows::Of(Program::Jobs), "jobs.txt")?;
+    println!(rt; "{stores} rows of stores differ, {reruns} of reruns, {jobs} of jobs")?;
+    Ok(if stores == 0 && reruns == 0 && jobs == 0 && are_met {
         ExitCode::SUCCESS
     } else {
         ExitCode::FAILURE

@@ -2,10 +2,17 @@
 use crate::table::{Row, Streams};
 use run_capture::{Blob, List, MemorySink, MemorySource, OutOfMemory};
 use run_cli::Ran;
-use run_jobs_cli::{next_wave, run};
+use run_jobs_cli::next_wave;
 use std::alloc::{AllocError, Global};
 use std::fs::Files;
 use std::{fs, io};
+
+/// Whose top calls a table is of.
+#[derive(Clone, Copy)]
+pub enum Program {
+    Stores,
+    Jobs,
+}
 
 /// A status, and what was written.
 #[derive(Drop)]
@@ -14,8 +21,8 @@ pub struct Answer {
     pub written: Vec<u8>,
 }
 
-// Memory was wanting.
-fn wanting(_: OutOfMemory) -> io::Error {
+/// Memory was wanting.
+pub fn wanting(_: OutOfMemory) -> io::Error {
     io::Error::from(AllocError)
 }
 
@@ -38,8 +45,8 @@ pub fn input_of<X: AllocGlobal + Files>(rt: &X, name: &str) -> io::Result<Vec<u8
     fs::read(rt, format!(in rt.alloc(); "{name}.in")?)
 }
 
-// The list of a number, or of none for 0.
-fn numbers(alloc: Global, number: u64) -> Result<List<u64>, OutOfMemory> {
+/// The list of a number, or of none for 0.
+pub fn numbers(alloc: Global, number: u64) -> Result<List<u64>, OutOfMemory> {
     let mut list = List::new();
     if number > 0 {
         list.push(alloc, number)?;
@@ -47,15 +54,21 @@ fn numbers(alloc: Global, number: u64) -> Result<List<u64>, OutOfMemory> {
     Ok(list)
 }
 
-fn source_of(alloc: Global, bytes: &[u8], streams: Streams) -> Result<MemorySource, OutOfMemory> {
-    let failing = numbers(alloc, streams.failing_read)?;
+/// Bytes, and zeros after them until they are so many.
+pub fn filled(alloc: Global, bytes: &[u8], count: usize) -> Result<Blob, OutOfMemory> {
     let mut input = Blob::new(alloc);
     input.extend_from_slice(alloc, bytes)?;
     let zeros = [0u8; 4096];
-    'zeros: while input.len() < streams.filled {
-        let room = streams.filled.saturating_sub(input.len());
+    'zeros: while input.len() < count {
+        let room = count.saturating_sub(input.len());
         input.extend_from_slice(alloc, &zeros[..room.min(4096)])?;
     }
+    Ok(input)
+}
+
+fn source_of(alloc: Global, bytes: &[u8], streams: Streams) -> Result<MemorySource, OutOfMemory> {
+    let failing = numbers(alloc, streams.failing_read)?;
+    let input = filled(alloc, bytes, streams.filled)?;
     Ok(MemorySource::new(input, streams.most.max(1), failing))
 }
 
@@ -67,9 +80,24 @@ fn asks_next(words: &[String]) -> bool {
     }
 }
 
-/// What the top calls answer to words and an input, with room for so many bytes.
+// What the program of jobs answers.
+fn answer_of_jobs(
+    alloc: Global,
+    words: &[String],
+    source: &mut MemorySource,
+    sink: MemorySink,
+) -> Ran<MemorySink> {
+    if asks_next(words) {
+        next_wave(alloc, source, sink)
+    } else {
+        run_jobs_cli::run(alloc, words, source, sink)
+    }
+}
+
+/// What a top call answers to words and an input, with room for so many bytes.
 pub fn answer_to(
     alloc: Global,
+    program: Program,
     words: &[String],
     input: &[u8],
     streams: Streams,
@@ -78,10 +106,9 @@ pub fn answer_to(
     let mut source = source_of(alloc, input, streams).map_err(wanting)?;
     let failing = numbers(alloc, streams.failing_write).map_err(wanting)?;
     let sink = MemorySink::new(alloc, room, streams.most.max(1), failing).map_err(wanting)?;
-    let Ran { status, sink } = if asks_next(words) {
-        next_wave(alloc, &mut source, sink)
-    } else {
-        run(alloc, words, &mut source, sink)
+    let Ran { status, sink } = match program {
+        Program::Stores => run_store_cli::run(alloc, words, &mut source, sink),
+        Program::Jobs => answer_of_jobs(alloc, words, &mut source, sink),
     };
     let mut written = Vec::new(alloc);
     written.extend_from_slice(sink.bytes())?;
@@ -89,10 +116,22 @@ pub fn answer_to(
 }
 
 /// What the top call answers to a row, with room for somewhat more than the bytes that are wanted.
-pub fn answer_of<X: AllocGlobal + Files>(rt: &X, row: &Row, wanted: usize) -> io::Result<Answer> {
+pub fn answer_of<X: AllocGlobal + Files>(
+    rt: &X,
+    program: Program,
+    row: &Row,
+    wanted: usize,
+) -> io::Result<Answer> {
     let alloc = rt.alloc();
     let input = input_of(rt, row.input)?;
     let words = words_of(alloc, row.words)?;
     let room = wanted.saturating_add(4096);
-    answer_to(alloc, words.as_slice(), input.as_slice(), row.streams, room)
+    answer_to(
+        alloc,
+        program,
+        words.as_slice(),
+        input.as_slice(),
+        row.streams,
+        room,
+    )
 }
