@@ -167,7 +167,7 @@ def close(at, run, status, most, faults, leaves=False):
 def row_passes(at, faults):
     run = ended(at, plan(sh("cat; echo out; echo err >&2")), 0, 1, faults)
     faults.expect("streams", [run.output(), run.output("stderr")], [b"out\n", b"err\n"])
-    faults.expect("standard error", run.errors, "")
+    faults.expect("summaries on standard error", run.errors.count("Summary"), 1)
 
 
 def row_combined(at, faults):

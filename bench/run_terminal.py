@@ -193,7 +193,7 @@ def row_of_a_reader_that_waits(program):
     with tempfile.TemporaryDirectory() as folder:
         given = plan(*[sh(f"t{i}", "head -c 20000 /dev/zero | tr '\\0' x; exit 1") for i in range(40)])
         (Path(folder) / "plan").write_text(json.dumps(given) + "\n")
-        ran = subprocess.run(f"{ROOT}/tools/run < plan 2>&1 >/dev/null | (sleep 2; tail -n 1)", shell=True, cwd=folder,
+        ran = subprocess.run(f"{ROOT}/tools/run < plan 2>&1 >/dev/null | (sleep 2; tail -n 2)", shell=True, cwd=folder,
                              env={**os.environ, "NEXTEST_RUN": program}, capture_output=True, text=True, timeout=60)
         check("b t" in ran.stdout, f"ends with {ran.stdout!r}")
 
