@@ -1,7 +1,7 @@
 -- What a sink takes that erases a bar, and what the display of a bar has heard after one event more.
 use Rattle.std.proofs.Common.{◌≡◌, ℕ, suc, arith, Bool, true, false, List, [], ◌∷◌, ◌++◌}
 use Rattle.std.proofs.Common.{refl, sym, ap, ◌∙◌, subst, append-nil}
-use Rattle.std.specs.Prelude.{◌+◌, if◌then◌else◌, Option, None, Some}
+use Rattle.std.specs.Prelude.{◌+◌, if◌then◌else◌, is_err, IfSome, OnOk, Option, None, Some, Result, Ok, Err}
 use Rattle.std.specs.List.{filter_map}
 use Rattle.std.proofs.lemmas.List.Elements.{filter_map-append}
 use Rattle.run_capture.specs.Bytes.{Takes}
@@ -42,6 +42,15 @@ pub erases_before : (before between now : Option (List ℕ)) (bar : Option ℕ) 
     → Takes before between (erased bar) → Takes between now bytes → Takes before now (erased bar ++ bytes)
 erases_before before between now bar bytes first second =
     takes_both before between now (erased bar) bytes first second
+
+-- what is so after Ok is so where there is no error
+pub of_no_error : {T E P : Type 0} (r : Result T E) → OnOk r P → is_err r ≡ false → P
+of_no_error (Ok _) holds no_error = holds
+of_no_error (Err _) holds e = cc
+
+-- what is so of the one that stands there
+pub if_some_is : {X : Type 0} (o : Option X) (x : X) (P : X → Type 0) → o ≡ Some x → P x → IfSome o P
+if_some_is o x P same holds = rw same holds
 
 pub seen_nothing : (p : Progress) → StandsFor [] p → HasSeen [] p
 seen_nothing p s = s

@@ -1,9 +1,12 @@
 // A report with a bar at its end.
-ghost use Rattle.std.specs.Prelude.{◌≡◌, ◌++◌, ℕ, [], ◌∷◌, true, string_bytes, IfOk, IfSome, OnOk, List as Items};
+ghost use Rattle.std.specs.Prelude.{◌≡◌, ◌++◌, ℕ, [], ◌∷◌, true, string_bytes, IfOk, IfSome, IsSome, OnOk};
+ghost use Rattle.std.specs.Prelude.{List as Items};
 ghost use Rattle.run_events.specs.declared.events.ReporterEvent.{ReporterEvent as Event};
 ghost use Rattle.run_events.specs.declared.events.ReporterEvent.TheVariants.{Tick, Test};
+ghost use Rattle.run_events.specs.Tell.{Adds};
 ghost use Rattle.run_progress.specs.Lines.{tick_of};
-ghost use Rattle.run_report.specs.Bar.{bar_shown, HasSeen};
+ghost use Rattle.run_progress.specs.Seen.{is_hidden};
+ghost use Rattle.run_report.specs.Bar.{bar_shown, DrawnAt, HasSeen};
 
 use crate::style::push_char;
 use crate::{Board, Listener};
@@ -92,13 +95,17 @@ impl<C: Clock + Drop> Bar<C> {
         self.state.apply(alloc, event).is_ok()
     }
 
-    // Draws it at the end of a report, unless it is hidden. Answers whether it may be drawn again.
+    // Draws it at the end of a report, as it is at some moment, unless it is hidden. Answers whether it may be drawn
+    // again.
     #[tactic(auto, using(crate::proofs::BarLemmas::seen_tick))]
     fn draw<A: Board>(&mut self, alloc: Global, report: &mut A) -> bool
         ensures heard { (events : Items Event) → A.heard report.old events
             → A.heard report.new events }
         ensures seen { (events : Items Event) → HasSeen events self.old.state
             → HasSeen (events ++ Tick ∷ []) self.new.state }
+        ensures hidden { is_hidden self.old.state.seen.hiding ≡ true → report.new ≡ report.old }
+        ensures drawn { result ≡ true
+            → DrawnAt (λ text. A.draws report.old report.new text) self.old.state self.old.width }
     {
         if self.state.hidden() {
             return true;
@@ -120,6 +127,8 @@ impl<C: Clock + Drop> Bar<C> {
             → A.heard report.new events }
         ensures seen { IfSome result (λ bar. (events : Items Event) → HasSeen events self.state
             → HasSeen (events ++ event.now ∷ []) bar.state) }
+        ensures drawn { event.now ≡ Tick → IsSome result
+            → DrawnAt (λ text. A.draws report.old report.new text) self.state self.width }
     {
         let goes_on = match event {
             ReporterEvent::Tick => self.draw(alloc, report),
@@ -154,7 +163,14 @@ impl<A: Board, C: Clock + Drop> BarReport<A, C> {
 impl<A: Board, C: Clock + Drop> Listener for BarReport<A, C> {
     ghost heard = { λ b events. A.heard b.report events × IfSome b.bar (λ bar. HasSeen events bar.state) };
 
-    fn hear(&mut self, alloc: Global, event: &ReporterEvent) {
+    fn hear(&mut self, alloc: Global, event: &ReporterEvent)
+        ensures heard { Adds (λ b events. A.heard b.report events × IfSome b.bar (λ bar. HasSeen events bar.state))
+            self.old self.new (event.now ∷ []) }
+        // At a tick the bar is drawn behind what the board has heard then, unless it is given up.
+        ensures drawn { event.now ≡ Tick → IsSome self.new.bar → IfSome self.old.bar (λ bar. (between : A)
+            × Adds A.heard self.old.report between (event.now ∷ [])
+            × DrawnAt (λ text. A.draws between self.new.report text) bar.state bar.width) }
+    {
         self.report.hear(alloc, event);
         if let Some(bar) = self.bar.take() {
             self.bar = bar.after(alloc, &mut self.report, event);

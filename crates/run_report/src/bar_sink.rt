@@ -1,7 +1,8 @@
 // A sink with a bar at its end.
-ghost use Rattle.std.specs.Prelude.{◌≡◌, ◌≤◌, ◌<◌, ◌++◌, length, take, IfOk, OnOk, None};
+ghost use Rattle.std.specs.Prelude.{◌≡◌, ◌≤◌, ◌<◌, ◌++◌, length, take, IfOk, OnOk, OnErr, None};
 ghost use Rattle.run_capture.specs.Bytes.{Takes};
-ghost use Rattle.run_report.specs.Bar.{clears_above, erased};
+ghost use Rattle.run_capture.specs.Faults.{CountsFault};
+ghost use Rattle.run_report.specs.Bar.{clears_above, erased, line_feeds, Draws, Erases};
 
 use run_capture::{Failed, Sink, write_all};
 
@@ -21,7 +22,8 @@ const CLEAR_ABOVE: &[u8] = b"\x1b[1A\x1b[2K";
 // Clears so many lines above, one after the other.
 #[tactic(auto, using(crate::proofs::BarLemmas::clears_more, crate::proofs::BarLemmas::clears_none))]
 fn clear_above<K: Sink>(sink: &mut K, count: usize) -> Result<(), Failed>
-    ensures { OnOk result (Takes (K.taken sink.old) (K.taken sink.new) (clears_above count)) }
+    ensures taken { OnOk result (Takes (K.taken sink.old) (K.taken sink.new) (clears_above count)) }
+    ensures fault { CountsFault (K.faults sink.old) (K.faults sink.new) result }
 {
     for _line in 0..count {
         write_all(sink, CLEAR_ABOVE)?;
@@ -32,7 +34,8 @@ fn clear_above<K: Sink>(sink: &mut K, count: usize) -> Result<(), Failed>
 // Erases a bar of so many line feeds, where one stands there.
 #[tactic(auto, using(crate::proofs::BarLemmas::erases_none, crate::proofs::BarLemmas::erases_some))]
 fn erase<K: Sink>(sink: &mut K, bar: Option<usize>) -> Result<(), Failed>
-    ensures { OnOk result (Takes (K.taken sink.old) (K.taken sink.new) (erased bar)) }
+    ensures taken { OnOk result (Takes (K.taken sink.old) (K.taken sink.new) (erased bar)) }
+    ensures fault { CountsFault (K.faults sink.old) (K.faults sink.new) result }
 {
     if let Some(feeds) = bar {
         write_all(sink, CLEAR)?;
@@ -42,7 +45,9 @@ fn erase<K: Sink>(sink: &mut K, bar: Option<usize>) -> Result<(), Failed>
 }
 
 // How many line feeds a text has.
-fn feeds(text: &str) -> usize {
+fn feeds(text: &str) -> usize
+    ensures { result ≡ line_feeds text.now }
+{
     text.bytes().filter(|byte| *byte == b'\n').count()
 }
 
@@ -70,11 +75,12 @@ impl<K: Sink> BarSink<K> {
         erase(&mut self.sink, bar)
     }
 
-    /// Erases the bar, and shows a text as one.
+    /// Erases the bar, and shows a text as one. After an error none is known to stand there.
     #[tactic(auto, using(crate::proofs::BarLemmas::erases_before))]
     pub(crate) fn draw(&mut self, text: &str) -> Result<(), Failed>
-        ensures taken { OnOk result (Takes (K.taken self.old.sink) (K.taken self.new.sink)
-            (erased self.old.bar ++ text.now)) }
+        ensures drawn { OnOk result (Draws (K.taken self.old.sink) (K.taken self.new.sink) self.old.bar self.new.bar
+            text.now) }
+        ensures failed { OnErr result (self.new.bar ≡ None) }
         ensures faults { self.new.faults ≡ self.old.faults }
     {
         self.clear()?;
@@ -90,14 +96,17 @@ impl<K: Sink> BarSink<K> {
         ensures some { IfOk result (λ n. 0 < length piece.now → 0 < n) }
         ensures taken { IfOk result (λ n. Takes (K.taken self.old.sink) (K.taken self.new.sink)
             (erased self.old.bar ++ take n piece.now)) }
+        ensures bar { self.new.bar ≡ None }
         ensures faults { self.new.faults ≡ self.old.faults }
     {
         self.clear()?;
         self.sink.write(piece)
     }
 
-    /// Erases the bar, and hands back the sink.
-    pub fn into_sink(self) -> K {
+    /// Erases the bar, unless the sink fails, and hands back the sink.
+    pub fn into_sink(self) -> K
+        ensures { Erases (K.taken self.sink) (K.taken result) (K.faults self.sink) (K.faults result) self.bar }
+    {
         let BarSink {
             mut sink,
             bar,
@@ -113,7 +122,18 @@ impl<K: Sink> Sink for BarSink<K> {
 
     ghost faults = { λ s. s.faults };
 
-    fn write(&mut self, piece: &[u8]) -> Result<usize, Failed> {
+    /// Erases the bar, and writes a front part of a piece.
+    fn write(&mut self, piece: &[u8]) -> Result<usize, Failed>
+        ensures within { IfOk result (λ n. n ≤ length piece.now) }
+        ensures some { IfOk result (λ n. 0 < length piece.now → 0 < n) }
+        ensures taken { IfOk result (λ n. Takes (⟦<BarSink<K> as Sink>⟧.taken self.old)
+            (⟦<BarSink<K> as Sink>⟧.taken self.new) (take n piece.now)) }
+        ensures err { OnErr result (⟦<BarSink<K> as Sink>⟧.taken self.new ≡ ⟦<BarSink<K> as Sink>⟧.taken self.old) }
+        ensures fault { CountsFault self.old.faults self.new.faults result }
+        ensures behind { IfOk result (λ n. Takes (K.taken self.old.sink) (K.taken self.new.sink)
+            (erased self.old.bar ++ take n piece.now)) }
+        ensures bar { self.new.bar ≡ None }
+    {
         match self.write_behind(piece) {
             Ok(written) => Ok(written),
             Err(failed) => {

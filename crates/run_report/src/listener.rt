@@ -21,10 +21,14 @@ pub trait Listener {
 
 /// Who writes what it hears, and can show a text at its end until it writes more.
 pub trait Board: Listener {
-    ghost use Rattle.std.specs.Prelude.{List};
+    ghost use Rattle.std.specs.Prelude.{ℕ, List, OnOk};
     ghost use Rattle.run_events.specs.declared.events.ReporterEvent.{ReporterEvent};
+
+    /// The second is the first, once this text was shown at its end.
+    ghost draws: { Self → Self → List ℕ → Type 0 };
 
     /// Shows a text at the end. It is no part of what was written.
     fn draw(&mut self, text: &str) -> Result<(), Failed>
-        ensures { (events : List ReporterEvent) → Self.heard self.old events → Self.heard self.new events };
+        ensures heard { (events : List ReporterEvent) → Self.heard self.old events → Self.heard self.new events }
+        ensures drawn { OnOk result (draws self.old self.new text.now) };
 }

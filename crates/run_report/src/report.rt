@@ -123,6 +123,11 @@ impl<K: Sink> Listener for RunReport<K> {
 }
 
 impl<K: Sink> Board for RunReport<BarSink<K>> {
+    ghost use Rattle.run_report.specs.Bar.{Draws};
+
+    ghost draws = { λ old new text. is_err old.went ≡ false → Draws (K.taken old.sink.sink) (K.taken new.sink.sink)
+        old.sink.bar new.sink.bar text };
+
     /// Shows a text as the bar at the end, unless it has fallen silent.
     fn draw(&mut self, text: &str) -> Result<(), Failed> {
         if self.went.is_ok() {
