@@ -4,7 +4,7 @@ ghost use Rattle.run_drive.specs.InMemory.{IsFed, silent_text};
 
 use crate::given::Given;
 use crate::{Begun, Said, Spawner};
-use run_capture::{List, Mem, Text};
+use run_capture::{Boxed, List, Mem, Text};
 use run_events::StartAsk;
 use std::alloc::Global;
 
@@ -18,10 +18,10 @@ pub struct MemorySpawner {
     said: Given<Said>,
 }
 
-fn last_word(alloc: Global) -> Mem<Text>
+fn last_word(alloc: Global) -> Mem<Boxed<Text>>
     ensures { IfOk result (λ text. text ≡ silent_text) }
 {
-    Text::from_str(alloc, LAST_WORD)
+    Boxed::new(alloc, Text::from_str(alloc, LAST_WORD)?)
 }
 
 impl MemorySpawner {

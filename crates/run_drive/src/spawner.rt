@@ -2,7 +2,7 @@
 ghost use Rattle.std.specs.Prelude.{◌≡◌, List, [], ◌∷◌, ◌++◌, IfOk, OnErr};
 ghost use Rattle.run_drive.specs.Heard.{begun_turn, said_turn};
 
-use run_capture::{Blob, Duplicate, Mem, Stream, Text};
+use run_capture::{Blob, Boxed, Duplicate, Mem, Stream, Text};
 use run_commands::EnvInput;
 use run_events::{ChildExit, StartAsk, Turn};
 use std::alloc::Global;
@@ -12,7 +12,7 @@ pub enum Begun {
     /// The child started, with this process id.
     Started { pid: u32 },
     /// It could not be started.
-    Refused { error: Text },
+    Refused { error: Boxed<Text> },
 }
 
 /// What a child said.
@@ -22,11 +22,11 @@ pub enum Said {
     /// A captured stream ended.
     End { stream: Stream },
     /// Reading a captured stream failed.
-    ReadError { stream: Stream, error: Text },
+    ReadError { stream: Stream, error: Boxed<Text> },
     /// It ended.
     Exit { exit: ChildExit },
     /// The wait for it failed.
-    WaitFailed { error: Text },
+    WaitFailed { error: Boxed<Text> },
     /// Its environment file was read, or could not be. Only a script's child has one.
     Env { input: EnvInput },
 }

@@ -4,7 +4,7 @@ ghost use Rattle.run_events.specs.Parts.{has_bytes};
 ghost use Rattle.run_events.specs.declared.turn.Turn.TheVariants.{StartFailed, WaitFailed, Piece, ReadError, Env};
 
 use crate::{ChildExit, Key, Signal};
-use run_capture::{Blob, Duplicate, Mem, Stream, Text};
+use run_capture::{Blob, Boxed, Duplicate, Mem, Stream, Text};
 use run_commands::EnvInput;
 use std::alloc::Global;
 
@@ -25,7 +25,7 @@ pub enum Turn {
     /// A unit's child could not be started.
     StartFailed {
         unit: u32,
-        error: Text,
+        error: Boxed<Text>,
     },
     /// A unit's child ended.
     Exit {
@@ -35,7 +35,7 @@ pub enum Turn {
     /// The wait for a unit's child failed.
     WaitFailed {
         unit: u32,
-        error: Text,
+        error: Boxed<Text>,
     },
     /// A unit's child wrote to a captured stream.
     Piece {
@@ -52,7 +52,7 @@ pub enum Turn {
     ReadError {
         unit: u32,
         stream: Stream,
-        error: Text,
+        error: Boxed<Text>,
     },
     /// A script's environment file was read, or could not be.
     Env {
@@ -111,7 +111,7 @@ fn copy_piece(alloc: Global, unit: u32, stream: Stream, bytes: &Blob) -> Mem<Tur
     })
 }
 
-fn copy_read_error(alloc: Global, unit: u32, stream: Stream, error: &Text) -> Mem<Turn>
+fn copy_read_error(alloc: Global, unit: u32, stream: Stream, error: &Boxed<Text>) -> Mem<Turn>
     ensures { IfOk result (λ t. t ≡ ReadError unit stream error.now) }
 {
     let error = error.copy(alloc)?;
@@ -129,14 +129,14 @@ fn copy_env(alloc: Global, unit: u32, input: &EnvInput) -> Mem<Turn>
     Ok(Turn::Env { unit, input })
 }
 
-fn copy_start_failed(alloc: Global, unit: u32, error: &Text) -> Mem<Turn>
+fn copy_start_failed(alloc: Global, unit: u32, error: &Boxed<Text>) -> Mem<Turn>
     ensures { IfOk result (λ t. t ≡ StartFailed unit error.now) }
 {
     let error = error.copy(alloc)?;
     Ok(Turn::StartFailed { unit, error })
 }
 
-fn copy_wait_failed(alloc: Global, unit: u32, error: &Text) -> Mem<Turn>
+fn copy_wait_failed(alloc: Global, unit: u32, error: &Boxed<Text>) -> Mem<Turn>
     ensures { IfOk result (λ t. t ≡ WaitFailed unit error.now) }
 {
     let error = error.copy(alloc)?;

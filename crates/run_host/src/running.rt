@@ -1,6 +1,6 @@
 // A child that runs, and what it says next.
 use crate::telling::{env_input, exit_of, piece, unread, unwaited};
-use run_capture::{Mem, Stream, Text};
+use run_capture::{Boxed, Mem, Stream, Text};
 use run_drive::Said;
 use std::alloc::Global;
 use std::fs::Files;
@@ -37,7 +37,9 @@ const PIECE: usize = 8192;
 /// There is nothing more to say.
 pub fn nothing_more(alloc: Global) -> Mem<Said> {
     let error = Text::from_str(alloc, "end")?;
-    Ok(Said::WaitFailed { error })
+    Ok(Said::WaitFailed {
+        error: Boxed::new(alloc, error)?,
+    })
 }
 
 impl<C: OpenProcess + Drop> Running<C> {

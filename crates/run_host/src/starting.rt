@@ -1,5 +1,5 @@
 // What a child is started with, and how a start is refused.
-use run_capture::{Mem, OutOfMemory, Text};
+use run_capture::{Boxed, Mem, OutOfMemory, Text};
 use run_drive::Begun;
 use run_events::Variables;
 use std::alloc::{AllocError, Global};
@@ -41,7 +41,9 @@ pub fn clear_env_file(files: &impl Files, path: &Option<Text>) -> io::Result<()>
 /// There is no command to start.
 pub fn no_command(alloc: Global) -> Mem<Begun> {
     let error = Text::from_str(alloc, "there is no command")?;
-    Ok(Begun::Refused { error })
+    Ok(Begun::Refused {
+        error: Boxed::new(alloc, error)?,
+    })
 }
 
 /// A start failed, and is refused with these words before the error's text. Want of memory is no refusal.
@@ -50,7 +52,9 @@ pub fn refused(alloc: Global, role: &str, error: &io::Error) -> Mem<Begun> {
         return Err(OutOfMemory);
     }
     let error = Text::from_string(format!(in alloc; "{role}{error}")?);
-    Ok(Begun::Refused { error })
+    Ok(Begun::Refused {
+        error: Boxed::new(alloc, error)?,
+    })
 }
 
 /// A program could not be started. Its name may have any character, so it is escaped.

@@ -3,7 +3,7 @@ ghost use Rattle.std.specs.Prelude.{◌≡◌, IfSome, IfNone};
 ghost use Rattle.std.specs.Process.{exit_code, exit_signal};
 ghost use Rattle.run_events.specs.declared.result.ChildExit.TheVariants.{Code, Signal};
 
-use run_capture::{Blob, Mem, OutOfMemory, ReadError, StdSource, Stream, Text, read_to_end};
+use run_capture::{Blob, Boxed, Mem, OutOfMemory, ReadError, StdSource, Stream, Text, read_to_end};
 use run_commands::EnvInput;
 use run_drive::Said;
 use run_events::ChildExit;
@@ -15,8 +15,9 @@ use std::process::ExitStatus;
 use std::{fs, io};
 
 /// The text of an error.
-pub fn error_text(alloc: Global, error: &io::Error) -> Mem<Text> {
-    Ok(Text::from_string(format!(in alloc; "{error}")?))
+pub fn error_text(alloc: Global, error: &io::Error) -> Mem<Boxed<Text>> {
+    let text = Text::from_string(format!(in alloc; "{error}")?);
+    Boxed::new(alloc, text)
 }
 
 /// How a child ended.

@@ -16,7 +16,7 @@ use crate::refusal::Refusal;
 use crate::turn_fields::{child_exit, code_at, due_timer, env_input, hex_at, signal_at, stream_at};
 use crate::turn_name::{TurnName, turn_named};
 use crate::value::{parse, unless_float};
-use run_capture::{Mem, Text};
+use run_capture::{Boxed, Mem, Text};
 use run_events::{Key, Turn};
 use serde_json::Value;
 use std::alloc::Global;
@@ -139,13 +139,13 @@ fn started(alloc: Global, value: &Value) -> Result<Turn, Refusal>
 
 // A unit, and the text of the error that came up there.
 #[tactic(auto, unfolding(crate::specs::TurnLine::failed_of))]
-fn failed(alloc: Global, value: &Value) -> Result<(u32, Text), Refusal>
+fn failed(alloc: Global, value: &Value) -> Result<(u32, Boxed<Text>), Refusal>
     ensures { ReadsValue result (failed_of (view value.now)) }
 {
     only_keys(alloc, value, &["text", "turn", "unit"], OBJECT)?;
     let unit = u32_at(alloc, value, "unit")?;
     let error = text_at(alloc, value, "text")?;
-    Ok((unit, error))
+    Ok((unit, Boxed::new(alloc, error)?))
 }
 
 fn start_failed(alloc: Global, value: &Value) -> Result<Turn, Refusal>
@@ -208,7 +208,7 @@ fn read_error(alloc: Global, value: &Value) -> Result<Turn, Refusal>
     Ok(Turn::ReadError {
         unit,
         stream,
-        error,
+        error: Boxed::new(alloc, error)?,
     })
 }
 

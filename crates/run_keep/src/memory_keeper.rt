@@ -2,7 +2,7 @@
 ghost use Rattle.std.specs.Prelude.{◌≡◌, [], IfOk, IfSome, IsNone, Some, None};
 
 use crate::{Heard, Keeper, Sent};
-use run_capture::{Duplicate, List, Mem, Text};
+use run_capture::{Boxed, Duplicate, List, Mem, Text};
 use run_commands::EnvInput;
 use run_drive::{Begun, Said};
 use run_events::{SignalAsk, StartAsk};
@@ -56,7 +56,7 @@ fn answer(alloc: Global, child: Option<&Child>) -> Mem<Begun> {
     match child {
         Some(child) => child.begun.copy(alloc),
         None => Ok(Begun::Refused {
-            error: Text::from_str(alloc, NO_CHILD)?,
+            error: Boxed::new(alloc, Text::from_str(alloc, NO_CHILD)?)?,
         }),
     }
 }

@@ -12,7 +12,7 @@ ghost use Rattle.run_events.specs.declared.turn.Turn.TheVariants as turns;
 use crate::leaf::Leaf;
 use crate::object::Object;
 use crate::printer::Printer;
-use run_capture::{Blob, Mem, Stream, Text};
+use run_capture::{Blob, Boxed, Mem, Stream, Text};
 use run_commands::EnvInput;
 use run_events::{ChildExit, Key, KeyCode, Signal, Turn};
 use std::alloc::Global;
@@ -75,12 +75,18 @@ fn timer(alloc: Global, out: &mut Printer, name: &'static str) -> Mem<()>
     Object::print_of(alloc, out, &fields)
 }
 
-fn failed(alloc: Global, out: &mut Printer, name: &'static str, unit: u32, error: &Text) -> Mem<()>
+fn failed(
+    alloc: Global,
+    out: &mut Printer,
+    name: &'static str,
+    unit: u32,
+    error: &Boxed<Text>,
+) -> Mem<()>
     ensures { Prints result out.old out.new
         (data_tokens (object_of (failed_fields name.now unit error.now))) }
 {
     let fields = [
-        ("text", Leaf::Text(error)),
+        ("text", Leaf::Text(error.get())),
         ("turn", Leaf::Word(name)),
         ("unit", Leaf::Count(unit)),
     ];
@@ -123,13 +129,19 @@ fn piece(alloc: Global, out: &mut Printer, unit: u32, stream: Stream, bytes: &Bl
     Object::print_of(alloc, out, &fields)
 }
 
-fn read_error(alloc: Global, out: &mut Printer, unit: u32, stream: Stream, error: &Text) -> Mem<()>
+fn read_error(
+    alloc: Global,
+    out: &mut Printer,
+    unit: u32,
+    stream: Stream,
+    error: &Boxed<Text>,
+) -> Mem<()>
     ensures { Prints result out.old out.new
         (data_tokens (turn_data (turns.ReadError unit stream error.now))) }
 {
     let fields = [
         ("stream", Leaf::Word(stream_name(stream))),
-        ("text", Leaf::Text(error)),
+        ("text", Leaf::Text(error.get())),
         ("turn", Leaf::Word("read-error")),
         ("unit", Leaf::Count(unit)),
     ];

@@ -159,7 +159,7 @@ fn is_start_failed(turn: &Turn, unit: u32, error: &Text) -> bool
         Turn::StartFailed {
             unit: own_unit,
             error: own_error,
-        } => *own_unit == unit && same_text(own_error, error),
+        } => *own_unit == unit && same_text(own_error.get(), error),
         _ => false,
     }
 }
@@ -183,7 +183,7 @@ fn is_wait_failed(turn: &Turn, unit: u32, error: &Text) -> bool
         Turn::WaitFailed {
             unit: own_unit,
             error: own_error,
-        } => *own_unit == unit && same_text(own_error, error),
+        } => *own_unit == unit && same_text(own_error.get(), error),
         _ => false,
     }
 }
@@ -221,7 +221,9 @@ fn is_read_error(turn: &Turn, unit: u32, stream: Stream, error: &Text) -> bool
             unit: own_unit,
             stream: own_stream,
             error: own_error,
-        } => *own_unit == unit && same_stream(*own_stream, stream) && same_text(own_error, error),
+        } => *own_unit == unit
+            && same_stream(*own_stream, stream)
+            && same_text(own_error.get(), error),
         _ => false,
     }
 }
@@ -311,9 +313,9 @@ pub fn same_turn(a: &Turn, b: &Turn) -> bool
         Turn::ReportCancel => is_report_cancel(b),
         Turn::End => is_end(b),
         Turn::Started { unit, pid } => is_started(b, *unit, *pid),
-        Turn::StartFailed { unit, error } => is_start_failed(b, *unit, error),
+        Turn::StartFailed { unit, error } => is_start_failed(b, *unit, error.get()),
         Turn::Exit { unit, exit } => is_exit(b, *unit, *exit),
-        Turn::WaitFailed { unit, error } => is_wait_failed(b, *unit, error),
+        Turn::WaitFailed { unit, error } => is_wait_failed(b, *unit, error.get()),
         Turn::Piece {
             unit,
             stream,
@@ -324,7 +326,7 @@ pub fn same_turn(a: &Turn, b: &Turn) -> bool
             unit,
             stream,
             error,
-        } => is_read_error(b, *unit, *stream, error),
+        } => is_read_error(b, *unit, *stream, error.get()),
         Turn::Env { unit, input } => is_env(b, *unit, input),
         Turn::Decide { unit, word } => is_decide(b, *unit, *word),
         Turn::UnitDue { unit } => is_unit_due(b, *unit),

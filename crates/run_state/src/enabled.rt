@@ -26,9 +26,9 @@ pub fn turn_of_unit(alloc: Global, turn: &Turn) -> Mem<Option<(u32, UnitTurn)>>
 {
     match turn {
         Turn::Started { unit, pid } => Ok(Some((*unit, UnitTurn::Started { pid: *pid }))),
-        Turn::StartFailed { unit, error } => start_failed(alloc, *unit, error),
+        Turn::StartFailed { unit, error } => start_failed(alloc, *unit, error.get()),
         Turn::Exit { unit, exit } => Ok(Some((*unit, UnitTurn::Exit { exit: *exit }))),
-        Turn::WaitFailed { unit, error } => wait_failed(alloc, *unit, error),
+        Turn::WaitFailed { unit, error } => wait_failed(alloc, *unit, error.get()),
         Turn::Piece {
             unit,
             stream,
@@ -41,7 +41,7 @@ pub fn turn_of_unit(alloc: Global, turn: &Turn) -> Mem<Option<(u32, UnitTurn)>>
             unit,
             stream,
             error,
-        } => read_error(alloc, *unit, *stream, error),
+        } => read_error(alloc, *unit, *stream, error.get()),
         Turn::Env { unit, input } => env(alloc, *unit, input),
         Turn::Take { unit } => Ok(Some((*unit, UnitTurn::Take))),
         Turn::UnitDue { unit } => Ok(Some((*unit, UnitTurn::Due))),

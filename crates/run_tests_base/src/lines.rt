@@ -1,6 +1,6 @@
 // The lines that no stored row has: of turns, with their keys in byte order, of the fault of memory, and of an answer
 // by a unit that is killed after some time.
-use crate::rows::{MEMORY, blob, holds, text};
+use crate::rows::{MEMORY, blob, boxed, holds, text};
 use run_capture::{ChildOutput, List, Stream, Text};
 use run_events::{
     ChildExecutionOutput, ChildExit, InfoAnswered, InfoResponse, InfoSubject, ReporterEvent,
@@ -32,7 +32,7 @@ fn piece(rt: &impl Abort, alloc: Global) -> Turn {
 fn start_failed(rt: &impl Abort, alloc: Global) -> Turn {
     Turn::StartFailed {
         unit: 0,
-        error: text(rt, alloc, "no \"x\""),
+        error: boxed(rt, alloc, text(rt, alloc, "no \"x\"")),
     }
 }
 

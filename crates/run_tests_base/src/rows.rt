@@ -1,5 +1,5 @@
 // What the tests share. Memory is ample: where it is wanting, the test ends.
-use run_capture::{Blob, Duplicate, List, Text};
+use run_capture::{Blob, Boxed, Duplicate, List, Text};
 use std::alloc::Global;
 use std::fmt::Display;
 use std::process::Abort;
@@ -13,6 +13,11 @@ pub fn holds(rt: &impl Abort, row: &str, answer: bool) {
 
 pub fn text(rt: &impl Abort, alloc: Global, text: &str) -> Text {
     Text::from_str(alloc, text).expect(rt, MEMORY)
+}
+
+/// A value in memory of its own.
+pub fn boxed<T: Drop>(rt: &impl Abort, alloc: Global, value: T) -> Boxed<T> {
+    Boxed::new(alloc, value).expect(rt, MEMORY)
 }
 
 pub fn blob(rt: &impl Abort, alloc: Global, bytes: &[u8]) -> Blob {

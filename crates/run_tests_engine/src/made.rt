@@ -1,5 +1,5 @@
 // What the tests share. Memory is ample: where it is wanting, the test ends.
-use run_capture::{Duplicate, List, Text};
+use run_capture::{Boxed, Duplicate, List, Text};
 use std::alloc::Global;
 use std::process::Abort;
 
@@ -7,6 +7,11 @@ pub const MEMORY: &str = "memory";
 
 pub fn text(rt: &impl Abort, alloc: Global, text: &str) -> Text {
     Text::from_str(alloc, text).expect(rt, MEMORY)
+}
+
+/// A value in memory of its own.
+pub fn boxed<T: Drop>(rt: &impl Abort, alloc: Global, value: T) -> Boxed<T> {
+    Boxed::new(alloc, value).expect(rt, MEMORY)
 }
 
 // A list of one item.

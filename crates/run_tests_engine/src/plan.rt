@@ -2,7 +2,7 @@
 ghost use Rattle.std.specs.Prelude.{◌≡◌, ◌≤◌, [], length};
 ghost use Rattle.run_model.specs.Backoff.{retry_count};
 
-use crate::made::{MEMORY, one, text};
+use crate::made::{MEMORY, boxed, one, text};
 use run_capture::{CaptureStrategy, List, Text};
 use run_engine::{TestRunner, TestRunnerBuilder};
 use run_events::{
@@ -120,12 +120,12 @@ pub fn put(rt: &impl Abort, turns: &mut Vec<Turn>, turn: Turn) {
 }
 
 fn start_failed(rt: &impl Abort, alloc: Global, unit: u32) -> Turn {
-    let error = text(rt, alloc, "no such file");
+    let error = boxed(rt, alloc, text(rt, alloc, "no such file"));
     Turn::StartFailed { unit, error }
 }
 
 fn wait_failed(rt: &impl Abort, alloc: Global, unit: u32) -> Turn {
-    let error = text(rt, alloc, "no child");
+    let error = boxed(rt, alloc, text(rt, alloc, "no child"));
     Turn::WaitFailed { unit, error }
 }
 

@@ -58,9 +58,9 @@ fn own_turn(rt: &impl Abort, alloc: Global, taken: Taken<'_>) -> Option<UnitTurn
             Some(UnitTurn::Answered { go })
         }
         Turn::Started { unit: 0, pid } => Some(UnitTurn::Started { pid: *pid }),
-        Turn::StartFailed { unit: 0, error } => Some(start_failed(rt, alloc, error)),
+        Turn::StartFailed { unit: 0, error } => Some(start_failed(rt, alloc, error.get())),
         Turn::Exit { unit: 0, exit } => Some(UnitTurn::Exit { exit: *exit }),
-        Turn::WaitFailed { unit: 0, error } => Some(wait_failed(rt, alloc, error)),
+        Turn::WaitFailed { unit: 0, error } => Some(wait_failed(rt, alloc, error.get())),
         Turn::Decide { unit: 0, word } => Some(UnitTurn::Decide { word: *word }),
         Turn::UnitDue { unit: 0 } => Some(UnitTurn::Due),
         Turn::Take { unit: 0 } => Some(UnitTurn::Take),

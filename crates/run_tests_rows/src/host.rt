@@ -1,6 +1,6 @@
 // Who starts the children of a row that runs live.
 use crate::table::Child;
-use run_capture::{Blob, List, OutOfMemory, Stream, Text};
+use run_capture::{Blob, Boxed, List, OutOfMemory, Stream, Text};
 use run_commands::EnvInput;
 use run_drive::{Begun, Host, MemoryHost, MemorySpawner, MemoryTicker, Said, Ticker};
 use run_events::ChildExit;
@@ -97,7 +97,7 @@ fn spawner_of(alloc: Global, child: Child) -> Result<MemorySpawner, OutOfMemory>
     story.tell(child)?;
     let mut begun = List::new();
     if matches!(child, Child::Refused) {
-        let error = Text::from_str(alloc, "x")?;
+        let error = Boxed::new(alloc, Text::from_str(alloc, "x")?)?;
         begun.push(alloc, Begun::Refused { error })?;
     }
     for number in 0..started(child) {

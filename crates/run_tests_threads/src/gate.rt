@@ -1,5 +1,5 @@
 // A host whose children end only once two of them run at a time.
-use run_capture::{Mem, Stream, Text};
+use run_capture::{Boxed, Mem, Stream, Text};
 use run_drive::{Begun, Host, Said, Spawner, Ticker};
 use run_events::{ChildExit, StartAsk};
 use std::alloc::Global;
@@ -76,7 +76,7 @@ impl Spawner for GateSpawner {
 
     fn next(&mut self, alloc: Global) -> Mem<Said> {
         if self.said == 0 && !self.is_open() {
-            let error = Text::from_str(alloc, "gate")?;
+            let error = Boxed::new(alloc, Text::from_str(alloc, "gate")?)?;
             return Ok(Said::WaitFailed { error });
         }
         Ok(self.word())

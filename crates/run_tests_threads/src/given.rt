@@ -93,7 +93,8 @@ pub fn is_refused(
     text: &str,
 ) -> bool {
     match &spawner.start(alloc, ask).expect(rt, MEMORY) {
-        Begun::Refused { error } => !error.is_empty() && error.as_str().starts_with(text),
+        Begun::Refused { error } => !error.get().is_empty()
+            && error.get().as_str().starts_with(text),
         Begun::Started { .. } => false,
     }
 }

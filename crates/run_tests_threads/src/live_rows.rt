@@ -1,6 +1,6 @@
 // Runs of two tests under two workers.
 use crate::gate::{GateHost, GateSpawner};
-use crate::plans::{MEMORY, builder, plan, push, text};
+use crate::plans::{MEMORY, boxed, builder, plan, push, text};
 use run_capture::{Blob, CaptureStrategy, List, Stream};
 use run_commands::{StressCondition, StressCount};
 use run_drive::{Begun, MemoryHost, MemorySpawner, MemoryTicker, Said};
@@ -99,7 +99,7 @@ enum Child {
 fn begun(rt: &impl Abort, alloc: Global, child: Child) -> Begun {
     match child {
         Child::Refused => Begun::Refused {
-            error: text(rt, alloc, "x"),
+            error: boxed(rt, alloc, text(rt, alloc, "x")),
         },
         Child::Silent | Child::Late => Begun::Started { pid: 100 },
     }

@@ -2,7 +2,7 @@
 ghost use Rattle.std.specs.Prelude.{◌≡◌, ◌+◌, ◌<◌, ◌^◌, length};
 ghost use Rattle.std.specs.List.{All};
 
-use run_capture::{CaptureStrategy, List, Text};
+use run_capture::{Boxed, CaptureStrategy, List, Text};
 use run_engine::{TestRunner, TestRunnerBuilder};
 use run_events::{Plan, PlanTest, TestInstanceId, TestThreads};
 use std::alloc::Global;
@@ -15,6 +15,11 @@ pub const MEMORY: &str = "memory";
 
 pub fn text(rt: &impl Abort, alloc: Global, text: &str) -> Text {
     Text::from_str(alloc, text).expect(rt, MEMORY)
+}
+
+/// A value in memory of its own.
+pub fn boxed<T: Drop>(rt: &impl Abort, alloc: Global, value: T) -> Boxed<T> {
+    Boxed::new(alloc, value).expect(rt, MEMORY)
 }
 
 /// Adds an item at the end of a list.

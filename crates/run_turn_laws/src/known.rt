@@ -73,7 +73,7 @@ pub fn known_turn(turn: &Turn)
         }
         Turn::StartFailed { unit, error } | Turn::WaitFailed { unit, error } => {
             known_unit(*unit);
-            known_text(error);
+            known_text(error.get());
         }
         Turn::Exit { unit, exit } => {
             known_unit(*unit);
@@ -85,7 +85,7 @@ pub fn known_turn(turn: &Turn)
         }
         Turn::ReadError { unit, error, .. } => {
             known_unit(*unit);
-            known_text(error);
+            known_text(error.get());
         }
         Turn::Env { unit, input } => {
             known_unit(*unit);
