@@ -4,15 +4,16 @@ ghost use Rattle.std.specs.Prelude.{◌≡◌, []};
 
 use crate::recording::{close, create, end_with, end_without_record};
 use run_capture::{Blob, Sink};
-use run_cli::Ran;
+use run_cli::{Ran, StdSink};
 use run_keep::Outside;
 use run_keep_host::{FirstLineError, LineOutside, StdKeeperHost, StopHalter, TickingOutside};
 use run_output::Fault;
-use run_record::{Recorded, run_recorded};
+use run_record::{RecordOutcome, Recorded, run_recorded};
 use run_report::{BarReport, Board, Listener};
 use run_whole::Around;
 use run_whole_cli::run_plan;
 use std::alloc::Global;
+use std::fs::File;
 use std::process;
 use std::sync::Wait;
 use std::thread::Threads;
@@ -37,6 +38,15 @@ fn fault_of(error: FirstLineError) -> Fault {
     }
 }
 
+// How a run ended whose plan line isn't there.
+fn unread<K: Sink>(alloc: Global, sink: K, error: FirstLineError) -> Delivered<K> {
+    Delivered {
+        line: Blob::new(alloc),
+        ran: end_with(alloc, sink, fault_of(error)),
+        said: false,
+    }
+}
+
 // Who stops the program beside its outside.
 fn around<O>(rt: HostRuntime, outside: O) -> Around<O, StopHalter<HostRuntime>>
     ensures { result.outside ≡ outside }
@@ -56,7 +66,7 @@ fn run_line<
     requires quiet { O.has_come outside [] }
 {
     let mut host = StdKeeperHost::new(rt, *threads, rt.alloc());
-    let outside = host.paced(outside);
+    let around = around(rt, host.paced(outside));
     let (ran, left, report) = run_plan(
         threads,
         rt.alloc(),
@@ -64,10 +74,65 @@ fn run_line<
         sink,
         report,
         &mut host,
-        around(rt, outside),
+        around,
     );
     drop(left);
     (ran, report)
+}
+
+// A run that was recorded: how it ended, its own status, what became of its record, and its report.
+struct InRecord<K, B> {
+    ran: Ran<K>,
+    own: u8,
+    outcome: RecordOutcome,
+    report: B,
+}
+
+// Runs the plan of a line, and records it in a file.
+fn run_line_in<
+    K: Sink + Send,
+    B: Listener + Send,
+    O: Outside + Send + Drop,
+    X: Threads + Wait + Clock + Sync + Send + Copy + Drop,
+>(
+    threads: &X,
+    rt: HostRuntime,
+    line: &Blob,
+    outside: O,
+    sink: K,
+    report: B,
+    file: StdSink<File>,
+) -> InRecord<K, B>
+    requires unheard { B.heard report [] }
+    requires quiet { O.has_come outside [] }
+{
+    let mut host = StdKeeperHost::new(rt, *threads, rt.alloc());
+    let around = around(rt, host.paced(outside));
+    let Recorded {
+        ran,
+        own,
+        outcome,
+        store,
+        left,
+        report,
+    } = run_recorded(
+        threads,
+        rt.alloc(),
+        line.as_slice(),
+        sink,
+        file,
+        report,
+        &mut host,
+        around,
+    );
+    drop(left);
+    drop(store);
+    InRecord {
+        ran,
+        own,
+        outcome,
+        report,
+    }
 }
 
 // Runs the plan of a line, and records it in a new file. Answers also whether it was said that there is no file.
@@ -88,36 +153,22 @@ fn run_line_recorded<
     requires unheard { B.heard report [] }
     requires quiet { O.has_come outside [] }
 {
-    let file = match create(&rt, name) {
-        Ok(file) => file,
+    match create(&rt, name) {
+        Ok(file) => {
+            let InRecord {
+                ran,
+                own,
+                outcome,
+                report,
+            } = run_line_in(threads, rt, line, outside, sink, report, file);
+            close(&rt, name, outcome, own);
+            (ran, false, report)
+        }
         Err(error) => {
             let ran = end_without_record(&rt, rt.alloc(), sink, name, &error);
-            return (ran, true, report);
+            (ran, true, report)
         }
-    };
-    let mut host = StdKeeperHost::new(rt, *threads, rt.alloc());
-    let outside = host.paced(outside);
-    let Recorded {
-        ran,
-        own,
-        outcome,
-        store,
-        left,
-        report,
-    } = run_recorded(
-        threads,
-        rt.alloc(),
-        line.as_slice(),
-        sink,
-        file,
-        report,
-        &mut host,
-        around(rt, outside),
-    );
-    drop(left);
-    drop(store);
-    close(&rt, name, outcome, own);
-    (ran, false, report)
+    }
 }
 
 // Runs the plan of a line; with the name of a record it is recorded. Answers also whether it was said that there is no
@@ -177,12 +228,7 @@ pub fn run_and_deliver<
     let mut lines = LineOutside::new(rt, alloc, rt.stdin());
     let line = match lines.first_line(alloc) {
         Ok(line) => line,
-        Err(error) => {
-            let line = Blob::new(alloc);
-            let ran = end_with(alloc, sink, fault_of(error));
-            let said = false;
-            return (Delivered { line, ran, said }, report);
-        }
+        Err(error) => return (unread(alloc, sink, error), report),
     };
     let report = BarReport::new(report, *threads, bar);
     let outside = TickingOutside::new(lines, *threads, ticks(bar));

@@ -7,6 +7,7 @@ ghost use Rattle.std.specs.Prelude.{[]};
 
 mod delivering;
 mod recording;
+mod showing;
 mod words;
 
 use delivering::{Delivered, run_and_deliver};
@@ -17,22 +18,24 @@ use run_host::StdHost;
 use run_output::Fault;
 use run_program::{Request, print, print_memory, request_of};
 use run_report::{BarSink, Listener, RunReport};
+use showing::show_run;
 use std::env;
-use std::io::{IsTerminal, Stderr, Stdout};
+use std::io::{IsTerminal, Stderr, Stdin, Stdout};
 use std::process::ExitCode;
 use std::sync::Wait;
 use std::thread::Threads;
-use words::{Color, Progress, RunWords, run_words_of};
+use words::{Color, Progress, RunWords, run_words_of, show_words_of};
 
 const VERSION: &str = "nextest_run 0.0.0";
 
-const COMMANDS: [&str; 5] = ["run", "live", "replay", "progress", "generate"];
+const COMMANDS: [&str; 6] = ["run", "live", "replay", "show", "progress", "generate"];
 
 const HELP: &str = "The execution engine of a test runner
 
 Usage: nextest_run run [OPTIONS] < PLAN
        nextest_run live < PLAN
        nextest_run replay < INPUT
+       nextest_run show [OPTIONS] < LINES
        nextest_run progress WIDTH < INPUT
        nextest_run generate TESTS
 
@@ -41,12 +44,14 @@ Usage: nextest_run run [OPTIONS] < PLAN
                    standard error tells a person of the run as it goes
   live             the same, but it sends no signal, hears none, and waits for each test
   replay           carries out the run that INPUT tells
-  progress WIDTH   the same, and shows its progress on a terminal of WIDTH columns, from 1 to 1000
+  show             tells a person, on standard output, of the run that wrote LINES, and ends with its status
+  progress WIDTH   carries out INPUT too, and shows its progress on a terminal of WIDTH columns, from 1 to 1000
   generate TESTS   carries out the run of a plan of TESTS tests, from 1 to 20000, that it makes up, and sums it up
   -h, --help       prints this, also after a command
   -V, --version    prints the version
 
-OPTIONS of run, each at most once, with its value behind a blank or =, and what stands where it isn't given:
+OPTIONS of run, and but for --record and --show-progress of show, each at most once, with its value behind a blank or =,
+and what stands where it isn't given:
 
   --record FILE                  records the run in a new file, a store that nextest_store plays
   --status-level LEVEL           none, fail, retry, slow, leak, pass, skip or all: down to what a line is shown as
@@ -56,8 +61,8 @@ OPTIONS of run, each at most once, with its value behind a blank or =, and what 
   --failure-output WHEN          immediate, immediate-final, final or never: when the output of a test that failed
                                  is shown (immediate)
   --success-output WHEN          the same of a test that passed (never)
-  --color WHEN                   auto, always or never; auto: where standard error is a terminal, and the environment
-                                 has no NO_COLOR (auto)
+  --color WHEN                   auto, always or never; auto: where standard error, of show standard output, is a
+                                 terminal, and the environment has no NO_COLOR (auto)
   --show-progress WHAT           bar, none or auto: a bar of what runs, drawn ten times a second; auto: where standard
                                  error is a terminal, and standard output is none (auto); COLUMNS is its width (80)
 
@@ -123,12 +128,17 @@ fn no_memory(rt: &HostRuntime) -> u8 {
     print_memory(rt)
 }
 
-// The words that were given; none where one of them is not UTF-8.
-fn given(words: &Option<Vec<String>>) -> Option<&[String]> {
-    match words {
-        Some(words) => Some(words.as_slice()),
-        None => None,
-    }
+// Says how a run of these words ended, and answers the status.
+fn end_ran(
+    rt: &HostRuntime,
+    words: Option<&[String]>,
+    source: &KeptSource<StdSource<Stdin>>,
+    ran: Ran<LastLine<StdSink<Stdout>>>,
+) -> u8 {
+    let Ran { status, sink } = ran;
+    let (input, last) = (source.bytes(), sink.line());
+    say(rt, words, status, Seen { input, last });
+    status
 }
 
 // Does what the words say, and answers the status. Words of which one is not UTF-8 are run as no words are.
@@ -144,10 +154,7 @@ fn run_words<X: Threads + Wait + Sync>(
     let run_words = words.unwrap_or(&[]);
     let (ran, live) = run(threads, alloc, run_words, &mut source, sink, &mut host);
     drop(live);
-    let Ran { status, sink } = ran;
-    let (input, last) = (source.bytes(), sink.line());
-    say(&rt, words, status, Seen { input, last });
-    status
+    end_ran(&rt, words, &source, ran)
 }
 
 // Whether the environment asks for no colours.
@@ -158,10 +165,10 @@ fn asks_no_color(rt: &HostRuntime) -> bool {
     }
 }
 
-// Whether the report has colours.
-fn has_color(rt: &HostRuntime, color: Color) -> bool {
+// Whether the report has colours, which goes to a terminal or not.
+fn has_color(rt: &HostRuntime, color: Color, is_terminal: bool) -> bool {
     match color {
-        Color::Auto => rt.stderr().is_terminal() && !asks_no_color(rt),
+        Color::Auto => is_terminal && !asks_no_color(rt),
         Color::Always => true,
         Color::Never => false,
     }
@@ -197,7 +204,8 @@ fn lines_of(rt: HostRuntime) -> LastLine<StdSink<Stdout>> {
 fn report_of(rt: HostRuntime, asked: &RunWords<'_>) -> RunReport<BarSink<StdSink<Stderr>>>
     ensures { ⟦<RunReport<BarSink<StdSink<Stderr>>> as Listener>⟧.heard result [] }
 {
-    let settings = asked.settings(has_color(&rt, asked.color.unwrap_or(Color::Auto)));
+    let is_terminal = rt.stderr().is_terminal();
+    let settings = asked.settings(has_color(&rt, asked.color.unwrap_or(Color::Auto), is_terminal));
     RunReport::new(BarSink::new(StdSink::new(rt.stderr())), settings)
 }
 
@@ -217,21 +225,68 @@ fn end_delivered(
     status
 }
 
-// Says which word of `run` is wrong, and answers the status of that.
-fn refuse(rt: &HostRuntime, word: &str) -> u8 {
+// Says which word of a command is wrong.
+fn say_wrong(rt: &HostRuntime, command: &str, word: &str) {
     let _ = eprintln!(rt;
-        "nextest_run: error: unexpected word {word:?} after \"run\"\nnextest_run --help has the words of run"
+        "nextest_run: error: unexpected word {word:?} after {command:?}\nnextest_run --help has the words of {command}"
     );
+}
+
+// Refuses a word of `run`, and answers the status of that.
+fn refuse_run(rt: &HostRuntime, word: &str) -> u8 {
+    say_wrong(rt, "run", word);
     let Ran { status, sink } = end_with(rt.alloc(), StdSink::new(rt.stdout()), Fault::Words);
     drop(sink);
     status
 }
 
-// What the words of `run` ask for, or which is wrong; none of another command.
-fn asked_of(words: Option<&[String]>) -> Option<Result<RunWords<'_>, &str>> {
+// Refuses a word of `show`, and answers the status of that.
+fn refuse_show(rt: &HostRuntime, word: &str) -> u8 {
+    say_wrong(rt, "show", word);
+    Fault::Words.status()
+}
+
+// Shows the lines of a run as these words ask.
+fn show_asked(rt: HostRuntime, asked: &RunWords<'_>) -> u8 {
+    let is_terminal = rt.stdout().is_terminal();
+    show_run(
+        rt,
+        asked.settings(has_color(&rt, asked.color.unwrap_or(Color::Auto), is_terminal)),
+    )
+}
+
+// What words ask for.
+enum Asked<'a> {
+    Run(RunWords<'a>),
+    Show(RunWords<'a>),
+    /// This word of `run`, or of `show`, is wrong.
+    WrongRun(&'a str),
+    WrongShow(&'a str),
+    /// Another command.
+    Other,
+}
+
+fn asked_of(words: Option<&[String]>) -> Asked<'_> {
     match words {
-        Some([command, options @ ..]) if command.as_str() == "run" => Some(run_words_of(options)),
-        _ => None,
+        Some([command, options @ ..]) if command.as_str() == "run" => match run_words_of(options) {
+            Ok(asked) => Asked::Run(asked),
+            Err(word) => Asked::WrongRun(word),
+        },
+        Some([command, options @ ..]) if command.as_str() == "show" => {
+            match show_words_of(options) {
+                Ok(asked) => Asked::Show(asked),
+                Err(word) => Asked::WrongShow(word),
+            }
+        }
+        _ => Asked::Other,
+    }
+}
+
+// The words that were given; none where one of them is not UTF-8.
+fn given(words: &Option<Vec<String>>) -> Option<&[String]> {
+    match words {
+        Some(words) => Some(words.as_slice()),
+        None => None,
     }
 }
 
@@ -245,7 +300,7 @@ fn main(rt: HostRuntime) -> ExitCode {
     };
     let words = given(&words);
     let status = match asked_of(words) {
-        Some(Ok(asked)) => {
+        Asked::Run(asked) => {
             let bar = bar_of(&rt, asked.progress.unwrap_or(Progress::Auto));
             let report = report_of(rt, &asked);
             let (delivered, report) = run_and_deliver(
@@ -259,8 +314,10 @@ fn main(rt: HostRuntime) -> ExitCode {
             drop(report.into_sink().into_sink());
             end_delivered(&rt, words.unwrap_or(&[]), delivered)
         }
-        Some(Err(word)) => refuse(&rt, word),
-        None => run_words(&rt, rt, words),
+        Asked::Show(asked) => show_asked(rt, &asked),
+        Asked::WrongRun(word) => refuse_run(&rt, word),
+        Asked::WrongShow(word) => refuse_show(&rt, word),
+        Asked::Other => run_words(&rt, rt, words),
     };
     ExitCode::from(status)
 }

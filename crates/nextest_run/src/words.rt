@@ -175,3 +175,15 @@ pub fn run_words_of(words: &[String]) -> Result<RunWords<'_>, &str> {
         None => Ok(asked),
     }
 }
+
+/// What the words after `show` ask for, or the first that is wrong: they are those of `run` that say what is shown.
+pub fn show_words_of(words: &[String]) -> Result<RunWords<'_>, &str> {
+    let asked = run_words_of(words)?;
+    if asked.record.is_some() {
+        return Err("--record");
+    }
+    if asked.progress.is_some() {
+        return Err("--show-progress");
+    }
+    Ok(asked)
+}

@@ -2,13 +2,14 @@
 ghost use Rattle.std.specs.Prelude.{◌<◌, ◌^◌, length};
 
 use crate::settings::settings_of;
-use run_capture::{Blob, List, Mem, MemorySink};
+use run_capture::{Blob, List, Mem, MemorySink, MemorySource};
 use run_cli::runner_of;
 use run_engine::TestRunner;
-use run_events::{Ask, Children, Turn};
+use run_events::{Ask, Children, RunOutcome, Turn};
 use run_input::{Input, read_input};
 use run_output::LineReporter;
 use run_report::{Both, RunReport};
+use run_show::{Showed, Told, show};
 use std::alloc::Global;
 
 /// So many bytes have room in a sink.
@@ -85,4 +86,31 @@ pub fn report_of(alloc: Global, input: &[u8], variant: u32, fails: Option<u64>) 
     }
     let runner = runner_of(alloc, keys, plan).ok()?;
     carry_out(alloc, runner, turns.as_slice(), variant, fails).ok()
+}
+
+// The lines of a run that ended so, as a source that gives a hundred bytes at a time.
+fn ended(alloc: Global, lines: &[u8]) -> Mem<MemorySource> {
+    let mut all = Blob::from_slice(alloc, lines)?;
+    all.extend_from_slice(
+        alloc,
+        b"{\"ask\":\"stop-self\"}\n{\"outcome\":\"success\"}\n{",
+    )?;
+    Ok(MemorySource::new(all, 100, List::new()))
+}
+
+/// The report that is shown of the lines of a run in the settings of a number; none where they aren't read to their
+/// end.
+pub fn shown_of(alloc: Global, lines: &[u8], variant: u32) -> Option<Blob> {
+    let source = ended(alloc, lines).ok()?;
+    let sink = sink(alloc, None).ok()?;
+    let Showed {
+        ending,
+        source,
+        sink,
+    } = show(alloc, source, sink, settings_of(variant));
+    drop(source);
+    match ending {
+        Ok(Told::Outcome(RunOutcome::Success)) => Blob::from_slice(alloc, sink.bytes()).ok(),
+        _ => None,
+    }
 }

@@ -7,11 +7,45 @@
 mod made;
 mod settings;
 
-use made::{Made, report_of};
+use made::{Made, report_of, shown_of};
 use std::fs::Files;
 use std::io::Write;
 use std::process::ExitCode;
 use std::{fs, io};
+
+// What is to be shown of the lines of a row whose report is this.
+fn wanted_of<X: AllocGlobal + Files + Copy>(
+    rt: &X,
+    name: &str,
+    report: &[u8],
+    variant: u32,
+) -> io::Result<Vec<u8>> {
+    match fs::read(rt, format!(in rt.alloc(); "{name}.{variant}.shown")?) {
+        Ok(shown) => Ok(shown),
+        Err(_) => Ok(Vec::from_slice(rt.alloc(), report)?),
+    }
+}
+
+// Whether what is shown of the lines of a row is its report. Prints it where it isn't.
+fn is_shown<X: AllocGlobal + Files + Print + Copy>(
+    rt: &X,
+    name: &str,
+    lines: &[u8],
+    report: &[u8],
+    variant: u32,
+) -> io::Result<bool> {
+    let wanted = wanted_of(rt, name, report, variant)?;
+    let Some(shown) = shown_of(rt.alloc(), lines, variant) else {
+        println!(rt; "{name} {variant}: not shown")?;
+        return Ok(false);
+    };
+    if shown.as_slice() == wanted.as_slice() {
+        return Ok(true);
+    }
+    println!(rt; "{name} {variant}: SHOWN OTHERWISE:")?;
+    io::writer(rt).write_all(shown.as_slice())?;
+    Ok(false)
+}
 
 // Whether the report of a row is the one that is wanted in a setting. Prints it where it isn't.
 fn is_made<X: AllocGlobal + Files + Print + Copy>(
@@ -21,12 +55,12 @@ fn is_made<X: AllocGlobal + Files + Print + Copy>(
     variant: u32,
 ) -> io::Result<bool> {
     let wanted = fs::read(rt, format!(in rt.alloc(); "{name}.{variant}.report")?)?;
-    let Some(Made { report, .. }) = report_of(rt.alloc(), input, variant, None) else {
+    let Some(Made { lines, report, .. }) = report_of(rt.alloc(), input, variant, None) else {
         println!(rt; "{name} {variant}: no report")?;
         return Ok(false);
     };
     if report.as_slice() == wanted.as_slice() {
-        return Ok(true);
+        return is_shown(rt, name, lines.as_slice(), wanted.as_slice(), variant);
     }
     println!(rt; "{name} {variant}: DIFFERS, and this was written:")?;
     io::writer(rt).write_all(report.as_slice())?;

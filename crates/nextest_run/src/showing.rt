@@ -1,0 +1,69 @@
+// The command `show`: the report of a recorded run, on standard output.
+use run_capture::{Mem, StdSink, StdSource, Text};
+use run_cli::status_of_outcome;
+use run_hints::{Seen, explain};
+use run_output::{Fault, outcome_line};
+use run_report::ReportSettings;
+use run_show::{Showed, Told, show};
+use std::io::Stdin;
+
+// Says on standard error why a report isn't whole.
+fn say_fault(rt: &HostRuntime, fault: Fault) {
+    let _ = match fault {
+        Fault::Line { line } => eprintln!(rt;
+            "nextest_run: error: line {line} is no line of a run"
+        ),
+        Fault::Unfinished => eprintln!(rt; "nextest_run: error: the lines end before the outcome"),
+        Fault::Report => eprintln!(rt; "nextest_run: error: a write failed"),
+        Fault::Read => eprintln!(rt; "nextest_run: error: a read failed"),
+        Fault::TooLong => eprintln!(rt; "nextest_run: error: a line is too long"),
+        _ => eprintln!(rt; "nextest_run: error: memory was wanting"),
+    };
+}
+
+// Says on standard error how a run ended whose last line this is, but of success: nothing where memory is wanting for
+// that.
+fn say_last(rt: &HostRuntime, status: u8, last: Mem<Text>) {
+    let Ok(line) = last else {
+        return;
+    };
+    let seen = Seen {
+        input: None,
+        last: Some(line.as_bytes()),
+    };
+    if let Ok(text) = explain(rt.alloc(), None, status, seen) {
+        let _ = eprint!(rt; "{text}");
+    }
+}
+
+// The status of how the lines ended.
+fn status_of(rt: &HostRuntime, ending: Result<Told, Fault>) -> u8 {
+    match ending {
+        Ok(Told::Outcome(outcome)) => {
+            let status = status_of_outcome(outcome);
+            say_last(rt, status, outcome_line(rt.alloc(), outcome));
+            status
+        }
+        Ok(Told::Fault { status }) => {
+            let _ = eprintln!(rt; "nextest_run: error: the run ended with status {status}");
+            status
+        }
+        Err(fault) => {
+            say_fault(rt, fault);
+            fault.status()
+        }
+    }
+}
+
+/// Reads the lines of a run from standard input, writes its report, and answers the status.
+pub fn show_run(rt: HostRuntime, settings: ReportSettings) -> u8 {
+    let source: StdSource<Stdin> = StdSource::new(rt.stdin());
+    let Showed {
+        ending,
+        source,
+        sink,
+    } = show(rt.alloc(), source, StdSink::new(rt.stdout()), settings);
+    drop(source);
+    drop(sink);
+    status_of(&rt, ending)
+}
