@@ -2,5 +2,5 @@ pub mod InputLemmas
 mod LineLemmas
 mod MomentLemmas
 mod SaidLemmas
-mod StressLemmas
+pub mod StressLemmas
 mod ValueLemmas

@@ -42,6 +42,7 @@ pub use lines::split_line;
 pub use misfit::{Misfit, Wrong};
 pub use objects::{has_keys_of, only_keys};
 pub use plan_line::{RunnerKeys, plan_line_misfit, read_plan_line};
+pub use plan_stress::parse_repeats;
 pub use reading::{INPUT_LIMIT, read_all};
 pub use refusal::{Refusal, in_item, missing, or_not, under};
 pub use turn_line::{read_turn_line, turn_line_misfit};

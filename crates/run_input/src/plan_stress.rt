@@ -69,8 +69,8 @@ fn repeats_from(value: &Value) -> Option<StressCount>
     parse_repeats(value.as_str()?)
 }
 
-// The count that a text says.
-fn parse_repeats(text: &str) -> Option<StressCount>
+/// The count of sub-runs that a text says: the word `infinite`, or a whole number from 1, perhaps with a `+` before it.
+pub fn parse_repeats(text: &str) -> Option<StressCount>
     ensures { result ≡ repeats_named text.now }
 {
     match StressCount::from_str(text) {

@@ -1,1 +1,1 @@
-mod WaveLemmas
+pub mod WaveLemmas

@@ -37,7 +37,7 @@ put_entry old new name value key named is =
     ∙ ap (λ k. put k (view value) (members_view old)) named
 
 -- texts are read as they are
-words_again : (words : List (List ℕ)) → texts_of (texts words) ≡ Some words
+pub words_again : (words : List (List ℕ)) → texts_of (texts words) ≡ Some words
 words_again [] = refl
 words_again (word ∷ words) = ap (option_and_then (λ more. Some (word ∷ more))) (words_again words)
 
@@ -58,7 +58,7 @@ length_plain (test ∷ tests) = ap suc (length_plain tests)
 length_id : (run_id : List ℕ) → length (hyphenated_text lower run_id) ≡ 36
 length_id run_id = by_index_length 36 _
 
-id_again : (run_id : List ℕ) → Some run_id ≡ parsed (hyphenated_text lower run_id)
+pub id_again : (run_id : List ℕ) → Some run_id ≡ parsed (hyphenated_text lower run_id)
     → uuid_of (hyphenated_text lower run_id) ≡ Some run_id
 id_again run_id id =
     let text = hyphenated_text lower run_id in
@@ -76,7 +76,7 @@ line_again threads run_id tests small few id =
     (rw (length_plain tests, lt-ltb (0 + length tests) (2 ^ 32) (omega (arith, few))) refl)
 
 -- it has no float, and isn't deep
-words_whole : (words : List (List ℕ)) → items_have_float (items_of (map string words)) ≡ false
+pub words_whole : (words : List (List ℕ)) → items_have_float (items_of (map string words)) ≡ false
 words_whole [] = refl
 words_whole (word ∷ words) = words_whole words
 
@@ -88,7 +88,7 @@ line_whole : (threads : ℕ) (run_id : List ℕ) (tests : List PlanTest)
     → has_float (wave_object threads run_id tests) ≡ false
 line_whole threads run_id tests = rw (tests_whole tests) refl
 
-words_flat : (words : List (List ℕ)) → items_depth (items_of (map string words)) ≤ 1
+pub words_flat : (words : List (List ℕ)) → items_depth (items_of (map string words)) ≤ 1
 words_flat [] = omega arith
 words_flat (word ∷ words) = omega (arith, words_flat words)
 
@@ -101,7 +101,7 @@ line_flat : (threads : ℕ) (run_id : List ℕ) (tests : List PlanTest)
 line_flat threads run_id tests = omega (arith, tests_flat tests)
 
 -- a text that is read as a value says that value
-value_of : (text : List ℕ) (d : Data) → is_utf8 text ≡ true → read text ≡ Some d → has_float d ≡ false
+pub value_of : (text : List ℕ) (d : Data) → is_utf8 text ≡ true → read text ≡ Some d → has_float d ≡ false
     → json_value text ≡ Some d
 unfolding json_value
 value_of text d utf8 is whole =

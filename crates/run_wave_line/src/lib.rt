@@ -5,4 +5,5 @@
 mod line;
 mod values;
 
-pub use line::wave_line;
+pub use line::{text_of, wave_line};
+pub use values::{id_value, put_member, text_value, words_value};

@@ -12,15 +12,15 @@ use serde_json::{Map, Value};
 use std::alloc::Global;
 use uuid::Uuid;
 
-// A text as a value.
-fn text_value(alloc: Global, text: &str) -> Mem<Value>
+/// A text as a value.
+pub fn text_value(alloc: Global, text: &str) -> Mem<Value>
     ensures { IfOk result (λ v. view v ≡ string text.now) }
 {
     Ok(Value::try_from_str(alloc, text)?)
 }
 
-// The text of an id as a value, which is parsed as that id.
-fn id_value(alloc: Global, id: Uuid) -> Mem<Value>
+/// The text of an id as a value, which is parsed as that id.
+pub fn id_value(alloc: Global, id: Uuid) -> Mem<Value>
     ensures is { IfOk result (λ v. view v ≡ string (hyphenated_text lower id)) }
     ensures parsed { Some id ≡ parsed (hyphenated_text lower id) }
 {
@@ -29,8 +29,8 @@ fn id_value(alloc: Global, id: Uuid) -> Mem<Value>
     text_value(alloc, text)
 }
 
-// The words of a command as a value.
-fn words_value(alloc: Global, words: &[Text]) -> Mem<Value>
+/// Words as a value.
+pub fn words_value(alloc: Global, words: &[Text]) -> Mem<Value>
     ensures { IfOk result (λ v. view v ≡ texts words.now) }
 {
     let mut values = Vec::with_capacity(alloc, words.len())?;
@@ -40,8 +40,13 @@ fn words_value(alloc: Global, words: &[Text]) -> Mem<Value>
     Ok(Value::Array(values))
 }
 
-// Puts a value at a key.
-fn put_member(alloc: Global, members: &mut Map<String, Value>, key: &str, value: Value) -> Mem<()>
+/// Puts a value at a key.
+pub fn put_member(
+    alloc: Global,
+    members: &mut Map<String, Value>,
+    key: &str,
+    value: Value,
+) -> Mem<()>
     ensures { OnOk result (members_view members.new.entries
         ≡ put key.now (view value) (members_view members.old.entries)) }
 {
