@@ -1,4 +1,7 @@
 // The command `show`: the report of a recorded run, on standard output.
+ghost use Rattle.std.specs.Prelude.{◌≡◌};
+ghost use Rattle.nextest_run.specs.Showing.{shown_status};
+
 use run_capture::{Mem, StdSink, StdSource, Text};
 use run_cli::status_of_outcome;
 use run_hints::{Seen, explain};
@@ -37,21 +40,24 @@ fn say_last(rt: &HostRuntime, status: u8, last: Mem<Text>) {
 }
 
 // The status of how the lines ended.
-fn status_of(rt: &HostRuntime, ending: Result<Told, Fault>) -> u8 {
+fn status_of(ending: &Result<Told, Fault>) -> u8
+    ensures { result ≡ shown_status ending.now }
+{
     match ending {
-        Ok(Told::Outcome(outcome)) => {
-            let status = status_of_outcome(outcome);
-            say_last(rt, status, outcome_line(rt.alloc(), outcome));
-            status
-        }
-        Ok(Told::Fault { status }) => {
+        Ok(Told::Outcome(outcome)) => status_of_outcome(*outcome),
+        Ok(Told::Fault { status }) => *status,
+        Err(fault) => fault.status(),
+    }
+}
+
+// Says on standard error how the lines ended.
+fn say_ending(rt: &HostRuntime, ending: Result<Told, Fault>, status: u8) {
+    match ending {
+        Ok(Told::Outcome(outcome)) => say_last(rt, status, outcome_line(rt.alloc(), outcome)),
+        Ok(Told::Fault { .. }) => {
             let _ = eprintln!(rt; "nextest_run: error: the run ended with status {status}");
-            status
         }
-        Err(fault) => {
-            say_fault(rt, fault);
-            fault.status()
-        }
+        Err(fault) => say_fault(rt, fault),
     }
 }
 
@@ -65,5 +71,7 @@ pub fn show_run(rt: HostRuntime, settings: ReportSettings) -> u8 {
     } = show(rt.alloc(), source, StdSink::new(rt.stdout()), settings);
     drop(source);
     drop(sink);
-    status_of(&rt, ending)
+    let status = status_of(&ending);
+    say_ending(&rt, ending, status);
+    status
 }

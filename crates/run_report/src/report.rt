@@ -69,11 +69,11 @@ impl<K: Sink> RunReport<K> {
         }
     }
 
-    /// Whether it has fallen silent.
-    pub fn is_silent(&self) -> bool
-        ensures { result ≡ is_err self.now.went }
+    /// How the writing went so far. Where it failed, or memory was wanting, the report has fallen silent.
+    pub fn went(&self) -> &Result<(), ReportFault<Failed>>
+        ensures { result.now ≡ self.now.went }
     {
-        self.went.is_err()
+        &self.went
     }
 
     /// Hands back the sink.

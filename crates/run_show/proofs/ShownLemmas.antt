@@ -1,12 +1,14 @@
 -- What lines tell, one after the other.
-use Rattle.std.proofs.Common.{◌≡◌, ℕ, List, [], ◌∷◌, ◌++◌, map, refl, ap, sym}
-use Rattle.std.proofs.Common.{subst}
+use Rattle.std.proofs.Common.{◌≡◌, ◌≤◌, ◌+◌, ℕ, Bool, false, List, [], ◌∷◌, ◌++◌, map, length, refl, ap, sym}
+use Rattle.std.proofs.Common.{subst, inl, inr}
 use Rattle.std.proofs.Common.{Option, Some, None, Result, Ok, Err, arith, append_assoc, length-append, ◌∙◌}
 use Rattle.std.specs.Prelude.{not}
 use Rattle.std.specs.List.{filter}
 use Rattle.std.proofs.lemmas.List.{append-nil, map-append}
 use Rattle.std.proofs.lemmas.List.Elements.{filter-append}
 use Rattle.run_capture.specs.Bytes.{AtEnd}
+use Rattle.run_capture.specs.Faults.{RoseExactlyIf}
+use Rattle.run_capture.specs.Reading.{has_failed}
 use Rattle.run_capture.specs.declared.reading.ReadError.{ReadError}
 use Rattle.run_capture.specs.declared.reading.ReadError.TheVariants as unread
 use Rattle.run_events.specs.declared.events.ReporterEvent.{ReporterEvent}
@@ -18,12 +20,14 @@ use Rattle.run_report.specs.Speaks.{Shows}
 use Rattle.run_output.specs.Events.{event_text}
 use Rattle.run_output.specs.declared.fault.Fault.{Fault}
 use Rattle.run_output.specs.declared.fault.Fault.TheVariants as faults
+use Rattle.run_show.specs.declared.last.Told.{Told}
 use Rattle.run_show.specs.declared.recorded.Next.{Next}
 use Rattle.run_show.specs.declared.recorded.Next.TheVariants as next
-use Rattle.run_show.specs.FirstLines.{FirstLines}
+use Rattle.run_show.specs.FirstLines.{FirstLines, IsUnreadLine}
 use Rattle.run_input.specs.Lines.{lines_of}
 use Rattle.run_show.specs.Said.{is_ask_line}
-use Rattle.run_show.specs.Shown.{HearsLine, GoesTo, HasEnded, HasRead, Tell, TellsMore, unread_fault}
+use Rattle.run_show.specs.Shown.{EndsAt, HearsLine, GoesTo, HasEnded, HasRead, Tell, TellsMore}
+use Rattle.run_show.specs.Shown.{is_failed_read, unread_fault}
 
 -- nothing that is added
 pub adds_none : {X : Type 0} (heard : List X → Type 0) (xs : List X) → heard xs → heard (xs ++ [])
@@ -157,45 +161,82 @@ ends_unfinished left now after heard failed number read first end = (
   },
 )
 
+-- reading ended before a line, with these words
+ended_before : (left now : Option (List ℕ)) (heard : List ReporterEvent → Type 0) (failed number : ℕ)
+    (ending : Result Told Fault) → HasRead left now heard failed number
+    → ((count : ℕ) → number ≡ count + 1 → EndsAt count [] now ending) → HasEnded left heard ending
+ended_before left now heard failed number ending read ends = (
+  read.events,
+  read.heard_all,
+  record {
+    lines = read.lines;
+    last = [];
+    after = now;
+    first = rw append-nil read.first;
+    tell = read.tell;
+    ends = ends (length read.lines) read.number_is;
+  },
+)
+
 -- reading ended where no line could be read
 pub ends_unread : (left now : Option (List ℕ)) (heard : List ReporterEvent → Type 0) (failed number : ℕ)
-    (error : ReadError) → HasRead left now heard failed number → HasEnded left heard (Err (unread_fault error))
-ends_unread left now heard failed number unread.Failed read = (
-  read.events,
-  read.heard_all,
-  record {
-    lines = read.lines;
-    last = [];
-    after = now;
-    first = rw append-nil read.first;
-    tell = read.tell;
-    ends = refl;
-  },
-)
-ends_unread left now heard failed number unread.TooLong read = (
-  read.events,
-  read.heard_all,
-  record {
-    lines = read.lines;
-    last = [];
-    after = now;
-    first = rw append-nil read.first;
-    tell = read.tell;
-    ends = refl;
-  },
-)
-ends_unread left now heard failed number unread.OutOfMemory read = (
-  read.events,
-  read.heard_all,
-  record {
-    lines = read.lines;
-    last = [];
-    after = now;
-    first = rw append-nil read.first;
-    tell = read.tell;
-    ends = refl;
-  },
-)
+    (error : ReadError) → IsUnreadLine 1073741824 now error → HasRead left now heard failed number
+    → HasEnded left heard (Err (unread_fault error))
+ends_unread left now heard failed number unread.Failed cause read =
+    ended_before left now heard failed number (Err faults.Read) read (λ count is. refl)
+ends_unread left now heard failed number unread.TooLong cause read =
+    ended_before left now heard failed number (Err faults.TooLong) read (λ count is. (refl, inl cause))
+ends_unread left now heard failed number unread.OutOfMemory cause read =
+    ended_before left now heard failed number (Err faults.Memory) read (λ count is. refl)
+
+-- reading ended behind as many lines as can be counted
+pub ends_many : (left now : Option (List ℕ)) (heard : List ReporterEvent → Type 0) (failed number : ℕ)
+    → 18446744073709551615 ≤ number → HasRead left now heard failed number → HasEnded left heard (Err faults.TooLong)
+ends_many left now heard failed number many read =
+    ended_before left now heard failed number (Err faults.TooLong) read
+    (λ count is. (refl, inr (omega (arith, is, many))))
+
+-- what was read of a line isn't that the source failed
+pub heard_no_failure : (number failed : ℕ) (line : List ℕ) (more : List ReporterEvent) (result : Result Next Fault)
+    → HearsLine number failed line more result → is_failed_read result ≡ false
+heard_no_failure number failed line more (Ok next) hears = refl
+heard_no_failure number failed line more (Err (faults.Line bad)) hears = refl
+heard_no_failure number failed line more (Err faults.Memory) hears = refl
+heard_no_failure number failed line more (Err faults.Words) hears = refl
+heard_no_failure number failed line more (Err (faults.Plan plan)) hears = refl
+heard_no_failure number failed line more (Err (faults.NotEnabled turn)) hears = refl
+heard_no_failure number failed line more (Err (faults.ThirdSignal turn)) hears = refl
+heard_no_failure number failed line more (Err faults.Unfinished) hears = refl
+heard_no_failure number failed line more (Err faults.Report) hears = refl
+heard_no_failure number failed line more (Err faults.Read) hears = absurd hears
+heard_no_failure number failed line more (Err faults.TooLong) hears = refl
+
+-- the source failed exactly if the fault says so
+pub unread_rose : (error : ReadError) (before now : ℕ) → RoseExactlyIf (has_failed {T = Bool} (Err error)) before now
+    → RoseExactlyIf (is_failed_read {A = Next} (Err (unread_fault error))) before now
+unread_rose unread.Failed before now rose = rose
+unread_rose unread.TooLong before now rose = rose
+unread_rose unread.OutOfMemory before now rose = rose
+
+-- and so does a fault after lines that were read
+pub rose_after : (start before now : ℕ) (fault : Fault) → before ≡ start
+    → RoseExactlyIf (is_failed_read {A = Next} (Err fault)) before now
+    → RoseExactlyIf (is_failed_read {A = Told} (Err fault)) start now
+rose_after start before now faults.Read same rose = rw same at rose
+rose_after start before now (faults.Line bad) same rose = rose ∙ same
+rose_after start before now faults.Memory same rose = rose ∙ same
+rose_after start before now faults.Words same rose = rose ∙ same
+rose_after start before now (faults.Plan plan) same rose = rose ∙ same
+rose_after start before now (faults.NotEnabled turn) same rose = rose ∙ same
+rose_after start before now (faults.ThirdSignal turn) same rose = rose ∙ same
+rose_after start before now faults.Unfinished same rose = rose ∙ same
+rose_after start before now faults.Report same rose = rose ∙ same
+rose_after start before now faults.TooLong same rose = rose ∙ same
+
+-- between counts of other names
+pub rose_between : (has : Bool) (start before now last : ℕ) → before ≡ start → last ≡ now
+    → RoseExactlyIf has before now → RoseExactlyIf has start last
+rose_between has start before now last same after rose = rw (after, sym same) rose
 
 -- at first nothing was read
 pub nothing_read : (now : Option (List ℕ)) (heard : List ReporterEvent → Type 0) → heard [] → HasRead now now heard 0 1

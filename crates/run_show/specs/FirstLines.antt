@@ -3,10 +3,12 @@ use Rattle.std.specs.Prelude.{ℕ, ◌≡◌, ◌≢◌, ◌<◌, ⊤, List, [],
 use Rattle.std.specs.Prelude.{Bool, true, false}
 use Rattle.std.specs.declared.vec.Vec.{Vec}
 use Rattle.std.specs.declared.alloc.Global.{Global}
-use Rattle.run_capture.specs.Bytes.{Gives}
+use Rattle.run_capture.specs.Bytes.{AtEnd, Gives}
 use Rattle.run_capture.specs.declared.reading.ReadError.{ReadError}
 use Rattle.run_capture.specs.declared.reading.ReadError.TheVariants.{Failed, TooLong, OutOfMemory}
 use Rattle.run_input.specs.Lines.{lines_of}
+use Rattle.run_show.specs.declared.source_lines.Part.{Part}
+use Rattle.run_show.specs.declared.source_lines.Part.TheVariants.{Ended, Last, Open}
 
 -- what was left in a source begins with these lines, each whole, and what is left behind them has the others
 abbrev pub FirstLines : Option (List ℕ) → Option (List ℕ) → List (List ℕ) → Type 0
@@ -30,6 +32,21 @@ TakesLinePart false part ready behind = (ready ≡ part) × (behind ≡ [])
 pub record IsPartRead (before after : Option (List ℕ)) (line : List ℕ) : Type 0 where
   pub gives : Gives before after line
   pub feedless : IsFeedless line
+
+-- more was read of a line: it has its end; the source has no more; or it is longer now
+abbrev pub ReadsOn : Part → Option (List ℕ) → Option (List ℕ) → List ℕ → List ℕ → Type 0
+ReadsOn Ended before after line now =
+    (start : Option (List ℕ)) → IsPartRead start before line → FirstLines start after (now ∷ [])
+ReadsOn Last before after line now =
+    AtEnd after × ((start : Option (List ℕ)) → IsPartRead start before line → IsPartRead start after now)
+ReadsOn Open before after line now =
+    (length line < length now) × ((start : Option (List ℕ)) → IsPartRead start before line → IsPartRead start after now)
+
+-- more is still to be read of it
+abbrev pub IsUnended : Part → Type 0
+IsUnended Ended = ⊥
+IsUnended Last = ⊥
+IsUnended Open = ⊤
 
 -- the line that was read, if there is one
 abbrev pub line_list : Option (Vec ℕ Global) → List (List ℕ)

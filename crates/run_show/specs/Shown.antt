@@ -1,13 +1,15 @@
 -- What `show` reads, and what it makes of it.
-use Rattle.std.specs.Prelude.{ℕ, ◌≡◌, ◌⊎◌, ◌+◌, not, is_err, Bool, true, false, List, [], ◌∷◌, ◌++◌, length, map}
+use Rattle.std.specs.Prelude.{ℕ, ◌≡◌, ◌≤◌, ◌⊎◌, ◌+◌, not, Bool, true, false, List, [], ◌∷◌, ◌++◌, length, map}
 use Rattle.std.specs.Prelude.{Option, Result, Ok, Err}
 use Rattle.std.specs.List.{filter}
 use Rattle.run_capture.specs.Bytes.{AtEnd}
+use Rattle.run_capture.specs.Faults.{RoseExactlyIf}
 use Rattle.run_capture.specs.declared.source.Failed.{Failed}
 use Rattle.run_capture.specs.declared.reading.ReadError.{ReadError}
 use Rattle.run_capture.specs.declared.reading.ReadError.TheVariants as unread
 use Rattle.run_events.specs.declared.events.ReporterEvent.{ReporterEvent}
 use Rattle.run_events.specs.declared.reporter.ReportFault.{ReportFault}
+use Rattle.run_events.specs.declared.reporter.ReportFault.TheVariants as reports
 use Rattle.run_output.specs.Events.{event_text}
 use Rattle.run_output.specs.declared.fault.Fault.{Fault}
 use Rattle.run_output.specs.declared.fault.Fault.TheVariants as faults
@@ -19,7 +21,7 @@ use Rattle.run_show.specs.declared.said.Said.{Said}
 use Rattle.run_show.specs.declared.said.Said.TheVariants.{Ask, Event, Last}
 use Rattle.run_show.specs.declared.recorded.Next.{Next}
 use Rattle.run_show.specs.declared.recorded.Next.TheVariants as next
-use Rattle.run_show.specs.FirstLines.{FirstLines}
+use Rattle.run_show.specs.FirstLines.{FirstLines, IsUnreadLine}
 use Rattle.run_show.specs.Said.{is_ask_line, IsLastLine}
 
 -- a line tells an event, where so many tests had failed before it
@@ -54,13 +56,15 @@ HearsLine number failed line more (Err faults.Memory) = more ≡ []
 HearsLine number failed line more (Err _) = ⊥
 
 -- how reading ended behind so many lines that tell events or asks, by the line behind those, if one was read, and by
--- what was left: with the run's last line; with no line left; or at a line that says none of these
+-- what was left: with the run's last line; with no line left; at a line that says none of these; before a line of more
+-- than 1,073,741,824 bytes, or behind 2^64 - 2 lines or more
 abbrev pub EndsAt : ℕ → List (List ℕ) → Option (List ℕ) → Result Told Fault → Type 0
 EndsAt count last after (Ok told) = (line : List ℕ) × (last ≡ line ∷ []) × IsLastLine line told
 EndsAt count last after (Err faults.Unfinished) = (last ≡ []) × AtEnd after
 EndsAt count last after (Err (faults.Line number)) = (line : List ℕ) × (last ≡ line ∷ []) × (number ≡ count + 1)
 EndsAt count last after (Err faults.Read) = last ≡ []
-EndsAt count last after (Err faults.TooLong) = last ≡ []
+EndsAt count last after (Err faults.TooLong) =
+    (last ≡ []) × (IsUnreadLine 1073741824 after unread.TooLong ⊎ (18446744073709551614 ≤ count))
 EndsAt count last after (Err faults.Memory) = last ≡ []
 EndsAt count last after (Err _) = ⊥
 
@@ -100,18 +104,27 @@ GoesTo left now heard number (Ok (next.On failed)) = HasRead left now heard fail
 GoesTo left now heard number (Ok (next.Last told)) = HasEnded left heard (Ok told)
 GoesTo left now heard number (Err fault) = HasEnded left heard (Err fault)
 
+-- reading ended since the source failed
+abbrev pub is_failed_read : {A : Type 0} → Result A Fault → Bool
+is_failed_read (Ok _) = false
+is_failed_read (Err faults.Read) = true
+is_failed_read (Err _) = false
+
 -- the report ended as reading did; or it fell silent, since a write failed or memory was wanting
-abbrev pub EndsBy : Bool → Result Told Fault → Result Told Fault → Type 0
-EndsBy false read ending = ending ≡ read
-EndsBy true read ending = (ending ≡ Err faults.Report) ⊎ (ending ≡ Err faults.Memory)
+abbrev pub EndsBy : Result (Unit {0}) (ReportFault Failed) → Result Told Fault → Result Told Fault → Type 0
+EndsBy (Ok _) read ending = ending ≡ read
+EndsBy (Err (reports.Refused _)) read ending = ending ≡ Err faults.Report
+EndsBy (Err reports.OutOfMemory) read ending = ending ≡ Err faults.Memory
 
 -- the lines that were left in a source tell these events, up to where reading ended, and the sink took their report:
--- all of it where the ending is that of reading, and else a front part
-pub record ShowsLines (settings : ReportSettings) (left before now : Option (List ℕ)) (faults_before faults_now : ℕ)
-    (ending : Result Told Fault) : Type 0 where
+-- all of it where the ending is that of reading, and else a front part. A fault of reading, and one of the report, is
+-- answered exactly where the source, and the sink, failed
+pub record ShowsLines (settings : ReportSettings) (left : Option (List ℕ)) (source source_now : ℕ)
+    (before now : Option (List ℕ)) (sink sink_now : ℕ) (ending : Result Told Fault) : Type 0 where
   pub events : List ReporterEvent
   pub read : Result Told Fault
   pub reads : ReadsLines left events read
+  pub failed : RoseExactlyIf (is_failed_read read) source source_now
   pub went : Result (Unit {0}) (ReportFault Failed)
-  pub report : Shows settings before now faults_before faults_now went events
-  pub ends : EndsBy (is_err went) read ending
+  pub report : Shows settings before now sink sink_now went events
+  pub ends : EndsBy went read ending

@@ -7,7 +7,6 @@ mod last;
 mod recorded;
 mod said;
 mod source_lines;
-mod watched;
 
 pub use last::Told;
 pub use recorded::{Showed, show};

@@ -5,14 +5,15 @@ ghost use Rattle.run_events.specs.Tell.{Adds};
 ghost use Rattle.run_events.specs.declared.events.ReporterEvent.{ReporterEvent};
 ghost use Rattle.run_event_reader.specs.Counted.{failed_after_all};
 ghost use Rattle.run_show.specs.FirstLines.{ahead};
-ghost use Rattle.run_show.specs.Shown.{EndsBy, HearsLine, GoesTo, HasEnded, HasRead, ShowsLines, unread_fault};
+ghost use Rattle.run_show.specs.Shown.{EndsBy, HearsLine, GoesTo, HasEnded, HasRead, ShowsLines};
+ghost use Rattle.run_show.specs.Shown.{is_failed_read, unread_fault};
 
 use crate::last::Told;
 use crate::said::{Said, read_line};
 use crate::source_lines::SourceLines;
-use crate::watched::Watched;
-use run_capture::{ReadError, Sink, Source};
+use run_capture::{Failed, ReadError, Sink, Source};
 use run_event_reader::failed_after;
+use run_events::ReportFault;
 use run_input::LineError;
 use run_output::Fault;
 use run_report::{Listener, ReportSettings, RunReport};
@@ -44,11 +45,11 @@ fn hear_line<K: Sink>(
     alloc: Global,
     number: u64,
     failed: u64,
-    report: &mut RunReport<Watched<K>>,
+    report: &mut RunReport<K>,
     line: &[u8],
 ) -> Result<Next, Fault>
     ensures told { (more : Items ReporterEvent)
-        × Adds ⟦<RunReport<Watched<K>> as Listener>⟧.heard report.old report.new more
+        × Adds ⟦<RunReport<K> as Listener>⟧.heard report.old report.new more
         × HearsLine number failed line.now more result }
     ensures settings { report.new.settings ≡ report.old.settings }
     ensures start { report.new.start.value ≡ report.old.start.value }
@@ -71,13 +72,14 @@ fn hear_next<S: Source, K: Sink>(
     number: u64,
     failed: u64,
     lines: &mut SourceLines<S>,
-    report: &mut RunReport<Watched<K>>,
+    report: &mut RunReport<K>,
 ) -> Result<Next, Fault>
     ensures goes { (left : Option (Items ℕ)) → HasRead left
         (ahead (S.left lines.old.source) (drop lines.old.at lines.old.read.items))
-        (⟦<RunReport<Watched<K>> as Listener>⟧.heard report.old) failed number
+        (⟦<RunReport<K> as Listener>⟧.heard report.old) failed number
         → GoesTo left (ahead (S.left lines.new.source) (drop lines.new.at lines.new.read.items))
-        (⟦<RunReport<Watched<K>> as Listener>⟧.heard report.new) number result }
+        (⟦<RunReport<K> as Listener>⟧.heard report.new) number result }
+    ensures fault { RoseExactlyIf (is_failed_read result) (S.faults lines.old.source) (S.faults lines.new.source) }
     ensures settings { report.new.settings ≡ report.old.settings }
     ensures start { report.new.start.value ≡ report.old.start.value }
 {
@@ -92,11 +94,12 @@ fn hear_next<S: Source, K: Sink>(
 fn hear_lines<S: Source, K: Sink>(
     alloc: Global,
     lines: &mut SourceLines<S>,
-    report: &mut RunReport<Watched<K>>,
+    report: &mut RunReport<K>,
 ) -> Result<Told, Fault>
-    requires { ⟦<RunReport<Watched<K>> as Listener>⟧.heard report.old [] }
+    requires { ⟦<RunReport<K> as Listener>⟧.heard report.old [] }
     ensures ended { HasEnded (ahead (S.left lines.old.source) (drop lines.old.at lines.old.read.items))
-        (⟦<RunReport<Watched<K>> as Listener>⟧.heard report.new) result }
+        (⟦<RunReport<K> as Listener>⟧.heard report.new) result }
+    ensures fault { RoseExactlyIf (is_failed_read result) (S.faults lines.old.source) (S.faults lines.new.source) }
     ensures settings { report.new.settings ≡ report.old.settings }
     ensures start { report.new.start.value ≡ report.old.start.value }
 {
@@ -111,16 +114,14 @@ fn hear_lines<S: Source, K: Sink>(
     Err(Fault::TooLong)
 }
 
-// How the report ended: if it fell silent, with a write that failed, or where memory was wanting.
-fn ended(read: Result<Told, Fault>, is_silent: bool, failed: bool) -> Result<Told, Fault>
-    ensures { EndsBy is_silent read result }
+// How the report ended: as reading did, if it was written; else by why it wasn't.
+fn ended(read: Result<Told, Fault>, went: &Result<(), ReportFault<Failed>>) -> Result<Told, Fault>
+    ensures { EndsBy went.now read result }
 {
-    if !is_silent {
-        read
-    } else if failed {
-        Err(Fault::Report)
-    } else {
-        Err(Fault::Memory)
+    match went {
+        Ok(()) => read,
+        Err(ReportFault::Refused(_)) => Err(Fault::Report),
+        Err(ReportFault::OutOfMemory) => Err(Fault::Memory),
     }
 }
 
@@ -140,17 +141,16 @@ pub fn show<S: Source, K: Sink>(
     sink: K,
     settings: ReportSettings,
 ) -> Showed<S, K>
-    ensures { ShowsLines settings (S.left source) (K.taken sink) (K.taken result.sink) (K.faults sink)
-        (K.faults result.sink) result.ending }
+    ensures { ShowsLines settings (S.left source) (S.faults source) (S.faults result.source) (K.taken sink)
+        (K.taken result.sink) (K.faults sink) (K.faults result.sink) result.ending }
 {
     let mut lines = SourceLines::new(alloc, source);
-    let mut report = RunReport::new(Watched::new(sink), settings);
+    let mut report = RunReport::new(sink, settings);
     let read = hear_lines(alloc, &mut lines, &mut report);
-    let is_silent = report.is_silent();
-    let (sink, failed) = report.into_sink().into_parts();
+    let ending = ended(read, report.went());
     Showed {
-        ending: ended(read, is_silent, failed),
+        ending,
         source: lines.into_source(),
-        sink,
+        sink: report.into_sink(),
     }
 }

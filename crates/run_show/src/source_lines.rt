@@ -10,7 +10,9 @@ ghost use Rattle.run_show.specs.FirstLines.{
   IsPartRead,
   IsFeedless,
   IsLast,
+  IsUnended,
   IsUnreadLine,
+  ReadsOn,
   TakesLinePart,
   line_list,
 };
@@ -21,6 +23,17 @@ use std::alloc::Global;
 
 /// The most bytes that a line may have.
 pub const LINE_LIMIT: usize = 1_073_741_824;
+
+// What was read of a line.
+#[derive(Clone, Copy, Drop)]
+enum Part {
+    /// All, with its end.
+    Ended,
+    /// All, but for its end: the source has no more.
+    Last,
+    /// Some.
+    Open,
+}
 
 /// A source that is read by lines, of which a line at most is held.
 pub(crate) struct SourceLines<S: Source> {
@@ -137,6 +150,25 @@ impl<S: Source> SourceLines<S> {
         Ok(count > 0)
     }
 
+    // Reads on in a line of which nothing stands ready.
+    fn read_on(&mut self, line: &mut Vec<u8>) -> Result<Part, ReadError>
+        requires { drop self.old.at self.old.read.items ≡ [] }
+        ensures part { IfOk result (λ part. ReadsOn part
+            (ahead (S.left self.old.source) (drop self.old.at self.old.read.items))
+            (ahead (S.left self.new.source) (drop self.new.at self.new.read.items)) line.old.items line.new.items) }
+        ensures ready { IfOk result (λ part. IsUnended part → drop self.new.at self.new.read.items ≡ []) }
+        ensures refused { (before : Option (List ℕ)) → IfErr result (λ e. IsUnreadLine LINE_LIMIT before e) }
+        ensures fault { RoseExactlyIf (has_failed result) (S.faults self.old.source) (S.faults self.new.source) }
+    {
+        if !self.read_more()? {
+            return Ok(Part::Last);
+        }
+        if self.take_more(line)? {
+            return Ok(Part::Ended);
+        }
+        Ok(Part::Open)
+    }
+
     /// Reads the next line, without its end; none where there is none left.
     pub(crate) fn next_line(&mut self, alloc: Global) -> Result<Option<Vec<u8>>, ReadError>
         ensures line { IfOk result (λ line. FirstLines
@@ -156,11 +188,10 @@ impl<S: Source> SourceLines<S> {
             if line.len() > LINE_LIMIT {
                 break;
             }
-            if !self.read_more()? {
-                return Ok(some_line(line));
-            }
-            if self.take_more(&mut line)? {
-                return Ok(Some(line));
+            match self.read_on(&mut line)? {
+                Part::Ended => return Ok(Some(line)),
+                Part::Last => return Ok(some_line(line)),
+                Part::Open => {}
             }
         }
         Err(ReadError::TooLong)

@@ -68,7 +68,7 @@ fn carry_out(
     let answer = runner.try_execute(alloc, turns, &mut Unmade, &mut both);
     drop(answer);
     let (lines, report) = both.into_parts();
-    let is_silent = report.is_silent();
+    let is_silent = report.went().is_err();
     let (lines, report) = (lines.into_sink(), report.into_sink());
     Ok(Made {
         lines: Blob::from_slice(alloc, lines.bytes())?,
