@@ -1,0 +1,14 @@
+pub mod Globs
+pub mod Walks
+pub mod Tree
+pub mod Holds
+pub mod Xxh64
+pub mod Partition
+pub mod PartitionWord
+pub mod Signs
+pub mod GlobText
+pub mod Escapes
+pub mod Grammar
+pub mod Reads
+pub mod Regexes
+pub mod Held
