@@ -1,0 +1,6 @@
+mod TimeLemmas
+mod PlatformLemmas
+mod SettingsLemmas
+mod PathLemmas
+mod LevelsLemmas
+mod ScriptOrderLemmas

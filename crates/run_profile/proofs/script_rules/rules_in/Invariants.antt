@@ -1,0 +1,11 @@
+use Rattle.std.proofs.Common.{◌≡◌, drop}
+use Rattle.toml.specs.View.{items_view}
+use Rattle.run_profile.specs.Fields.{before}
+use Rattle.run_profile.specs.Scripts.{rule_entries}
+use Rattle.run_profile.proofs.script_rules.rules_in.Given as goal
+
+abbrev pub invariant-loop-item : goal.invariant-loop-item
+invariant-loop-item l =
+    (before l.rules
+    (rule_entries l.cfg l.scripts l.profile l.path l.number (items_view (drop l.item-index l.items)))
+    ≡ rule_entries l.cfg l.scripts l.profile l.path 0 (items_view l.items)) × (l.number ≡ l.item-index)

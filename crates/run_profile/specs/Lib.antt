@@ -1,0 +1,15 @@
+pub mod Fields
+pub mod Levels
+pub mod Notes
+pub mod Platform
+pub mod Reads
+pub mod Refusals
+pub mod Said
+pub mod Scope
+pub mod ScriptOrder
+pub mod Scripts
+pub mod Scan
+pub mod Settings
+pub mod Threads
+pub mod Time
+pub mod Version
