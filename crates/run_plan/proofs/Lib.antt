@@ -1,0 +1,9 @@
+mod CallLemmas
+mod ListLemmas
+mod PartLemmas
+mod RankLemmas
+mod RowLemmas
+mod ScriptLemmas
+mod ValueLemmas
+mod WordLemmas
+mod ZipLemmas

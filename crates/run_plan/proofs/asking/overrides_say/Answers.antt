@@ -1,0 +1,10 @@
+use Rattle.run_profile.specs.declared.settings.Override.{Override}
+use Rattle.run_plan.specs.Asks.{FilterSays}
+use Rattle.run_plan.proofs.ZipLemmas.{zip_more}
+use Rattle.run_plan.proofs.asking.overrides_say.Goals as goal
+
+pub loop-o-preserved : goal.loop-o-preserved
+loop-o-preserved c =
+    zip_more (λ (x : Override) b. FilterSays x.filter c.args.facts b) c.args.overrides.now c.loop-o.held c.push.new.self
+    c.loop-o.o-index c.o-item.result c.in_ok-is_held.is_held c.loop-o-test.true c.o-item.is
+    c.in_ok-push.ensures.ok c.in_ok-is_held.ensures.ok c.loop-o.invariant

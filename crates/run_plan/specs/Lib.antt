@@ -1,0 +1,15 @@
+pub mod Asks
+pub mod Calls
+pub mod Listed
+pub mod PlanFaults
+pub mod PlanSaid
+pub mod Planned
+pub mod Platform
+pub mod Reasons
+pub mod Rows
+pub mod Scripted
+pub mod Settings
+pub mod TestList
+pub mod Values
+pub mod Versions
+pub mod Words
