@@ -250,7 +250,9 @@ groups_read path d = do
   group_entries path members
 
 abbrev pub root_keys : List (List ℕ)
-root_keys = codes "nextest-version" ∷ codes "profile" ∷ codes "scripts" ∷ codes "store" ∷ codes "test-groups" ∷ []
+root_keys =
+    codes "experimental" ∷ codes "nextest-version" ∷ codes "profile" ∷ codes "scripts" ∷ codes "store"
+    ∷ codes "test-groups" ∷ []
 
 -- the profile of a name and those that it inherits, no more than so many, and what they give together
 abbrev pub named_profile : ℕ → Cfg → List TestGroup → List SetupScript → Option Data → List ℕ

@@ -294,6 +294,7 @@ fn only_root_keys(alloc: Global, table: &Table) -> Result<(), ProfileError>
     ensures { Agrees result (only_names [] root_keys (table_view table.now)) }
 {
     let names = [
+        "experimental",
         "nextest-version",
         "profile",
         "scripts",
