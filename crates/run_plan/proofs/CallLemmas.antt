@@ -6,11 +6,11 @@ use Rattle.run_profile.specs.declared.levels.Project.{Project}
 use Rattle.run_profile.specs.declared.scripts.SetupScript.{SetupScript}
 use Rattle.run_plan.specs.Asks.{IsAskError}
 use Rattle.run_plan.specs.Calls.{AnswersProject}
+use Rattle.run_plan.specs.Listed.{AskedTest}
 use Rattle.run_plan.specs.PlanFaults.{asked_fault}
 use Rattle.run_plan.specs.PlanSaid.{fits_plan}
 use Rattle.run_plan.specs.Planned.{planned}
 use Rattle.run_plan.specs.Scripted.{plan_script}
-use Rattle.run_plan.specs.declared.asked.Asked.{Asked}
 use Rattle.run_plan.specs.declared.asked.Call.{Call}
 use Rattle.run_plan.specs.declared.choices.Choices.{Choices}
 use Rattle.run_plan.specs.declared.filters.AskError.{AskError}
@@ -39,9 +39,9 @@ many_made : (list : TestList) (id : List ℕ) (used : List SetupScript) (m n : �
 many_made list id used m n h = rw length-map (omega (arith, h))
 
 -- a plan of too many scripts doesn't fit
-pub too_many : (list : TestList) (project : Project) (choices : Choices) (call : Call) (asked : List Asked)
+pub too_many : (list : TestList) (project : Project) (choices : Choices) (call : Call) (rows : List AskedTest)
     (used : List SetupScript) → 4294967295 < length used
-    → fits_plan (planned list project choices call asked used) ≡ false
+    → fits_plan (planned list project choices call rows used) ≡ false
 unfolding planned
-too_many list project choices call asked used h =
+too_many list project choices call rows used h =
     neither _ _ (no_more _ 4294967295 _ refl (many_made list call.run_id used 4294967295 _ h))

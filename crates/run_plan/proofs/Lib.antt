@@ -1,4 +1,5 @@
 mod CallLemmas
+mod ColumnLemmas
 mod ListLemmas
 mod PartLemmas
 mod RankLemmas

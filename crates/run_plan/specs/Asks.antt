@@ -95,6 +95,10 @@ abbrev pub AsksNotItself : Option (List ℕ) → Type 0
 AsksNotItself None = ⊤
 AsksNotItself (Some text) = (t : Tree) × (filter_of text ≡ Ok t) × (asks_default t ≡ false)
 
+-- a text reads as a filter that asks itself so
+abbrev pub AsksDefault : List ℕ → Bool → Type 0
+AsksDefault text asks = (t : Tree) × (filter_of text ≡ Ok t) × (asks ≡ asks_default t)
+
 -- a text is no filter, or has a regex that is none, by this fault at this place
 abbrev pub IsFaulty : List ℕ → ℕ → FilterFault → Type 0
 IsFaulty text place fault = HoldsByText (Err (filter_errors.Wrong place fault)) text []
@@ -184,9 +188,3 @@ IsDefaultFault place fault errors.OutOfMemory = ⊤
 abbrev pub IsUnsoundDefault : Option (List ℕ) → AskError → Type 0
 IsUnsoundDefault None error = error ≡ errors.OutOfMemory
 IsUnsoundDefault (Some text) error = IsUnsound text error
-
--- whether some filter of the words holds of these facts, or they give none
-abbrev pub IsPickedBy : Facts → List (List ℕ) → Bool → Type 0
-IsPickedBy facts filters picked =
-    (held : List Bool) × AllZip (λ text. FilterSays (Some text) facts) filters held
-    × (picked ≡ is_any_held filters held)

@@ -1,7 +1,7 @@
 -- What a call answers, of what its files say.
 use Rattle.std.specs.Prelude.{ℕ, ◌≡◌, ◌<◌, ◌⊎◌, ⊤, ◌++◌, Bool, true, false, List, [], ◌∷◌, codes, length, map}
 use Rattle.std.specs.Prelude.{Option, Some, None, option_and_then, unwrap_or, Result, Ok, Err}
-use Rattle.std.specs.List.{AllZip}
+use Rattle.std.specs.List.{AllZip, zip}
 use Rattle.std.specs.Option.{option_copied}
 use Rattle.toml.specs.Data.{Members, no_members, get_member}
 use Rattle.toml.specs.Parse.{parse_document}
@@ -19,7 +19,7 @@ use Rattle.run_profile.specs.declared.settings.Profile.{Profile}
 use Rattle.run_plan_line.specs.PlanFields.{plan_text}
 use Rattle.run_plan_line.specs.declared.said.SaidPlan.{SaidPlan}
 use Rattle.run_plan.specs.Asks.{IsAskError, IsAsked, AsksNotItself, default_filter}
-use Rattle.run_plan.specs.Listed.{listed}
+use Rattle.run_plan.specs.Listed.{AskedTest, listed}
 use Rattle.run_plan.specs.Planned.{planned, used_in}
 use Rattle.run_plan.specs.Platform.{platform_given}
 use Rattle.run_plan.specs.PlanSaid.{IsLineOfPlan, fits_plan, runs_any}
@@ -65,9 +65,16 @@ pub record AreAsked (list : TestList) (p : Profile) (picks : Picks) (asked : Lis
   pub each : AllZip (IsAsked p picks) (listed list) asked
 
 -- the scripts that tests want, in the order of the project's file, where it is known
-abbrev pub ordered_scripts : Option (List ℕ) → Project → Picks → TestList → List Asked → Option (List SetupScript)
-ordered_scripts config project picks list asked =
-    file_ordered (option_and_then script_order config) (used_in project picks list asked)
+abbrev pub ordered_scripts : Option (List ℕ) → Project → Picks → List AskedTest → Option (List SetupScript)
+ordered_scripts config project picks rows =
+    file_ordered (option_and_then script_order config) (used_in project picks rows)
+
+-- the plan of tests of which filters say so much
+pub record IsPlanWhere (config : Option (List ℕ)) (list : TestList) (project : Project) (choices : Choices)
+    (call : Call) (rows : List AskedTest) (plan : SaidPlan) : Type 0 where
+  pub used : List SetupScript
+  pub are_used : ordered_scripts config project choices.picks rows ≡ Some used
+  pub is : plan ≡ planned list project choices call rows used
 
 -- the plan of a list and a project with its file, by what filters say
 pub record IsPlan (config : Option (List ℕ)) (list : TestList) (project : Project) (choices : Choices) (call : Call)
@@ -75,9 +82,7 @@ pub record IsPlan (config : Option (List ℕ)) (list : TestList) (project : Proj
   pub is_old : needs_newer project.versions ≡ false
   pub asked : List Asked
   pub are_asked : AreAsked list project.profile choices.picks asked
-  pub used : List SetupScript
-  pub are_used : ordered_scripts config project choices.picks list asked ≡ Some used
-  pub is : plan ≡ planned list project choices call asked used
+  pub is : IsPlanWhere config list project choices call (zip (listed list) asked) plan
 
 abbrev pub OfPlan : Option (List ℕ) → TestList → Project → Choices → Call → (SaidPlan → Type 0) → Type 0
 OfPlan config list project choices call P = (plan : SaidPlan) × IsPlan config list project choices call plan × P plan
@@ -86,7 +91,7 @@ OfPlan config list project choices call P = (plan : SaidPlan) × IsPlan config l
 abbrev pub LacksOrder : Option (List ℕ) → TestList → Project → Picks → Type 0
 LacksOrder config list project picks =
     (asked : List Asked) × AreAsked list project.profile picks asked
-    × (ordered_scripts config project picks list asked ≡ None)
+    × (ordered_scripts config project picks (zip (listed list) asked) ≡ None)
 
 -- the line of the plan of a list and a project, or why there is none
 abbrev pub AnswersProject : Result (List ℕ) PlanFault → Option (List ℕ) → TestList → Project → Choices → Call → Type 0
@@ -148,17 +153,11 @@ IsNoProject project (faults.Profile path fault) = project ≡ Err (Refused path 
 IsNoProject project faults.OutOfMemory = ⊤
 IsNoProject project e = ⊥
 
--- the plan where filters say so much, and why there is none
-pub record IsPlanWhere (config : Option (List ℕ)) (list : TestList) (project : Project) (choices : Choices)
-    (call : Call) (asked : List Asked) (plan : SaidPlan) : Type 0 where
-  pub used : List SetupScript
-  pub are_used : ordered_scripts config project choices.picks list asked ≡ Some used
-  pub is : plan ≡ planned list project choices call asked used
-
-abbrev pub LacksPlan : Option (List ℕ) → TestList → Project → Choices → Call → List Asked → PlanFault → Type 0
-LacksPlan config list project choices call asked faults.ScriptOrder =
-    ordered_scripts config project choices.picks list asked ≡ None
-LacksPlan config list project choices call asked faults.TooMany =
-    (plan : SaidPlan) × IsPlanWhere config list project choices call asked plan × (fits_plan plan ≡ false)
-LacksPlan config list project choices call asked faults.OutOfMemory = ⊤
-LacksPlan config list project choices call asked fault = ⊥
+-- why there is no plan of tests of which filters say so much
+abbrev pub LacksPlan : Option (List ℕ) → TestList → Project → Choices → Call → List AskedTest → PlanFault → Type 0
+LacksPlan config list project choices call rows faults.ScriptOrder =
+    ordered_scripts config project choices.picks rows ≡ None
+LacksPlan config list project choices call rows faults.TooMany =
+    (plan : SaidPlan) × IsPlanWhere config list project choices call rows plan × (fits_plan plan ≡ false)
+LacksPlan config list project choices call rows faults.OutOfMemory = ⊤
+LacksPlan config list project choices call rows fault = ⊥

@@ -1,5 +1,6 @@
 pub mod Asks
 pub mod Calls
+pub mod Columns
 pub mod Listed
 pub mod PlanFaults
 pub mod PlanSaid

@@ -5,6 +5,7 @@ use Rattle.std.specs.List.{zip}
 use Rattle.run_capture.specs.declared.test_output.CaptureStrategy.TheVariants as captures
 use Rattle.run_events.specs.Usual.{usual_test}
 use Rattle.run_events.specs.declared.plan.Group.{Group}
+use Rattle.run_events.specs.declared.plan.PlanScript.{PlanScript}
 use Rattle.run_events.specs.declared.plan.PlanTest.{PlanTest}
 use Rattle.run_events.specs.declared.plan.TestInstanceId.{TestInstanceId}
 use Rattle.run_events.specs.declared.retry_policy.MaxFail.TheVariants as limits
@@ -113,13 +114,12 @@ abbrev pub word_retries : ℕ → RetryPolicy
 word_retries n = Fixed n 0 false
 
 -- the scripts of a project that some test wants
-abbrev pub used_in : Project → Picks → TestList → List Asked → List SetupScript
-used_in project picks list asked =
-    wanted project.profile picks (kept_rows picks (zip (listed list) asked)) project.scripts
+abbrev pub used_in : Project → Picks → List AskedTest → List SetupScript
+used_in project picks rows = wanted project.profile picks (kept_rows picks rows) project.scripts
 
 -- the plan: each listed test once, in the list's order, where so much is known of each, and these scripts
-unfoldable pub planned : TestList → Project → Choices → Call → List Asked → List SetupScript → SaidPlan
-planned list project choices call asked used = record {
+unfoldable pub planned : TestList → Project → Choices → Call → List AskedTest → List SetupScript → SaidPlan
+planned list project choices call rows used = record {
   run_id = call.run_id;
   profile = unwrap_or choices.ways.profile (codes "default");
   workspace_root = unwrap_or list.root (codes "/");
@@ -134,5 +134,19 @@ planned list project choices call asked used = record {
   groups = map (plan_group call.processors) project.groups;
   scripts = map (plan_script list call.run_id) used;
   tests = plan_tests call.processors (threads_of_call call project.profile choices.ways) project.profile choices.picks
-      used (zip (listed list) asked);
+      used rows;
 }
+
+-- the name of the profile, the workspace's folder, and the words of the call
+abbrev pub heads_with : TestList → Ways → Call → List ℕ × List ℕ × List (List ℕ)
+heads_with list ways call = (unwrap_or ways.profile (codes "default"), unwrap_or list.root (codes "/"), call.args)
+
+-- the groups, the scripts and the tests
+abbrev pub parts_with : TestList → Project → Choices → Call → List AskedTest → List SetupScript
+    → List Group × List PlanScript × List PlanTest
+parts_with list project choices call rows used = (
+  map (plan_group call.processors) project.groups,
+  map (plan_script list call.run_id) used,
+  plan_tests call.processors (threads_of_call call project.profile choices.ways) project.profile choices.picks used
+      rows,
+)

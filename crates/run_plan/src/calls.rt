@@ -1,10 +1,16 @@
 // From the files and the words of a call to its plan line.
-ghost use Rattle.std.specs.Prelude.{◌≡◌, ◌<◌, ◌^◌, Err, IfErr, IfOk, Ok, Some, length};
+ghost use Rattle.std.specs.Prelude.{◌≡◌, ◌<◌, ◌^◌, ℕ, Err, IfErr, IfOk, List, Ok, OnOk, Option, Some, false, length};
+ghost use Rattle.std.specs.Prelude.{map};
+ghost use Rattle.std.specs.List.{zip};
 ghost use Rattle.std.specs.Option.{option_copied};
 ghost use Rattle.toml.specs.View.{table_view};
 ghost use Rattle.run_plan.specs.Calls.{AnswersCall, AnswersFiles, AnswersProject, LacksPlan, IsNoDocument, IsNoProject};
 ghost use Rattle.run_plan.specs.Calls.{IsPlan, IsPlanWhere};
-ghost use Rattle.run_plan.specs.Calls.{document_of, notes_in, project_in};
+ghost use Rattle.run_plan.specs.Calls.{document_in, document_of, notes_in, project_in};
+ghost use Rattle.run_plan.specs.Rows.{asked_row, listed_row};
+ghost use Rattle.run_plan.specs.Versions.{needs_newer};
+ghost use Rattle.run_plan.specs.declared.asked.Call.{Call};
+ghost use Rattle.run_plan.specs.declared.choices.Choices.{Choices};
 
 use crate::asked::{Asked, Call};
 use crate::asking::ask;
@@ -14,7 +20,7 @@ use crate::plan::planned;
 use crate::plan_fault::{PlanFault, asked_fault, profile_fault};
 use crate::plan_line::{MOST, line_of};
 use crate::platform::platform_given;
-use crate::rows::{asked_rows, rows_of};
+use crate::rows::{AskedRow, ListRow, asked_rows, rows_of};
 use crate::scripted::used_scripts;
 use crate::test_list::TestList;
 use crate::versions::needs_newer;
@@ -90,21 +96,52 @@ fn plan_where(
     list: &TestList,
     project: &Project,
     given: (&Choices, &Call),
-    asked: &[Asked],
+    rows: &[AskedRow<'_>],
 ) -> Result<SaidPlan, PlanFault>
-    requires { length list.now.binaries < 2 ^ 32 }
     ensures ok { IfOk result (IsPlanWhere (option_copied config.entry) list.now project.now given.entry.0.now
-        given.entry.1.now asked.now) }
+        given.entry.1.now (map asked_row rows.now)) }
     ensures err { IfErr result (LacksPlan (option_copied config.entry) list.now project.now given.entry.0.now
-        given.entry.1.now asked.now) }
+        given.entry.1.now (map asked_row rows.now)) }
 {
-    let rows = rows_of(alloc, list)?;
-    let rows = asked_rows(alloc, &rows, asked)?;
-    let used = used_scripts(alloc, config, project, &given.0.picks, &rows)?;
+    let used = used_scripts(alloc, config, project, &given.0.picks, rows)?;
     if used.len() > MOST {
         return Err(PlanFault::TooMany);
     }
-    Ok(planned(alloc, list, project, given.0, given.1, asked, &used)?)
+    Ok(planned(alloc, list, project, given, rows, &used)?)
+}
+
+// The same of tests, and of what filters say of each.
+fn plan_asked(
+    alloc: Global,
+    config: Option<&str>,
+    list: &TestList,
+    project: &Project,
+    given: (&Choices, &Call),
+    tests: (&[ListRow<'_>], &[Asked]),
+) -> Result<SaidPlan, PlanFault>
+    ensures ok { IfOk result (IsPlanWhere (option_copied config.entry) list.now project.now given.entry.0.now
+        given.entry.1.now (zip (map listed_row tests.entry.0.now) tests.entry.1.now)) }
+    ensures err { IfErr result (LacksPlan (option_copied config.entry) list.now project.now given.entry.0.now
+        given.entry.1.now (zip (map listed_row tests.entry.0.now) tests.entry.1.now)) }
+{
+    let rows = asked_rows(alloc, tests.0, tests.1)?;
+    plan_where(alloc, config, list, project, given, &rows)
+}
+
+// Refuses a list of too many binaries, and a project that wants a newer version.
+fn check_project(alloc: Global, list: &TestList, project: &Project) -> Result<(), PlanFault>
+    ensures few { OnOk result (length list.now.binaries < 2 ^ 32) }
+    ensures old { OnOk result (needs_newer project.now.versions ≡ false) }
+    ensures err { IfErr result (λ e. (config : Option (List ℕ)) (choices : Choices) (call : Call)
+        → AnswersProject (Err e) config list.now project.now choices call) }
+{
+    if list.binaries.len() > MOST {
+        return Err(PlanFault::TooMany);
+    }
+    if needs_newer(alloc, &project.versions)? {
+        return Err(PlanFault::NeedsNewer);
+    }
+    Ok(())
 }
 
 // The plan of a list and a project.
@@ -120,15 +157,17 @@ fn plan_by(
     ensures err { IfErr result (λ e. AnswersProject (Err e) (option_copied config.entry) list.now project.now
         given.entry.0.now given.entry.1.now) }
 {
-    if list.binaries.len() > MOST {
-        return Err(PlanFault::TooMany);
-    }
-    if needs_newer(alloc, &project.versions)? {
-        return Err(PlanFault::NeedsNewer);
-    }
+    check_project(alloc, list, project)?;
     let rows = rows_of(alloc, list)?;
     match ask(alloc, &project.profile, &given.0.picks, &rows) {
-        Ok(asked) => plan_where(alloc, config, list, project, given, asked.as_slice()),
+        Ok(asked) => plan_asked(
+            alloc,
+            config,
+            list,
+            project,
+            given,
+            (&rows, asked.as_slice()),
+        ),
         Err(error) => Err(asked_fault(error)),
     }
 }
@@ -172,7 +211,32 @@ fn noted_line(
     }
 }
 
-// The line of a list, of what the files say of its project.
+// The line of a list, of what the document says of its project.
+fn line_with(
+    alloc: Global,
+    texts: &Texts<'_>,
+    list: &TestList,
+    document: &Table,
+    choices: &Choices,
+    call: &Call,
+) -> Result<NotedLine, PlanFault>
+    ensures { document_in texts.now ≡ Some (table_view document.now)
+        → AnswersFiles result texts.now list.now choices.now call.now }
+{
+    match project_in(alloc, texts, &choices.ways, document) {
+        Ok(project) => noted_line(
+            alloc,
+            texts.config,
+            list,
+            &project,
+            document,
+            (choices, call),
+        ),
+        Err(fault) => Err(fault),
+    }
+}
+
+// The same of what the files say.
 fn line_in(
     alloc: Global,
     texts: &Texts<'_>,
@@ -183,17 +247,7 @@ fn line_in(
     ensures { AnswersFiles result texts.now list.now choices.now call.now }
 {
     let document = document_of(alloc, texts.config)?;
-    match project_in(alloc, texts, &choices.ways, &document) {
-        Ok(project) => noted_line(
-            alloc,
-            texts.config,
-            list,
-            &project,
-            &document,
-            (choices, call),
-        ),
-        Err(fault) => Err(fault),
-    }
+    line_with(alloc, texts, list, &document, choices, call)
 }
 
 /// The plan line that the files and the words of a call make, which a reader of plan lines reads as that plan: each

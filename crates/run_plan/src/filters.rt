@@ -1,16 +1,18 @@
-// What a filter says of a test.
-ghost use Rattle.std.specs.Prelude.{◌≡◌, IfErr, IfOk, OnOk, Some};
+// What a filter says of tests.
+ghost use Rattle.std.specs.Prelude.{◌≡◌, IfErr, IfOk, None, OnOk, Some, codes, map, true};
+ghost use Rattle.std.specs.List.{AllZip};
 ghost use Rattle.run_filter.specs.Tree.{tree_of};
-ghost use Rattle.run_plan.specs.Asks.{IsDefaultFault, IsProfileFault, IsSeen, AsksNotItself, IsUnsaid, IsUnsound};
+ghost use Rattle.run_plan.specs.Asks.{AsksDefault, IsDefaultFault, IsProfileFault, IsSeen, AsksNotItself, IsUnsaid};
+ghost use Rattle.run_plan.specs.Asks.{IsUnsound};
 ghost use Rattle.run_plan.specs.Asks.{IsFilterFault, IsTextFault, FilterSays, asks_default, filter_path, platform_name};
 
 use crate::test_list::{ListedTest, TestBinary};
 use crate::texts::with_text;
 use itoa::Buffer;
-use run_capture::{Mem, OutOfMemory, Text};
+use run_capture::{List, Mem, OutOfMemory, Text};
 use run_commands::BuildPlatform;
 use run_filter::{Facts, Filter, FilterError, FilterFault, held_by_text, read_filter};
-use std::alloc::Global;
+use std::alloc::{AllocError, Global};
 
 /// Why filters say nothing of tests.
 #[derive(Drop)]
@@ -73,25 +75,41 @@ pub(crate) fn facts_of<'a>(
     }
 }
 
-// Whether the filter of a text holds of a test.
-fn text_says(alloc: Global, text: &str, facts: Facts<'_>) -> Result<bool, FilterError>
-    ensures ok { IfOk result (FilterSays (Some text.now) facts.entry) }
+// Of each test whether a filter holds of it.
+type Column = Result<List<bool>, FilterError>;
+
+fn all_true(alloc: Global, tests: &[Facts<'_>]) -> Result<Vec<bool>, AllocError>
+    ensures { IfOk result (λ held. held.items ≡ map (λ facts. true) tests.now) }
+{
+    tests.iter().map(|_| true).collect(alloc)
+}
+
+// The column of a filter that is none: it holds of each.
+pub(crate) fn all_hold(alloc: Global, tests: &[Facts<'_>]) -> Mem<List<bool>>
+    ensures { IfOk result (AllZip (FilterSays None) tests.now) }
+{
+    Ok(List::from_vec(all_true(alloc, tests)?))
+}
+
+// The column of the filter that a text is.
+fn text_column(alloc: Global, text: &str, tests: &[Facts<'_>]) -> Column
+    ensures ok { IfOk result (AllZip (FilterSays (Some text.now)) tests.now) }
     ensures err { IfErr result (IsTextFault text.now) }
 {
-    match held_by_text(alloc, text, &[facts]) {
-        Ok(held) => Ok(held[0]),
+    match held_by_text(alloc, text, tests) {
+        Ok(held) => Ok(List::from_vec(held)),
         Err(error) => Err(error),
     }
 }
 
 // The same of a filter that may be none, and then holds.
-fn says(alloc: Global, filter: &Option<Text>, facts: Facts<'_>) -> Result<bool, FilterError>
-    ensures ok { IfOk result (FilterSays filter.now facts.entry) }
+fn column(alloc: Global, filter: &Option<Text>, tests: &[Facts<'_>]) -> Column
+    ensures ok { IfOk result (AllZip (FilterSays filter.now) tests.now) }
     ensures err { IfErr result (IsFilterFault filter.now) }
 {
     match filter {
-        Some(text) => text_says(alloc, text.as_str(), facts),
-        None => Ok(true),
+        Some(text) => text_column(alloc, text.as_str(), tests),
+        None => Ok(all_hold(alloc, tests)?),
     }
 }
 
@@ -124,18 +142,18 @@ fn filter_path(alloc: Global, profile: &str, key: &str, number: usize) -> Mem<Te
     with_text(alloc, path, "].filter")
 }
 
-// Whether the filter of an override or a rule holds of a test. It has this number at this key of a profile.
-pub(crate) fn says_at(
+// The column of the filter of an override or a rule. It has this number at this key of a profile.
+pub(crate) fn column_at(
     alloc: Global,
     at: (&str, &str, usize),
     filter: &Option<Text>,
-    facts: Facts<'_>,
-) -> Result<bool, AskError>
-    ensures ok { IfOk result (FilterSays filter.now facts.entry) }
+    tests: &[Facts<'_>],
+) -> Result<List<bool>, AskError>
+    ensures ok { IfOk result (AllZip (FilterSays filter.now) tests.now) }
     ensures err { IfErr result (IsProfileFault (λ path text.
         (path ≡ filter_path at.entry.0.now at.entry.1.now at.entry.2) × (filter.now ≡ Some text))) }
 {
-    match says(alloc, filter, facts) {
+    match column(alloc, filter, tests) {
         Ok(held) => Ok(held),
         Err(FilterError::OutOfMemory) => Err(AskError::OutOfMemory),
         Err(FilterError::Wrong { place, fault }) => {
@@ -145,17 +163,17 @@ pub(crate) fn says_at(
     }
 }
 
-// Whether the words' filter of this number holds of a test.
-pub(crate) fn word_says(
+// The column of the words' filter of this number.
+pub(crate) fn word_column(
     alloc: Global,
     number: usize,
     text: &str,
-    facts: Facts<'_>,
-) -> Result<bool, AskError>
-    ensures ok { IfOk result (FilterSays (Some text.now) facts.entry) }
+    tests: &[Facts<'_>],
+) -> Result<List<bool>, AskError>
+    ensures ok { IfOk result (AllZip (FilterSays (Some text.now)) tests.now) }
     ensures err { IfErr result (IsUnsaid number text.now) }
 {
-    match text_says(alloc, text, facts) {
+    match text_column(alloc, text, tests) {
         Ok(held) => Ok(held),
         Err(FilterError::OutOfMemory) => Err(AskError::OutOfMemory),
         Err(FilterError::Wrong { place, fault }) => Err(AskError::OfWords {
@@ -176,19 +194,34 @@ fn default_fault(alloc: Global, place: usize, fault: FilterFault) -> AskError
     }
 }
 
-// Whether the default filter, of this text, holds of a test.
-pub(crate) fn default_text_says(
+// The column of the default filter, of this text.
+pub(crate) fn default_text_column(
     alloc: Global,
     text: &str,
-    facts: Facts<'_>,
-) -> Result<bool, AskError>
-    ensures ok { IfOk result (FilterSays (Some text.now) facts.entry) }
-    ensures err { IfErr result (IsUnsound text.now) }
+    tests: &[Facts<'_>],
+) -> Result<List<bool>, AskError>
+    ensures ok { IfOk result (AllZip (FilterSays (Some text.now)) tests.now) }
+    ensures err { IfErr result (IsProfileFault (λ path own. (path ≡ codes "default-filter") × (own ≡ text.now))) }
 {
-    match text_says(alloc, text, facts) {
+    match text_column(alloc, text, tests) {
         Ok(held) => Ok(held),
         Err(FilterError::OutOfMemory) => Err(AskError::OutOfMemory),
         Err(FilterError::Wrong { place, fault }) => Err(default_fault(alloc, place, fault)),
+    }
+}
+
+// Whether the filter that a text is asks `default()`.
+fn text_asks_default(alloc: Global, text: &str) -> Result<bool, FilterError>
+    ensures ok { IfOk result (AsksDefault text.now) }
+    ensures err { IfErr result (IsTextFault text.now) }
+{
+    match read_filter(alloc, text) {
+        Ok(filter) => {
+            let asks = asks_default(&filter);
+            drop(filter);
+            Ok(asks)
+        }
+        Err(error) => Err(error),
     }
 }
 
@@ -197,14 +230,9 @@ pub(crate) fn check_default_text(alloc: Global, text: &str) -> Result<(), AskErr
     ensures ok { OnOk result (AsksNotItself (Some text.now)) }
     ensures err { IfErr result (IsUnsound text.now) }
 {
-    match read_filter(alloc, text) {
-        Ok(filter) => {
-            if asks_default(&filter) {
-                Err(AskError::AsksItself)
-            } else {
-                Ok(())
-            }
-        }
+    match text_asks_default(alloc, text) {
+        Ok(true) => Err(AskError::AsksItself),
+        Ok(false) => Ok(()),
         Err(FilterError::OutOfMemory) => Err(AskError::OutOfMemory),
         Err(FilterError::Wrong { place, fault }) => Err(default_fault(alloc, place, fault)),
     }

@@ -8,6 +8,7 @@ mod asked;
 mod asking;
 mod calls;
 mod choices;
+mod columns;
 mod filters;
 mod kept;
 mod list;

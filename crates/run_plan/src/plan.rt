@@ -1,17 +1,18 @@
 // The plan of a call.
-ghost use Rattle.std.specs.Prelude.{◌≡◌, ◌<◌, ◌^◌, IfOk, codes, if◌then◌else◌, length, map, option_map, unwrap_or};
-ghost use Rattle.std.specs.List.{zip};
+ghost use Rattle.std.specs.Prelude.{◌≡◌, ◌<◌, ◌^◌, IfOk, List, if◌then◌else◌, length, map, option_map, unwrap_or};
 ghost use Rattle.run_capture.specs.declared.test_output.CaptureStrategy.TheVariants as captures;
 ghost use Rattle.run_events.specs.declared.retry_policy.MaxFail.TheVariants as limits;
 ghost use Rattle.run_events.specs.declared.retry_policy.TerminateMode.TheVariants as modes;
-ghost use Rattle.run_plan.specs.Listed.{listed};
-ghost use Rattle.run_plan.specs.Planned.{plan_group, plan_tests, planned, threads_of_call, word_retries};
-ghost use Rattle.run_plan.specs.Scripted.{plan_script};
+ghost use Rattle.run_profile.specs.declared.scripts.SetupScript.{SetupScript};
+ghost use Rattle.run_plan.specs.Listed.{AskedTest};
+ghost use Rattle.run_plan.specs.Planned.{heads_with, parts_with, planned, word_retries};
+ghost use Rattle.run_plan.specs.Rows.{asked_row};
+ghost use Rattle.run_plan.specs.declared.test_list.TestList.{TestList};
 
-use crate::asked::{Asked, Call};
-use crate::choices::{Choices, Picks, Ways};
+use crate::asked::Call;
+use crate::choices::{Choices, Ways};
 use crate::planned::{plan_groups, plan_tests, threads_of_call};
-use crate::rows::{asked_rows, rows_of};
+use crate::rows::AskedRow;
 use crate::scripted::plan_scripts;
 use crate::test_list::TestList;
 use run_capture::{CaptureStrategy, Duplicate, List, Mem, Text};
@@ -20,6 +21,11 @@ use run_events::{Group, MaxFail, PlanScript, PlanTest, RetryPolicy};
 use run_plan_line::SaidPlan;
 use run_profile::{Profile, Project, SetupScript};
 use std::alloc::Global;
+
+// The name of the profile, the workspace's folder, and the words of the call.
+type PlanHeads = (Text, Text, List<Text>);
+
+type PlanParts = (List<Group>, List<PlanScript>, List<PlanTest>);
 
 fn text_or(alloc: Global, text: &Option<Text>, usual: &str) -> Mem<Text>
     ensures { IfOk result (λ t. t ≡ unwrap_or text.now usual.now) }
@@ -71,35 +77,8 @@ fn retries_by(retries: Option<u32>) -> Option<RetryPolicy>
     }
 }
 
-// The tests of the plan, each listed one once, in the list's order.
-fn tests_by(
-    alloc: Global,
-    counts: (u32, u32),
-    profile: &Profile,
-    picks: &Picks,
-    list: &TestList,
-    asked: &[Asked],
-    scripts: &[&SetupScript],
-) -> Mem<List<PlanTest>>
-    requires binaries { length list.now.binaries < 2 ^ 32 }
-    requires scripts { length scripts.now < 2 ^ 32 }
-    ensures { IfOk result (λ tests. tests ≡ plan_tests counts.0 counts.1 profile.now picks.now
-        (map (λ s. s.now) scripts.now) (zip (listed list.now) asked.now)) }
-{
-    let rows = rows_of(alloc, list)?;
-    let rows = asked_rows(alloc, &rows, asked)?;
-    plan_tests(alloc, counts, profile, picks, scripts, &rows)
-}
-
-// The name of the profile, the workspace's folder, and the words of the call.
-fn heads_by(
-    alloc: Global,
-    list: &TestList,
-    ways: &Ways,
-    call: &Call,
-) -> Mem<(Text, Text, List<Text>)>
-    ensures { IfOk result (λ heads. heads
-        ≡ (unwrap_or ways.now.profile (codes "default"), unwrap_or list.now.root (codes "/"), call.now.args)) }
+fn heads_by(alloc: Global, list: &TestList, ways: &Ways, call: &Call) -> Mem<PlanHeads>
+    ensures { IfOk result (λ heads. heads ≡ heads_with list.now ways.now call.now) }
 {
     let profile = text_or(alloc, &ways.profile, "default")?;
     let workspace_root = text_or(alloc, &list.root, "/")?;
@@ -112,53 +91,46 @@ fn parts_by(
     alloc: Global,
     list: &TestList,
     project: &Project,
-    choices: &Choices,
-    call: &Call,
-    asked: &[Asked],
+    given: (&Choices, &Call),
+    rows: &[AskedRow<'_>],
     scripts: &[&SetupScript],
-) -> Mem<(List<Group>, List<PlanScript>, List<PlanTest>)>
-    requires binaries { length list.now.binaries < 2 ^ 32 }
-    requires scripts { length scripts.now < 2 ^ 32 }
-    ensures { IfOk result (λ parts. parts ≡ (
-      map (plan_group call.now.processors) project.now.groups,
-      map (plan_script list.now call.now.run_id) (map (λ s. s.now) scripts.now),
-      plan_tests call.now.processors (threads_of_call call.now project.now.profile choices.now.ways)
-          project.now.profile choices.now.picks (map (λ s. s.now) scripts.now) (zip (listed list.now) asked.now),
-    )) }
+) -> Mem<PlanParts>
+    requires { length scripts.now < 2 ^ 32 }
+    ensures { IfOk result (λ parts. parts ≡ parts_with list.now project.now given.entry.0.now given.entry.1.now
+        (map asked_row rows.now) (map (λ s. s.now) scripts.now)) }
 {
+    let (choices, call) = given;
     let profile = &project.profile;
     let counts = (
         call.processors,
         threads_of_call(call, profile, &choices.ways),
     );
     let groups = plan_groups(alloc, call.processors, project.groups.as_slice())?;
-    let given = plan_scripts(alloc, list, call.run_id, scripts)?;
-    let tests = tests_by(alloc, counts, profile, &choices.picks, list, asked, scripts)?;
-    Ok((groups, given, tests))
+    let setup = plan_scripts(alloc, list, call.run_id, scripts)?;
+    let tests = plan_tests(alloc, counts, profile, &choices.picks, scripts, rows)?;
+    Ok((groups, setup, tests))
 }
 
-/// The plan that a list, a project and a call make, where filters say so much of each test, and these scripts run.
+// The plan of these parts.
 #[tactic(auto, unfolding(crate::specs::Planned::planned))]
-pub(crate) fn planned(
-    alloc: Global,
-    list: &TestList,
+fn plan_with(
     project: &Project,
-    choices: &Choices,
-    call: &Call,
-    asked: &[Asked],
-    scripts: &[&SetupScript],
-) -> Mem<SaidPlan>
-    requires binaries { length list.now.binaries < 2 ^ 32 }
-    requires scripts { length scripts.now < 2 ^ 32 }
-    ensures { IfOk result (λ plan. plan ≡ planned list.now project.now choices.now call.now asked.now
-        (map (λ s. s.now) scripts.now)) }
+    given: (&Choices, &Call),
+    heads: PlanHeads,
+    stress: Option<StressCondition>,
+    parts: PlanParts,
+) -> SaidPlan
+    ensures { (list : TestList) (rows : List AskedTest) (used : List SetupScript)
+        → heads ≡ heads_with list given.entry.0.now.ways given.entry.1.now → stress ≡ given.entry.0.now.ways.stress
+        → parts ≡ parts_with list project.now given.entry.0.now given.entry.1.now rows used
+        → result ≡ planned list project.now given.entry.0.now given.entry.1.now rows used }
 {
+    let (choices, call) = given;
     let ways = &choices.ways;
     let profile = &project.profile;
-    let stress = stress_by(alloc, ways)?;
-    let (name, workspace_root, args) = heads_by(alloc, list, ways, call)?;
-    let (groups, scripts, tests) = parts_by(alloc, list, project, choices, call, asked, scripts)?;
-    Ok(SaidPlan {
+    let (name, workspace_root, args) = heads;
+    let (groups, scripts, tests) = parts;
+    SaidPlan {
         run_id: call.run_id,
         profile: name,
         workspace_root,
@@ -173,5 +145,24 @@ pub(crate) fn planned(
         groups,
         scripts,
         tests,
-    })
+    }
+}
+
+/// The plan that a list, a project and a call make, where filters say so much of each test, and these scripts run.
+pub(crate) fn planned(
+    alloc: Global,
+    list: &TestList,
+    project: &Project,
+    given: (&Choices, &Call),
+    rows: &[AskedRow<'_>],
+    scripts: &[&SetupScript],
+) -> Mem<SaidPlan>
+    requires { length scripts.now < 2 ^ 32 }
+    ensures { IfOk result (λ plan. plan ≡ planned list.now project.now given.entry.0.now given.entry.1.now
+        (map asked_row rows.now) (map (λ s. s.now) scripts.now)) }
+{
+    let stress = stress_by(alloc, &given.0.ways)?;
+    let heads = heads_by(alloc, list, &given.0.ways, given.1)?;
+    let parts = parts_by(alloc, list, project, given, rows, scripts)?;
+    Ok(plan_with(project, given, heads, stress, parts))
 }

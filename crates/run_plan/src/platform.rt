@@ -1,5 +1,5 @@
 // The platform that a compiler's lines say, as `rustc --print cfg` writes them.
-ghost use Rattle.std.specs.Prelude.{◌≡◌, ◌++◌, IfOk, map, option_map};
+ghost use Rattle.std.specs.Prelude.{◌≡◌, ◌++◌, IfOk, codes, map, option_map};
 ghost use Rattle.std.specs.Option.{option_copied};
 ghost use Rattle.std.specs.Str.Lines.{lines};
 ghost use Rattle.run_plan.specs.Platform.{between_quotes, first_value, platform_given, platform_with, triple_of};
@@ -95,29 +95,32 @@ fn joined(alloc: Global, first: &str, second: &str) -> Mem<Text>
     Ok(text)
 }
 
+// A text, a hyphen and another text.
+fn with_hyphen(alloc: Global, first: Text, second: &str) -> Mem<Text>
+    ensures { IfOk result (λ t. t ≡ first ++ codes "-" ++ second.now) }
+{
+    let text = with_text(alloc, first, "-")?;
+    with_text(alloc, text, second)
+}
+
 fn triple_with(alloc: Global, triple: Text, end: &str) -> Mem<Text>
     ensures { IfOk result (λ t. t ≡ triple_with triple end.now) }
 {
     if end.is_empty() {
         return Ok(triple);
     }
-    let mut triple = triple;
-    triple.push_str(alloc, "-")?;
-    triple.push_str(alloc, end)?;
-    Ok(triple)
+    with_hyphen(alloc, triple, end)
 }
 
 // The triple that facts of a platform make.
 fn triple_of(alloc: Global, facts: &[Text]) -> Mem<Text>
     ensures { IfOk result (λ t. t ≡ triple_of facts.now) }
 {
+    let arch = Text::from_str(alloc, first_value("target_arch", facts))?;
+    let maker = with_hyphen(alloc, arch, first_value("target_vendor", facts))?;
+    let triple = with_hyphen(alloc, maker, first_value("target_os", facts))?;
     let env = first_value("target_env", facts);
     let end = joined(alloc, env, first_value("target_abi", facts))?;
-    let triple = Text::from_str(alloc, first_value("target_arch", facts))?;
-    let triple = with_text(alloc, triple, "-")?;
-    let triple = with_text(alloc, triple, first_value("target_vendor", facts))?;
-    let triple = with_text(alloc, triple, "-")?;
-    let triple = with_text(alloc, triple, first_value("target_os", facts))?;
     triple_with(alloc, triple, end.as_str())
 }
 

@@ -1,10 +1,10 @@
-use Rattle.run_profile.specs.declared.settings.Override.{Override}
-use Rattle.run_plan.specs.Asks.{FilterSays}
-use Rattle.run_plan.proofs.ZipLemmas.{zip_more}
+use Rattle.run_plan.specs.Asks.{HasFilter, IsOverrideFilter, of_override}
+use Rattle.std.proofs.Common.{Any}
+use Rattle.run_plan.proofs.ColumnLemmas.{fault_so}
 use Rattle.run_plan.proofs.asking.overrides_say.Goals as goal
 
-pub loop-o-preserved : goal.loop-o-preserved
-loop-o-preserved c =
-    zip_more (λ (x : Override) b. FilterSays x.filter c.args.facts b) c.args.overrides.now c.loop-o.held c.push.new.self
-    c.loop-o.o-index c.o-item.result c.in_ok-is_held.is_held c.loop-o-test.true c.o-item.is
-    c.in_ok-push.ensures.ok c.in_ok-is_held.ensures.ok c.loop-o.invariant
+pub returns-in-Err-clause-err : goal.returns-in-Err-clause-err
+returns-in-Err-clause-err c =
+    let p = c.args.profile.now in
+    fault_so (λ path text. Any (IsOverrideFilter path text) p.overrides) (HasFilter p)
+    (λ path text there. of_override there) c.in-Err.error (rw c.as_slice.ensures at c.in-Err.ensures.err)

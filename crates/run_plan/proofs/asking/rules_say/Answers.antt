@@ -1,10 +1,10 @@
-use Rattle.run_profile.specs.declared.scripts.ScriptRule.{ScriptRule}
-use Rattle.run_plan.specs.Asks.{FilterSays}
-use Rattle.run_plan.proofs.ZipLemmas.{zip_more}
+use Rattle.run_plan.specs.Asks.{HasFilter, IsRuleFilter, of_rule}
+use Rattle.std.proofs.Common.{Any}
+use Rattle.run_plan.proofs.ColumnLemmas.{fault_so}
 use Rattle.run_plan.proofs.asking.rules_say.Goals as goal
 
-pub loop-rule-preserved : goal.loop-rule-preserved
-loop-rule-preserved c =
-    zip_more (λ (x : ScriptRule) b. FilterSays x.filter c.args.facts b) c.args.rules.now c.loop-rule.held
-    c.push.new.self c.loop-rule.rule-index c.rule-item.result c.in_ok-is_held.is_held c.loop-rule-test.true
-    c.rule-item.is c.in_ok-push.ensures.ok c.in_ok-is_held.ensures.ok c.loop-rule.invariant
+pub returns-in-Err-clause-err : goal.returns-in-Err-clause-err
+returns-in-Err-clause-err c =
+    let p = c.args.profile.now in
+    fault_so (λ path text. Any (IsRuleFilter path text) p.rules) (HasFilter p)
+    (λ path text there. of_rule there) c.in-Err.error (rw c.as_slice.ensures at c.in-Err.ensures.err)

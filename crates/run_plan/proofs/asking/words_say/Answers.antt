@@ -1,12 +1,17 @@
-use Rattle.std.proofs.Common.{◌+◌, Some, ap}
-use Rattle.run_plan.specs.Asks.{FilterSays}
-use Rattle.run_plan.proofs.ZipLemmas.{zip_more}
+use Rattle.std.proofs.Common.{ℕ, Bool, Some, map}
+use Rattle.run_plan.specs.Columns.{cell, said_group}
+use Rattle.run_plan.specs.Rows.{listed_row}
+use Rattle.run_plan.proofs.ColumnLemmas.{columns_of_seen, seen_in_groups}
 use Rattle.run_plan.proofs.asking.words_say.Goals as goal
 
-pub loop-text-preserved : goal.loop-text-preserved
-loop-text-preserved c = record {
-  number = ap (λ n. n + 1) c.loop-text.invariant.number;
-  says = zip_more (λ text b. FilterSays (Some text) c.args.facts b) c.args.filters.now c.loop-text.held c.push.new.self
-      c.loop-text.text-index c.text-item.result c.in_ok-is_held.is_held c.loop-text-test.true c.text-item.is
-      c.in_ok-push.ensures.ok (rw c.as_str.ensures at c.in_ok-is_held.ensures.ok) c.loop-text.invariant.says;
-}
+pub returns-clause-ok : goal.returns-clause-ok
+returns-clause-ok c =
+    let rows = c.args.rows.now in
+    let says = c.args.says.now in
+    let group = said_group c.args.profile.now says in
+    let in_default : ℕ → Bool = λ i. cell i says.in_default in
+    let tests = c.in_ok-tests.tests.items in
+    columns_of_seen Some c.args.filters.now c.in_ok-columns.columns (map listed_row rows) group in_default tests
+    (seen_in_groups listed_row group in_default rows c.in_ok-groups.groups tests c.in_ok-groups.ensures
+    (rw c.as_slice-2.ensures at (rw c.as_slice.ensures at c.in_ok-tests.ensures)))
+    (rw c.deref.ensures.value at c.in_ok-columns.ensures.ok)

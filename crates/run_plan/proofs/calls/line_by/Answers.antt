@@ -14,6 +14,6 @@ line_of-requires c =
     let choices = c.args.given.0.now in
     let call = c.args.given.1.now in
     let profile = c.args.project.now.profile in
-    subst (λ (p : SaidPlan). All HasRank p.tests) (sym e.is)
-    (tests_ranked call.processors (threads_of_call call profile choices.ways) profile choices.picks e.used
+    subst (λ (p : SaidPlan). All HasRank p.tests) (sym e.is.is)
+    (tests_ranked call.processors (threads_of_call call profile choices.ways) profile choices.picks e.is.used
     (kept_rows choices.picks (zip (listed c.args.list.now) e.asked)))
