@@ -1,12 +1,12 @@
 mod WholeLemmas
 mod OwnLemmas
 mod StopLemmas
-mod ToldLemmas
+pub mod ToldLemmas
 mod ReasonLemmas
 mod NumberLemmas
 mod NewsLemmas
 mod BoundLemmas
-mod CountLemmas
+pub mod CountLemmas
 mod OutcomeLemmas
 mod RangeLemmas
 mod WeighLemmas

@@ -2,7 +2,7 @@
 //! that a run has one sub-run, but a stress run; of which units events tell; how often each is told started, finished
 //! and skipped; which events tell that a run is cancelled; what the ends of sub-runs say; and the outcome by what was
 //! told. Each is a public function with an empty body, whose contract is a theorem over the definitions of `run_model`.
-//! It stands on the lemmas of `run_laws`; of the crates only `example_supervisor` stands on it.
+//! It stands on the lemmas of `run_laws`; `run_laws_audit`, `run_jobs` and `example_supervisor` stand on it.
 #![tactic(auto)]
 
 mod laws;

@@ -18,4 +18,4 @@ mod EndLemmas
 mod Admissions
 mod Behind
 mod ScriptEnds
-mod ScriptLemmas
+pub mod ScriptLemmas

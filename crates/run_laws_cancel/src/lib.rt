@@ -2,7 +2,7 @@
 //! the global timer, the report of a refused event and a signal are enabled; which keys can come, and what each does;
 //! whose children have a group of processes, and which are asked to stop and to go on; and that scripts come one by
 //! one. Each is a public function with an empty body, whose contract is a theorem over the definitions of `run_model`.
-//! It stands on the lemmas of `run_laws`; nothing stands on it.
+//! It stands on the lemmas of `run_laws`; of the crates only `run_laws_audit` stands on it.
 #![tactic(auto)]
 
 mod laws;

@@ -1,0 +1,9 @@
+pub mod Places
+pub mod Statuses
+pub mod Seen
+pub mod Parts
+pub mod SeenTests
+pub mod SeenLimits
+pub mod SeenCancels
+pub mod SeenScripts
+pub mod Kept

@@ -1,0 +1,6 @@
+use Rattle.std.proofs.Common.{reverse}
+use Rattle.run_laws_audit.proofs.AllKept.{told_is_kept}
+use Rattle.run_laws_audit.proofs.laws.told_events_are_kept.Goals as goal
+
+pub returns : goal.returns
+returns c = λ p journal once legal over plain. told_is_kept p (reverse journal) once legal over plain

@@ -1,0 +1,4 @@
+pub mod Within
+pub mod Plain
+pub mod Told
+pub mod Due
