@@ -54,7 +54,7 @@ parts_from stress None (e ∷ es) =
 parts_from stress (Some part) (e ∷ es) =
     if closes_part stress e then part ∷ parts_from stress None es else parts_from stress (Some (part ++ e ∷ [])) es
 
--- without stress the part of the one run is open from the front on, and none opens after it
+-- without stress the part of the one run is open from the front on
 abbrev pub first_part : Bool → Option (List AuditEvent)
 first_part true = None
 first_part false = Some []

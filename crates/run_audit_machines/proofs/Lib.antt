@@ -1,0 +1,17 @@
+pub mod MachineLemmas
+pub mod PartLemmas
+pub mod RunLemmas
+pub mod ShapeLemmas
+pub mod DueLemmas
+pub mod AccountLemmas
+pub mod CancelLemmas
+pub mod ScriptLemmas
+pub mod TestLemmas
+pub mod LimitLemmas
+pub mod LawLemmas
+pub mod AccountSeenLemmas
+pub mod AccountPlaceLemmas
+pub mod SeatLemmas
+pub mod SlotLemmas
+pub mod SeatStepLemmas
+pub mod ClashLemmas

@@ -1,0 +1,3 @@
+mod AlwaysLemmas
+mod PlanPlaceLemmas
+mod TestPartLemmas
