@@ -1,6 +1,8 @@
 // Where the tests of a plan stand, by a map from their ids.
-ghost use Rattle.std.specs.Prelude.{◌≡◌, map, IfOk, IfSome, IsNone};
-ghost use Rattle.run_model.specs.Reruns.{is_one_test};
+ghost use Rattle.std.specs.Prelude.{◌≡◌, ◌++◌, ◌∷◌, [], cond, map, IfOk, IfSome, IsNone, OnOk, Some};
+ghost use Rattle.std.specs.BTreeMap.{get, is_at};
+ghost use Rattle.run_events.specs.declared.plan.TestInstanceId.{TestInstanceId as Id};
+ghost use Rattle.run_model.specs.Reruns.{id_order, is_one_test};
 ghost use Rattle.run_audit_machines.specs.Accounts.{AreApart};
 
 use crate::TestPlaces;
@@ -39,6 +41,23 @@ impl TestPlaces for PlanPlaces {
     }
 }
 
+// One id more, at its place.
+fn add_id(
+    alloc: Global,
+    ids: &mut Vec<TestInstanceId>,
+    places: &mut BTreeMap<TestInstanceId, usize>,
+    id: &TestInstanceId,
+    place: usize,
+) -> Mem<()>
+    ensures ids { OnOk result (ids.new.items ≡ ids.old.items ++ id.now ∷ []) }
+    ensures places { OnOk result ((q : Id) → get id_order places.new q
+        ≡ cond (is_at (id_order id.now) q) (Some place) (get id_order places.old q)) }
+{
+    places.insert(id.copy(alloc)?, place)?;
+    ids.push(id.copy(alloc)?)?;
+    Ok(())
+}
+
 /// The places of tests; none where an id comes twice.
 pub fn places_of(alloc: Global, tests: &[PlanTest]) -> Mem<Option<PlanPlaces>>
     ensures some { IfOk result (λ places. IfSome places (λ p. p ≡ map (λ test. test.id) tests.now)) }
@@ -51,8 +70,7 @@ pub fn places_of(alloc: Global, tests: &[PlanTest]) -> Mem<Option<PlanPlaces>>
         if places.contains_key(&test.id) {
             return Ok(None);
         }
-        places.insert(test.id.copy(alloc)?, place)?;
-        ids.push(test.id.copy(alloc)?)?;
+        add_id(alloc, &mut ids, &mut places, &test.id, place)?;
     }
     Ok(Some(PlanPlaces { ids, places }))
 }

@@ -1,6 +1,5 @@
 use Rattle.std.proofs.Common.{◌≡◌, ◌∙◌, ◌++◌, ◌∷◌, [], length, cond, Some, sym, ap, subst}
 use Rattle.std.specs.BTreeMap.{get, is_at}
-use Rattle.run_events.specs.declared.plan.TestInstanceId.{TestInstanceId}
 use Rattle.run_model.specs.Reruns.{id_order, is_one_test}
 use Rattle.run_audit_machines.specs.Accounts.{IsOwnPlace}
 use Rattle.run_audit_passes.proofs.PlanPlaceLemmas.{ids_long, ids_more, none_of, not_apart, place_more}
@@ -14,20 +13,16 @@ loop-place-preserved c =
     let x = test.id in
     let new = subst (IsOwnPlace (is_one_test x) l.ids.items) (none_of (get id_order l.places x)
     (sym c.contains_key.ensures ∙ c.if-contains_key.false)) (l.invariant.right x) in
-    let pushed : c.push.new.self.items ≡ l.ids.items ++ x ∷ [] =
-    c.in_ok-push.ensures.items ∙ ap (λ id. l.ids.items ++ id ∷ []) c.in_ok-copy-2.ensures in
+    let pushed : c.add_id.new.ids.items ≡ l.ids.items ++ x ∷ [] = c.in_ok-add_id.ensures.ids in
     record {
       ids = pushed ∙ ap (λ ids. ids ++ x ∷ []) l.invariant.ids
           ∙ sym (ids_more (λ t. t.id) tests l.place test c.loop-place-test.true c.index-tests-place.is);
       right = λ q.
           let long = ids_long (λ t. t.id) tests l.place c.loop-place-test.true
           ∙ ap length (sym l.invariant.ids) in
-          let found : get id_order c.insert.new.self q ≡ cond (is_at (id_order x) q) (Some l.place)
-          (get id_order l.places q) =
-          subst (λ (k : TestInstanceId). get id_order c.insert.new.self q
-          ≡ cond (is_at (id_order k) q) (Some l.place) (get id_order l.places q))
-          c.in_ok-copy.ensures (c.in_ok-insert.ensures.updates.0 q) in
-          subst (λ ids. IsOwnPlace (is_one_test q) ids (get id_order c.insert.new.self q)) (sym pushed)
+          let found : get id_order c.add_id.new.places q ≡ cond (is_at (id_order x) q) (Some l.place)
+          (get id_order l.places q) = c.in_ok-add_id.ensures.places q in
+          subst (λ ids. IsOwnPlace (is_one_test q) ids (get id_order c.add_id.new.places q)) (sym pushed)
           (subst (IsOwnPlace (is_one_test q) (l.ids.items ++ x ∷ [])) (sym found)
           (place_more l.ids.items x q l.place (get id_order l.places q) new long (l.invariant.right q)));
     }
