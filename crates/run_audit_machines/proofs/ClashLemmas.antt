@@ -14,7 +14,7 @@ others_apart groups s place [] = true
 others_apart groups s zero (t ∷ seats) = list_all (λ x. not (clash groups s x)) seats
 others_apart groups s (suc place) (t ∷ seats) = not (clash groups s t) && others_apart groups s place seats
 
-same_answer : (a b : Bool) → (a ≡ true → b ≡ true) → (b ≡ true → a ≡ true) → a ≡ b
+pub same_answer : (a b : Bool) → (a ≡ true → b ≡ true) → (b ≡ true → a ≡ true) → a ≡ b
 same_answer true b to from = sym (to refl)
 same_answer false true to from = from refl
 same_answer false false to from = refl

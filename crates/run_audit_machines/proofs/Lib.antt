@@ -15,3 +15,6 @@ pub mod SeatLemmas
 pub mod SlotLemmas
 pub mod SeatStepLemmas
 pub mod ClashLemmas
+pub mod SameDataLemmas
+pub mod LimitStepLemmas
+pub mod HolderLemmas

@@ -80,7 +80,7 @@ group_sum_as events name limit tests = sum_from (seat_group_weight name limit) (
     (seated_by events) (group_weight_as events name limit) 0 tests
 
 -- what is found of some that all pass
-all_found : {X : Type 0} (passes test : X → Bool) (xs : List X) (x : X) → list_all passes xs ≡ true
+pub all_found : {X : Type 0} (passes test : X → Bool) (xs : List X) (x : X) → list_all passes xs ≡ true
     → find test xs ≡ Some x → (passes x ≡ true) × (test x ≡ true)
 all_found passes test [] x all is = absurd (true≢false (ap is_some (sym is)))
 all_found passes test (y ∷ xs) x all is =
@@ -165,7 +165,7 @@ at_none false n none = refl
 none_runs : (p : Settings) (i : ℕ) (a : PlanTest) (s : TestSlotAssignment) → RunsIn p [] i a s → ⊥
 none_runs p i a s x = true≢false (sym x.running)
 
-none_kept : (p : Settings) → keeps_seats (seats_by p []) ≡ true
+pub none_kept : (p : Settings) → keeps_seats (seats_by p []) ≡ true
 none_kept p = kept_from p [] (record {
   all = let none = no_sum (seen_weight [] p.threads) (λ t. refl) p.plan.tests in
       subst (λ n. n ≤ p.threads) (sym none) (omega arith);
@@ -198,7 +198,7 @@ pub limits_are_law : (p : Settings) (now : InParts SeatsNow SeatsNow)
     → AcceptsJust limit_machine now (λ events. All (KeepsTold p) (parts p events))
 limits_are_law p now is = ever_just limit_part (no_seats p) (KeepsTold p) (limits_just p) (is_stress p) now is
 
-limit_completes : PartCompletes limit_part (λ now. Unit {0})
+pub limit_completes : PartCompletes limit_part (λ now. Unit {0})
 limit_completes = record {
   more = λ now h. ([], end_from limit_part now refl, All-nil StaysWithin);
   kept = λ now e after h is. tt;

@@ -59,6 +59,24 @@ seats_set own e only (t ∷ seats) (suc place) s at is =
 pub start_only : (own : TestInstanceId) (slot : TestSlotAssignment) → TellsOnly own (seen.TestStarted own slot)
 start_only own slot id other = (other, refl)
 
+pub finish_only : (own : TestInstanceId) (statuses : List (List ℕ)) → TellsOnly own (seen.Finished own statuses)
+finish_only own statuses id other = (refl, other)
+
+-- an event that tells no start and no finish of any test leaves the seats
+abbrev pub TellsNone : AuditEvent → Type 0
+TellsNone e = (id : TestInstanceId) → (is_seen_start id e ≡ false) × (is_seen_finish id e ≡ false)
+
+pub seats_left : (e : AuditEvent) → TellsNone e → (seats : List Seated) → map (seated_after e) seats ≡ seats
+seats_left e none [] = refl
+seats_left e none (s ∷ seats) =
+    let tells = none s.0.id in
+    ap₂ (λ seat rest. (s.0, seat) ∷ rest) (seat_kept s.0.id s.1 e tells.0 tells.1) (seats_left e none seats)
+
+-- and so does one that tells only of a test that has no seat
+pub seats_same : (own : TestInstanceId) (e : AuditEvent) → TellsOnly own e → (seats : List Seated)
+    → list_any (is_one_test own) (map (λ s. s.0.id) seats) ≡ false → map (seated_after e) seats ≡ seats
+seats_same own e only seats none = others_kept own e only seats none
+
 -- ---- sums with one set
 
 sum_more : {X : Type 0} (f : X → ℕ) (a : ℕ) (xs : List X)

@@ -6,3 +6,5 @@ pub mod Scripts
 pub mod Tests
 pub mod Limits
 pub mod Laws
+pub mod SameData
+pub mod Holders

@@ -1,3 +1,4 @@
 mod AlwaysLemmas
 mod PlanPlaceLemmas
 mod TestPartLemmas
+mod KnownLemmas

@@ -54,14 +54,14 @@ impl<P: Drop> Model for Parts<P> {
 }
 
 /// Whether an event opens a part of a stress run.
-fn opens(event: &AuditEvent) -> bool
+pub fn opens(event: &AuditEvent) -> bool
     ensures { result ≡ opens_part event.now }
 {
     matches!(event, AuditEvent::SubRunStarted)
 }
 
 /// Whether it closes a part.
-fn closes(stress: bool, event: &AuditEvent) -> bool
+pub fn closes(stress: bool, event: &AuditEvent) -> bool
     ensures { result ≡ closes_part stress event.now }
 {
     match event {
