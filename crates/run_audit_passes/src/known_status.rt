@@ -1,5 +1,5 @@
 // A status whose text is known.
-ghost use Rattle.std.specs.Prelude.{◌≡◌, ◌++◌, ◌∷◌, [], IfOk, IfSome, map, option_map};
+ghost use Rattle.std.specs.Prelude.{◌≡◌, ◌++◌, ◌∷◌, [], IfOk, IfSome, OnOk, codes, map, option_map};
 ghost use lib.Pointwise.{pointwise};
 ghost use Rattle.std.specs.Option.{option_eq};
 ghost use Rattle.serde_json.specs.Find.{get};
@@ -57,6 +57,18 @@ fn push_at(alloc: Global, values: &mut Vec<KnownValue>, value: &Value, key: &str
     Ok(())
 }
 
+// What was written, by stream.
+fn push_written(alloc: Global, values: &mut Vec<KnownValue>, value: &Value) -> Mem<()>
+    requires { HasOwnText (view value.now) }
+    ensures { OnOk result (map known_value_in values.new.items
+        ≡ map known_value_in values.old.items ++ get (codes "stdout") (view value.now)
+        ∷ get (codes "stderr") (view value.now) ∷ get (codes "combined") (view value.now) ∷ []) }
+{
+    push_at(alloc, values, value, "stdout")?;
+    push_at(alloc, values, value, "stderr")?;
+    push_at(alloc, values, value, "combined")
+}
+
 /// What stands at the keys that are compared.
 fn values_in(alloc: Global, value: &Value) -> Mem<Vec<KnownValue>>
     requires { HasOwnText (view value.now) }
@@ -64,9 +76,7 @@ fn values_in(alloc: Global, value: &Value) -> Mem<Vec<KnownValue>>
 {
     let mut values = Vec::new(alloc);
     push_at(alloc, &mut values, value, "result")?;
-    push_at(alloc, &mut values, value, "stdout")?;
-    push_at(alloc, &mut values, value, "stderr")?;
-    push_at(alloc, &mut values, value, "combined")?;
+    push_written(alloc, &mut values, value)?;
     push_at(alloc, &mut values, value, "errors")?;
     push_at(alloc, &mut values, value, "start_error")?;
     push_at(alloc, &mut values, value, "time")?;
