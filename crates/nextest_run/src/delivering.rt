@@ -1,10 +1,11 @@
 // The command `run`: a plan whose signals are delivered, on real children and the lines of standard input, and told
 // to a person.
-ghost use Rattle.std.specs.Prelude.{◌≡◌, []};
+ghost use Rattle.std.specs.Prelude.{◌≡◌, [], IfSome};
 
 use crate::recording::{close, create, end_with, end_without_record};
 use run_capture::{Blob, Sink};
 use run_cli::{Ran, StdSink};
+use run_junit::{JUnitReport, Pair};
 use run_keep::Outside;
 use run_keep_host::{FirstLineError, LineOutside, StdKeeperHost, StopHalter, TickingOutside};
 use run_output::Fault;
@@ -207,9 +208,16 @@ fn ticks(bar: Option<u32>) -> Option<u64> {
     }
 }
 
+/// How a run ended whose signals were delivered, and who listened to it.
+pub struct Listened<K, A> {
+    pub delivered: Delivered<K>,
+    pub report: A,
+    pub junit: Option<JUnitReport>,
+}
+
 /// Reads the plan line from standard input, and runs its plan: each later line is a signal or a key that it hears. With
 /// the name of a record it is recorded in a new file of that name. The report hears its events, with a bar for a
-/// terminal of this width, if one is wanted, and is handed back.
+/// terminal of this width, if one is wanted, and so does who keeps its cases; both are handed back.
 pub fn run_and_deliver<
     K: Sink + Send,
     A: Board + Send,
@@ -220,18 +228,31 @@ pub fn run_and_deliver<
     sink: K,
     report: A,
     bar: Option<u32>,
+    junit: Option<JUnitReport>,
     record: Option<&str>,
-) -> (Delivered<K>, A)
-    requires { A.heard report [] }
+) -> Listened<K, A>
+    requires report { A.heard report [] }
+    requires junit { IfSome junit (λ j. ⟦JUnitReport as Listener⟧.heard j []) }
 {
     let alloc = rt.alloc();
     let mut lines = LineOutside::new(rt, alloc, rt.stdin());
     let line = match lines.first_line(alloc) {
         Ok(line) => line,
-        Err(error) => return (unread(alloc, sink, error), report),
+        Err(error) => {
+            return Listened {
+                delivered: unread(alloc, sink, error),
+                report,
+                junit,
+            };
+        }
     };
-    let report = BarReport::new(report, *threads, bar);
+    let both = Pair::new(BarReport::new(report, *threads, bar), junit);
     let outside = TickingOutside::new(lines, *threads, ticks(bar));
-    let (ran, said, report) = run_plan_line(threads, rt, &line, outside, sink, report, record);
-    (Delivered { line, ran, said }, report.into_report())
+    let (ran, said, both) = run_plan_line(threads, rt, &line, outside, sink, both, record);
+    let (report, junit) = both.into_parts();
+    Listened {
+        delivered: Delivered { line, ran, said },
+        report: report.into_report(),
+        junit,
+    }
 }

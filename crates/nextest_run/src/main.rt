@@ -6,11 +6,13 @@
 ghost use Rattle.std.specs.Prelude.{[]};
 
 mod delivering;
+mod junit_file;
 mod recording;
 mod showing;
 mod words;
 
-use delivering::{Delivered, run_and_deliver};
+use delivering::{Delivered, Listened, run_and_deliver};
+use junit_file::{end_junit, junit_of};
 use recording::end_with;
 use run_cli::{Ran, StdSink, StdSource, run};
 use run_hints::{KeptSource, LastLine, Seen, explain};
@@ -50,10 +52,12 @@ Usage: nextest_run run [OPTIONS] < PLAN
   -h, --help       prints this, also after a command
   -V, --version    prints the version
 
-OPTIONS of run, and but for --record and --show-progress of show, each at most once, with its value behind a blank or =,
-and what stands where it isn't given:
+OPTIONS of run, and but for --record, --junit and --show-progress of show, each at most once, with its value behind a
+blank or =, and what stands where it isn't given:
 
   --record FILE                  records the run in a new file, a store that nextest_store plays
+  --junit FILE                   writes the finished tests and setup scripts to a file of JUnit's form, once the run
+                                 is over
   --status-level LEVEL           none, fail, retry, slow, leak, pass, skip or all: down to what a line is shown as
                                  the run goes on (pass)
   --final-status-level LEVEL     none, fail, flaky, slow, skip, leak, pass or all: down to what a finished test is
@@ -225,6 +229,28 @@ fn end_delivered(
     status
 }
 
+// Runs the plan of standard input as these words ask.
+fn run_asked(rt: HostRuntime, words: &[String], asked: &RunWords<'_>) -> u8 {
+    let bar = bar_of(&rt, asked.progress.unwrap_or(Progress::Auto));
+    let junit = junit_of(&rt, asked.junit);
+    let Listened {
+        mut delivered,
+        report,
+        junit,
+    } = run_and_deliver(
+        &rt,
+        rt,
+        lines_of(rt),
+        report_of(rt, asked),
+        bar,
+        junit,
+        asked.record,
+    );
+    drop(report.into_sink().into_sink());
+    delivered.ran.status = end_junit(&rt, asked.junit, junit, delivered.ran.status);
+    end_delivered(&rt, words, delivered)
+}
+
 // Says which word of a command is wrong.
 fn say_wrong(rt: &HostRuntime, command: &str, word: &str) {
     let _ = eprintln!(rt;
@@ -300,20 +326,7 @@ fn main(rt: HostRuntime) -> ExitCode {
     };
     let words = given(&words);
     let status = match asked_of(words) {
-        Asked::Run(asked) => {
-            let bar = bar_of(&rt, asked.progress.unwrap_or(Progress::Auto));
-            let report = report_of(rt, &asked);
-            let (delivered, report) = run_and_deliver(
-                &rt,
-                rt,
-                lines_of(rt),
-                report,
-                bar,
-                asked.record,
-            );
-            drop(report.into_sink().into_sink());
-            end_delivered(&rt, words.unwrap_or(&[]), delivered)
-        }
+        Asked::Run(asked) => run_asked(rt, words.unwrap_or(&[]), &asked),
         Asked::Show(asked) => show_asked(rt, &asked),
         Asked::WrongRun(word) => refuse_run(&rt, word),
         Asked::WrongShow(word) => refuse_show(&rt, word),

@@ -1,4 +1,4 @@
-// The words of the command `run`: what it shows, and what it records.
+// The words of the command `run`: what it shows, and what it records and writes.
 use run_report::{FinalStatusLevel, OutputDisplay, ReportSettings, StatusLevel};
 
 /// When the report has colours.
@@ -23,6 +23,7 @@ pub enum Progress {
 #[derive(Drop)]
 pub struct RunWords<'a> {
     pub record: Option<&'a str>,
+    pub junit: Option<&'a str>,
     pub color: Option<Color>,
     pub progress: Option<Progress>,
     status: Option<StatusLevel>,
@@ -101,6 +102,7 @@ fn is_option(word: &str) -> bool {
     matches!(
         word,
         "--record"
+            | "--junit"
             | "--color"
             | "--show-progress"
             | "--status-level"
@@ -114,6 +116,7 @@ impl<'a> RunWords<'a> {
     fn none() -> RunWords<'a> {
         RunWords {
             record: None,
+            junit: None,
             color: None,
             progress: None,
             status: None,
@@ -127,6 +130,7 @@ impl<'a> RunWords<'a> {
     fn take(&mut self, option: &str, value: &'a str) -> bool {
         match option {
             "--record" => set(&mut self.record, Some(value)),
+            "--junit" => set(&mut self.junit, Some(value)),
             "--color" => set(&mut self.color, color_of(value)),
             "--show-progress" => set(&mut self.progress, progress_of(value)),
             "--status-level" => set(&mut self.status, status_level_of(value)),
@@ -181,6 +185,9 @@ pub fn show_words_of(words: &[String]) -> Result<RunWords<'_>, &str> {
     let asked = run_words_of(words)?;
     if asked.record.is_some() {
         return Err("--record");
+    }
+    if asked.junit.is_some() {
+        return Err("--junit");
     }
     if asked.progress.is_some() {
         return Err("--show-progress");

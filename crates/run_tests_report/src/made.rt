@@ -40,8 +40,8 @@ pub struct Made {
     pub is_silent: bool,
 }
 
-// A sink in memory, of which the write of this number fails, if there is one.
-fn sink(alloc: Global, fails: Option<u64>) -> Mem<MemorySink> {
+/// A sink in memory, of which the write of this number fails, if there is one.
+pub fn sink(alloc: Global, fails: Option<u64>) -> Mem<MemorySink> {
     let mut fail = Vec::new(alloc);
     if let Some(write) = fails {
         fail.push(write)?;

@@ -1,12 +1,14 @@
 //! Worked rows: whole inputs of which a report is made in memory, in five settings. The folder `data/` has the names of
 //! the rows, their inputs, and of each the whole text in each of the settings. Each byte is compared, and a line is
 //! printed for each row; where a row differs, what was written follows. Each run is made once more with a sink that
-//! fails, which changes nothing of the run.
+//! fails, which changes nothing of the run. Lines with their JUnit file are rows too.
 #![tactic(auto)]
 
+mod junit;
 mod made;
 mod settings;
 
+use junit::junit_of;
 use made::{Made, report_of, shown_of};
 use std::fs::Files;
 use std::io::Write;
@@ -103,11 +105,37 @@ fn is_met<X: AllocGlobal + Files + Print + Copy>(rt: &X, name: &str) -> io::Resu
     Ok(is_right)
 }
 
+// Whether the JUnit file of a row is the one that is wanted, and there is none where its sink fails. Prints it where it
+// isn't.
+fn is_junit<X: AllocGlobal + Files + Print + Copy>(rt: &X, name: &str) -> io::Result<bool> {
+    let lines = fs::read_to_string(rt, format!(in rt.alloc(); "{name}.lines")?)?;
+    let wanted = fs::read(rt, format!(in rt.alloc(); "{name}.junit")?)?;
+    let failed = junit_of(rt.alloc(), lines.as_str(), Some(1));
+    let made = junit_of(rt.alloc(), lines.as_str(), None);
+    let (Some(made), None) = (made, failed) else {
+        println!(rt; "{name}: no JUnit file")?;
+        return Ok(false);
+    };
+    if made.as_slice() == wanted.as_slice() {
+        println!(rt; "{name}: JUnit ok")?;
+        return Ok(true);
+    }
+    println!(rt; "{name}: JUnit DIFFERS, and this was written:")?;
+    io::writer(rt).write_all(made.as_slice())?;
+    Ok(false)
+}
+
 fn main(rt: HostRuntime) -> io::Result<ExitCode> {
     let names = fs::read_to_string(&rt, "rows.txt")?;
     let mut unmet = 0u64;
     for name in names.lines() {
         if !is_met(&rt, name)? {
+            unmet = unmet.saturating_add(1);
+        }
+    }
+    let names = fs::read_to_string(&rt, "junit.txt")?;
+    for name in names.lines() {
+        if !is_junit(&rt, name)? {
             unmet = unmet.saturating_add(1);
         }
     }

@@ -1,0 +1,11 @@
+mod EscapeLemmas
+mod FaultLemmas
+mod FormLemmas
+mod HeardLemmas
+mod LawLemmas
+mod OrderLemmas
+mod PutLemmas
+mod StartLemmas
+mod SuiteLemmas
+mod TextLemmas
+mod TokenLemmas

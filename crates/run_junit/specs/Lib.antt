@@ -1,0 +1,12 @@
+pub mod Cases
+pub mod Document
+pub mod Escape
+pub mod Heard
+pub mod Laws
+pub mod Page
+pub mod Pair
+pub mod Put
+pub mod Reasons
+pub mod Suites
+pub mod Texts
+pub mod Tokens
